@@ -1,0 +1,5 @@
+pub mod Re
+pub mod Meaning
+pub mod WellFormed
+pub mod Weight
+pub mod Properties

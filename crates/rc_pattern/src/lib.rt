@@ -1,0 +1,4 @@
+//! Patterns as trees, and what is known of them.
+#![tactic(auto)]
+
+pub mod hir;
