@@ -1,9 +1,13 @@
 //! A pattern as a tree.
 
-ghost use Rattle.std.specs.Prelude.{◌≡◌, IfOk};
+ghost use Rattle.std.specs.Prelude.{◌≡◌, IfOk, map, []};
 ghost use Rattle.rc_pattern.specs.declared.hir.Hir.{out-Hir};
 ghost use Rattle.rc_pattern.specs.Re as re;
-ghost use Rattle.rc_pattern.specs.Meaning.{meaning, kind_meaning};
+ghost use Rattle.rc_pattern.specs.Meaning.{meaning, kind_meaning, class_meaning, repetition_meaning, capture_meaning, literal_of, concat_of, alternation_of};
+
+mod members;
+
+use std::alloc::{AllocError, Global};
 
 /// An assertion about a position. It reads no byte.
 #[derive(Clone, Copy, Debug, PartialEq, Eq)]
@@ -90,13 +94,97 @@ pub struct Capture {
 }
 
 impl Hir {
-    /// The pattern that spells nothing.
+    /// The pattern that spells nothing but the empty text.
     pub fn empty() -> Hir
         ensures { meaning result ≡ re.empty }
     {
         Hir {
             kind: HirKind::Empty,
         }
+    }
+
+    /// The pattern that spells no text at all: the class of no byte.
+    pub fn fail(alloc: Global) -> Hir
+        ensures { meaning result ≡ re.byte_in [] }
+    {
+        Hir::class(Class::Bytes(Vec::new(alloc)))
+    }
+
+    /// These bytes. Of no bytes it is `empty`.
+    pub fn literal(alloc: Global, bytes: &[u8]) -> Result<Hir, AllocError>
+        ensures { IfOk result (λ h. meaning h ≡ literal_of bytes.now) }
+    {
+        if bytes.is_empty() {
+            return Ok(Hir::empty());
+        }
+        Ok(Hir {
+            kind: HirKind::Literal(Vec::from_slice(alloc, bytes)?),
+        })
+    }
+
+    /// One character or one byte of the class, whose ranges stay as they are given.
+    pub fn class(class: Class) -> Hir
+        ensures { meaning result ≡ class_meaning class }
+    {
+        Hir {
+            kind: HirKind::Class(class),
+        }
+    }
+
+    /// The assertion.
+    pub fn look(look: Look) -> Hir
+        ensures { meaning result ≡ re.look look }
+    {
+        Hir {
+            kind: HirKind::Look(look),
+        }
+    }
+
+    /// The repetition, as it is given.
+    pub fn repetition(repetition: Repetition) -> Hir
+        ensures { meaning result ≡ repetition_meaning repetition }
+    {
+        Hir {
+            kind: HirKind::Repetition(repetition),
+        }
+    }
+
+    /// The group, as it is given.
+    pub fn capture(capture: Capture) -> Hir
+        ensures { meaning result ≡ capture_meaning capture }
+    {
+        Hir {
+            kind: HirKind::Capture(capture),
+        }
+    }
+
+    /// One pattern after another. An empty one is dropped, a concatenation gives its members, and
+    /// neighbouring literals are joined. No member left is `empty`, and one stands for itself.
+    pub fn concat(alloc: Global, subs: Vec<Hir>) -> Result<Hir, AllocError>
+        ensures { IfOk result (λ h. meaning h ≡ concat_of (map meaning subs.items)) }
+    {
+        let members = members::all_cat_members(alloc, subs)?;
+        let mut members = members::joined_literals(alloc, members)?;
+        if members.len() > 1 {
+            return Ok(Hir {
+                kind: HirKind::Concat(members),
+            });
+        }
+        Ok(members.pop().unwrap_or(Hir::empty()))
+    }
+
+    /// One of the patterns, the earlier ones preferred. An alternation gives its members. No member
+    /// is `fail`, and one stands for itself.
+    pub fn alternation(alloc: Global, subs: Vec<Hir>) -> Result<Hir, AllocError>
+        ensures { IfOk result (λ h. meaning h ≡ alternation_of (map meaning subs.items)) }
+    {
+        let mut members = members::all_alt_members(alloc, subs)?;
+        if members.len() > 1 {
+            return Ok(Hir {
+                kind: HirKind::Alternation(members),
+            });
+        }
+        Ok(members.pop().unwrap_or(Hir::fail(alloc)))
     }
 
     /// The pattern's uppermost node.
