@@ -3,3 +3,4 @@ pub mod Meaning
 pub mod WellFormed
 pub mod Weight
 pub mod Properties
+pub mod Dots

@@ -4,8 +4,12 @@ ghost use Rattle.std.specs.Prelude.{◌≡◌, IfOk, map, []};
 ghost use Rattle.rc_pattern.specs.declared.hir.Hir.{out-Hir};
 ghost use Rattle.rc_pattern.specs.Re as re;
 ghost use Rattle.rc_pattern.specs.Meaning.{meaning, kind_meaning, class_meaning, repetition_meaning, capture_meaning, literal_of, concat_of, alternation_of};
+ghost use Rattle.rc_pattern.specs.Dots.{dot_of};
 
+mod dots;
 mod members;
+
+pub use dots::Dot;
 
 use std::alloc::{AllocError, Global};
 
@@ -138,6 +142,13 @@ impl Hir {
         Hir {
             kind: HirKind::Look(look),
         }
+    }
+
+    /// The class of what the dot leaves in.
+    pub fn dot(alloc: Global, dot: Dot) -> Result<Hir, AllocError>
+        ensures { IfOk result (λ h. meaning h ≡ dot_of dot) }
+    {
+        Ok(Hir::class(dots::class_of(alloc, dot)?))
     }
 
     /// The repetition, as it is given.
