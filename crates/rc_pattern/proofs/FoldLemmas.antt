@@ -1,5 +1,6 @@
 -- What a pattern's nodes mean, node by node.
-use Rattle.std.proofs.Common.{◌≡◌, ℕ, List, [], ◌∷◌, map, sym, ap, ◌∙◌, subst, refl, Vec, Global, string_bytes}
+use Rattle.std.proofs.Common.{◌≡◌, ℕ, suc, ◌+◌, ◌<◌, List, [], ◌∷◌, map, sym, ap, ◌∙◌, subst, refl, Vec, Global, string_bytes, length, drop, get_or, add-one}
+use Rattle.std.proofs.Math.Seq.{drop-cons}
 use Rattle.std.specs.Option.{option_map}
 use Rattle.rc_pattern.specs.Re.{Re, empty, literal, look, repeat, capture}
 use Rattle.rc_pattern.specs.Meaning.{meaning, kind_meaning, repetition_meaning, capture_meaning, class_meaning, cat_all, alt_all, node, capture_node, hir_node, repetition_node}
@@ -88,3 +89,9 @@ rolled (HirKind-F.Alternation subs) = subst IsNode (sym (HirKind.rolls-Alternati
 -- each node is one of the eight
 pub is_node : (k : HirKind) → IsNode k
 is_node k = subst IsNode (roll-out-HirKind k) (rolled (out-HirKind k))
+
+-- the members from number i on
+pub members_from : (xs : List Hir) (i : ℕ) (x : Hir) → i < length xs → x ≡ get_or xs i x →
+    map meaning (drop i xs) ≡ meaning x ∷ map meaning (drop (i + 1) xs)
+members_from xs i x h e =
+    rw add-one (ap (map meaning) (drop-cons xs i x h) ∙ ap (λ y. meaning y ∷ map meaning (drop (suc i) xs)) (sym e))

@@ -1,2 +1,4 @@
 pub mod FoldLemmas
 pub mod JoinLemmas
+pub mod DepthLemmas
+pub mod WeightLemmas
