@@ -1,4 +1,4 @@
 pub mod FoldLemmas
 pub mod JoinLemmas
-pub mod DepthLemmas
+pub mod WellFormedLemmas
 pub mod WeightLemmas

@@ -9,7 +9,7 @@ use crate::hir::{Hir, HirKind};
 /// Whether no way from the pattern's root to a leaf has more than `most` nodes. It calls itself at
 /// most `most` deep.
 #[cycle(depth)]
-#[tactic(auto, using(crate::proofs::DepthLemmas::some_depth))]
+#[tactic(auto, using(crate::proofs::WellFormedLemmas::some_depth))]
 pub fn depth_within(hir: &Hir, most: u32) -> bool
     ensures { IsTrue result ↔ (depth (meaning hir.now) ≤ most) }
 {
@@ -27,7 +27,7 @@ pub fn depth_within(hir: &Hir, most: u32) -> bool
 
 /// The same of each member, and so of an alternation of them too.
 #[cycle(depth)]
-#[tactic(auto, using(crate::proofs::DepthLemmas::member_depth))]
+#[tactic(auto, using(crate::proofs::WellFormedLemmas::member_depth))]
 fn depths_within(subs: &[Hir], most: u32) -> bool
     ensures { IsTrue result ↔ (depth (cat_all (map meaning subs.now)) ≤ most + 1) }
 {

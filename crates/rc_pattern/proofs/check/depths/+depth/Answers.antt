@@ -2,7 +2,7 @@ use Rattle.std.proofs.Common.{◌≡◌, ◌≤◌, ◌+◌, map, sym, ap, ◌�
 use Rattle.rc_pattern.specs.Meaning.{meaning, kind_meaning, cat_all}
 use Rattle.rc_pattern.specs.WellFormed.{depth}
 use Rattle.rc_pattern.proofs.FoldLemmas.{kind_Alternation}
-use Rattle.rc_pattern.proofs.DepthLemmas.{alt_depth}
+use Rattle.rc_pattern.proofs.WellFormedLemmas.{alt_depth}
 use Rattle.rc_pattern.proofs.check.depths.+depth.Goals as goal
 
 pub depth_within-returns-in-Alternation : goal.depth_within-returns-in-Alternation

@@ -1,8 +1,8 @@
--- How deep a pattern is.
-use Rattle.std.proofs.Common.{◌≡◌, ℕ, suc, ◌+◌, ◌≤◌, ◌<◌, max, List, [], ◌∷◌, map, length, drop, get_or, ap, refl, arith}
+-- How deep a pattern is, and whether its bounds are in order.
+use Rattle.std.proofs.Common.{◌≡◌, ◌↔◌, ℕ, suc, ◌+◌, ◌≤◌, ◌<◌, max, List, [], ◌∷◌, map, length, drop, get_or, ap, refl, arith}
 use Rattle.rc_pattern.specs.Re.{Re, empty, literal, byte_in, char_in, look, repeat, capture, cat, alt, none}
 use Rattle.rc_pattern.specs.Meaning.{meaning, cat_all, alt_all}
-use Rattle.rc_pattern.specs.WellFormed.{depth}
+use Rattle.rc_pattern.specs.WellFormed.{depth, HasBounds}
 use Rattle.rc_pattern.specs.declared.hir.Hir.{Hir}
 use Rattle.rc_pattern.proofs.FoldLemmas.{members_from}
 
@@ -28,3 +28,15 @@ alt_depth (x ∷ xs) = ap (max (1 + depth x)) (alt_depth xs)
 pub member_depth : (xs : List Hir) (i : ℕ) (x : Hir) → i < length xs → x ≡ get_or xs i x →
     depth (cat_all (map meaning (drop i xs))) ≡ max (1 + depth (meaning x)) (depth (cat_all (map meaning (drop (i + 1) xs))))
 member_depth xs i x h e = ap (λ ys. depth (cat_all ys)) (members_from xs i x h e)
+
+to_cat : (xs : List Re) → HasBounds (alt_all xs) → HasBounds (cat_all xs)
+to_cat [] h = h
+to_cat (x ∷ xs) h = (h.0, to_cat xs h.1)
+
+to_alt : (xs : List Re) → HasBounds (cat_all xs) → HasBounds (alt_all xs)
+to_alt [] h = h
+to_alt (x ∷ xs) h = (h.0, to_alt xs h.1)
+
+-- an alternation has its bounds in order where a concatenation has
+pub alt_bounds : (xs : List Re) → HasBounds (alt_all xs) ↔ HasBounds (cat_all xs)
+alt_bounds xs = (to_cat xs, to_alt xs)
