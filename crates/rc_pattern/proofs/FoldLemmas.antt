@@ -95,3 +95,9 @@ pub members_from : (xs : List Hir) (i : ℕ) (x : Hir) → i < length xs → x �
     map meaning (drop i xs) ≡ meaning x ∷ map meaning (drop (i + 1) xs)
 members_from xs i x h e =
     rw add-one (ap (map meaning) (drop-cons xs i x h) ∙ ap (λ y. meaning y ∷ map meaning (drop (suc i) xs)) (sym e))
+
+-- a pattern that was seen to be an alternation of the patterns xs
+pub meaning_of_alternation : (h : Hir) (k : HirKind) (subs : Vec Hir Global) (xs : List Hir) → kind_meaning k ≡ meaning h →
+    k ≡ HirKind.Alternation subs → xs ≡ subs.items → alt_all (map meaning xs) ≡ meaning h
+meaning_of_alternation h k subs xs node is same =
+    ap (λ (ys : List Hir). alt_all (map meaning ys)) same ∙ sym (kind_Alternation subs) ∙ ap kind_meaning (sym is) ∙ node

@@ -2,3 +2,4 @@ pub mod FoldLemmas
 pub mod JoinLemmas
 pub mod WellFormedLemmas
 pub mod WeightLemmas
+pub mod NameLemmas

@@ -1,8 +1,9 @@
--- How deep a pattern is, and whether its bounds are in order.
-use Rattle.std.proofs.Common.{◌≡◌, ◌↔◌, ℕ, suc, ◌+◌, ◌≤◌, ◌<◌, max, List, [], ◌∷◌, map, length, drop, get_or, ap, refl, arith}
+-- How deep a pattern is, whether its bounds are in order, and what its groups are.
+use Rattle.std.proofs.Common.{◌≡◌, ◌↔◌, ℕ, suc, ◌+◌, ◌≤◌, ◌<◌, max, List, [], ◌∷◌, ◌++◌, map, length, drop, get_or, ap, ◌∙◌, refl, arith}
+use Rattle.std.proofs.lemmas.List.{length-append}
 use Rattle.rc_pattern.specs.Re.{Re, empty, literal, byte_in, char_in, look, repeat, capture, cat, alt, none}
 use Rattle.rc_pattern.specs.Meaning.{meaning, cat_all, alt_all}
-use Rattle.rc_pattern.specs.WellFormed.{depth, HasBounds}
+use Rattle.rc_pattern.specs.WellFormed.{depth, HasBounds, group_numbers, group_names, group_count}
 use Rattle.rc_pattern.specs.declared.hir.Hir.{Hir}
 use Rattle.rc_pattern.proofs.FoldLemmas.{members_from}
 
@@ -40,3 +41,19 @@ to_alt (x ∷ xs) h = (h.0, to_alt xs h.1)
 -- an alternation has its bounds in order where a concatenation has
 pub alt_bounds : (xs : List Re) → HasBounds (alt_all xs) ↔ HasBounds (cat_all xs)
 alt_bounds xs = (to_cat xs, to_alt xs)
+
+-- an alternation has the groups of a concatenation
+pub alt_numbers : (xs : List Re) → group_numbers (alt_all xs) ≡ group_numbers (cat_all xs)
+alt_numbers [] = refl
+alt_numbers (x ∷ xs) = ap (λ ns. group_numbers x ++ ns) (alt_numbers xs)
+
+pub alt_names : (xs : List Re) → group_names (alt_all xs) ≡ group_names (cat_all xs)
+alt_names [] = refl
+alt_names (x ∷ xs) = ap (λ ns. group_names x ++ ns) (alt_names xs)
+
+-- the groups of a concatenation from number i on
+pub cat_count : (xs : List Hir) (i : ℕ) (x : Hir) → i < length xs → x ≡ get_or xs i x →
+    group_count (cat_all (map meaning (drop i xs))) ≡ group_count (meaning x) + group_count (cat_all (map meaning (drop (i + 1) xs)))
+cat_count xs i x h e =
+    ap (λ ys. group_count (cat_all ys)) (members_from xs i x h e)
+    ∙ length-append (group_numbers (meaning x)) (group_numbers (cat_all (map meaning (drop (i + 1) xs))))

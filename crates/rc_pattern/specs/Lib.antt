@@ -4,3 +4,4 @@ pub mod WellFormed
 pub mod Weight
 pub mod Properties
 pub mod Dots
+pub mod Groups

@@ -8,7 +8,7 @@ use crate::hir::{Class, ClassBytesRange, ClassUnicodeRange, Hir, HirKind};
 
 /// Whether each min is at most its max, and the ranges of each class ascend.
 #[cycle(bounds)]
-pub fn has_bounds(hir: &Hir) -> bool
+pub(super) fn has_bounds(hir: &Hir) -> bool
     ensures { IsTrue result ↔ HasBounds (meaning hir.now) }
 {
     match hir.kind() {
