@@ -198,6 +198,13 @@ impl Hir {
         Ok(members.pop().unwrap_or(Hir::fail(alloc)))
     }
 
+    /// The pattern of this node, as it is given.
+    pub(crate) fn from_kind(kind: HirKind) -> Hir
+        ensures { meaning result ≡ kind_meaning kind }
+    {
+        Hir { kind }
+    }
+
     /// The pattern's uppermost node.
     pub fn kind(&self) -> &HirKind
         ensures value { kind_meaning result.now ≡ meaning self.now }
