@@ -1,0 +1,6 @@
+pub mod Arounds
+pub mod Boundaries
+pub mod Joins
+pub mod Moves
+pub mod Parts
+pub mod Ranges
