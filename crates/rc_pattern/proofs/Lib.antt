@@ -3,3 +3,4 @@ pub mod JoinLemmas
 pub mod WellFormedLemmas
 pub mod WeightLemmas
 pub mod NameLemmas
+pub mod LookLemmas

@@ -5,3 +5,4 @@ pub mod Weight
 pub mod Properties
 pub mod Dots
 pub mod Groups
+pub mod LookSets

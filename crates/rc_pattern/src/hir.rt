@@ -7,9 +7,12 @@ ghost use Rattle.rc_pattern.specs.Meaning.{meaning, kind_meaning, class_meaning,
 ghost use Rattle.rc_pattern.specs.Dots.{dot_of};
 
 mod dots;
+mod lengths;
+mod look_set;
 mod members;
 
 pub use dots::Dot;
+pub use look_set::LookSet;
 
 use std::alloc::{AllocError, Global};
 
