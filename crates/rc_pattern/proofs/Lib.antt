@@ -4,3 +4,5 @@ pub mod WellFormedLemmas
 pub mod WeightLemmas
 pub mod NameLemmas
 pub mod LookLemmas
+pub mod LengthLemmas
+pub mod KnownLemmas

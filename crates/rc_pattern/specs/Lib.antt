@@ -6,3 +6,4 @@ pub mod Properties
 pub mod Dots
 pub mod Groups
 pub mod LookSets
+pub mod PropertiesOf

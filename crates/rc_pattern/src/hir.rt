@@ -7,12 +7,15 @@ ghost use Rattle.rc_pattern.specs.Meaning.{meaning, kind_meaning, class_meaning,
 ghost use Rattle.rc_pattern.specs.Dots.{dot_of};
 
 mod dots;
+mod known;
 mod lengths;
 mod look_set;
 mod members;
+mod properties;
 
 pub use dots::Dot;
 pub use look_set::LookSet;
+pub use properties::Properties;
 
 use std::alloc::{AllocError, Global};
 
@@ -101,6 +104,8 @@ pub struct Capture {
 }
 
 impl Hir {
+    ghost use Rattle.rc_pattern.specs.PropertiesOf.{IsPropertiesOf};
+
     /// The pattern that spells nothing but the empty text.
     pub fn empty() -> Hir
         ensures { meaning result ≡ re.empty }
@@ -206,6 +211,14 @@ impl Hir {
         ensures { meaning result ≡ kind_meaning kind }
     {
         Hir { kind }
+    }
+
+    /// What is known of the pattern. It is computed at each call, in time linear in the pattern's
+    /// size, and calls itself as deep as the pattern is.
+    pub fn properties(&self) -> Properties
+        ensures { IsPropertiesOf (meaning self.now) result }
+    {
+        known::properties_of(self)
     }
 
     /// The pattern's uppermost node.
