@@ -6,3 +6,4 @@ pub mod NameLemmas
 pub mod LookLemmas
 pub mod LengthLemmas
 pub mod KnownLemmas
+mod Examples
