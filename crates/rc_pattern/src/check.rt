@@ -10,3 +10,6 @@ pub use captures::{group_count, groups, is_well_formed};
 pub use copies::{copies_of, copy_of};
 pub use depths::depth_within;
 pub use weights::{capped_list_weight, capped_weight};
+
+#[cfg(test)]
+mod tests;

@@ -229,3 +229,6 @@ impl Hir {
         &self.kind
     }
 }
+
+#[cfg(test)]
+mod tests;
