@@ -2,5 +2,5 @@ pub mod Arounds
 pub mod Boundaries
 pub mod Joins
 pub mod Moves
-pub mod Parts
+pub mod Pieces
 pub mod Ranges

@@ -105,7 +105,7 @@ impl Cursor for &str {
     ghost total = { λ s. Some (length s.now) };
 
     fn chunk(&self) -> &[u8] {
-        self.as_bytes()
+        self.as_bytes() // all of them
     }
 
     fn advance(&mut self) -> bool {

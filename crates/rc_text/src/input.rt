@@ -291,9 +291,8 @@ impl<C: Cursor> Input<C> {
         ensures slice { result.now.slice ≡ span }
         ensures position { result.now.position ≡ placed self.old span.start span.end }
     {
-        self.set_span(span);
         self.slice = span;
-        self
+        self.span(span)
     }
 
     /// Sets the span and the slice, from `start` to `end`, as `slice_span` does.

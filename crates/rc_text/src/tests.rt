@@ -73,7 +73,8 @@ fn input_sees_the_whole_text(rt: HostRuntime) -> Result<(), Fail> {
 
 #[test]
 fn input_is_cloned(rt: HostRuntime) -> Result<(), Fail> {
-    let mut input = Input::new("é".as_bytes());
+    let chunks: [&[u8]; 2] = [b"\xC3", b"\xA9"];
+    let mut input = Input::new(ChunkCursor::new(&chunks)?);
     input.anchored(Anchored::Yes).earliest(true).set_range(1, 9);
     assert!(rt; !input.is_char_boundary());
     let mut copy = input.clone()?;
