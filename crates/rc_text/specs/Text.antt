@@ -48,12 +48,26 @@ abbrev pub end_of : Option ℕ → ℕ
 end_of None = 18446744073709551615
 end_of (Some n) = n
 
--- where the position goes as a span from start to end is set
-abbrev pub placed : Searched → (start end : ℕ) → ℕ
-placed s start end =
-    if nat_lt s.position start then min start (length s.content)
-    else (if nat_lt s.span.end s.span.start then s.position
-    else (if nat_lt end s.position then end else s.position))
+-- It went to p: it stands there, in the chunk with that byte, or at the content's end.
+pub record GoesTo (s t : Searched) (p : ℕ) : Type 0 where
+  pub position : t.position ≡ min p (length s.content)
+  pub there : p < length s.content → ShowsByte t p
+
+-- It did not move.
+pub record IsUnmoved (s t : Searched) : Type 0 where
+  pub position : t.position ≡ s.position
+  pub chunk : t.chunk ≡ s.chunk
+  pub offset : t.offset ≡ s.offset
+
+-- Where it stands once the span goes from start to end.
+pub record Placed (s t : Searched) (start end : ℕ) : Type 0 where
+  -- from below the new start it goes to that start
+  pub below : s.position < start → GoesTo s t start
+  -- else, where the old span was not done, it goes from above the new end to that end
+  pub above : start ≤ s.position → s.span.start ≤ s.span.end → end < s.position → GoesTo s t end
+  -- else it does not move
+  pub done : start ≤ s.position → s.span.end < s.span.start → IsUnmoved s t
+  pub inside : start ≤ s.position → s.position ≤ end → IsUnmoved s t
 
 -- Bounds.
 

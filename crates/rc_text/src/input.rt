@@ -3,7 +3,7 @@ ghost use Rattle.std.specs.Borrow.{sem};
 ghost use Rattle.std.specs.Io.BufRead.{Rests};
 ghost use Rattle.std.specs.Prelude.{◌≡◌, ◌+◌, ◌-◌, ◌<◌, ◌≤◌, ◌↔◌, ◌++◌, IfOk, IsTrue, false, length, max, min, slice_get, slice_range, take};
 ghost use Rattle.rc_text.specs.Piece.{IsTotal, Shows};
-ghost use Rattle.rc_text.specs.Text.{IsBoundary, Keeps, KeepsText, ShowsByte, Stays, around_bytes_at, around_place_at, end_of, high, is_boundary, low, placed};
+ghost use Rattle.rc_text.specs.Text.{IsBoundary, Keeps, KeepsText, Placed, ShowsByte, Stays, around_bytes_at, around_place_at, end_of, high, is_boundary, low};
 ghost use Rattle.rc_text.specs.contracts.input.Input.{the_row};
 
 use crate::cursor::Cursor;
@@ -202,13 +202,14 @@ impl<C: Cursor> Input<C> {
     ///
     /// A position below the new start goes to that start, or to the content's end where the start
     /// is past it. Else, where the old span was not done and the position is above the new end, it
-    /// goes to that end. Else it stays. So it goes in each call that sets a span.
+    /// goes to that end. After such a move the shown chunk has the byte at the position, save at
+    /// the content's end. Else position and chunk stay. So it goes in each call that sets a span.
     pub fn set_span(&mut self, span: Span)
         requires { span.start ≤ span.end + 1 }
         ensures keeps { KeepsText self.old self.new }
         ensures span { self.new.span ≡ span }
         ensures slice { self.new.slice ≡ self.old.slice }
-        ensures position { self.new.position ≡ placed self.old span.start span.end }
+        ensures placed { Placed self.old self.new span.start span.end }
     {
         let at = position(self);
         if at < span.start {
@@ -226,7 +227,7 @@ impl<C: Cursor> Input<C> {
         ensures keeps { KeepsText self.old result.now }
         ensures span { result.now.span ≡ span }
         ensures slice { result.now.slice ≡ self.old.slice }
-        ensures position { result.now.position ≡ placed self.old span.start span.end }
+        ensures placed { Placed self.old result.now span.start span.end }
     {
         self.set_span(span);
         self
@@ -239,7 +240,7 @@ impl<C: Cursor> Input<C> {
         ensures start { self.new.span.start ≡ start }
         ensures end { self.new.span.end ≡ self.old.span.end }
         ensures slice { self.new.slice ≡ self.old.slice }
-        ensures position { self.new.position ≡ placed self.old start self.old.span.end }
+        ensures placed { Placed self.old self.new start self.old.span.end }
     {
         self.set_range(start, self.span.end);
     }
@@ -251,7 +252,7 @@ impl<C: Cursor> Input<C> {
         ensures start { self.new.span.start ≡ self.old.span.start }
         ensures end { self.new.span.end ≡ end }
         ensures slice { self.new.slice ≡ self.old.slice }
-        ensures position { self.new.position ≡ placed self.old self.old.span.start end }
+        ensures placed { Placed self.old self.new self.old.span.start end }
     {
         self.set_range(self.span.start, end);
     }
@@ -263,7 +264,7 @@ impl<C: Cursor> Input<C> {
         ensures start { self.new.span.start ≡ start }
         ensures end { self.new.span.end ≡ end }
         ensures slice { self.new.slice ≡ self.old.slice }
-        ensures position { self.new.position ≡ placed self.old start end }
+        ensures placed { Placed self.old self.new start end }
     {
         self.set_span(Span { start, end });
     }
@@ -275,7 +276,7 @@ impl<C: Cursor> Input<C> {
         ensures start { result.span.start ≡ start }
         ensures end { result.span.end ≡ end }
         ensures slice { result.slice ≡ self.slice }
-        ensures position { result.position ≡ placed self start end }
+        ensures placed { Placed self result start end }
     {
         self.set_range(start, end);
         self
@@ -289,7 +290,7 @@ impl<C: Cursor> Input<C> {
         ensures keeps { KeepsText self.old result.now }
         ensures span { result.now.span ≡ span }
         ensures slice { result.now.slice ≡ span }
-        ensures position { result.now.position ≡ placed self.old span.start span.end }
+        ensures placed { Placed self.old result.now span.start span.end }
     {
         self.slice = span;
         self.span(span)
@@ -303,7 +304,7 @@ impl<C: Cursor> Input<C> {
         ensures start { result.now.span.start ≡ start }
         ensures end { result.now.span.end ≡ end }
         ensures slice { result.now.slice ≡ result.now.span }
-        ensures position { result.now.position ≡ placed self.old start end }
+        ensures placed { Placed self.old result.now start end }
     {
         self.slice_span(Span { start, end })
     }
