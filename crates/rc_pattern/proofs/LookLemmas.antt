@@ -28,7 +28,7 @@ bit_of_and a b i = ap (λ n. nat_eq n 1) (bit_at_and a b i) ∙ min_one (bit_at 
 pub bit_of_pow : (j k : ℕ) → nat_eq (bit_at (2 ^ j) k) 1 ≡ nat_eq j k
 bit_of_pow j k =
     elim (cases_eq k j) as (λ _. nat_eq (bit_at (2 ^ j) k) 1 ≡ nat_eq j k) [
-      inl e ↦ (let f = bit_at-pow_same j in rw e (rw f (grind (arith, nat_tests))))
+      | inl e ↦ (let f = bit_at-pow_same j in rw e (rw f (grind (arith, nat_tests))))
       | inr n ↦ (let f = bit_at-pow_other j k n in rw f (grind (arith, nat_tests)))
     ]
 

@@ -121,9 +121,10 @@ pub fresh_named : (xs : List (Bor Capture)) (i : ℕ) (x : Bor Capture) (old new
 fresh_named xs i x old new name P h e is absent more now =
     let rest = map name_of (drop (i + 1) xs) in
     let all : map name_of (drop i xs) ≡ Some name ∷ rest = captures_from xs i x h e ∙ ap (λ n. n ∷ rest) is in
-    let both = λ (q : List ℕ). bytes_eq name q || old q in
-    (λ f. now.0 (subst (AreFresh old) (sym all) (absent, fresh_same new both rest more f)),
-      λ p. fresh_same both new rest (λ q. sym (more q)) (let g : AreFresh old (Some name ∷ rest) = subst (AreFresh old) all (now.1 p) in g.1))
+    let both = λ (q : List ℕ). bytes_eq name q || old q in (
+      λ f. now.0 (subst (AreFresh old) (sym all) (absent, fresh_same new both rest more f)),
+      λ p. fresh_same both new rest (λ q. sym (more q)) (let g : AreFresh old (Some name ∷ rest) = subst (AreFresh old) all (now.1 p) in g.1),
+    )
 
 -- a group without a name
 pub fresh_unnamed : (xs : List (Bor Capture)) (i : ℕ) (x : Bor Capture) (seen : List ℕ → Bool) (P : Type 0) →

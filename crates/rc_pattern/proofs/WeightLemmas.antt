@@ -28,9 +28,9 @@ list_weights xs i x h e = ap sum_of_weights (members_from xs i x h e)
 capped_copies : (n w cap : ℕ) → 1 ≤ n → min (n * (min w cap + 2) + 2) cap ≡ min (n * (w + 2) + 2) cap
 capped_copies n w cap some =
     elim (cases_lt w cap) as (λ _. min (n * (min w cap + 2) + 2) cap ≡ min (n * (w + 2) + 2) cap) [
-      inl below ↦ (let e : min w cap ≡ w = omega arith in rw e refl)
+      | inl below ↦ (let e : min w cap ≡ w = omega arith in rw e refl)
       | inr above ↦
-        (let e : min w cap ≡ cap = omega arith in
+          (let e : min w cap ≡ cap = omega arith in
           let a : 1 * (cap + 2) ≤ n * (cap + 2) = mul-le-mul_right (cap + 2) some in
           let b : 1 * (w + 2) ≤ n * (w + 2) = mul-le-mul_right (w + 2) some in
           rw e (omega (arith, a, b)))

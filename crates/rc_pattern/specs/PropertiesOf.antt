@@ -12,6 +12,6 @@ pub record IsPropertiesOf (h : Re) (p : Properties) : Type 0 where
   pub groups : p.explicit_captures_len ≡ explicit_captures_len h
   pub static_groups : p.static_explicit_captures_len ≡ static_explicit_captures_len h
   pub looks : HasOnly p.look_set (has_look h)
-  pub first_looks : HasOnly p.look_set_prefix (begins_with_look h)
-  pub last_looks : HasOnly p.look_set_suffix (ends_with_look h)
+  pub first_looks : HasOnly p.look_prefix (begins_with_look h)
+  pub last_looks : HasOnly p.look_suffix (ends_with_look h)
   pub plain : p.is_plain ≡ is_plain h

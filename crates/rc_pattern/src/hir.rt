@@ -7,7 +7,6 @@ ghost use Rattle.rc_pattern.specs.Meaning.{meaning, kind_meaning, class_meaning,
 ghost use Rattle.rc_pattern.specs.Dots.{dot_of};
 
 mod dots;
-mod known;
 mod lengths;
 mod look_set;
 mod members;
@@ -16,29 +15,46 @@ mod properties;
 pub use dots::Dot;
 pub use look_set::LookSet;
 pub use properties::Properties;
-
 use std::alloc::{AllocError, Global};
 
 /// An assertion about a position. It reads no byte.
 #[derive(Clone, Copy, Debug, PartialEq, Eq)]
 pub enum Look {
+    /// The start of what is searched.
     Start,
+    /// The end of what is searched.
     End,
+    /// The start of a line, where the line terminator ends lines.
     StartLF,
+    /// The end of a line, where the line terminator ends lines.
     EndLF,
+    /// The start of a line, where CR, LF and CR with LF end lines.
     StartCRLF,
+    /// The end of a line, where CR, LF and CR with LF end lines.
     EndCRLF,
+    /// An ASCII word character on one side alone.
     WordAscii,
+    /// An ASCII word character on both sides or on none.
     WordAsciiNegate,
+    /// A word character on one side alone.
     WordUnicode,
+    /// A word character on both sides or on none.
     WordUnicodeNegate,
+    /// The start of a word of ASCII.
     WordStartAscii,
+    /// The end of a word of ASCII.
     WordEndAscii,
+    /// The start of a word.
     WordStartUnicode,
+    /// The end of a word.
     WordEndUnicode,
+    /// No ASCII word character before.
     WordStartHalfAscii,
+    /// No ASCII word character after.
     WordEndHalfAscii,
+    /// No word character before.
     WordStartHalfUnicode,
+    /// No word character after.
     WordEndHalfUnicode,
 }
 
@@ -59,11 +75,16 @@ pub struct ClassUnicodeRange {
 /// A set of characters or of bytes.
 #[derive(Drop)]
 pub enum Class {
+    /// The characters of the ranges.
     Unicode(Vec<ClassUnicodeRange>),
+    /// The bytes of the ranges.
     Bytes(Vec<ClassBytesRange>),
 }
 
 /// A pattern.
+///
+/// It may be nested without bound. What drops it, and `properties`, make a call for each level, and
+/// a stack of 8 MiB bears 2,000 levels and more.
 #[cycle(hir)]
 #[derive(Drop)]
 pub struct Hir {
@@ -74,17 +95,26 @@ pub struct Hir {
 #[cycle(hir)]
 #[derive(Drop)]
 pub enum HirKind {
+    /// The empty text.
     Empty,
+    /// These bytes.
     Literal(Vec<u8>),
+    /// One character or one byte of the class.
     Class(Class),
+    /// The empty text, where the assertion holds.
     Look(Look),
+    /// Turns of a pattern.
     Repetition(Repetition),
+    /// A group.
     Capture(Capture),
+    /// The patterns one after another.
     Concat(Vec<Hir>),
+    /// One of the patterns, the earlier ones preferred.
     Alternation(Vec<Hir>),
 }
 
-/// From `min` to `max` turns of a pattern, without a bound where `max` is `None`.
+/// From `min` to `max` turns of a pattern, without a bound where `max` is `None`. More turns are
+/// preferred where it is `greedy`, and fewer where it isn't.
 #[cycle(hir)]
 #[derive(Drop)]
 pub struct Repetition {
@@ -122,7 +152,7 @@ impl Hir {
         Hir::class(Class::Bytes(Vec::new(alloc)))
     }
 
-    /// These bytes. Of no bytes it is `empty`.
+    /// These bytes. Of no bytes it is `empty`. An `Err` is want of memory.
     pub fn literal(alloc: Global, bytes: &[u8]) -> Result<Hir, AllocError>
         ensures { IfOk result (λ h. meaning h ≡ literal_of bytes.now) }
     {
@@ -152,7 +182,7 @@ impl Hir {
         }
     }
 
-    /// The class of what the dot leaves in.
+    /// The class of what the dot leaves in. An `Err` is want of memory.
     pub fn dot(alloc: Global, dot: Dot) -> Result<Hir, AllocError>
         ensures { IfOk result (λ h. meaning h ≡ dot_of dot) }
     {
@@ -178,7 +208,8 @@ impl Hir {
     }
 
     /// One pattern after another. An empty one is dropped, a concatenation gives its members, and
-    /// neighbouring literals are joined. No member left is `empty`, and one stands for itself.
+    /// neighbouring literals are joined. No member left is `empty`, and one stands for itself. An
+    /// `Err` is want of memory, and the patterns are dropped then.
     pub fn concat(alloc: Global, subs: Vec<Hir>) -> Result<Hir, AllocError>
         ensures { IfOk result (λ h. meaning h ≡ concat_of (map meaning subs.items)) }
     {
@@ -193,7 +224,8 @@ impl Hir {
     }
 
     /// One of the patterns, the earlier ones preferred. An alternation gives its members. No member
-    /// is `fail`, and one stands for itself.
+    /// is `fail`, and one stands for itself. An `Err` is want of memory, and the patterns are dropped
+    /// then.
     pub fn alternation(alloc: Global, subs: Vec<Hir>) -> Result<Hir, AllocError>
         ensures { IfOk result (λ h. meaning h ≡ alternation_of (map meaning subs.items)) }
     {
@@ -214,11 +246,11 @@ impl Hir {
     }
 
     /// What is known of the pattern. It is computed at each call, in time linear in the pattern's
-    /// size, and calls itself as deep as the pattern is.
+    /// size.
     pub fn properties(&self) -> Properties
         ensures { IsPropertiesOf (meaning self.now) result }
     {
-        known::properties_of(self)
+        properties::properties_of(self)
     }
 
     /// The pattern's uppermost node.

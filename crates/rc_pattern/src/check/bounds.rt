@@ -6,7 +6,8 @@ ghost use Rattle.rc_pattern.specs.WellFormed.{HasBounds, AreAscending};
 
 use crate::hir::{Class, ClassBytesRange, ClassUnicodeRange, Hir, HirKind};
 
-/// Whether each min is at most its max, and the ranges of each class ascend.
+/// Whether each min is at most its max, and the ranges of each class ascend. It calls itself as deep
+/// as the pattern is.
 #[cycle(bounds)]
 pub(super) fn has_bounds(hir: &Hir) -> bool
     ensures { IsTrue result ↔ HasBounds (meaning hir.now) }
@@ -68,10 +69,10 @@ fn are_bytes_ascending(ranges: &[ClassBytesRange]) -> bool
 {
     let mut from = 0;
     for range in ranges {
-        if (range.start as u32) < from || range.end < range.start {
+        if (range.start as u16) < from || range.end < range.start {
             return false;
         }
-        from = range.end as u32 + 1;
+        from = range.end as u16 + 1;
     }
     true
 }

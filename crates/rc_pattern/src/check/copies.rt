@@ -6,7 +6,7 @@ ghost use Rattle.rc_pattern.specs.Meaning.{meaning, class_meaning, repetition_me
 use crate::hir::{Capture, Class, Hir, HirKind, Repetition};
 use std::alloc::{AllocError, Global};
 
-/// A copy of the pattern.
+/// A copy of the pattern. An `Err` is want of memory.
 #[cycle(copy)]
 pub fn copy_of(alloc: Global, hir: &Hir) -> Result<Hir, AllocError>
     ensures { IfOk result (λ copy. meaning copy ≡ meaning hir.now) }
@@ -19,7 +19,9 @@ pub fn copy_of(alloc: Global, hir: &Hir) -> Result<Hir, AllocError>
         }
         HirKind::Class(class) => Ok(Hir::class(copy_of_class(alloc, class)?)),
         HirKind::Look(look) => Ok(Hir::look(*look)),
-        HirKind::Repetition(repetition) => Ok(Hir::repetition(copy_of_repetition(alloc, repetition)?)),
+        HirKind::Repetition(repetition) => Ok(Hir::repetition(copy_of_repetition(
+            alloc, repetition,
+        )?)),
         HirKind::Capture(capture) => Ok(Hir::capture(copy_of_capture(alloc, capture)?)),
         HirKind::Concat(subs) => {
             let subs = copies_of(alloc, subs)?;
@@ -32,7 +34,7 @@ pub fn copy_of(alloc: Global, hir: &Hir) -> Result<Hir, AllocError>
     }
 }
 
-/// Copies of the patterns, in their order.
+/// Copies of the patterns, in their order. An `Err` is want of memory.
 #[cycle(copy)]
 pub fn copies_of(alloc: Global, hirs: &[Hir]) -> Result<Vec<Hir>, AllocError>
     ensures { IfOk result (λ copies. map meaning copies.items ≡ map meaning hirs.now) }

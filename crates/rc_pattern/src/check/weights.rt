@@ -9,7 +9,8 @@ use crate::hir::{Class, Hir, HirKind, Repetition};
 /// A weight from here on is told as this.
 const CAP: u128 = 0x1_0000_0000_0000_0000;
 
-/// The pattern's weight, or 2 to the power of 64 where it is above that.
+/// The pattern's weight, or 2 to the power of 64 where it is above that. It calls itself as deep as
+/// the pattern is.
 #[cycle(weight)]
 pub fn capped_weight(hir: &Hir) -> u128
     ensures { result ≡ min (weight (meaning hir.now)) (2 ^ 64) }

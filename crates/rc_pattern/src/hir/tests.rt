@@ -2,6 +2,7 @@
 
 use super::*;
 use std::fmt::Write;
+use std::process::Abort;
 use std::test::Fail;
 
 /// Appends the pattern node by node, bytes and scalars in hexadecimal.
@@ -75,42 +76,66 @@ fn show_class(text: &mut String, class: &Class) -> Result<(), AllocError> {
     Ok(())
 }
 
-fn shown(alloc: Global, hir: &Hir) -> Result<String, AllocError> {
+/// The pattern is shown as this.
+fn is_shown(rt: &impl Abort, alloc: Global, hir: Hir, want: &str) -> Result<(), AllocError> {
     let mut text = String::new(alloc);
-    show(&mut text, hir)?;
-    Ok(text)
+    show(&mut text, &hir)?;
+    assert_eq!(rt; text.as_str(), want);
+    Ok(())
 }
 
 fn literal(alloc: Global, text: &str) -> Result<Hir, AllocError> {
     Hir::literal(alloc, text.as_bytes())
 }
 
-fn repeated(alloc: Global, min: u32, max: Option<u32>, sub: Hir) -> Result<Hir, AllocError> {
-    let sub = Box::new(alloc, sub)?;
+fn turns(alloc: Global, min: u32, max: Option<u32>, sub: Hir) -> Result<Hir, AllocError> {
     Ok(Hir::repetition(Repetition {
         min,
         max,
         greedy: true,
-        sub,
+        sub: Box::new(alloc, sub)?,
     }))
 }
 
 fn group(alloc: Global, index: usize, name: Option<String>, sub: Hir) -> Result<Hir, AllocError> {
-    let sub = Box::new(alloc, sub)?;
-    Ok(Hir::capture(Capture { index, name, sub }))
+    Ok(Hir::capture(Capture {
+        index,
+        name,
+        sub: Box::new(alloc, sub)?,
+    }))
+}
+
+fn concat(alloc: Global, first: Hir, second: Hir) -> Result<Hir, AllocError> {
+    Hir::concat(alloc, vec![in alloc; first, second]?)
+}
+
+fn alternation(alloc: Global, first: Hir, second: Hir) -> Result<Hir, AllocError> {
+    Hir::alternation(alloc, vec![in alloc; first, second]?)
 }
 
 #[test]
-fn makes_single_nodes(rt: HostRuntime) -> Result<(), Fail> {
+fn makes_leaves(rt: HostRuntime) -> Result<(), Fail> {
     let alloc = rt.alloc();
-    assert_eq!(rt; shown(alloc, &Hir::empty())?.as_str(), "empty");
-    assert_eq!(rt; shown(alloc, &Hir::fail(alloc))?.as_str(), "bytes of");
-    assert_eq!(rt; shown(alloc, &literal(alloc, "")?)?.as_str(), "empty");
-    assert_eq!(rt; shown(alloc, &literal(alloc, "ab")?)?.as_str(), "bytes 61 62");
-    assert_eq!(rt; shown(alloc, &Hir::look(Look::WordStartHalfAscii))?.as_str(), "WordStartHalfAscii");
+    is_shown(&rt, alloc, Hir::empty(), "empty")?;
+    is_shown(&rt, alloc, Hir::fail(alloc), "bytes of")?;
+    is_shown(&rt, alloc, literal(alloc, "")?, "empty")?;
+    is_shown(&rt, alloc, literal(alloc, "ab")?, "bytes 61 62")?;
+    is_shown(
+        &rt,
+        alloc,
+        Hir::look(Look::WordStartHalfAscii),
+        "WordStartHalfAscii",
+    )?;
+    Ok(())
+}
+
+#[test]
+fn makes_branches(rt: HostRuntime) -> Result<(), Fail> {
+    let alloc = rt.alloc();
+    let sub = turns(alloc, 2, Some(3), literal(alloc, "a")?)?;
     let name = Some(String::from_str(alloc, "n")?);
-    let hir = group(alloc, 1, name, repeated(alloc, 2, Some(3), literal(alloc, "a")?)?)?;
-    assert_eq!(rt; shown(alloc, &hir)?.as_str(), "group 1 n repeat 2 Some(3) true bytes 61");
+    let hir = group(alloc, 1, name, sub)?;
+    is_shown(&rt, alloc, hir, "group 1 n repeat 2 Some(3) true bytes 61")?;
     Ok(())
 }
 
@@ -132,8 +157,7 @@ fn makes_dots(rt: HostRuntime) -> Result<(), Fail> {
         (Dot::AnyByteExceptCRLF, "bytes of 0-9 b-c e-ff"),
     ];
     for (dot, want) in rows {
-        let hir = Hir::dot(alloc, dot)?;
-        assert_eq!(rt; shown(alloc, &hir)?.as_str(), want);
+        is_shown(&rt, alloc, Hir::dot(alloc, dot)?, want)?;
     }
     Ok(())
 }
@@ -141,55 +165,77 @@ fn makes_dots(rt: HostRuntime) -> Result<(), Fail> {
 #[test]
 fn joins_concatenations(rt: HostRuntime) -> Result<(), Fail> {
     let alloc = rt.alloc();
-    let inner = Hir::concat(alloc, vec![in alloc; Hir::look(Look::Start), literal(alloc, "a")?]?)?;
-    let hir = Hir::concat(alloc, vec![in alloc; inner, Hir::empty(), literal(alloc, "bc")?]?)?;
-    assert_eq!(rt; shown(alloc, &hir)?.as_str(), "concat(Start;bytes 61 62 63;)");
-    let one = Hir::concat(alloc, vec![in alloc; literal(alloc, "a")?, Hir::empty(), literal(alloc, "b")?]?)?;
-    assert_eq!(rt; shown(alloc, &one)?.as_str(), "bytes 61 62");
-    let none = Hir::concat(alloc, vec![in alloc; Hir::empty(), Hir::empty()]?)?;
-    assert_eq!(rt; shown(alloc, &none)?.as_str(), "empty");
+    let inner = concat(alloc, Hir::look(Look::Start), literal(alloc, "a")?)?;
+    let hir = concat(alloc, inner, literal(alloc, "bc")?)?;
+    is_shown(&rt, alloc, hir, "concat(Start;bytes 61 62 63;)")?;
+    let one = concat(alloc, Hir::empty(), Hir::look(Look::End))?;
+    is_shown(&rt, alloc, one, "End")?;
+    is_shown(
+        &rt,
+        alloc,
+        concat(alloc, Hir::empty(), Hir::empty())?,
+        "empty",
+    )?;
     Ok(())
 }
 
 #[test]
 fn joins_alternations(rt: HostRuntime) -> Result<(), Fail> {
     let alloc = rt.alloc();
-    let inner = Hir::alternation(alloc, vec![in alloc; literal(alloc, "a")?, literal(alloc, "b")?]?)?;
-    let hir = Hir::alternation(alloc, vec![in alloc; inner, Hir::empty()]?)?;
-    assert_eq!(rt; shown(alloc, &hir)?.as_str(), "alternation(bytes 61;bytes 62;empty;)");
+    let inner = alternation(alloc, literal(alloc, "a")?, literal(alloc, "b")?)?;
+    let hir = alternation(alloc, inner, Hir::empty())?;
+    is_shown(&rt, alloc, hir, "alternation(bytes 61;bytes 62;empty;)")?;
     let one = Hir::alternation(alloc, vec![in alloc; Hir::look(Look::End)]?)?;
-    assert_eq!(rt; shown(alloc, &one)?.as_str(), "End");
-    let none = Hir::alternation(alloc, vec![in alloc]?)?;
-    assert_eq!(rt; shown(alloc, &none)?.as_str(), "bytes of");
+    is_shown(&rt, alloc, one, "End")?;
+    is_shown(
+        &rt,
+        alloc,
+        Hir::alternation(alloc, Vec::new(alloc))?,
+        "bytes of",
+    )?;
+    Ok(())
+}
+
+/// The pattern's least and greatest length are these, and it is plain or not.
+fn has_lengths(rt: &impl Abort, hir: Hir, least: Option<usize>, most: Option<usize>, plain: bool) {
+    let known = hir.properties();
+    assert_eq!(rt; known.minimum_len(), least);
+    assert_eq!(rt; known.maximum_len(), most);
+    assert_eq!(rt; known.is_plain(), plain);
+}
+
+#[test]
+fn knows_lengths(rt: HostRuntime) -> Result<(), Fail> {
+    let alloc = rt.alloc();
+    let dot = Hir::dot(alloc, Dot::AnyChar)?;
+    has_lengths(&rt, turns(alloc, 1, Some(2), dot)?, Some(1), Some(8), true);
+    let star = turns(alloc, 0, None, literal(alloc, "a")?)?;
+    has_lengths(&rt, turns(alloc, 0, None, star)?, Some(0), None, false);
+    has_lengths(
+        &rt,
+        alternation(alloc, Hir::fail(alloc), literal(alloc, "bc")?)?,
+        Some(2),
+        None,
+        true,
+    );
+    let many = turns(alloc, u32::MAX, Some(u32::MAX), literal(alloc, "bc")?)?;
+    has_lengths(
+        &rt,
+        turns(alloc, u32::MAX, Some(u32::MAX), many)?,
+        Some(usize::MAX),
+        None,
+        true,
+    );
     Ok(())
 }
 
 #[test]
-fn knows_lengths_and_groups(rt: HostRuntime) -> Result<(), Fail> {
+fn knows_groups(rt: HostRuntime) -> Result<(), Fail> {
     let alloc = rt.alloc();
-    // `(a)|bc`
     let first = group(alloc, 1, None, literal(alloc, "a")?)?;
-    let hir = Hir::alternation(alloc, vec![in alloc; first, literal(alloc, "bc")?]?)?;
-    let known = hir.properties();
-    assert_eq!(rt; known.minimum_len(), Some(1));
-    assert_eq!(rt; known.maximum_len(), Some(2));
+    let known = alternation(alloc, first, literal(alloc, "bc")?)?.properties();
     assert_eq!(rt; known.explicit_captures_len(), 1);
     assert_eq!(rt; known.static_explicit_captures_len(), None);
-    assert!(rt; known.is_plain());
-    // `(?:(?:bc){4294967295}){4294967295}`
-    let many = repeated(alloc, u32::MAX, Some(u32::MAX), literal(alloc, "bc")?)?;
-    let known = repeated(alloc, u32::MAX, Some(u32::MAX), many)?.properties();
-    assert_eq!(rt; known.minimum_len(), Some(usize::MAX));
-    assert_eq!(rt; known.maximum_len(), None);
-    // `.+`, and `(?:a*)*`
-    let known = repeated(alloc, 1, None, Hir::dot(alloc, Dot::AnyChar)?)?.properties();
-    assert_eq!(rt; known.minimum_len(), Some(1));
-    assert_eq!(rt; known.maximum_len(), None);
-    assert!(rt; known.is_plain());
-    let inner = repeated(alloc, 0, None, literal(alloc, "a")?)?;
-    assert!(rt; !repeated(alloc, 0, None, inner)?.properties().is_plain());
-    assert_eq!(rt; Hir::fail(alloc).properties().minimum_len(), None);
-    assert_eq!(rt; Hir::dot(alloc, Dot::AnyChar)?.properties().maximum_len(), Some(4));
     Ok(())
 }
 
@@ -197,14 +243,9 @@ fn knows_lengths_and_groups(rt: HostRuntime) -> Result<(), Fail> {
 fn knows_assertions(rt: HostRuntime) -> Result<(), Fail> {
     let alloc = rt.alloc();
     // `^$a\b`
-    let subs = vec![
-        in alloc;
-        Hir::look(Look::Start),
-        Hir::look(Look::End),
-        literal(alloc, "a")?,
-        Hir::look(Look::WordUnicode),
-    ]?;
-    let known = Hir::concat(alloc, subs)?.properties();
+    let first = concat(alloc, Hir::look(Look::Start), Hir::look(Look::End))?;
+    let second = concat(alloc, literal(alloc, "a")?, Hir::look(Look::WordUnicode))?;
+    let known = concat(alloc, first, second)?.properties();
     let rows = [
         (Look::Start, true, true, false),
         (Look::End, true, true, false),

@@ -10,8 +10,8 @@ pub has_bounds-returns-in-Alternation : goal.has_bounds-returns-in-Alternation
 has_bounds-returns-in-Alternation t c =
     let subs = c.deref-in-Alternation.result.now in
     let e =
-      meaning_of_alternation c.args.hir.now c.kind.result.now c.in-Alternation.subs subs c.kind.ensures.value c.in-Alternation.is
-      c.deref-in-Alternation.ensures.value in
+    meaning_of_alternation c.args.hir.now c.kind.result.now c.in-Alternation.subs subs c.kind.ensures.value c.in-Alternation.is
+    c.deref-in-Alternation.ensures.value in
     let same = alt_bounds (map meaning subs) in
     let h = c.have_bounds-in-Alternation.ensures in
     (λ r. subst HasBounds e (same.1 (h.0 r)), λ b. h.1 (same.0 (subst HasBounds (sym e) b)))

@@ -7,4 +7,4 @@ abbrev pub invariant-group_count_of_all-loop-sub : goal.invariant-group_count_of
 invariant-group_count_of_all-loop-sub l =
     (l.total ≤ 2 ^ 64 - 1)
     × (min (l.total + group_count (cat_all (map meaning (drop l.sub-index l.subs)))) (2 ^ 64 - 1)
-      ≡ min (group_count (cat_all (map meaning l.subs))) (2 ^ 64 - 1))
+    ≡ min (group_count (cat_all (map meaning l.subs))) (2 ^ 64 - 1))

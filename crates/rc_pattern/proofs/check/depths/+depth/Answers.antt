@@ -9,5 +9,5 @@ pub depth_within-returns-in-Alternation : goal.depth_within-returns-in-Alternati
 depth_within-returns-in-Alternation t c =
     let subs = map meaning c.in-Alternation.subs.items in
     let e : depth (meaning c.args.hir.now) ≡ depth (cat_all subs) =
-      ap depth (sym c.kind.ensures.value ∙ ap kind_meaning c.in-Alternation.is ∙ kind_Alternation c.in-Alternation.subs) ∙ alt_depth subs in
+    ap depth (sym c.kind.ensures.value ∙ ap kind_meaning c.in-Alternation.is ∙ kind_Alternation c.in-Alternation.subs) ∙ alt_depth subs in
     grind arith

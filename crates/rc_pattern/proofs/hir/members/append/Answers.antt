@@ -12,6 +12,5 @@ returns-in_default c =
     let kind = c.args.member.kind in
     on_ok_weaker c.put.result
     (λ e xs f. e ∙ join_other xs old (kind_meaning kind) (node_other kind c.in_default.not-Literal) f
-      ∙ ap (λ (m : Re). joined (xs ++ m ∷ [])) (sym (meaning_of_hir c.args.member)))
+    ∙ ap (λ (m : Re). joined (xs ++ m ∷ [])) (sym (meaning_of_hir c.args.member)))
     c.put.ensures
-

@@ -1,13 +1,14 @@
-//! The properties of a pattern from those of its parts.
+//! The properties of a pattern, from its leaves up.
 
 ghost use Rattle.std.specs.Prelude.{map};
 ghost use Rattle.rc_pattern.specs.Meaning.{meaning, repetition_meaning, cat_all, alt_all};
 ghost use Rattle.rc_pattern.specs.PropertiesOf.{IsPropertiesOf};
 
-use super::{Hir, HirKind, Properties, Repetition};
+use super::Properties;
+use crate::hir::{Hir, HirKind, Repetition};
 
 #[cycle(properties)]
-pub(super) fn properties_of(hir: &Hir) -> Properties
+pub(in crate::hir) fn properties_of(hir: &Hir) -> Properties
     ensures { IsPropertiesOf (meaning hir.now) result }
 {
     match hir.kind() {

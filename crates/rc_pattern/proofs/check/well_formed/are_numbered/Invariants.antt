@@ -1,7 +1,7 @@
 use Rattle.std.proofs.Common.{◌≡◌, ◌+◌, ◌↔◌, map, drop, length}
 use Rattle.std.specs.List.{range_with_len}
 use Rattle.rc_pattern.specs.Groups.{number_of}
-use Rattle.rc_pattern.proofs.check.captures.are_numbered.Given as goal
+use Rattle.rc_pattern.proofs.check.well_formed.are_numbered.Given as goal
 
 abbrev pub invariant-loop-i : goal.invariant-loop-i
 invariant-loop-i l =

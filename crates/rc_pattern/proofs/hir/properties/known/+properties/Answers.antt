@@ -4,7 +4,7 @@ use Rattle.rc_pattern.specs.Meaning.{meaning, kind_meaning, alt_all}
 use Rattle.rc_pattern.specs.PropertiesOf.{IsPropertiesOf}
 use Rattle.rc_pattern.proofs.FoldLemmas.{kind_Capture}
 use Rattle.rc_pattern.proofs.KnownLemmas.{capture_known, repetition_known, concat_known, alternation_known}
-use Rattle.rc_pattern.proofs.hir.known.+properties.Goals as goal
+use Rattle.rc_pattern.proofs.hir.properties.known.+properties.Goals as goal
 
 pub properties_of-returns-in-Capture : goal.properties_of-returns-in-Capture
 properties_of-returns-in-Capture t c =
