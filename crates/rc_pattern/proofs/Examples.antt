@@ -1,10 +1,10 @@
 -- The definitions, run on worked rows.
-use Rattle.std.proofs.Common.{◌≡◌, ℕ, zero, suc, ◌+◌, ◌*◌, ◌≤◌, Bool, true, false, List, [], ◌∷◌, Option, Some, None, refl, codes, lit≤, sym, arith}
-use Rattle.rc_pattern.specs.Re.{Re, Range, empty, literal, byte_in, char_in, look, repeat, capture, cat, alt, none}
+use Rattle.std.proofs.Common.{◌≡◌, ℕ, zero, suc, ◌+◌, ◌*◌, ◌≤◌, true, false, [], ◌∷◌, Some, None, refl, codes, lit≤, arith}
+use Rattle.rc_pattern.specs.Re.{Re, empty, literal, byte_in, char_in, look, repeat, capture, cat, alt, none}
 use Rattle.rc_pattern.specs.Meaning.{cat_all, alt_all, literal_of, concat_of, alternation_of}
 use Rattle.rc_pattern.specs.Dots.{dot_of}
 use Rattle.rc_pattern.specs.Weight.{weight, list_weight}
-use Rattle.rc_pattern.specs.WellFormed.{group_numbers, group_names, group_count, AreDistinct, AreAscending, depth, IsWellFormed}
+use Rattle.rc_pattern.specs.WellFormed.{group_numbers, group_names, AreDistinct, AreAscending, depth, IsWellFormed}
 use Rattle.rc_pattern.specs.Properties.{minimum_len, maximum_len, explicit_captures_len, static_explicit_captures_len, has_look, begins_with_look, ends_with_look, is_plain, greatest}
 use Rattle.rc_pattern.specs.declared.hir.Look.TheVariants.{Start, End, WordAscii}
 use Rattle.rc_pattern.specs.declared.hir.dots.Dot.TheVariants.{AnyChar, AnyCharExcept, AnyByteExcept}

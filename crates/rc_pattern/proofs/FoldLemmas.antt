@@ -1,5 +1,5 @@
 -- What a pattern's nodes mean, node by node.
-use Rattle.std.proofs.Common.{◌≡◌, ℕ, suc, ◌+◌, ◌<◌, List, [], ◌∷◌, map, sym, ap, ◌∙◌, subst, refl, Vec, Global, string_bytes, length, drop, get_or, add-one}
+use Rattle.std.proofs.Common.{◌≡◌, ℕ, suc, ◌+◌, ◌<◌, List, ◌∷◌, map, sym, ap, ◌∙◌, subst, Vec, Global, string_bytes, length, drop, get_or, add-one}
 use Rattle.std.proofs.Math.Seq.{drop-cons}
 use Rattle.std.specs.Option.{option_map}
 use Rattle.rc_pattern.specs.Re.{Re, empty, literal, look, repeat, capture}

@@ -2,7 +2,7 @@
 use Rattle.std.proofs.Common.{◌≡◌, ℕ, ◌+◌, ◌-◌, ◌<◌, ◌≤◌, Bool, List, [], ◌∷◌, Option, map, length, drop, get_or, sym, ap, ◌∙◌, subst, arith}
 use Rattle.std.proofs.lemmas.List.{length-map, length-drop}
 use Rattle.rc_pattern.specs.Re.{Re, repeat, capture, cat, alt}
-use Rattle.rc_pattern.specs.Meaning.{meaning, kind_meaning, repetition_meaning, capture_meaning, cat_all, alt_all}
+use Rattle.rc_pattern.specs.Meaning.{meaning, repetition_meaning, capture_meaning, cat_all, alt_all}
 use Rattle.rc_pattern.specs.PropertiesOf.{IsPropertiesOf}
 use Rattle.rc_pattern.specs.declared.hir.properties.Properties.{Properties}
 use Rattle.rc_pattern.specs.declared.hir.Hir.{Hir}

@@ -1,5 +1,5 @@
 -- The lengths of characters.
-use Rattle.std.proofs.Common.{◌≡◌, ℕ, ◌+◌, ◌<◌, max, List, [], ◌∷◌, length, Some, ap, arith}
+use Rattle.std.proofs.Common.{◌≡◌, ℕ, ◌<◌, max, List, [], ◌∷◌, length, Some, ap, arith}
 use Rattle.std.specs.Char.{len_utf8}
 use Rattle.rc_pattern.specs.Re.{Range, char_in}
 use Rattle.rc_pattern.specs.Properties.{greatest_encoded, maximum_len}

@@ -1,8 +1,7 @@
 -- How heavy a pattern is.
-use Rattle.std.proofs.Common.{◌≡◌, ℕ, ◌+◌, ◌*◌, ◌^◌, ◌<◌, ◌≤◌, ◌⊎◌, inl, inr, min, max, List, map, length, drop, get_or, ap, ◌∙◌, sym, refl, arith, Option, Some, None}
+use Rattle.std.proofs.Common.{◌≡◌, ℕ, ◌+◌, ◌*◌, ◌^◌, ◌<◌, ◌≤◌, inl, inr, min, List, map, length, drop, get_or, ap, ◌∙◌, sym, refl, arith}
 use Rattle.std.proofs.Math.Nat.{mul-le-mul_right}
 use Rattle.std.proofs.lemmas.Bool.{cases_lt}
-use Rattle.rc_pattern.specs.Re.{Re}
 use Rattle.rc_pattern.specs.Meaning.{meaning, repetition_meaning, cat_all, alt_all}
 use Rattle.rc_pattern.specs.Weight.{weight, copies_of, sum_of_weights}
 use Rattle.rc_pattern.specs.declared.hir.Hir.{Hir}

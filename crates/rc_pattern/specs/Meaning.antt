@@ -1,5 +1,5 @@
 -- The pattern that a `Hir` is, and how the constructors join patterns.
-use Rattle.std.specs.Prelude.{ℕ, List, [], ◌∷◌, ◌++◌, Option, map, string_bytes, option_map}
+use Rattle.std.specs.Prelude.{ℕ, List, [], ◌∷◌, ◌++◌, map, string_bytes, option_map}
 use Rattle.std.specs.List.{flat_map}
 use Rattle.rc_pattern.specs.Re.{Re, Range, empty, literal, byte_in, char_in, look, repeat, capture, cat, alt, none}
 use Rattle.rc_pattern.specs.declared.hir.ClassBytesRange.{ClassBytesRange}

@@ -1,6 +1,5 @@
-use Rattle.std.proofs.Common.{◌≡◌, List, map, sym, ap, ◌∙◌, subst}
-use Rattle.rc_pattern.specs.declared.hir.Hir.{Hir}
-use Rattle.rc_pattern.specs.Meaning.{meaning, kind_meaning, alt_all}
+use Rattle.std.proofs.Common.{map, sym, subst}
+use Rattle.rc_pattern.specs.Meaning.{meaning}
 use Rattle.rc_pattern.specs.WellFormed.{HasBounds}
 use Rattle.rc_pattern.proofs.FoldLemmas.{meaning_of_alternation}
 use Rattle.rc_pattern.proofs.WellFormedLemmas.{alt_bounds}

@@ -1,8 +1,6 @@
-use Rattle.std.proofs.Common.{◌≡◌, ℕ, List, ◌++◌, Option, map, sym, ap, ◌∙◌}
+use Rattle.std.proofs.Common.{ℕ, List, ◌++◌, Option, map, sym, ap, ◌∙◌}
 use Rattle.std.proofs.lemmas.Result.{on_ok_weaker}
-use Rattle.rc_pattern.specs.declared.hir.Hir.{Hir}
-use Rattle.rc_pattern.specs.Re.{Re}
-use Rattle.rc_pattern.specs.Meaning.{meaning, kind_meaning, alt_all, cat_all}
+use Rattle.rc_pattern.specs.Meaning.{meaning}
 use Rattle.rc_pattern.specs.WellFormed.{group_numbers, group_names}
 use Rattle.rc_pattern.specs.Groups.{number_of, name_of}
 use Rattle.rc_pattern.proofs.FoldLemmas.{meaning_of_alternation}

@@ -1,6 +1,6 @@
 use Rattle.std.proofs.Common.{ℕ, ◌-◌, ◌^◌, List, map, length, sym, ap, ◌∙◌, min}
 use Rattle.rc_pattern.specs.Meaning.{meaning}
-use Rattle.rc_pattern.specs.WellFormed.{group_numbers, group_count}
+use Rattle.rc_pattern.specs.WellFormed.{group_numbers}
 use Rattle.rc_pattern.proofs.FoldLemmas.{meaning_of_alternation}
 use Rattle.rc_pattern.proofs.WellFormedLemmas.{alt_numbers}
 use Rattle.rc_pattern.proofs.check.captures.+count.Goals as goal

@@ -1,4 +1,4 @@
-use Rattle.std.proofs.Common.{◌≡◌, ◌≤◌, ◌+◌, map, sym, ap, ◌∙◌, arith, rules}
+use Rattle.std.proofs.Common.{◌≡◌, map, sym, ap, ◌∙◌, arith}
 use Rattle.rc_pattern.specs.Meaning.{meaning, kind_meaning, cat_all}
 use Rattle.rc_pattern.specs.WellFormed.{depth}
 use Rattle.rc_pattern.proofs.FoldLemmas.{kind_Alternation}

@@ -1,4 +1,4 @@
-use Rattle.std.proofs.Common.{◌≡◌, ℕ, List, Bool, true, false, not, Option, Some, None, map, sym, ap, ◌∙◌, refl, string_bytes}
+use Rattle.std.proofs.Common.{◌≡◌, ℕ, List, false, Some, None, map, sym, ap, ◌∙◌, string_bytes}
 use Rattle.std.specs.Option.{option_map}
 use Rattle.std.specs.BTreeSet.{BTreeSet}
 use Rattle.std.specs.List.{list_any}
@@ -8,7 +8,7 @@ use Rattle.std.specs.Ordering.{nat_cmp}
 use Rattle.std.specs.Cmp.Lexicographic.{slice_cmp}
 use Rattle.rc_pattern.specs.WellFormed.{AreDistinct}
 use Rattle.rc_pattern.specs.Groups.{name_of}
-use Rattle.rc_pattern.proofs.NameLemmas.{AreFresh, has, has_more, not_true, fresh_first, fresh_named, fresh_unnamed}
+use Rattle.rc_pattern.proofs.NameLemmas.{has, has_more, not_true, fresh_first, fresh_named, fresh_unnamed}
 use Rattle.rc_pattern.proofs.check.names.are_distinct.Goals as goal
 use Rattle.rc_pattern.proofs.check.names.are_distinct.Goals.{in-Some+in_ok-insert+else-not-branch, in_default}
 

@@ -1,4 +1,4 @@
-use Rattle.std.proofs.Common.{◌≡◌, ◌<◌, ℕ, Some, List, map, drop, length, ap, ◌∙◌, arith, max}
+use Rattle.std.proofs.Common.{◌≡◌, ◌<◌, Some, map, length, ap, ◌∙◌, arith}
 use Rattle.std.proofs.lemmas.Grind.{common_steps}
 use Rattle.std.proofs.lemmas.List.{length-map}
 use Rattle.rc_pattern.specs.Meaning.{char_range}

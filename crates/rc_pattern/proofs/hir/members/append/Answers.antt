@@ -1,6 +1,6 @@
-use Rattle.std.proofs.Common.{◌≡◌, List, ◌++◌, ◌∷◌, [], map, sym, ap, ◌∙◌}
+use Rattle.std.proofs.Common.{◌++◌, ◌∷◌, [], map, sym, ap, ◌∙◌}
 use Rattle.std.proofs.lemmas.Result.{on_ok_weaker}
-use Rattle.rc_pattern.specs.Re.{Re, literal}
+use Rattle.rc_pattern.specs.Re.{Re}
 use Rattle.rc_pattern.specs.Meaning.{meaning, kind_meaning, joined}
 use Rattle.rc_pattern.proofs.FoldLemmas.{meaning_of_hir}
 use Rattle.rc_pattern.proofs.JoinLemmas.{node_other, join_other}

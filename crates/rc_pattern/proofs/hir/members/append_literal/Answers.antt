@@ -1,8 +1,8 @@
-use Rattle.std.proofs.Common.{◌≡◌, List, ◌++◌, ◌∷◌, [], map, sym, ap, ◌∙◌, arith, refl}
+use Rattle.std.proofs.Common.{◌≡◌, List, ◌++◌, ◌∷◌, [], map, sym, ap, ◌∙◌, arith}
 use Rattle.std.proofs.lemmas.List.{map-append, nil_from_length}
 use Rattle.std.proofs.lemmas.Result.{on_ok_weaker}
 use Rattle.rc_pattern.specs.Re.{Re, literal}
-use Rattle.rc_pattern.specs.Meaning.{meaning, kind_meaning, joined}
+use Rattle.rc_pattern.specs.Meaning.{meaning, kind_meaning}
 use Rattle.rc_pattern.specs.declared.hir.Hir.{Hir}
 use Rattle.rc_pattern.specs.declared.hir.HirKind.TheVariants as HirKind
 use Rattle.rc_pattern.proofs.FoldLemmas.{meaning_of_hir, kind_Literal}
