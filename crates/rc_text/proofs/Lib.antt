@@ -1,5 +1,6 @@
 pub mod Arounds
 pub mod Boundaries
+mod Examples
 pub mod Joins
 pub mod Moves
 pub mod Pieces
