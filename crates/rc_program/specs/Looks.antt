@@ -1,10 +1,10 @@
 -- Where assertions hold: each by what stands on the two sides of a position.
-use Rattle.std.specs.Prelude.{ℕ, ◌-◌, Bool, true, false, not, ◌&&◌, ◌||◌, ◌==◌, List, [], ◌∷◌, length, Option, Some, None, slice_index, nat_le}
+use Rattle.std.specs.Prelude.{ℕ, Bool, true, false, not, ◌&&◌, ◌||◌, ◌==◌, List, [], ◌∷◌, length, Option, Some, None, slice_index, nat_le}
 use Rattle.std.specs.Option.{option_map}
 use Rattle.unicode.specs.Binary.{is_alphabetic}
 use Rattle.unicode.specs.GeneralCategory.{general_category}
-use Rattle.unicode.specs.declared.GeneralCategory.{GeneralCategory}
-use Rattle.unicode.specs.declared.GeneralCategory.TheVariants.{NonspacingMark, SpacingMark, EnclosingMark, DecimalNumber, ConnectorPunctuation}
+use Rattle.unicode.specs.declared.properties.GeneralCategory.{GeneralCategory}
+use Rattle.unicode.specs.declared.properties.GeneralCategory.TheVariants.{NonspacingMark, SpacingMark, EnclosingMark, DecimalNumber, ConnectorPunctuation}
 use Rattle.rc_pattern.specs.declared.hir.Look.{Look}
 use Rattle.rc_pattern.specs.declared.hir.Look.TheVariants.{Start, End, StartLF, EndLF, StartCRLF, EndCRLF, WordAscii, WordAsciiNegate, WordUnicode, WordUnicodeNegate, WordStartAscii, WordEndAscii, WordStartUnicode, WordEndUnicode, WordStartHalfAscii, WordEndHalfAscii, WordStartHalfUnicode, WordEndHalfUnicode}
 use Rattle.rc_program.specs.Scalars.{scalar_at, scalar_before}

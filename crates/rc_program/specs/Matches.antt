@@ -6,7 +6,6 @@ use Rattle.rc_program.specs.Answer.{Search, answer}
 
 -- Over any way to look for a match from a start on: `find k` is the match, and `begin` and `end` its span.
 module _ {X : Type 0} (begin end : X → ℕ) (find : ℕ → Option X) where
-
   -- the match is empty, and ends where the one before ended
   abbrev pub is_again : Option ℕ → X → Bool
   is_again None m = false

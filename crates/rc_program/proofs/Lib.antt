@@ -1,0 +1,4 @@
+pub mod WayLemmas
+pub mod AnswerLemmas
+pub mod PlaceLemmas
+pub mod WeightLemmas

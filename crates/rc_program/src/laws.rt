@@ -1,0 +1,15 @@
+//! The laws that tie the definitions. Each function does nothing: its contract is the law.
+ghost use Rattle.rc_program.specs.Answer.{AnswerLaw};
+ghost use Rattle.rc_program.specs.Laws.{ClosedLaw};
+
+/// The answer, as contracts name it, is the answer as it is defined: the first walk of the least start that has a walk and
+/// isn't passed over, with its pattern, its span and its slots; and nothing exactly where no start gives one.
+pub fn answers_are_first_walks()
+    ensures { AnswerLaw }
+{}
+
+/// The edges of a program stay inside it, it is entered at one of its places, its match places are those of its patterns, and it
+/// is no heavier than the weight of its patterns.
+pub fn programs_are_closed()
+    ensures { ClosedLaw }
+{}
