@@ -2,3 +2,4 @@ pub mod WayLemmas
 pub mod AnswerLemmas
 pub mod PlaceLemmas
 pub mod WeightLemmas
+pub mod SideLemmas

@@ -1,6 +1,12 @@
 //! The laws that tie the definitions. Each function does nothing: its contract is the law.
 ghost use Rattle.rc_program.specs.Answer.{AnswerLaw};
 ghost use Rattle.rc_program.specs.Laws.{ClosedLaw};
+ghost use Rattle.rc_program.specs.Scalars.{ScalarLaw};
+
+/// The scalars that begin and end some bytes, as assertions and scalar classes see them, are those of UTF-8.
+pub fn scalars_are_utf8()
+    ensures { ScalarLaw }
+{}
 
 /// The answer, as contracts name it, is the answer as it is defined: the first walk of the least start that has a walk and
 /// isn't passed over, with its pattern, its span and its slots; and nothing exactly where no start gives one.
