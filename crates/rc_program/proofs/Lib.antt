@@ -3,3 +3,4 @@ pub mod AnswerLemmas
 pub mod PlaceLemmas
 pub mod WeightLemmas
 pub mod SideLemmas
+pub mod WordLemmas
