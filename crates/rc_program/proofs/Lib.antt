@@ -4,3 +4,5 @@ pub mod PlaceLemmas
 pub mod WeightLemmas
 pub mod SideLemmas
 pub mod WordLemmas
+pub mod PartLemmas
+pub mod WholeLemmas

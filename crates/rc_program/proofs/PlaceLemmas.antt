@@ -181,7 +181,7 @@ module _ (s : ℕ) (Names : ℕ → Type 0) where
       (part_own rest (each_right _ (group_numbers a) (group_numbers rest) g))
   part_own none g = dead_own
 
-abbrev AnyNumber : ℕ → Type 0
+abbrev pub AnyNumber : ℕ → Type 0
 AnyNumber k = Unit {0}
 
 -- the part of a pattern, whatever slots its groups have

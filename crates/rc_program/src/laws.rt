@@ -1,11 +1,16 @@
 //! The laws that tie the definitions. Each function does nothing: its contract is the law.
 ghost use Rattle.rc_program.specs.Answer.{AnswerLaw};
-ghost use Rattle.rc_program.specs.Laws.{ClosedLaw};
+ghost use Rattle.rc_program.specs.Laws.{ClosedLaw, ProgramLaw};
 ghost use Rattle.rc_program.specs.Scalars.{ScalarLaw};
 
 /// The scalars that begin and end some bytes, as assertions and scalar classes see them, are those of UTF-8.
 pub fn scalars_are_utf8()
     ensures { ScalarLaw }
+{}
+
+/// Some walk of a pattern leads from one position to another exactly where the pattern spells that.
+pub fn walks_are_spellings()
+    ensures { ProgramLaw }
 {}
 
 /// The answer, as contracts name it, is the answer as it is defined: the first walk of the least start that has a walk and
