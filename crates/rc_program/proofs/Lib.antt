@@ -6,3 +6,5 @@ pub mod SideLemmas
 pub mod WordLemmas
 pub mod PartLemmas
 pub mod WholeLemmas
+pub mod MatchLemmas
+pub mod PieceLemmas

@@ -173,9 +173,9 @@ ends_at_last : (n : Pair) (w : List Pair) → EndsAt (n ∷ w) (last_of (n ∷ w
 ends_at_last n [] = refl
 ends_at_last n (m ∷ w) = ends_at_last m w
 
-walk_ends : (ways : Pair → List Pair) (Ends : Pair → Type 0) {p f w : List Pair} → IsWalk ways Ends p f w → EndsAt w (last_of w)
-walk_ends ways Ends (stops k here fresh stop) = refl
-walk_ends ways Ends (goes {w = w} k here fresh rest) = ends_at_last k w
+ends_at_its_last : (ways : Pair → List Pair) (Ends : Pair → Type 0) {p f w : List Pair} → IsWalk ways Ends p f w → EndsAt w (last_of w)
+ends_at_its_last ways Ends (stops k here fresh stop) = refl
+ends_at_its_last ways Ends (goes {w = w} k here fresh rest) = ends_at_last k w
 
 last_is : (w : List Pair) (e : Pair) → EndsAt w e → last_of w ≡ e
 last_is [] e h = absurd h
@@ -189,7 +189,7 @@ program_law hs t hi p i j ok le =
     from_walk : (w : List Pair) → IsWalkOf hs t hi p i j w → SpelledBy t 0 hs p i j
     from_walk w h =
         let r = leads_along (ways (program hs) t hi) (λ n. IsTrue (is_match_place None (place_at (program hs) n.0))) (last_of w) h.is_walk
-            (walk_ends (ways (program hs) t hi) (λ n. IsTrue (is_match_place None (place_at (program hs) n.0))) h.is_walk) in
+            (ends_at_its_last (ways (program hs) t hi) (λ n. IsTrue (is_match_place None (place_at (program hs) n.0))) h.is_walk) in
         let from : (0, i) ≡ r.0 = ⊎_elim (λ e. e) (λ never. absurd never) r.1 in
         subst (λ z. SpelledBy t 0 hs p i z) h.position
         ((choice_accepts t hi 0 (2 * length hs) hs ok).leaves (program hs) 0 0 0 (stand_all [] (program hs)) p r.2.0 i (last_of w)

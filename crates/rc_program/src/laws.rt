@@ -1,6 +1,7 @@
 //! The laws that tie the definitions. Each function does nothing: its contract is the law.
 ghost use Rattle.rc_program.specs.Answer.{AnswerLaw};
 ghost use Rattle.rc_program.specs.Laws.{ClosedLaw, ProgramLaw};
+ghost use Rattle.rc_program.specs.Matches.{MatchesLaw, PiecesLaw};
 ghost use Rattle.rc_program.specs.Scalars.{ScalarLaw};
 
 /// The scalars that begin and end some bytes, as assertions and scalar classes see them, are those of UTF-8.
@@ -23,4 +24,17 @@ pub fn answers_are_first_walks()
 /// is no heavier than the weight of its patterns.
 pub fn programs_are_closed()
     ensures { ClosedLaw }
+{}
+
+/// The list of matches, as contracts name it, is the one that the definition gives: each match is the answer from where the one
+/// before ended, and an empty one that ends there gives way to the answer from a byte later. They rise, lie within the bounds, and
+/// are no more than there are positions.
+pub fn matches_are_listed()
+    ensures { MatchesLaw }
+{}
+
+/// The pieces are one more than the matches, and the two in turn cover the text from its start to the end of the search. A limit
+/// leaves as many pieces as it allows, and the last takes in what further matches would cut.
+pub fn pieces_are_gaps()
+    ensures { PiecesLaw }
 {}
