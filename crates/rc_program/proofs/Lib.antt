@@ -8,3 +8,4 @@ pub mod PartLemmas
 pub mod WholeLemmas
 pub mod MatchLemmas
 pub mod PieceLemmas
+pub mod GroupLemmas

@@ -1,13 +1,14 @@
 -- The laws that tie programs to patterns: what the walks of a program spell, and that a program is closed and small.
-use Rattle.std.specs.Prelude.{◌≡◌, ◌↔◌, ℕ, ◌+◌, ◌*◌, ◌<◌, ◌≤◌, List, [], ◌∷◌, IsTrue, None, All, map, length}
+use Rattle.std.specs.Prelude.{◌≡◌, ◌↔◌, ℕ, ◌+◌, ◌*◌, ◌<◌, ◌≤◌, Bool, List, [], ◌∷◌, IsTrue, None, All, map, length}
 use Rattle.rc_pattern.specs.Re.{Re, Range, literal, repeat, capture, cat, alt}
 use Rattle.std.specs.List.{range_with_len}
 use Rattle.rc_pattern.specs.WellFormed.{HasBounds, group_numbers, group_count}
-use Rattle.rc_pattern.specs.Weight.{list_weight}
+use Rattle.rc_pattern.specs.Weight.{weight, list_weight}
+use Rattle.rc_pattern.specs.Properties.{minimum_len}
 use Rattle.rc_walks.specs.Walks.{Pair, IsIn, IsWalk}
 use Rattle.rc_program.specs.Text.{Text}
-use Rattle.rc_program.specs.Program.{Place, choice, byte, branch, scalar, guard, slot, accept, place_at, ways, is_match_place, program, entry}
-use Rattle.rc_program.specs.Spells.{SpelledBy}
+use Rattle.rc_program.specs.Program.{Place, choice, byte, branch, scalar, guard, slot, accept, place_at, ways, is_match_place, program, entry, without_groups, shown}
+use Rattle.rc_program.specs.Spells.{Spells, SpelledBy}
 use Rattle.rc_program.specs.Answer.{last_of}
 
 -- a walk from i to the match place of pattern p, at j
@@ -80,3 +81,16 @@ pub record ClosedLaw : Type 0 where
       (2 * length hs ≤ k) × (k < slot_count hs)
   pub light : (hs : List Re) → All HasBounds hs → All HasBytes hs → heaviness (program hs) ≤ list_weight hs
   pub small : (hs : List Re) → All HasBounds hs → All HasBytes hs → length (program hs) ≤ list_weight hs
+
+-- what holds of patterns without their groups
+pub record GroupLaw : Type 0 where
+  pub spells : (t : Text) (h : Re) (i j : ℕ) → Spells t (without_groups h) i j ↔ Spells t h i j
+  pub bounded : (h : Re) → HasBounds h → HasBounds (without_groups h)
+  pub filled : (h : Re) → HasBytes h → HasBytes (without_groups h)
+  pub lighter : (h : Re) → weight (without_groups h) ≤ weight h
+  pub least : (h : Re) → minimum_len (without_groups h) ≡ minimum_len h
+  pub bare : (h : Re) → group_numbers (without_groups h) ≡ []
+  pub shown_spells : (t : Text) (groups : Bool) (n : ℕ) (hs : List Re) (p i j : ℕ) →
+      SpelledBy t n (shown groups hs) p i j ↔ SpelledBy t n hs p i j
+  pub shown_length : (groups : Bool) (hs : List Re) → length (shown groups hs) ≡ length hs
+  pub shown_lighter : (groups : Bool) (hs : List Re) → list_weight (shown groups hs) ≤ list_weight hs

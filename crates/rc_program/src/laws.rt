@@ -1,6 +1,6 @@
 //! The laws that tie the definitions. Each function does nothing: its contract is the law.
 ghost use Rattle.rc_program.specs.Answer.{AnswerLaw};
-ghost use Rattle.rc_program.specs.Laws.{ClosedLaw, ProgramLaw};
+ghost use Rattle.rc_program.specs.Laws.{ClosedLaw, GroupLaw, ProgramLaw};
 ghost use Rattle.rc_program.specs.Matches.{MatchesLaw, PiecesLaw};
 ghost use Rattle.rc_program.specs.Scalars.{ScalarLaw};
 
@@ -37,4 +37,10 @@ pub fn matches_are_listed()
 /// leaves as many pieces as it allows, and the last takes in what further matches would cut.
 pub fn pieces_are_gaps()
     ensures { PiecesLaw }
+{}
+
+/// A pattern without its groups spells the same, with the same least length and no more weight: so a program that names no slot of
+/// a group has walks over the same spans.
+pub fn groups_can_be_left_out()
+    ensures { GroupLaw }
 {}
