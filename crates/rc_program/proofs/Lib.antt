@@ -9,3 +9,5 @@ pub mod WholeLemmas
 pub mod MatchLemmas
 pub mod PieceLemmas
 pub mod GroupLemmas
+mod Examples
+mod LookExamples
