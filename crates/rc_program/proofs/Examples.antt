@@ -1,13 +1,13 @@
 -- The definitions, run on worked rows.
-use Rattle.std.proofs.Common.{◌≡◌, ℕ, Bool, true, false, List, [], ◌∷◌, length, map, Option, Some, None, refl, codes}
+use Rattle.std.proofs.Common.{◌≡◌, ℕ, true, false, List, [], ◌∷◌, length, map, Some, None, refl, codes}
 use Rattle.std.specs.Option.{option_map}
 use Rattle.rc_text.specs.declared.types.Match.{Match}
 use Rattle.rc_text.specs.declared.types.Span.{Span}
-use Rattle.rc_pattern.specs.Re.{Re, empty, literal, byte_in, char_in, look, repeat, capture, cat, alt, none}
+use Rattle.rc_pattern.specs.Re.{Re, empty, literal, byte_in, char_in, look, repeat, capture}
 use Rattle.rc_pattern.specs.Meaning.{cat_all, alt_all}
-use Rattle.rc_pattern.specs.declared.hir.Look.TheVariants.{Start, End, StartLF, EndLF}
+use Rattle.rc_pattern.specs.declared.hir.Look.TheVariants.{Start}
 use Rattle.rc_program.specs.Program.{program}
-use Rattle.rc_program.specs.Answer.{Search, Anchoring, anywhere, at_start, by_pattern, answer, groups, chosen}
+use Rattle.rc_program.specs.Answer.{Search, anywhere, at_start, by_pattern, answer, groups, chosen}
 use Rattle.rc_program.specs.Matches.{matches_left, pieces_of, pieces_at_most}
 
 -- the search for these patterns over a content

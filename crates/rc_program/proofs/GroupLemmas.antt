@@ -1,12 +1,12 @@
 -- A pattern without its groups spells the same.
-use Rattle.std.proofs.Common.{◌≡◌, ◌↔◌, ℕ, zero, suc, ◌+◌, ◌*◌, ◌<◌, ◌≤◌, ◌⊎◌, List, [], ◌∷◌, ◌++◌, length, map, Bool, true, false, Option, Some, None, inl, inr, ⊎_elim, ap, ap₂, refl, arith}
+use Rattle.std.proofs.Common.{◌≡◌, ◌↔◌, ℕ, zero, suc, ◌+◌, ◌*◌, ◌≤◌, List, [], ◌∷◌, ◌++◌, length, map, Bool, true, false, Some, None, inl, inr, ⊎_elim, ap, ap₂, refl, arith}
 use Rattle.std.specs.Prelude.{All}
 use Rattle.std.specs.Option.{option_map}
 use Rattle.std.proofs.lemmas.List.{length-map}
 use Rattle.std.proofs.lemmas.List.Elements.{All-map, All-weaker}
 use Rattle.std.proofs.Math.Nat.{mul-le-mul_left}
 use Rattle.rc_pattern.specs.Re.{Re, empty, literal, byte_in, char_in, look, repeat, capture, cat, alt, none}
-use Rattle.rc_pattern.specs.WellFormed.{HasBounds, group_numbers, group_count}
+use Rattle.rc_pattern.specs.WellFormed.{HasBounds, group_numbers}
 use Rattle.rc_pattern.specs.Weight.{copies_of, weight, sum_of_weights, list_weight}
 use Rattle.rc_pattern.specs.Properties.{minimum_len, saturated, both, least}
 use Rattle.rc_program.specs.Text.{Text}
@@ -99,7 +99,7 @@ without_groups_lighter (look l) = omega arith
 without_groups_lighter (repeat min max greedy a) =
     let h = without_groups_lighter a in
     let k : copies_of min max * (weight (without_groups a) + 2) ≤ copies_of min max * (weight a + 2) =
-        mul-le-mul_left (copies_of min max) (omega (arith, h)) in
+    mul-le-mul_left (copies_of min max) (omega (arith, h)) in
     omega (arith, k)
 without_groups_lighter (capture n name a) = let h = without_groups_lighter a in omega (arith, h)
 without_groups_lighter (cat a rest) = let h = without_groups_lighter a in let k = without_groups_lighter rest in omega (arith, h, k)

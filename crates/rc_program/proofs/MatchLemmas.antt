@@ -1,5 +1,5 @@
 -- The list of matches, over any way to look for a match, and over the answer of a search.
-use Rattle.std.proofs.Common.{◌≡◌, ℕ, zero, suc, ◌+◌, ◌-◌, ◌<◌, ◌≤◌, ◌⊎◌, List, [], ◌∷◌, Option, Some, None, Bool, true, false, nat_eq, ◌&&◌, length, max, ⊎_elim, sym, ap, ◌∙◌, refl, arith}
+use Rattle.std.proofs.Common.{◌≡◌, ℕ, zero, suc, ◌+◌, ◌-◌, ◌<◌, ◌≤◌, List, [], ◌∷◌, Option, Some, None, nat_eq, length, max, ⊎_elim, sym, ap, ◌∙◌, refl, arith}
 use Rattle.std.specs.List.{AllByRecursion}
 use Rattle.std.proofs.lemmas.Bool.{cases_Bool, cases_lt, and_cases, eqb-false}
 use Rattle.std.proofs.lemmas.Option.{none-some, same_Some}
@@ -31,19 +31,21 @@ module _ {X : Type 0} (begin end : X → ℕ) (find : ℕ → Option X) (low hig
   unless_lies k (Some last) (Some n) m was after e =
       ⊎_elim
       (λ t. let f : find (k + 1) ≡ Some m = rw t at e in
-        let h = within (k + 1) m f in
-        ((omega (arith, h.0), h.1, h.2, h.3), omega (arith, h.0, h.2, after)))
+      let h = within (k + 1) m f in
+      ((omega (arith, h.0), h.1, h.2, h.3), omega (arith, h.0, h.2, after)))
       (λ f. let g : Some n ≡ Some m = rw f at e in
-        let h = within k m (was ∙ g) in
-        (h, ⊎_elim (λ l. l)
-          (λ ge. let same : begin m ≡ end m = omega (arith, h.0, h.2, after, ge) in
+      let h = within k m (was ∙ g) in (
+        h,
+        ⊎_elim (λ l. l)
+            (λ ge. let same : begin m ≡ end m = omega (arith, h.0, h.2, after, ge) in
             let at : end m ≡ last = omega (arith, h.0, h.2, after, ge) in
             let q = same_Some n m g in
             absurd (⊎_elim
-              (λ x. eqb-false (begin n) (end n) x (rw q same))
-              (λ x. eqb-false (end n) last x (rw q at))
-              (and_cases (nat_eq (begin n) (end n)) (nat_eq (end n) last) f)))
-          (cases_lt last (end m))))
+            (λ x. eqb-false (begin n) (end n) x (rw q same))
+            (λ x. eqb-false (end n) last x (rw q at))
+            (and_cases (nat_eq (begin n) (end n)) (nat_eq (end n) last) f)))
+            (cases_lt last (end m)),
+      ))
       (cases_Bool (Matches.is_again begin end (Some last) n))
 
   -- where the next match lies
@@ -100,7 +102,7 @@ module _ {X : Type 0} (begin end : X → ℕ) (find : ℕ → Option X) (low hig
   only_matches k last (Matches.goes_on m e rest) after zero room = absurd (no_room k last m after room (next_lies k last m after e))
   only_matches k last (Matches.goes_on m e rest) after (suc n) room =
       rw e (ap (λ ms. m ∷ ms)
-        (only_matches (end m) (Some (end m)) rest refl n (less_room n k last m after room (next_lies k last m after e))))
+      (only_matches (end m) (Some (end m)) rest refl n (less_room n k last m after room (next_lies k last m after e))))
 
   -- once there is room, more changes nothing
   pub same_matches : (n j k : ℕ) (last : Option ℕ) → IsAfterLast k last → HasRoom n k last → HasRoom j k last → By n k last ≡ By j k last
@@ -187,7 +189,7 @@ pub left_some : (s : Search) (k : ℕ) (last : Option ℕ) (m : Match) → IsAft
     matches_left s k last ≡ m ∷ matches_left s m.span.end (Some m.span.end)
 left_some s k last m h e =
     sym (left_alone s k last (m ∷ matches_left s m.span.end (Some m.span.end)) h
-      (Matches.goes_on m e (left_are s m.span.end (Some m.span.end) refl)))
+    (Matches.goes_on m e (left_are s m.span.end (Some m.span.end) refl)))
 
 -- none is left
 pub left_none : (s : Search) (k : ℕ) (last : Option ℕ) → IsAfterLast k last →

@@ -3,7 +3,7 @@ use Rattle.std.proofs.Common.{◌≡◌, ℕ, zero, suc, ◌+◌, ◌-◌, ◌*�
 use Rattle.std.specs.Char.{IsScalar}
 use Rattle.std.proofs.lemmas.Bool.{cases_lt}
 use Rattle.std.proofs.lemmas.Bool.Decides.{nat_tests}
-use Rattle.std.proofs.lemmas.Option.{none-some, same_Some}
+use Rattle.std.proofs.lemmas.Option.{none-some}
 use Rattle.rc_pattern.specs.declared.hir.Look.{Look}
 use Rattle.rc_pattern.specs.Re.{Re, Range, empty, literal, byte_in, char_in, look, repeat, capture, cat, alt, none}
 use Rattle.rc_pattern.specs.WellFormed.{HasBounds}
@@ -11,7 +11,7 @@ use Rattle.rc_walks.specs.Walks.{Pair, IsIn}
 use Rattle.rc_program.specs.Scalars.{scalar_at}
 use Rattle.rc_program.specs.Text.{Text, holds, ahead}
 use Rattle.rc_program.specs.Spells.{Turns, Stands, Spells}
-use Rattle.rc_program.specs.Program.{Place, choice, byte, scalar, guard, slot, accept, Way, stays as Stays, reads, in_ranges, over_byte, over_scalar, ways_out, pair_at, place_at, ways, Part, one, pass, dead, then_part, either, optional, plus, body_or_out, copies, up_to, at_least, repeated, bytes_in_order, literal_part, part}
+use Rattle.rc_program.specs.Program.{Place, choice, byte, scalar, guard, slot, Way, stays as Stays, reads, in_ranges, over_byte, over_scalar, ways_out, pair_at, place_at, ways, Part, one, pass, dead, then_part, either, optional, plus, body_or_out, copies, up_to, bytes_in_order, part}
 use Rattle.rc_program.proofs.SideLemmas.{scalar_law, scalar_at-encode}
 pub use Rattle.rc_walks.proofs.CutLemmas.{Leads, stays, steps}
 
@@ -126,13 +126,14 @@ module _ (t : Text) (hi : ℕ) where
     leaves = λ prog slots start next st len i end l out.
         let u = x.leaves prog slots start (start + a.size) (before prog slots start next st) len i end l (⊎_elim (λ p. inl p) (λ p. inr (omega (arith, p))) out) in
         let v = y.leaves prog slots (start + a.size) next (behind prog slots start next st) u.left u.at end u.leads
-            (⊎_elim (λ p. inl (omega (arith, p))) (λ p. inr (omega (arith, p))) out) in
+        (⊎_elim (λ p. inl (omega (arith, p))) (λ p. inr (omega (arith, p))) out) in
         record { at = v.at; spells = (u.at, u.spells, v.spells); left = v.left; less = omega (arith, u.less, v.less); leads = v.leads };
   }
     where
       before : (prog : List Place) (slots start next : ℕ) → Stand prog start ((then_part a b).places slots start next) →
           Stand prog start (a.places slots start (start + a.size))
       before prog slots start next st = Stand-left prog start _ (b.places slots (start + a.size) next) st
+
       behind : (prog : List Place) (slots start next : ℕ) → Stand prog start ((then_part a b).places slots start next) →
           Stand prog (start + a.size) (b.places slots (start + a.size) next)
       behind prog slots start next st =
@@ -160,9 +161,9 @@ module _ (t : Text) (hi : ℕ) where
     enters = λ prog slots start next st i j r le end len l.
         ⊎_elim
         (λ p. let w = x.enters prog slots (start + 1) next (one_side prog slots start next st) i j p le end len l in
-          (suc w.0, steps (start, i) (start + 1, i) end (to_place prog start _ st.0 i (start + 1, i) (inl refl)) w.1))
+        (suc w.0, steps (start, i) (start + 1, i) end (to_place prog start _ st.0 i (start + 1, i) (inl refl)) w.1))
         (λ p. let w = y.enters prog slots (start + 1 + a.size) next (other_side prog slots start next st) i j p le end len l in
-          (suc w.0, steps (start, i) (start + 1 + a.size, i) end (to_place prog start _ st.0 i (start + 1 + a.size, i) (inr (inl refl))) w.1))
+        (suc w.0, steps (start, i) (start + 1 + a.size, i) end (to_place prog start _ st.0 i (start + 1 + a.size, i) (inr (inl refl))) w.1))
         r;
     leaves = λ prog slots start next st len i end l out. leave prog slots start next st l out;
   }
@@ -172,6 +173,7 @@ module _ (t : Text) (hi : ℕ) where
       one_side prog slots start next st =
           let e : suc start ≡ start + 1 = omega arith in
           subst (λ s. Stand prog s (a.places slots (start + 1) next)) e (Stand-left prog (suc start) _ (b.places slots (start + 1 + a.size) next) st.1)
+
       other_side : (prog : List Place) (slots start next : ℕ) → Stand prog start ((either a b).places slots start next) →
           Stand prog (start + 1 + a.size) (b.places slots (start + 1 + a.size) next)
       other_side prog slots start next st =
@@ -179,6 +181,7 @@ module _ (t : Text) (hi : ℕ) where
           let e : suc start + length (a.places slots (start + 1) next) ≡ start + 1 + a.size = omega (arith, s) in
           subst (λ s. Stand prog s (b.places slots (start + 1 + a.size) next)) e
           (Stand-right prog (suc start) (a.places slots (start + 1) next) (b.places slots (start + 1 + a.size) next) st.1)
+
       leave : (prog : List Place) (slots start next : ℕ) → Stand prog start ((either a b).places slots start next) → {len i : ℕ} {end : Pair} →
           Leads (ways prog t hi) len (start, i) end → IsOutside start (1 + (a.size + b.size)) end →
           Leaves prog next (λ i j. R i j ⊎ S i j) len i end
@@ -186,15 +189,15 @@ module _ (t : Text) (hi : ℕ) where
       leave prog slots start next st {i = i} (steps {len = len} n m k h l) out =
           ⊎_elim
           (λ e. let u = x.leaves prog slots (start + 1) next (one_side prog slots start next st) len i k
-                    (subst (λ z. Leads (ways prog t hi) len z k) (sym e) l)
-                    (⊎_elim (λ p. inl (omega (arith, p))) (λ p. inr (omega (arith, p))) out) in
-            record { at = u.at; spells = inl u.spells; left = u.left; less = omega (arith, u.less); leads = u.leads })
+          (subst (λ z. Leads (ways prog t hi) len z k) (sym e) l)
+          (⊎_elim (λ p. inl (omega (arith, p))) (λ p. inr (omega (arith, p))) out) in
+          record { at = u.at; spells = inl u.spells; left = u.left; less = omega (arith, u.less); leads = u.leads })
           (λ q. ⊎_elim
-            (λ e. let u = y.leaves prog slots (start + 1 + a.size) next (other_side prog slots start next st) len i k
-                    (subst (λ z. Leads (ways prog t hi) len z k) (sym e) l)
-                    (⊎_elim (λ p. inl (omega (arith, p))) (λ p. inr (omega (arith, p))) out) in
-              record { at = u.at; spells = inr u.spells; left = u.left; less = omega (arith, u.less); leads = u.leads })
-            (λ never. absurd never) q)
+          (λ e. let u = y.leaves prog slots (start + 1 + a.size) next (other_side prog slots start next st) len i k
+          (subst (λ z. Leads (ways prog t hi) len z k) (sym e) l)
+          (⊎_elim (λ p. inl (omega (arith, p))) (λ p. inr (omega (arith, p))) out) in
+          record { at = u.at; spells = inr u.spells; left = u.left; less = omega (arith, u.less); leads = u.leads })
+          (λ never. absurd never) q)
           (at_place prog start _ st.0 i m h)
 
   body_in : (greedy : Bool) (body out i : ℕ) → IsIn (body, i) (ways_of t hi (body_or_out greedy body out) i)
@@ -217,10 +220,13 @@ module _ (t : Text) (hi : ℕ) where
     rises = λ i j r. ⊎_elim (λ e. omega (arith, e)) (λ p. x.rises i j p) r;
     enters = λ prog slots start next st i j r le end len l.
         ⊎_elim
-        (λ e. (suc len, steps (start, i) (next, i) end (to_place prog start _ st.0 i (next, i) (out_in greedy (start + 1) next i))
-          (subst (λ z. Leads (ways prog t hi) len (next, z) end) (sym e) l)))
+        (λ e. (
+          suc len,
+          steps (start, i) (next, i) end (to_place prog start _ st.0 i (next, i) (out_in greedy (start + 1) next i))
+              (subst (λ z. Leads (ways prog t hi) len (next, z) end) (sym e) l),
+        ))
         (λ p. let w = x.enters prog slots (start + 1) next (inner prog slots start next st) i j p le end len l in
-          (suc w.0, steps (start, i) (start + 1, i) end (to_place prog start _ st.0 i (start + 1, i) (body_in greedy (start + 1) next i)) w.1))
+        (suc w.0, steps (start, i) (start + 1, i) end (to_place prog start _ st.0 i (start + 1, i) (body_in greedy (start + 1) next i)) w.1))
         r;
     leaves = λ prog slots start next st len i end l out. leave prog slots start next st l out;
   }
@@ -229,6 +235,7 @@ module _ (t : Text) (hi : ℕ) where
           Stand prog (start + 1) (a.places slots (start + 1) next)
       inner prog slots start next st =
           let e : suc start ≡ start + 1 = omega arith in subst (λ s. Stand prog s (a.places slots (start + 1) next)) e st.1
+
       leave : (prog : List Place) (slots start next : ℕ) → Stand prog start ((optional greedy a).places slots start next) → {len i : ℕ} {end : Pair} →
           Leads (ways prog t hi) len (start, i) end → IsOutside start (1 + a.size) end →
           Leaves prog next (λ i j. (i ≡ j) ⊎ R i j) len i end
@@ -236,9 +243,9 @@ module _ (t : Text) (hi : ℕ) where
       leave prog slots start next st {i = i} (steps {len = len} n m k h l) out =
           ⊎_elim
           (λ e. let u = x.leaves prog slots (start + 1) next (inner prog slots start next st) len i k
-                    (subst (λ z. Leads (ways prog t hi) len z k) (sym e) l)
-                    (⊎_elim (λ p. inl (omega (arith, p))) (λ p. inr (omega (arith, p))) out) in
-            record { at = u.at; spells = inr u.spells; left = u.left; less = omega (arith, u.less); leads = u.leads })
+          (subst (λ z. Leads (ways prog t hi) len z k) (sym e) l)
+          (⊎_elim (λ p. inl (omega (arith, p))) (λ p. inr (omega (arith, p))) out) in
+          record { at = u.at; spells = inr u.spells; left = u.left; less = omega (arith, u.less); leads = u.leads })
           (λ e. record { at = i; spells = inl refl; left = len; less = omega arith; leads = subst (λ z. Leads (ways prog t hi) len z k) (sym e) l })
           (body_or_out_cases greedy (start + 1) next i m (at_place prog start _ st.0 i m h))
 
@@ -260,11 +267,13 @@ module _ (t : Text) (hi : ℕ) where
       body : (prog : List Place) (slots start next : ℕ) → Stand prog start ((plus greedy a).places slots start next) →
           Stand prog start (a.places slots start (start + a.size))
       body prog slots start next st = Stand-left prog start _ (body_or_out greedy start next ∷ []) st
+
       loop : (prog : List Place) (slots start next : ℕ) → Stand prog start ((plus greedy a).places slots start next) →
           place_at prog (start + a.size) ≡ body_or_out greedy start next
       loop prog slots start next st =
           (subst (λ n. Stand prog (start + n) (body_or_out greedy start next ∷ [])) (x.sized slots start (start + a.size))
           (Stand-right prog start (a.places slots start (start + a.size)) (body_or_out greedy start next ∷ []) st)).0
+
       goes_in : (prog : List Place) (slots start next : ℕ) → Stand prog start ((plus greedy a).places slots start next) →
           (j : ℕ) → j ≤ hi → (end : Pair) (len : ℕ) → Leads (ways prog t hi) len (next, j) end →
           (n i : ℕ) → Turns R (suc n) i j → (more : ℕ) × Leads (ways prog t hi) more (start, i) end
@@ -279,6 +288,7 @@ module _ (t : Text) (hi : ℕ) where
           x.enters prog slots start (start + a.size) (body prog slots start next st) i h.0 h.1 (omega (arith, up)) end (suc w.0)
           (steps (start + a.size, h.0) (start, h.0) end
           (to_place prog (start + a.size) _ (loop prog slots start next st) h.0 (start, h.0) (body_in greedy start next h.0)) w.1)
+
       at_loop : (prog : List Place) (slots start next : ℕ) → Stand prog start ((plus greedy a).places slots start next) →
           (fuel : ℕ) (end : Pair) → IsOutside start (a.size + 1) end →
           ((len i : ℕ) → len ≤ fuel → Leads (ways prog t hi) len (start, i) end →
@@ -290,20 +300,21 @@ module _ (t : Text) (hi : ℕ) where
       at_loop prog slots start next st fuel end out ih {p = p} e le (steps {len = len} n m k h l) =
           ⊎_elim
           (λ q. let r = ih len p (omega arith) (subst (λ z. Leads (ways prog t hi) len z k) (sym q) l) in
-            record { at = r.at; spells = (suc r.spells.0, r.spells.1); left = r.left; less = omega (arith, r.less); leads = r.leads })
+          record { at = r.at; spells = (suc r.spells.0, r.spells.1); left = r.left; less = omega (arith, r.less); leads = r.leads })
           (λ q. record { at = p; spells = (0, refl); left = len; less = omega arith; leads = subst (λ z. Leads (ways prog t hi) len z k) (sym q) l })
           (body_or_out_cases greedy start next p m
           (at_place prog _ _ (ap (place_at prog) e ∙ loop prog slots start next st) p m h))
+
       goes_out : (prog : List Place) (slots start next : ℕ) → Stand prog start ((plus greedy a).places slots start next) →
           (end : Pair) → IsOutside start (a.size + 1) end → (fuel len i : ℕ) → len ≤ fuel → Leads (ways prog t hi) len (start, i) end →
           Leaves prog next (λ i j. (n : ℕ) × Turns R (suc n) i j) len i end
       goes_out prog slots start next st end out zero len i le l =
           let u = x.leaves prog slots start (start + a.size) (body prog slots start next st) len i end l
-              (⊎_elim (λ p. inl p) (λ p. inr (omega (arith, p))) out) in
+          (⊎_elim (λ p. inl p) (λ p. inr (omega (arith, p))) out) in
           absurd (omega (arith, u.less))
       goes_out prog slots start next st end out (suc fuel) len i le l =
           let u = x.leaves prog slots start (start + a.size) (body prog slots start next st) len i end l
-              (⊎_elim (λ p. inl p) (λ p. inr (omega (arith, p))) out) in
+          (⊎_elim (λ p. inl p) (λ p. inr (omega (arith, p))) out) in
           let r = at_loop prog slots start next st fuel end out (goes_out prog slots start next st end out fuel) refl (omega (arith, u.less)) u.leads in
           record { at = r.at; spells = (r.spells.0, (u.at, u.spells, r.spells.1)); left = r.left; less = omega (arith, u.less, r.less); leads = r.leads }
 
@@ -360,9 +371,9 @@ module _ (t : Text) (hi : ℕ) where
       same_spelling _ _ _
       (λ i j s. (min + s.2.0, omega arith, omega (arith, s.2.1), turns_join R min s.2.0 i s.0 j s.1 s.2.2))
       (λ i j s.
-        let e : s.0 ≡ min + (s.0 - min) = omega (arith, s.1) in
-        let r = turns_split R min (s.0 - min) i j (subst (λ c. Turns R c i j) e s.3) in
-        (r.0, r.1, (s.0 - min, omega (arith, s.1, s.2), r.2)))
+      let e : s.0 ≡ min + (s.0 - min) = omega (arith, s.1) in
+      let r = turns_split R min (s.0 - min) i j (subst (λ c. Turns R c i j) e s.3) in
+      (r.0, r.1, (s.0 - min, omega (arith, s.1, s.2), r.2)))
       (copies_implements min a (up_to greedy (max - min) a) R _ x (up_to_implements greedy (max - min) a R x))
 
   star_implements : (greedy : Bool) (a : Part) (R : ℕ → ℕ → Type 0) → Implements a R →
@@ -383,9 +394,9 @@ module _ (t : Text) (hi : ℕ) where
       same_spelling _ _ _
       (λ i j s. (n + suc s.2.0, omega arith, tt, turns_join R n (suc s.2.0) i s.0 j s.1 s.2.1))
       (λ i j s.
-        let e : s.0 ≡ n + suc (s.0 - suc n) = omega (arith, s.1) in
-        let r = turns_split R n (suc (s.0 - suc n)) i j (subst (λ c. Turns R c i j) e s.3) in
-        (r.0, r.1, (s.0 - suc n, r.2)))
+      let e : s.0 ≡ n + suc (s.0 - suc n) = omega (arith, s.1) in
+      let r = turns_split R n (suc (s.0 - suc n)) i j (subst (λ c. Turns R c i j) e s.3) in
+      (r.0, r.1, (s.0 - suc n, r.2)))
       (copies_implements n a (plus greedy a) R _ x (plus_implements greedy a R x))
 
   in_if : (b : Bool) (w : Way) (i : ℕ) (m : Pair) → IsIn m (map (pair_at i) (if b then w ∷ [] else [])) → (b ≡ true) × (pair_at i w ≡ m)
@@ -447,9 +458,9 @@ module _ (t : Text) (hi : ℕ) where
   class_implements rs =
       one_place (λ slots. byte rs) (Reads rs) (λ i j r. omega (arith, r.3))
       (λ slots next i j r le.
-        let there = ahead_step i r.0 r.1 (omega (arith, r.3, le)) in
-        subst (λ xs. IsIn (next, j) (map (pair_at i) (over_byte (λ b. if in_ranges rs b then reads 1 next ∷ [] else []) xs))) (sym there)
-        (if_in (in_ranges rs r.0) (reads 1 next) i (next, j) r.2 (ap (λ (z : ℕ). (next, z)) (sym r.3))))
+      let there = ahead_step i r.0 r.1 (omega (arith, r.3, le)) in
+      subst (λ xs. IsIn (next, j) (map (pair_at i) (over_byte (λ b. if in_ranges rs b then reads 1 next ∷ [] else []) xs))) (sym there)
+      (if_in (in_ranges rs r.0) (reads 1 next) i (next, j) r.2 (ap (λ (z : ℕ). (next, z)) (sym r.3))))
       (λ slots next i m h. read_back rs next i m (ahead t hi i) refl h)
     where
       read_back : (rs : List Range) (next i : ℕ) (m : Pair) (xs : List ℕ) → ahead t hi i ≡ xs →
@@ -467,11 +478,11 @@ module _ (t : Text) (hi : ℕ) where
   scalar_implements rs =
       one_place (λ slots. scalar rs) (ReadsScalar rs) (λ i j r. let e = stands_end (encode_utf8 r.0) i j r.3 in omega (arith, e))
       (λ slots next i j r le.
-        let there = stands_ahead (encode_utf8 r.0) i j r.3 le in
-        let found = ap scalar_at there.1 ∙ scalar_at-encode r.0 there.0 r.1 in
-        subst (λ o. IsIn (next, j) (map (pair_at i) (over_scalar rs next o))) (sym found)
-        (if_in (in_ranges rs r.0) (reads (length (encode_utf8 r.0)) next) i (next, j) r.2
-          (ap (λ (z : ℕ). (next, z)) (sym (stands_end (encode_utf8 r.0) i j r.3)))))
+      let there = stands_ahead (encode_utf8 r.0) i j r.3 le in
+      let found = ap scalar_at there.1 ∙ scalar_at-encode r.0 there.0 r.1 in
+      subst (λ o. IsIn (next, j) (map (pair_at i) (over_scalar rs next o))) (sym found)
+      (if_in (in_ranges rs r.0) (reads (length (encode_utf8 r.0)) next) i (next, j) r.2
+      (ap (λ (z : ℕ). (next, z)) (sym (stands_end (encode_utf8 r.0) i j r.3)))))
       (λ slots next i m h. read_back rs next i m (scalar_at (ahead t hi i)) refl h)
     where
       read_back : (rs : List Range) (next i : ℕ) (m : Pair) (o : Option (ℕ × ℕ)) → scalar_at (ahead t hi i) ≡ o →
@@ -479,9 +490,16 @@ module _ (t : Text) (hi : ℕ) where
       read_back rs next i m None e h = absurd h
       read_back rs next i m (Some s) e h =
           let p = in_if (in_ranges rs s.0) (reads s.1 next) i m h in
-          let b = (scalar_law.begins (ahead t hi i) s.0 s.1).0 e in
-          (i + s.1, p.1, (s.0, b.0, p.0,
-            subst (λ n. Stands t.content (encode_utf8 s.0) i (i + n)) (sym b.1) (ahead_stands (encode_utf8 s.0) b.2.0 i b.2.1)))
+          let b = (scalar_law.begins (ahead t hi i) s.0 s.1).0 e in (
+            i + s.1,
+            p.1,
+            (
+              s.0,
+              b.0,
+              p.0,
+              subst (λ n. Stands t.content (encode_utf8 s.0) i (i + n)) (sym b.1) (ahead_stands (encode_utf8 s.0) b.2.0 i b.2.1),
+            ),
+          )
 
   single_in : (b : ℕ) → in_ranges ((b, b) ∷ []) b ≡ true
   single_in b = grind (arith, nat_tests)

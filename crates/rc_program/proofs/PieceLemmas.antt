@@ -1,8 +1,7 @@
 -- The pieces between matches.
-use Rattle.std.proofs.Common.{◌≡◌, ℕ, zero, suc, ◌+◌, ◌-◌, ◌<◌, ◌≤◌, List, [], ◌∷◌, length, take, min, Option, Some, None, sym, ap, ◌∙◌, refl, arith}
+use Rattle.std.proofs.Common.{◌≡◌, ℕ, zero, suc, ◌+◌, ◌<◌, ◌≤◌, List, [], ◌∷◌, length, take, min, Option, Some, None, ap, refl, arith}
 use Rattle.std.proofs.lemmas.List.{length-take, take_all}
 use Rattle.rc_text.specs.declared.types.Match.{Match}
-use Rattle.rc_text.specs.declared.types.Span.{Span}
 use Rattle.rc_program.specs.Answer.{Search}
 use Rattle.rc_program.specs.Matches.{begin_of, end_of, answer_from, next_match, matches_left, AreInOrder, pieces_from, pieces_left, in_turn, AreJoined, PiecesLaw}
 use Rattle.rc_program.proofs.MatchLemmas.{IsAfterLast, left_some, left_none, left_few}

@@ -1,13 +1,13 @@
 -- Which scalar begins or ends some bytes, by UTF-8; and that four bytes on each side of a position are enough to see it.
-use Rattle.std.proofs.Common.{◌≡◌, ◌↔◌, ℕ, zero, suc, ◌+◌, ◌-◌, ◌*◌, ◌/◌, ◌%◌, ◌<◌, ◌≤◌, ◌⊎◌, List, [], ◌∷◌, ◌++◌, length, take, drop, inl, inr, ⊎_elim, sym, subst, ap, ap₂, ◌∙◌, refl, arith, Bool, true, false, true≢false, Option, Some, None, nat_le, nat_lt, ◌&&◌, ◌==◌, if◌then◌else◌, append_assoc, slice_index, length-append, length-drop}
+use Rattle.std.proofs.Common.{◌≡◌, ℕ, zero, suc, ◌+◌, ◌-◌, ◌*◌, ◌/◌, ◌%◌, ◌<◌, ◌≤◌, ◌⊎◌, List, [], ◌∷◌, ◌++◌, length, take, drop, inl, inr, ⊎_elim, sym, subst, ap, ap₂, ◌∙◌, refl, arith, Bool, true, false, Option, Some, None, nat_le, nat_lt, ◌&&◌, ◌==◌, if◌then◌else◌, append_assoc, slice_index, length-append, length-drop}
 use Rattle.std.specs.Option.{option_or, option_map}
 use Rattle.std.specs.Char.{IsScalar, encode_utf8}
-use Rattle.std.proofs.lemmas.Bool.{cases_Bool, cases_lt, and_parts, and_from, lt-ltb, le-ltb, le-leb, ltb-true, leb-true, eqb-true, eq-eqb, ne_eqb}
+use Rattle.std.proofs.lemmas.Bool.{cases_lt, and_parts, and_from, lt-ltb, le-ltb, le-leb, ltb-true, leb-true, eqb-true, eq-eqb}
 use Rattle.std.proofs.lemmas.List.{append-nil, take-append-drop, take_at, drop_at, drop-drop, get_or-drop}
 use Rattle.std.proofs.lemmas.Option.{none-some, same_Some}
 use lib.Utf8.{scalar as is_scalar, scalar_cases, low_scalar}
 use Rattle.rc_program.specs.Scalars.{continues, in_bytes, of_two, of_three, of_four, scalar_at, whole_scalar, scalar_of_last, scalar_before, ScalarLaw}
-use Rattle.rc_program.specs.Looks.{Side, stands, side_before, side_after}
+use Rattle.rc_program.specs.Looks.{stands, side_before, side_after}
 
 -- what it is that c's bytes begin bs, and are n many
 abbrev Begins : List ℕ → ℕ → ℕ → Type 0
@@ -84,7 +84,7 @@ begins_two a (b ∷ bs) s h k e =
     let first : 192 + c / 64 ≡ a = omega (arith, h, k, q.0, q.1) in
     let second : 128 + c % 64 ≡ b = omega (arith, h, k, q.0, q.1) in
     let bytes : encode_utf8 c ≡ a ∷ b ∷ [] =
-        encode_two c r.0 (omega (arith, h, k, q.0, q.1)) ∙ ap₂ (λ x y. x ∷ y ∷ []) first second in
+    encode_two c r.0 (omega (arith, h, k, q.0, q.1)) ∙ ap₂ (λ x y. x ∷ y ∷ []) first second in
     subst (λ z. Begins (a ∷ b ∷ bs) z s.1) r.2 (spelled c s.1 (a ∷ b ∷ []) bs r.1 bytes (sym r.3))
 
 begins_three : (a : ℕ) (bs : List ℕ) (s : ℕ × ℕ) → 224 ≤ a → a < 240 → of_three (a - 224) bs ≡ Some s → Begins (a ∷ bs) s.0 s.1
@@ -101,8 +101,8 @@ begins_three a (b ∷ d ∷ bs) s h k e =
     let second : 128 + c / 64 % 64 ≡ b = omega (arith, h, k, q.0, q.1, u.0, u.1) in
     let third : 128 + c % 64 ≡ d = omega (arith, h, k, q.0, q.1, u.0, u.1) in
     let bytes : encode_utf8 c ≡ a ∷ b ∷ d ∷ [] =
-        encode_three c r.0 (omega (arith, h, k, q.0, q.1, u.0, u.1))
-        ∙ ap₂ (λ x y. x ∷ y ∷ (128 + c % 64) ∷ []) first second ∙ ap (λ z. a ∷ b ∷ z ∷ []) third in
+    encode_three c r.0 (omega (arith, h, k, q.0, q.1, u.0, u.1))
+    ∙ ap₂ (λ x y. x ∷ y ∷ (128 + c % 64) ∷ []) first second ∙ ap (λ z. a ∷ b ∷ z ∷ []) third in
     subst (λ z. Begins (a ∷ b ∷ d ∷ bs) z s.1) r.2 (spelled c s.1 (a ∷ b ∷ d ∷ []) bs r.1 bytes (sym r.3))
 
 begins_four : (a : ℕ) (bs : List ℕ) (s : ℕ × ℕ) → 240 ≤ a → a < 248 → of_four (a - 240) bs ≡ Some s → Begins (a ∷ bs) s.0 s.1
@@ -123,9 +123,9 @@ begins_four a (b ∷ d ∷ f ∷ bs) s h k e =
     let third : 128 + c / 64 % 64 ≡ d = omega (arith, h, k, q.0, q.1, u.0, u.1, v.0, v.1) in
     let fourth : 128 + c % 64 ≡ f = omega (arith, h, k, q.0, q.1, u.0, u.1, v.0, v.1) in
     let bytes : encode_utf8 c ≡ a ∷ b ∷ d ∷ f ∷ [] =
-        encode_four c r.0
-        ∙ ap₂ (λ x y. x ∷ y ∷ (128 + c / 64 % 64) ∷ (128 + c % 64) ∷ []) first second
-        ∙ ap₂ (λ x y. a ∷ b ∷ x ∷ y ∷ []) third fourth in
+    encode_four c r.0
+    ∙ ap₂ (λ x y. x ∷ y ∷ (128 + c / 64 % 64) ∷ (128 + c % 64) ∷ []) first second
+    ∙ ap₂ (λ x y. a ∷ b ∷ x ∷ y ∷ []) third fourth in
     subst (λ z. Begins (a ∷ b ∷ d ∷ f ∷ bs) z s.1) r.2 (spelled c s.1 (a ∷ b ∷ d ∷ f ∷ []) bs r.1 bytes (sym r.3))
 
 begins_from : (bs : List ℕ) (s : ℕ × ℕ) → scalar_at bs ≡ Some s → Begins bs s.0 s.1
@@ -163,8 +163,8 @@ four_is : (c : ℕ) (rest : List ℕ) → 65536 ≤ c → IsScalar c →
 four_is c rest h ok =
     rw (next_continues (c / 4096), next_continues (c / 64), next_continues c)
     (in_bytes_is 4 0x1_0000 c
-      ((((240 + c / 262144 - 240) * 64 + (128 + c / 4096 % 64 - 128)) * 64 + (128 + c / 64 % 64 - 128)) * 64 + (128 + c % 64 - 128))
-      (omega arith) h ok)
+    ((((240 + c / 262144 - 240) * 64 + (128 + c / 4096 % 64 - 128)) * 64 + (128 + c / 64 % 64 - 128)) * 64 + (128 + c % 64 - 128))
+    (omega arith) h ok)
 
 top : (c : ℕ) → IsScalar c → c < 1114112
 top c ok = ⊎_elim (λ l. omega arith) (λ p. p.1) (scalar_cases c ok)
@@ -174,13 +174,13 @@ pub scalar_at-encode : (c : ℕ) (rest : List ℕ) → IsScalar c → scalar_at 
 scalar_at-encode c rest ok =
     ⊎_elim (λ l. rw (encode_one c l) (at_one c rest l))
     (λ g1. ⊎_elim
-      (λ l. rw (encode_two c g1 l) (at_two (192 + c / 64) ((128 + c % 64) ∷ rest) (omega arith) (omega arith) ∙ two_is c rest g1 l ok))
+    (λ l. rw (encode_two c g1 l) (at_two (192 + c / 64) ((128 + c % 64) ∷ rest) (omega arith) (omega arith) ∙ two_is c rest g1 l ok))
     (λ g2. ⊎_elim
-      (λ l. rw (encode_three c g2 l)
-        (at_three (224 + c / 4096) ((128 + c / 64 % 64) ∷ (128 + c % 64) ∷ rest) (omega arith) (omega arith) ∙ three_is c rest g2 l ok))
+    (λ l. rw (encode_three c g2 l)
+    (at_three (224 + c / 4096) ((128 + c / 64 % 64) ∷ (128 + c % 64) ∷ rest) (omega arith) (omega arith) ∙ three_is c rest g2 l ok))
     (λ g3. let t = top c ok in
-      rw (encode_four c g3)
-      (at_four (240 + c / 262144) ((128 + c / 4096 % 64) ∷ (128 + c / 64 % 64) ∷ (128 + c % 64) ∷ rest) (omega arith) (omega arith) ∙ four_is c rest g3 ok))
+    rw (encode_four c g3)
+    (at_four (240 + c / 262144) ((128 + c / 4096 % 64) ∷ (128 + c / 64 % 64) ∷ (128 + c % 64) ∷ rest) (omega arith) (omega arith) ∙ four_is c rest g3 ok))
     (cases_lt c 65536)) (cases_lt c 2048)) (cases_lt c 128)
 
 begins_to : (bs : List ℕ) (c n : ℕ) → Begins bs c n → scalar_at bs ≡ Some (c, n)
@@ -206,7 +206,7 @@ last_none front b ys count e h k = last_is front (b ∷ ys) count e ∙ ap (whol
 last_whole : (front : List ℕ) (c count : ℕ) → IsScalar c → length (encode_utf8 c) ≡ count → scalar_of_last count (front ++ encode_utf8 c) ≡ Some c
 last_whole front c count ok e =
     let at : scalar_at (encode_utf8 c) ≡ Some (c, length (encode_utf8 c)) =
-        ap scalar_at (sym (append-nil (encode_utf8 c))) ∙ scalar_at-encode c [] ok in
+    ap scalar_at (sym (append-nil (encode_utf8 c))) ∙ scalar_at-encode c [] ok in
     last_is front (encode_utf8 c) count e
     ∙ ap (whole_scalar (encode_utf8 c)) at
     ∙ (rw (eq-eqb (length (encode_utf8 c)) (length (encode_utf8 c)) refl) refl)
@@ -231,9 +231,13 @@ last_some bs count c e =
     let xs = drop (length bs - count) bs in
     let w = whole_some xs (scalar_at xs) c e in
     let b = begins_from xs (c, w.0) w.1 in
-    let whole : xs ≡ encode_utf8 c = empty_rest xs (encode_utf8 c) b.2.0 b.2.1 (sym b.1 ∙ w.2) in
-    (b.0, (take (length bs - count) bs,
-      sym (take-append-drop (length bs - count) bs) ∙ ap (λ ys. take (length bs - count) bs ++ ys) whole))
+    let whole : xs ≡ encode_utf8 c = empty_rest xs (encode_utf8 c) b.2.0 b.2.1 (sym b.1 ∙ w.2) in (
+      b.0,
+      (
+        take (length bs - count) bs,
+        sym (take-append-drop (length bs - count) bs) ∙ ap (λ ys. take (length bs - count) bs ++ ys) whole,
+      ),
+    )
 
 or_some : {X : Type 0} (a b : Option X) (x : X) → option_or a b ≡ Some x → (a ≡ Some x) ⊎ (b ≡ Some x)
 or_some None b x e = inr e
@@ -273,7 +277,7 @@ two_before front c ok h k =
     let b = 128 + c % 64 in
     or_later (scalar_of_last 1 (front ++ encode_utf8 c)) _ c
     (ap (λ xs. scalar_of_last 1 (front ++ xs)) e ∙ ap (scalar_of_last 1) (sym (behind_one front a (b ∷ [])))
-      ∙ last_none (front ++ a ∷ []) b [] 1 refl n.0 n.1)
+    ∙ last_none (front ++ a ∷ []) b [] 1 refl n.0 n.1)
     (or_first (scalar_of_last 2 (front ++ encode_utf8 c)) _ c (last_whole front c 2 ok (ap length e)))
 
 three_before : (front : List ℕ) (c : ℕ) → IsScalar c → 2048 ≤ c → c < 65536 → scalar_before (front ++ encode_utf8 c) ≡ Some c
@@ -286,11 +290,11 @@ three_before front c ok h k =
     let d = 128 + c % 64 in
     or_later (scalar_of_last 1 (front ++ encode_utf8 c)) _ c
     (ap (λ xs. scalar_of_last 1 (front ++ xs)) e ∙ ap (scalar_of_last 1) (sym (behind_one front a (b ∷ d ∷ [])))
-      ∙ ap (scalar_of_last 1) (sym (behind_one (front ++ a ∷ []) b (d ∷ [])))
-      ∙ last_none ((front ++ a ∷ []) ++ b ∷ []) d [] 1 refl n.0 n.1)
+    ∙ ap (scalar_of_last 1) (sym (behind_one (front ++ a ∷ []) b (d ∷ [])))
+    ∙ last_none ((front ++ a ∷ []) ++ b ∷ []) d [] 1 refl n.0 n.1)
     (or_later (scalar_of_last 2 (front ++ encode_utf8 c)) _ c
     (ap (λ xs. scalar_of_last 2 (front ++ xs)) e ∙ ap (scalar_of_last 2) (sym (behind_one front a (b ∷ d ∷ [])))
-      ∙ last_none (front ++ a ∷ []) b (d ∷ []) 2 refl m.0 m.1)
+    ∙ last_none (front ++ a ∷ []) b (d ∷ []) 2 refl m.0 m.1)
     (or_first (scalar_of_last 3 (front ++ encode_utf8 c)) _ c (last_whole front c 3 ok (ap length e))))
 
 four_before : (front : List ℕ) (c : ℕ) → IsScalar c → 65536 ≤ c → scalar_before (front ++ encode_utf8 c) ≡ Some c
@@ -305,16 +309,16 @@ four_before front c ok h =
     let f = 128 + c % 64 in
     or_later (scalar_of_last 1 (front ++ encode_utf8 c)) _ c
     (ap (λ xs. scalar_of_last 1 (front ++ xs)) e ∙ ap (scalar_of_last 1) (sym (behind_one front a (b ∷ d ∷ f ∷ [])))
-      ∙ ap (scalar_of_last 1) (sym (behind_one (front ++ a ∷ []) b (d ∷ f ∷ [])))
-      ∙ ap (scalar_of_last 1) (sym (behind_one ((front ++ a ∷ []) ++ b ∷ []) d (f ∷ [])))
-      ∙ last_none (((front ++ a ∷ []) ++ b ∷ []) ++ d ∷ []) f [] 1 refl n.0 n.1)
+    ∙ ap (scalar_of_last 1) (sym (behind_one (front ++ a ∷ []) b (d ∷ f ∷ [])))
+    ∙ ap (scalar_of_last 1) (sym (behind_one ((front ++ a ∷ []) ++ b ∷ []) d (f ∷ [])))
+    ∙ last_none (((front ++ a ∷ []) ++ b ∷ []) ++ d ∷ []) f [] 1 refl n.0 n.1)
     (or_later (scalar_of_last 2 (front ++ encode_utf8 c)) _ c
     (ap (λ xs. scalar_of_last 2 (front ++ xs)) e ∙ ap (scalar_of_last 2) (sym (behind_one front a (b ∷ d ∷ f ∷ [])))
-      ∙ ap (scalar_of_last 2) (sym (behind_one (front ++ a ∷ []) b (d ∷ f ∷ [])))
-      ∙ last_none ((front ++ a ∷ []) ++ b ∷ []) d (f ∷ []) 2 refl m.0 m.1)
+    ∙ ap (scalar_of_last 2) (sym (behind_one (front ++ a ∷ []) b (d ∷ f ∷ [])))
+    ∙ last_none ((front ++ a ∷ []) ++ b ∷ []) d (f ∷ []) 2 refl m.0 m.1)
     (or_later (scalar_of_last 3 (front ++ encode_utf8 c)) _ c
     (ap (λ xs. scalar_of_last 3 (front ++ xs)) e ∙ ap (scalar_of_last 3) (sym (behind_one front a (b ∷ d ∷ f ∷ [])))
-      ∙ last_none (front ++ a ∷ []) b (d ∷ f ∷ []) 3 refl p.0 p.1)
+    ∙ last_none (front ++ a ∷ []) b (d ∷ f ∷ []) 3 refl p.0 p.1)
     (last_whole front c 4 ok (ap length e))))
 
 -- a scalar's bytes are read back as that scalar, whatever stands before
@@ -380,8 +384,8 @@ side_before_more k bs h some =
     let n : (length bs - k) + (length (drop (length bs - k) bs) - 1) ≡ length bs - 1 = omega (arith, l, h) in
     side_before_some (drop (length bs - k) bs) (omega (arith, l))
     ∙ ap₂ stands
-      (get_or-drop (length bs - k) bs (length (drop (length bs - k) bs) - 1) 0 ∙ ap (slice_index bs) n)
-      (scalar_before-drop k bs h)
+    (get_or-drop (length bs - k) bs (length (drop (length bs - k) bs) - 1) 0 ∙ ap (slice_index bs) n)
+    (scalar_before-drop k bs h)
     ∙ sym (side_before_some bs some)
 
 abbrev no_bytes : List ℕ

@@ -1,5 +1,5 @@
 -- The walks of a program are exactly for what its patterns spell.
-use Rattle.std.proofs.Common.{◌≡◌, ◌≢◌, ◌↔◌, ℕ, zero, suc, ◌+◌, ◌*◌, ◌<◌, ◌≤◌, ◌⊎◌, List, [], ◌∷◌, ◌++◌, length, inl, inr, ⊎_elim, sym, subst, ap, ◌∙◌, refl, arith, IsTrue, None, append_assoc, length-append}
+use Rattle.std.proofs.Common.{◌≡◌, ◌≢◌, ℕ, suc, ◌+◌, ◌*◌, ◌<◌, ◌≤◌, ◌⊎◌, List, [], ◌∷◌, ◌++◌, length, inl, inr, ⊎_elim, sym, subst, ap, ◌∙◌, refl, arith, IsTrue, None, append_assoc, length-append}
 use Rattle.std.specs.Prelude.{All}
 use Rattle.std.specs.List.{AllByRecursion}
 use Rattle.std.proofs.lemmas.Bool.{cases_lt}
@@ -66,9 +66,9 @@ module _ (t : Text) (hi : ℕ) where
     enters = λ prog slots start next st p i j r le.
         ⊎_elim
         (λ u. let w = x.enters prog slots (start + 1) next (one_side prog slots start next st) p i j u le in
-          (w.0, (suc w.1.0, steps (start, i) (start + 1, i) w.0 (from_here prog start _ st.0 i (start + 1, i) (inl refl)) w.1.1), w.2, w.3))
+        (w.0, (suc w.1.0, steps (start, i) (start + 1, i) w.0 (from_here prog start _ st.0 i (start + 1, i) (inl refl)) w.1.1), w.2, w.3))
         (λ u. let w = y.enters prog slots (start + 1 + a.size) next (other_side prog slots start next st) p i j u le in
-          (w.0, (suc w.1.0, steps (start, i) (start + 1 + a.size, i) w.0 (from_here prog start _ st.0 i (start + 1 + a.size, i) (inr (inl refl))) w.1.1), w.2, w.3))
+        (w.0, (suc w.1.0, steps (start, i) (start + 1 + a.size, i) w.0 (from_here prog start _ st.0 i (start + 1 + a.size, i) (inr (inl refl))) w.1.1), w.2, w.3))
         r;
     leaves = λ prog slots start next st p len i end l e. leave prog slots start next st p l e;
   }
@@ -78,6 +78,7 @@ module _ (t : Text) (hi : ℕ) where
       one_side prog slots start next st =
           let e : suc start ≡ start + 1 = omega arith in
           subst (λ s. Stand prog s (a.places slots (start + 1) next)) e (Stand-left prog (suc start) _ (b.places slots (start + 1 + a.size) next) st.1)
+
       other_side : (prog : List Place) (slots start next : ℕ) → Stand prog start ((either a b).places slots start next) →
           Stand prog (start + 1 + a.size) (b.places slots (start + 1 + a.size) next)
       other_side prog slots start next st =
@@ -85,17 +86,18 @@ module _ (t : Text) (hi : ℕ) where
           let e : suc start + length (a.places slots (start + 1) next) ≡ start + 1 + a.size = omega (arith, s) in
           subst (λ s. Stand prog s (b.places slots (start + 1 + a.size) next)) e
           (Stand-right prog (suc start) (a.places slots (start + 1) next) (b.places slots (start + 1 + a.size) next) st.1)
+
       leave : (prog : List Place) (slots start next : ℕ) → Stand prog start ((either a b).places slots start next) → (p : ℕ) → {len i : ℕ} {end : Pair} →
           Leads (ways prog t hi) len (start, i) end → IsAccept prog p end → R p i end.1 ⊎ S p i end.1
       leave prog slots start next st p (stays n) e = absurd (no_choice _ p (sym st.0 ∙ e))
       leave prog slots start next st p {i = i} (steps {len = len} n m k h l) e =
           ⊎_elim
           (λ q. inl (x.leaves prog slots (start + 1) next (one_side prog slots start next st) p len i k
-            (subst (λ z. Leads (ways prog t hi) len z k) (sym q) l) e))
+          (subst (λ z. Leads (ways prog t hi) len z k) (sym q) l) e))
           (λ u. ⊎_elim
-            (λ q. inr (y.leaves prog slots (start + 1 + a.size) next (other_side prog slots start next st) p len i k
-              (subst (λ z. Leads (ways prog t hi) len z k) (sym q) l) e))
-            (λ never. absurd never) u)
+          (λ q. inr (y.leaves prog slots (start + 1 + a.size) next (other_side prog slots start next st) p len i k
+          (subst (λ z. Leads (ways prog t hi) len z k) (sym q) l) e))
+          (λ never. absurd never) u)
           (at_here prog start _ st.0 i m h)
 
 -- where such places stand, match places stand outside
@@ -105,9 +107,9 @@ outside prog start lo hi [] st inner n p e = ⊎_elim (λ l. inl l) (λ g. inr (
 outside prog start lo hi (q ∷ qs) st inner n p e =
     ⊎_elim
     (λ l. ⊎_elim (λ k. inl k)
-      (λ g. let same : n ≡ start = omega arith in
-        absurd (subst (IsSound AnyNumber (λ p. ⊥) lo hi) (sym st.0 ∙ ap (place_at prog) (sym same) ∙ e) inner.0))
-      (cases_lt n start))
+    (λ g. let same : n ≡ start = omega arith in
+    absurd (subst (IsSound AnyNumber (λ p. ⊥) lo hi) (sym st.0 ∙ ap (place_at prog) (sym same) ∙ e) inner.0))
+    (cases_lt n start))
     (λ g. inr (omega (arith, g)))
     (outside prog (suc start) lo hi qs st.1 inner.1 n p e)
 
@@ -121,34 +123,39 @@ pattern_accepts t hi n s h ok = record {
       ((start + (part h).size, j), e, last prog start st ∙ ap accept (sym r.0), refl);
   leaves = λ prog slots start next st p len i end l e.
       let u = x.leaves prog s start (start + (part h).size) (body prog start st) len i end l
-          (let k = x.sized s start (start + (part h).size) in
-            subst (λ z. (end.0 < start) ⊎ (start + z ≤ end.0)) k
-            (outside prog start start (start + (part h).size + 1) _ (body prog start st)
-              ((part_is_own s h).sound start (start + (part h).size) start (start + (part h).size + 1) (omega arith) (omega arith) (omega arith, omega arith))
-              end.0 p e)) in
+      (let k = x.sized s start (start + (part h).size) in
+      subst (λ z. (end.0 < start) ⊎ (start + z ≤ end.0)) k
+      (outside prog start start (start + (part h).size + 1) _ (body prog start st)
+      ((part_is_own s h).sound start (start + (part h).size) start (start + (part h).size + 1) (omega arith) (omega arith) (omega arith, omega arith))
+      end.0 p e)) in
       arrives prog start st p i u.leads e u.spells;
 }
   where
     x : Implements t hi (part h) (Spells t h)
     x = part_implements t hi h ok
+
     body : (prog : List Place) (start : ℕ) → Stand prog start ((part h).places s start (start + (part h).size) ++ accept n ∷ []) →
         Stand prog start ((part h).places s start (start + (part h).size))
     body prog start st = Stand-left prog start _ (accept n ∷ []) st
+
     last : (prog : List Place) (start : ℕ) → Stand prog start ((part h).places s start (start + (part h).size) ++ accept n ∷ []) →
         place_at prog (start + (part h).size) ≡ accept n
     last prog start st =
         subst (λ z. place_at prog (start + z) ≡ accept n) ((part_implements t hi h ok).sized s start (start + (part h).size))
         (Stand-right prog start ((part h).places s start (start + (part h).size)) (accept n ∷ []) st).0
+
     arrives : (prog : List Place) (start : ℕ) → Stand prog start ((part h).places s start (start + (part h).size) ++ accept n ∷ []) → (p i : ℕ) →
         {len at : ℕ} {end : Pair} → Leads (ways prog t hi) len (start + (part h).size, at) end → IsAccept prog p end → Spells t h i at →
         (p ≡ n) × Spells t h i end.1
-    arrives prog start st p i (stays m) e r =
-        (accept_is t hi p n (sym e ∙ subst (λ z. place_at prog (start + z) ≡ accept n) ((part_implements t hi h ok).sized s start (start + (part h).size))
-          (Stand-right prog start ((part h).places s start (start + (part h).size)) (accept n ∷ []) st).0), r)
+    arrives prog start st p i (stays m) e r = (
+      accept_is t hi p n (sym e ∙ subst (λ z. place_at prog (start + z) ≡ accept n) ((part_implements t hi h ok).sized s start (start + (part h).size))
+          (Stand-right prog start ((part h).places s start (start + (part h).size)) (accept n ∷ []) st).0),
+      r,
+    )
     arrives prog start st p i {at = at} (steps m k z inside l) e r =
         absurd (at_here t hi prog (start + (part h).size) (accept n)
-          (subst (λ z. place_at prog (start + z) ≡ accept n) ((part_implements t hi h ok).sized s start (start + (part h).size))
-            (Stand-right prog start ((part h).places s start (start + (part h).size)) (accept n ∷ []) st).0) at k inside)
+        (subst (λ z. place_at prog (start + z) ≡ accept n) ((part_implements t hi h ok).sized s start (start + (part h).size))
+        (Stand-right prog start ((part h).places s start (start + (part h).size)) (accept n ∷ []) st).0) at k inside)
 
 pub choice_accepts : (t : Text) (hi n s : ℕ) (hs : List Re) → All HasBounds hs → Accepts t hi (choice_of_patterns n s hs) (SpelledBy t n hs)
 choice_accepts t hi n s [] ok = dead_accepts t hi
@@ -164,10 +171,11 @@ stand_at (b ∷ bs) x xs = stand_at bs x xs
 stand_all : (before xs : List Place) → Stand (before ++ xs) (length before) xs
 stand_all before [] = tt
 stand_all before (x ∷ xs) =
-    let len : length (before ++ x ∷ []) ≡ suc (length before) = length-append before (x ∷ []) ∙ omega arith in
-    (stand_at before x xs,
+    let len : length (before ++ x ∷ []) ≡ suc (length before) = length-append before (x ∷ []) ∙ omega arith in (
+      stand_at before x xs,
       subst (λ z. Stand z (suc (length before)) xs) (append_assoc before (x ∷ []) xs)
-      (subst (λ n. Stand ((before ++ x ∷ []) ++ xs) n xs) len (stand_all (before ++ x ∷ []) xs)))
+          (subst (λ n. Stand ((before ++ x ∷ []) ++ xs) n xs) len (stand_all (before ++ x ∷ []) xs)),
+    )
 
 ends_at_last : (n : Pair) (w : List Pair) → EndsAt (n ∷ w) (last_of (n ∷ w))
 ends_at_last n [] = refl
@@ -189,19 +197,22 @@ program_law hs t hi p i j ok le =
     from_walk : (w : List Pair) → IsWalkOf hs t hi p i j w → SpelledBy t 0 hs p i j
     from_walk w h =
         let r = leads_along (ways (program hs) t hi) (λ n. IsTrue (is_match_place None (place_at (program hs) n.0))) (last_of w) h.is_walk
-            (ends_at_its_last (ways (program hs) t hi) (λ n. IsTrue (is_match_place None (place_at (program hs) n.0))) h.is_walk) in
+        (ends_at_its_last (ways (program hs) t hi) (λ n. IsTrue (is_match_place None (place_at (program hs) n.0))) h.is_walk) in
         let from : (0, i) ≡ r.0 = ⊎_elim (λ e. e) (λ never. absurd never) r.1 in
         subst (λ z. SpelledBy t 0 hs p i z) h.position
         ((choice_accepts t hi 0 (2 * length hs) hs ok).leaves (program hs) 0 0 0 (stand_all [] (program hs)) p r.2.0 i (last_of w)
-          (subst (λ z. Leads (ways (program hs) t hi) r.2.0 z (last_of w)) (sym from) r.2.1) h.pattern)
+        (subst (λ z. Leads (ways (program hs) t hi) r.2.0 z (last_of w)) (sym from) r.2.1) h.pattern)
+
     to_walk : SpelledBy t 0 hs p i j → (w : List Pair) × IsWalkOf hs t hi p i j w
     to_walk r =
         let e = (choice_accepts t hi 0 (2 * length hs) hs ok).enters (program hs) 0 0 0 (stand_all [] (program hs)) p i j r le in
         let c = cut (ways (program hs) t hi) (λ n. IsTrue (is_match_place None (place_at (program hs) n.0))) same_pair e.1.1
-            (ap (is_match_place None) e.2) in
-        let l = last_is c.0 e.0 c.2 in
-        (c.0, record {
-          is_walk = c.1;
-          pattern = ap (λ (n : Pair). place_at (program hs) n.0) l ∙ e.2;
-          position = ap (λ (n : Pair). n.1) l ∙ e.3;
-        })
+        (ap (is_match_place None) e.2) in
+        let l = last_is c.0 e.0 c.2 in (
+          c.0,
+          record {
+            is_walk = c.1;
+            pattern = ap (λ (n : Pair). place_at (program hs) n.0) l ∙ e.2;
+            position = ap (λ (n : Pair). n.1) l ∙ e.3;
+          },
+        )

@@ -29,10 +29,13 @@ pub fn holds(look: Look, terminator: u8, before: &[u8], after: &[u8]) -> bool
         Look::WordEndAscii => ascii_word_before(before) && !ascii_word_after(after),
         Look::WordStartHalfAscii => !ascii_word_before(before),
         Look::WordEndHalfAscii => !ascii_word_after(after),
-        Look::WordUnicode => word_before(before).unwrap_or(false) != word_after(after).unwrap_or(false),
+        Look::WordUnicode => word_before(before).unwrap_or(false)
+            != word_after(after).unwrap_or(false),
         Look::WordUnicodeNegate => are_same(word_before(before), word_after(after)),
-        Look::WordStartUnicode => !word_before(before).unwrap_or(false) && word_after(after).unwrap_or(false),
-        Look::WordEndUnicode => word_before(before).unwrap_or(false) && !word_after(after).unwrap_or(false),
+        Look::WordStartUnicode => !word_before(before).unwrap_or(false)
+            && word_after(after).unwrap_or(false),
+        Look::WordEndUnicode => word_before(before).unwrap_or(false)
+            && !word_after(after).unwrap_or(false),
         Look::WordStartHalfUnicode => is_no_word(word_before(before)),
         Look::WordEndHalfUnicode => is_no_word(word_after(after)),
     }
@@ -82,7 +85,10 @@ pub fn is_word_char(c: char) -> bool
     if code < 128 {
         return is_word_byte(code as u8);
     }
-    is_alphabetic(c) || joins_words(GeneralCategory::for_char(c)) || code == 0x200C || code == 0x200D
+    is_alphabetic(c)
+        || joins_words(GeneralCategory::for_char(c))
+        || code == 0x200C
+        || code == 0x200D
 }
 
 fn is_word_byte(byte: u8) -> bool
@@ -119,13 +125,17 @@ fn begins_with(bytes: &[u8], byte: u8) -> bool
 fn begins_line(before: &[u8], after: &[u8]) -> bool
     ensures { result ≡ holds_between 10 (side_before before.now) (side_after after.now) Look.StartCRLF }
 {
-    before.is_empty() || ends_with(before, b'\n') || (ends_with(before, b'\r') && !begins_with(after, b'\n'))
+    before.is_empty()
+        || ends_with(before, b'\n')
+        || (ends_with(before, b'\r') && !begins_with(after, b'\n'))
 }
 
 fn ends_line(before: &[u8], after: &[u8]) -> bool
     ensures { result ≡ holds_between 10 (side_before before.now) (side_after after.now) Look.EndCRLF }
 {
-    after.is_empty() || begins_with(after, b'\r') || (begins_with(after, b'\n') && !ends_with(before, b'\r'))
+    after.is_empty()
+        || begins_with(after, b'\r')
+        || (begins_with(after, b'\n') && !ends_with(before, b'\r'))
 }
 
 fn ascii_word_before(before: &[u8]) -> bool

@@ -31,12 +31,20 @@ fn assertions_hold(rt: HostRuntime) {
         (Look::WordUnicodeNegate, b"\xFF", b"--"),
         (Look::WordStartHalfUnicode, b"\xFF", b"+-"),
         (Look::WordEndHalfUnicode, b"\xFF", b"-+"),
-        (Look::WordUnicode, b"\xF0\x90\x90\x80\xE2\x80\x8C", b"+------+"),
+        (
+            Look::WordUnicode,
+            b"\xF0\x90\x90\x80\xE2\x80\x8C",
+            b"+------+",
+        ),
     ];
     for (look, text, wanted) in rows {
         for (position, sign) in wanted.iter().enumerate() {
             if let Some((before, after)) = text.split_at_checked(position) {
-                assert_eq!(rt; holds(look, b'\n', before, after), *sign == b'+', "{look:?} at {position}");
+                assert_eq!(rt;
+                    holds(look, b'\n', before, after),
+                    *sign == b'+',
+                    "{look:?} at {position}"
+                );
             }
         }
         assert_eq!(rt; wanted.len().checked_sub(1), Some(text.len()), "{look:?}");
@@ -84,7 +92,10 @@ fn broken_bytes_are_none(rt: HostRuntime) {
 
 #[test]
 fn word_characters(rt: HostRuntime) {
-    for c in ['a', 'Z', '0', '_', '\u{E9}', '\u{200C}', '\u{200D}', '\u{301}', '\u{903}', '\u{488}', '\u{661}', '\u{203F}'] {
+    for c in [
+        'a', 'Z', '0', '_', '\u{E9}', '\u{200C}', '\u{200D}', '\u{301}', '\u{903}', '\u{488}',
+        '\u{661}', '\u{203F}',
+    ] {
         assert!(rt; is_word_char(c), "{c:?}");
     }
     for c in [' ', '-', '@', '`', '\u{D7}', '\u{2060}', '\u{BD}'] {
