@@ -3,6 +3,7 @@ use Rattle.std.proofs.Common.{◌≡◌, ℕ, zero, suc, ◌+◌, ◌-◌, ◌*�
 use Rattle.std.specs.Char.{IsScalar}
 use Rattle.std.proofs.lemmas.Bool.{cases_lt}
 use Rattle.std.proofs.lemmas.Bool.Decides.{nat_tests}
+use Rattle.std.proofs.lemmas.List.{take_all}
 use Rattle.std.proofs.lemmas.Option.{none-some}
 use Rattle.rc_pattern.specs.declared.hir.Look.{Look}
 use Rattle.rc_pattern.specs.Re.{Re, Range, empty, literal, byte_in, char_in, look, repeat, capture, cat, alt, none}
@@ -34,6 +35,22 @@ Stand-right prog start (x ∷ xs) ys h =
     let e : suc start + length xs ≡ start + suc (length xs) = omega arith in
     subst (λ s. Stand prog s ys) e (Stand-right prog (suc start) xs ys h.1)
 
+-- where a choice of two parts stands, the first one does
+pub Stand-first : (prog : List Place) (a b : Part) (slots start next : ℕ) → Stand prog start ((either a b).places slots start next) →
+    Stand prog (start + 1) (a.places slots (start + 1) next)
+Stand-first prog a b slots start next st =
+    let e : suc start ≡ start + 1 = omega arith in
+    subst (λ s. Stand prog s (a.places slots (start + 1) next)) e
+    (Stand-left prog (suc start) (a.places slots (start + 1) next) (b.places slots (start + 1 + a.size) next) st.1)
+
+-- and so does the other
+pub Stand-second : (prog : List Place) (a b : Part) (slots start next : ℕ) → length (a.places slots (start + 1) next) ≡ a.size →
+    Stand prog start ((either a b).places slots start next) → Stand prog (start + 1 + a.size) (b.places slots (start + 1 + a.size) next)
+Stand-second prog a b slots start next sized st =
+    let e : suc start + length (a.places slots (start + 1) next) ≡ start + 1 + a.size = omega (arith, sized) in
+    subst (λ s. Stand prog s (b.places slots (start + 1 + a.size) next)) e
+    (Stand-right prog (suc start) (a.places slots (start + 1) next) (b.places slots (start + 1 + a.size) next) st.1)
+
 drop-get : {X : Type 0} (xs : List X) (k : ℕ) (x : X) → slice_get xs k ≡ Some x → drop k xs ≡ x ∷ drop (suc k) xs
 drop-get [] k x e = absurd (none-some x e)
 drop-get (y ∷ ys) zero x e = cc
@@ -45,14 +62,7 @@ drop-none [] (suc k) e = refl
 drop-none (y ∷ ys) zero e = absurd (none-some y (sym e))
 drop-none (y ∷ ys) (suc k) e = drop-none ys k e
 
-abbrev no_bytes : List ℕ
-no_bytes = []
-
-take_nothing : (n : ℕ) → take n no_bytes ≡ []
-take_nothing zero = refl
-take_nothing (suc n) = refl
-
-nil_cons : (b : ℕ) (xs : List ℕ) → no_bytes ≡ b ∷ xs → ⊥
+nil_cons : (b : ℕ) (xs : List ℕ) → [] ≡ b ∷ xs → ⊥
 nil_cons b xs e = cc
 
 same_head : (a b : ℕ) (xs ys : List ℕ) → a ∷ xs ≡ b ∷ ys → a ≡ b
@@ -85,11 +95,11 @@ module _ (t : Text) (hi : ℕ) where
         Leaves prog next R len i end
 
   -- at a place with known ways
-  at_place : (prog : List Place) (start : ℕ) (q : Place) → place_at prog start ≡ q → (i : ℕ) (m : Pair) →
+  pub at_place : (prog : List Place) (start : ℕ) (q : Place) → place_at prog start ≡ q → (i : ℕ) (m : Pair) →
       IsIn m (ways prog t hi (start, i)) → IsIn m (ways_of t hi q i)
   at_place prog start q e i m h = subst (λ x. IsIn m (ways_of t hi x i)) e h
 
-  to_place : (prog : List Place) (start : ℕ) (q : Place) → place_at prog start ≡ q → (i : ℕ) (m : Pair) →
+  pub to_place : (prog : List Place) (start : ℕ) (q : Place) → place_at prog start ≡ q → (i : ℕ) (m : Pair) →
       IsIn m (ways_of t hi q i) → IsIn m (ways prog t hi (start, i))
   to_place prog start q e i m h = subst (λ x. IsIn m (ways_of t hi x i)) (sym e) h
 
@@ -160,40 +170,26 @@ module _ (t : Text) (hi : ℕ) where
     rises = λ i j r. ⊎_elim (λ p. x.rises i j p) (λ p. y.rises i j p) r;
     enters = λ prog slots start next st i j r le end len l.
         ⊎_elim
-        (λ p. let w = x.enters prog slots (start + 1) next (one_side prog slots start next st) i j p le end len l in
+        (λ p. let w = x.enters prog slots (start + 1) next (Stand-first prog a b slots start next st) i j p le end len l in
         (suc w.0, steps (start, i) (start + 1, i) end (to_place prog start _ st.0 i (start + 1, i) (inl refl)) w.1))
-        (λ p. let w = y.enters prog slots (start + 1 + a.size) next (other_side prog slots start next st) i j p le end len l in
+        (λ p. let w = y.enters prog slots (start + 1 + a.size) next (Stand-second prog a b slots start next (x.sized slots (start + 1) next) st) i j p le end len l in
         (suc w.0, steps (start, i) (start + 1 + a.size, i) end (to_place prog start _ st.0 i (start + 1 + a.size, i) (inr (inl refl))) w.1))
         r;
     leaves = λ prog slots start next st len i end l out. leave prog slots start next st l out;
   }
     where
-      one_side : (prog : List Place) (slots start next : ℕ) → Stand prog start ((either a b).places slots start next) →
-          Stand prog (start + 1) (a.places slots (start + 1) next)
-      one_side prog slots start next st =
-          let e : suc start ≡ start + 1 = omega arith in
-          subst (λ s. Stand prog s (a.places slots (start + 1) next)) e (Stand-left prog (suc start) _ (b.places slots (start + 1 + a.size) next) st.1)
-
-      other_side : (prog : List Place) (slots start next : ℕ) → Stand prog start ((either a b).places slots start next) →
-          Stand prog (start + 1 + a.size) (b.places slots (start + 1 + a.size) next)
-      other_side prog slots start next st =
-          let s = x.sized slots (start + 1) next in
-          let e : suc start + length (a.places slots (start + 1) next) ≡ start + 1 + a.size = omega (arith, s) in
-          subst (λ s. Stand prog s (b.places slots (start + 1 + a.size) next)) e
-          (Stand-right prog (suc start) (a.places slots (start + 1) next) (b.places slots (start + 1 + a.size) next) st.1)
-
       leave : (prog : List Place) (slots start next : ℕ) → Stand prog start ((either a b).places slots start next) → {len i : ℕ} {end : Pair} →
           Leads (ways prog t hi) len (start, i) end → IsOutside start (1 + (a.size + b.size)) end →
           Leaves prog next (λ i j. R i j ⊎ S i j) len i end
       leave prog slots start next st (stays n) out = absurd (⊎_elim (λ l. omega arith) (λ l. omega arith) out)
       leave prog slots start next st {i = i} (steps {len = len} n m k h l) out =
           ⊎_elim
-          (λ e. let u = x.leaves prog slots (start + 1) next (one_side prog slots start next st) len i k
+          (λ e. let u = x.leaves prog slots (start + 1) next (Stand-first prog a b slots start next st) len i k
           (subst (λ z. Leads (ways prog t hi) len z k) (sym e) l)
           (⊎_elim (λ p. inl (omega (arith, p))) (λ p. inr (omega (arith, p))) out) in
           record { at = u.at; spells = inl u.spells; left = u.left; less = omega (arith, u.less); leads = u.leads })
           (λ q. ⊎_elim
-          (λ e. let u = y.leaves prog slots (start + 1 + a.size) next (other_side prog slots start next st) len i k
+          (λ e. let u = y.leaves prog slots (start + 1 + a.size) next (Stand-second prog a b slots start next (x.sized slots (start + 1) next) st) len i k
           (subst (λ z. Leads (ways prog t hi) len z k) (sym e) l)
           (⊎_elim (λ p. inl (omega (arith, p))) (λ p. inr (omega (arith, p))) out) in
           record { at = u.at; spells = inr u.spells; left = u.left; less = omega (arith, u.less); leads = u.leads })
@@ -414,7 +410,7 @@ module _ (t : Text) (hi : ℕ) where
       ap₂ take n (drop-get t.content i b e) ∙ ap (λ k. b ∷ take (hi - (i + 1)) (drop k t.content)) next
 
   ahead_none : (i : ℕ) → slice_get t.content i ≡ None → ahead t hi i ≡ []
-  ahead_none i e = ap (take (hi - i)) (drop-none t.content i e) ∙ take_nothing (hi - i)
+  ahead_none i e = ap (take (hi - i)) (drop-none t.content i e) ∙ take_all (hi - i) [] (omega arith)
 
   ahead_past : (i : ℕ) → hi ≤ i → ahead t hi i ≡ []
   ahead_past i l = let n : hi - i ≡ 0 = omega (arith, l) in ap (λ k. take k (drop i t.content)) n

@@ -1,5 +1,5 @@
 -- The pieces between matches.
-use Rattle.std.proofs.Common.{◌≡◌, ℕ, zero, suc, ◌+◌, ◌<◌, ◌≤◌, List, [], ◌∷◌, length, take, min, Option, Some, None, ap, refl, arith}
+use Rattle.std.proofs.Common.{◌≡◌, ◌∙◌, ℕ, zero, suc, ◌+◌, ◌<◌, ◌≤◌, List, [], ◌∷◌, length, take, min, Option, Some, None, ap, refl, arith}
 use Rattle.std.proofs.lemmas.List.{length-take, take_all}
 use Rattle.rc_text.specs.declared.types.Match.{Match}
 use Rattle.rc_program.specs.Answer.{Search}
@@ -36,10 +36,6 @@ pieces_cover from hi (m ∷ n ∷ ms) le low order =
 begins_anywhere : (ms : List Match) → BeginsFrom 0 ms
 begins_anywhere [] = tt
 begins_anywhere (m ∷ ms) = omega arith
-
-take_nothing : (n : ℕ) (ms : List Match) → ms ≡ [] → take n ms ≡ []
-take_nothing zero ms e = refl
-take_nothing (suc n) ms e = ap (take (suc n)) e
 
 -- the first of matches in order are in order
 pub take_in_order : (n hi : ℕ) (ms : List Match) → AreInOrder begin_of end_of hi ms → AreInOrder begin_of end_of hi (take n ms)
@@ -95,7 +91,7 @@ pub pieces_left_none : (s : Search) (n from k : ℕ) (last : Option ℕ) → IsA
     next_match begin_of end_of (answer_from s) k last ≡ None →
     pieces_left (suc n) from s.hi (matches_left s k last) ≡ record { start = from; end = s.hi } ∷ []
 pieces_left_none s n from k last h e =
-    ap (pieces_from from s.hi) (take_nothing n (matches_left s k last) (left_none s k last h e))
+    ap (λ ms. pieces_from from s.hi (take n ms)) (left_none s k last h e) ∙ ap (pieces_from from s.hi) (take_all n [] (omega arith))
 
 -- under a limit of one all that is left is one piece
 pub pieces_left_one : (from hi : ℕ) (ms : List Match) → pieces_left 1 from hi ms ≡ record { start = from; end = hi } ∷ []

@@ -196,6 +196,7 @@ part_sized h s start next = (part_is_own s h).sized start next
 pub part_some : (h : Re) → 0 < (part h).size
 part_some h = (part_is_own 0 h).some
 
+-- a pattern's part has one place more, its match place
 pub pattern_sized : (p s : ℕ) (h : Re) (slots start next : ℕ) → length ((pattern_part p s h).places slots start next) ≡ (pattern_part p s h).size
 pattern_sized p s h slots start next =
     let k = part_sized h s start (start + (part h).size) in

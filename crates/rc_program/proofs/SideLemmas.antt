@@ -3,7 +3,7 @@ use Rattle.std.proofs.Common.{◌≡◌, ℕ, zero, suc, ◌+◌, ◌-◌, ◌*�
 use Rattle.std.specs.Option.{option_or, option_map}
 use Rattle.std.specs.Char.{IsScalar, encode_utf8}
 use Rattle.std.proofs.lemmas.Bool.{cases_lt, and_parts, and_from, lt-ltb, le-ltb, le-leb, ltb-true, leb-true, eqb-true, eq-eqb}
-use Rattle.std.proofs.lemmas.List.{append-nil, take-append-drop, take_at, drop_at, drop-drop, get_or-drop}
+use Rattle.std.proofs.lemmas.List.{append-nil, take-append-drop, take_at, drop_at, drop-drop, drop_all, get_or-drop}
 use Rattle.std.proofs.lemmas.Option.{none-some, same_Some}
 use lib.Utf8.{scalar as is_scalar, scalar_cases, low_scalar}
 use Rattle.rc_program.specs.Scalars.{continues, in_bytes, of_two, of_three, of_four, scalar_at, whole_scalar, scalar_of_last, scalar_before, ScalarLaw}
@@ -388,16 +388,9 @@ side_before_more k bs h some =
     (scalar_before-drop k bs h)
     ∙ sym (side_before_some bs some)
 
-abbrev no_bytes : List ℕ
-no_bytes = []
-
-drop_nothing : (n : ℕ) → drop n no_bytes ≡ []
-drop_nothing zero = refl
-drop_nothing (suc n) = refl
-
 -- what stands before is seen in the last four bytes
 pub side_before-drop : (k : ℕ) (bs : List ℕ) → 4 ≤ k → side_before (drop (length bs - k) bs) ≡ side_before bs
-side_before-drop k [] h = ap side_before (drop_nothing (0 - k))
+side_before-drop k [] h = ap side_before (drop_all (0 - k) [] (omega arith))
 side_before-drop k (b ∷ bs) h = side_before_more k (b ∷ bs) h (omega arith)
 
 -- what stands after some bytes that go on is what they show, where they are four or more

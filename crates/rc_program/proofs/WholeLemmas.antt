@@ -6,7 +6,7 @@ use Rattle.std.proofs.lemmas.Bool.{cases_lt}
 use Rattle.std.proofs.lemmas.List.Elements.{All-head, All-tail}
 use Rattle.rc_pattern.specs.Re.{Re}
 use Rattle.rc_pattern.specs.WellFormed.{HasBounds, group_count}
-use Rattle.rc_walks.specs.Walks.{Pair, IsIn, IsWalk, stops, goes, EndsAt}
+use Rattle.rc_walks.specs.Walks.{Pair, IsWalk, stops, goes, EndsAt}
 use Rattle.rc_walks.proofs.CutLemmas.{cut, leads_along}
 use Rattle.rc_program.specs.Text.{Text}
 use Rattle.rc_program.specs.Spells.{Spells, SpelledBy}
@@ -14,8 +14,8 @@ use Rattle.rc_program.specs.Program.{Place, choice, accept, place_at, ways, is_m
 use Rattle.rc_program.specs.Answer.{last_of}
 use Rattle.rc_program.specs.Laws.{IsWalkOf, ProgramLaw}
 use Rattle.rc_program.proofs.WayLemmas.{same_pair}
-use Rattle.rc_program.proofs.PlaceLemmas.{IsSound, part_is_own, AnyNumber}
-use Rattle.rc_program.proofs.PartLemmas.{Leads, stays, steps, ways_of, Stand, Stand-left, Stand-right, Implements, part_implements}
+use Rattle.rc_program.proofs.PlaceLemmas.{IsSound, part_is_own, part_sized, pattern_sized, AnyNumber}
+use Rattle.rc_program.proofs.PartLemmas.{Leads, stays, steps, at_place, to_place, Stand, Stand-left, Stand-right, Stand-first, Stand-second, part_implements}
 
 -- the place is the match place of pattern p
 abbrev pub IsAccept : List Place → ℕ → Pair → Type 0
@@ -31,21 +31,13 @@ pub record Accepts (t : Text) (hi : ℕ) (a : Part) (R : ℕ → ℕ → ℕ →
   pub leaves : (prog : List Place) (slots start next : ℕ) → Stand prog start (a.places slots start next) →
       (p len i : ℕ) (end : Pair) → Leads (ways prog t hi) len (start, i) end → IsAccept prog p end → R p i end.1
 
+no_choice : (ns : List ℕ) (p : ℕ) → choice ns ≢ accept p
+no_choice ns p e = cc
+
+accept_is : (p q : ℕ) → accept p ≡ accept q → p ≡ q
+accept_is p q e = cc
+
 module _ (t : Text) (hi : ℕ) where
-  no_choice : (ns : List ℕ) (p : ℕ) → choice ns ≢ accept p
-  no_choice ns p e = cc
-
-  accept_is : (p q : ℕ) → accept p ≡ accept q → p ≡ q
-  accept_is p q e = cc
-
-  at_here : (prog : List Place) (start : ℕ) (q : Place) → place_at prog start ≡ q → (i : ℕ) (m : Pair) →
-      IsIn m (ways prog t hi (start, i)) → IsIn m (ways_of t hi q i)
-  at_here prog start q e i m h = subst (λ x. IsIn m (ways_of t hi x i)) e h
-
-  from_here : (prog : List Place) (start : ℕ) (q : Place) → place_at prog start ≡ q → (i : ℕ) (m : Pair) →
-      IsIn m (ways_of t hi q i) → IsIn m (ways prog t hi (start, i))
-  from_here prog start q e i m h = subst (λ x. IsIn m (ways_of t hi x i)) (sym e) h
-
   dead_accepts : Accepts t hi dead (λ p i j. ⊥)
   dead_accepts = record {
     sized = λ slots start next. refl;
@@ -56,7 +48,7 @@ module _ (t : Text) (hi : ℕ) where
       none : (prog : List Place) (slots start next : ℕ) → Stand prog start (dead.places slots start next) → (p : ℕ) → {len i : ℕ} {end : Pair} →
           Leads (ways prog t hi) len (start, i) end → IsAccept prog p end → ⊥
       none prog slots start next st p (stays n) e = no_choice [] p (sym st.0 ∙ e)
-      none prog slots start next st p {i = i} (steps n m k h l) e = at_here prog start _ st.0 i m h
+      none prog slots start next st p {i = i} (steps n m k h l) e = at_place t hi prog start _ st.0 i m h
 
   either_accepts : (a b : Part) (R S : ℕ → ℕ → ℕ → Type 0) → Accepts t hi a R → Accepts t hi b S →
       Accepts t hi (either a b) (λ p i j. R p i j ⊎ S p i j)
@@ -65,40 +57,26 @@ module _ (t : Text) (hi : ℕ) where
         let h = x.sized slots (start + 1) next in let k = y.sized slots (start + 1 + a.size) next in omega (arith, l, h, k);
     enters = λ prog slots start next st p i j r le.
         ⊎_elim
-        (λ u. let w = x.enters prog slots (start + 1) next (one_side prog slots start next st) p i j u le in
-        (w.0, (suc w.1.0, steps (start, i) (start + 1, i) w.0 (from_here prog start _ st.0 i (start + 1, i) (inl refl)) w.1.1), w.2, w.3))
-        (λ u. let w = y.enters prog slots (start + 1 + a.size) next (other_side prog slots start next st) p i j u le in
-        (w.0, (suc w.1.0, steps (start, i) (start + 1 + a.size, i) w.0 (from_here prog start _ st.0 i (start + 1 + a.size, i) (inr (inl refl))) w.1.1), w.2, w.3))
+        (λ u. let w = x.enters prog slots (start + 1) next (Stand-first prog a b slots start next st) p i j u le in
+        (w.0, (suc w.1.0, steps (start, i) (start + 1, i) w.0 (to_place t hi prog start _ st.0 i (start + 1, i) (inl refl)) w.1.1), w.2, w.3))
+        (λ u. let w = y.enters prog slots (start + 1 + a.size) next (Stand-second prog a b slots start next (x.sized slots (start + 1) next) st) p i j u le in
+        (w.0, (suc w.1.0, steps (start, i) (start + 1 + a.size, i) w.0 (to_place t hi prog start _ st.0 i (start + 1 + a.size, i) (inr (inl refl))) w.1.1), w.2, w.3))
         r;
     leaves = λ prog slots start next st p len i end l e. leave prog slots start next st p l e;
   }
     where
-      one_side : (prog : List Place) (slots start next : ℕ) → Stand prog start ((either a b).places slots start next) →
-          Stand prog (start + 1) (a.places slots (start + 1) next)
-      one_side prog slots start next st =
-          let e : suc start ≡ start + 1 = omega arith in
-          subst (λ s. Stand prog s (a.places slots (start + 1) next)) e (Stand-left prog (suc start) _ (b.places slots (start + 1 + a.size) next) st.1)
-
-      other_side : (prog : List Place) (slots start next : ℕ) → Stand prog start ((either a b).places slots start next) →
-          Stand prog (start + 1 + a.size) (b.places slots (start + 1 + a.size) next)
-      other_side prog slots start next st =
-          let s = x.sized slots (start + 1) next in
-          let e : suc start + length (a.places slots (start + 1) next) ≡ start + 1 + a.size = omega (arith, s) in
-          subst (λ s. Stand prog s (b.places slots (start + 1 + a.size) next)) e
-          (Stand-right prog (suc start) (a.places slots (start + 1) next) (b.places slots (start + 1 + a.size) next) st.1)
-
       leave : (prog : List Place) (slots start next : ℕ) → Stand prog start ((either a b).places slots start next) → (p : ℕ) → {len i : ℕ} {end : Pair} →
           Leads (ways prog t hi) len (start, i) end → IsAccept prog p end → R p i end.1 ⊎ S p i end.1
       leave prog slots start next st p (stays n) e = absurd (no_choice _ p (sym st.0 ∙ e))
       leave prog slots start next st p {i = i} (steps {len = len} n m k h l) e =
           ⊎_elim
-          (λ q. inl (x.leaves prog slots (start + 1) next (one_side prog slots start next st) p len i k
+          (λ q. inl (x.leaves prog slots (start + 1) next (Stand-first prog a b slots start next st) p len i k
           (subst (λ z. Leads (ways prog t hi) len z k) (sym q) l) e))
           (λ u. ⊎_elim
-          (λ q. inr (y.leaves prog slots (start + 1 + a.size) next (other_side prog slots start next st) p len i k
+          (λ q. inr (y.leaves prog slots (start + 1 + a.size) next (Stand-second prog a b slots start next (x.sized slots (start + 1) next) st) p len i k
           (subst (λ z. Leads (ways prog t hi) len z k) (sym q) l) e))
           (λ never. absurd never) u)
-          (at_here prog start _ st.0 i m h)
+          (at_place t hi prog start _ st.0 i m h)
 
 -- where such places stand, match places stand outside
 outside : (prog : List Place) (start lo hi : ℕ) (qs : List Place) → Stand prog start qs → AllByRecursion (IsSound AnyNumber (λ p. ⊥) lo hi) qs →
@@ -113,49 +91,51 @@ outside prog start lo hi (q ∷ qs) st inner n p e =
     (λ g. inr (omega (arith, g)))
     (outside prog (suc start) lo hi qs st.1 inner.1 n p e)
 
+-- where the part of a pattern with its match place stands, the part does
+pub pattern_stands : (prog : List Place) (n s : ℕ) (h : Re) (slots start next : ℕ) → Stand prog start ((pattern_part n s h).places slots start next) →
+    Stand prog start ((part h).places s start (start + (part h).size))
+pattern_stands prog n s h slots start next st = Stand-left prog start ((part h).places s start (start + (part h).size)) (accept n ∷ []) st
+
+-- and the match place is behind it
+pub pattern_ends : (prog : List Place) (n s : ℕ) (h : Re) (slots start next : ℕ) → Stand prog start ((pattern_part n s h).places slots start next) →
+    place_at prog (start + (part h).size) ≡ accept n
+pattern_ends prog n s h slots start next st =
+    subst (λ z. place_at prog (start + z) ≡ accept n) (part_sized h s start (start + (part h).size))
+    (Stand-right prog start ((part h).places s start (start + (part h).size)) (accept n ∷ []) st).0
+
+-- a pattern's match place isn't among its part's places
+beyond_part : (prog : List Place) (s : ℕ) (h : Re) (start n p : ℕ) → Stand prog start ((part h).places s start (start + (part h).size)) →
+    place_at prog n ≡ accept p → (n < start) ⊎ (start + (part h).size ≤ n)
+beyond_part prog s h start n p st e =
+    let own = part_is_own s h in
+    subst (λ z. (n < start) ⊎ (start + z ≤ n)) (part_sized h s start (start + (part h).size))
+    (outside prog start start (start + (part h).size + 1) ((part h).places s start (start + (part h).size)) st
+    (own.sound start (start + (part h).size) start (start + (part h).size + 1) (omega arith) (omega arith) (omega arith, omega arith)) n p e)
+
 -- what a pattern's part accepts
 pub pattern_accepts : (t : Text) (hi n s : ℕ) (h : Re) → HasBounds h → Accepts t hi (pattern_part n s h) (λ p i j. (p ≡ n) × Spells t h i j)
 pattern_accepts t hi n s h ok = record {
-  sized = λ slots start next. let k = x.sized s start (start + (part h).size) in
-      let l = length-append ((part h).places s start (start + (part h).size)) (accept n ∷ []) in omega (arith, k, l);
+  sized = pattern_sized n s h;
   enters = λ prog slots start next st p i j r le.
-      let e = x.enters prog s start (start + (part h).size) (body prog start st) i j r.1 le (start + (part h).size, j) 0 (stays (start + (part h).size, j)) in
-      ((start + (part h).size, j), e, last prog start st ∙ ap accept (sym r.0), refl);
+      let body = pattern_stands prog n s h slots start next st in
+      let last : Pair = (start + (part h).size, j) in
+      let x = part_implements t hi h ok in (
+        last,
+        x.enters prog s start (start + (part h).size) body i j r.1 le last 0 (stays last),
+        pattern_ends prog n s h slots start next st ∙ ap accept (sym r.0),
+        refl,
+      );
   leaves = λ prog slots start next st p len i end l e.
-      let u = x.leaves prog s start (start + (part h).size) (body prog start st) len i end l
-      (let k = x.sized s start (start + (part h).size) in
-      subst (λ z. (end.0 < start) ⊎ (start + z ≤ end.0)) k
-      (outside prog start start (start + (part h).size + 1) _ (body prog start st)
-      ((part_is_own s h).sound start (start + (part h).size) start (start + (part h).size + 1) (omega arith) (omega arith) (omega arith, omega arith))
-      end.0 p e)) in
-      arrives prog start st p i u.leads e u.spells;
+      let body = pattern_stands prog n s h slots start next st in
+      let x = part_implements t hi h ok in
+      let u = x.leaves prog s start (start + (part h).size) body len i end l (beyond_part prog s h start end.0 p body e) in
+      arrives prog (start + (part h).size) (pattern_ends prog n s h slots start next st) p i u.leads e u.spells;
 }
   where
-    x : Implements t hi (part h) (Spells t h)
-    x = part_implements t hi h ok
-
-    body : (prog : List Place) (start : ℕ) → Stand prog start ((part h).places s start (start + (part h).size) ++ accept n ∷ []) →
-        Stand prog start ((part h).places s start (start + (part h).size))
-    body prog start st = Stand-left prog start _ (accept n ∷ []) st
-
-    last : (prog : List Place) (start : ℕ) → Stand prog start ((part h).places s start (start + (part h).size) ++ accept n ∷ []) →
-        place_at prog (start + (part h).size) ≡ accept n
-    last prog start st =
-        subst (λ z. place_at prog (start + z) ≡ accept n) ((part_implements t hi h ok).sized s start (start + (part h).size))
-        (Stand-right prog start ((part h).places s start (start + (part h).size)) (accept n ∷ []) st).0
-
-    arrives : (prog : List Place) (start : ℕ) → Stand prog start ((part h).places s start (start + (part h).size) ++ accept n ∷ []) → (p i : ℕ) →
-        {len at : ℕ} {end : Pair} → Leads (ways prog t hi) len (start + (part h).size, at) end → IsAccept prog p end → Spells t h i at →
-        (p ≡ n) × Spells t h i end.1
-    arrives prog start st p i (stays m) e r = (
-      accept_is t hi p n (sym e ∙ subst (λ z. place_at prog (start + z) ≡ accept n) ((part_implements t hi h ok).sized s start (start + (part h).size))
-          (Stand-right prog start ((part h).places s start (start + (part h).size)) (accept n ∷ []) st).0),
-      r,
-    )
-    arrives prog start st p i {at = at} (steps m k z inside l) e r =
-        absurd (at_here t hi prog (start + (part h).size) (accept n)
-        (subst (λ z. place_at prog (start + z) ≡ accept n) ((part_implements t hi h ok).sized s start (start + (part h).size))
-        (Stand-right prog start ((part h).places s start (start + (part h).size)) (accept n ∷ []) st).0) at k inside)
+    arrives : (prog : List Place) (last : ℕ) → place_at prog last ≡ accept n → (p i : ℕ) → {len at : ℕ} {end : Pair} →
+        Leads (ways prog t hi) len (last, at) end → IsAccept prog p end → Spells t h i at → (p ≡ n) × Spells t h i end.1
+    arrives prog last f p i (stays m) e r = (accept_is p n (sym e ∙ f), r)
+    arrives prog last f p i {at = at} (steps m k z inside l) e r = absurd (at_place t hi prog last (accept n) f at k inside)
 
 pub choice_accepts : (t : Text) (hi n s : ℕ) (hs : List Re) → All HasBounds hs → Accepts t hi (choice_of_patterns n s hs) (SpelledBy t n hs)
 choice_accepts t hi n s [] ok = dead_accepts t hi

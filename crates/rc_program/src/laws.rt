@@ -20,8 +20,9 @@ pub fn answers_are_first_walks()
     ensures { AnswerLaw }
 {}
 
-/// The edges of a program stay inside it, it is entered at one of its places, its match places are those of its patterns, and it
-/// is no heavier than the weight of its patterns.
+/// The edges of a program stay inside it, it is entered at one of its places, and its match places and slots are those of its
+/// patterns. It is no heavier than the weight of its patterns, where each repetition's least number is at most its greatest and no
+/// literal is empty.
 pub fn programs_are_closed()
     ensures { ClosedLaw }
 {}
