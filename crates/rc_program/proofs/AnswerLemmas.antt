@@ -222,7 +222,7 @@ one_more_passed s x below here y a b =
     ⊎_elim (λ l. below y a l) (λ ge. let e : x ≡ y = omega arith in subst (IsPassed s) e here) (cases_lt y x)
 
 -- where a way goes on, its last pair is the rest's
-last_of_more : (ways : Pair → List Pair) (Ends : Pair → Type 0) (n : Pair) {p f w : List Pair} → IsWalk ways Ends p f w → last_of (n ∷ w) ≡ last_of w
+pub last_of_more : (ways : Pair → List Pair) (Ends : Pair → Type 0) (n : Pair) {p f w : List Pair} → IsWalk ways Ends p f w → last_of (n ∷ w) ≡ last_of w
 last_of_more ways Ends n (stops k here fresh stop) = refl
 last_of_more ways Ends n (goes k here fresh rest) = refl
 
@@ -267,7 +267,8 @@ answer_within s m e =
     let r = (answer_law.answer_some s m).0 e in
     subst (λ (f : Match). (s.lo ≤ f.span.start) × (f.span.start ≤ f.span.end) × (f.span.end ≤ s.hi)) r.2 (chosen_within s r.0 r.1)
 
-match_place_is : (only : Option ℕ) (q : Place) → IsTrue (is_match_place only q) → q ≡ accept (pattern_at q)
+-- a match place is that of its pattern
+pub match_place_is : (only : Option ℕ) (q : Place) → IsTrue (is_match_place only q) → q ≡ accept (pattern_at q)
 match_place_is only (choice ns) h = absurd (true≢false (sym h ∙ no_match only ns))
 match_place_is None (byte rs n) h = absurd (true≢false (sym h))
 match_place_is (Some p) (byte rs n) h = absurd (true≢false (sym h))

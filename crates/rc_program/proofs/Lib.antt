@@ -11,3 +11,4 @@ pub mod PieceLemmas
 pub mod GroupLemmas
 mod Examples
 mod LookExamples
+pub mod EntryLemmas

@@ -184,9 +184,13 @@ module _ (s : ℕ) (Names : ℕ → Type 0) where
 abbrev pub AnyNumber : ℕ → Type 0
 AnyNumber k = Unit {0}
 
+-- any slots do
+pub any_groups : (s : ℕ) (h : Re) → AllByRecursion (NamesGroup s AnyNumber) (group_numbers h)
+any_groups s h = each_always (NamesGroup s AnyNumber) (λ n. (tt, tt)) (group_numbers h)
+
 -- the part of a pattern, whatever slots its groups have
 pub part_is_own : (s : ℕ) (h : Re) → IsOwn s AnyNumber (part h)
-part_is_own s h = part_own s AnyNumber h (each_always (NamesGroup s AnyNumber) (λ n. (tt, tt)) (group_numbers h))
+part_is_own s h = part_own s AnyNumber h (any_groups s h)
 
 -- a part has as many places as its size says
 pub part_sized : (h : Re) (s start next : ℕ) → length ((part h).places s start next) ≡ (part h).size
@@ -212,7 +216,8 @@ choice_sized p s (h ∷ hs) slots start next =
     let k = pattern_sized p s h slots (start + 1) next in
     let r = choice_sized (p + 1) (s + 2 * group_count h) hs slots (start + 1 + a.size) next in omega (arith, l, k, r)
 
-choice_some : (p s : ℕ) (hs : List Re) → 0 < (choice_of_patterns p s hs).size
+-- a choice of patterns has a place
+pub choice_some : (p s : ℕ) (hs : List Re) → 0 < (choice_of_patterns p s hs).size
 choice_some p s [] = omega arith
 choice_some p s (h ∷ hs) = omega arith
 
@@ -235,21 +240,28 @@ module _ (Names Accepts : ℕ → Type 0) where
   Suit p s [] = Unit {0}
   Suit p s (h ∷ hs) = AllByRecursion (NamesGroup s Names) (group_numbers h) × Accepts p × Suit (p + 1) (s + 2 * group_count h) hs
 
+  -- the places of a pattern's part, with its match place
+  pub pattern_sound : (p s : ℕ) (h : Re) → AllByRecursion (NamesGroup s Names) (group_numbers h) → Accepts p → (slots start next lo hi : ℕ) → lo ≤ start →
+      start + (pattern_part p s h).size ≤ hi → AllByRecursion (IsSound Names Accepts lo hi) ((pattern_part p s h).places slots start next)
+  pattern_sound p s h groups ok slots start next lo hi low high =
+      let places = (part h).places s start (start + (part h).size) in
+      each_append (IsSound Names Accepts lo hi) places (accept p ∷ [])
+      (each_weaker (IsSound Names (λ p. ⊥) lo hi) (IsSound Names Accepts lo hi) (λ q x. sound_wider Names Accepts lo hi q x) places
+      ((part_own s Names h groups).sound start (start + (part h).size) lo hi low (omega arith) (omega arith, omega arith)))
+      (ok, tt)
+
+  -- the places of a choice of patterns
   pub choice_sound : (p s : ℕ) (hs : List Re) → Suit p s hs → (slots start next lo hi : ℕ) → lo ≤ start →
       start + (choice_of_patterns p s hs).size ≤ hi →
       AllByRecursion (IsSound Names Accepts lo hi) ((choice_of_patterns p s hs).places slots start next)
   choice_sound p s [] suit slots start next lo hi low high = (tt, tt)
   choice_sound p s (h ∷ hs) suit slots start next lo hi low high =
-      let a = pattern_part p s h in let b = choice_of_patterns (p + 1) (s + 2 * group_count h) hs in
-      let own = part_own s Names h suit.0 in
+      let a = pattern_part p s h in
+      let b = choice_of_patterns (p + 1) (s + 2 * group_count h) hs in
       let some : 0 < b.size = choice_some (p + 1) (s + 2 * group_count h) hs in (
         ((omega arith, omega arith), ((omega arith, omega (arith, some)), tt)),
         each_append (IsSound Names Accepts lo hi) (a.places slots (start + 1) next) (b.places slots (start + 1 + a.size) next)
-            (each_append (IsSound Names Accepts lo hi) ((part h).places s (start + 1) (start + 1 + (part h).size)) (accept p ∷ [])
-            (each_weaker (IsSound Names (λ p. ⊥) lo hi) (IsSound Names Accepts lo hi) (λ q x. sound_wider Names Accepts lo hi q x)
-            ((part h).places s (start + 1) (start + 1 + (part h).size))
-            (own.sound (start + 1) (start + 1 + (part h).size) lo hi (omega arith) (omega arith) (omega arith, omega arith)))
-            (suit.1, tt))
+            (pattern_sound p s h suit.0 suit.1 slots (start + 1) next lo hi (omega arith) (omega arith))
             (choice_sound (p + 1) (s + 2 * group_count h) hs suit.2 slots (start + 1 + a.size) next lo hi (omega arith) (omega arith)),
       )
 
@@ -261,7 +273,7 @@ module _ (Names Accepts : ℕ → Type 0) where
 numbers_suit : (count p s : ℕ) (hs : List Re) → p + length hs ≤ count → Suit AnyNumber (λ p. p < count) p s hs
 numbers_suit count p s [] h = tt
 numbers_suit count p s (a ∷ hs) h = (
-  each_always (NamesGroup s AnyNumber) (λ n. (tt, tt)) (group_numbers a),
+  any_groups s a,
   omega arith,
   numbers_suit count (p + 1) (s + 2 * group_count a) hs (omega arith),
 )
@@ -270,24 +282,30 @@ numbers_suit count p s (a ∷ hs) h = (
 pub program_numbers : (hs : List Re) → AllByRecursion (IsSound AnyNumber (λ p. p < length hs) 0 (length (program hs))) (program hs)
 program_numbers hs = program_sound AnyNumber (λ p. p < length hs) hs (numbers_suit (length hs) 0 (2 * length hs) hs (omega arith))
 
-between_below : (hi : ℕ) (ns : List ℕ) → AllByRecursion (IsBetween 0 hi) ns → AllByRecursion (λ n. n < hi) ns
-between_below hi ns h = each_weaker (IsBetween 0 hi) (λ n. n < hi) (λ n x. x.1) ns h
+-- any slot is such a one, and a later pattern's number is above
+pub later_suit : (low p s : ℕ) (hs : List Re) → low < p → Suit AnyNumber (λ q. low < q) p s hs
+later_suit low p s [] h = tt
+later_suit low p s (a ∷ hs) h =
+    (any_groups s a, h, later_suit low (p + 1) (s + 2 * group_count a) hs (omega arith))
 
-sound_targets : (N A : ℕ → Type 0) (hi : ℕ) (q : Place) → IsSound N A 0 hi q → AllByRecursion (λ n. n < hi) (targets q)
-sound_targets N A hi (choice ns) h = between_below hi ns h
-sound_targets N A hi (byte rs n) h = (h.1, tt)
-sound_targets N A hi (branch ts) h = absurd h
-sound_targets N A hi (scalar rs n) h = (h.1, tt)
-sound_targets N A hi (guard l n) h = (h.1, tt)
-sound_targets N A hi (slot k n) h = (h.1.1, tt)
-sound_targets N A hi (accept p) h = tt
+-- the numbers in a place lie where they should
+pub sound_targets : (Names Accepts : ℕ → Type 0) (lo hi : ℕ) (q : Place) → IsSound Names Accepts lo hi q → AllByRecursion (IsBetween lo hi) (targets q)
+sound_targets Names Accepts lo hi (choice ns) h = h
+sound_targets Names Accepts lo hi (byte rs n) h = (h, tt)
+sound_targets Names Accepts lo hi (branch ts) h = absurd h
+sound_targets Names Accepts lo hi (scalar rs n) h = (h, tt)
+sound_targets Names Accepts lo hi (guard l n) h = (h, tt)
+sound_targets Names Accepts lo hi (slot k n) h = (h.1, tt)
+sound_targets Names Accepts lo hi (accept p) h = tt
 
 -- the program of a list of patterns is closed
 pub program_is_closed : (hs : List Re) → IsClosed (program hs)
 program_is_closed hs =
     All-from_recursion (λ q. All (λ n. n < length (program hs)) (targets q)) (program hs)
     (each_weaker (IsSound AnyNumber (λ p. p < length hs) 0 (length (program hs))) (λ q. All (λ n. n < length (program hs)) (targets q))
-    (λ q x. All-from_recursion (λ n. n < length (program hs)) (targets q) (sound_targets AnyNumber (λ p. p < length hs) (length (program hs)) q x))
+    (λ q x. All-from_recursion (λ n. n < length (program hs)) (targets q)
+    (each_weaker (IsBetween 0 (length (program hs))) (λ n. n < length (program hs)) (λ n i. i.1) (targets q)
+    (sound_targets AnyNumber (λ p. p < length hs) 0 (length (program hs)) q x)))
     (program hs) (program_numbers hs))
 
 -- the place to which a way leads

@@ -148,7 +148,8 @@ stand_at : (before : List Place) (x : Place) (xs : List Place) → place_at (bef
 stand_at [] x xs = refl
 stand_at (b ∷ bs) x xs = stand_at bs x xs
 
-stand_all : (before xs : List Place) → Stand (before ++ xs) (length before) xs
+-- a program stands in itself
+pub stand_all : (before xs : List Place) → Stand (before ++ xs) (length before) xs
 stand_all before [] = tt
 stand_all before (x ∷ xs) =
     let len : length (before ++ x ∷ []) ≡ suc (length before) = length-append before (x ∷ []) ∙ omega arith in (

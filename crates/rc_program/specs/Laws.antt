@@ -1,11 +1,11 @@
 -- The laws that tie programs to patterns: what the walks of a program spell, and that a program is closed and small.
-use Rattle.std.specs.Prelude.{◌≡◌, ◌↔◌, ℕ, ◌+◌, ◌*◌, ◌<◌, ◌≤◌, Bool, List, [], ◌∷◌, IsTrue, None, All, map, length}
+use Rattle.std.specs.Prelude.{◌≡◌, ◌↔◌, ℕ, ◌+◌, ◌*◌, ◌<◌, ◌≤◌, Bool, List, [], ◌∷◌, ◌++◌, IsTrue, Some, None, All, map, length}
 use Rattle.rc_pattern.specs.Re.{Re, Range, literal, repeat, capture, cat, alt}
 use Rattle.std.specs.List.{range_with_len}
 use Rattle.rc_pattern.specs.WellFormed.{HasBounds, group_numbers, group_count}
 use Rattle.rc_pattern.specs.Weight.{weight, list_weight}
 use Rattle.rc_pattern.specs.Properties.{minimum_len}
-use Rattle.rc_walks.specs.Walks.{Pair, IsIn, IsWalk}
+use Rattle.rc_walks.specs.Walks.{Pair, IsIn, IsWalk, IsFirstWalk, HasNoWalk}
 use Rattle.rc_program.specs.Text.{Text}
 use Rattle.rc_program.specs.Program.{Place, choice, byte, branch, scalar, guard, slot, accept, place_at, ways, is_match_place, program, entry, without_groups, shown}
 use Rattle.rc_program.specs.Spells.{Spells, SpelledBy}
@@ -94,3 +94,25 @@ pub record GroupLaw : Type 0 where
       SpelledBy t n (shown groups hs) p i j ↔ SpelledBy t n hs p i j
   pub shown_length : (groups : Bool) (hs : List Re) → length (shown groups hs) ≡ length hs
   pub shown_lighter : (groups : Bool) (hs : List Re) → list_weight (shown groups hs) ≤ list_weight hs
+
+-- a choice stands at the pair's place
+abbrev pub IsChoice : List Place → Pair → Type 0
+IsChoice places n = (ns : List ℕ) × (place_at places n.0 ≡ choice ns)
+
+-- a walk may end at the match place of pattern p
+abbrev pub EndsFor : List Place → ℕ → Pair → Type 0
+EndsFor places p n = IsTrue (is_match_place (Some p) (place_at places n.0))
+
+-- The entry of a pattern stands for the root where its walks alone count.
+pub record EntryLaw : Type 0 where
+  -- its first walk from the root is that from its entry, after choices alone
+  pub first : (hs : List Re) (t : Text) (hi p x : ℕ) (v : List Pair) → p < length hs →
+      IsFirstWalk (ways (program hs) t hi) (EndsFor (program hs) p) [] ((entry hs p, x) ∷ []) v →
+      (u : List Pair) × All (IsChoice (program hs)) u × IsFirstWalk (ways (program hs) t hi) (EndsFor (program hs) p) [] ((0, x) ∷ []) (u ++ v)
+  pub none : (hs : List Re) (t : Text) (hi p x : ℕ) → p < length hs →
+      HasNoWalk (ways (program hs) t hi) (EndsFor (program hs) p) [] ((entry hs p, x) ∷ []) →
+      HasNoWalk (ways (program hs) t hi) (EndsFor (program hs) p) [] ((0, x) ∷ [])
+  -- walks from the entry are its walks
+  pub own : (hs : List Re) (t : Text) (hi p x : ℕ) (w : List Pair) → p < length hs →
+      IsWalk (ways (program hs) t hi) (λ n. IsTrue (is_match_place None (place_at (program hs) n.0))) [] ((entry hs p, x) ∷ []) w →
+      place_at (program hs) (last_of w).0 ≡ accept p

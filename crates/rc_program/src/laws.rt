@@ -1,6 +1,6 @@
 //! The laws that tie the definitions. Each function does nothing: its contract is the law.
 ghost use Rattle.rc_program.specs.Answer.{AnswerLaw};
-ghost use Rattle.rc_program.specs.Laws.{ClosedLaw, GroupLaw, ProgramLaw};
+ghost use Rattle.rc_program.specs.Laws.{ClosedLaw, EntryLaw, GroupLaw, ProgramLaw};
 ghost use Rattle.rc_program.specs.Matches.{MatchesLaw, PiecesLaw};
 ghost use Rattle.rc_program.specs.Scalars.{ScalarLaw};
 
@@ -25,6 +25,12 @@ pub fn answers_are_first_walks()
 /// literal is empty.
 pub fn programs_are_closed()
     ensures { ClosedLaw }
+{}
+
+/// The entry of a pattern stands for the root where that pattern's walks alone count: the first of them is, after choices, the
+/// first walk from the entry.
+pub fn patterns_have_entries()
+    ensures { EntryLaw }
 {}
 
 /// The list of matches, as contracts name it, is the one that the definition gives: each match is the answer from where the one
