@@ -31,10 +31,10 @@ stand_each P prog start (q ∷ qs) st all n low high =
     (cases_order start n)
 
 -- a place's numbers lie between a and b, and so do those of all places between
-abbrev pub Sealed : List Place → (ℕ → Type 0) → ℕ → ℕ → Type 0
-Sealed prog Accepts a b = (n : ℕ) → a ≤ n → n < b → IsSound AnyNumber Accepts a b (place_at prog n)
+abbrev pub IsSealed : List Place → (ℕ → Type 0) → ℕ → ℕ → Type 0
+IsSealed prog Accepts a b = (n : ℕ) → a ≤ n → n < b → IsSound AnyNumber Accepts a b (place_at prog n)
 
-module _ (prog : List Place) (t : Text) (hi : ℕ) (Accepts : ℕ → Type 0) (a b : ℕ) (sealed : Sealed prog Accepts a b) where
+module _ (prog : List Place) (t : Text) (hi : ℕ) (Accepts : ℕ → Type 0) (a b : ℕ) (sealed : IsSealed prog Accepts a b) where
   way_inside : (n m : Pair) → IsBetween a b n.0 → IsIn m (ways prog t hi n) → IsBetween a b m.0
   way_inside n m i h =
       way_to (IsBetween a b) prog t hi n m (sound_targets AnyNumber Accepts a b (place_at prog n.0) (sealed n.0 i.0 i.1)) h
@@ -86,7 +86,7 @@ module _ (hs : List Re) (t : Text) (hi p : ℕ) where
   last_way n m e = no_way_from (Some p) (λ l. holds t l n.1) (ahead t hi n.1) (place_at (program hs) n.0) n.1 m e
 
   -- no walk of pattern p begins where only others' match places can be reached
-  no_other : (Accepts : ℕ → Type 0) (a b : ℕ) → Sealed (program hs) Accepts a b → (Accepts p → ⊥) → (x : ℕ) (passed : List Pair) → a < b →
+  no_other : (Accepts : ℕ → Type 0) (a b : ℕ) → IsSealed (program hs) Accepts a b → (Accepts p → ⊥) → (x : ℕ) (passed : List Pair) → a < b →
       HasNoWalk W E passed ((a, x) ∷ [])
   no_other Accepts a b sealed not_p x passed some v walk =
       let r = ends_inside (program hs) t hi Accepts a b sealed (Some p) a x (omega arith, some) walk in
@@ -123,7 +123,7 @@ module _ (hs : List Re) (t : Text) (hi p : ℕ) where
 
   -- the places of a pattern's part lead to its own match place alone
   pattern_sealed : (q slots start next s : ℕ) (h : Re) → Stand (program hs) start ((pattern_part q s h).places slots start next) →
-      Sealed (program hs) (λ r. r ≡ q) start (start + (pattern_part q s h).size)
+      IsSealed (program hs) (λ r. r ≡ q) start (start + (pattern_part q s h).size)
   pattern_sealed q slots start next s h st n low high =
       let size = pattern_sized q s h slots start next in
       stand_each (IsSound AnyNumber (λ r. r ≡ q) start (start + (pattern_part q s h).size)) (program hs) start
@@ -133,7 +133,7 @@ module _ (hs : List Re) (t : Text) (hi p : ℕ) where
 
   -- and those of the later patterns' choice to theirs
   rest_sealed : (q slots start next s : ℕ) (rest : List Re) → Stand (program hs) start ((choice_of_patterns (q + 1) s rest).places slots start next) →
-      Sealed (program hs) (λ r. q < r) start (start + (choice_of_patterns (q + 1) s rest).size)
+      IsSealed (program hs) (λ r. q < r) start (start + (choice_of_patterns (q + 1) s rest).size)
   rest_sealed q slots start next s rest st n low high =
       let size = choice_sized (q + 1) s rest slots start next in
       stand_each (IsSound AnyNumber (λ r. q < r) start (start + (choice_of_patterns (q + 1) s rest).size)) (program hs) start
@@ -191,7 +191,7 @@ module _ (hs : List Re) (t : Text) (hi p : ℕ) where
   -- the pattern's part stands at its entry
   entry_sealed : (q slots start next s : ℕ) (rest : List Re) (k : ℕ) → k < length rest →
       Stand (program hs) start ((choice_of_patterns q s rest).places slots start next) →
-      (end : ℕ) × (entry_from start rest k < end) × Sealed (program hs) (λ r. r ≡ q + k) (entry_from start rest k) end
+      (end : ℕ) × (entry_from start rest k < end) × IsSealed (program hs) (λ r. r ≡ q + k) (entry_from start rest k) end
   entry_sealed q slots start next s [] k l st = absurd (omega arith)
   entry_sealed q slots start next s (h ∷ rest) zero l st =
       let a = pattern_part q s h in
@@ -199,7 +199,7 @@ module _ (hs : List Re) (t : Text) (hi p : ℕ) where
       let e : q ≡ q + 0 = omega arith in (
         start + 1 + a.size,
         omega arith,
-        subst (λ z. Sealed (program hs) (λ r. r ≡ z) (start + 1) (start + 1 + a.size)) e
+        subst (λ z. IsSealed (program hs) (λ r. r ≡ z) (start + 1) (start + 1 + a.size)) e
             (pattern_sealed q slots (start + 1) next s h (Stand-first (program hs) a b slots start next st)),
       )
   entry_sealed q slots start next s (h ∷ rest) (suc k) l st =
@@ -208,7 +208,7 @@ module _ (hs : List Re) (t : Text) (hi p : ℕ) where
       let e : q + 1 + k ≡ q + suc k = omega arith in
       let r = entry_sealed (q + 1) slots (start + 1 + a.size) next (s + 2 * group_count h) rest k (omega (arith, l))
       (Stand-second (program hs) a b slots start next (pattern_sized q s h slots (start + 1) next) st) in
-      (r.0, r.1, subst (λ z. Sealed (program hs) (λ n. n ≡ z) (entry_from start (h ∷ rest) (suc k)) r.0) e r.2)
+      (r.0, r.1, subst (λ z. IsSealed (program hs) (λ n. n ≡ z) (entry_from start (h ∷ rest) (suc k)) r.0) e r.2)
 
 pub entry_law : EntryLaw
 entry_law = record {
