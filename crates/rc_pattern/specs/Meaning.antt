@@ -1,5 +1,5 @@
 -- The pattern that a `Hir` is, and how the constructors join patterns.
-use Rattle.std.specs.Prelude.{ℕ, List, [], ◌∷◌, ◌++◌, Option, map, string_bytes, option_map}
+use Rattle.std.specs.Prelude.{ℕ, List, [], ◌∷◌, ◌++◌, map, string_bytes, option_map}
 use Rattle.std.specs.List.{flat_map}
 use Rattle.rc_pattern.specs.Re.{Re, Range, empty, literal, byte_in, char_in, look, repeat, capture, cat, alt, none}
 use Rattle.rc_pattern.specs.declared.hir.ClassBytesRange.{ClassBytesRange}
@@ -106,6 +106,7 @@ alt_rest _ = []
 
 -- what a member stands for in an alternation: an alternation gives its members
 abbrev pub alt_members : Re → List Re
+alt_members none = []
 alt_members (alt a rest) = a ∷ alt_rest rest
 alt_members a = a ∷ []
 

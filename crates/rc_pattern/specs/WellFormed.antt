@@ -1,7 +1,7 @@
 -- Which patterns are well-formed.
-use Rattle.std.specs.Prelude.{◌≡◌, ◌≢◌, ℕ, ◌+◌, ◌<◌, ◌≤◌, max, List, [], ◌∷◌, ◌++◌, length, Option, Some, None}
+use Rattle.std.specs.Prelude.{◌≡◌, ◌≢◌, ℕ, ◌+◌, ◌≤◌, max, List, [], ◌∷◌, ◌++◌, length, Option, Some, None}
 use Rattle.std.specs.List.{range_with_len}
-use Rattle.rc_pattern.specs.Re.{Re, Range, empty, literal, byte_in, char_in, look, repeat, capture, cat, alt, none}
+use Rattle.rc_pattern.specs.Re.{Re, Range, byte_in, char_in, repeat, capture, cat, alt}
 
 -- the numbers of the groups, in the order of their opening
 abbrev pub group_numbers : Re → List ℕ

@@ -3,7 +3,7 @@ use Rattle.std.proofs.Common.{◌≡◌, ◌↔◌, ℕ, zero, suc, ◌+◌, ◌
 use Rattle.std.specs.Option.{option_or, option_map, option_and_then}
 use Rattle.std.proofs.lemmas.Bool.{cases_Bool, cases_lt, cases_order}
 use Rattle.std.proofs.lemmas.Option.{none-some, same_Some}
-use Rattle.rc_text.specs.declared.types.Match.{Match}
+use Rattle.rc_text.specs.Found.{Found}
 use Rattle.rc_pattern.specs.Re.{Re}
 use Rattle.rc_walks.specs.Walks.{Pair, IsIn, IsWalk, stops, goes}
 use Rattle.rc_walks.specs.Tries.{walk_by}
@@ -262,10 +262,10 @@ pub chosen_within : (s : Search) (c : Chosen) → IsAnswer s c → (s.lo ≤ c.s
 chosen_within s c a = let r = answer_walk s c a in (a.is_start.0, r.1, r.2)
 
 -- a match lies within the bounds
-pub answer_within : (s : Search) (m : Match) → answer s ≡ Some m → (s.lo ≤ m.span.start) × (m.span.start ≤ m.span.end) × (m.span.end ≤ s.hi)
+pub answer_within : (s : Search) (m : Found) → answer s ≡ Some m → (s.lo ≤ m.start) × (m.start ≤ m.end) × (m.end ≤ s.hi)
 answer_within s m e =
     let r = (answer_law.answer_some s m).0 e in
-    subst (λ (f : Match). (s.lo ≤ f.span.start) × (f.span.start ≤ f.span.end) × (f.span.end ≤ s.hi)) r.2 (chosen_within s r.0 r.1)
+    subst (λ (f : Found). (s.lo ≤ f.start) × (f.start ≤ f.end) × (f.end ≤ s.hi)) r.2 (chosen_within s r.0 r.1)
 
 -- a match place is that of its pattern
 pub match_place_is : (only : Option ℕ) (q : Place) → IsTrue (is_match_place only q) → q ≡ accept (pattern_at q)
@@ -295,10 +295,10 @@ chosen_pattern hs s c e a =
     (subst (λ places. place_at places (last_of c.walk).0 ≡ accept (pattern_of s c)) e (chosen_accepts s c a))
 
 -- a match's pattern is one of the patterns
-pub answer_pattern : (hs : List Re) (s : Search) (m : Match) → s.places ≡ program hs → answer s ≡ Some m → m.pattern.index < length hs
+pub answer_pattern : (hs : List Re) (s : Search) (m : Found) → s.places ≡ program hs → answer s ≡ Some m → m.pattern < length hs
 answer_pattern hs s m e h =
     let r = (answer_law.answer_some s m).0 h in
-    subst (λ (f : Match). f.pattern.index < length hs) r.2 (chosen_pattern hs s r.0 e r.1)
+    subst (λ (f : Found). f.pattern < length hs) r.2 (chosen_pattern hs s r.0 e r.1)
 
 visit_from : (o : Option ℕ) (b : Bool) (j i : ℕ) → option_or o (if b then Some j else None) ≡ Some i → (o ≡ Some i) ⊎ (j ≡ i)
 visit_from None true j i e = inr (same_Some j i e)

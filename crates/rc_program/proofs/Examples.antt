@@ -1,7 +1,7 @@
 -- The definitions, run on worked rows.
 use Rattle.std.proofs.Common.{◌≡◌, ℕ, true, false, List, [], ◌∷◌, length, map, Some, None, refl, codes}
 use Rattle.std.specs.Option.{option_map}
-use Rattle.rc_text.specs.declared.types.Match.{Match}
+use Rattle.rc_text.specs.Found.{Found}
 use Rattle.rc_text.specs.declared.types.Span.{Span}
 use Rattle.rc_pattern.specs.Re.{Re, empty, literal, byte_in, char_in, look, repeat, capture}
 use Rattle.rc_pattern.specs.Meaning.{cat_all, alt_all}
@@ -21,12 +21,12 @@ over hs content = record {
   passes_over = false;
 }
 
-abbrev span_of : Match → ℕ × ℕ
-span_of m = (m.span.start, m.span.end)
+abbrev span_of : Found → ℕ × ℕ
+span_of m = (m.start, m.end)
 
 -- pattern, start and end
-abbrev triple_of : Match → ℕ × ℕ × ℕ
-triple_of m = (m.pattern.index, m.span.start, m.span.end)
+abbrev triple_of : Found → ℕ × ℕ × ℕ
+triple_of m = (m.pattern, m.start, m.end)
 
 abbrev ends_of : Span → ℕ × ℕ
 ends_of s = (s.start, s.end)

@@ -3,7 +3,7 @@ use Rattle.std.proofs.Common.{◌≡◌, ℕ, zero, suc, ◌+◌, ◌-◌, ◌<�
 use Rattle.std.specs.List.{AllByRecursion}
 use Rattle.std.proofs.lemmas.Bool.{cases_Bool, cases_lt, and_cases, eqb-false}
 use Rattle.std.proofs.lemmas.Option.{none-some, same_Some}
-use Rattle.rc_text.specs.declared.types.Match.{Match}
+use Rattle.rc_text.specs.Found.{Found}
 use Rattle.rc_program.specs.Answer.{Search}
 use Rattle.rc_program.specs.Matches
 use Rattle.rc_program.specs.Matches.{begin_of, end_of, answer_from, from_on, matches_left, MatchesLaw}
@@ -176,7 +176,7 @@ left_are s k last h =
     (room_left begin_of end_of (answer_from s) s.text.slice_start s.hi (answers_lie_within s) k last)
 
 -- no other list is
-pub left_alone : (s : Search) (k : ℕ) (last : Option ℕ) (ms : List Match) → IsAfterLast k last →
+pub left_alone : (s : Search) (k : ℕ) (last : Option ℕ) (ms : List Found) → IsAfterLast k last →
     Matches.AreMatches begin_of end_of (answer_from s) k last ms → ms ≡ matches_left s k last
 unfolding matches_left
 left_alone s k last ms h a =
@@ -184,12 +184,12 @@ left_alone s k last ms h a =
     (room_left begin_of end_of (answer_from s) s.text.slice_start s.hi (answers_lie_within s) k last)
 
 -- the first of the matches left, and the others
-pub left_some : (s : Search) (k : ℕ) (last : Option ℕ) (m : Match) → IsAfterLast k last →
+pub left_some : (s : Search) (k : ℕ) (last : Option ℕ) (m : Found) → IsAfterLast k last →
     Matches.next_match begin_of end_of (answer_from s) k last ≡ Some m →
-    matches_left s k last ≡ m ∷ matches_left s m.span.end (Some m.span.end)
+    matches_left s k last ≡ m ∷ matches_left s m.end (Some m.end)
 left_some s k last m h e =
-    sym (left_alone s k last (m ∷ matches_left s m.span.end (Some m.span.end)) h
-    (Matches.goes_on m e (left_are s m.span.end (Some m.span.end) refl)))
+    sym (left_alone s k last (m ∷ matches_left s m.end (Some m.end)) h
+    (Matches.goes_on m e (left_are s m.end (Some m.end) refl)))
 
 -- none is left
 pub left_none : (s : Search) (k : ℕ) (last : Option ℕ) → IsAfterLast k last →
@@ -197,14 +197,14 @@ pub left_none : (s : Search) (k : ℕ) (last : Option ℕ) → IsAfterLast k las
 left_none s k last h e = sym (left_alone s k last [] h (Matches.ends e))
 
 -- where the next match lies
-pub left_lies : (s : Search) (k : ℕ) (last : Option ℕ) (m : Match) → IsAfterLast k last →
+pub left_lies : (s : Search) (k : ℕ) (last : Option ℕ) (m : Found) → IsAfterLast k last →
     Matches.next_match begin_of end_of (answer_from s) k last ≡ Some m →
-    (k ≤ m.span.start) × (s.text.slice_start ≤ m.span.start) × (m.span.start ≤ m.span.end) × (m.span.end ≤ s.hi)
+    (k ≤ m.start) × (s.text.slice_start ≤ m.start) × (m.start ≤ m.end) × (m.end ≤ s.hi)
 left_lies s k last m h e = (next_lies begin_of end_of (answer_from s) s.text.slice_start s.hi (answers_lie_within s) k last m h e).0
 
 -- each match that is left lies within the bounds
 pub left_within : (s : Search) (k : ℕ) (last : Option ℕ) → IsAfterLast k last →
-    AllByRecursion (λ (m : Match). (k ≤ m.span.start) × (s.text.slice_start ≤ m.span.start) × (m.span.start ≤ m.span.end) × (m.span.end ≤ s.hi))
+    AllByRecursion (λ (m : Found). (k ≤ m.start) × (s.text.slice_start ≤ m.start) × (m.start ≤ m.end) × (m.end ≤ s.hi))
     (matches_left s k last)
 left_within s k last h =
     all_lie begin_of end_of (answer_from s) s.text.slice_start s.hi (answers_lie_within s) k last (left_are s k last h) h

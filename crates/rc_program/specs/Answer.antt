@@ -3,7 +3,7 @@ use Rattle.std.specs.Prelude.{◌≡◌, ◌↔◌, ℕ, zero, suc, ◌+◌, ◌
 use Rattle.std.specs.List.{range_with_len}
 use Rattle.std.specs.Option.{option_or, option_map, option_and_then}
 use Rattle.rc_text.specs.Text.{is_boundary}
-use Rattle.rc_text.specs.declared.types.Match.{Match}
+use Rattle.rc_text.specs.Found.{Found}
 use Rattle.rc_walks.specs.Walks.{Pair, IsFirstWalk, HasNoWalk}
 use Rattle.rc_walks.specs.Tries.{walk_by}
 use Rattle.rc_program.specs.Text.{Text}
@@ -106,10 +106,11 @@ abbrev pub pattern_of : Search → Chosen → ℕ
 pattern_of s c = pattern_at (place_at s.places (last_of c.walk).0)
 
 -- the match that a chosen walk is
-abbrev pub found : Search → Chosen → Match
+abbrev pub found : Search → Chosen → Found
 found s c = record {
-  pattern = record { index = pattern_of s c };
-  span = record { start = c.start; end = (last_of c.walk).1 };
+  pattern = pattern_of s c;
+  start = c.start;
+  end = (last_of c.walk).1;
 }
 
 -- the slot k; the whole match of pattern p stands in the slots 2 * p and 2 * p + 1
@@ -146,7 +147,7 @@ unfoldable pub chosen : Search → Option Chosen
 chosen s = by_starts (from_start s) (start_count s) s.lo
 
 -- the match
-unfoldable pub answer : Search → Option Match
+unfoldable pub answer : Search → Option Found
 answer s = option_map (found s) (chosen s)
 
 -- the first n slots of the match
@@ -157,7 +158,7 @@ groups s n = option_map (slots_of s n) (chosen s)
 pub record AnswerLaw : Type 0 where
   pub chosen_some : (s : Search) (c : Chosen) → (chosen s ≡ Some c) ↔ IsAnswer s c
   pub chosen_none : (s : Search) → (chosen s ≡ None) ↔ HasNoAnswer s
-  pub answer_some : (s : Search) (m : Match) → (answer s ≡ Some m) ↔ ((c : Chosen) × IsAnswer s c × (found s c ≡ m))
+  pub answer_some : (s : Search) (m : Found) → (answer s ≡ Some m) ↔ ((c : Chosen) × IsAnswer s c × (found s c ≡ m))
   pub answer_none : (s : Search) → (answer s ≡ None) ↔ HasNoAnswer s
   pub groups_some : (s : Search) (n : ℕ) (xs : List (Option ℕ)) → (groups s n ≡ Some xs) ↔ ((c : Chosen) × IsAnswer s c × (slots_of s n c ≡ xs))
   pub groups_none : (s : Search) (n : ℕ) → (groups s n ≡ None) ↔ HasNoAnswer s

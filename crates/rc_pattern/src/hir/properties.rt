@@ -1,0 +1,86 @@
+//! What is known of a pattern before any search.
+
+mod known;
+mod parts;
+
+use super::LookSet;
+pub(super) use known::properties_of;
+
+/// What is known of a pattern before any search. Lengths are in bytes.
+#[derive(Clone, Copy, Debug, PartialEq, Eq)]
+pub struct Properties {
+    minimum_len: Option<usize>,
+    maximum_len: Option<usize>,
+    explicit_captures_len: usize,
+    static_explicit_captures_len: Option<usize>,
+    look_set: LookSet,
+    look_prefix: LookSet,
+    look_suffix: LookSet,
+    is_plain: bool,
+}
+
+impl Properties {
+    ghost use Rattle.std.specs.Prelude.{◌≡◌};
+    ghost use Rattle.rc_pattern.specs.Re as re;
+    ghost use Rattle.rc_pattern.specs.Properties as given;
+    ghost use Rattle.rc_pattern.specs.LookSets.{HasOnly};
+    ghost use Rattle.rc_pattern.specs.PropertiesOf.{IsPropertiesOf};
+
+    /// The least number of bytes that the pattern spells, or the greatest usize where it is above
+    /// that. `None` where the pattern is known to spell nothing at all.
+    pub fn minimum_len(&self) -> Option<usize>
+        ensures { (h : re.Re) → IsPropertiesOf h self.now → result ≡ given.minimum_len h }
+    {
+        self.minimum_len
+    }
+
+    /// The greatest number of bytes that the pattern spells. `None` where there is no bound, where
+    /// it is above the greatest usize, or where a part of the pattern spells nothing at all.
+    pub fn maximum_len(&self) -> Option<usize>
+        ensures { (h : re.Re) → IsPropertiesOf h self.now → result ≡ given.maximum_len h }
+    {
+        self.maximum_len
+    }
+
+    /// How many groups the pattern has, or the greatest usize where there are more.
+    pub fn explicit_captures_len(&self) -> usize
+        ensures { (h : re.Re) → IsPropertiesOf h self.now → result ≡ given.explicit_captures_len h }
+    {
+        self.explicit_captures_len
+    }
+
+    /// How many groups take part in each match, where that is known to be one number.
+    pub fn static_explicit_captures_len(&self) -> Option<usize>
+        ensures { (h : re.Re) → IsPropertiesOf h self.now → result ≡ given.static_explicit_captures_len h }
+    {
+        self.static_explicit_captures_len
+    }
+
+    /// The assertions that stand in the pattern.
+    pub fn look_set(&self) -> LookSet
+        ensures { (h : re.Re) → IsPropertiesOf h self.now → HasOnly result (given.has_look h) }
+    {
+        self.look_set
+    }
+
+    /// The assertions that stand where each match begins.
+    pub fn look_set_prefix(&self) -> LookSet
+        ensures { (h : re.Re) → IsPropertiesOf h self.now → HasOnly result (given.begins_with_look h) }
+    {
+        self.look_prefix
+    }
+
+    /// The assertions that stand where each match ends.
+    pub fn look_set_suffix(&self) -> LookSet
+        ensures { (h : re.Re) → IsPropertiesOf h self.now → HasOnly result (given.ends_with_look h) }
+    {
+        self.look_suffix
+    }
+
+    /// Whether no repetition has a body that spells the empty text.
+    pub fn is_plain(&self) -> bool
+        ensures { (h : re.Re) → IsPropertiesOf h self.now → result ≡ given.is_plain h }
+    {
+        self.is_plain
+    }
+}
