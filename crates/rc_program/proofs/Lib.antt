@@ -1,0 +1,14 @@
+pub mod WayLemmas
+pub mod AnswerLemmas
+pub mod PlaceLemmas
+pub mod WeightLemmas
+pub mod SideLemmas
+pub mod WordLemmas
+pub mod PartLemmas
+pub mod WholeLemmas
+pub mod MatchLemmas
+pub mod PieceLemmas
+pub mod GroupLemmas
+mod Examples
+mod LookExamples
+pub mod EntryLemmas

@@ -1,0 +1,53 @@
+//! The laws that tie the definitions. Each function does nothing: its contract is the law.
+ghost use Rattle.rc_program.specs.Answer.{AnswerLaw};
+ghost use Rattle.rc_program.specs.Laws.{ClosedLaw, EntryLaw, GroupLaw, ProgramLaw};
+ghost use Rattle.rc_program.specs.Matches.{MatchesLaw, PiecesLaw};
+ghost use Rattle.rc_program.specs.Scalars.{ScalarLaw};
+
+/// The scalars that begin and end some bytes, as assertions and scalar classes see them, are those of UTF-8.
+pub fn scalars_are_utf8()
+    ensures { ScalarLaw }
+{}
+
+/// Some walk of a pattern leads from one position to another exactly where the pattern spells that.
+pub fn walks_are_spellings()
+    ensures { ProgramLaw }
+{}
+
+/// The answer, as contracts name it, is the answer as it is defined: the first walk of the least start that has a walk and
+/// isn't passed over, with its pattern, its span and its slots; and nothing exactly where no start gives one.
+pub fn answers_are_first_walks()
+    ensures { AnswerLaw }
+{}
+
+/// The edges of a program stay inside it, it is entered at one of its places, and its match places and slots are those of its
+/// patterns. It is no heavier than the weight of its patterns, where each repetition's least number is at most its greatest and no
+/// literal is empty.
+pub fn programs_are_closed()
+    ensures { ClosedLaw }
+{}
+
+/// The entry of a pattern stands for the root where that pattern's walks alone count: the first of them is, after choices, the
+/// first walk from the entry.
+pub fn patterns_have_entries()
+    ensures { EntryLaw }
+{}
+
+/// The list of matches, as contracts name it, is the one that the definition gives: each match is the answer from where the one
+/// before ended, and an empty one that ends there gives way to the answer from a byte later. They rise, lie within the bounds, and
+/// are no more than there are positions.
+pub fn matches_are_listed()
+    ensures { MatchesLaw }
+{}
+
+/// The pieces are one more than the matches, and the two in turn cover the text from its start to the end of the search. A limit
+/// leaves as many pieces as it allows, and the last takes in what further matches would cut.
+pub fn pieces_are_gaps()
+    ensures { PiecesLaw }
+{}
+
+/// A pattern without its groups spells the same, with the same least length and no more weight: so a program that names no slot of
+/// a group has walks over the same spans.
+pub fn groups_can_be_left_out()
+    ensures { GroupLaw }
+{}

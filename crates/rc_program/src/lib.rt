@@ -1,0 +1,7 @@
+//! What a program is, and what a search over it answers: the definitions that contracts cite, and the laws that tie them.
+//!
+//! `laws` has the laws, each as the contract of a function with nothing to do. `look` tests where assertions hold.
+#![tactic(auto)]
+
+pub mod laws;
+pub mod look;
