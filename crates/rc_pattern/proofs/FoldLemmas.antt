@@ -27,39 +27,47 @@ pub meaning_of_capture : (c : Capture) → capture_meaning c
     ≡ capture (out-Capture c).index (option_map string_bytes (out-Capture c).name) (meaning (out-Capture c).sub.value)
 meaning_of_capture c = fold_out-Capture Re Re Re Re node capture_node hir_node repetition_node c
 
+-- what an empty node means
 pub kind_Empty : kind_meaning HirKind.Empty ≡ empty
 kind_Empty =
     ap kind_meaning (sym HirKind.rolls-Empty) ∙ fold-roll-HirKind Re Re Re Re node capture_node hir_node repetition_node HirKind-F.Empty
 
+-- what a literal means
 pub kind_Literal : (bytes : Vec ℕ Global) → kind_meaning (HirKind.Literal bytes) ≡ literal bytes.items
 kind_Literal bytes =
     ap kind_meaning (sym (HirKind.rolls-Literal bytes))
     ∙ fold-roll-HirKind Re Re Re Re node capture_node hir_node repetition_node (HirKind-F.Literal bytes)
 
+-- what a class means
 pub kind_Class : (c : Class) → kind_meaning (HirKind.Class c) ≡ class_meaning c
 kind_Class c =
     ap kind_meaning (sym (HirKind.rolls-Class c))
     ∙ fold-roll-HirKind Re Re Re Re node capture_node hir_node repetition_node (HirKind-F.Class c)
 
+-- what an assertion means
 pub kind_Look : (l : Look) → kind_meaning (HirKind.Look l) ≡ look l
 kind_Look l =
     ap kind_meaning (sym (HirKind.rolls-Look l)) ∙ fold-roll-HirKind Re Re Re Re node capture_node hir_node repetition_node (HirKind-F.Look l)
 
+-- what a node that repeats means
 pub kind_Repetition : (r : Repetition) → kind_meaning (HirKind.Repetition r) ≡ repetition_meaning r
 kind_Repetition r =
     ap kind_meaning (sym (HirKind.rolls-Repetition r))
     ∙ fold-roll-HirKind Re Re Re Re node capture_node hir_node repetition_node (HirKind-F.Repetition r)
 
+-- what a node that is a group means
 pub kind_Capture : (c : Capture) → kind_meaning (HirKind.Capture c) ≡ capture_meaning c
 kind_Capture c =
     ap kind_meaning (sym (HirKind.rolls-Capture c))
     ∙ fold-roll-HirKind Re Re Re Re node capture_node hir_node repetition_node (HirKind-F.Capture c)
 
+-- what a concatenation means
 pub kind_Concat : (subs : Vec Hir Global) → kind_meaning (HirKind.Concat subs) ≡ cat_all (map meaning subs.items)
 kind_Concat subs =
     ap kind_meaning (sym (HirKind.rolls-Concat subs))
     ∙ fold-roll-HirKind Re Re Re Re node capture_node hir_node repetition_node (HirKind-F.Concat subs)
 
+-- what an alternation means
 pub kind_Alternation : (subs : Vec Hir Global) → kind_meaning (HirKind.Alternation subs) ≡ alt_all (map meaning subs.items)
 kind_Alternation subs =
     ap kind_meaning (sym (HirKind.rolls-Alternation subs))

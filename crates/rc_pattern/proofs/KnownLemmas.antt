@@ -10,11 +10,13 @@ use Rattle.rc_pattern.specs.declared.hir.Repetition.{Repetition, out-Repetition}
 use Rattle.rc_pattern.specs.declared.hir.Capture.{Capture, out-Capture}
 use Rattle.rc_pattern.proofs.FoldLemmas.{members_from, meaning_of_repetition, meaning_of_capture}
 
+-- a group's properties from its body's
 pub capture_known : (c : Capture) (sub : Hir) (p all : Properties) → sub ≡ (out-Capture c).sub.value → IsPropertiesOf (meaning sub) p →
     ((h : Re) (n : ℕ) (name : Option (List ℕ)) → IsPropertiesOf h p → IsPropertiesOf (capture n name h) all) → IsPropertiesOf (capture_meaning c) all
 capture_known c sub p all s h made =
     subst (λ r. IsPropertiesOf r all) (sym (meaning_of_capture c)) (made _ _ _ (subst (λ (r : Hir). IsPropertiesOf (meaning r) p) s h))
 
+-- a repetition's properties from its body's
 pub repetition_known : (r : Repetition) (sub : Hir) (p all : Properties) → sub ≡ (out-Repetition r).sub.value → IsPropertiesOf (meaning sub) p →
     ((h : Re) (greedy : Bool) → IsPropertiesOf h p → IsPropertiesOf (repeat (out-Repetition r).min (out-Repetition r).max greedy h) all) →
     IsPropertiesOf (repetition_meaning r) all
@@ -28,6 +30,7 @@ members_before xs i x some within e =
     let back : i - 1 + 1 ≡ i = omega arith in
     members_from xs (i - 1) x (omega arith) e ∙ ap (λ k. meaning x ∷ map meaning (drop k xs)) back
 
+-- a concatenation's properties with one more member in front
 pub concat_known : (xs : List Hir) (i : ℕ) (x : Hir) (p rest all : Properties) → 0 < i → i ≤ length xs → x ≡ get_or xs (i - 1) x →
     IsPropertiesOf (meaning x) p → IsPropertiesOf (cat_all (map meaning (drop i xs))) rest →
     ((h k : Re) → IsPropertiesOf h p → IsPropertiesOf k rest → IsPropertiesOf (cat h k) all) →
@@ -35,11 +38,13 @@ pub concat_known : (xs : List Hir) (i : ℕ) (x : Hir) (p rest all : Properties)
 concat_known xs i x p rest all some within e h k made =
     subst (λ ys. IsPropertiesOf (cat_all ys) all) (sym (members_before xs i x some within e)) (made _ _ h k)
 
+-- where the others are one or more
 or_known : (h : Re) (ks : List Re) (p rest all : Properties) → 0 < length ks → IsPropertiesOf h p → IsPropertiesOf (alt_all ks) rest →
     ((h k m : Re) → IsPropertiesOf h p → IsPropertiesOf (alt k m) rest → IsPropertiesOf (alt h (alt k m)) all) → IsPropertiesOf (alt h (alt_all ks)) all
 or_known h [] p rest all some x y made = absurd (omega arith)
 or_known h (k ∷ ks) p rest all some x y made = made h k (alt_all ks) x y
 
+-- an alternation's properties with one more member in front
 pub alternation_known : (xs : List Hir) (i : ℕ) (x : Hir) (p rest all : Properties) → 0 < i → i < length xs → x ≡ get_or xs (i - 1) x →
     IsPropertiesOf (meaning x) p → IsPropertiesOf (alt_all (map meaning (drop i xs))) rest →
     ((h k m : Re) → IsPropertiesOf h p → IsPropertiesOf (alt k m) rest → IsPropertiesOf (alt h (alt k m)) all) →

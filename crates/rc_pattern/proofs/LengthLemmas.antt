@@ -14,6 +14,7 @@ pub longest_is : (r : Range) (rs : List Range) → longest (r ∷ rs) ≡ greate
 longest_is r [] = omega arith
 longest_is r (q ∷ rs) = ap (max (len_utf8 r.1)) (longest_is q rs)
 
+-- the greatest length of a class with ranges
 pub longest_some : (rs : List Range) → 0 < length rs → Some (longest rs) ≡ maximum_len (char_in rs)
 longest_some [] h = absurd (omega arith)
 longest_some (r ∷ rs) h = ap Some (longest_is r rs)

@@ -47,6 +47,7 @@ pub alt_numbers : (xs : List Re) → group_numbers (alt_all xs) ≡ group_number
 alt_numbers [] = refl
 alt_numbers (x ∷ xs) = ap (λ ns. group_numbers x ++ ns) (alt_numbers xs)
 
+-- and their names
 pub alt_names : (xs : List Re) → group_names (alt_all xs) ≡ group_names (cat_all xs)
 alt_names [] = refl
 alt_names (x ∷ xs) = ap (λ ns. group_names x ++ ns) (alt_names xs)
