@@ -1,2 +1,5 @@
 pub mod Slots
 pub mod Finds
+pub mod SlotsLaws
+pub mod NamesLaws
+pub mod CapturesLaws

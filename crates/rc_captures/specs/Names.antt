@@ -52,3 +52,7 @@ first_slot names p (suc g) = implicit_slot_len names + 2 * (explicit_len (take p
 -- the two slots of a group, if there is such a group
 abbrev pub slots : Names → ℕ → ℕ → Option (ℕ × ℕ)
 slots names p g = if nat_lt g (group_len names p) then Some (first_slot names p g, first_slot names p g + 1) else None
+
+-- k is a slot of a group of pattern p
+abbrev pub IsSlotOf : Names → ℕ → ℕ → Type 0
+IsSlotOf names p k = (g : ℕ) × (s : ℕ × ℕ) × (slots names p g ≡ Some s) × ((k ≡ s.0) ⊎ (k ≡ s.1))

@@ -3,6 +3,7 @@ ghost use Rattle.std.specs.Prelude.{◌≡◌, ℕ, ◌+◌, ◌*◌, ◌<◌, �
 ghost use Rattle.std.specs.Option.{option_copied};
 ghost use Rattle.rc_captures.specs.Groups.{names_of};
 ghost use Rattle.rc_captures.specs.Names.{names_in, slot_len, implicit_slot_len, first_slot, group_len, slots, to_index, to_name, is_named};
+ghost use Rattle.rc_captures.specs.Laws.{SlotsLaw, NamesLaw};
 
 mod table;
 
@@ -129,4 +130,16 @@ fn position_of(names: &[Option<String>], name: &str) -> Option<usize>
     ensures { result ≡ position (λ other. is_named (option_map string_bytes other) name.now) names.now }
 {
     names.iter().position(|other| is_named(other, name))
+}
+
+/// Each slot is that of one group alone. A law: it does nothing.
+pub fn slots_are_shared_out()
+    ensures { SlotsLaw }
+{
+}
+
+/// A name's group has that name. A law: it does nothing.
+pub fn names_and_groups_are_inverse()
+    ensures { NamesLaw }
+{
 }

@@ -2,3 +2,5 @@
 #![tactic(auto)]
 
 pub mod groups;
+
+pub mod captures;
