@@ -3,3 +3,4 @@ pub mod Finds
 pub mod SlotsLaws
 pub mod NamesLaws
 pub mod CapturesLaws
+mod Examples

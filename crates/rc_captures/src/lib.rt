@@ -1,6 +1,7 @@
-//! The groups of a match: where their bounds stand, what they are called, and the captures that hold them.
+//! The groups of patterns: which there are, in which slots they stand, and the captures that hold those of a match.
 #![tactic(auto)]
 
-pub mod groups;
-
 pub mod captures;
+pub mod groups;
+#[cfg(test)]
+mod tests;
