@@ -2,8 +2,7 @@
 use Rattle.std.specs.Prelude.{◌≡◌, ◌⊎◌, ℕ, ◌<◌, List, length, Option, Some, None, slice_get, option_map, option_and_then, if◌then◌else◌, nat_le}
 use Rattle.std.specs.Option.{option_flatten, option_zip}
 use Rattle.rc_text.specs.declared.types.Span.{Span}
-use Rattle.rc_text.specs.declared.types.PatternID.{PatternID}
-use Rattle.rc_text.specs.declared.types.Match.{Match}
+use Rattle.rc_text.specs.Found.{Found}
 use Rattle.rc_captures.specs.Names.{Names, IsSlotOf, slots, slot_len, implicit_slot_len, to_index}
 use Rattle.rc_captures.specs.Groups.{names_of}
 use Rattle.rc_captures.specs.declared.captures.Captures.{Captures}
@@ -14,7 +13,7 @@ captures_names c = names_of c.info
 
 -- the pattern that matched
 abbrev pub captures_pattern : Captures → Option ℕ
-captures_pattern c = option_map (λ p. p.index) c.pattern
+captures_pattern c = c.pattern
 
 -- the slots that are kept
 abbrev pub captures_slots : Captures → List (Option ℕ)
@@ -37,12 +36,12 @@ abbrev pub named_span : Captures → List ℕ → Option Span
 named_span c name = option_and_then (λ p. option_and_then (group_span c) (to_index (captures_names c) p name)) (captures_pattern c)
 
 -- the match of a pattern at a span; a start above the end makes none
-abbrev pub match_at : PatternID → Span → Option Match
-match_at p s = if nat_le s.start s.end then Some (record { pattern = p; span = s }) else None
+abbrev pub match_at : ℕ → Span → Option Found
+match_at p s = if nat_le s.start s.end then Some (record { pattern = p; start = s.start; end = s.end }) else None
 
 -- the pattern that matched with the span of its group 0
-abbrev pub match_of : Captures → Option Match
-match_of c = option_and_then (λ p. option_and_then (match_at p) (group_span c 0)) c.pattern
+abbrev pub match_of : Captures → Option Found
+match_of c = option_and_then (λ p. option_and_then (match_at p) (group_span c 0)) (captures_pattern c)
 
 -- The captures are of patterns with these names: they keep all slots, or those of the whole matches alone.
 pub record IsCapturesFor (names : Names) (c : Captures) : Type 0 where

@@ -45,7 +45,7 @@ impl Captures {
 
     /// The pattern that matched; `None` without a match.
     pub fn pattern(&self) -> Option<PatternID>
-        ensures { option_map (λ p. p.index) result ≡ captures_pattern self.now }
+        ensures { result ≡ captures_pattern self.now }
     {
         self.pattern
     }
@@ -125,7 +125,7 @@ fn empty(alloc: Global, info: &GroupInfo, len: usize) -> Result<Captures, AllocE
 /// Makes it the pattern that matched. The slots stay.
 pub fn set_pattern(caps: &mut Captures, pattern: Option<PatternID>)
     ensures names { captures_names caps.new ≡ captures_names caps.old }
-    ensures pattern { captures_pattern caps.new ≡ option_map (λ p. p.index) pattern }
+    ensures pattern { captures_pattern caps.new ≡ pattern }
     ensures slots { captures_slots caps.new ≡ captures_slots caps.old }
     ensures made { (names : Names) → IsCapturesFor names caps.old → IsCapturesFor names caps.new }
 {

@@ -45,7 +45,7 @@ impl GroupInfo {
 
     /// How many groups the pattern has, group 0 among them; 0 where there is no such pattern.
     pub fn group_len(&self, pattern: PatternID) -> usize
-        ensures { result ≡ group_len (names_of self.now) pattern.index }
+        ensures { result ≡ group_len (names_of self.now) pattern }
     {
         match self.explicit(pattern) {
             Some(names) => names.len() + 1,
@@ -58,7 +58,7 @@ impl GroupInfo {
     /// The whole match of pattern p stands in the slots 2p and 2p + 1. The explicit groups' slots follow, by pattern
     /// and then by number.
     pub fn slots(&self, pattern: PatternID, group: usize) -> Option<(usize, usize)>
-        ensures { result ≡ slots (names_of self.now) pattern.index group }
+        ensures { result ≡ slots (names_of self.now) pattern group }
     {
         if group >= self.group_len(pattern) {
             return None;
@@ -70,7 +70,7 @@ impl GroupInfo {
     /// The group of that name, from 1 on; the first one where several have it, and `None` where none has it or there
     /// is no such pattern.
     pub fn to_index(&self, pattern: PatternID, name: &str) -> Option<usize>
-        ensures { result ≡ to_index (names_of self.now) pattern.index name.now }
+        ensures { result ≡ to_index (names_of self.now) pattern name.now }
     {
         let names = self.explicit(pattern)?;
         let before = position_of(names, name)?;
@@ -79,7 +79,7 @@ impl GroupInfo {
 
     /// The name of a group; `None` where it has none, or there is no such pattern or group.
     pub fn to_name(&self, pattern: PatternID, group: usize) -> Option<&str>
-        ensures { option_copied result ≡ to_name (names_of self.now) pattern.index group }
+        ensures { option_copied result ≡ to_name (names_of self.now) pattern group }
     {
         let names = self.explicit(pattern)?;
         match names.get(group.checked_sub(1)?)? {
@@ -90,7 +90,7 @@ impl GroupInfo {
 
     /// The names of a pattern's explicit groups.
     fn explicit(&self, pattern: PatternID) -> Option<&[Option<String>]>
-        ensures { option_map (λ gs. map (option_map string_bytes) gs.now) result ≡ slice_get (names_of self.now) pattern.index }
+        ensures { option_map (λ gs. map (option_map string_bytes) gs.now) result ≡ slice_get (names_of self.now) pattern }
     {
         match self.table.names.get(pattern.as_usize()) {
             Some(names) => Some(names.as_slice()),

@@ -3,3 +3,7 @@ pub mod Meaning
 pub mod WellFormed
 pub mod Weight
 pub mod Properties
+pub mod Dots
+pub mod Groups
+pub mod LookSets
+pub mod PropertiesOf

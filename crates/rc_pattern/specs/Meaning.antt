@@ -106,6 +106,7 @@ alt_rest _ = []
 
 -- what a member stands for in an alternation: an alternation gives its members
 abbrev pub alt_members : Re → List Re
+alt_members none = []
 alt_members (alt a rest) = a ∷ alt_rest rest
 alt_members a = a ∷ []
 

@@ -1,4 +1,5 @@
 //! Patterns as trees, and what is known of them.
 #![tactic(auto)]
 
+pub mod check;
 pub mod hir;

@@ -1,4 +1,4 @@
-use Rattle.std.specs.Prelude.{◌≡◌, ℕ, ◌+◌, ◌-◌, ◌<◌, ◌≤◌, ◌⊎◌, ◌||◌, min, max, cond, nat_lt, List, [], length, Bool, Option, Some, None, slice_range, slice_index, slice_get, nat_le, true}
+use Rattle.std.specs.Prelude.{◌≡◌, ℕ, ◌+◌, ◌-◌, ◌<◌, ◌≤◌, ◌⊎◌, ◌||◌, min, max, if◌then◌else◌, nat_lt, nat_le, List, [], length, drop, Bool, true, Option, Some, None, slice_get, slice_range, slice_index}
 use Rattle.rc_text.specs.declared.types.Span.{Span}
 use Rattle.rc_text.specs.declared.types.Anchored.{Anchored}
 
@@ -16,7 +16,9 @@ pub record Searched : Type 0 where
   pub anchored : Anchored
   pub earliest : Bool
 
--- t is s, save for the chunk that is shown and the position
+-- What may change from s to t.
+
+-- the shown chunk and the position alone
 pub record Keeps (s t : Searched) : Type 0 where
   pub content : t.content ≡ s.content
   pub span : t.span ≡ s.span
@@ -24,60 +26,94 @@ pub record Keeps (s t : Searched) : Type 0 where
   pub anchored : t.anchored ≡ s.anchored
   pub earliest : t.earliest ≡ s.earliest
 
--- the chunk that s shows contains the byte p
-pub record ShowsByte (s : Searched) (p : ℕ) : Type 0 where
-  pub low : s.offset ≤ p
-  pub high : p < s.offset + length s.chunk
+-- the shown chunk alone
+abbrev pub Stays : Searched → Searched → Type 0
+Stays s t = Keeps s t × (t.position ≡ s.position)
 
--- where a total is not known, the greatest usize
-abbrev pub end_of : Option ℕ → ℕ
-end_of None = 18446744073709551615
-end_of (Some n) = n
-
--- where an input stands after a new span from start to end
-abbrev pub placed : Searched → (start end : ℕ) → ℕ
-placed s start end =
-    cond (nat_lt s.position start) (min start (length s.content))
-    (cond (nat_lt s.span.end s.span.start) s.position (cond (nat_lt end s.position) end s.position))
-
--- t is s, save for the chunk that is shown, the position and the span
+-- the shown chunk, the position, the span and the slice
 pub record KeepsText (s t : Searched) : Type 0 where
   pub content : t.content ≡ s.content
   pub anchored : t.anchored ≡ s.anchored
   pub earliest : t.earliest ≡ s.earliest
 
--- where the slice's bytes around the position begin and end
-abbrev pub around_from : Searched → ℕ
-around_from s = max s.slice.start (s.position - 4)
+-- Positions.
 
-abbrev pub around_to : Searched → ℕ
-around_to s = min (min s.slice.end (s.position + 4)) (length s.content)
+-- the shown chunk has the byte p
+pub record ShowsByte (s : Searched) (p : ℕ) : Type 0 where
+  pub low : s.offset ≤ p
+  pub high : p < s.offset + length s.chunk
 
--- the position is outside the slice
-abbrev pub is_outside : Searched → Bool
-is_outside s = nat_lt s.position s.slice.start || nat_lt s.slice.end s.position
+-- where a new input's span ends: at the total, or at the greatest usize where it is unknown
+abbrev pub end_of : Option ℕ → ℕ
+end_of None = 18446744073709551615
+end_of (Some n) = n
 
--- the slice's bytes from four before the position to four after it
-abbrev pub around_bytes : Searched → List ℕ
-around_bytes s = cond (is_outside s) [] (slice_range s.content (around_from s) (around_to s))
+-- where the position goes as a span from start to end is set
+abbrev pub placed : Searched → (start end : ℕ) → ℕ
+placed s start end =
+    if nat_lt s.position start then min start (length s.content)
+    else (if nat_lt s.span.end s.span.start then s.position
+    else (if nat_lt end s.position then end else s.position))
 
--- the place of the position among them
-abbrev pub around_place : Searched → ℕ
-around_place s = cond (is_outside s) 0 (s.position - around_from s)
+-- Bounds.
 
--- p is where a character may begin, or the end
+-- where a search begins
+abbrev pub low : Searched → ℕ
+low s = max s.span.start s.slice.start
+
+-- where it ends
+abbrev pub high : Searched → ℕ
+high s = min (min s.span.end s.slice.end) (length s.content)
+
+-- where the slice's bytes end
+abbrev pub slice_end : Searched → ℕ
+slice_end s = min s.slice.end (length s.content)
+
+-- Boundaries.
+
+-- p is the end, or the byte there may begin a character
 abbrev pub IsBoundary : List ℕ → ℕ → Type 0
 IsBoundary content p = (p ≡ length content) ⊎ ((p < length content) × ((slice_index content p ≤ 127) ⊎ (192 ≤ slice_index content p)))
 
--- t is s, save for the chunk that is shown
-abbrev pub Stays : Searched → Searched → Type 0
-Stays s t = Keeps s t × (t.position ≡ s.position)
-
--- the byte begins a scalar
+-- the byte may begin a character, or there is none
 abbrev pub begins_scalar : Option ℕ → Bool
 begins_scalar None = true
-begins_scalar (Some b) = nat_le b 127 || nat_le 192 b
+begins_scalar (Some byte) = nat_le byte 127 || nat_le 192 byte
 
--- p is the content's end, or a scalar begins there
+-- the same as a test: up to the end it is true exactly where p is a boundary, and past it always
 abbrev pub is_boundary : List ℕ → ℕ → Bool
 is_boundary content p = begins_scalar (slice_get content p)
+
+-- What stands around a position.
+
+-- the slice's bytes before p
+abbrev pub bytes_before : Searched → ℕ → List ℕ
+bytes_before s p = slice_range s.content s.slice.start p
+
+-- the slice's bytes from p on
+abbrev pub bytes_after : Searched → ℕ → List ℕ
+bytes_after s p = slice_range s.content p (slice_end s)
+
+-- the last n of the bytes, or all where there are fewer
+abbrev pub last_bytes : ℕ → List ℕ → List ℕ
+last_bytes n bytes = drop (length bytes - n) bytes
+
+-- p is outside the slice
+abbrev pub is_outside : Searched → ℕ → Bool
+is_outside s p = nat_lt p s.slice.start || nat_lt s.slice.end p
+
+-- four bytes before p, or the slice's start
+abbrev pub around_start : Searched → ℕ → ℕ
+around_start s p = max s.slice.start (p - 4)
+
+-- four bytes after p, or the end of the slice's bytes
+abbrev pub around_end : Searched → ℕ → ℕ
+around_end s p = min (p + 4) (slice_end s)
+
+-- the slice's bytes from four before p to four after it, and none where p is outside
+abbrev pub around_bytes_at : Searched → ℕ → List ℕ
+around_bytes_at s p = if is_outside s p then [] else slice_range s.content (around_start s p) (around_end s p)
+
+-- the place of p among them
+abbrev pub around_place_at : Searched → ℕ → ℕ
+around_place_at s p = if is_outside s p then 0 else p - around_start s p

@@ -1,28 +1,37 @@
-//! The plain types of searches.
-ghost use Rattle.std.specs.Prelude.{◌≡◌, ℕ, ◌+◌, ◌-◌, ◌<◌, ◌≤◌, ◌↔◌, IsTrue, Some, None, Option, MatchOption, SomeIff};
+//! The plain types of searches: spans, patterns' numbers, matches, anchoring and errors.
+ghost use Rattle.std.specs.Prelude.{◌≡◌, ◌+◌, ◌-◌, ◌≤◌, ◌↔◌, IsTrue, SomeIff};
 
+use std::marker::Model;
 use std::ops::Range;
+use thiserror::Error;
 
-/// From `start` to `end`.
+/// A range of positions, in bytes of a content: from `start` on, up to and without `end`.
+///
+/// Nothing orders the two. Where `start` is at least `end`, the span is empty.
 #[derive(Clone, Copy, Debug, PartialEq, Eq, Hash)]
 pub struct Span {
+    /// Where it begins, in bytes.
     pub start: usize,
+    /// Where it ends, in bytes.
     pub end: usize,
 }
 
 impl Span {
+    /// The number of its bytes, which is 0 where `start` is above `end`.
     pub fn len(&self) -> usize
         ensures { result ≡ self.now.end - self.now.start }
     {
         self.end.saturating_sub(self.start)
     }
 
+    /// Whether `start` is at least `end`.
     pub fn is_empty(&self) -> bool
-        ensures { IsTrue result ↔ self.now.end ≤ self.now.start }
+        ensures { IsTrue result ↔ (self.now.end ≤ self.now.start) }
     {
         self.start >= self.end
     }
 
+    /// The range `start..end`.
     pub fn range(&self) -> Range<usize>
         ensures start { result.start ≡ self.now.start }
         ensures end { result.end ≡ self.now.end }
@@ -31,19 +40,37 @@ impl Span {
     }
 }
 
-/// The number of a pattern.
+/// The greatest number of a pattern.
+const MAX_PATTERN: u32 = 2_147_483_646;
+
+/// The number of a pattern in its list, from 0 to 2,147,483,646. Contracts see it as that number.
 #[derive(Clone, Copy, Debug, PartialEq, Eq, PartialOrd, Ord, Hash)]
 pub struct PatternID {
     index: u32,
 }
 
+impl Model for PatternID {
+    ghost use Rattle.std.specs.Prelude.{ℕ, ◌≤◌};
+    ghost use Rattle.rc_text.specs.declared.types.TheConstants.{MAX_PATTERN};
+
+    ghost Value = { ℕ };
+
+    ghost view = { λ p. p.index };
+
+    ghost invariant = { λ p. p.index ≤ MAX_PATTERN };
+
+    ghost inverse = { λ n. record { index = n } };
+}
+
 impl PatternID {
+    /// The number of the first pattern.
     pub const ZERO: PatternID = PatternID { index: 0 };
 
+    /// The pattern with this number, or None above 2,147,483,646.
     pub fn new(index: usize) -> Option<PatternID>
-        ensures { MatchOption result (2147483646 < index) (λ p. p.index ≡ index) }
+        ensures { SomeIff result (index ≤ MAX_PATTERN) index }
     {
-        if index <= 2147483646 {
+        if index <= MAX_PATTERN as usize {
             Some(PatternID {
                 index: index as u32,
             })
@@ -52,94 +79,134 @@ impl PatternID {
         }
     }
 
+    /// The number, at most 2,147,483,646.
     pub fn as_usize(&self) -> usize
-        ensures value { result ≡ self.now.index }
+        ensures value { result ≡ self.now }
+        ensures small { result ≤ MAX_PATTERN }
     {
         self.index as usize
     }
 }
 
-/// A match of a pattern.
+/// A match: its pattern and its span, whose start is at most its end.
 #[derive(Clone, Copy, Debug, PartialEq, Eq, Hash)]
 pub struct Match {
     pattern: PatternID,
     span: Span,
 }
 
+impl Model for Match {
+    ghost use Rattle.std.specs.Prelude.{◌≤◌};
+    ghost use Rattle.rc_text.specs.Found.{Found};
+
+    ghost Value = { Found };
+
+    ghost view = { λ m. record { pattern = m.pattern; start = m.span.start; end = m.span.end } };
+
+    ghost invariant = { λ m. m.span.start ≤ m.span.end };
+
+    ghost inverse = { λ f. record {
+      pattern = f.pattern;
+      span = record { start = f.start; end = f.end };
+    } };
+}
+
 impl Match {
+    /// The match of a pattern at a span. The span's start has to be at most its end.
     pub fn new(pattern: PatternID, span: Span) -> Match
         requires { span.start ≤ span.end }
-        ensures pattern { result.pattern ≡ pattern }
-        ensures span { result.span ≡ span }
+        ensures { result ≡ record { pattern = pattern; start = span.start; end = span.end } }
     {
         Match { pattern, span }
     }
 
+    /// The pattern that matched.
     pub fn pattern(&self) -> PatternID
-        ensures { result ≡ self.now.pattern }
+        ensures value { result ≡ self.now.pattern }
     {
         self.pattern
     }
 
+    /// Where it begins, in bytes: at most where it ends.
     pub fn start(&self) -> usize
-        ensures { result ≡ self.now.span.start }
+        ensures value { result ≡ self.now.start }
+        ensures ordered { result ≤ self.now.end }
     {
         self.span.start
     }
 
+    /// Where it ends, in bytes: at least where it begins.
     pub fn end(&self) -> usize
-        ensures value { result ≡ self.now.span.end }
+        ensures value { result ≡ self.now.end }
+        ensures ordered { self.now.start ≤ result }
     {
         self.span.end
     }
 
+    /// Its span, whose start is at most its end.
     pub fn span(&self) -> Span
-        ensures value { result ≡ self.now.span }
+        ensures value { result ≡ record { start = self.now.start; end = self.now.end } }
+        ensures ordered { result.start ≤ result.end }
     {
         self.span
     }
 
+    /// The number of its bytes.
     pub fn len(&self) -> usize
-        ensures { result ≡ self.now.span.end - self.now.span.start }
+        ensures { self.now.start + result ≡ self.now.end }
     {
         self.span.len()
     }
 
+    /// Whether it has no byte.
     pub fn is_empty(&self) -> bool
-        ensures { IsTrue result ↔ self.now.span.end ≤ self.now.span.start }
+        ensures { IsTrue result ↔ (self.now.start ≡ self.now.end) }
     {
         self.span.is_empty()
     }
 
+    /// The range from where it begins to where it ends.
     pub fn range(&self) -> Range<usize>
-        ensures start { result.start ≡ self.now.span.start }
-        ensures end { result.end ≡ self.now.span.end }
+        ensures start { result.start ≡ self.now.start }
+        ensures end { result.end ≡ self.now.end }
     {
         self.span.range()
     }
 }
 
-/// The pattern and the end of a match.
+/// One side of a match: its pattern, and where it ends, or for a search backwards where it begins.
 #[derive(Clone, Copy, Debug, PartialEq, Eq, Hash)]
 pub struct HalfMatch {
     pattern: PatternID,
     offset: usize,
 }
 
+impl Model for HalfMatch {
+    ghost use Rattle.rc_text.specs.Found.{HalfFound};
+
+    ghost Value = { HalfFound };
+
+    ghost view = { λ m. record { pattern = m.pattern; offset = m.offset } };
+
+    ghost inverse = { λ f. record { pattern = f.pattern; offset = f.offset } };
+}
+
 impl HalfMatch {
+    /// The half match of a pattern at an offset, in bytes.
     pub fn new(pattern: PatternID, offset: usize) -> HalfMatch
-        ensures pattern { result.pattern ≡ pattern }
-        ensures offset { result.offset ≡ offset }
+        ensures { result ≡ record { pattern = pattern; offset = offset } }
     {
         HalfMatch { pattern, offset }
     }
 
+    /// The pattern that matched.
     pub fn pattern(&self) -> PatternID
         ensures { result ≡ self.now.pattern }
     {
         self.pattern
     }
 
+    /// Where the match ends, or for a search backwards where it begins, in bytes.
     pub fn offset(&self) -> usize
         ensures { result ≡ self.now.offset }
     {
@@ -147,19 +214,23 @@ impl HalfMatch {
     }
 }
 
-/// Where matches may start, and of which pattern.
+/// Where a match may begin, and of which pattern.
 #[derive(Clone, Copy, Debug, PartialEq, Eq)]
 pub enum Anchored {
+    /// Anywhere, of any pattern.
     No,
+    /// Where the search begins, of any pattern.
     Yes,
+    /// Where the search begins, of this pattern alone.
     Pattern(PatternID),
 }
 
 impl Anchored {
-    ghost use Rattle.rc_text.specs.Plain.{IsAnchoring, pattern_of};
+    ghost use Rattle.rc_text.specs.Plain.{is_anchored, only_pattern};
 
+    /// Whether a match may begin only where the search does.
     pub fn is_anchored(&self) -> bool
-        ensures { IsTrue result ↔ IsAnchoring self.now }
+        ensures { result ≡ is_anchored self.now }
     {
         match self {
             Anchored::No => false,
@@ -167,38 +238,43 @@ impl Anchored {
         }
     }
 
+    /// The only pattern that may match, or None where each may.
     pub fn pattern(&self) -> Option<PatternID>
-        ensures { result ≡ pattern_of self.now }
+        ensures { result ≡ only_pattern self.now }
     {
         match self {
-            Anchored::Pattern(p) => Some(*p),
-            _ => None,
+            Anchored::No | Anchored::Yes => None,
+            Anchored::Pattern(pattern) => Some(*pattern),
         }
     }
 }
 
-/// Which match is meant.
+/// Which match is the answer.
 #[derive(Clone, Copy, Debug, PartialEq, Eq)]
 pub enum MatchKind {
+    /// The one with the greatest end, then the least start, then the first pattern.
     All,
+    /// The one with the least start, and there the one that the pattern prefers.
     LeftmostFirst,
 }
 
 /// Why a search has no answer.
-#[derive(Clone, Copy, Debug, PartialEq, Eq)]
+#[derive(Clone, Copy, Debug, PartialEq, Eq, Error)]
 pub enum MatchError {
-    Quit { byte: u8, offset: usize },
-    GaveUp { offset: usize, memory: bool },
-}
-
-pub fn same(a: Match, b: Match) -> bool
-    ensures { IsTrue result ↔ a ≡ b }
-{
-    a == b
-}
-
-pub fn less(a: PatternID, b: PatternID) -> bool
-    ensures { IsTrue result ↔ a.index < b.index }
-{
-    a < b
+    /// It met a byte that it cannot go past.
+    #[error("the search quit at the byte {byte}, at offset {offset}")]
+    Quit {
+        /// The byte.
+        byte: u8,
+        /// Where that byte stands, in bytes of the content.
+        offset: usize,
+    },
+    /// It gave up.
+    #[error("the search gave up at offset {offset} (out of memory: {memory})")]
+    GaveUp {
+        /// How far it came, in bytes of the content.
+        offset: usize,
+        /// Whether this was for want of memory.
+        memory: bool,
+    },
 }

@@ -1,0 +1,9 @@
+pub mod FoldLemmas
+pub mod JoinLemmas
+pub mod WellFormedLemmas
+pub mod WeightLemmas
+pub mod NameLemmas
+pub mod LookLemmas
+pub mod LengthLemmas
+pub mod KnownLemmas
+mod Examples

@@ -1,0 +1,47 @@
+use Rattle.std.proofs.Common.{◌≡◌, List, ◌++◌, ◌∷◌, [], map, sym, ap, ◌∙◌, arith, refl}
+use Rattle.std.proofs.lemmas.List.{map-append, nil_from_length}
+use Rattle.std.proofs.lemmas.Result.{on_ok_weaker}
+use Rattle.rc_pattern.specs.Re.{Re, literal}
+use Rattle.rc_pattern.specs.Meaning.{meaning, kind_meaning, joined}
+use Rattle.rc_pattern.specs.declared.hir.Hir.{Hir}
+use Rattle.rc_pattern.specs.declared.hir.HirKind.TheVariants as HirKind
+use Rattle.rc_pattern.proofs.FoldLemmas.{meaning_of_hir, kind_Literal}
+use Rattle.rc_pattern.proofs.JoinLemmas.{node_other, join_first, join_literals, join_behind_other}
+use Rattle.rc_pattern.proofs.hir.members.append_literal.Goals as goal
+
+pub returns-in_default : goal.returns-in_default
+returns-in_default c =
+    let none : c.pop.new.self.items ≡ [] = nil_from_length c.pop.new.self.items (omega (arith, c.in_default.ensures.cases, c.pop.new.self.ok.0)) in
+    let old : c.args.members.now.items ≡ [] = c.in_default.ensures.items ∙ ap (λ (xs : List Hir). xs ++ []) none in
+    on_ok_weaker c.put.result
+    (λ e xs f. e ∙ ap (λ (ys : List Hir). map meaning ys ++ kind_meaning (HirKind.Literal c.args.bytes) ∷ []) none
+      ∙ ap (λ (m : Re). m ∷ []) (kind_Literal c.args.bytes)
+      ∙ join_first xs (literal c.args.bytes.items) (sym (ap (map meaning) old) ∙ f))
+    c.put.ensures
+
+pub returns-in_ok-append-in-Literal : goal.returns-in_ok-append-in-Literal
+returns-in_ok-append-in-Literal c =
+    let rest = map meaning c.pop.new.self.items in
+    let last = c.in-Some.field-0 in
+    let before = c.in-Literal.before.items in
+    let old : map meaning c.args.members.now.items ≡ rest ++ literal before ∷ [] =
+      ap (map meaning) c.in-Some.ensures.items ∙ map-append meaning c.pop.new.self.items (last ∷ [])
+      ∙ ap (λ (m : Re). rest ++ m ∷ []) (meaning_of_hir last ∙ ap kind_meaning c.in-Literal.is ∙ kind_Literal c.in-Literal.before) in
+    on_ok_weaker c.put-in-Literal.result
+    (λ e xs f. e ∙ ap (λ (m : Re). rest ++ m ∷ []) (kind_Literal c.append.new.self ∙ ap literal c.in_ok-append-in-Literal.ensures.items)
+      ∙ join_literals xs rest before c.args.bytes.items (sym old ∙ f))
+    c.put-in-Literal.ensures
+
+pub returns-in_ok-put-in_default-kind : goal.returns-in_ok-put-in_default-kind
+returns-in_ok-put-in_default-kind c =
+    let rest = map meaning c.pop.new.self.items in
+    let last = c.in-Some.field-0 in
+    let bytes = c.args.bytes in
+    let old : map meaning c.args.members.now.items ≡ rest ++ kind_meaning last.kind ∷ [] =
+      ap (map meaning) c.in-Some.ensures.items ∙ map-append meaning c.pop.new.self.items (last ∷ [])
+      ∙ ap (λ (m : Re). rest ++ m ∷ []) (meaning_of_hir last) in
+    on_ok_weaker c.put-in_default-kind-2.result
+    (λ e xs f. e ∙ ap (λ (ys : List Re). ys ++ kind_meaning (HirKind.Literal bytes) ∷ []) c.in_ok-put-in_default-kind.ensures
+      ∙ ap (λ (m : Re). (rest ++ kind_meaning last.kind ∷ []) ++ m ∷ []) (kind_Literal bytes)
+      ∙ join_behind_other xs rest (kind_meaning last.kind) (literal bytes.items) (node_other last.kind c.in_default-kind.not-Literal) (sym old ∙ f))
+    c.put-in_default-kind-2.ensures

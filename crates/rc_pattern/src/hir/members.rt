@@ -1,0 +1,114 @@
+//! The members of concatenations and alternations.
+
+ghost use Rattle.std.specs.Prelude.{◌≡◌, List, ◌++◌, ◌∷◌, [], IfOk, OnOk, map};
+ghost use Rattle.std.specs.List.{flat_map};
+ghost use Rattle.rc_pattern.specs.Re.{Re, literal};
+ghost use Rattle.rc_pattern.specs.Meaning.{meaning, kind_meaning, cat_members, alt_members, joined};
+
+use super::{Hir, HirKind};
+use std::alloc::{AllocError, Global};
+
+fn put(members: &mut Vec<Hir>, kind: HirKind) -> Result<(), AllocError>
+    ensures { OnOk result (map meaning members.new.items ≡ map meaning members.old.items ++ kind_meaning kind ∷ []) }
+{
+    members.push(Hir { kind })?;
+    Ok(())
+}
+
+/// Appends what the pattern stands for in a concatenation.
+fn put_cat_members(members: &mut Vec<Hir>, sub: Hir) -> Result<(), AllocError>
+    ensures { OnOk result (map meaning members.new.items ≡ map meaning members.old.items ++ cat_members (meaning sub)) }
+{
+    let Hir { kind } = sub;
+    match kind {
+        HirKind::Empty => Ok(()),
+        HirKind::Concat(subs) => {
+            let mut subs = subs;
+            members.append(&mut subs)?;
+            Ok(())
+        }
+        kind => put(members, kind),
+    }
+}
+
+/// Appends a literal, joined to the last member where that is one too.
+fn append_literal(members: &mut Vec<Hir>, bytes: Vec<u8>) -> Result<(), AllocError>
+    ensures { OnOk result ((xs : List Re) → map meaning members.old.items ≡ joined xs
+        → map meaning members.new.items ≡ joined (xs ++ literal bytes.items ∷ [])) }
+{
+    let Some(Hir { kind }) = members.pop() else {
+        return put(members, HirKind::Literal(bytes));
+    };
+    match kind {
+        HirKind::Literal(before) => {
+            let mut before = before;
+            let mut bytes = bytes;
+            before.append(&mut bytes)?;
+            put(members, HirKind::Literal(before))
+        }
+        kind => {
+            put(members, kind)?;
+            put(members, HirKind::Literal(bytes))
+        }
+    }
+}
+
+/// Appends a member, where neighbouring literals are joined.
+fn append(members: &mut Vec<Hir>, member: Hir) -> Result<(), AllocError>
+    ensures { OnOk result ((xs : List Re) → map meaning members.old.items ≡ joined xs
+        → map meaning members.new.items ≡ joined (xs ++ meaning member ∷ [])) }
+{
+    let Hir { kind } = member;
+    match kind {
+        HirKind::Literal(bytes) => append_literal(members, bytes),
+        kind => put(members, kind),
+    }
+}
+
+/// Appends what the pattern stands for in an alternation.
+fn put_alt_members(members: &mut Vec<Hir>, sub: Hir) -> Result<(), AllocError>
+    ensures { OnOk result (map meaning members.new.items ≡ map meaning members.old.items ++ alt_members (meaning sub)) }
+{
+    let Hir { kind } = sub;
+    match kind {
+        HirKind::Alternation(subs) => {
+            let mut subs = subs;
+            members.append(&mut subs)?;
+            Ok(())
+        }
+        kind => put(members, kind),
+    }
+}
+
+/// The members of an alternation of these patterns.
+pub(super) fn all_alt_members(alloc: Global, subs: Vec<Hir>) -> Result<Vec<Hir>, AllocError>
+    ensures { IfOk result (λ members. map meaning members.items ≡ flat_map alt_members (map meaning subs.items)) }
+{
+    let mut members = Vec::new(alloc);
+    for sub in subs {
+        put_alt_members(&mut members, sub)?;
+    }
+    Ok(members)
+}
+
+/// The members of a concatenation of these patterns, but for the joining of literals.
+pub(super) fn all_cat_members(alloc: Global, subs: Vec<Hir>) -> Result<Vec<Hir>, AllocError>
+    ensures { IfOk result (λ members. map meaning members.items ≡ flat_map cat_members (map meaning subs.items)) }
+{
+    let mut members = Vec::new(alloc);
+    for sub in subs {
+        put_cat_members(&mut members, sub)?;
+    }
+    Ok(members)
+}
+
+/// The members with neighbouring literals joined.
+pub(super) fn joined_literals(alloc: Global, members: Vec<Hir>) -> Result<Vec<Hir>, AllocError>
+    ensures { IfOk result (λ all. map meaning all.items ≡ joined (map meaning members.items)) }
+{
+    let mut all = Vec::new(alloc);
+    for member in members {
+        append(&mut all, member)?;
+    }
+    Ok(all)
+}

@@ -1,0 +1,46 @@
+-- The moves of a cursor over chunks.
+use Rattle.std.proofs.Common.{◌≡◌, ℕ, ◌+◌, ◌-◌, ◌<◌, List, [], length, take, drop, ap, sym, ◌∙◌, refl, arith, length-append}
+use Rattle.std.specs.Borrow.{Bor}
+use Rattle.std.proofs.lemmas.List.{nil_from_length}
+use Rattle.rc_text.specs.Joined.{joined, chunk_at, IsChunk, IsNextFilled, IsLastFilled}
+use Rattle.rc_text.proofs.Joins.{joined-parts, joined-drop, next_start}
+
+-- where there is no byte, each chunk is empty
+pub no_bytes : (xs : List (Bor (List ℕ))) → length (joined xs) ≡ 0 → IsChunk xs 0 0 []
+no_bytes xs h = record {
+  is = sym (nil_from_length (chunk_at xs 0) (omega (arith, h, simp length-append at (ap length (joined-drop xs 0)))));
+  start = refl;
+  some = λ _. h;
+}
+
+-- the first chunk with a byte begins at 0
+pub first_filled : (xs : List (Bor (List ℕ))) (index : ℕ) (chunk : List ℕ) → IsNextFilled xs 0 index chunk → IsChunk xs index 0 chunk
+first_filled xs index chunk h = record {
+  is = h.is;
+  start = ap length (sym h.between);
+  some = λ e. absurd (omega (arith, h.some, e));
+}
+
+module _ (xs : List (Bor (List ℕ))) (i offset : ℕ) (chunk : List ℕ) (c : IsChunk xs i offset chunk) where
+  -- where a chunk does not end the content, a byte stands in a chunk after it
+  pub some_after : (total : ℕ) → total ≡ length (joined xs) → (offset + length chunk ≡ total → ⊥) → 0 < length (joined (drop (i + 1) xs))
+  some_after total e h = omega (arith, e, h, next_start xs i offset chunk c, simp length-append at (ap length (joined-parts xs (i + 1))))
+
+  -- the next chunk with a byte begins where this one ends
+  pub next_is : (index : ℕ) (next : List ℕ) → IsNextFilled xs (i + 1) index next → IsChunk xs index (offset + length chunk) next
+  next_is index next h = record {
+    is = h.is;
+    start = next_start xs i offset chunk c ∙ ap length (sym h.between);
+    some = λ e. absurd (omega (arith, h.some, e));
+  }
+
+  -- the last chunk with a byte before this one ends where this one begins
+  pub last_ends : (index : ℕ) (last : List ℕ) → IsLastFilled xs i index last → offset ≡ length (joined (take index xs)) + length last
+  last_ends index last h = omega (arith, c.start, simp length-append at (ap length h.between))
+
+  pub last_is : (index : ℕ) (last : List ℕ) → IsLastFilled xs i index last → IsChunk xs index (offset - length last) last
+  last_is index last h = record {
+    is = h.is;
+    start = omega (arith, last_ends index last h);
+    some = λ e. absurd (omega (arith, h.some, e));
+  }
