@@ -1,6 +1,5 @@
 -- The definitions, run on worked rows.
 use Rattle.std.proofs.Common.{◌≡◌, ℕ, List, [], ◌∷◌, Option, Some, None, refl, codes}
-use Rattle.rc_text.specs.declared.types.Span.{Span}
 use Rattle.rc_captures.specs.Names.{Names, slot_len, implicit_slot_len, group_len, slots, to_index, to_name}
 use Rattle.rc_captures.specs.Captures.{slot_value, span_of}
 

@@ -1,8 +1,7 @@
 -- Names and groups find one another.
-use Rattle.std.proofs.Common.{◌≡◌, ◌≢◌, ◌⊎◌, inl, inr, ◌↔◌, ℕ, zero, suc, ◌+◌, ◌<◌, ◌≤◌, Bool, true, false, cond, ltb, Decides, List, [], ◌∷◌, length, get_or, Option, Some, None, slice_get, position, refl, ap, sym, ◌∙◌, subst, arith}
-use Rattle.std.specs.Option.{option_flatten, option_map_or}
+use Rattle.std.proofs.Common.{◌≡◌, ◌≢◌, inl, inr, ◌↔◌, ℕ, zero, suc, ◌<◌, ◌≤◌, false, cond, ltb, Decides, List, [], ◌∷◌, length, get_or, Option, Some, None, slice_get, position, refl, ap, sym, ◌∙◌, arith}
+use Rattle.std.specs.Option.{option_flatten}
 use Rattle.std.specs.List.{position_or_len}
-use Rattle.std.specs.Str.{bytes_eq}
 use Rattle.std.proofs.lemmas.Bool.{cases_lt, false≢true}
 use Rattle.std.proofs.lemmas.Bool.Decides.{nat_tests}
 use Rattle.std.proofs.lemmas.List.{get_or_past}
@@ -37,8 +36,8 @@ none_of_name : (xs : List (Option (List ℕ))) (name : List ℕ) (k : ℕ) → p
 none_of_name xs name k is =
     let past = no_place (position_or_len (λ o. is_named o name) xs) (length xs) is in
     elim (cases_lt k (length xs)) [
-      inl l ↦ fails (get_or xs k None) name (fails_before_first (λ o. is_named o name) xs k None (omega arith))
-    | inr r ↦ λ e. absurd (let none = get_or_past xs k None r in cc)
+      | inl l ↦ fails (get_or xs k None) name (fails_before_first (λ o. is_named o name) xs k None (omega arith))
+      | inr r ↦ λ e. absurd (let none = get_or_past xs k None r in cc)
     ]
 
 -- a new name stands nowhere

@@ -4,7 +4,7 @@ use Rattle.std.specs.Option.{option_map_or}
 use Rattle.std.proofs.lemmas.Option.{slice_get-map, slice_get-get_or, slice_get_within, get_or_from_slice_get}
 use Rattle.std.proofs.lemmas.List.{length-map}
 use Rattle.std.proofs.lemmas.List.Sums.{sum_by_more, sum_by_more_le}
-use Rattle.rc_captures.specs.Names.{names_in, explicit_len, Names, names_at, slot_len, first_slot, group_len}
+use Rattle.rc_captures.specs.Names.{names_in, explicit_len, Names, slot_len, first_slot, group_len}
 
 -- a group that is there is one of a pattern that is there, and numbered up to its explicit groups
 pub explicit_groups : (names : Names) (p g : ℕ) → g < group_len names p → (gs : List (Option (List ℕ))) × (slice_get names p ≡ Some gs) × (g ≤ length gs)

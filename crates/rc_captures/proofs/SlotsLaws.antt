@@ -1,7 +1,7 @@
 -- Each slot is one group's alone.
-use Rattle.std.proofs.Common.{◌≡◌, ◌≢◌, ◌⊎◌, inl, inr, ◌↔◌, ℕ, zero, suc, ◌+◌, ◌-◌, ◌*◌, ◌/◌, ◌%◌, ◌<◌, ◌≤◌, List, [], ◌∷◌, length, get_or, take, Option, Some, None, slice_get, refl, ap, sym, ◌∙◌, arith}
+use Rattle.std.proofs.Common.{◌≡◌, ◌≢◌, ◌⊎◌, inl, inr, ◌↔◌, ℕ, zero, suc, ◌+◌, ◌-◌, ◌*◌, ◌/◌, ◌%◌, ◌<◌, ◌≤◌, List, [], ◌∷◌, length, get_or, take, Option, Some, slice_get, refl, ap, sym, arith}
 use Rattle.std.proofs.lemmas.Bool.{cases_lt}
-use Rattle.std.proofs.lemmas.List.{take-take, length-take}
+use Rattle.std.proofs.lemmas.List.{take-take}
 use Rattle.std.proofs.lemmas.List.Sums.{sum_by-cons, sum_by_more, sum_by-take-le}
 use Rattle.std.proofs.lemmas.Option.{cond_some, slice_get_within, slice_get-get_or, get_or_from_slice_get}
 use borrow.Author.Tests.{ltb-true}
@@ -52,10 +52,10 @@ apart_by names p (suc g) q zero a b differ =
     let inside = pattern_within names q 0 b in inr (omega arith)
 apart_by names p (suc g) q (suc h) a b differ =
     elim (cases_lt p q) [
-      inl l ↦ let e = explicit_before names p q g l a in inl (omega arith)
-    | inr r ↦ elim (cases_lt q p) [
-        inl l ↦ let e = explicit_before names q p h l b in inr (omega arith)
-      | inr u ↦ apart_within names p g q h (omega arith) differ
+      | inl l ↦ let e = explicit_before names p q g l a in inl (omega arith)
+      | inr r ↦ elim (cases_lt q p) [
+        | inl l ↦ let e = explicit_before names q p h l b in inr (omega arith)
+        | inr u ↦ apart_within names p g q h (omega arith) differ
       ]
     ]
 
@@ -73,7 +73,7 @@ pub slots_whole : (names : Names) (p g : ℕ) (s : ℕ × ℕ) → slots names p
 slots_whole names p g s is = let there = slots_there names p g s is in whole_by names p g s.1 there.0 there.2
 
 -- a group that is there has slots
-slots_from : (names : Names) (p g : ℕ) (gs : List (Option (List ℕ))) → slice_get names p ≡ Some gs → g ≤ length gs → slots names p g ≡ Some (first_slot names p g, first_slot names p g + 1)
+pub slots_from : (names : Names) (p g : ℕ) (gs : List (Option (List ℕ))) → slice_get names p ≡ Some gs → g ≤ length gs → slots names p g ≡ Some (first_slot names p g, first_slot names p g + 1)
 slots_from names p g gs is within = grind arith
 
 -- the explicit group of a number, counted through all patterns
@@ -81,12 +81,12 @@ explicit_at : (names : Names) (n : ℕ) → n < explicit_len names → (p : ℕ)
 explicit_at [] n below = absurd (omega arith)
 explicit_at (gs ∷ names) n below =
     elim (cases_lt n (length gs)) [
-      inl l ↦ (0, n, gs, refl, l, omega arith)
-    | inr r ↦
-        let all = sum_by-cons length gs names in
-        let found = explicit_at names (n - length gs) (omega arith) in
-        let before = sum_by-cons length gs (take found.0 names) in
-        (suc found.0, found.1, found.2, found.3, found.4, omega (arith, found.5))
+      | inl l ↦ (0, n, gs, refl, l, omega arith)
+      | inr r ↦
+          let all = sum_by-cons length gs names in
+          let found = explicit_at names (n - length gs) (omega arith) in
+          let before = sum_by-cons length gs (take found.0 names) in
+          (suc found.0, found.1, found.2, found.3, found.4, omega (arith, found.5))
     ]
 
 -- one of the two slots of a group
@@ -94,8 +94,8 @@ slot_in : (names : Names) (p g k m : ℕ) (gs : List (Option (List ℕ))) → sl
 slot_in names p g k m gs is within same one =
     let slots_are = slots_from names p g gs is within in
     elim one [
-      inl first ↦ (p, (g, (first_slot names p g, first_slot names p g + 1), slots_are, inl (omega arith)))
-    | inr second ↦ (p, (g, (first_slot names p g, first_slot names p g + 1), slots_are, inr (omega arith)))
+      | inl first ↦ (p, (g, (first_slot names p g, first_slot names p g + 1), slots_are, inl (omega arith)))
+      | inr second ↦ (p, (g, (first_slot names p g, first_slot names p g + 1), slots_are, inr (omega arith)))
     ]
 
 halves : (k : ℕ) → (k ≡ 2 * (k / 2)) ⊎ (k ≡ 2 * (k / 2) + 1)
@@ -104,8 +104,8 @@ halves k = elim (cases_lt (k % 2) 1) [ inl even ↦ inl (omega arith) | inr odd 
 pub slots_all : (names : Names) (k : ℕ) → k < slot_len names → (p : ℕ) × IsSlotOf names p k
 slots_all names k below =
     elim (cases_lt (k / 2) (length names)) [
-      inl l ↦ slot_in names (k / 2) 0 k (2 * (k / 2)) (get_or names (k / 2) []) (slice_get-get_or names (k / 2) [] l) (omega arith) refl (halves k)
-    | inr r ↦
-        let found = explicit_at names (k / 2 - length names) (omega arith) in
-        slot_in names found.0 (suc found.1) k (2 * (k / 2)) found.2 found.3 (omega (arith, found.4)) (omega (arith, found.5)) (halves k)
+      | inl l ↦ slot_in names (k / 2) 0 k (2 * (k / 2)) (get_or names (k / 2) []) (slice_get-get_or names (k / 2) [] l) (omega arith) refl (halves k)
+      | inr r ↦
+          let found = explicit_at names (k / 2 - length names) (omega arith) in
+          slot_in names found.0 (suc found.1) k (2 * (k / 2)) found.2 found.3 (omega (arith, found.4)) (omega (arith, found.5)) (halves k)
     ]

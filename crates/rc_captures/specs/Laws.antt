@@ -1,8 +1,8 @@
 -- What holds of all groups and captures.
-use Rattle.std.specs.Prelude.{◌≡◌, ◌≢◌, ◌⊎◌, ◌↔◌, ℕ, ◌+◌, ◌<◌, ◌≤◌, List, length, Option, Some, None, slice_get}
+use Rattle.std.specs.Prelude.{◌≡◌, ◌≢◌, ◌⊎◌, ◌↔◌, ℕ, ◌+◌, ◌*◌, ◌<◌, ◌≤◌, List, length, Option, Some, None, slice_get}
 use Rattle.rc_pattern.specs.WellFormed.{AreDistinct}
 use Rattle.rc_captures.specs.Names.{Names, IsSlotOf, slots, slot_len, implicit_slot_len, to_index, to_name}
-use Rattle.rc_captures.specs.Captures.{captures_names, captures_slots, span_of, group_span, IsCapturesFor, HasMatch}
+use Rattle.rc_captures.specs.Captures.{captures_names, captures_slots, span_of, group_span, match_of, IsCapturesFor, HasMatch}
 use Rattle.rc_captures.specs.Lends.{with_slots}
 use Rattle.rc_captures.specs.declared.captures.Captures.{Captures}
 
@@ -19,11 +19,12 @@ pub record NamesLaw : Type 0 where
   pub none : (names : Names) (p : ℕ) (name : List ℕ) → to_index names p name ≡ None → (k : ℕ) → to_name names p k ≢ Some name
   pub inverse : (names : Names) (p g : ℕ) (gs : List (Option (List ℕ))) (name : List ℕ) → slice_get names p ≡ Some gs → AreDistinct gs → (to_index names p name ≡ Some g) ↔ (to_name names p g ≡ Some name)
 
--- Captures that hold a match answer the spans of its groups, as far as their slots are kept.
+-- Captures that hold a match answer it, and the spans of its groups, as far as their slots are kept.
 pub record MatchLaw : Type 0 where
   pub kept : (c : Captures) (p : ℕ) (found : ℕ → Option ℕ) (g : ℕ) (s : ℕ × ℕ) → HasMatch c p found → slots (captures_names c) p g ≡ Some s → s.1 < length (captures_slots c) → group_span c g ≡ span_of (found s.0) (found s.1)
   pub left_out : (c : Captures) (p : ℕ) (found : ℕ → Option ℕ) (g : ℕ) (s : ℕ × ℕ) → HasMatch c p found → slots (captures_names c) p g ≡ Some s → length (captures_slots c) ≤ s.1 → group_span c g ≡ None
   pub absent : (c : Captures) (p : ℕ) (found : ℕ → Option ℕ) (g : ℕ) → HasMatch c p found → slots (captures_names c) p g ≡ None → group_span c g ≡ None
+  pub whole : (names : Names) (c : Captures) (p : ℕ) (found : ℕ → Option ℕ) (start end : ℕ) → IsCapturesFor names c → HasMatch c p found → p < length names → found (2 * p) ≡ Some start → found (2 * p + 1) ≡ Some end → start ≤ end → match_of c ≡ Some (record { pattern = p; start = start; end = end })
 
 -- Captures whose slots were lent are of the same patterns as before, and keep what was written.
 pub record LentLaw : Type 0 where

@@ -1,5 +1,5 @@
 -- The groups of a list of patterns: their names, and the slots in which their bounds stand.
-use Rattle.std.specs.Prelude.{◌≡◌, ◌≢◌, ◌⊎◌, ◌↔◌, ℕ, zero, suc, ◌+◌, ◌*◌, ◌<◌, Bool, true, false, List, [], ◌∷◌, length, take, map, Option, Some, None, option_map, slice_get, string_bytes, if◌then◌else◌, nat_lt, position, sum_by, Vec, String}
+use Rattle.std.specs.Prelude.{◌≡◌, ◌⊎◌, ℕ, zero, suc, ◌+◌, ◌*◌, Bool, false, List, [], ◌∷◌, length, take, map, Option, Some, None, option_map, slice_get, string_bytes, if◌then◌else◌, nat_lt, position, sum_by, Vec, String}
 use Rattle.std.specs.Option.{option_flatten, option_map_or}
 use Rattle.std.specs.Str.{bytes_eq}
 

@@ -1,5 +1,5 @@
 //! The groups of one match.
-ghost use Rattle.std.specs.Prelude.{◌≡◌, ◌↔◌, None, Some, IsTrue, IsSome, IsNone, Option, length, option_map, IfOk, replicate};
+ghost use Rattle.std.specs.Prelude.{◌≡◌, ◌↔◌, None, IsTrue, IsSome, length, IfOk, replicate};
 ghost use Rattle.std.specs.Option.{option_map_or};
 ghost use Rattle.std.specs.Borrow.{sem};
 ghost use Rattle.rc_captures.specs.Names.{Names, slot_len, implicit_slot_len, group_len};
@@ -24,7 +24,8 @@ pub struct Captures {
 }
 
 impl Captures {
-    /// Captures that keep all groups of these patterns. They hold no match, and each slot is empty.
+    /// Captures that keep all groups of these patterns. They hold no match, and each slot is empty. An error is want of
+    /// memory.
     pub fn all(alloc: Global, info: &GroupInfo) -> Result<Captures, AllocError>
         ensures made { IfOk result (IsCapturesFor (names_of info.now)) }
         ensures pattern { IfOk result (λ c. captures_pattern c ≡ None) }
@@ -33,7 +34,8 @@ impl Captures {
         empty(alloc, info, info.slot_len())
     }
 
-    /// Captures that keep the whole matches of these patterns alone. They hold no match, and each slot is empty.
+    /// Captures that keep the whole matches of these patterns alone. They hold no match, and each slot is empty. An error
+    /// is want of memory.
     pub fn matches(alloc: Global, info: &GroupInfo) -> Result<Captures, AllocError>
         ensures made { IfOk result (IsCapturesFor (names_of info.now)) }
         ensures pattern { IfOk result (λ c. captures_pattern c ≡ None) }
@@ -99,7 +101,7 @@ impl Captures {
         }
     }
 
-    /// The slots, to be written. The pattern stays.
+    /// The slots, to be written: positions in bytes of the content. The pattern that matched stays.
     pub fn slots_mut(&mut self) -> &mut [Option<usize>]
         ensures* writes_back { sem 𝓛 (LendsSlots self.entry result) }
         ensures value { result.now ≡ captures_slots self.old }
@@ -157,7 +159,7 @@ pub fn group_info_of(caps: &Captures) -> &GroupInfo
     &caps.info
 }
 
-/// The same captures in memory of their own.
+/// The same captures in memory of their own. An error is want of memory.
 pub fn copy_of(alloc: Global, caps: &Captures) -> Result<Captures, AllocError>
     ensures names { IfOk result (λ c. captures_names c ≡ captures_names caps.now) }
     ensures pattern { IfOk result (λ c. captures_pattern c ≡ captures_pattern caps.now) }
@@ -171,14 +173,12 @@ pub fn copy_of(alloc: Global, caps: &Captures) -> Result<Captures, AllocError>
     })
 }
 
-/// Captures that hold a match answer the spans of its groups. A law: it does nothing.
+/// Captures that hold a match answer it, and the spans of its groups. A law: it does nothing.
 pub fn captures_tell_their_match()
     ensures { MatchLaw }
-{
-}
+{}
 
 /// Lending the slots keeps the patterns, the pattern that matched and the number of slots. A law: it does nothing.
 pub fn lending_keeps_the_patterns()
     ensures { LentLaw }
-{
-}
+{}

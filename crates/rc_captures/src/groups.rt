@@ -1,8 +1,8 @@
 //! Which groups the patterns have.
-ghost use Rattle.std.specs.Prelude.{◌≡◌, ℕ, ◌+◌, ◌*◌, ◌<◌, ◌^◌, Some, Option, length, option_map, IfOk, string_bytes, slice_get, vec_len, position, map};
+ghost use Rattle.std.specs.Prelude.{◌≡◌, ◌<◌, ◌^◌, length, map, option_map, position, slice_get, string_bytes, IfOk};
 ghost use Rattle.std.specs.Option.{option_copied};
 ghost use Rattle.rc_captures.specs.Groups.{names_of};
-ghost use Rattle.rc_captures.specs.Names.{names_in, slot_len, implicit_slot_len, first_slot, group_len, slots, to_index, to_name, is_named};
+ghost use Rattle.rc_captures.specs.Names.{names_in, slot_len, implicit_slot_len, group_len, slots, to_index, to_name, is_named};
 ghost use Rattle.rc_captures.specs.Laws.{SlotsLaw, NamesLaw};
 
 mod table;
@@ -90,7 +90,8 @@ impl GroupInfo {
 
     /// The names of a pattern's explicit groups.
     fn explicit(&self, pattern: PatternID) -> Option<&[Option<String>]>
-        ensures { option_map (λ gs. map (option_map string_bytes) gs.now) result ≡ slice_get (names_of self.now) pattern }
+        ensures { option_map (λ gs. map (option_map string_bytes) gs.now) result
+            ≡ slice_get (names_of self.now) pattern }
     {
         match self.table.names.get(pattern.as_usize()) {
             Some(names) => Some(names.as_slice()),
@@ -99,7 +100,8 @@ impl GroupInfo {
     }
 }
 
-/// The groups of patterns with these names: for each pattern those of its explicit groups 1, 2, .. in order.
+/// The groups of patterns with these names: for each pattern those of its explicit groups 1, 2, .. in order. An error is
+/// want of memory.
 pub fn group_info(alloc: Global, names: Vec<Vec<Option<String>>>) -> Result<GroupInfo, AllocError>
     ensures { IfOk result (λ g. names_of g ≡ names_in names.items) }
 {
@@ -127,7 +129,8 @@ fn is_named(other: &Option<String>, name: &str) -> bool
 
 /// How many groups stand before the first one of that name.
 fn position_of(names: &[Option<String>], name: &str) -> Option<usize>
-    ensures { result ≡ position (λ other. is_named (option_map string_bytes other) name.now) names.now }
+    ensures { result
+        ≡ position (λ other. is_named (option_map string_bytes other) name.now) names.now }
 {
     names.iter().position(|other| is_named(other, name))
 }
@@ -135,11 +138,9 @@ fn position_of(names: &[Option<String>], name: &str) -> Option<usize>
 /// Each slot is that of one group alone. A law: it does nothing.
 pub fn slots_are_shared_out()
     ensures { SlotsLaw }
-{
-}
+{}
 
 /// A name's group has that name. A law: it does nothing.
 pub fn names_and_groups_are_inverse()
     ensures { NamesLaw }
-{
-}
+{}

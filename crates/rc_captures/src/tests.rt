@@ -13,7 +13,8 @@ fn two_patterns(alloc: Global) -> Result<GroupInfo, AllocError> {
     group_info(alloc, names)
 }
 
-/// The groups of `(?P<y>a)(b)(?P<z>c)`, `x` and `(d)(?P<z>e)(?P<z>f)`, of which the last is read by no grammar.
+/// The groups of `(?P<y>a)(b)(?P<z>c)`, of `x`, and of three groups of which the last two have one name, as no pattern
+/// that is well-formed has.
 fn with_names(alloc: Global) -> Result<GroupInfo, AllocError> {
     let mut first = Vec::new(alloc);
     first.push(Some(String::from_str(alloc, "y")?))?;
@@ -41,7 +42,10 @@ fn slots_of_two_patterns(rt: HostRuntime) -> Result<(), Fail> {
     assert_eq!(rt; info.pattern_len(), 2);
     assert_eq!(rt; info.slot_len(), 10);
     assert_eq!(rt; info.implicit_slot_len(), 4);
-    assert_eq!(rt; (info.group_len(p), info.group_len(q), info.group_len(r)), (2, 3, 0));
+    assert_eq!(rt;
+        (info.group_len(p), info.group_len(q), info.group_len(r)),
+        (2, 3, 0)
+    );
     assert_eq!(rt; info.slots(p, 0), Some((0, 1)));
     assert_eq!(rt; info.slots(q, 0), Some((2, 3)));
     assert_eq!(rt; info.slots(p, 1), Some((4, 5)));
@@ -80,7 +84,10 @@ fn groups_of_a_match(rt: HostRuntime) -> Result<(), Fail> {
     let info = with_names(rt.alloc())?;
     let mut caps = Captures::all(rt.alloc(), &info)?;
     assert!(rt; !caps.is_match());
-    assert_eq!(rt; (caps.pattern(), caps.get_match(), caps.group_len()), (None, None, 0));
+    assert_eq!(rt;
+        (caps.pattern(), caps.get_match(), caps.group_len()),
+        (None, None, 0)
+    );
     let slots = caps.slots_mut();
     assert_eq!(rt; slots.len(), 18);
     slots[0] = Some(3);
@@ -90,7 +97,10 @@ fn groups_of_a_match(rt: HostRuntime) -> Result<(), Fail> {
     slots[8] = Some(4);
     slots[10] = Some(4);
     slots[11] = Some(5);
-    assert_eq!(rt; (caps.get_group(0), caps.get_group_by_name("y")), (None, None));
+    assert_eq!(rt;
+        (caps.get_group(0), caps.get_group_by_name("y")),
+        (None, None)
+    );
 
     captures::set_pattern(&mut caps, Some(pattern(0)?));
     assert!(rt; caps.is_match());
@@ -102,8 +112,14 @@ fn groups_of_a_match(rt: HostRuntime) -> Result<(), Fail> {
     assert_eq!(rt; caps.get_group(2), None);
     assert_eq!(rt; caps.get_group(3), Some(Span { start: 4, end: 5 }));
     assert_eq!(rt; caps.get_group(4), None);
-    assert_eq!(rt; caps.get_group_by_name("y"), Some(Span { start: 3, end: 4 }));
-    assert_eq!(rt; caps.get_group_by_name("z"), Some(Span { start: 4, end: 5 }));
+    assert_eq!(rt;
+        caps.get_group_by_name("y"),
+        Some(Span { start: 3, end: 4 })
+    );
+    assert_eq!(rt;
+        caps.get_group_by_name("z"),
+        Some(Span { start: 4, end: 5 })
+    );
     assert_eq!(rt; caps.get_group_by_name("x"), None);
 
     let copy = captures::copy_of(rt.alloc(), &caps)?;
@@ -125,7 +141,10 @@ fn whole_matches(rt: HostRuntime) -> Result<(), Fail> {
     assert_eq!(rt; slots.len(), 4);
     slots[2] = Some(2);
     slots[3] = Some(2);
-    assert_eq!(rt; caps.get_match().map(|found| found.span()), Some(Span { start: 2, end: 2 }));
+    assert_eq!(rt;
+        caps.get_match().map(|found| found.span()),
+        Some(Span { start: 2, end: 2 })
+    );
     assert_eq!(rt; (caps.get_group(1), caps.get_group(2)), (None, None));
 
     let slots = caps.slots_mut();

@@ -1,5 +1,5 @@
 //! The names of all groups, and where the slots of each pattern's begin.
-ghost use Rattle.std.specs.Prelude.{◌≡◌, ℕ, ◌+◌, ◌*◌, ◌<◌, ◌≤◌, ◌^◌, Some, length, IfOk, MatchResult, slice_get};
+ghost use Rattle.std.specs.Prelude.{◌≡◌, ℕ, ◌+◌, ◌<◌, ◌≤◌, ◌^◌, Some, length, IfOk, MatchResult, slice_get};
 ghost use Rattle.rc_captures.specs.Names.{names_in, slot_len, first_slot, group_len};
 
 use std::alloc::{AllocError, Global};
@@ -53,7 +53,8 @@ pub fn table_of(alloc: Global, names: Vec<Vec<Option<String>>>) -> Result<Table,
 
 /// So many groups and so many more. More than can be numbered take more memory than there can be.
 fn added(groups: usize, more: usize) -> Result<usize, AllocError>
-    ensures { MatchResult result (λ n. (n ≡ groups + more) × (n < 2 ^ 62)) (λ _. 2 ^ 62 ≤ groups + more) }
+    ensures { MatchResult result (λ n. (n ≡ groups + more) × (n < 2 ^ 62)) (λ _. 2 ^ 62
+        ≤ groups + more) }
 {
     match groups.checked_add(more) {
         Some(n) if n <= MOST => Ok(n),
