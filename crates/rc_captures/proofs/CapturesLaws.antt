@@ -23,6 +23,7 @@ span_of-none : (start : Option ℕ) → span_of start None ≡ None
 span_of-none None = refl
 span_of-none (Some n) = refl
 
+-- a group whose slots are kept has the span that was found
 pub span-kept : (c : Captures) (p : ℕ) (found : ℕ → Option ℕ) (g : ℕ) (s : ℕ × ℕ) → HasMatch c p found → slots (captures_names c) p g ≡ Some s → s.1 < length (captures_slots c) → group_span c g ≡ span_of (found s.0) (found s.1)
 span-kept c p found g s has is below =
     let pair = slots_pair (captures_names c) p g s is in
@@ -30,11 +31,13 @@ span-kept c p found g s has is below =
     let end : slot_value (captures_slots c) s.1 ≡ found s.1 = ap option_flatten (has.kept s.1 below (g, s, is, inr refl)) in
     span_by c p g (Some s) has.pattern is ∙ ap (λ n. span_of n (slot_value (captures_slots c) s.1)) start ∙ ap (span_of (found s.0)) end
 
+-- a group whose slots are not kept is absent
 pub span-left_out : (c : Captures) (p : ℕ) (found : ℕ → Option ℕ) (g : ℕ) (s : ℕ × ℕ) → HasMatch c p found → slots (captures_names c) p g ≡ Some s → length (captures_slots c) ≤ s.1 → group_span c g ≡ None
 span-left_out c p found g s has is above =
     let end : slot_value (captures_slots c) s.1 ≡ None = ap option_flatten (slice_get_past (captures_slots c) s.1 above) in
     span_by c p g (Some s) has.pattern is ∙ ap (span_of (slot_value (captures_slots c) s.0)) end ∙ span_of-none (slot_value (captures_slots c) s.0)
 
+-- a group that the pattern hasn't is absent
 pub span-absent : (c : Captures) (p : ℕ) (found : ℕ → Option ℕ) (g : ℕ) → HasMatch c p found → slots (captures_names c) p g ≡ None → group_span c g ≡ None
 span-absent c p found g has is = span_by c p g None has.pattern is
 
@@ -46,13 +49,16 @@ whole_slots names p inside = slots_from names p 0 (get_or names p []) (slice_get
 whole_kept : (names : Names) (c : Captures) → IsCapturesFor names c → implicit_slot_len names ≤ length (captures_slots c)
 whole_kept names c made = elim made.sized [ inl all ↦ omega arith | inr whole ↦ omega arith ]
 
+-- a span in order makes a match
 match_ordered : (p start end : ℕ) → start ≤ end → match_at p (record { start = start; end = end }) ≡ Some (record { pattern = p; start = start; end = end })
 match_ordered p start end ordered = grind (arith, nat_tests)
 
+-- the match by the span of its group 0
 match_by : (c : Captures) (p start end : ℕ) → captures_pattern c ≡ Some p → group_span c 0 ≡ Some (record { start = start; end = end }) → start ≤ end → match_of c ≡ Some (record { pattern = p; start = start; end = end })
 match_by c p start end is span ordered =
     ap (option_and_then (λ q. option_and_then (match_at q) (group_span c 0))) is ∙ ap (option_and_then (match_at p)) span ∙ match_ordered p start end ordered
 
+-- captures that hold a match of a pattern that is there answer it
 pub match-whole : (names : Names) (c : Captures) (p : ℕ) (found : ℕ → Option ℕ) (start end : ℕ) → IsCapturesFor names c → HasMatch c p found → p < length names → found (2 * p) ≡ Some start → found (2 * p + 1) ≡ Some end → start ≤ end → match_of c ≡ Some (record { pattern = p; start = start; end = end })
 match-whole names c p found start end made has inside from to ordered =
     let at : slots (captures_names c) p 0 ≡ Some (2 * p, 2 * p + 1) = rw made.named (whole_slots names p inside) in
@@ -60,10 +66,12 @@ match-whole names c p found start end made has inside from to ordered =
     let span = span-kept c p found 0 (2 * p, 2 * p + 1) has at (omega arith) ∙ ap (λ n. span_of n (found (2 * p + 1))) from ∙ ap (span_of (Some start)) to in
     match_by c p start end has.pattern span ordered
 
+-- captures with other slots are of the same patterns
 pub lent-same : (names : Names) (c : Captures) (written : List (Option ℕ)) → IsCapturesFor names c → IsCapturesFor names (with_slots c written)
 lent-same names c written made =
     let len : length (captures_slots (with_slots c written)) ≡ length (captures_slots c) = sym (with_items c.slots written).ok.0 ∙ c.slots.ok.0 in
     record { named = made.named; sized = elim made.sized [ inl all ↦ inl (len ∙ all) | inr whole ↦ inr (len ∙ whole) ] }
 
+-- as many slots as there are stand as they were written
 pub lent-written : (c : Captures) (written : List (Option ℕ)) → length written ≡ length (captures_slots c) → captures_slots (with_slots c written) ≡ written
 lent-written c written same = with_items_is c.slots written (same ∙ sym c.slots.ok.0)

@@ -16,22 +16,27 @@ is_named-Decides : (o : Option (List ℕ)) (name : List ℕ) → Decides (is_nam
 is_named-Decides None name = (λ e. absurd (false≢true e), λ e. absurd (cc))
 is_named-Decides (Some other) name = ((λ e. ap Some ((bytes_eq-Decides other name).0 e)), (λ e. (bytes_eq-Decides other name).1 (cc)))
 
+-- the name at a place, and none past the end
 flat-get_or : (xs : List (Option (List ℕ))) (k : ℕ) → option_flatten (slice_get xs k) ≡ get_or xs k None
 flat-get_or [] k = refl
 flat-get_or (x ∷ xs) zero = refl
 flat-get_or (x ∷ xs) (suc k) = flat-get_or xs k
 
+-- where the test fails it is another name
 fails : (o : Option (List ℕ)) (name : List ℕ) → is_named o name ≡ false → o ≢ Some name
 fails o name f e = absurd (false≢true (sym f ∙ (is_named-Decides o name).1 e))
 
+-- the first place of a name
 first_of_name : (xs : List (Option (List ℕ))) (name : List ℕ) (i : ℕ) → position (λ o. is_named o name) xs ≡ Some i → (get_or xs i None ≡ Some name) × ((k : ℕ) → k < i → get_or xs k None ≢ Some name)
 first_of_name xs name i is =
     let found = position-Some (λ o. is_named o name) xs i None is in
     ((is_named-Decides (get_or xs i None) name).0 found.1, λ k below. fails (get_or xs k None) name (found.2 k below))
 
+-- no place is found where there is none
 no_place : (m n : ℕ) → cond (ltb m n) (Some m) None ≡ None → n ≤ m
 no_place m n is = grind (arith, nat_tests)
 
+-- where no place is found no place has the name
 none_of_name : (xs : List (Option (List ℕ))) (name : List ℕ) (k : ℕ) → position (λ o. is_named o name) xs ≡ None → get_or xs k None ≢ Some name
 none_of_name xs name k is =
     let past = no_place (position_or_len (λ o. is_named o name) xs) (length xs) is in
@@ -55,11 +60,13 @@ one_place (x ∷ xs) name zero (suc j) distinct a b = absurd (new_name x xs name
 one_place (x ∷ xs) name (suc i) zero distinct a b = absurd (new_name x xs name i distinct.0 b a)
 one_place (x ∷ xs) name (suc i) (suc j) distinct a b = ap suc (one_place xs name i j distinct.1 a b)
 
+-- the group of a name is the first of that name
 pub to_index-first : (names : Names) (p g : ℕ) (name : List ℕ) → to_index names p name ≡ Some g → (to_name names p g ≡ Some name) × ((k : ℕ) → k < g → to_name names p k ≢ Some name)
 to_index-first names p g name is =
     let found = first_of_name (names_at names p) name g is in
     (flat-get_or (names_at names p) g ∙ found.0, λ k below e. found.1 k below (sym (flat-get_or (names_at names p) k) ∙ e))
 
+-- where there is no group of a name, none has it
 pub to_index-none : (names : Names) (p : ℕ) (name : List ℕ) → to_index names p name ≡ None → (k : ℕ) → to_name names p k ≢ Some name
 to_index-none names p name is k e = none_of_name (names_at names p) name k is (sym (flat-get_or (names_at names p) k) ∙ e)
 
@@ -70,6 +77,7 @@ index_from names p g name (Some i) is distinct e =
     let found = first_of_name (names_at names p) name i is in
     ap Some (one_place (names_at names p) name i g distinct found.0 (sym (flat-get_or (names_at names p) g) ∙ e))
 
+-- where no name stands twice the two look-ups are inverse
 pub to_index-inverse : (names : Names) (p g : ℕ) (gs : List (Option (List ℕ))) (name : List ℕ) → slice_get names p ≡ Some gs → AreDistinct gs → (to_index names p name ≡ Some g) ↔ (to_name names p g ≡ Some name)
 to_index-inverse names p g gs name is distinct =
     let all : AreDistinct (names_at names p) = rw is (tt, distinct) in

@@ -13,6 +13,7 @@ explicit_groups names p g within = of (slice_get names p) refl within where
   of None is below = absurd (omega arith)
   of (Some gs) is below = (gs, is, omega arith)
 
+-- the same, by the names of its pattern
 below_by : (names : Names) (p g : ℕ) (gs : List (Option (List ℕ))) → slice_get names p ≡ Some gs → g ≤ length gs → first_slot names p g + 1 < slot_len names
 below_by names p zero gs is within =
     let inside = slice_get_within names p gs is in omega arith
@@ -27,6 +28,7 @@ pub first_slot_below : (names : Names) (p g : ℕ) → g < group_len names p →
 first_slot_below names p g within =
     let there = explicit_groups names p g within in below_by names p g there.0 there.1 there.2
 
+-- the explicit groups of a pattern stand one after another
 explicit_slot : (names : Names) (p g : ℕ) → g ≢ 0 → first_slot names p 1 + 2 * (g - 1) ≡ first_slot names p g
 explicit_slot names p zero positive = absurd (positive refl)
 explicit_slot names p (suc g) positive = omega arith

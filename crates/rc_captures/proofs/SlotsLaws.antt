@@ -9,11 +9,12 @@ use Rattle.rc_captures.specs.Names.{Names, IsSlotOf, slots, slot_len, implicit_s
 use Rattle.rc_captures.proofs.Slots.{explicit_groups, first_slot_below}
 
 -- what it says that a group has slots
-pub slots_there : (names : Names) (p g : ℕ) (s : ℕ × ℕ) → slots names p g ≡ Some s → (g < group_len names p) × (s.0 ≡ first_slot names p g) × (s.1 ≡ first_slot names p g + 1)
+slots_there : (names : Names) (p g : ℕ) (s : ℕ × ℕ) → slots names p g ≡ Some s → (g < group_len names p) × (s.0 ≡ first_slot names p g) × (s.1 ≡ first_slot names p g + 1)
 slots_there names p g s is =
     let parts = cond_some _ _ _ is in
     (ltb-true _ _ parts.0, sym (ap (λ t. t.0) parts.1), sym (ap (λ t. t.1) parts.1))
 
+-- the two slots of a group
 pub slots_pair : (names : Names) (p g : ℕ) (s : ℕ × ℕ) → slots names p g ≡ Some s → (s.1 ≡ s.0 + 1) × (s.1 < slot_len names)
 slots_pair names p g s is =
     let there = slots_there names p g s is in
@@ -43,6 +44,7 @@ apart_within names p g q h same (inr differ) =
     let e = ap (λ n. explicit_len (take n names)) same in
     elim (cases_lt g h) [ inl l ↦ inl (omega arith) | inr r ↦ inr (omega arith) ]
 
+-- one of two groups stands first
 apart_by : (names : Names) (p g q h : ℕ) → g < group_len names p → h < group_len names q → (p ≢ q) ⊎ (g ≢ h) → (first_slot names p g + 1 < first_slot names q h) ⊎ (first_slot names q h + 1 < first_slot names p g)
 apart_by names p zero q zero a b (inl differ) = elim (cases_lt p q) [ inl l ↦ inl (omega arith) | inr r ↦ inr (omega arith) ]
 apart_by names p zero q zero a b (inr differ) = absurd (differ refl)
@@ -59,16 +61,19 @@ apart_by names p (suc g) q (suc h) a b differ =
       ]
     ]
 
+-- no two groups share a slot
 pub slots_apart : (names : Names) (p g q h : ℕ) (s t : ℕ × ℕ) → slots names p g ≡ Some s → slots names q h ≡ Some t → (p ≢ q) ⊎ (g ≢ h) → (s.1 < t.0) ⊎ (t.1 < s.0)
 slots_apart names p g q h s t is it differ =
     let one = slots_there names p g s is in
     let other = slots_there names q h t it in
     elim (apart_by names p g q h one.0 other.0 differ) [ inl l ↦ inl (omega arith) | inr r ↦ inr (omega arith) ]
 
+-- the slots of group 0, and no others, stand below `implicit_slot_len`
 whole_by : (names : Names) (p g k : ℕ) → g < group_len names p → k ≡ first_slot names p g + 1 → (k < implicit_slot_len names) ↔ (g ≡ 0)
 whole_by names p zero k within is = let inside = pattern_within names p 0 within in (λ _. refl, λ _. omega arith)
 whole_by names p (suc g) k within is = (λ below. absurd (omega arith), λ e. absurd (omega arith))
 
+-- which slots are those of whole matches
 pub slots_whole : (names : Names) (p g : ℕ) (s : ℕ × ℕ) → slots names p g ≡ Some s → (s.1 < implicit_slot_len names) ↔ (g ≡ 0)
 slots_whole names p g s is = let there = slots_there names p g s is in whole_by names p g s.1 there.0 there.2
 
@@ -98,9 +103,11 @@ slot_in names p g k m gs is within same one =
       | inr second ↦ (p, (g, (first_slot names p g, first_slot names p g + 1), slots_are, inr (omega arith)))
     ]
 
+-- an even number, or an odd one
 halves : (k : ℕ) → (k ≡ 2 * (k / 2)) ⊎ (k ≡ 2 * (k / 2) + 1)
 halves k = elim (cases_lt (k % 2) 1) [ inl even ↦ inl (omega arith) | inr odd ↦ inr (omega arith) ]
 
+-- each slot is one of a group
 pub slots_all : (names : Names) (k : ℕ) → k < slot_len names → (p : ℕ) × IsSlotOf names p k
 slots_all names k below =
     elim (cases_lt (k / 2) (length names)) [

@@ -23,6 +23,7 @@ group_len names p = length (names_at names p)
 abbrev pub to_name : Names → ℕ → ℕ → Option (List ℕ)
 to_name names p g = option_flatten (slice_get (names_at names p) g)
 
+-- the group has this name
 abbrev pub is_named : Option (List ℕ) → List ℕ → Bool
 is_named None name = false
 is_named (Some other) name = bytes_eq other name
