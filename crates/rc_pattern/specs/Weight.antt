@@ -9,7 +9,7 @@ copies_of min (Some most) = max 1 most
 
 abbrev pub weight : Re → ℕ
 weight empty = 1
-weight (literal bs) = length bs
+weight (literal bs) = max 1 (length bs)
 weight (byte_in rs) = 1
 weight (char_in rs) = 1 + 84 * length rs
 weight (look l) = 1

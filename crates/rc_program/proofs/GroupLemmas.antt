@@ -12,7 +12,7 @@ use Rattle.rc_pattern.specs.Properties.{minimum_len, saturated, both, least}
 use Rattle.rc_program.specs.Text.{Text}
 use Rattle.rc_program.specs.Spells.{Turns, Spells, SpelledBy}
 use Rattle.rc_program.specs.Program.{without_groups, shown}
-use Rattle.rc_program.specs.Laws.{HasBytes, GroupLaw}
+use Rattle.rc_program.specs.Laws.{GroupLaw}
 
 Turns-map : (R S : ℕ → ℕ → Type 0) → ((i j : ℕ) → R i j → S i j) → (n i j : ℕ) → Turns R n i j → Turns S n i j
 Turns-map R S f zero i j h = h
@@ -76,18 +76,6 @@ without_groups_bounded (capture n name a) ok = without_groups_bounded a ok
 without_groups_bounded (cat a rest) ok = (without_groups_bounded a ok.0, without_groups_bounded rest ok.1)
 without_groups_bounded (alt a rest) ok = (without_groups_bounded a ok.0, without_groups_bounded rest ok.1)
 without_groups_bounded none ok = ok
-
-pub without_groups_bytes : (h : Re) → HasBytes h → HasBytes (without_groups h)
-without_groups_bytes empty ok = ok
-without_groups_bytes (literal bs) ok = ok
-without_groups_bytes (byte_in rs) ok = ok
-without_groups_bytes (char_in rs) ok = ok
-without_groups_bytes (look l) ok = ok
-without_groups_bytes (repeat min max greedy a) ok = without_groups_bytes a ok
-without_groups_bytes (capture n name a) ok = without_groups_bytes a ok
-without_groups_bytes (cat a rest) ok = (without_groups_bytes a ok.0, without_groups_bytes rest ok.1)
-without_groups_bytes (alt a rest) ok = (without_groups_bytes a ok.0, without_groups_bytes rest ok.1)
-without_groups_bytes none ok = ok
 
 -- it is no heavier
 pub without_groups_lighter : (h : Re) → weight (without_groups h) ≤ weight h
@@ -158,7 +146,6 @@ pub group_law : GroupLaw
 group_law = record {
   spells = without_groups_spells;
   bounded = without_groups_bounded;
-  filled = without_groups_bytes;
   lighter = without_groups_lighter;
   least = minimum_len-without_groups;
   bare = group_numbers-without_groups;

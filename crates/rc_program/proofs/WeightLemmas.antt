@@ -7,7 +7,7 @@ use Rattle.rc_pattern.specs.Re.{Re, empty, literal, byte_in, char_in, look, repe
 use Rattle.rc_pattern.specs.WellFormed.{HasBounds, group_count}
 use Rattle.rc_pattern.specs.Weight.{weight, sum_of_weights, list_weight}
 use Rattle.rc_program.specs.Program.{Place, choice, byte, branch, scalar, guard, slot, accept, Part, one, then_part, either, optional, plus, body_or_out, copies, up_to, at_least, bytes_in_order, part, pattern_part, choice_of_patterns, program}
-use Rattle.rc_program.specs.Laws.{HasBytes, place_weight, heaviness}
+use Rattle.rc_program.specs.Laws.{place_weight, heaviness}
 
 heaviness-append : (xs ys : List Place) → heaviness (xs ++ ys) ≡ heaviness xs + heaviness ys
 heaviness-append [] ys = omega arith
@@ -100,43 +100,44 @@ bytes_weigh b (c ∷ bs) =
     (then_weighs (one (λ s. byte ((b, b) ∷ []))) (bytes_in_order c bs) 1 (suc (length bs)) (λ s start next. omega arith) (bytes_weigh c bs))
 
 -- a part weighs no more than its pattern
-pub part_weighs : (h : Re) → HasBounds h → HasBytes h → (s start next : ℕ) → heaviness ((part h).places s start next) ≤ weight h
-part_weighs empty ok text = λ s start next. omega arith
-part_weighs (literal []) ok text = absurd (omega (arith, text))
-part_weighs (literal (b ∷ bs)) ok text = bytes_weigh b bs
-part_weighs (byte_in rs) ok text = λ s start next. omega arith
-part_weighs (char_in rs) ok text = λ s start next. omega arith
-part_weighs (look l) ok text = λ s start next. omega arith
-part_weighs (repeat min None greedy a) ok text = at_least_weighs min greedy (part a) (weight a) (part_weighs a ok text)
-part_weighs (repeat min (Some most) greedy a) ok text = between_weighs min most greedy (part a) (weight a) ok.0 (part_weighs a ok.1 text)
-part_weighs (capture n name a) ok text =
+pub part_weighs : (h : Re) → HasBounds h → (s start next : ℕ) → heaviness ((part h).places s start next) ≤ weight h
+part_weighs empty ok = λ s start next. omega arith
+part_weighs (literal []) ok = λ s start next. omega arith
+part_weighs (literal (b ∷ bs)) ok =
+    wider (bytes_in_order b bs) (suc (length bs)) (max 1 (suc (length bs))) (omega arith) (bytes_weigh b bs)
+part_weighs (byte_in rs) ok = λ s start next. omega arith
+part_weighs (char_in rs) ok = λ s start next. omega arith
+part_weighs (look l) ok = λ s start next. omega arith
+part_weighs (repeat min None greedy a) ok = at_least_weighs min greedy (part a) (weight a) (part_weighs a ok)
+part_weighs (repeat min (Some most) greedy a) ok = between_weighs min most greedy (part a) (weight a) ok.0 (part_weighs a ok.1)
+part_weighs (capture n name a) ok =
     wider (part (capture n name a)) (1 + (weight a + 1)) (2 + weight a) (omega arith)
     (then_weighs (one (λ s. slot (s + 2 * (n - 1)))) (then_part (part a) (one (λ s. slot (s + 2 * (n - 1) + 1)))) 1 (weight a + 1)
     (λ s start next. omega arith)
-    (then_weighs (part a) (one (λ s. slot (s + 2 * (n - 1) + 1))) (weight a) 1 (part_weighs a ok text) (λ s start next. omega arith)))
-part_weighs (cat a rest) ok text =
-    then_weighs (part a) (part rest) (weight a) (weight rest) (part_weighs a ok.0 text.0) (part_weighs rest ok.1 text.1)
-part_weighs (alt a rest) ok text =
-    either_weighs (part a) (part rest) (weight a) (weight rest) (part_weighs a ok.0 text.0) (part_weighs rest ok.1 text.1)
-part_weighs none ok text = λ s start next. omega arith
+    (then_weighs (part a) (one (λ s. slot (s + 2 * (n - 1) + 1))) (weight a) 1 (part_weighs a ok) (λ s start next. omega arith)))
+part_weighs (cat a rest) ok =
+    then_weighs (part a) (part rest) (weight a) (weight rest) (part_weighs a ok.0) (part_weighs rest ok.1)
+part_weighs (alt a rest) ok =
+    either_weighs (part a) (part rest) (weight a) (weight rest) (part_weighs a ok.0) (part_weighs rest ok.1)
+part_weighs none ok = λ s start next. omega arith
 
-pattern_weighs : (p s : ℕ) (h : Re) → HasBounds h → HasBytes h → Weighs (pattern_part p s h) (weight h + 1)
-pattern_weighs p s h ok text slots start next =
+pattern_weighs : (p s : ℕ) (h : Re) → HasBounds h → Weighs (pattern_part p s h) (weight h + 1)
+pattern_weighs p s h ok slots start next =
     let l = heaviness-append ((part h).places s start (start + (part h).size)) (accept p ∷ []) in
-    let k = part_weighs h ok text s start (start + (part h).size) in omega (arith, l, k)
+    let k = part_weighs h ok s start (start + (part h).size) in omega (arith, l, k)
 
-choice_weighs : (p s : ℕ) (hs : List Re) → All HasBounds hs → All HasBytes hs → Weighs (choice_of_patterns p s hs) (1 + sum_of_weights hs)
-choice_weighs p s [] ok text = λ slots start next. omega arith
-choice_weighs p s (h ∷ hs) ok text =
+choice_weighs : (p s : ℕ) (hs : List Re) → All HasBounds hs → Weighs (choice_of_patterns p s hs) (1 + sum_of_weights hs)
+choice_weighs p s [] ok = λ slots start next. omega arith
+choice_weighs p s (h ∷ hs) ok =
     wider (choice_of_patterns p s (h ∷ hs)) (1 + (weight h + 1) + (1 + sum_of_weights hs)) (1 + (weight h + 3 + sum_of_weights hs)) (omega arith)
     (either_weighs (pattern_part p s h) (choice_of_patterns (p + 1) (s + 2 * group_count h) hs) (weight h + 1) (1 + sum_of_weights hs)
-    (pattern_weighs p s h (All-head HasBounds h hs ok) (All-head HasBytes h hs text))
-    (choice_weighs (p + 1) (s + 2 * group_count h) hs (All-tail HasBounds h hs ok) (All-tail HasBytes h hs text)))
+    (pattern_weighs p s h (All-head HasBounds h hs ok))
+    (choice_weighs (p + 1) (s + 2 * group_count h) hs (All-tail HasBounds h hs ok)))
 
 -- a program weighs no more than its patterns
-pub program_weighs : (hs : List Re) → All HasBounds hs → All HasBytes hs → heaviness (program hs) ≤ list_weight hs
-program_weighs hs ok text = let h = choice_weighs 0 (2 * length hs) hs ok text 0 0 0 in omega (arith, h)
+pub program_weighs : (hs : List Re) → All HasBounds hs → heaviness (program hs) ≤ list_weight hs
+program_weighs hs ok = let h = choice_weighs 0 (2 * length hs) hs ok 0 0 0 in omega (arith, h)
 
 -- a program has no more places than the weight of its patterns
-pub program_small : (hs : List Re) → All HasBounds hs → All HasBytes hs → length (program hs) ≤ list_weight hs
-program_small hs ok text = let h = program_weighs hs ok text in let k = length-le-heaviness (program hs) in omega (arith, h, k)
+pub program_small : (hs : List Re) → All HasBounds hs → length (program hs) ≤ list_weight hs
+program_small hs ok = let h = program_weighs hs ok in let k = length-le-heaviness (program hs) in omega (arith, h, k)

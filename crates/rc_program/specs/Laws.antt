@@ -46,15 +46,6 @@ abbrev pub heaviness : List Place → ℕ
 heaviness [] = 0
 heaviness (q ∷ qs) = place_weight q + heaviness qs
 
--- each literal of the pattern has a byte: a literal of none is the empty pattern
-abbrev pub HasBytes : Re → Type 0
-HasBytes (literal bs) = 0 < length bs
-HasBytes (repeat min max greedy a) = HasBytes a
-HasBytes (capture n name a) = HasBytes a
-HasBytes (cat a rest) = HasBytes a × HasBytes rest
-HasBytes (alt a rest) = HasBytes a × HasBytes rest
-HasBytes _ = Unit {0}
-
 -- the groups are numbered 1, 2, .. in the order of their opening
 abbrev pub IsNumbered : Re → Type 0
 IsNumbered h = group_numbers h ≡ range_with_len 1 (group_count h)
@@ -79,14 +70,13 @@ pub record ClosedLaw : Type 0 where
   -- a slot of a group is one of the patterns' slots, and none of the two of each pattern
   pub names_slots : (hs : List Re) → All IsNumbered hs → (n k m : ℕ) → place_at (program hs) n ≡ slot k m →
       (2 * length hs ≤ k) × (k < slot_count hs)
-  pub light : (hs : List Re) → All HasBounds hs → All HasBytes hs → heaviness (program hs) ≤ list_weight hs
-  pub small : (hs : List Re) → All HasBounds hs → All HasBytes hs → length (program hs) ≤ list_weight hs
+  pub light : (hs : List Re) → All HasBounds hs → heaviness (program hs) ≤ list_weight hs
+  pub small : (hs : List Re) → All HasBounds hs → length (program hs) ≤ list_weight hs
 
 -- what holds of patterns without their groups
 pub record GroupLaw : Type 0 where
   pub spells : (t : Text) (h : Re) (i j : ℕ) → Spells t (without_groups h) i j ↔ Spells t h i j
   pub bounded : (h : Re) → HasBounds h → HasBounds (without_groups h)
-  pub filled : (h : Re) → HasBytes h → HasBytes (without_groups h)
   pub lighter : (h : Re) → weight (without_groups h) ≤ weight h
   pub least : (h : Re) → minimum_len (without_groups h) ≡ minimum_len h
   pub bare : (h : Re) → group_numbers (without_groups h) ≡ []

@@ -17,7 +17,7 @@ pub fn capped_weight(hir: &Hir) -> u128
 {
     match hir.kind() {
         HirKind::Empty | HirKind::Look(_) => 1,
-        HirKind::Literal(bytes) => bytes.len() as u128,
+        HirKind::Literal(bytes) => bytes.len().max(1) as u128,
         HirKind::Class(class) => class_weight(class),
         HirKind::Repetition(repetition) => repetition_weight(repetition),
         HirKind::Capture(capture) => (2 + capped_weight(&capture.sub)).min(CAP),
