@@ -7,6 +7,8 @@ ghost use Rattle.rc_pattern.specs.WellFormed.{IsWellFormed};
 ghost use Rattle.rc_program.specs.Program.{program, shown};
 ghost use Rattle.rc_thompson.specs.Places.{places_of};
 
+mod sizes;
+
 use crate::place::Place;
 use rc_pattern::hir::Hir;
 use std::alloc::{AllocError, Global};
