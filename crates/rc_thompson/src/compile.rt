@@ -7,6 +7,7 @@ ghost use Rattle.rc_pattern.specs.WellFormed.{IsWellFormed};
 ghost use Rattle.rc_program.specs.Program.{program, shown};
 ghost use Rattle.rc_thompson.specs.Places.{places_of};
 
+mod emit;
 mod sizes;
 
 use crate::place::Place;
