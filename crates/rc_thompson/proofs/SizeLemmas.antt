@@ -10,10 +10,12 @@ use Rattle.rc_program.specs.Program.{Part, byte, slot, accept, part, one, then_p
 use Rattle.rc_pattern.specs.WellFormed.{group_count}
 use Rattle.rc_thompson.specs.Shown.{shown_one, laid}
 
+-- how long copies are
 pub copies_size : (n : ℕ) (a b : Part) → (copies n a b).size ≡ n * a.size + b.size
 copies_size zero a b = omega arith
 copies_size (suc n) a b = let h = copies_size n a b in let e : suc n * a.size ≡ a.size + n * a.size = omega arith in omega (arith, h, e)
 
+-- how long optional copies are
 pub up_to_size : (greedy : Bool) (n : ℕ) (a : Part) → (up_to greedy n a).size ≡ n * (1 + a.size) + 1
 up_to_size greedy zero a = omega arith
 up_to_size greedy (suc n) a =
@@ -23,6 +25,7 @@ bytes_size : (b : ℕ) (bs : List ℕ) → (bytes_in_order b bs).size ≡ suc (l
 bytes_size b [] = refl
 bytes_size b (c ∷ bs) = let h = bytes_size c bs in omega (arith, h)
 
+-- how long a literal is
 pub literal_size : (bs : List ℕ) → (literal_part bs).size ≡ max (length bs) 1
 literal_size [] = omega arith
 literal_size (b ∷ bs) = let h = bytes_size b bs in omega (arith, h)
@@ -59,6 +62,7 @@ to_part groups r most m =
     let o = out-Repetition r in
     ap (laid groups) (meaning_of_repetition r) ∙ ap (λ (x : Option ℕ). repeated o.min x o.greedy (laid groups (meaning o.sub.value))) m
 
+-- how long a repetition without bound is, where some turns are wanted
 pub on_size : (groups : Bool) (r : Repetition) (sub : Hir) (b : ℕ) → (out-Repetition r).max ≡ None → ((out-Repetition r).min ≡ 0 → ⊥) →
     sub ≡ (out-Repetition r).sub.value → b ≡ (laid groups (meaning sub)).size →
     ((out-Repetition r).min - 1) * b + (b + 1) ≡ (laid groups (repetition_meaning r)).size
@@ -71,18 +75,7 @@ on_size groups r sub b m z s e =
       on_part groups r m ∙ at_least_some o.min o.greedy a pos in
     rw f (sym (ap (λ (q : Part). q.size) g ∙ copies_size (o.min - 1) a (plus o.greedy a)))
 
--- where no turn is wanted
-pub on_size_none : (groups : Bool) (r : Repetition) (sub : Hir) (b : ℕ) → (out-Repetition r).max ≡ None → (out-Repetition r).min ≡ 0 →
-    sub ≡ (out-Repetition r).sub.value → b ≡ (laid groups (meaning sub)).size → 1 + (b + 1) ≡ (laid groups (repetition_meaning r)).size
-on_size_none groups r sub b m z s e =
-    let o = out-Repetition r in
-    let a : Part = laid groups (meaning o.sub.value) in
-    let f : b ≡ a.size = e ∙ ap (λ (h : Hir). (laid groups (meaning h)).size) s in
-    let g : laid groups (repetition_meaning r) ≡ optional o.greedy (plus o.greedy a) =
-      on_part groups r m ∙ ap (λ n. at_least n o.greedy a) z in
-    let size : (laid groups (repetition_meaning r)).size ≡ 1 + (a.size + 1) = ap (λ (q : Part). q.size) g in
-    omega (arith, f, size)
-
+-- how long a repetition with a bound is
 pub to_size : (groups : Bool) (r : Repetition) (sub : Hir) (b most : ℕ) → (out-Repetition r).max ≡ Some most →
     sub ≡ (out-Repetition r).sub.value → b ≡ (laid groups (meaning sub)).size →
     (out-Repetition r).min * b + ((most - (out-Repetition r).min) * (1 + b) + 1) ≡ (laid groups (repetition_meaning r)).size

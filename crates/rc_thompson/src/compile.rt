@@ -68,3 +68,6 @@ pub fn compile(alloc: Global, hirs: &[Hir], groups: bool) -> Result<Vec<Place>, 
     append(&mut places, Place::Dead)?;
     Ok(places)
 }
+
+#[cfg(test)]
+mod tests;

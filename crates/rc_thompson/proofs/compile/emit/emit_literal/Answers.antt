@@ -7,4 +7,4 @@ pub returns-clause-long : goal.returns-clause-long
 returns-clause-long c =
     let size = literal_size c.args.bytes.now.items in
     IfOk_to c.append-2.result _ _ c.append-2.ensures.long
-    (λ h. omega (arith, h, size, c.loop-i.invariant.long, c.loop-i-test.false, c.loop-i.auto.i-end, c.len-last.ensures, c.args.bytes.now.ok.0, c.if-is_empty.false, c.is_empty.ensures, c.if-is_empty.ensures))
+    (λ h. omega (arith, h, size, c.loop-i.invariant.long, c.loop-i-test.false, c.loop-i.auto.i-end, c.len-last.ensures, c.args.bytes.now.ok.0))

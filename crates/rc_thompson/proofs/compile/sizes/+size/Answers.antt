@@ -8,7 +8,7 @@ use Rattle.rc_pattern.specs.declared.hir.HirKind.TheVariants as HirKind
 use Rattle.rc_pattern.specs.declared.hir.Repetition.{out-Repetition}
 use Rattle.rc_pattern.proofs.FoldLemmas.{kind_Literal}
 use Rattle.rc_thompson.specs.Shown.{laid}
-use Rattle.rc_thompson.proofs.SizeLemmas.{literal_size, on_size, on_size_none, to_size, on_body, to_body, cat_member, alt_member}
+use Rattle.rc_thompson.proofs.SizeLemmas.{literal_size, on_size, to_size, on_body, to_body, cat_member, alt_member}
 use Rattle.rc_thompson.proofs.compile.sizes.+size.Goals as goal
 
 pub size-returns-in-Literal : goal.size-returns-in-Literal
