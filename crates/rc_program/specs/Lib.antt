@@ -6,3 +6,4 @@ pub mod Spells
 pub mod Answer
 pub mod Matches
 pub mod Laws
+pub mod Sought

@@ -1,0 +1,5 @@
+//! The program of a list of patterns, as code has it.
+#![tactic(auto)]
+
+pub mod compile;
+pub mod place;

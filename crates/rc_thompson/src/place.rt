@@ -1,0 +1,26 @@
+//! The places of a program.
+
+use rc_pattern::hir::{ClassBytesRange, ClassUnicodeRange, Look};
+
+/// A place of a program. A way out names another place by its index in the program.
+#[derive(Drop)]
+pub enum Place {
+    /// Two ways out, in this order, which read nothing.
+    Choice(usize, usize),
+    /// One way out, which reads nothing.
+    Pass(usize),
+    /// No way out.
+    Dead,
+    /// One way out, over this byte.
+    Byte(u8, usize),
+    /// One way out, over one byte of the ranges.
+    Bytes(Vec<ClassBytesRange>, usize),
+    /// One way out, over the bytes of one scalar of the ranges.
+    Scalar(Vec<ClassUnicodeRange>, usize),
+    /// One way out, where the assertion holds.
+    Guard(Look, usize),
+    /// One way out, and the slot that a visit here fills.
+    Slot(usize, usize),
+    /// The match place of a pattern.
+    Accept(usize),
+}

@@ -1,0 +1,4 @@
+//! The plain engine: it tries the walks of a program in their order.
+#![tactic(auto)]
+
+pub mod walker;
