@@ -12,7 +12,6 @@ ghost use Rattle.rc_walker.specs.Frames.{AreUpTo, Ends, Rise, pair_of};
 use crate::ways::way;
 use rc_text::cursor::Cursor;
 use rc_text::input::Input;
-use rc_text::types::PatternID;
 use rc_thompson::place::Place;
 use std::alloc::{AllocError, Global};
 
@@ -28,13 +27,13 @@ pub struct Frame {
 }
 
 /// The place is a match place of an allowed pattern; `None` allows all.
-fn is_match(places: &[Place], place: usize, only: Option<PatternID>) -> bool
+fn is_match(places: &[Place], place: usize, only: Option<usize>) -> bool
     requires { place < length places.now }
     ensures { result ≡ is_match_place only (place_at (places_of places.now) place) }
 {
     match &places[place] {
         Place::Accept(pattern) => match only {
-            Some(only) => *pattern == only.as_usize(),
+            Some(only) => *pattern == only,
             None => true,
         },
         Place::Choice(_, _)
@@ -74,7 +73,7 @@ pub fn first_walk<C: Cursor>(
     input: &mut Input<C>,
     places: &[Place],
     terminator: u8,
-    only: Option<PatternID>,
+    only: Option<usize>,
     hi: usize,
     start: usize,
 ) -> Result<Option<Vec<Frame>>, AllocError>
