@@ -1,8 +1,8 @@
 -- The walk that a stack of frames holds.
-use Rattle.std.specs.Prelude.{ℕ, ◌≤◌, Vec, List, [], ◌∷◌, map, Option, IsTrue}
+use Rattle.std.specs.Prelude.{ℕ, ◌≤◌, Vec, List, [], ◌∷◌, map, Option, Some, None, IsTrue}
 use Rattle.std.specs.declared.alloc.Global.{Global}
 use Rattle.rc_walks.specs.Walks.{Pair}
-use Rattle.rc_program.specs.Program.{Place, place_at, is_match_place}
+use Rattle.rc_program.specs.Program.{Place, slot, place_at, is_match_place}
 use Rattle.rc_walker.specs.declared.frames.Frame.{Frame}
 
 abbrev pub pair_of : Frame → Pair
@@ -24,3 +24,8 @@ AreUpTo at (f ∷ fs) = (f.position ≤ at) × AreUpTo at fs
 abbrev pub Rise : ℕ → List Frame → Type 0
 Rise low [] = Unit {0}
 Rise low (f ∷ fs) = (low ≤ f.position) × AreUpTo f.position fs × Rise low fs
+
+-- the slot that a place names
+abbrev pub slot_name : Place → Option ℕ
+slot_name (slot k n) = Some k
+slot_name _ = None
