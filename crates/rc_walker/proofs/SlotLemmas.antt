@@ -1,5 +1,5 @@
 -- The slots of a walk, noted one by one.
-use Rattle.std.proofs.Common.{◌≡◌, ◌≢◌, ℕ, zero, suc, ◌+◌, ◌<◌, ◌≤◌, List, [], ◌∷◌, ◌++◌, length, map, take, set, replicate, get_or, Bool, true, false, Option, Some, None, nat_eq, sym, ap, ap₂, ◌∙◌, refl, inl, inr, ⊎_elim, arith, if◌then◌else◌, ne_eqb, eqb-true, eq-eqb, slice_get, slice_index_or}
+use Rattle.std.proofs.Common.{◌≡◌, ◌≢◌, ℕ, zero, suc, ◌+◌, ◌*◌, ◌<◌, ◌≤◌, List, [], ◌∷◌, ◌++◌, length, map, take, set, replicate, get_or, Bool, true, false, Option, Some, None, nat_eq, sym, ap, ap₂, ◌∙◌, refl, inl, inr, ⊎_elim, arith, if◌then◌else◌, ne_eqb, eqb-true, eq-eqb, slice_get, slice_index_or}
 use Rattle.std.specs.List.{range_with_len}
 use Rattle.std.specs.Option.{option_or}
 use Rattle.std.proofs.lemmas.Bool.{cases_lt, cases_eq}
@@ -10,7 +10,7 @@ use Rattle.rc_program.specs.Program.{Place, choice, byte, branch, scalar, guard,
 use Rattle.rc_walker.specs.Frames.{pair_of, slot_name}
 use Rattle.rc_walker.specs.declared.frames.Frame.{Frame}
 use Rattle.std.proofs.lemmas.Option.{none-some, same_Some}
-use Rattle.rc_program.specs.Answer.{last_visit, names}
+use Rattle.rc_program.specs.Answer.{Search, Chosen, last_visit, last_of, names, pattern_of, slots_of}
 
 -- lists are equal where they are equally long and have the same elements
 pub same_slots : (xs ys : List (Option ℕ)) → length xs ≡ length ys → ((k : ℕ) → k < length xs → get_or xs k None ≡ get_or ys k None) → xs ≡ ys
@@ -125,3 +125,12 @@ pub one_more_frame : (fs : List Frame) (i : ℕ) (d : Frame) → i < length fs �
     map pair_of (take (i + 1) fs) ≡ map pair_of (take i fs) ++ pair_of (slice_index_or fs i d) ∷ []
 one_more_frame fs i d l =
     ap (map pair_of) (take_more fs i d l) ∙ map-append pair_of (take i fs) (slice_index_or fs i d ∷ [])
+
+-- a match's own two slots are written over the visits
+pub own_slots : (s : Search) (c : Chosen) (n : ℕ) →
+    set (set (visits s.places n c.walk) (2 * pattern_of s c + 1) (Some (last_of c.walk).1)) (2 * pattern_of s c) (Some c.start) ≡ slots_of s n c
+own_slots s c n =
+    let p = pattern_of s c in
+    let f : ℕ → Option ℕ = λ k. last_visit s.places k c.walk in
+    ap (λ xs. set xs (2 * p) (Some c.start)) (set_slot f n (2 * p + 1) (Some (last_of c.walk).1))
+    ∙ set_slot (with_slot f (2 * p + 1) (Some (last_of c.walk).1)) n (2 * p) (Some c.start)
