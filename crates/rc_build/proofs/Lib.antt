@@ -1,3 +1,4 @@
 pub mod CheckLemmas
 pub mod NamesLemmas
+pub mod RefusalLemmas
 pub mod Runnable

@@ -5,4 +5,5 @@ pub mod check;
 pub mod compile;
 pub mod config;
 pub mod error;
+pub mod laws;
 pub mod which;
