@@ -6,4 +6,6 @@ pub mod compile;
 pub mod config;
 pub mod error;
 pub mod laws;
+#[cfg(test)]
+mod tests;
 pub mod which;
