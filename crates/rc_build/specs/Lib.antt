@@ -1,0 +1,5 @@
+pub mod Laws
+pub mod Lines
+pub mod Names
+pub mod Refusals
+pub mod Settings
