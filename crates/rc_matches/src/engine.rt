@@ -5,6 +5,8 @@ ghost use Rattle.rc_program.specs.Matches.{begin_of, end_of, is_again};
 ghost use Rattle.rc_program.specs.Sought.{IsRunnable};
 ghost use Rattle.rc_thompson.specs.Places.{places_of};
 
+use rc_captures::captures;
+use rc_captures::captures::Captures;
 use rc_text::cursor::Cursor;
 use rc_text::input::Input;
 use rc_text::types::{Match, PatternID};
@@ -22,9 +24,12 @@ pub struct Engine {
 }
 
 impl Engine {
-    ghost use Rattle.std.specs.Prelude.{◌≡◌, ◌≤◌, IfOk, IfSome, MatchOption, Option, Some, None, length};
+    ghost use Rattle.std.specs.Prelude.{◌≡◌, ◌≤◌, IfOk, OnOk, OnErr, IfSome, MatchOption, Option, Some, None, length};
     ghost use Rattle.std.specs.Option.{option_map};
     ghost use Rattle.rc_text.specs.Found.{Found};
+    ghost use Rattle.rc_captures.specs.Names.{Names};
+    ghost use Rattle.rc_captures.specs.Captures.{IsCapturesFor, captures_pattern};
+    ghost use Rattle.rc_matches.specs.Tells.{Tells, TellsOf};
     ghost use Rattle.rc_text.specs.Text.{Keeps, low, high};
     ghost use Rattle.rc_program.specs.Answer.{answer, groups};
     ghost use Rattle.rc_program.specs.Matches.{answer_from, begin_of, end_of, next_match, matches_left};
@@ -120,6 +125,25 @@ impl Engine {
             all.push(found)?;
         }
         Ok(all)
+    }
+
+    /// Writes the match that a search finds, with its groups, into captures of the patterns of these names. Without a match, and
+    /// after an `Err`, which is want of memory, they hold none.
+    pub fn find_captures<C: Cursor>(
+        &self,
+        alloc: Global,
+        input: &mut Input<C>,
+        caps: &mut Captures,
+    ) -> Result<(), AllocError>
+        ensures keeps { Keeps input.old input.new }
+        ensures made { (names : Names) → IsCapturesFor names caps.old → IsCapturesFor names caps.new }
+        ensures refused { OnErr result (captures_pattern caps.new ≡ None) }
+        ensures found { OnOk result (Tells (engine_search self.now input.old) caps.new) }
+    {
+        captures::clear(caps);
+        let pattern = self.find_slots(alloc, input, caps.slots_mut())?;
+        captures::set_pattern(caps, pattern);
+        Ok(())
     }
 }
 
