@@ -1,6 +1,6 @@
 -- What the iterators have still to give.
 use Rattle.std.specs.Prelude.{List}
-use Rattle.std.specs.Vec.{into_iter_items}
+use Rattle.std.specs.Vec.Iter.{into_iter_items}
 use Rattle.rc_text.specs.Found.{Found}
 use Rattle.rc_meta.specs.declared.regex.Regex.{Regex}
 use Rattle.rc_meta.specs.declared.iterators.FindMatches.{FindMatches}
