@@ -121,6 +121,8 @@ impl Engine {
     ) -> Result<Vec<Match>, AllocError>
         ensures moves { IsMoved input.old input.new }
         ensures listed { IfOk result (λ v. v.items ≡ matches_left (engine_search self.now input.old) input.old.span.start None) }
+        ensures within { IfOk result (λ v. All (λ m. (low input.old ≤ m.start)
+            × (m.start ≤ m.end) × (m.end ≤ high input.old)) v.items) }
     {
         let mut all = Vec::new(alloc);
         let mut last = None;

@@ -16,11 +16,11 @@ use rc_build::config::Config;
 use rc_captures::captures::Captures;
 use rc_captures::groups::GroupInfo;
 use rc_matches::engine::Engine;
-use rc_matches::pieces::{all_pieces, pieces_at_most, search_end};
+use rc_matches::pieces::{all_pieces, pieces_at_most};
 use rc_pattern::check::group_count;
 use rc_pattern::hir::Hir;
 use rc_text::cursor::Cursor;
-use rc_text::input::Input;
+use rc_text::input::{Input, high};
 use rc_text::types::{HalfMatch, Match, PatternID};
 use std::alloc::{AllocError, Global};
 
@@ -35,7 +35,7 @@ pub struct Regex {
 }
 
 impl Regex {
-    ghost use Rattle.std.specs.Prelude.{◌≡◌, ◌≤◌, ◌<◌, ◌+◌, ◌^◌, ◌↔◌, All, IfOk, IfSome, OnOk, OnErr, IsSome, IsTrue, MatchOption, Some, None, length, option_map};
+    ghost use Rattle.std.specs.Prelude.{◌≡◌, ◌≤◌, ◌<◌, ◌+◌, ◌^◌, ◌↔◌, All, IfOk, IfSome, OnOk, OnErr, IsSome, IsTrue, MatchOption, Some, None, length, map, option_map};
     ghost use Rattle.rc_captures.specs.Captures.{IsCapturesFor, captures_pattern, match_of};
     ghost use Rattle.rc_captures.specs.Groups.{names_of};
     ghost use Rattle.rc_captures.specs.Names.{slot_len};
@@ -192,6 +192,7 @@ impl Regex {
             → IfOk result (Tells (search_for (sought self.now) input)) }
         ensures matched { match_kind_of (regex_settings self.now) ≡ LeftmostFirst
             → IfOk result (λ c. match_of c ≡ answer (search_for (sought self.now) input)) }
+        ensures within { IfOk result (λ c. IfSome (match_of c) (λ m. (low input ≤ m.start) × (m.start ≤ m.end) × (m.end ≤ high input))) }
     {
         let mut caps = self.create_captures(alloc)?;
         self.search_captures(alloc, input, &mut caps)?;
@@ -213,6 +214,8 @@ impl Regex {
             → OnOk result (Tells (search_for (sought self.now) input) caps.new) }
         ensures matched { match_kind_of (regex_settings self.now) ≡ LeftmostFirst
             → OnOk result (match_of caps.new ≡ answer (search_for (sought self.now) input)) }
+        ensures within { OnOk result (IfSome (match_of caps.new)
+            (λ m. (low input ≤ m.start) × (m.start ≤ m.end) × (m.end ≤ high input))) }
     {
         self.engine.find_captures(alloc, &mut input, caps)
     }
@@ -247,6 +250,7 @@ impl Regex {
     ) -> Result<FindMatches<'r, C>, AllocError>
         ensures left { match_kind_of (regex_settings self.now) ≡ LeftmostFirst
             → IfOk result (λ s. find_left s ≡ matches_left (search_for (sought self.now) input) input.span.start None) }
+        ensures within { IfOk result (λ s. All (λ m. (low input ≤ m.start) × (m.start ≤ m.end) × (m.end ≤ high input)) (find_left s)) }
         ensures short { IfOk result (λ s. length (find_left s) < 2 ^ 64) }
         ensures regex { IfOk result (λ s. find_regex s ≡ self.now) }
     {
@@ -268,6 +272,9 @@ impl Regex {
         ensures told { match_kind_of (regex_settings self.now) ≡ LeftmostFirst
             → IfOk result (λ s. AllTell (search_for (sought self.now) input)
                 (walks_left (search_for (sought self.now) input) input.span.start None) (captures_left s)) }
+        ensures matched { match_kind_of (regex_settings self.now) ≡ LeftmostFirst
+            → IfOk result (λ s. map match_of (captures_left s)
+                ≡ map Some (matches_left (search_for (sought self.now) input) input.span.start None)) }
         ensures short { IfOk result (λ s. length (captures_left s) < 2 ^ 64) }
         ensures regex { IfOk result (λ s. captures_regex s ≡ self.now) }
     {
@@ -295,7 +302,7 @@ impl Regex {
         ensures short { IfOk result (λ s. length (split_left s) < 2 ^ 64) }
     {
         let found = self.engine.all_matches(alloc, &mut input)?;
-        let end = search_end(&mut input);
+        let end = high(&mut input);
         let pieces = all_pieces(alloc, &found, end)?.into_iter();
         Ok(Split { input, pieces })
     }
@@ -314,7 +321,7 @@ impl Regex {
         ensures limit { IfOk result (λ s. splitn_limit s ≡ limit) }
     {
         let found = self.engine.all_matches(alloc, &mut input)?;
-        let end = search_end(&mut input);
+        let end = high(&mut input);
         let pieces = pieces_at_most(alloc, &found, end, limit)?.into_iter();
         let limited = Limited { pieces, limit };
         Ok(SplitN { input, limited })
