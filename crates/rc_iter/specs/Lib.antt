@@ -1,0 +1,2 @@
+pub mod Finders
+pub mod Searchers

@@ -1,0 +1,5 @@
+//! Iteration over any finder: matches one after another, each search from where the last match ended.
+#![tactic(auto)]
+
+pub mod kept;
+pub mod searcher;
