@@ -1,2 +1,3 @@
 pub mod Finders
 pub mod Searchers
+pub mod Halves

@@ -1,0 +1,55 @@
+-- What the halves over a finder are, one after another.
+use Rattle.std.specs.Prelude.{◌≡◌, ℕ, suc, ◌+◌, ◌-◌, Bool, true, false, Option, Some, None, IfOk, IfErr, MatchBool, nat_eq, if◌then◌else◌}
+use Rattle.std.specs.declared.result.Result.{Result}
+use Rattle.std.specs.declared.result.Result.TheVariants.{Ok, Err}
+use Rattle.rc_text.specs.Text.{Searched}
+use Rattle.rc_text.specs.Found.{HalfFound}
+use Rattle.rc_text.specs.declared.types.MatchError.{MatchError}
+use Rattle.rc_iter.specs.Finders.{Task, Calls, AnswersAs, MayFail, limit, offset_of}
+use Rattle.rc_iter.specs.Searchers.{Searching, next_by, StaysWithin, Rises, Leaves}
+
+-- The halves that are still to come, as contracts see them: over this searcher, or none.
+pub record HalvesLeft : Type 0 where
+  pub searcher : Searching
+  pub is_done : Bool
+
+-- the answer that an item is: None ends the halves
+abbrev pub answer_of : Option (Result HalfFound MatchError) → Result (Option HalfFound) MatchError
+answer_of None = Ok None
+answer_of (Some (Ok m)) = Ok (Some m)
+answer_of (Some (Err e)) = Err e
+
+-- nothing comes after it
+abbrev pub is_last : Option (Result HalfFound MatchError) → Bool
+is_last None = true
+is_last (Some (Ok m)) = false
+is_last (Some (Err e)) = true
+
+-- What a call gives before the end: the next half of the list, or an error of the finder.
+pub record GivesHalf {F I : Type 0} (searched : I → Searched) (g : Calls F I HalfFound) (s : HalvesLeft)
+    (r : Option (Result HalfFound MatchError)) (t : HalvesLeft) : Type 0 where
+  pub exact : (find : Task → Option HalfFound) → AnswersAs searched g find →
+      IfOk (answer_of r) (λ o. o ≡ next_by offset_of offset_of find s.searcher)
+  pub failed : IfErr (answer_of r) (MayFail g)
+  pub within : StaysWithin offset_of offset_of s.searcher (answer_of r)
+  pub rises : Rises offset_of offset_of s.searcher (answer_of r)
+  pub leaves : Leaves offset_of offset_of s.searcher (answer_of r) t.searcher
+  pub done : t.is_done ≡ is_last r
+
+-- what a call gives: after an error or the end it is None
+abbrev pub GivesNext : {F I : Type 0} → (I → Searched) → Calls F I HalfFound → HalvesLeft → Option (Result HalfFound MatchError) → HalvesLeft → Type 0
+GivesNext searched g s r t = MatchBool s.is_done ((r ≡ None) × (t ≡ s)) (GivesHalf searched g s r t)
+
+-- the last match ended where the span begins
+abbrev pub is_at : ℕ → Option ℕ → Bool
+is_at k None = false
+is_at k (Some last) = nat_eq last k
+
+-- no more halves than this are found: one for each position from the span's start on, save where the last match ended
+abbrev pub halves_at_most : Searching → ℕ
+halves_at_most s =
+    if is_at s.input.span.start s.last then limit s.input - s.input.span.start else limit s.input + 1 - s.input.span.start
+
+-- no more items than this come: the halves, and an error
+abbrev pub items_at_most : HalvesLeft → ℕ
+items_at_most s = if s.is_done then 0 else suc (halves_at_most s.searcher)
