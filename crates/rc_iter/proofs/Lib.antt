@@ -1,2 +1,3 @@
 pub mod Failing
 pub mod Going
+pub mod Halved

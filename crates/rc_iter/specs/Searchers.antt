@@ -1,10 +1,12 @@
 -- What a searcher answers, and what it keeps.
 use Rattle.std.specs.Prelude.{◌≡◌, ℕ, ◌<◌, ◌≤◌, Option, Some, None, IfOk, IfSome, MatchOption, MatchResult}
+use Rattle.std.specs.Option.{option_map}
 use Rattle.std.specs.declared.result.Result.{Result}
 use Rattle.rc_text.specs.Text.{Searched, Keeps}
 use Rattle.rc_text.specs.declared.types.MatchError.{MatchError}
-use Rattle.rc_program.specs.Matches.{next_match}
-use Rattle.rc_iter.specs.Finders.{Task, task_of, with_start, LiesIn}
+use Rattle.rc_text.specs.Found.{Found, HalfFound}
+use Rattle.rc_program.specs.Matches.{next_match, begin_of, end_of}
+use Rattle.rc_iter.specs.Finders.{Task, task_of, with_start, half_of, LiesIn}
 
 -- A searcher as contracts see it.
 pub record Searching : Type 0 where
@@ -38,3 +40,15 @@ module _ {X : Type 0} (begin end : X → ℕ) where
   -- a match lies in the span
   abbrev pub StaysWithin : Searching → Result (Option X) MatchError → Type 0
   StaysWithin s r = IfOk r (λ o. IfSome o (LiesIn begin end s.input))
+
+-- the span begins where the last match ended, or after that
+abbrev pub IsPast : Searching → Type 0
+IsPast s = IfSome s.last (λ last. last ≤ s.input.span.start)
+
+-- a match that `find` gives begins where the task does, or after that, and ends no earlier than it begins
+abbrev pub FindsAhead : (Task → Option Found) → Type 0
+FindsAhead find = (t : Task) (m : Found) → find t ≡ Some m → (t.span.start ≤ m.start) × (m.start ≤ m.end)
+
+-- the halves of what `find` gives
+abbrev pub halves_of : (Task → Option Found) → Task → Option HalfFound
+halves_of find t = option_map half_of (find t)

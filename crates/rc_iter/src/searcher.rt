@@ -1,9 +1,9 @@
 //! A searcher: a kept input, whose matches a finder gives one after another.
-ghost use Rattle.std.specs.Prelude.{◌≡◌, ◌+◌, ◌≤◌, IfErr, IfOk, None, Option};
+ghost use Rattle.std.specs.Prelude.{◌≡◌, ◌+◌, ◌≤◌, IfErr, IfOk, None, Option, option_map};
 ghost use Rattle.rc_text.specs.Found.{Found, HalfFound};
 ghost use Rattle.rc_program.specs.Matches.{begin_of, end_of};
-ghost use Rattle.rc_iter.specs.Finders.{AnswersAs, IsLawfulFinder, MayFail, Task, offset_of};
-ghost use Rattle.rc_iter.specs.Searchers.{GoesOn, Leaves, Rises, StaysWithin, next_by};
+ghost use Rattle.rc_iter.specs.Finders.{AnswersAs, IsLawfulFinder, MayFail, Task, half_of, offset_of};
+ghost use Rattle.rc_iter.specs.Searchers.{FindsAhead, GoesOn, IsPast, Leaves, Rises, StaysWithin, halves_of, next_by};
 
 use crate::kept::KeptInput;
 use rc_text::input::Input;
@@ -115,6 +115,9 @@ impl<I: KeptInput + Drop> SearcherOf<I> {
         requires lawful { IsLawfulFinder offset_of offset_of I.searched F.FnMut }
         ensures exact { (find : Task → Option HalfFound) → AnswersAs I.searched F.FnMut find
             → IfOk result (λ o. o ≡ next_by offset_of offset_of find self.old) }
+        ensures halves { (find : Task → Option Found) → FindsAhead find
+            → AnswersAs I.searched F.FnMut (halves_of find) → IsPast self.old
+            → IfOk result (λ o. o ≡ option_map half_of (next_by begin_of end_of find self.old)) }
         ensures failed { IfErr result (MayFail F.FnMut) }
         ensures within { StaysWithin offset_of offset_of self.old result }
         ensures rises { Rises offset_of offset_of self.old result }
