@@ -1,3 +1,4 @@
 pub mod Failing
 pub mod Going
 pub mod Halved
+pub mod Lists

@@ -1,5 +1,5 @@
 //! The half matches over a finder, one after another.
-ghost use Rattle.std.specs.Prelude.{◌≡◌, false};
+ghost use Rattle.std.specs.Prelude.{◌≡◌};
 ghost use Rattle.rc_iter.specs.Finders.{IsLawfulFinder, offset_of};
 
 use crate::kept::KeptInput;
@@ -30,6 +30,8 @@ impl<F, I: KeptInput> Model for TryHalfMatchesOf<F, I> {
 }
 
 impl<I: KeptInput + Drop> SearcherOf<I> {
+    ghost use Rattle.rc_iter.specs.Halves.{HalvesLaw, going};
+
     /// The half matches from here on.
     pub fn into_half_matches_iter<F: FnMut(&mut I) -> Result<Option<HalfMatch>, MatchError>>(
         self,
@@ -37,8 +39,8 @@ impl<I: KeptInput + Drop> SearcherOf<I> {
     ) -> TryHalfMatchesOf<F, I>
         requires callable { (state : F) (i : _) → F.pre state i }
         requires lawful { IsLawfulFinder offset_of offset_of I.searched F.FnMut }
-        ensures searcher { result.searcher ≡ self }
-        ensures going { result.is_done ≡ false }
+        ensures left { result ≡ going self }
+        ensures law { HalvesLaw I.searched F.FnMut self }
     {
         TryHalfMatchesOf {
             searcher: self,

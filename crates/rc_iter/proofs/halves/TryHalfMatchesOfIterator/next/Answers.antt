@@ -1,12 +1,12 @@
 use Rattle.std.proofs.Common.{refl, true, Some, Err, sym}
-use Rattle.rc_iter.proofs.Going.{going}
+use Rattle.rc_iter.proofs.Going.{is_going}
 use Rattle.rc_iter.proofs.halves.TryHalfMatchesOfIterator.next.Goals as goal
 
 -- The finder was called through a loan of it: so it was called.
 pub returns-in-Err-clause-steps : goal.returns-in-Err-clause-steps
 returns-in-Err-clause-steps g c =
     let h = c.in-Err.ensures.failed in
-    going g.I.KeptInput.searched g.F.FnMut c.args.self.now _ (Some (Err c.in-Err.e)) (record { searcher = c.try_advance_half.new.self; is_done = true }) c.self.view_is c.if-self.false record {
+    is_going g.I.KeptInput.searched g.F.FnMut c.args.self.now _ (Some (Err c.in-Err.e)) (record { searcher = c.try_advance_half.new.self; is_done = true }) c.self.view_is c.if-self.false record {
       exact = λ find answers. tt;
       failed = record {
         state = h.state.now;
