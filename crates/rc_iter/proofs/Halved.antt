@@ -1,5 +1,5 @@
 -- The next half is the half of the next match.
-use Rattle.std.proofs.Common.{◌≡◌, ℕ, ◌+◌, ◌≤◌, Bool, true, false, ◌&&◌, Option, Some, None, Result, IfOk, IfSome, if◌then◌else◌, nat_eq, refl, sym, ap, ◌∙◌, arith, ⊎_elim, subst}
+use Rattle.std.proofs.Common.{◌≡◌, ℕ, ◌+◌, ◌≤◌, Bool, true, false, ◌&&◌, Option, Some, None, Result, IfOk, IfSome, if◌then◌else◌, nat_eq, refl, sym, arith, ⊎_elim, subst}
 use Rattle.std.specs.Option.{option_map}
 use Rattle.std.proofs.lemmas.Bool.{cases_Bool, eq-eqb, eqb-true}
 use Rattle.rc_text.specs.Found.{Found, HalfFound}

@@ -1,5 +1,5 @@
 -- What calls of `next` give, over whole lists of items.
-use Rattle.std.proofs.Common.{◌≡◌, ℕ, suc, ◌+◌, ◌-◌, ◌<◌, ◌≤◌, Bool, false, List, [], ◌∷◌, ◌++◌, length, map, Option, Some, None, Result, Ok, IfSome, refl, sym, ap, ◌∙◌, subst, arith}
+use Rattle.std.proofs.Common.{◌≡◌, ℕ, ◌+◌, ◌-◌, ◌<◌, ◌≤◌, false, List, [], ◌∷◌, ◌++◌, length, map, Option, Some, None, Result, Ok, IfSome, refl, sym, ap, ◌∙◌, subst, arith}
 use Rattle.std.specs.Bool.{MatchBool}
 use Rattle.std.specs.Option.{option_map}
 use Rattle.std.specs.Iterator.{Yields, YieldsThen}
@@ -38,7 +38,7 @@ left_after : (find : Task → Option Found) (s j : Searching) (n : ℕ) (ms : Li
 left_after find s j n ms on left =
     let e : task_of j.input ≡ task_of (with_start s.input n) = same_task (with_start s.input n) j.input on.0 in
     let a : AreMatches begin_of end_of (found_by find (task_of (with_start s.input n))) n j.last ms =
-        subst (λ t. AreMatches begin_of end_of (found_by find t) t.span.start j.last ms) e left in
+    subst (λ t. AreMatches begin_of end_of (found_by find t) t.span.start j.last ms) e left in
     subst (λ o. AreMatches begin_of end_of (found_by find (task_of (with_start s.input n))) n o ms) on.1 a
 
 -- where a searcher that went on stands

@@ -1,7 +1,7 @@
 -- What a finder answers, and what it owes.
-use Rattle.std.specs.Prelude.{◌≡◌, ℕ, ◌≤◌, List, length, min, Bool, Option, Some, None, IfOk, IfSome}
+use Rattle.std.specs.Prelude.{◌≡◌, ℕ, ◌≤◌, List, length, min, Bool, Option, IfOk, IfSome}
 use Rattle.std.specs.declared.result.Result.{Result}
-use Rattle.std.specs.declared.result.Result.TheVariants.{Ok, Err}
+use Rattle.std.specs.declared.result.Result.TheVariants.{Err}
 use Rattle.std.specs.Borrow.{MutBor}
 use denote.Param.Members.{Mut}
 use Rattle.rc_text.specs.Text.{Searched, Keeps}

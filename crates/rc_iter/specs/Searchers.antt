@@ -1,11 +1,11 @@
 -- What a searcher answers, and what it keeps.
-use Rattle.std.specs.Prelude.{◌≡◌, ℕ, ◌<◌, ◌≤◌, Option, Some, None, IfOk, IfSome, MatchOption, MatchResult}
+use Rattle.std.specs.Prelude.{◌≡◌, ℕ, ◌<◌, ◌≤◌, Option, Some, IfOk, IfSome, MatchOption, MatchResult}
 use Rattle.std.specs.Option.{option_map}
 use Rattle.std.specs.declared.result.Result.{Result}
 use Rattle.rc_text.specs.Text.{Searched, Keeps}
 use Rattle.rc_text.specs.declared.types.MatchError.{MatchError}
 use Rattle.rc_text.specs.Found.{Found, HalfFound}
-use Rattle.rc_program.specs.Matches.{next_match, begin_of, end_of}
+use Rattle.rc_program.specs.Matches.{next_match}
 use Rattle.rc_iter.specs.Finders.{Task, task_of, with_start, half_of, LiesIn}
 
 -- A searcher as contracts see it.

@@ -4,3 +4,5 @@
 pub mod halves;
 pub mod kept;
 pub mod searcher;
+#[cfg(test)]
+mod tests;

@@ -123,7 +123,7 @@ impl<I: KeptInput + Drop> SearcherOf<I> {
         ensures rises { Rises offset_of offset_of self.old result }
         ensures leaves { Leaves offset_of offset_of self.old result self.new }
     {
-        let start = self.input.span_start();
+        let from = self.input.span_start();
         let Some(found) = finder(&mut self.input)? else {
             return Ok(None);
         };
@@ -131,10 +131,10 @@ impl<I: KeptInput + Drop> SearcherOf<I> {
             self.go_on(found.offset());
             return Ok(Some(found));
         }
-        self.input.restart(start + 1);
-        let answer = finder(&mut self.input);
-        self.input.restart(start);
-        let Some(found) = answer? else {
+        self.input.restart(from + 1);
+        let later = finder(&mut self.input);
+        self.input.restart(from);
+        let Some(found) = later? else {
             return Ok(None);
         };
         self.go_on(found.offset());

@@ -1,4 +1,4 @@
-use Rattle.std.proofs.Common.{refl, true, Some, Err, sym}
+use Rattle.std.proofs.Common.{refl, true, Some, Err}
 use Rattle.rc_iter.proofs.Going.{is_going}
 use Rattle.rc_iter.proofs.halves.TryHalfMatchesOfIterator.next.Goals as goal
 

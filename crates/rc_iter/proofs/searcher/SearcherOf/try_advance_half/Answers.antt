@@ -8,4 +8,4 @@ returns-in_err-found-clause-failed g c =
 
 pub returns-in_err-found-2-clause-failed : goal.returns-in_err-found-2-clause-failed
 returns-in_err-found-2-clause-failed g c =
-    may_fail g.F.FnMut _ _ _ _ _ _ _ c.finder-answer.ensures.met c.in_err-found-2.was (search rules)
+    may_fail g.F.FnMut _ _ _ _ _ _ _ c.finder-later.ensures.met c.in_err-found-2.was (search rules)
