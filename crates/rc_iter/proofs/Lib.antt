@@ -2,3 +2,4 @@ pub mod Failing
 pub mod Going
 pub mod Halved
 pub mod Lists
+mod Examples

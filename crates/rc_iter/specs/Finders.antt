@@ -1,5 +1,5 @@
 -- What a finder answers, and what it owes.
-use Rattle.std.specs.Prelude.{◌≡◌, ℕ, ◌≤◌, List, length, min, Bool, Option, IfOk, IfSome}
+use Rattle.std.specs.Prelude.{◌≡◌, ◌⊎◌, ℕ, ◌+◌, ◌≤◌, List, length, min, Bool, Option, IfOk, IfSome}
 use Rattle.std.specs.declared.result.Result.{Result}
 use Rattle.std.specs.declared.result.Result.TheVariants.{Err}
 use Rattle.std.specs.Borrow.{MutBor}
@@ -71,12 +71,13 @@ module _ {X : Type 0} where
       (f : F) (i : MutBor I) (r : Result (Option X) MatchError) (j : MutBor I) (f' : F) →
       g.steps f (i, tt) (r, (j, tt)) f' → IfOk r (λ o. o ≡ find (task_of (searched i.now)))
 
-  -- Some call of the finder answers this error.
-  pub record MayFail {F I : Type 0} (g : Calls F I X) (e : MatchError) : Type 0 where
+  -- Some call of the finder over this input, from its start on or from a byte later, answers the error.
+  pub record MayFail {F I : Type 0} (searched : I → Searched) (g : Calls F I X) (s : Searched) (e : MatchError) : Type 0 where
     pub state : F
     pub given : MutBor I
     pub answer : Result (Option X) MatchError
     pub left : MutBor I
     pub next_state : F
+    pub over : Keeps s (searched given.now) ⊎ Keeps (with_start s (s.span.start + 1)) (searched given.now)
     pub met : g.steps state (given, tt) (answer, (left, tt)) next_state
     pub is : answer ≡ Err e

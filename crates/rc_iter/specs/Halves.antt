@@ -39,7 +39,7 @@ pub record GivesHalf {F I : Type 0} (searched : I → Searched) (g : Calls F I H
     (r : Option (Result HalfFound MatchError)) (t : HalvesLeft) : Type 0 where
   pub exact : (find : Task → Option HalfFound) → AnswersAs searched g find →
       IfOk (answer_of r) (λ o. o ≡ next_by offset_of offset_of find s.searcher)
-  pub failed : IfErr (answer_of r) (MayFail g)
+  pub failed : IfErr (answer_of r) (MayFail searched g s.searcher.input)
   pub within : StaysWithin offset_of offset_of s.searcher (answer_of r)
   pub rises : Rises offset_of offset_of s.searcher (answer_of r)
   pub leaves : Leaves offset_of offset_of s.searcher (answer_of r) t.searcher

@@ -58,7 +58,7 @@ impl<I: KeptInput + Drop> SearcherOf<I> {
         requires lawful { IsLawfulFinder begin_of end_of I.searched F.FnMut }
         ensures exact { (find : Task → Option Found) → AnswersAs I.searched F.FnMut find
             → IfOk result (λ o. o ≡ next_by begin_of end_of find self.old) }
-        ensures failed { IfErr result (MayFail F.FnMut) }
+        ensures failed { IfErr result (MayFail I.searched F.FnMut self.old.input) }
         ensures within { StaysWithin begin_of end_of self.old result }
         ensures rises { Rises begin_of end_of self.old result }
         ensures leaves { Leaves begin_of end_of self.old result self.new }
@@ -79,7 +79,7 @@ impl<I: KeptInput + Drop> SearcherOf<I> {
         requires lawful { IsLawfulFinder begin_of end_of I.searched F.FnMut }
         ensures exact { (find : Task → Option Found) → AnswersAs I.searched F.FnMut find
             → IfOk result (λ o. o ≡ next_by begin_of end_of find self.old) }
-        ensures failed { IfErr result (MayFail F.FnMut) }
+        ensures failed { IfErr result (MayFail I.searched F.FnMut self.old.input) }
         ensures within { StaysWithin begin_of end_of self.old result }
         ensures rises { Rises begin_of end_of self.old result }
         ensures leaves { Leaves begin_of end_of self.old result self.new }
@@ -118,7 +118,7 @@ impl<I: KeptInput + Drop> SearcherOf<I> {
         ensures halves { (find : Task → Option Found) → FindsAhead find
             → AnswersAs I.searched F.FnMut (halves_of find) → IsPast self.old
             → IfOk result (λ o. o ≡ option_map half_of (next_by begin_of end_of find self.old)) }
-        ensures failed { IfErr result (MayFail F.FnMut) }
+        ensures failed { IfErr result (MayFail I.searched F.FnMut self.old.input) }
         ensures within { StaysWithin offset_of offset_of self.old result }
         ensures rises { Rises offset_of offset_of self.old result }
         ensures leaves { Leaves offset_of offset_of self.old result self.new }

@@ -14,6 +14,7 @@ returns-in-Err-clause-steps g c =
         answer = h.answer;
         left = _;
         next_state = h.next_state.now;
+        over = h.over;
         met = h.met.2.met;
         is = h.is;
       };
