@@ -12,3 +12,4 @@ pub mod GroupLemmas
 mod Examples
 mod LookExamples
 pub mod EntryLemmas
+pub mod GreatestLemmas
