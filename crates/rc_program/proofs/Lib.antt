@@ -13,3 +13,5 @@ mod Examples
 mod LookExamples
 pub mod EntryLemmas
 pub mod GreatestLemmas
+pub mod KindLemmas
+mod KindExamples

@@ -1,5 +1,5 @@
 -- The kinds of answer: the preferred match, the greatest one, or any that is spelled.
-use Rattle.std.specs.Prelude.{◌≡◌, ◌↔◌, ℕ, ◌+◌, ◌-◌, ◌≤◌, Bool, false, true, not, ◌&&◌, List, length, Option, Some, None, if◌then◌else◌, max}
+use Rattle.std.specs.Prelude.{◌≡◌, ◌↔◌, ℕ, ◌+◌, ◌-◌, ◌≤◌, Bool, false, true, not, ◌&&◌, List, length, Option, Some, None, max}
 use Rattle.rc_text.specs.Found.{Found}
 use Rattle.rc_text.specs.declared.types.MatchKind.{MatchKind}
 use Rattle.rc_text.specs.declared.types.MatchKind.TheVariants.{All as all_matches, LeftmostFirst as leftmost_first}
@@ -21,9 +21,13 @@ abbrev pub IsEarlyAnswer : MatchKind → Search → Option Found → Type 0
 IsEarlyAnswer kind s None = answer_by kind s ≡ None
 IsEarlyAnswer kind s (Some m) = IsSpelledIn s m
 
+abbrev pub IsAnswerWhere : Bool → MatchKind → Search → Option Found → Type 0
+IsAnswerWhere true kind s o = IsEarlyAnswer kind s o
+IsAnswerWhere false kind s o = o ≡ answer_by kind s
+
 -- What a search may answer: the match of the kind; with the earliest flag on, any that is spelled, unless passing over is in play.
 abbrev pub IsAnswerBy : MatchKind → Bool → Search → Option Found → Type 0
-IsAnswerBy kind earliest s o = if is_early earliest s then IsEarlyAnswer kind s o else (o ≡ answer_by kind s)
+IsAnswerBy kind earliest s o = IsAnswerWhere (is_early earliest s) kind s o
 
 -- the match of a kind where the span starts at k
 abbrev pub answer_by_from : MatchKind → Search → ℕ → Option Found
