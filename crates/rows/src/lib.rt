@@ -3,3 +3,6 @@
 
 pub mod cursors;
 pub mod patterns;
+pub mod searches;
+#[cfg(test)]
+mod tests;

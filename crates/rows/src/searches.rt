@@ -4,11 +4,11 @@ use crate::cursors::Recut;
 use rc_meta::regex::Regex;
 use rc_text::cursor::Cursor;
 use rc_text::input::Input;
-use rc_text::types::{Anchored, Span};
+use rc_text::types::{Anchored, Match, Span};
 use std::alloc::{AllocError, Global};
 use std::process::Abort;
 
-/// How a text is searched: the span and the slice that are set, and the anchoring.
+/// How a text is searched: the slice and the span that are set, and the anchoring.
 #[derive(Clone, Copy, Debug)]
 pub struct Asked {
     slice: Option<Span>,
@@ -44,14 +44,47 @@ impl Asked {
         self
     }
 
-    /// The input that is so asked for. Spans that no input takes are left out.
-    pub fn input<C: Cursor>(&self, cursor: C) -> Input<C> {
+    /// The input that is so asked for. A span that no input takes is left out.
+    pub fn input<C: Cursor + Drop>(&self, cursor: C) -> Input<C> {
         let mut input = Input::new(cursor);
         if let Some(slice) = self.slice {
             if slice.start.saturating_sub(1) <= slice.end {
-                input.set_slice(slice);
+                input.slice_span(slice);
             }
         }
+        if let Some(span) = self.span {
+            if span.start.saturating_sub(1) <= span.end {
+                input.set_span(span);
+            }
+        }
+        input.set_anchored(self.anchored);
         input
     }
+}
+
+/// The span of a match.
+pub fn span_of(found: Option<Match>) -> Option<(usize, usize)> {
+    let found = found?;
+    Some((found.start(), found.end()))
+}
+
+/// The first match in the text has this span, over one chunk, chunks of one byte, and chunks that are cut anew at each move, with
+/// and without a total.
+pub fn finds(
+    rt: &impl Abort,
+    alloc: Global,
+    regex: &Regex,
+    text: &[u8],
+    asked: Asked,
+    want: Option<(usize, usize)>,
+) -> Result<(), AllocError> {
+    let found = regex.find(alloc, asked.input(text))?;
+    assert_eq!(rt; span_of(found), want, "one chunk");
+    let found = regex.find(alloc, asked.input(Recut::by_bytes(text)))?;
+    assert_eq!(rt; span_of(found), want, "one-byte chunks");
+    let found = regex.find(alloc, asked.input(Recut::in_ring(text)))?;
+    assert_eq!(rt; span_of(found), want, "cut anew");
+    let found = regex.find(alloc, asked.input(Recut::without_total(text)))?;
+    assert_eq!(rt; span_of(found), want, "without a total");
+    Ok(())
 }

@@ -1,0 +1,6 @@
+//! Worked rows.
+//!
+//! A comment before a row shows its pattern as text.
+
+mod repetitions;
+mod words;
