@@ -88,3 +88,12 @@ pub fn finds(
     assert_eq!(rt; span_of(found), want, "without a total");
     Ok(())
 }
+
+/// The spans of these matches.
+fn spans_of(alloc: Global, matches: Vec<Match>) -> Result<Vec<(usize, usize)>, AllocError> {
+    let mut spans = Vec::new(alloc);
+    for found in matches {
+        spans.push((found.start(), found.end()))?;
+    }
+    Ok(spans)
+}
