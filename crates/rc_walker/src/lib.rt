@@ -1,4 +1,6 @@
 //! The plain engine: it tries the walks of a program in their order.
 #![tactic(auto)]
 
+mod frames;
+mod ways;
 pub mod walker;

@@ -1,0 +1,4 @@
+pub mod TextLemmas
+pub mod StepLemmas
+pub mod SlotLemmas
+pub mod SearchLemmas
