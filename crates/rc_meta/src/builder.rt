@@ -2,18 +2,21 @@
 
 ghost use Rattle.std.specs.Prelude.{◌≡◌, ◌≤◌, ◌∷◌, [], IfOk, IfErr, length, map};
 ghost use Rattle.rc_pattern.specs.Meaning.{meaning};
-ghost use Rattle.rc_program.specs.Sought.{may_be_empty};
+ghost use Rattle.rc_program.specs.Sought.{IsRunnable, may_be_empty, passes_over};
+ghost use Rattle.rc_thompson.specs.Places.{places_of};
 ghost use Rattle.rc_build.specs.Refusals.{IsBuildable, IsRefusal};
-ghost use Rattle.rc_build.specs.Settings.{settings_of, unset, overwritten, nfa_size_limit_of};
+ghost use Rattle.rc_build.specs.Settings.{settings_of, unset, overwritten, nfa_size_limit_of, line_terminator_of};
+ghost use Rattle.rc_meta.specs.Fits.{sought_by};
 ghost use Rattle.rc_meta.specs.Views.{builder_settings, regex_patterns, regex_settings};
 
 use crate::regex::{Regex, assembled};
-use rc_build::compile::{Compiled, compile_all};
+use rc_build::compile::compile_all;
 use rc_build::config::Config;
 use rc_build::error::BuildError;
 use rc_matches::engine::Engine;
 use rc_pattern::check::copies_of;
 use rc_pattern::hir::Hir;
+use rc_thompson::place::Place;
 use std::alloc::Global;
 
 /// Makes regexes under settings of its own.
@@ -70,13 +73,24 @@ impl Builder {
             config.get_nfa_size_limit(),
             config.get_which_captures(),
         )?;
-        let engine = Engine {
-            places: compiled.places,
-            terminator: config.get_line_terminator(),
-            passes_over: config.get_utf8_empty() && may_be_empty(hirs),
-        };
+        let engine = engine_of(config, hirs, compiled.places);
         let hirs = copies_of(alloc, hirs)?;
         Ok(assembled(hirs, config, engine, compiled.info))
+    }
+}
+
+/// The engine of these patterns, whose program this is.
+fn engine_of(config: Config, hirs: &[Hir], places: Vec<Place>) -> Engine
+    requires { IsRunnable (places_of places.items) }
+    ensures places { result.places ≡ places }
+    ensures terminator { result.terminator ≡ line_terminator_of (settings_of config) }
+    ensures passes_over { result.passes_over ≡ passes_over (sought_by (settings_of config) (map meaning hirs.now)) }
+{
+    let passes_over = config.get_utf8_empty() && may_be_empty(hirs);
+    Engine {
+        places,
+        terminator: config.get_line_terminator(),
+        passes_over,
     }
 }
 
