@@ -10,15 +10,16 @@ ghost use Rattle.rc_pattern.specs.Meaning.{meaning};
 ghost use Rattle.rc_build.specs.Settings.{settings_of};
 ghost use Rattle.rc_meta.specs.Fits.{Fits};
 
-use crate::builder::Builder;
+use crate::builder::{Builder, build};
 use rc_build::config::Config;
+use rc_captures::captures::Captures;
 use rc_captures::groups::GroupInfo;
 use rc_matches::engine::Engine;
 use rc_pattern::check::group_count;
 use rc_pattern::hir::Hir;
 use rc_text::cursor::Cursor;
 use rc_text::input::Input;
-use rc_text::types::{HalfMatch, Match};
+use rc_text::types::{HalfMatch, Match, PatternID};
 use std::alloc::{AllocError, Global};
 
 /// A list of patterns, built.
@@ -32,13 +33,17 @@ pub struct Regex {
 }
 
 impl Regex {
-    ghost use Rattle.std.specs.Prelude.{◌≡◌, ◌≤◌, ◌+◌, ◌↔◌, IfOk, IfSome, IsSome, IsTrue, length, option_map};
+    ghost use Rattle.std.specs.Prelude.{◌≡◌, ◌≤◌, ◌+◌, ◌↔◌, IfOk, IfSome, OnOk, OnErr, IsSome, IsTrue, MatchOption, Some, None, length, option_map};
+    ghost use Rattle.rc_captures.specs.Captures.{IsCapturesFor, captures_pattern, match_of};
     ghost use Rattle.rc_captures.specs.Groups.{names_of};
+    ghost use Rattle.rc_captures.specs.Names.{slot_len};
+    ghost use Rattle.rc_matches.specs.Tells.{Tells};
+    ghost use Rattle.rc_text.specs.Found.{Found};
     ghost use Rattle.rc_program.specs.Laws.{all_groups};
     ghost use Rattle.rc_meta.specs.Counts.{half_of, static_captures_len};
     ghost use Rattle.rc_text.specs.Text.{low, high};
     ghost use Rattle.rc_text.specs.declared.types.MatchKind.TheVariants.{LeftmostFirst};
-    ghost use Rattle.rc_program.specs.Answer.{answer};
+    ghost use Rattle.rc_program.specs.Answer.{answer, groups};
     ghost use Rattle.rc_program.specs.Sought.{search_for};
     ghost use Rattle.rc_build.specs.Settings.{unset, match_kind_of};
     ghost use Rattle.rc_meta.specs.Views.{builder_settings, regex_patterns, regex_settings, regex_names, sought};
@@ -148,6 +153,82 @@ impl Regex {
         ensures { settings_of result.now ≡ regex_settings self.now }
     {
         &self.config
+    }
+
+    /// A regex of the same patterns under the same settings. An `Err` is want of memory.
+    pub fn try_clone(&self, alloc: Global) -> Result<Regex, AllocError>
+        ensures patterns { IfOk result (λ r. regex_patterns r ≡ regex_patterns self.now) }
+        ensures settings { IfOk result (λ r. regex_settings r ≡ regex_settings self.now) }
+    {
+        match build(alloc, self.config, &self.hirs) {
+            Ok(regex) => Ok(regex),
+            // The patterns were built before, so nothing else refuses them.
+            Err(_) => Err(AllocError),
+        }
+    }
+
+    /// Captures that keep the groups of the patterns. They hold no match. An `Err` is want of memory.
+    pub fn create_captures(&self, alloc: Global) -> Result<Captures, AllocError>
+        ensures made { IfOk result (IsCapturesFor (regex_names self.now)) }
+        ensures pattern { IfOk result (λ c. captures_pattern c ≡ None) }
+    {
+        Captures::all(alloc, &self.info)
+    }
+
+    /// The match that a search of the input finds, with its groups. Without a match the captures hold none. An `Err` is want of
+    /// memory.
+    pub fn captures<C: Cursor + Drop>(
+        &self,
+        alloc: Global,
+        input: Input<C>,
+    ) -> Result<Captures, AllocError>
+        ensures made { IfOk result (IsCapturesFor (regex_names self.now)) }
+        ensures found { match_kind_of (regex_settings self.now) ≡ LeftmostFirst
+            → IfOk result (Tells (search_for (sought self.now) input)) }
+        ensures matched { match_kind_of (regex_settings self.now) ≡ LeftmostFirst
+            → IfOk result (λ c. match_of c ≡ answer (search_for (sought self.now) input)) }
+    {
+        let mut caps = self.create_captures(alloc)?;
+        self.search_captures(alloc, input, &mut caps)?;
+        Ok(caps)
+    }
+
+    /// As `captures`, into captures that were made for this regex: by `create_captures`, or of its `group_info`. After an `Err` they
+    /// hold no match.
+    pub fn search_captures<C: Cursor + Drop>(
+        &self,
+        alloc: Global,
+        mut input: Input<C>,
+        caps: &mut Captures,
+    ) -> Result<(), AllocError>
+        requires made { IsCapturesFor (regex_names self.now) caps.old }
+        ensures still_made { IsCapturesFor (regex_names self.now) caps.new }
+        ensures refused { OnErr result (captures_pattern caps.new ≡ None) }
+        ensures found { match_kind_of (regex_settings self.now) ≡ LeftmostFirst
+            → OnOk result (Tells (search_for (sought self.now) input) caps.new) }
+        ensures matched { match_kind_of (regex_settings self.now) ≡ LeftmostFirst
+            → OnOk result (match_of caps.new ≡ answer (search_for (sought self.now) input)) }
+    {
+        self.engine.find_captures(alloc, &mut input, caps)
+    }
+
+    /// The pattern of the match that a search of the input finds, and its slots in `slots`, which may be fewer than the regex has.
+    /// Without a match the slots stay. An `Err` is want of memory.
+    pub fn search_slots<C: Cursor + Drop>(
+        &self,
+        alloc: Global,
+        mut input: Input<C>,
+        slots: &mut [Option<usize>],
+    ) -> Result<Option<PatternID>, AllocError>
+        requires few { length slots.old ≤ slot_len (regex_names self.now) }
+        ensures pattern { match_kind_of (regex_settings self.now) ≡ LeftmostFirst
+            → IfOk result (λ p. p ≡ option_map (λ (m : Found). m.pattern) (answer (search_for (sought self.now) input))) }
+        ensures slots { match_kind_of (regex_settings self.now) ≡ LeftmostFirst
+            → IfOk result (λ p. MatchOption p
+                (slots.new ≡ slots.old)
+                (λ _. Some slots.new ≡ groups (search_for (sought self.now) input) (length slots.old))) }
+    {
+        self.engine.find_slots(alloc, &mut input, slots)
     }
 }
 

@@ -6,6 +6,7 @@ use rc_build::error::BuildError;
 use rc_meta::regex::Regex;
 use rc_pattern::hir::{Hir, Look};
 use std::alloc::{AllocError, Global};
+use std::process::Abort;
 use std::test::Fail;
 
 fn letter(alloc: Global) -> Result<Hir, AllocError> {
@@ -14,13 +15,14 @@ fn letter(alloc: Global) -> Result<Hir, AllocError> {
 
 /// The pattern is found in the text at this span, over every cutting.
 fn row(
-    rt: &HostRuntime,
+    rt: &impl Abort,
+    alloc: Global,
     hir: &Hir,
     text: &[u8],
     want: Option<(usize, usize)>,
 ) -> Result<(), BuildError> {
-    let regex = Regex::builder().build_from_hir(rt.alloc(), hir)?;
-    finds(rt, rt.alloc(), &regex, text, Asked::all(), want)?;
+    let regex = Regex::builder().build_from_hir(alloc, hir)?;
+    finds(rt, alloc, &regex, text, Asked::all(), want)?;
     Ok(())
 }
 
@@ -30,18 +32,21 @@ fn greedy_and_lazy(rt: HostRuntime) -> Result<(), Fail> {
     // `x*` and `x*?`
     row(
         &rt,
+        alloc,
         &turns(alloc, 0, None, literal(alloc, "x")?)?,
         b"x",
         Some((0, 1)),
     )?;
     row(
         &rt,
+        alloc,
         &few_turns(alloc, 0, None, literal(alloc, "x")?)?,
         b"x",
         Some((0, 0)),
     )?;
     row(
         &rt,
+        alloc,
         &turns(alloc, 0, None, literal(alloc, "x")?)?,
         b"",
         Some((0, 0)),
@@ -49,18 +54,21 @@ fn greedy_and_lazy(rt: HostRuntime) -> Result<(), Fail> {
     // `a{2,3}` and `a{2,3}?`
     row(
         &rt,
+        alloc,
         &turns(alloc, 2, Some(3), letter(alloc)?)?,
         b"aaaa",
         Some((0, 3)),
     )?;
     row(
         &rt,
+        alloc,
         &few_turns(alloc, 2, Some(3), letter(alloc)?)?,
         b"aaaa",
         Some((0, 2)),
     )?;
     row(
         &rt,
+        alloc,
         &turns(alloc, 2, Some(3), letter(alloc)?)?,
         b"aba",
         None,
@@ -68,6 +76,7 @@ fn greedy_and_lazy(rt: HostRuntime) -> Result<(), Fail> {
     // `a{0,0}`
     row(
         &rt,
+        alloc,
         &turns(alloc, 0, Some(0), letter(alloc)?)?,
         b"a",
         Some((0, 0)),
@@ -75,14 +84,22 @@ fn greedy_and_lazy(rt: HostRuntime) -> Result<(), Fail> {
     // `a{2,}`
     row(
         &rt,
+        alloc,
         &turns(alloc, 2, None, letter(alloc)?)?,
         b"baaa",
         Some((1, 4)),
     )?;
-    row(&rt, &turns(alloc, 2, None, letter(alloc)?)?, b"baba", None)?;
+    row(
+        &rt,
+        alloc,
+        &turns(alloc, 2, None, letter(alloc)?)?,
+        b"baba",
+        None,
+    )?;
     // `(?:ab){2}`
     row(
         &rt,
+        alloc,
         &turns(alloc, 2, Some(2), literal(alloc, "ab")?)?,
         b"abababx",
         Some((0, 4)),
@@ -95,15 +112,15 @@ fn bodies_that_can_be_empty(rt: HostRuntime) -> Result<(), Fail> {
     let alloc = rt.alloc();
     // `(?:|a)+`
     let hir = turns(alloc, 1, None, or(alloc, Hir::empty(), letter(alloc)?)?)?;
-    row(&rt, &hir, b"aaa", Some((0, 0)))?;
+    row(&rt, alloc, &hir, b"aaa", Some((0, 0)))?;
     // `(?:c?|b)*`
     let optional = turns(alloc, 0, Some(1), literal(alloc, "c")?)?;
     let hir = turns(alloc, 0, None, or(alloc, optional, literal(alloc, "b")?)?)?;
-    row(&rt, &hir, b"b", Some((0, 0)))?;
+    row(&rt, alloc, &hir, b"b", Some((0, 0)))?;
     // `(?:(?:a?)*)*`
     let optional = turns(alloc, 0, Some(1), letter(alloc)?)?;
     let hir = turns(alloc, 0, None, turns(alloc, 0, None, optional)?)?;
-    row(&rt, &hir, b"aa", Some((0, 2)))?;
+    row(&rt, alloc, &hir, b"aa", Some((0, 2)))?;
     Ok(())
 }
 
@@ -114,7 +131,7 @@ fn nested_to_the_limit(rt: HostRuntime) -> Result<(), Fail> {
     for _ in 0..1023 {
         hir = turns(alloc, 1, Some(1), hir)?;
     }
-    row(&rt, &hir, b"a", Some((0, 1)))?;
+    row(&rt, alloc, &hir, b"a", Some((0, 1)))?;
     let hir = turns(alloc, 1, Some(1), hir)?;
     let refusal = Regex::builder().build_from_hir(alloc, &hir).err();
     assert!(rt; matches!(refusal, Some(BuildError::IllFormed { .. })));
