@@ -1,8 +1,8 @@
 -- Worked rows of the definitions.
-use Rattle.std.proofs.Common.{◌≡◌, false, true, List, [], ◌∷◌, Some, None, refl}
+use Rattle.std.proofs.Common.{◌≡◌, false, true, [], ◌∷◌, Some, None, refl}
 use Rattle.std.specs.Prelude.{codes}
 use Rattle.rc_pattern.specs.Re.{literal, char_in, repeat, capture, cat}
-use Rattle.rc_build.specs.declared.error.BuildError.TheVariants.{IllFormed, Memory}
+use Rattle.rc_build.specs.declared.error.BuildError.TheVariants.{IllFormed}
 use Rattle.rc_build.specs.Lines.{line_of, pattern_of}
 use Rattle.rc_build.specs.Names.{names_shown}
 use Rattle.rc_build.specs.Refusals.{size_of}

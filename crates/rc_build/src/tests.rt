@@ -84,6 +84,7 @@ fn answers(
     limit: Option<usize>,
     want: Result<(), BuildError>,
 ) {
+    assert!(rt; hirs.len() <= 2_147_483_647);
     assert_eq!(rt; check(alloc, hirs, limit), want);
 }
 

@@ -1,5 +1,5 @@
 -- The program of a list of patterns, pattern by pattern.
-use Rattle.std.proofs.Common.{◌≡◌, ℕ, zero, suc, ◌+◌, ◌*◌, ◌<◌, ◌≤◌, List, [], ◌∷◌, ◌++◌, length, map, drop, get_or, min, Option, Some, None, Bool, true, false, sym, ap, ap₂, ◌∙◌, refl, arith, append_assoc, subst, vec_len, Vec, Global}
+use Rattle.std.proofs.Common.{◌≡◌, ℕ, zero, suc, ◌+◌, ◌*◌, ◌<◌, ◌≤◌, List, [], ◌∷◌, ◌++◌, length, map, drop, get_or, Option, Some, None, Bool, true, false, sym, ap, ap₂, ◌∙◌, refl, arith, append_assoc, subst, vec_len, Vec, Global}
 use Rattle.std.specs.Prelude.{All}
 use Rattle.std.specs.List.{AllByRecursion, range_with_len}
 use Rattle.std.proofs.Math.Nat.{mul-le-mul_right}
@@ -12,15 +12,16 @@ use Rattle.rc_pattern.specs.WellFormed.{IsWellFormed, HasBounds, group_numbers, 
 use Rattle.rc_pattern.specs.declared.hir.Hir.{Hir}
 use Rattle.rc_pattern.proofs.FoldLemmas.{members_from}
 use Rattle.rc_program.specs.Program.{Place, Part, choice, either, pattern_part, choice_of_patterns, program, without_groups, shown}
-use Rattle.rc_program.specs.Laws.{all_groups, slot_count}
+use Rattle.rc_program.specs.Laws.{all_groups}
 use Rattle.rc_program.proofs.PlaceLemmas.{length-program}
 use Rattle.rc_program.proofs.WeightLemmas.{program_small}
 use Rattle.rc_program.proofs.GroupLemmas.{shown_lighter, shown_all, without_groups_bounded, group_numbers-without_groups}
-use Rattle.rc_thompson.specs.Places.{place_of, places_of}
+use Rattle.rc_thompson.specs.Places.{places_of}
 use Rattle.rc_thompson.specs.Shown.{greatest_group, shown_one, laid}
 use Rattle.rc_thompson.specs.declared.place.Place as code
 use Rattle.rc_thompson.proofs.EmitLemmas.{Emits}
 
+-- each number is one that a group of a light pattern may have
 abbrev pub AreSmall : List ℕ → Type 0
 AreSmall = AllByRecursion (λ n. n ≤ greatest_group)
 
@@ -146,10 +147,10 @@ takes groups hs ok light =
     let l : length ms ≡ length hs = length-map hs (shown_one groups) in
     let lighter : list_weight ms ≤ list_weight hs = subst (λ (xs : List Re). list_weight xs ≤ list_weight hs) (sym e) (shown_lighter groups hs) in
     let bounded : All HasBounds ms =
-      subst (All HasBounds) (sym e) (shown_all HasBounds without_groups_bounded groups hs (All-weaker IsWellFormed HasBounds (λ h x. x.bounded) hs ok)) in
+    subst (All HasBounds) (sym e) (shown_all HasBounds without_groups_bounded groups hs (All-weaker IsWellFormed HasBounds (λ h x. x.bounded) hs ok)) in
     let small : length (program ms) ≤ list_weight ms = program_small ms bounded in
     let size : length (program ms) ≡ (choice_of_patterns 0 (2 * length hs) ms).size =
-      length-program ms ∙ ap (λ k. (choice_of_patterns 0 (2 * k) ms).size) l in
+    length-program ms ∙ ap (λ k. (choice_of_patterns 0 (2 * k) ms).size) l in
     let slots = groups_below ms in
     (omega (arith, small, size, lighter, light), omega (arith, slots, l, lighter, light))
 
@@ -188,14 +189,14 @@ pub emits_pattern : (groups : Bool) (xs : List Hir) (i : ℕ) (x : Hir) (s t : �
     Emits 0 0 begun all old (choice_of_patterns i s (map (shown_one groups) (map meaning (drop i xs)))) →
     vec_len new ≡ vec_len old + 1 + (pattern_part i s (shown_one groups (meaning x))).size →
     places_of new.items ≡ places_of old.items
-      ++ choice ((vec_len old + 1) ∷ (vec_len old + 1 + (pattern_part i s (shown_one groups (meaning x))).size) ∷ [])
-      ∷ (pattern_part i s (shown_one groups (meaning x))).places 0 (vec_len old + 1) 0 →
+    ++ choice ((vec_len old + 1) ∷ (vec_len old + 1 + (pattern_part i s (shown_one groups (meaning x))).size) ∷ [])
+    ∷ (pattern_part i s (shown_one groups (meaning x))).places 0 (vec_len old + 1) 0 →
     Emits 0 0 begun all new (choice_of_patterns (i + 1) t (map (shown_one groups) (map meaning (drop (i + 1) xs))))
 emits_pattern groups xs i x s t begun all old new h e slots held long more =
     let m : Re = shown_one groups (meaning x) in
     let ms : List Re = map (shown_one groups) (map meaning (drop (i + 1) xs)) in
     let f : Emits 0 0 begun all old (either (pattern_part i s m) (choice_of_patterns (i + 1) (s + 2 * group_count m) ms)) =
-      subst (λ (ys : List Re). Emits 0 0 begun all old (choice_of_patterns i s ys)) (shown_from groups xs i x h e) held in
+    subst (λ (ys : List Re). Emits 0 0 begun all old (choice_of_patterns i s ys)) (shown_from groups xs i x h e) held in
     subst (λ k. Emits 0 0 begun all new (choice_of_patterns (i + 1) k ms)) (sym slots)
     (emits_either 0 0 begun all old new (pattern_part i s m) (choice_of_patterns (i + 1) (s + 2 * group_count m) ms) f long more)
 
@@ -203,14 +204,14 @@ emits_pattern groups xs i x s t begun all old new h e slots held long more =
 pub emits_program : (groups : Bool) (xs : List Hir) (i s : ℕ) (begun old : Vec code.Place Global) (ps : List Place) →
     All IsWellFormed (map meaning xs) → list_weight (map meaning xs) ≤ 2147483646 → length xs ≤ i → begun.items ≡ [] → vec_len begun ≡ 0 →
     Emits 0 0 begun (choice_of_patterns 0 (2 * length (map meaning xs)) (map (shown_one groups) (map meaning xs))) old
-      (choice_of_patterns i s (map (shown_one groups) (map meaning (drop i xs)))) →
+    (choice_of_patterns i s (map (shown_one groups) (map meaning (drop i xs)))) →
     ps ≡ places_of old.items ++ choice [] ∷ [] → ps ≡ program (shown groups (map meaning xs))
 emits_program groups xs i s begun old ps ok light past clear short held is =
     let hs : List Re = map meaning xs in
     let ms : List Re = map (shown_one groups) hs in
     let e : drop i xs ≡ [] = drop_all i xs past in
     let f : Emits 0 0 begun (choice_of_patterns 0 (2 * length hs) ms) old (choice_of_patterns i s []) =
-      subst (λ (ys : List Hir). Emits 0 0 begun (choice_of_patterns 0 (2 * length hs) ms) old (choice_of_patterns i s (map (shown_one groups) (map meaning ys)))) e held in
+    subst (λ (ys : List Hir). Emits 0 0 begun (choice_of_patterns 0 (2 * length hs) ms) old (choice_of_patterns i s (map (shown_one groups) (map meaning ys)))) e held in
     is ∙ f.more
     ∙ ap₂ (λ (qs : List code.Place) n. places_of qs ++ (choice_of_patterns 0 (2 * length hs) ms).places 0 n 0) clear short
     ∙ ap (λ k. (choice_of_patterns 0 (2 * k) ms).places 0 0 0) (sym (length-map hs (shown_one groups)))

@@ -1,5 +1,5 @@
 -- The places that are still to be appended.
-use Rattle.std.proofs.Common.{◌≡◌, ℕ, zero, suc, ◌+◌, ◌-◌, ◌*◌, ◌<◌, ◌≤◌, List, [], ◌∷◌, ◌++◌, Option, Bool, Result, Ok, Err, IfOk, sym, ap, ◌∙◌, refl, arith, append_assoc, subst, vec_len, Vec, Global}
+use Rattle.std.proofs.Common.{◌≡◌, ℕ, zero, suc, ◌+◌, ◌-◌, ◌<◌, ◌≤◌, List, [], ◌∷◌, ◌++◌, Bool, Result, Ok, Err, IfOk, sym, ap, ◌∙◌, refl, arith, append_assoc, subst, vec_len, Vec, Global}
 use Rattle.std.specs.List.{AllZip}
 use Rattle.rc_program.specs.Program.{Place, Part, byte, body_or_out, then_part, optional, plus, copies, up_to, at_least, literal_part, bytes_in_order}
 use Rattle.rc_thompson.specs.Places.{place_of, places_of}
@@ -43,7 +43,7 @@ emits_copy slots next begun all old new a one two b n m after e count f g at lon
     (subst (λ k. Emits slots next begun all old (copies k a b)) count e)
     (long ∙ ap (λ (q : Part). vec_len old + q.size) g)
     (more ∙ ap (λ (q : Part). places_of old.items ++ q.places slots (vec_len old) after) g
-      ∙ ap (λ k. places_of old.items ++ a.places slots (vec_len old) k) (at ∙ ap (λ (q : Part). vec_len old + q.size) f))
+    ∙ ap (λ k. places_of old.items ++ a.places slots (vec_len old) k) (at ∙ ap (λ (q : Part). vec_len old + q.size) f))
 
 copies_hold : (n : ℕ) (a b : Part) → 0 < n → a.size ≤ (copies n a b).size
 copies_hold zero a b h = absurd (omega arith)
@@ -87,10 +87,10 @@ emits_more slots next begun all old mid new a one two greedy n m after q e count
     let l : vec_len new ≡ vec_len old + 1 + a.size = omega (arith, l1, l2, s2) in
     let z : after ≡ vec_len old + 1 + a.size = omega (arith, at, s1) in
     let p : places_of new.items ≡ (places_of old.items ++ body_or_out greedy (vec_len old + 1) next ∷ []) ++ a.places slots (vec_len old + 1) (vec_len old + 1 + a.size) =
-      p2 ∙ ap (λ (x : Part). places_of mid.items ++ x.places slots (vec_len mid) after) g
-      ∙ ap (λ k. places_of mid.items ++ a.places slots k after) l1
-      ∙ ap (λ k. places_of mid.items ++ a.places slots (vec_len old + 1) k) z
-      ∙ ap (λ xs. xs ++ a.places slots (vec_len old + 1) (vec_len old + 1 + a.size)) (p1 ∙ ap (λ x. places_of old.items ++ x ∷ []) is) in
+    p2 ∙ ap (λ (x : Part). places_of mid.items ++ x.places slots (vec_len mid) after) g
+    ∙ ap (λ k. places_of mid.items ++ a.places slots k after) l1
+    ∙ ap (λ k. places_of mid.items ++ a.places slots (vec_len old + 1) k) z
+    ∙ ap (λ xs. xs ++ a.places slots (vec_len old + 1) (vec_len old + 1 + a.size)) (p1 ∙ ap (λ x. places_of old.items ++ x ∷ []) is) in
     record {
       long = let h = held.long in omega (arith, h, l);
       more = rw (l, p, append_assoc, append_assoc) held.more;
@@ -111,10 +111,10 @@ begins_none slots next old new all a greedy n body q e nil at is l p =
     let g : optional greedy (plus greedy a) ≡ all = sym f in
     let c : copies (n - 1) a (plus greedy a) ≡ plus greedy a = ap (λ k. copies (k - 1) a (plus greedy a)) nil in
     let r : places_of new.items ≡ places_of old.items ++ body_or_out greedy (vec_len old + 1) next ∷ [] =
-      p ∙ ap (λ x. places_of old.items ++ x ∷ []) (is ∙ ap (λ k. body_or_out greedy k next) at) in
+    p ∙ ap (λ x. places_of old.items ++ x ∷ []) (is ∙ ap (λ k. body_or_out greedy k next) at) in
     subst (λ (x : Part). Emits slots next old x new (copies (n - 1) a (plus greedy a))) g
     (subst (λ (x : Part). Emits slots next old (optional greedy (plus greedy a)) new x) (sym c)
-      (record { long = omega (arith, l); more = rw (l, r, append_assoc) refl }))
+    (record { long = omega (arith, l); more = rw (l, r, append_assoc) refl }))
 
 -- without a bound, and some turns wanted
 pub begins_some : (slots next : ℕ) (old : Vec code.Place Global) (all a : Part) (greedy : Bool) (n : ℕ) →
@@ -135,7 +135,7 @@ ends_plus slots next begun all old a one two greedy n body after p q e nil f g a
     let z : after ≡ vec_len old + a.size = omega (arith, at, behind, s) in
     ap (λ x. p ++ x ∷ []) (is ∙ ap (λ k. body_or_out greedy k next) at)
     ∙ ap (λ xs. xs ++ body_or_out greedy (vec_len old) next ∷ [])
-      (p2 ∙ ap (λ (x : Part). places_of old.items ++ x.places slots (vec_len old) after) g ∙ ap (λ k. places_of old.items ++ a.places slots (vec_len old) k) z)
+    (p2 ∙ ap (λ (x : Part). places_of old.items ++ x.places slots (vec_len old) after) g ∙ ap (λ k. places_of old.items ++ a.places slots (vec_len old) k) z)
     ∙ append_assoc (places_of old.items) (a.places slots (vec_len old) (vec_len old + a.size)) (body_or_out greedy (vec_len old) next ∷ [])
     ∙ held.more
 

@@ -1,14 +1,13 @@
 -- The sizes of parts.
-use Rattle.std.proofs.Common.{◌≡◌, ℕ, zero, suc, ◌+◌, ◌-◌, ◌*◌, ◌<◌, ◌≤◌, List, [], ◌∷◌, ◌++◌, length, map, drop, Option, Some, None, Bool, true, false, sym, ap, ◌∙◌, refl, arith, max, get_or}
-use Rattle.std.proofs.lemmas.List.{length-append, drop-map}
-use Rattle.rc_pattern.specs.Re.{Re, empty, literal, byte_in, char_in, look, repeat, capture, cat, alt, none}
+use Rattle.std.proofs.Common.{◌≡◌, ℕ, zero, suc, ◌+◌, ◌-◌, ◌*◌, ◌<◌, ◌≤◌, List, [], ◌∷◌, length, map, drop, Option, Some, None, Bool, sym, ap, ◌∙◌, refl, arith, max, get_or}
+use Rattle.std.proofs.lemmas.List.{drop-map}
+use Rattle.rc_pattern.specs.Re.{Re}
 use Rattle.rc_pattern.specs.Meaning.{meaning, repetition_meaning, cat_all, alt_all}
 use Rattle.rc_pattern.specs.declared.hir.Hir.{Hir}
 use Rattle.rc_pattern.specs.declared.hir.Repetition.{Repetition, out-Repetition}
 use Rattle.rc_pattern.proofs.FoldLemmas.{meaning_of_repetition, members_from}
-use Rattle.rc_program.specs.Program.{Part, byte, slot, accept, part, one, then_part, either, optional, plus, copies, up_to, at_least, repeated, literal_part, bytes_in_order, body_or_out, pattern_part, choice_of_patterns}
-use Rattle.rc_pattern.specs.WellFormed.{group_count}
-use Rattle.rc_thompson.specs.Shown.{shown_one, laid}
+use Rattle.rc_program.specs.Program.{Part, then_part, either, plus, copies, up_to, at_least, repeated, literal_part, bytes_in_order}
+use Rattle.rc_thompson.specs.Shown.{laid}
 
 -- how long copies are
 pub copies_size : (n : ℕ) (a b : Part) → (copies n a b).size ≡ n * a.size + b.size
@@ -57,7 +56,7 @@ on_part groups r m =
 -- the part of a repetition with a bound
 pub to_part : (groups : Bool) (r : Repetition) (most : ℕ) → (out-Repetition r).max ≡ Some most → laid groups (repetition_meaning r)
     ≡ copies (out-Repetition r).min (laid groups (meaning (out-Repetition r).sub.value))
-      (up_to (out-Repetition r).greedy (most - (out-Repetition r).min) (laid groups (meaning (out-Repetition r).sub.value)))
+    (up_to (out-Repetition r).greedy (most - (out-Repetition r).min) (laid groups (meaning (out-Repetition r).sub.value)))
 to_part groups r most m =
     let o = out-Repetition r in
     ap (laid groups) (meaning_of_repetition r) ∙ ap (λ (x : Option ℕ). repeated o.min x o.greedy (laid groups (meaning o.sub.value))) m
@@ -72,7 +71,7 @@ on_size groups r sub b m z s e =
     let f : b ≡ a.size = e ∙ ap (λ (h : Hir). (laid groups (meaning h)).size) s in
     let pos : 0 < o.min = omega (arith, z) in
     let g : laid groups (repetition_meaning r) ≡ copies (o.min - 1) a (plus o.greedy a) =
-      on_part groups r m ∙ at_least_some o.min o.greedy a pos in
+    on_part groups r m ∙ at_least_some o.min o.greedy a pos in
     rw f (sym (ap (λ (q : Part). q.size) g ∙ copies_size (o.min - 1) a (plus o.greedy a)))
 
 -- how long a repetition with a bound is
@@ -84,7 +83,7 @@ to_size groups r sub b most m s e =
     let a : Part = laid groups (meaning o.sub.value) in
     let f : b ≡ a.size = e ∙ ap (λ (h : Hir). (laid groups (meaning h)).size) s in
     rw f (sym (ap (λ (q : Part). q.size) (to_part groups r most m) ∙ copies_size o.min a (up_to o.greedy (most - o.min) a)
-      ∙ ap (λ n. o.min * a.size + n) (up_to_size o.greedy (most - o.min) a)))
+    ∙ ap (λ n. o.min * a.size + n) (up_to_size o.greedy (most - o.min) a)))
 
 -- a body's part is not longer than the part of its repetition without bound
 pub on_body : (groups : Bool) (r : Repetition) (sub : Hir) → (out-Repetition r).max ≡ None → sub ≡ (out-Repetition r).sub.value →
@@ -96,10 +95,10 @@ on_body groups r sub m s =
     let size : (laid groups (repetition_meaning r)).size ≡ (at_least o.min o.greedy a).size = ap (λ (q : Part). q.size) (on_part groups r m) in
     let k = held o.min o.greedy a in
     omega (arith, f, size, k)
-    where
-      held : (n : ℕ) (greedy : Bool) (a : Part) → a.size ≤ (at_least n greedy a).size
-      held zero greedy a = omega arith
-      held (suc n) greedy a = let h = copies_size n a (plus greedy a) in omega (arith, h)
+  where
+    held : (n : ℕ) (greedy : Bool) (a : Part) → a.size ≤ (at_least n greedy a).size
+    held zero greedy a = omega arith
+    held (suc n) greedy a = let h = copies_size n a (plus greedy a) in omega (arith, h)
 
 one_of_two : (n k b total : ℕ) → 0 < max n (k + n) → n * b + (k * (1 + b) + 1) ≡ total → b ≤ total
 one_of_two zero zero b total h e = absurd (omega arith)

@@ -86,7 +86,7 @@ pub fn first_walk<C: Cursor>(
     ensures found { IfOk result (λ found. MatchOption found
         (HasNoWalk (ways (places_of places.now) (text_of terminator input.old) hi) (Ends only (places_of places.now)) [] ((0, start) ∷ []))
         (λ walk. IsFirstWalk (ways (places_of places.now) (text_of terminator input.old) hi) (Ends only (places_of places.now)) []
-            ((0, start) ∷ []) (map pair_of walk.items))) }
+        ((0, start) ∷ []) (map pair_of walk.items))) }
 {
     let mut stack = Vec::new(alloc);
     stack.push(Frame {

@@ -2,5 +2,7 @@
 #![tactic(auto)]
 
 mod frames;
-mod ways;
+#[cfg(test)]
+mod tests;
 pub mod walker;
+mod ways;

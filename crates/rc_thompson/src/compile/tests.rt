@@ -67,11 +67,7 @@ fn show_scalars(text: &mut String, ranges: &[ClassUnicodeRange]) -> Result<(), A
 }
 
 /// The program of the patterns, where they are well-formed and light enough.
-fn compiled(
-    alloc: Global,
-    hirs: &[Hir],
-    groups: bool,
-) -> Result<Option<Vec<Place>>, AllocError> {
+fn compiled(alloc: Global, hirs: &[Hir], groups: bool) -> Result<Option<Vec<Place>>, AllocError> {
     for hir in hirs {
         if !is_well_formed(alloc, hir)? {
             return Ok(None);
@@ -234,7 +230,12 @@ fn lays_classes_and_assertions(rt: HostRuntime) -> Result<(), Fail> {
         Hir::concat(alloc, subs)?,
         "choice 1 6;bytes 61-63 78-78 2;scalar e9-e9 3;guard Start 4;pass 5;accept 0;dead;",
     )?;
-    is_shown(&rt, alloc, Hir::fail(alloc), "choice 1 3;bytes 2;accept 0;dead;")?;
+    is_shown(
+        &rt,
+        alloc,
+        Hir::fail(alloc),
+        "choice 1 3;bytes 2;accept 0;dead;",
+    )?;
     Ok(())
 }
 
@@ -249,7 +250,13 @@ fn lays_a_group(rt: HostRuntime) -> Result<(), Fail> {
         true,
         "choice 1 5;slot 2 2;byte 61 3;slot 3 4;accept 0;dead;",
     )?;
-    has_places(&rt, alloc, &hirs, false, "choice 1 3;byte 61 2;accept 0;dead;")?;
+    has_places(
+        &rt,
+        alloc,
+        &hirs,
+        false,
+        "choice 1 3;byte 61 2;accept 0;dead;",
+    )?;
     Ok(())
 }
 

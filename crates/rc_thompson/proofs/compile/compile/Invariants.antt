@@ -9,7 +9,7 @@ use Rattle.rc_thompson.proofs.compile.compile.Given as goal
 abbrev pub invariant-loop-i : goal.invariant-loop-i
 invariant-loop-i l = record {
   emitted : Emits 0 0 l.initial.places (choice_of_patterns 0 (2 * length (map meaning l.hirs)) (map (shown_one l.groups) (map meaning l.hirs))) l.places
-    (choice_of_patterns l.i l.slots (map (shown_one l.groups) (map meaning (drop l.i l.hirs))));
+      (choice_of_patterns l.i l.slots (map (shown_one l.groups) (map meaning (drop l.i l.hirs))));
   counted : l.slots + 2 * all_groups (map (shown_one l.groups) (map meaning (drop l.i l.hirs)))
-    ≡ 2 * length (map meaning l.hirs) + 2 * all_groups (map (shown_one l.groups) (map meaning l.hirs))
+      ≡ 2 * length (map meaning l.hirs) + 2 * all_groups (map (shown_one l.groups) (map meaning l.hirs));
 }

@@ -1,4 +1,4 @@
-use Rattle.std.proofs.Common.{◌≡◌, ◌-◌, ◌^◌, ◌∙◌, ap, sym, min}
+use Rattle.std.proofs.Common.{◌-◌, ◌^◌, ◌∙◌, ap, sym, min}
 use Rattle.rc_pattern.specs.Meaning.{meaning}
 use Rattle.rc_thompson.proofs.CompileLemmas.{count_shown, count_bare}
 use Rattle.rc_thompson.proofs.compile.shown_groups.Goals as goal

@@ -186,13 +186,13 @@ steps-preserved-else-is_match-2 g c =
     let over = on_top c.push-in-Some-way.new.self.items rest (again top) c.in_ok-push-2.ensures.items in
     let new = new_on_stack c.push-in-Some-way.new.self.items rest top next c.in_ok-push-2.ensures.items (shown ∙ c.if-not-is_on.true) in
     let stack = on_top c.push-then-not-is_on.new.self.items c.push-in-Some-way.new.self.items (fresh_frame c.in-Some-way.place c.in-Some-way.position) c.in_ok-push-3.ensures.items
-        ∙ ap (λ xs. fresh_frame c.in-Some-way.place c.in-Some-way.position ∷ xs) over in
+    ∙ ap (λ xs. fresh_frame c.in-Some-way.place c.in-Some-way.position ∷ xs) over in
     let inside = in_from_get (ways P T hi (pair_of top)) top.tried next e in
     let below = walking.below.0.1 in
     let on = steps_on P T hi start only top (reverse rest) c.in-Some-way.place c.in-Some-way.position e new
-        (λ t. true≢false (sym t ∙ sym c.is_match-then-not-is_on.ensures ∙ c.if-is_match-2.false))
-        (ways_closed P c.requires.closed T hi (pair_of top) next inside)
-        (ways_within P T hi (pair_of top) next (omega (arith, below)) inside) walking in
+    (λ t. true≢false (sym t ∙ sym c.is_match-then-not-is_on.ensures ∙ c.if-is_match-2.false))
+    (ways_closed P c.requires.closed T hi (pair_of top) next inside)
+    (ways_within P T hi (pair_of top) next (omega (arith, below)) inside) walking in
     record { keeps = search rules; walking = rw stack on }
 
 pub steps-smaller-else-is_match-2 : goal.steps-smaller-else-is_match-2
@@ -212,12 +212,12 @@ steps-smaller-else-is_match-2 g c =
     let over = on_top c.push-in-Some-way.new.self.items rest (again top) c.in_ok-push-2.ensures.items in
     let new = new_on_stack c.push-in-Some-way.new.self.items rest top next c.in_ok-push-2.ensures.items (shown ∙ c.if-not-is_on.true) in
     let stack = on_top c.push-then-not-is_on.new.self.items c.push-in-Some-way.new.self.items (fresh_frame c.in-Some-way.place c.in-Some-way.position) c.in_ok-push-3.ensures.items
-        ∙ ap (λ xs. fresh_frame c.in-Some-way.place c.in-Some-way.position ∷ xs) over in
+    ∙ ap (λ xs. fresh_frame c.in-Some-way.place c.in-Some-way.position ∷ xs) over in
     let inside = in_from_get (ways P T hi (pair_of top)) top.tried next e in
     let below = walking.below.0.1 in
     let on = steps_on P T hi start only top (reverse rest) c.in-Some-way.place c.in-Some-way.position e new
-        (λ t. true≢false (sym t ∙ sym c.is_match-then-not-is_on.ensures ∙ c.if-is_match-2.false))
-        (ways_closed P c.requires.closed T hi (pair_of top) next inside)
-        (ways_within P T hi (pair_of top) next (omega (arith, below)) inside) walking in
+    (λ t. true≢false (sym t ∙ sym c.is_match-then-not-is_on.ensures ∙ c.if-is_match-2.false))
+    (ways_closed P c.requires.closed T hi (pair_of top) next inside)
+    (ways_within P T hi (pair_of top) next (omega (arith, below)) inside) walking in
     let few = few_ways c.args.places.now T hi next in
     rw (stack, under) (on_falls P T hi start only top (fresh_frame c.in-Some-way.place c.in-Some-way.position) (reverse rest) next e on (omega (arith, few)))

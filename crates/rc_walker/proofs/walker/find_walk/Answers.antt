@@ -24,10 +24,10 @@ returns-then-allows-clause-found g c =
     let keeps = c.loop-start.invariant.keeps in
     let only_is = rw c.get_anchored.ensures at c.only_of-only.ensures in
     let told = tells P t over input c.loop-start.input c.high-hi.result start c.only_of-only.result c.in_ok-frames.field-0 keeps c.high-hi.ensures.value only_is
-        c.in_ok-frames.ensures.found in
+    c.in_ok-frames.ensures.found in
     let first : IsFirstFrom s start walk = rw c.in-Some.is at told in
     let last : c.last_start-start-end.result ≡ last_start_of s =
-        rw (c.is_anchored-is_anchored.ensures, c.get_anchored-2.ensures, c.low-lo.ensures, c.high-hi.ensures.value) at c.last_start-start-end.ensures in
+    rw (c.is_anchored-is_anchored.ensures, c.get_anchored-2.ensures, c.low-lo.ensures, c.high-hi.ensures.value) at c.last_start-start-end.ensures in
     let low : s.lo ≤ start = rw c.low-lo.ensures at c.loop-start.auto.start in
     first_start_chosen s start walk
     (start_within_last s start low (rw last at c.loop-start-test.true))
@@ -46,15 +46,19 @@ loop-start-preserved g c =
     let keeps = c.loop-start.invariant.keeps in
     let only_is = rw c.get_anchored.ensures at c.only_of-only.ensures in
     let told = tells P t over input c.loop-start.input c.high-hi.result start c.only_of-only.result c.in_ok-frames.field-0 keeps c.high-hi.ensures.value only_is
-        c.in_ok-frames.ensures.found in
+    c.in_ok-frames.ensures.found in
     record {
       keeps = search rules;
       passed = one_more_passed s start c.loop-start.invariant.passed (elim c.match-branch-2.branch [
-        in-Some+else-allows w ↦
+        | in-Some+else-allows w ↦
             let walk : List Pair = walk_of w.in-Some.frames in
             let first : IsFirstFrom s start walk = rw w.in-Some.is at told in
-            inr (walk, first, told_allowed P t over input c.first_walk.new.input.content walk false w.allows.result
-                (c.in_ok-frames.ensures.keeps.content ∙ keeps.content) w.allows.ensures.value w.if-allows.false)
+            inr (
+              walk,
+              first,
+              told_allowed P t over input c.first_walk.new.input.content walk false w.allows.result
+                  (c.in_ok-frames.ensures.keeps.content ∙ keeps.content) w.allows.ensures.value w.if-allows.false,
+            )
         | in_default w ↦ let none : HasNoWalkFrom s start = rw w.in_default.is at told in inl none
       ]);
     }
@@ -63,6 +67,6 @@ pub returns-clause-found : goal.returns-clause-found
 returns-clause-found g c =
     let s = search_over (places_of c.args.places.now) c.args.terminator c.args.passes_over c.args.input.now in
     let last : c.last_start-start-end.result ≡ last_start_of s =
-        rw (c.is_anchored-is_anchored.ensures, c.get_anchored-2.ensures, c.low-lo.ensures, c.high-hi.ensures.value) at c.last_start-start-end.ensures in
+    rw (c.is_anchored-is_anchored.ensures, c.get_anchored-2.ensures, c.low-lo.ensures, c.high-hi.ensures.value) at c.last_start-start-end.ensures in
     no_start_chosen s (λ y h. c.loop-start.invariant.passed y h.0
     (let l : y < last_start_of s + 1 = start_to_last s y h in omega (arith, l, last, c.loop-start-test.false)))

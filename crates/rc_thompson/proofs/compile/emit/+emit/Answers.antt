@@ -1,4 +1,4 @@
-use Rattle.std.proofs.Common.{rules, ◌++◌, vec_len, ◌≡◌, ℕ, suc, ◌+◌, ◌-◌, ◌<◌, ◌≤◌, List, sym, ap, ◌∙◌, arith, max, subst}
+use Rattle.std.proofs.Common.{rules, ◌++◌, vec_len, ◌≡◌, ◌+◌, ◌-◌, List, sym, ap, ◌∙◌, arith, max, subst}
 use Rattle.std.proofs.lemmas.Grind.{common_steps}
 use Rattle.std.proofs.lemmas.List.{get_or_read}
 use Rattle.rc_pattern.specs.Re.{Re, literal}
@@ -19,7 +19,7 @@ pub emit-emit_literal-requires : goal.emit-emit_literal-requires
 emit-emit_literal-requires t c =
     let is : literal c.in-Literal.bytes.items ≡ meaning c.args.hir.now = sym (kind_Literal c.in-Literal.bytes) ∙ ap kind_meaning (sym c.in-Literal.is) ∙ c.kind.ensures.value in
     let size : (laid c.args.groups (literal c.in-Literal.bytes.items)).size ≡ (laid c.args.groups (meaning c.args.hir.now)).size =
-      ap (λ (r : Re). (laid c.args.groups r).size) is in
+    ap (λ (r : Re). (laid c.args.groups r).size) is in
     let long = literal_size c.in-Literal.bytes.items in
     omega (arith, size, long, c.requires.fits, c.in-Literal.bytes.ok.0)
 
@@ -28,8 +28,8 @@ emit-returns-in-Literal-clause-more t c =
     let is : literal c.in-Literal.bytes.items ≡ meaning c.args.hir.now = sym (kind_Literal c.in-Literal.bytes) ∙ ap kind_meaning (sym c.in-Literal.is) ∙ c.kind.ensures.value in
     IfOk_to c.emit_literal.result _ _ c.emit_literal.ensures.more
     (λ h. h ∙ ap (λ (qs : List Place). places_of c.args.places.now.items ++ qs)
-      (literal_slots c.in-Literal.bytes.items c.args.slots (vec_len c.args.places.now) c.args.next
-      ∙ ap (λ (r : Re). (laid c.args.groups r).places c.args.slots (vec_len c.args.places.now) c.args.next) is))
+    (literal_slots c.in-Literal.bytes.items c.args.slots (vec_len c.args.places.now) c.args.next
+    ∙ ap (λ (r : Re). (laid c.args.groups r).places c.args.slots (vec_len c.args.places.now) c.args.next) is))
 
 pub emit_repetition-size-length-requires : goal.emit_repetition-size-length-requires
 emit_repetition-size-length-requires t c =
@@ -53,25 +53,25 @@ emit_repetition-returns-in_ok-emit-in-None-2-clause-more t c =
     let all : Part = laid c.args.groups (repetition_meaning c.args.repetition.now) in
     let is = on_part c.args.groups c.args.repetition.now c.in-None.is in
     let begun : Emits c.args.slots c.args.next c.args.places.now all c.if-min-eq0.places (copies (o.min - 1) a (plus o.greedy a)) =
-      elim c.if-min-eq0.branch as (λ _. Emits c.args.slots c.args.next c.args.places.now all c.if-min-eq0.places (copies (o.min - 1) a (plus o.greedy a))) [
-        | emit_repetition-then-min-eq0+in_ok-append-in-None w ↦
-            subst (λ ps. Emits c.args.slots c.args.next c.args.places.now all ps (copies (o.min - 1) a (plus o.greedy a))) (sym w.places-is)
-            (begins_none c.args.slots c.args.next c.args.places.now w.append.new.places all a o.greedy o.min _ w.choice_of.result
-              is w.if-min-eq0.true (omega (arith, w.len-body.ensures)) w.choice_of.ensures
-              w.in_ok-append-in-None.ensures.long w.in_ok-append-in-None.ensures.more)
-        | emit_repetition-else-min-eq0 w ↦
-            subst (λ ps. Emits c.args.slots c.args.next c.args.places.now all ps (copies (o.min - 1) a (plus o.greedy a))) (sym w.places-is)
-            (begins_some c.args.slots c.args.next c.args.places.now all a o.greedy o.min is w.if-min-eq0.false)
-      ] in
+    elim c.if-min-eq0.branch as (λ _. Emits c.args.slots c.args.next c.args.places.now all c.if-min-eq0.places (copies (o.min - 1) a (plus o.greedy a))) [
+      | emit_repetition-then-min-eq0+in_ok-append-in-None w ↦
+          subst (λ ps. Emits c.args.slots c.args.next c.args.places.now all ps (copies (o.min - 1) a (plus o.greedy a))) (sym w.places-is)
+          (begins_none c.args.slots c.args.next c.args.places.now w.append.new.places all a o.greedy o.min _ w.choice_of.result
+          is w.if-min-eq0.true (omega (arith, w.len-body.ensures)) w.choice_of.ensures
+          w.in_ok-append-in-None.ensures.long w.in_ok-append-in-None.ensures.more)
+      | emit_repetition-else-min-eq0 w ↦
+          subst (λ ps. Emits c.args.slots c.args.next c.args.places.now all ps (copies (o.min - 1) a (plus o.greedy a))) (sym w.places-is)
+          (begins_some c.args.slots c.args.next c.args.places.now all a o.greedy o.min is w.if-min-eq0.false)
+    ] in
     let done = emits_trans c.args.slots c.args.next c.args.places.now all c.if-min-eq0.places (copies (o.min - 1) a (plus o.greedy a))
-      c.first.places (copies (o.min - c.first.k) a (plus o.greedy a)) begun c.first.invariant in
+    c.first.places (copies (o.min - c.first.k) a (plus o.greedy a)) begun c.first.invariant in
     IfOk_to c.append-in-None.result _ _ c.append-in-None.ensures.more
     (λ h. h ∙ ends_plus c.args.slots c.args.next c.args.places.now all c.first.places a
-      (laid c.args.groups (meaning c.deref.result.now)) (laid c.args.groups (meaning c.deref-in-None.result.now))
-      o.greedy (o.min - c.first.k) c.len-body-in-None.result (c.len-body-in-None.result + c.size-length.result)
-      (places_of c.emit-in-None.new.places.items) c.choice_of-in-None.result done (omega (arith, c.first-test.false, c.first.auto.k-end))
-      (ap (λ (h : Hir). laid c.args.groups (meaning h)) c.deref.ensures) (ap (λ (h : Hir). laid c.args.groups (meaning h)) c.deref-in-None.ensures)
-      c.len-body-in-None.ensures (omega (arith, c.size-length.ensures)) c.choice_of-in-None.ensures c.in_ok-emit-in-None-2.ensures.more)
+    (laid c.args.groups (meaning c.deref.result.now)) (laid c.args.groups (meaning c.deref-in-None.result.now))
+    o.greedy (o.min - c.first.k) c.len-body-in-None.result (c.len-body-in-None.result + c.size-length.result)
+    (places_of c.emit-in-None.new.places.items) c.choice_of-in-None.result done (omega (arith, c.first-test.false, c.first.auto.k-end))
+    (ap (λ (h : Hir). laid c.args.groups (meaning h)) c.deref.ensures) (ap (λ (h : Hir). laid c.args.groups (meaning h)) c.deref-in-None.ensures)
+    c.len-body-in-None.ensures (omega (arith, c.size-length.ensures)) c.choice_of-in-None.ensures c.in_ok-emit-in-None-2.ensures.more)
 
 pub emit_repetition-size-length-requires-in-Some : goal.emit_repetition-size-length-requires-in-Some
 emit_repetition-size-length-requires-in-Some t c =
@@ -84,9 +84,9 @@ emit_repetition-overflow_add-after-in-copies t c =
     let o = out-Repetition c.args.repetition.now in
     let a : Part = laid c.args.groups (meaning o.sub.value) in
     let h = copy_fits (o.min - c.copies.k) a (laid c.args.groups (meaning c.deref-in-Some.result.now)) (up_to o.greedy (c.in-Some.max - o.min) a) _ _
-      (omega (arith, c.copies-test.true)) (ap (λ (h : Hir). laid c.args.groups (meaning h)) c.deref-in-Some.ensures) c.copies.invariant.long in
+    (omega (arith, c.copies-test.true)) (ap (λ (h : Hir). laid c.args.groups (meaning h)) c.deref-in-Some.ensures) c.copies.invariant.long in
     let is : (laid c.args.groups (repetition_meaning c.args.repetition.now)).size ≡ (copies o.min a (up_to o.greedy (c.in-Some.max - o.min) a)).size =
-      ap (λ (q : Part). q.size) (to_part c.args.groups c.args.repetition.now c.in-Some.max c.in-Some.is) in
+    ap (λ (q : Part). q.size) (to_part c.args.groups c.args.repetition.now c.in-Some.max c.in-Some.is) in
     omega (arith, h, is, c.requires.fits, c.len-in-copies.ensures, c.size-length-in-Some.ensures)
 
 pub emit_repetition-copies-preserved : goal.emit_repetition-copies-preserved
@@ -105,9 +105,9 @@ emit_repetition-overflow_add-body-in-more-2 t c =
     let o = out-Repetition c.args.repetition.now in
     let a : Part = laid c.args.groups (meaning o.sub.value) in
     let h = more_fits o.greedy (c.in-Some.max - c.more.k) (c.in-Some.max - o.min) (o.min - c.copies.k) a (laid c.args.groups (meaning c.deref-in-Some.result.now)) _ _ _
-      (omega (arith, c.more-test.true)) (ap (λ (h : Hir). laid c.args.groups (meaning h)) c.deref-in-Some.ensures) c.copies.invariant.long c.more.invariant.long in
+    (omega (arith, c.more-test.true)) (ap (λ (h : Hir). laid c.args.groups (meaning h)) c.deref-in-Some.ensures) c.copies.invariant.long c.more.invariant.long in
     let is : (laid c.args.groups (repetition_meaning c.args.repetition.now)).size ≡ (copies o.min a (up_to o.greedy (c.in-Some.max - o.min) a)).size =
-      ap (λ (q : Part). q.size) (to_part c.args.groups c.args.repetition.now c.in-Some.max c.in-Some.is) in
+    ap (λ (q : Part). q.size) (to_part c.args.groups c.args.repetition.now c.in-Some.max c.in-Some.is) in
     omega (arith, h, is, c.requires.fits, c.len-body-in-more.ensures, c.size-length-in-Some.ensures)
 
 pub emit_repetition-emit-requires-in-more : goal.emit_repetition-emit-requires-in-more
@@ -115,11 +115,12 @@ emit_repetition-emit-requires-in-more t c =
     let o = out-Repetition c.args.repetition.now in
     let a : Part = laid c.args.groups (meaning o.sub.value) in
     let h = more_fits o.greedy (c.in-Some.max - c.more.k) (c.in-Some.max - o.min) (o.min - c.copies.k) a (laid c.args.groups (meaning c.deref-in-more.result.now)) _ _ _
-      (omega (arith, c.more-test.true)) (ap (λ (h : Hir). laid c.args.groups (meaning h)) c.deref-in-more.ensures) c.copies.invariant.long c.more.invariant.long in
+    (omega (arith, c.more-test.true)) (ap (λ (h : Hir). laid c.args.groups (meaning h)) c.deref-in-more.ensures) c.copies.invariant.long c.more.invariant.long in
     let is : (laid c.args.groups (repetition_meaning c.args.repetition.now)).size ≡ (copies o.min a (up_to o.greedy (c.in-Some.max - o.min) a)).size =
-      ap (λ (q : Part). q.size) (to_part c.args.groups c.args.repetition.now c.in-Some.max c.in-Some.is) in
-    (first_of (search (rules, TheFolds.the_lemmas, get_or_read), grind (TheFolds.the_lemmas, arith, common_steps) steps 2000000),
-      (omega (arith, h, is, c.requires.fits, c.in_ok-append-in-Some.ensures.long), c.requires.slots_fit))
+    ap (λ (q : Part). q.size) (to_part c.args.groups c.args.repetition.now c.in-Some.max c.in-Some.is) in (
+      first_of (search (rules, TheFolds.the_lemmas, get_or_read), grind (TheFolds.the_lemmas, arith, common_steps) steps 2000000),
+      (omega (arith, h, is, c.requires.fits, c.in_ok-append-in-Some.ensures.long), c.requires.slots_fit),
+    )
 
 pub emit_repetition-more-preserved : goal.emit_repetition-more-preserved
 emit_repetition-more-preserved t c =

@@ -1,4 +1,4 @@
-use Rattle.std.proofs.Common.{◌≡◌, ℕ, ◌+◌, ◌-◌, ◌≤◌, max, length, arith, vec_len}
+use Rattle.std.proofs.Common.{arith}
 use Rattle.rc_thompson.proofs.SizeLemmas.{literal_size}
 use Rattle.rc_thompson.proofs.EmitLemmas.{IfOk_to}
 use Rattle.rc_thompson.proofs.compile.emit.emit_literal.Goals as goal

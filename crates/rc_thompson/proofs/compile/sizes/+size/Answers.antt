@@ -1,4 +1,4 @@
-use Rattle.std.proofs.Common.{rules, ◌≡◌, ℕ, ◌+◌, ◌*◌, ◌-◌, ◌<◌, ◌≤◌, length, sym, ap, ◌∙◌, arith, max}
+use Rattle.std.proofs.Common.{rules, ◌≡◌, ◌-◌, length, sym, ap, ◌∙◌, arith, max}
 use Rattle.std.proofs.lemmas.Grind.{common_steps}
 use Rattle.std.proofs.lemmas.List.{get_or_read}
 use Rattle.rc_pattern.specs.Re.{Re, literal}
@@ -19,9 +19,10 @@ size-returns-in-Literal t c =
     ∙ ap (λ (r : Re). (laid c.args.groups r).size) (sym k ∙ ap kind_meaning (sym c.in-Literal.is) ∙ c.kind.ensures.value)
 
 pub size_of_repetition-size-body-requires : goal.size_of_repetition-size-body-requires
-size_of_repetition-size-body-requires t c =
-    (first_of (search (rules, TheFolds.the_lemmas, get_or_read), grind (TheFolds.the_lemmas, arith, common_steps) steps 2000000),
-      (let h = on_body c.args.groups c.args.repetition.now c.deref.result.now c.in-None.is c.deref.ensures in omega (arith, h, c.requires)))
+size_of_repetition-size-body-requires t c = (
+  first_of (search (rules, TheFolds.the_lemmas, get_or_read), grind (TheFolds.the_lemmas, arith, common_steps) steps 2000000),
+  (let h = on_body c.args.groups c.args.repetition.now c.deref.result.now c.in-None.is c.deref.ensures in omega (arith, h, c.requires)),
+)
 
 pub size_of_repetition-overflow_mul-result : goal.size_of_repetition-overflow_mul-result
 size_of_repetition-overflow_mul-result t c =
@@ -43,11 +44,12 @@ size_of_repetition-returns-else-min-eq0 t c =
     on_size c.args.groups c.args.repetition.now c.deref.result.now c.size-body.result c.in-None.is c.if-min-eq0.false c.deref.ensures c.size-body.ensures
 
 pub size_of_repetition-size-body-requires-in-Some : goal.size_of_repetition-size-body-requires-in-Some
-size_of_repetition-size-body-requires-in-Some t c =
-    (first_of (search (rules, TheFolds.the_lemmas, get_or_read), grind (TheFolds.the_lemmas, arith, common_steps) steps 2000000),
-      (let e : c.max-copies.result ≡ max (out-Repetition c.args.repetition.now).min c.in-Some.max = c.max-copies.ensures in
-        let h = to_body c.args.groups c.args.repetition.now c.deref-in-Some.result.now c.in-Some.max c.in-Some.is (λ z. c.if-copies-eq0.false (e ∙ z)) c.deref-in-Some.ensures in
-        omega (arith, h, c.requires)))
+size_of_repetition-size-body-requires-in-Some t c = (
+  first_of (search (rules, TheFolds.the_lemmas, get_or_read), grind (TheFolds.the_lemmas, arith, common_steps) steps 2000000),
+  (let e : c.max-copies.result ≡ max (out-Repetition c.args.repetition.now).min c.in-Some.max = c.max-copies.ensures in
+      let h = to_body c.args.groups c.args.repetition.now c.deref-in-Some.result.now c.in-Some.max c.in-Some.is (λ z. c.if-copies-eq0.false (e ∙ z)) c.deref-in-Some.ensures in
+      omega (arith, h, c.requires)),
+)
 
 pub size_of_repetition-overflow_mul-result-in-Some : goal.size_of_repetition-overflow_mul-result-in-Some
 size_of_repetition-overflow_mul-result-in-Some t c =
@@ -85,11 +87,13 @@ size_of_repetition-returns-else-copies-eq0 t c =
     rw e h
 
 pub size_of_concat-size-total-requires : goal.size_of_concat-size-total-requires
-size_of_concat-size-total-requires t c =
-    (first_of (search (rules, TheFolds.the_lemmas, get_or_read), grind (TheFolds.the_lemmas, arith, common_steps) steps 2000000),
-      (let h = cat_member c.args.groups c.args.subs.now (c.loop-i.i - 1) c.index-subs-i.result (omega arith) c.index-subs-i.is in omega (arith, h, c.requires)))
+size_of_concat-size-total-requires t c = (
+  first_of (search (rules, TheFolds.the_lemmas, get_or_read), grind (TheFolds.the_lemmas, arith, common_steps) steps 2000000),
+  (let h = cat_member c.args.groups c.args.subs.now (c.loop-i.i - 1) c.index-subs-i.result (omega arith) c.index-subs-i.is in omega (arith, h, c.requires)),
+)
 
 pub size_of_alternation-size-requires : goal.size_of_alternation-size-requires
-size_of_alternation-size-requires t c =
-    (first_of (search (rules, TheFolds.the_lemmas, get_or_read), grind (TheFolds.the_lemmas, arith, common_steps) steps 2000000),
-      (let h = alt_member c.args.groups c.args.subs.now (c.loop-i.i - 1) c.index-subs-i.result (omega arith) c.index-subs-i.is in omega (arith, h, c.requires)))
+size_of_alternation-size-requires t c = (
+  first_of (search (rules, TheFolds.the_lemmas, get_or_read), grind (TheFolds.the_lemmas, arith, common_steps) steps 2000000),
+  (let h = alt_member c.args.groups c.args.subs.now (c.loop-i.i - 1) c.index-subs-i.result (omega arith) c.index-subs-i.is in omega (arith, h, c.requires)),
+)
