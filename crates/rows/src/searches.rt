@@ -1,6 +1,7 @@
 //! Searches of one text over many cursors, which all have to answer the same.
 
 use crate::cursors::Recut;
+use rc_captures::captures::Captures;
 use rc_meta::regex::Regex;
 use rc_text::cursor::Cursor;
 use rc_text::input::Input;
@@ -89,11 +90,47 @@ pub fn finds(
     Ok(())
 }
 
-/// The spans of these matches.
-fn spans_of(alloc: Global, matches: Vec<Match>) -> Result<Vec<(usize, usize)>, AllocError> {
-    let mut spans = Vec::new(alloc);
-    for found in matches {
-        spans.push((found.start(), found.end()))?;
+/// The pattern that matched, and the spans of its groups.
+pub type Groups<'w> = (usize, &'w [Option<(usize, usize)>]);
+
+/// The captures hold a match of this pattern, with these groups.
+fn hold(rt: &impl Abort, found: &Captures, want: Option<Groups>) {
+    assert_eq!(rt; found.is_match(), want.is_some());
+    let Some((pattern, groups)) = want else {
+        assert_eq!(rt; found.group_len(), 0);
+        return;
+    };
+    assert_eq!(rt; found.pattern().map(|p| p.as_usize()), Some(pattern));
+    assert_eq!(rt; found.group_len(), groups.len());
+    for (index, group) in groups.iter().enumerate() {
+        let span = found.get_group(index).map(|s| (s.start, s.end));
+        assert_eq!(rt; span, *group, "group {index}");
     }
-    Ok(spans)
+}
+
+/// The first match in the text is of this pattern with these groups, over every cutting.
+pub fn groups(
+    rt: &impl Abort,
+    alloc: Global,
+    regex: &Regex,
+    text: &[u8],
+    asked: Asked,
+    want: Option<Groups>,
+) -> Result<(), AllocError> {
+    hold(rt, &regex.captures(alloc, asked.input(text))?, want);
+    hold(
+        rt,
+        &regex.captures(alloc, asked.input(Recut::by_bytes(text)))?,
+        want,
+    );
+    hold(
+        rt,
+        &regex.captures(alloc, asked.input(Recut::in_ring(text)))?,
+        want,
+    );
+    let mut found = regex.create_captures(alloc)?;
+    let input = asked.input(Recut::without_total(text));
+    regex.search_captures(alloc, input, &mut found)?;
+    hold(rt, &found, want);
+    Ok(())
 }
