@@ -17,38 +17,38 @@ use std::vec::IntoIter;
 /// The matches of a regex in an input, from left to right.
 #[derive(Drop)]
 pub struct FindMatches<'r, C: Cursor> {
-    regex: &'r Regex,
-    input: Input<C>,
-    found: IntoIter<Match>,
+    pub(crate) regex: &'r Regex,
+    pub(crate) input: Input<C>,
+    pub(crate) found: IntoIter<Match>,
 }
 
 /// The matches of a regex in an input, from left to right, each with its groups.
 #[derive(Drop)]
 pub struct CapturesMatches<'r, C: Cursor> {
-    regex: &'r Regex,
-    input: Input<C>,
-    found: IntoIter<Captures>,
+    pub(crate) regex: &'r Regex,
+    pub(crate) input: Input<C>,
+    pub(crate) found: IntoIter<Captures>,
 }
 
 /// The pieces of a content between the matches of a regex, from left to right.
 #[derive(Drop)]
 pub struct Split<C: Cursor> {
-    input: Input<C>,
-    pieces: IntoIter<Span>,
+    pub(crate) input: Input<C>,
+    pub(crate) pieces: IntoIter<Span>,
 }
 
 /// The same, of which there are at most so many.
 #[derive(Drop)]
 pub struct SplitN<C: Cursor> {
-    input: Input<C>,
-    limited: Limited,
+    pub(crate) input: Input<C>,
+    pub(crate) limited: Limited,
 }
 
 /// Pieces, and how many more calls of `next` may give one.
 #[derive(Drop)]
 pub(crate) struct Limited {
-    pieces: IntoIter<Span>,
-    limit: usize,
+    pub(crate) pieces: IntoIter<Span>,
+    pub(crate) limit: usize,
     ghost few: { length (into_iter_items pieces) ≤ limit },
 }
 
