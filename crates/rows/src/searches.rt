@@ -2,6 +2,7 @@
 
 use crate::cursors::Recut;
 use rc_captures::captures::Captures;
+use rc_meta::iterators::FindMatches;
 use rc_meta::regex::Regex;
 use rc_text::cursor::Cursor;
 use rc_text::input::Input;
@@ -132,5 +133,117 @@ pub fn groups(
     let input = asked.input(Recut::without_total(text));
     regex.search_captures(alloc, input, &mut found)?;
     hold(rt, &found, want);
+    Ok(())
+}
+
+/// Spans, as pairs.
+type Pairs<'w> = &'w [(usize, usize)];
+
+/// What is left of the matches has these spans.
+fn match_spans<'r, C: Cursor + Drop>(rt: &impl Abort, matches: FindMatches<'r, C>, want: Pairs) {
+    let mut seen = 0;
+    for found in matches {
+        let span = (found.start(), found.end());
+        assert_eq!(rt; want.get(seen).copied(), Some(span), "match {seen}");
+        seen += 1;
+    }
+    assert_eq!(rt; seen, want.len());
+}
+
+/// The matches in the text have these spans, over every cutting.
+pub fn lists(
+    rt: &impl Abort,
+    alloc: Global,
+    regex: &Regex,
+    text: &[u8],
+    asked: Asked,
+    want: Pairs,
+) -> Result<(), AllocError> {
+    match_spans(rt, regex.find_iter(alloc, asked.input(text))?, want);
+    match_spans(
+        rt,
+        regex.find_iter(alloc, asked.input(Recut::by_bytes(text)))?,
+        want,
+    );
+    match_spans(
+        rt,
+        regex.find_iter(alloc, asked.input(Recut::in_ring(text)))?,
+        want,
+    );
+    match_spans(
+        rt,
+        regex.find_iter(alloc, asked.input(Recut::without_total(text)))?,
+        want,
+    );
+    let count = regex
+        .captures_iter(alloc, asked.input(Recut::in_ring(text)))?
+        .count();
+    assert_eq!(rt; count, want.len());
+    Ok(())
+}
+
+/// The pieces are these.
+fn pieces<I: Iterator<Item = Span>>(rt: &impl Abort, mut pieces: I, want: Pairs) {
+    for (index, (start, end)) in want.iter().enumerate() {
+        let piece = pieces.next().map(|s| (s.start, s.end));
+        assert_eq!(rt; piece, Some((*start, *end)), "piece {index}");
+    }
+    assert!(rt; pieces.next().is_none());
+}
+
+/// The pieces between the matches in the text are these, over every cutting.
+pub fn splits(
+    rt: &impl Abort,
+    alloc: Global,
+    regex: &Regex,
+    text: &[u8],
+    asked: Asked,
+    want: Pairs,
+) -> Result<(), AllocError> {
+    pieces(rt, regex.split(alloc, asked.input(text))?, want);
+    pieces(
+        rt,
+        regex.split(alloc, asked.input(Recut::by_bytes(text)))?,
+        want,
+    );
+    pieces(
+        rt,
+        regex.split(alloc, asked.input(Recut::in_ring(text)))?,
+        want,
+    );
+    pieces(
+        rt,
+        regex.split(alloc, asked.input(Recut::without_total(text)))?,
+        want,
+    );
+    Ok(())
+}
+
+/// Of all of the text, the pieces that a limit leaves are these, over every cutting.
+pub fn splits_at_most(
+    rt: &impl Abort,
+    alloc: Global,
+    regex: &Regex,
+    text: &[u8],
+    limit: usize,
+    want: Pairs,
+) -> Result<(), AllocError> {
+    let asked = Asked::all();
+    pieces(rt, regex.splitn(alloc, asked.input(text), limit)?, want);
+    pieces(
+        rt,
+        regex.splitn(alloc, asked.input(Recut::by_bytes(text)), limit)?,
+        want,
+    );
+    pieces(
+        rt,
+        regex.splitn(alloc, asked.input(Recut::in_ring(text)), limit)?,
+        want,
+    );
+    pieces(
+        rt,
+        regex.splitn(alloc, asked.input(Recut::without_total(text)), limit)?,
+        want,
+    );
     Ok(())
 }

@@ -2,6 +2,8 @@
 //!
 //! A comment before a row shows its pattern as text.
 
+mod assertions;
 mod groups;
+mod lists;
 mod repetitions;
 mod words;
