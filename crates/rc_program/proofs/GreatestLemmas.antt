@@ -1,14 +1,13 @@
 -- The greatest span as a function is the greatest as a relation.
-use Rattle.std.proofs.Common.{◌≡◌, ◌↔◌, ℕ, zero, suc, ◌+◌, ◌-◌, ◌*◌, ◌<◌, ◌≤◌, ◌⊎◌, List, [], ◌∷◌, Option, Some, None, Bool, true, false, not, ◌&&◌, ◌||◌, IsTrue, nat_eq, length, max, inl, inr, ⊎_elim, sym, subst, ap, ap₂, ◌∙◌, refl, arith, eqb-true, eq-eqb, true≢false, if◌then◌else◌}
+use Rattle.std.proofs.Common.{◌≡◌, ◌↔◌, ℕ, zero, suc, ◌+◌, ◌*◌, ◌<◌, ◌≤◌, List, [], ◌∷◌, Option, Some, None, true, false, ◌&&◌, IsTrue, nat_eq, length, inl, inr, ⊎_elim, sym, subst, ap, ap₂, ◌∙◌, refl, arith, eqb-true, eq-eqb, true≢false}
 use Rattle.std.specs.Option.{option_or, option_map}
-use Rattle.std.proofs.lemmas.Bool.{cases_Bool, cases_lt, and_parts, and_from}
-use Rattle.std.proofs.lemmas.Option.{none-some, same_Some}
+use Rattle.std.proofs.lemmas.Bool.{cases_lt, and_parts, and_from}
 use Rattle.rc_text.specs.Found.{Found}
-use Rattle.rc_walks.specs.Walks.{Pair, IsIn, IsWalk, stops, goes}
+use Rattle.rc_walks.specs.Walks.{Pair, IsWalk, stops, goes}
 use Rattle.rc_walks.specs.Tries.{walk_by}
 use Rattle.rc_walks.proofs.TryLemmas.{Finds, IsBounded, walk_by_finds}
 use Rattle.rc_program.specs.Program.{Place, choice, byte, branch, scalar, guard, slot, accept, place_at, is_match_place}
-use Rattle.rc_program.specs.Answer.{Search, only, ends, next_of, last_of, is_allowed, IsStart, IsPassed, HasNoAnswer, Chosen, IsAnswer, found, start_count, answer, pattern_at, pattern_of}
+use Rattle.rc_program.specs.Answer.{Search, only, ends, next_of, last_of, is_allowed, IsStart, HasNoAnswer, Chosen, IsAnswer, found, start_count, answer, pattern_at}
 use Rattle.rc_program.specs.Greatest.{IsSpelledIn, HasNoSpan, IsNoGreater, IsGreatest, ends_for, span_by, first_from, last_below, past_patterns, by_patterns, to_end, greatest, GreatestLaw}
 use Rattle.rc_program.proofs.WayLemmas.{same_pair}
 use Rattle.rc_program.proofs.AnswerLemmas.{last_pair, is_bounded, last_of_more, walk_ends, walk_within, match_place_is, chosen_accepts, answer_law, start_from, start_below}
@@ -199,9 +198,12 @@ no_reach s e x start h = subst (Reaches s e x) h (by_patterns_reaches s e x star
 no_greater_there : (s : Search) (e : ℕ) (m n : Found) → n.end ≡ m.end → (n.start < m.start → ⊥) → (n.start ≡ m.start → m.pattern ≤ n.pattern) →
     IsNoGreater n m
 no_greater_there s e m n same none least =
-    inr (same, ⊎_elim (λ l. inl l)
-    (λ ge. ⊎_elim (λ l. absurd (none l)) (λ le. let q : n.start ≡ m.start = omega (arith, ge, le) in inr (q, least q)) (cases_lt n.start m.start))
-    (cases_lt m.start n.start))
+    inr (
+      same,
+      ⊎_elim (λ l. inl l)
+          (λ ge. ⊎_elim (λ l. absurd (none l)) (λ le. let q : n.start ≡ m.start = omega (arith, ge, le) in inr (q, least q)) (cases_lt n.start m.start))
+          (cases_lt m.start n.start),
+    )
 
 there_of : (s : Search) (e : ℕ) (o : Option Found) → IsFirst (by_patterns s e) (start_count s) s.lo o → EndsThere s e o
 there_of s e None none = λ n h a.
