@@ -4,3 +4,6 @@
 pub mod builder;
 pub mod iterators;
 pub mod regex;
+
+#[cfg(test)]
+mod tests;
