@@ -1,13 +1,13 @@
-use Rattle.std.proofs.Common.{◌≡◌, ◌∙◌, ◌++◌, ◌∷◌, [], All, ap, sym, subst, Some, length, rules}
-use Rattle.std.proofs.lemmas.List.{append-nil}
+use Rattle.std.proofs.Common.{◌≡◌, ◌∙◌, ◌++◌, ◌∷◌, [], All, ap, sym, subst, Some, None, length, rules}
+use Rattle.std.proofs.lemmas.List.{append-nil, length-replicate}
 use Rattle.std.proofs.lemmas.List.Elements.{All-push}
 use Rattle.rc_text.specs.Found.{Found}
-use Rattle.rc_captures.specs.Captures.{IsCapturesFor}
+use Rattle.rc_captures.specs.Names.{slot_len}
 use Rattle.rc_captures.specs.Groups.{names_of}
 use Rattle.rc_program.specs.Matches.{from_on}
 use Rattle.rc_thompson.specs.Places.{places_of}
 use Rattle.rc_matches.specs.Engine.{engine_search}
-use Rattle.rc_matches.specs.Tells.{AllTell}
+use Rattle.rc_matches.specs.Tells.{AllTell, KeepsAll}
 use Rattle.rc_matches.proofs.Steps.{search_moved, step_some, fewer_left}
 use Rattle.rc_matches.proofs.Walked.{Step, walk_step, last_step, one_more_walk, all_tell_more, tells_there}
 use Rattle.rc_matches.proofs.engine.Engine.all_captures.Goals as goal
@@ -38,9 +38,12 @@ loop-all-preserved g c =
     record {
       moved = search rules;
       after = c.set_start.ensures.start ∙ c.end.ensures.value ∙ sym c.end-in-Some.ensures.value;
-      made = subst (All (IsCapturesFor (names_of c.args.info.now))) (sym c.in_ok-push.ensures.items)
-          (All-push (IsCapturesFor (names_of c.args.info.now)) c.loop-all.all.items c.find_captures.new.caps c.loop-all.invariant.made
-          (c.in_ok-find_captures.ensures.made (names_of c.args.info.now) c.in_ok-caps.ensures.made));
+      made = subst (All (KeepsAll (names_of c.args.info.now))) (sym c.in_ok-push.ensures.items)
+          (All-push (KeepsAll (names_of c.args.info.now)) c.loop-all.all.items c.find_captures.new.caps c.loop-all.invariant.made
+          (record {
+            named = c.in_ok-find_captures.ensures.names ∙ c.in_ok-caps.ensures.made.named;
+            sized = c.in_ok-find_captures.ensures.long ∙ ap length c.in_ok-caps.ensures.slots ∙ length-replicate (slot_len (names_of c.args.info.now)) None;
+          }));
       told = (c.loop-all.invariant.told.0 ++ step.walk ∷ [],
           one_more_walk s k c.loop-all.last step.walk c.set_start.new.self.span.start c.end-in-Some.result _ c.loop-all.invariant.told.0 step.left
               (c.set_start.ensures.start ∙ c.end.ensures.value ∙ end) (c.end-in-Some.ensures.value ∙ end) c.loop-all.invariant.told.1,
