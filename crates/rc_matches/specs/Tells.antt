@@ -1,5 +1,5 @@
 -- What captures hold after a search.
-use Rattle.std.specs.Prelude.{◌≡◌, ℕ, List, [], ◌∷◌, length, Option, Some, None}
+use Rattle.std.specs.Prelude.{◌≡◌, List, [], ◌∷◌, length, Option, Some, None}
 use Rattle.rc_captures.specs.Captures.{captures_names, captures_pattern, captures_slots, HasMatch}
 use Rattle.rc_captures.specs.Names.{Names, slot_len}
 use Rattle.rc_captures.specs.declared.captures.Captures.{Captures}

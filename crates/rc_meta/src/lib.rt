@@ -4,6 +4,5 @@
 pub mod builder;
 pub mod iterators;
 pub mod regex;
-
 #[cfg(test)]
 mod tests;

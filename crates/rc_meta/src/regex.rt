@@ -237,8 +237,8 @@ impl Regex {
             → IfOk result (λ p. p ≡ option_map (λ (m : Found). m.pattern) (answer (search_for (sought self.now) input))) }
         ensures slots { match_kind_of (regex_settings self.now) ≡ LeftmostFirst
             → IfOk result (λ p. MatchOption p
-                (slots.new ≡ slots.old)
-                (λ _. Some slots.new ≡ groups (search_for (sought self.now) input) (length slots.old))) }
+            (slots.new ≡ slots.old)
+            (λ _. Some slots.new ≡ groups (search_for (sought self.now) input) (length slots.old))) }
     {
         self.engine.find_slots(alloc, &mut input, slots)
     }
@@ -275,10 +275,10 @@ impl Regex {
         ensures made { IfOk result (λ s. All (KeepsAll (regex_names self.now)) (captures_left s)) }
         ensures told { match_kind_of (regex_settings self.now) ≡ LeftmostFirst
             → IfOk result (λ s. AllTell (search_for (sought self.now) input)
-                (walks_left (search_for (sought self.now) input) input.span.start None) (captures_left s)) }
+            (walks_left (search_for (sought self.now) input) input.span.start None) (captures_left s)) }
         ensures matched { match_kind_of (regex_settings self.now) ≡ LeftmostFirst
             → IfOk result (λ s. map match_of (captures_left s)
-                ≡ map Some (matches_left (search_for (sought self.now) input) input.span.start None)) }
+            ≡ map Some (matches_left (search_for (sought self.now) input) input.span.start None)) }
         ensures short { IfOk result (λ s. length (captures_left s) < 2 ^ 64) }
         ensures regex { IfOk result (λ s. captures_regex s ≡ self.now) }
     {
@@ -302,7 +302,7 @@ impl Regex {
     ) -> Result<Split<C>, AllocError>
         ensures left { match_kind_of (regex_settings self.now) ≡ LeftmostFirst
             → IfOk result (λ s. split_left s
-                ≡ pieces_of (high input) (matches_left (search_for (sought self.now) input) input.span.start None)) }
+            ≡ pieces_of (high input) (matches_left (search_for (sought self.now) input) input.span.start None)) }
         ensures short { IfOk result (λ s. length (split_left s) < 2 ^ 64) }
     {
         let found = self.engine.all_matches(alloc, &mut input)?;
@@ -321,7 +321,7 @@ impl Regex {
     ) -> Result<SplitN<C>, AllocError>
         ensures left { match_kind_of (regex_settings self.now) ≡ LeftmostFirst
             → IfOk result (λ s. splitn_left s
-                ≡ pieces_at_most limit (high input) (matches_left (search_for (sought self.now) input) input.span.start None)) }
+            ≡ pieces_at_most limit (high input) (matches_left (search_for (sought self.now) input) input.span.start None)) }
         ensures limit { IfOk result (λ s. splitn_limit s ≡ limit) }
     {
         let found = self.engine.all_matches(alloc, &mut input)?;
@@ -379,13 +379,7 @@ fn common(left: Option<usize>, right: Option<usize>) -> Option<usize>
     ensures { result ≡ common left right }
 {
     match (left, right) {
-        (Some(m), Some(n)) => {
-            if m == n {
-                Some(m)
-            } else {
-                None
-            }
-        }
+        (Some(m), Some(n)) => { if m == n { Some(m) } else { None } }
         (Some(_), None) => None,
         (None, _) => None,
     }

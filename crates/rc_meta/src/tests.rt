@@ -70,7 +70,10 @@ fn finds(rt: HostRuntime) -> Result<(), Fail> {
     let hir = either(alloc, literal(alloc, "a")?, literal(alloc, "ab")?)?;
     let re = regex(alloc, &hir)?;
     assert_eq!(&rt; parts(re.find(alloc, Input::new("ab"))?), Some((0, 0, 1)));
-    assert_eq!(&rt; parts(re.search(alloc, Input::new("xab"))?), Some((0, 1, 2)));
+    assert_eq!(&rt;
+        parts(re.search(alloc, Input::new("xab"))?),
+        Some((0, 1, 2))
+    );
     assert_eq!(&rt; parts(re.find(alloc, Input::new("x"))?), None);
     assert!(&rt; re.is_match(alloc, Input::new("xa"))?);
     assert!(&rt; !re.is_match(alloc, Input::new("x"))?);
