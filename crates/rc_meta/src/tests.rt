@@ -2,6 +2,7 @@
 
 mod lists;
 
+use crate::builder::Builder;
 use crate::regex::Regex;
 use rc_build::config::Config;
 use rc_build::error::BuildError;
@@ -138,6 +139,9 @@ fn captures(rt: HostRuntime) -> Result<(), Fail> {
     re.search_captures(alloc, Input::new("x"), &mut caps)?;
     assert!(&rt; !caps.is_match());
     let mut slots = [None; 4];
+    if slots.len() > re.group_info().slot_len() {
+        return Err("there are six slots".into());
+    }
     let found = re.search_slots(alloc, Input::new("xa"), &mut slots)?;
     assert!(&rt; found == Some(PatternID::ZERO));
     assert!(&rt; slots == [Some(1), Some(2), Some(1), Some(2)]);
@@ -163,18 +167,31 @@ fn builds(rt: HostRuntime) -> Result<(), Fail> {
     let same = re.try_clone(alloc)?;
     assert_eq!(&rt; same.get_config().get_line_terminator(), 0);
     assert_eq!(&rt; parts(same.find(alloc, Input::new("xa"))?), Some((0, 1, 2)));
-    let light = Config::new().nfa_size_limit(Some(255));
-    builder.configure(light);
-    let refused = builder.build_from_hir(alloc, &hir);
-    let Err(BuildError::SizeLimit { limit }) = refused else {
-        return Err("the pattern is too heavy".into());
-    };
-    assert_eq!(&rt; limit, 255);
+    Ok(())
+}
+
+/// Why one pattern isn't built.
+fn refusal(alloc: Global, builder: &Builder, hir: &Hir) -> Option<BuildError> {
+    match builder.build_from_hir(alloc, hir) {
+        Ok(_) => None,
+        Err(error) => Some(error),
+    }
+}
+
+#[test]
+fn refuses(rt: HostRuntime) -> Result<(), Fail> {
+    let alloc = rt.alloc();
+    let mut builder = Regex::builder();
+    let hir = group(alloc, 1, literal(alloc, "a")?)?;
+    builder.configure(Config::new().nfa_size_limit(Some(255)));
+    let limit = BuildError::SizeLimit { limit: 255 };
+    assert_eq!(&rt; refusal(alloc, &builder, &hir), Some(limit));
+    builder.configure(Config::new().nfa_size_limit(Some(256)));
+    assert_eq!(&rt; refusal(alloc, &builder, &hir), None);
     let bad = group(alloc, 2, literal(alloc, "a")?)?;
-    let refused = Regex::builder().build_from_hir(alloc, &bad);
-    let Err(BuildError::IllFormed { pattern }) = refused else {
-        return Err("the pattern isn't well-formed".into());
+    let ill_formed = BuildError::IllFormed {
+        pattern: PatternID::ZERO,
     };
-    assert_eq!(&rt; pattern.as_usize(), 0);
+    assert_eq!(&rt; refusal(alloc, &builder, &bad), Some(ill_formed));
     Ok(())
 }
