@@ -1,0 +1,7 @@
+pub mod RunLemmas
+pub mod TextLemmas
+pub mod OrderLemmas
+pub mod InnerLemmas
+pub mod StepLemmas
+pub mod EscapeLemmas
+pub mod MemberLemmas

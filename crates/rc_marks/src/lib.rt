@@ -1,0 +1,8 @@
+//! The marks of which the text of a pattern is made.
+#![tactic(auto)]
+
+mod escapes;
+mod lists;
+pub mod lexer;
+pub mod refusal;
+pub mod tokens;
