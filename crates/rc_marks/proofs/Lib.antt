@@ -5,3 +5,4 @@ pub mod InnerLemmas
 pub mod StepLemmas
 pub mod EscapeLemmas
 pub mod MemberLemmas
+pub mod FlagLemmas

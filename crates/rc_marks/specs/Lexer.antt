@@ -2,11 +2,12 @@
 use Rattle.std.specs.Prelude.{◌≡◌, ℕ, zero, suc, ◌+◌, ◌*◌, Bool, true, false, not, ◌&&◌, ◌||◌, ◌==◌, nat_le, List, [], ◌∷◌, ◌++◌, drop, take, length, Option, Some, None, if◌then◌else◌, encode_utf8_all}
 use Rattle.rc_marks.specs.Text.{Text, ◌>>=◌, ◌>>◌, is_at, is_empty, has_twice, is_digit}
 use Rattle.rc_marks.specs.Said.{Sense, Character, Byte, Dot, PerlClass, Asserts, Members, Start, Capturing, Named, Flagged, Said, Stands, Bar, Setting, Opens, Closes, Repeats}
-use Rattle.rc_marks.specs.Marks.{count, bounds, unchanged, change_of, flags_of, is_name, short_says, fixed_says, boundary_says, scalar_says, takes_scalar, is_brace_name, escaped_member, plain_member, is_list, sense}
+use Rattle.rc_marks.specs.Marks.{count, bounds, unchanged, change_of, flags_of, letter_change, is_name, short_says, fixed_says, boundary_says, scalar_says, takes_scalar, is_brace_name, escaped_member, plain_member, is_list, sense}
 use Rattle.rc_marks.specs.declared.tokens.Assertion.TheVariants.{Caret, Dollar}
 use Rattle.rc_marks.specs.declared.tokens.Escape.TheVariants as says
 use Rattle.rc_marks.specs.declared.tokens.Escape as escapes
 use Rattle.rc_marks.specs.declared.tokens.Member.{Member}
+use Rattle.rc_marks.specs.declared.tokens.Change.{Change}
 
 -- the longest front of characters that pass the test, and the rest
 abbrev pub run : (ℕ → Bool) → Text → Text
@@ -42,6 +43,11 @@ counts n t = count n >>= λ min.
     else second min (run is_digit (drop 1 t)) (after_run is_digit (drop 1 t))
 
 -- ---- openings
+
+-- what one character of a text of flags changes, and whether flags are set after it
+abbrev pub flag : ℕ → Bool → Bool → Change → Option (Bool × Change)
+flag c is_last on to =
+    if c == 45 then ((on && not is_last) >> Some (false, to)) else (letter_change c on to >>= λ next. Some (on, next))
 
 abbrev pub flags_then : Text → Text → Option (Said × Text)
 flags_then f t =

@@ -6,7 +6,7 @@ ghost use Rattle.rc_marks.specs.Lexer.{escape_at, lex_escape, brace_then, fixed_
 ghost use Rattle.rc_marks.specs.Marks.{is_brace_name, takes_scalar, is_punctuation, perl, short_says, scalar_says, fixed_says, boundary_says};
 ghost use Rattle.rc_marks.specs.View.{Lexes};
 
-use crate::lexer::{after, first, is_digit, is_letter, is_same, number, until};
+use crate::text::{after, first, is_digit, is_letter, is_same, number, until};
 use crate::tokens::{Assertion, Escape, Perl, Set};
 
 fn perl(set: Set, negated: bool) -> Option<Escape>

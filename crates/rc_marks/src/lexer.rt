@@ -1,125 +1,129 @@
 //! The first mark of a text.
 
-ghost use Rattle.std.specs.Prelude.{◌≡◌, ℕ, ◌^◌, ◌+◌, ◌*◌, ◌<◌, ◌≤◌, ◌-◌, ◌++◌, ◌∷◌, [], None, Some, true, false, drop, take, length, MatchOption, if◌then◌else◌};
-ghost use Rattle.rc_marks.specs.Text.{is_at, is_digit, is_letter, is_scalar, each, number, value_from, same_text, has_twice};
-ghost use Rattle.rc_marks.specs.Lexer.{run, after_run, is_before};
-ghost use Rattle.rc_marks.specs.View.{Lexes};
+ghost use Rattle.std.specs.Prelude.{◌≡◌, ◌+◌, ◌<◌, ◌≤◌, ◌-◌, ◌∷◌, ◌++◌, [], None, Some, true, false, not, ◌&&◌, ◌||◌, ◌==◌, ◌↔◌, ℕ, List, drop, take, length, MatchResult};
+ghost use Rattle.rc_marks.specs.Text.{Text, is_at, is_digit};
+ghost use Rattle.rc_marks.specs.Said.{Said, Repeats};
+ghost use Rattle.rc_marks.specs.Lexer.{run, after_run, past, repeats_then, second, counts, piece_then, lex_escape, lex_at, lex};
+ghost use Rattle.rc_marks.specs.Marks.{bounds, count, Begins};
+ghost use Rattle.rc_marks.specs.View.{said_of, Lexes, Gives, LexesToken};
 
-/// The first character, and the rest.
-pub(crate) fn first(text: &[char]) -> Option<(char, &[char])>
-    ensures { MatchOption result (text.now ≡ []) (λ r. text.now ≡ r.0 ∷ r.1.now) }
+use crate::escapes::escape;
+use crate::groups::opening;
+use crate::lists::list;
+use crate::refusal::Refusal;
+use crate::text::{after, digits, first, number};
+use crate::tokens::{Assertion, Bounds, Escape, Token};
+use std::alloc::Global;
+
+/// A repetition with these limits, lazy where a `?` follows.
+fn repeats(text: &[char], min: u32, max: Option<u32>) -> (Token, &[char])
+    ensures token { said_of result.0 ≡ Repeats (bounds (is_at 63 text.now) min max) }
+    ensures rest { result.1.now ≡ past 63 text.now }
 {
-    if text.is_empty() {
-        return None;
+    if let Some(rest) = after(text, '?') {
+        let lazy = true;
+        return (Token::Repeats(Bounds { min, max, lazy }), rest);
     }
-    Some((text[0], &text[1..]))
+    let lazy = false;
+    (Token::Repeats(Bounds { min, max, lazy }), text)
 }
 
-/// The text after the character `d`, where it begins with that.
-pub(crate) fn after(text: &[char], d: char) -> Option<&[char]>
-    ensures { MatchOption result (is_at d text.now ≡ false) (λ rest. (is_at d text.now ≡ true) × (rest.now ≡ drop 1 text.now)) }
+/// A number of turns.
+fn count(digits: &[char]) -> Option<u32>
+    ensures { result ≡ count digits.now }
 {
-    let (c, rest) = first(text)?;
-    if c == d {
-        return Some(rest);
+    number(digits, 10, 0x1_0000_0000)
+}
+
+/// After the digits of the second number.
+fn second<'t>(min: u32, digits: &[char], text: &'t [char]) -> Result<(Token, &'t [char]), Refusal>
+    ensures { LexesToken result (second min digits.now text.now) }
+{
+    let Some(max) = count(digits) else {
+        return Err(Refusal::Syntax);
+    };
+    let Some(rest) = after(text, '}') else {
+        return Err(Refusal::Syntax);
+    };
+    if max < min {
+        return Err(Refusal::Syntax);
     }
-    None
+    Ok(repeats(rest, min, Some(max)))
 }
 
-pub(crate) fn is_digit(c: char) -> bool
-    ensures { result ≡ is_digit c }
+/// After the digits of the first number of a counted repetition.
+fn counted<'t>(number: &[char], text: &'t [char]) -> Result<(Token, &'t [char]), Refusal>
+    ensures { LexesToken result (counts number.now text.now) }
 {
-    '0' <= c && c <= '9'
+    let Some(min) = count(number) else {
+        return Err(Refusal::Syntax);
+    };
+    if let Some(rest) = after(text, '}') {
+        return Ok(repeats(rest, min, Some(min)));
+    }
+    let Some(text) = after(text, ',') else {
+        return Err(Refusal::Syntax);
+    };
+    if let Some(rest) = after(text, '}') {
+        return Ok(repeats(rest, min, None));
+    }
+    let (most, rest) = digits(text);
+    second(min, most, rest)
 }
 
-pub(crate) fn is_letter(c: char) -> bool
-    ensures { result ≡ is_letter c }
+/// An escape that stands alone, after its backslash.
+fn escaped(text: &[char]) -> Result<(Token, &[char]), Refusal>
+    ensures { LexesToken result (piece_then (lex_escape text.now)) }
 {
-    ('A' <= c && c <= 'Z') || ('a' <= c && c <= 'z')
+    let Some((escape, rest)) = escape(text) else {
+        return Err(Refusal::Syntax);
+    };
+    let token = match escape {
+        Escape::Character(c) => Token::Character(c),
+        Escape::Byte(byte) => Token::Byte(byte),
+        Escape::Perl(perl) => Token::Perl(perl),
+        Escape::Assertion(assertion) => Token::Assertion(assertion),
+    };
+    Ok((token, rest))
 }
 
-/// The digits at the front, and the rest.
-#[tactic(auto, using(crate::proofs::RunLemmas::passed_none, crate::proofs::RunLemmas::passed_more, crate::proofs::RunLemmas::passed_until))]
-pub(crate) fn digits(text: &[char]) -> (&[char], &[char])
-    ensures front { result.0.now ≡ run is_digit text.now }
-    ensures rest { result.1.now ≡ after_run is_digit text.now }
+fn token_at(alloc: Global, c: char, rest: &[char]) -> Result<(Token, &[char]), Refusal>
+    ensures { LexesToken result (lex_at c rest.now) }
 {
-    for i in 0..text.len() {
-        if !is_digit(text[i]) {
-            return (&text[..i], &text[i..]);
+    match c {
+        '|' => Ok((Token::Bar, rest)),
+        ')' => Ok((Token::Closes, rest)),
+        '(' => opening(alloc, rest),
+        '*' => Ok(repeats(rest, 0, None)),
+        '+' => Ok(repeats(rest, 1, None)),
+        '?' => Ok(repeats(rest, 0, Some(1))),
+        '{' => {
+            let (number, rest) = digits(rest);
+            counted(number, rest)
         }
+        '[' => list(alloc, rest),
+        '\\' => escaped(rest),
+        '.' => Ok((Token::Dot, rest)),
+        '^' => Ok((Token::Assertion(Assertion::Caret), rest)),
+        '$' => Ok((Token::Assertion(Assertion::Dollar), rest)),
+        _ => Ok((Token::Character(c), rest)),
     }
-    (text, &text[text.len()..])
 }
 
-/// What stands before the first of the two characters, and the rest.
-#[tactic(auto, using(crate::proofs::RunLemmas::passed_none, crate::proofs::RunLemmas::passed_more, crate::proofs::RunLemmas::passed_until))]
-pub(crate) fn until(text: &[char], d: char, e: char) -> (&[char], &[char])
-    ensures front { result.0.now ≡ run (is_before d e) text.now }
-    ensures rest { result.1.now ≡ after_run (is_before d e) text.now }
+/// What the first mark of a text says, and the rest. It is `Refusal::Syntax` only where no mark
+/// begins the text. `Refusal::Memory` is want of memory.
+#[tactic(auto, using(crate::proofs::OrderLemmas::lex_is, crate::proofs::OrderLemmas::lex_none))]
+pub fn first_token(alloc: Global, text: &[char]) -> Result<(Token, &[char]), Refusal>
+    ensures { LexesToken result (lex text.now) }
 {
-    for i in 0..text.len() {
-        if text[i] == d || text[i] == e {
-            return (&text[..i], &text[i..]);
-        }
-    }
-    (text, &text[text.len()..])
+    let Some((c, rest)) = first(text) else {
+        return Err(Refusal::Syntax);
+    };
+    token_at(alloc, c, rest)
 }
 
-/// The number that the digits write, where it is below the limit.
-#[tactic(auto, using(crate::proofs::TextLemmas::number_start, crate::proofs::TextLemmas::number_empty, crate::proofs::TextLemmas::read_step, crate::proofs::TextLemmas::read_none, crate::proofs::TextLemmas::read_large, crate::proofs::TextLemmas::read_end))]
-pub(crate) fn number(digits: &[char], radix: u32, limit: u64) -> Option<u32>
-    requires least { 2 ≤ radix }
-    requires greatest { radix ≤ 36 }
-    requires limit { limit ≤ 2 ^ 32 }
-    ensures { result ≡ number radix limit digits.now }
+/// What the reader of marks gives is the mark with which the text begins, and none where none does.
+pub fn gives_the_mark()
+    ensures { (t : Text) (k : Said) (u : Text) → (lex t ≡ Some (k, u)) ↔ Begins t k u }
 {
-    if digits.is_empty() {
-        return None;
-    }
-    let mut n: u64 = 0;
-    for i in 0..digits.len() {
-        let Some(value) = digits[i].to_digit(radix) else {
-            return None;
-        };
-        n = n * radix as u64 + value as u64;
-        if n >= limit {
-            return None;
-        }
-    }
-    if n >= limit {
-        return None;
-    }
-    Some(n as u32)
-}
-
-/// Whether the two texts are the same.
-#[tactic(auto, using(crate::proofs::TextLemmas::same_lengths))]
-pub(crate) fn is_same(text: &[char], other: &[char]) -> bool
-    ensures { result ≡ same_text text.now other.now }
-{
-    if text.len() != other.len() {
-        return false;
-    }
-    for i in 0..text.len() {
-        if text[i] != other[i] {
-            return false;
-        }
-    }
-    true
-}
-
-/// Whether the character stands twice side by side.
-pub(crate) fn has_twice(text: &[char], c: char) -> bool
-    ensures { result ≡ has_twice c text.now }
-{
-    let mut before = false;
-    for d in text {
-        let is_it = *d == c;
-        if before && is_it {
-            return true;
-        }
-        before = is_it;
-    }
-    false
 }

@@ -2,7 +2,9 @@
 #![tactic(auto)]
 
 mod escapes;
+mod groups;
 mod lists;
+mod text;
 pub mod lexer;
 pub mod refusal;
 pub mod tokens;

@@ -7,7 +7,7 @@ ghost use Rattle.rc_marks.specs.Marks.{is_list, plain_member, escaped_member};
 ghost use Rattle.rc_marks.specs.View.{Lexes, Gives, LexesToken};
 
 use crate::escapes::escape;
-use crate::lexer::{after, first, has_twice};
+use crate::text::{after, first, has_twice};
 use crate::refusal::Refusal;
 use crate::tokens::{Escape, List, Member, Token};
 use std::alloc::Global;
