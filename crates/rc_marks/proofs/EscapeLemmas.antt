@@ -1,12 +1,11 @@
 -- What the reader of marks finds behind a `\` is an escape that is written so.
-use Rattle.std.proofs.Common.{◌≡◌, ℕ, zero, suc, ◌+◌, ◌<◌, ◌≤◌, ◌⊎◌, inl, inr, ⊎_elim, Bool, true, false, not, ◌&&◌, ◌||◌, ◌==◌, List, [], ◌∷◌, ◌++◌, Option, Some, None, length, take, drop, refl, ap, sym, subst, ◌∙◌, arith, if◌then◌else◌, append_assoc}
-use Rattle.std.proofs.lemmas.Bool.{eqb-true}
+use Rattle.std.proofs.Common.{◌≡◌, ℕ, zero, suc, ◌⊎◌, inl, inr, ⊎_elim, Bool, true, false, not, ◌&&◌, ◌||◌, ◌==◌, [], ◌∷◌, ◌++◌, Some, take, drop, refl, ap, sym, ◌∙◌, if◌then◌else◌, append_assoc}
 use Rattle.std.proofs.lemmas.Option.{none-some}
 use Rattle.rc_marks.specs.Text.{Text, ◌>>=◌, ◌>>◌, is_at, is_digit}
 use Rattle.rc_marks.specs.Marks.{Escape, short, fixed, braced, escape, stands, written_escape, escape_says, short_says, fixed_says, boundary_says, scalar_says, takes_scalar, is_brace_name, takes_more}
-use Rattle.rc_marks.specs.Lexer.{run, after_run, is_before, opens_brace, in_brace, brace_then, fixed_then, short_then, escape_at, lex_escape}
+use Rattle.rc_marks.specs.Lexer.{run, after_run, is_before, opens_brace, in_brace, brace_then, fixed_then, short_then, lex_escape}
 use Rattle.rc_marks.specs.declared.tokens.Escape as escapes
-use Rattle.rc_marks.proofs.StepLemmas.{some_parts, guard_parts, and_parts, or_parts, pair_parts, made_parts, at_splits, run_splits}
+use Rattle.rc_marks.proofs.StepLemmas.{guard_parts, and_parts, or_parts, made_parts, at_splits, run_splits}
 
 -- behind `\`, t is an escape that says s, and then u
 abbrev pub IsEscape : Text → escapes.Escape → Text → Type 0
@@ -42,10 +41,13 @@ braced_sound c t s u o h =
     let rest : Text = after_run (is_before 125 125) (drop 1 t) in
     let (closed, found) = guard_parts (is_at 125 rest) (in_brace c inside >>= λ s. Some (s, drop 1 rest)) (s, u) h in
     let (s', is, same, tail) = made_parts (in_brace c inside) (λ s. s) (drop 1 rest) s u found in
-    let (at, kind) = opened c t o in
-    (braced c inside, sym (in_says c inside kind) ∙ is ∙ ap Some same,
+    let (at, kind) = opened c t o in (
+      braced c inside,
+      sym (in_says c inside kind) ∙ is ∙ ap Some same,
       ap (λ x. 92 ∷ c ∷ x) (at_splits 123 t at ∙ ap (λ x. 123 ∷ x) (run_splits (is_before 125 125) (drop 1 t)
-      ∙ ap (λ x. inside ++ x) (at_splits 125 rest closed ∙ ap (λ x. 125 ∷ x) tail) ∙ sym (append_assoc inside (125 ∷ []) u))), refl)
+          ∙ ap (λ x. inside ++ x) (at_splits 125 rest closed ∙ ap (λ x. 125 ∷ x) tail) ∙ sym (append_assoc inside (125 ∷ []) u))),
+      refl,
+    )
 
 take_drop : (n : ℕ) (t : Text) → t ≡ take n t ++ drop n t
 take_drop zero t = refl

@@ -1,5 +1,5 @@
 -- The text of a list, up to its closing `]`.
-use Rattle.std.proofs.Common.{◌≡◌, ℕ, zero, suc, ◌+◌, ◌<◌, ◌≤◌, Bool, true, false, not, ◌==◌, ◌&&◌, List, [], ◌∷◌, ◌++◌, length, take, drop, get_or, refl, ap, sym, subst, ◌∙◌, append_assoc, append-nil, arith}
+use Rattle.std.proofs.Common.{◌≡◌, ℕ, ◌+◌, ◌<◌, ◌≤◌, Bool, true, false, not, ◌==◌, ◌&&◌, [], ◌∷◌, ◌++◌, length, take, drop, get_or, refl, ap, sym, ◌∙◌, append_assoc, append-nil}
 use Rattle.std.proofs.lemmas.List.{drop_more, take_more, drop_all}
 use Rattle.rc_marks.specs.Text.{Text}
 use Rattle.rc_marks.specs.Lexer.{inner, after_inner}
@@ -29,9 +29,10 @@ within_more t i false h e w = step t i false (get_or t i 0 == 92) h (rw e refl) 
 pub within_until : (t : Text) (i : ℕ) (p : Bool) → i < length t → (not p && get_or t i 0 == 93) ≡ true → Within t i p →
     (inner false t ≡ take i t) × (after_inner false t ≡ drop i t)
 within_until t i true h e w = absurd (cc)
-within_until t i false h e w =
-    (w.front ∙ ap (λ s. take i t ++ inner false s) (drop_more t i 0 h) ∙ ap (λ s. take i t ++ s) (rw e refl) ∙ append-nil (take i t),
-    w.rest ∙ ap (after_inner false) (drop_more t i 0 h) ∙ rw e refl ∙ sym (drop_more t i 0 h))
+within_until t i false h e w = (
+  w.front ∙ ap (λ s. take i t ++ inner false s) (drop_more t i 0 h) ∙ ap (λ s. take i t ++ s) (rw e refl) ∙ append-nil (take i t),
+  w.rest ∙ ap (after_inner false) (drop_more t i 0 h) ∙ rw e refl ∙ sym (drop_more t i 0 h),
+)
 
 pub within_all : (t : Text) (i : ℕ) (p : Bool) → length t ≤ i → Within t i p → (inner false t ≡ t) × (after_inner false t ≡ [])
 within_all t i p h w =

@@ -6,3 +6,5 @@ pub mod StepLemmas
 pub mod EscapeLemmas
 pub mod MemberLemmas
 pub mod FlagLemmas
+pub mod SoundLemmas
+pub mod AgainLemmas

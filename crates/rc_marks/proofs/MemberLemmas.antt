@@ -1,10 +1,10 @@
 -- The members of a list's text, one after another.
-use Rattle.std.proofs.Common.{◌≡◌, ℕ, zero, suc, ◌+◌, ◌<◌, ◌≤◌, Bool, true, false, not, ◌==◌, List, [], ◌∷◌, ◌++◌, Option, Some, None, length, refl, ap, sym, subst, ◌∙◌, append_assoc, append-nil, arith, length-append, if◌then◌else◌}
+use Rattle.std.proofs.Common.{◌≡◌, ℕ, zero, suc, ◌<◌, ◌≤◌, Bool, true, false, ◌==◌, List, [], ◌∷◌, ◌++◌, Option, Some, None, length, refl, ap, sym, subst, ◌∙◌, append_assoc, append-nil, arith, length-append, if◌then◌else◌}
 use Rattle.std.proofs.lemmas.List.{nil_from_length}
 use Rattle.std.proofs.lemmas.Option.{none-some}
 use Rattle.std.proofs.lemmas.Bool.{eqb-true}
 use Rattle.rc_marks.specs.Text.{Text, ◌>>=◌}
-use Rattle.rc_marks.specs.Marks.{Escape, short, fixed, braced, Atom, plain, escaped, written_escape, written_atom, written_atoms, member_of, members_of, escaped_member, plain_member}
+use Rattle.rc_marks.specs.Marks.{Escape, short, fixed, braced, Atom, plain, escaped, written_escape, written_atom, member_of, escaped_member, plain_member}
 use Rattle.rc_marks.specs.Lexer.{lex_escape, lex_member, lex_members, escaped_then, plain_then}
 use Rattle.rc_marks.specs.declared.tokens.Member.{Member}
 use Rattle.rc_marks.proofs.StepLemmas.{some_parts, made_parts}
@@ -81,6 +81,7 @@ members_step text done rest m u r e = go r.room r.enough r.same
     shift : (o : Option (List Member)) → ((o >>= λ ms. Some (m ∷ ms)) >>= λ ms. Some (done ++ ms)) ≡ (o >>= λ ms. Some ((done ++ m ∷ []) ++ ms))
     shift None = refl
     shift (Some ms) = ap Some (sym (append_assoc done (m ∷ []) ms))
+
     go : (n : ℕ) → length rest ≤ n → lex_members (length text) text ≡ (lex_members n rest >>= λ ms. Some (done ++ ms)) → Reading text (done ++ m ∷ []) u
     go zero h s = let less = member_shorter rest m u e in absurd (omega (arith, h, less))
     go (suc n) h s =

@@ -1,5 +1,5 @@
 -- The definitions of the reader of marks at a text that is known to begin with a character.
-use Rattle.std.proofs.Common.{◌≡◌, ℕ, zero, suc, Bool, true, false, List, [], ◌∷◌, Option, Some, None, refl, ap, ◌∙◌, length, drop, take, ◌≤◌, arith}
+use Rattle.std.proofs.Common.{◌≡◌, ℕ, [], ◌∷◌, Some, None, refl, ap, ◌∙◌, length, drop, take, ◌≤◌}
 use Rattle.std.proofs.lemmas.List.{drop_all}
 use Rattle.rc_marks.specs.Text.{◌>>=◌}
 use Rattle.rc_marks.specs.Marks.{fixed_says}

@@ -1,5 +1,5 @@
 -- The run at the front of a text.
-use Rattle.std.proofs.Common.{◌≡◌, ℕ, zero, suc, ◌+◌, ◌<◌, ◌≤◌, Bool, true, false, not, List, [], ◌∷◌, ◌++◌, length, take, drop, get_or, refl, ap, sym, subst, ◌∙◌, append_assoc, append-nil, arith}
+use Rattle.std.proofs.Common.{◌≡◌, ℕ, ◌+◌, ◌<◌, Bool, true, false, [], ◌∷◌, ◌++◌, length, take, drop, get_or, refl, ap, sym, ◌∙◌, append_assoc, append-nil}
 use Rattle.std.proofs.lemmas.List.{drop_more, take_more}
 use Rattle.rc_marks.specs.Text.{Text}
 use Rattle.rc_marks.specs.Lexer.{run, after_run}
@@ -33,6 +33,7 @@ passed_more test t i h e p = record {
 
 pub passed_until : (test : ℕ → Bool) (t : Text) (i : ℕ) → i < length t → test (get_or t i 0) ≡ false → Passed test t i →
     (run test t ≡ take i t) × (after_run test t ≡ drop i t)
-passed_until test t i h e p =
-    (p.front ∙ ap (λ s. take i t ++ run test s) (drop_more t i 0 h) ∙ ap (λ s. take i t ++ s) (run_stops test _ _ e) ∙ append-nil (take i t),
-    p.rest ∙ ap (after_run test) (drop_more t i 0 h) ∙ after_stops test _ _ e ∙ sym (drop_more t i 0 h))
+passed_until test t i h e p = (
+  p.front ∙ ap (λ s. take i t ++ run test s) (drop_more t i 0 h) ∙ ap (λ s. take i t ++ s) (run_stops test _ _ e) ∙ append-nil (take i t),
+  p.rest ∙ ap (after_run test) (drop_more t i 0 h) ∙ after_stops test _ _ e ∙ sym (drop_more t i 0 h),
+)

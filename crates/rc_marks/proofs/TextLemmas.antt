@@ -1,9 +1,9 @@
 -- Tests over texts, and numbers.
-use Rattle.std.proofs.Common.{◌≡◌, ◌≢◌, ℕ, zero, suc, ◌+◌, ◌-◌, ◌*◌, ◌^◌, ◌<◌, ◌≤◌, Bool, true, false, not, ◌&&◌, ◌||◌, nat_le, nat_lt, List, [], ◌∷◌, ◌++◌, Option, Some, None, length, take, drop, get_or, refl, ap, sym, subst, ◌∙◌, arith, if◌then◌else◌, ◌==◌}
+use Rattle.std.proofs.Common.{◌≡◌, ◌≢◌, ℕ, zero, suc, ◌+◌, ◌*◌, ◌<◌, ◌≤◌, Bool, true, false, ◌&&◌, nat_lt, [], ◌∷◌, Option, Some, None, length, take, drop, get_or, refl, ap, ◌∙◌, arith, ◌==◌}
 use Rattle.std.proofs.lemmas.List.{drop_more, drop_all}
 use Rattle.std.proofs.lemmas.Bool.{lt-ltb, le-ltb}
 use Rattle.std.specs.Char.{digit_value}
-use Rattle.rc_marks.specs.Text.{Text, ◌>>=◌, ◌>>◌, is_at, is_empty, each, same_text, has_twice, number, value_from, is_digit_of}
+use Rattle.rc_marks.specs.Text.{Text, ◌>>◌, each, same_text, number, value_from, is_digit_of}
 
 times_one : (n radix : ℕ) → 0 < radix → n * 1 ≤ n * radix
 times_one zero radix p = omega arith

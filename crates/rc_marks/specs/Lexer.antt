@@ -1,10 +1,9 @@
 -- The first mark of a text, in the order in which the reader of marks tests.
-use Rattle.std.specs.Prelude.{◌≡◌, ℕ, zero, suc, ◌+◌, ◌*◌, Bool, true, false, not, ◌&&◌, ◌||◌, ◌==◌, nat_le, List, [], ◌∷◌, ◌++◌, drop, take, length, Option, Some, None, if◌then◌else◌, encode_utf8_all}
-use Rattle.rc_marks.specs.Text.{Text, ◌>>=◌, ◌>>◌, is_at, is_empty, has_twice, is_digit}
-use Rattle.rc_marks.specs.Said.{Sense, Character, Byte, Dot, PerlClass, Asserts, Members, Start, Capturing, Named, Flagged, Said, Stands, Bar, Setting, Opens, Closes, Repeats}
+use Rattle.std.specs.Prelude.{ℕ, zero, suc, Bool, true, false, not, ◌&&◌, ◌||◌, ◌==◌, nat_le, List, [], ◌∷◌, drop, take, length, Option, Some, None, if◌then◌else◌, encode_utf8_all}
+use Rattle.rc_marks.specs.Text.{Text, ◌>>=◌, ◌>>◌, is_at, is_digit}
+use Rattle.rc_marks.specs.Said.{Character, Dot, Asserts, Members, Capturing, Named, Flagged, Said, Stands, Bar, Setting, Opens, Closes, Repeats}
 use Rattle.rc_marks.specs.Marks.{count, bounds, unchanged, change_of, flags_of, letter_change, is_name, short_says, fixed_says, boundary_says, scalar_says, takes_scalar, is_brace_name, escaped_member, plain_member, is_list, sense}
 use Rattle.rc_marks.specs.declared.tokens.Assertion.TheVariants.{Caret, Dollar}
-use Rattle.rc_marks.specs.declared.tokens.Escape.TheVariants as says
 use Rattle.rc_marks.specs.declared.tokens.Escape as escapes
 use Rattle.rc_marks.specs.declared.tokens.Member.{Member}
 use Rattle.rc_marks.specs.declared.tokens.Change.{Change}

@@ -1,11 +1,9 @@
 -- The marks of which the text of a pattern is made: how each is written, and what it says.
-use Rattle.std.specs.Prelude.{◌≡◌, ℕ, ◌+◌, ◌^◌, Bool, true, false, not, ◌&&◌, ◌||◌, ◌==◌, nat_le, nat_lt, List, [], ◌∷◌, ◌++◌, length, Option, Some, None, if◌then◌else◌, codes, encode_utf8_all}
+use Rattle.std.specs.Prelude.{◌≡◌, ℕ, ◌^◌, Bool, true, false, not, ◌&&◌, ◌||◌, ◌==◌, nat_le, nat_lt, List, [], ◌∷◌, ◌++◌, length, Option, Some, None, if◌then◌else◌, codes, encode_utf8_all}
 use Rattle.rc_marks.specs.Text.{Text, ◌>>=◌, ◌>>◌, is_at, is_empty, each, same_text, has_twice, is_letter, is_digit, number, is_scalar}
 use Rattle.rc_marks.specs.Said.{Sense, Character, Byte, Dot, PerlClass, Asserts, Members, Start, Capturing, Named, Flagged, Said, Stands, Bar, Setting, Opens, Closes, Repeats}
 use Rattle.rc_marks.specs.declared.tokens.Set.{Set}
 use Rattle.rc_marks.specs.declared.tokens.Set.TheVariants.{Digits, Spaces, Words}
-use Rattle.rc_marks.specs.declared.tokens.Perl.{Perl}
-use Rattle.rc_marks.specs.declared.tokens.Assertion.{Assertion}
 use Rattle.rc_marks.specs.declared.tokens.Assertion.TheVariants.{Caret, Dollar, TextStart, TextEnd, Boundary, NotBoundary, WordStart, WordEnd, WordStartHalf, WordEndHalf}
 use Rattle.rc_marks.specs.declared.tokens.Escape.TheVariants as says
 use Rattle.rc_marks.specs.declared.tokens.Escape as escapes

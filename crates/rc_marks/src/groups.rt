@@ -6,8 +6,8 @@ ghost use Rattle.rc_marks.specs.Lexer.{run, after_run, is_before, flag, name_the
 ghost use Rattle.rc_marks.specs.Marks.{unchanged, once, letter_change, change_of, flags_of, begins_name, goes_on_name, is_name};
 ghost use Rattle.rc_marks.specs.View.{Lexes, Gives, LexesToken};
 
-use crate::text::{after, first, is_digit, is_letter, until};
 use crate::refusal::Refusal;
+use crate::text::{after, first, is_digit, is_letter, until};
 use crate::tokens::{Change, Opening, Token};
 use std::alloc::{AllocError, Global};
 
@@ -180,7 +180,11 @@ fn string_of(alloc: Global, text: &[char]) -> Result<String, AllocError>
 }
 
 /// After the name of a group.
-fn name_then<'t>(alloc: Global, name: &[char], rest: &'t [char]) -> Result<(Token, &'t [char]), Refusal>
+fn name_then<'t>(
+    alloc: Global,
+    name: &[char],
+    rest: &'t [char],
+) -> Result<(Token, &'t [char]), Refusal>
     ensures { LexesToken result (name_then name.now rest.now) }
 {
     let Some(rest) = after(rest, '>') else {

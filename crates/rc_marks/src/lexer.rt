@@ -125,5 +125,4 @@ pub fn first_token(alloc: Global, text: &[char]) -> Result<(Token, &[char]), Ref
 /// What the reader of marks gives is the mark with which the text begins, and none where none does.
 pub fn gives_the_mark()
     ensures { (t : Text) (k : Said) (u : Text) → (lex t ≡ Some (k, u)) ↔ Begins t k u }
-{
-}
+{}

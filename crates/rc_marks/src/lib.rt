@@ -3,8 +3,8 @@
 
 mod escapes;
 mod groups;
-mod lists;
-mod text;
 pub mod lexer;
+mod lists;
 pub mod refusal;
+mod text;
 pub mod tokens;

@@ -7,8 +7,8 @@ ghost use Rattle.rc_marks.specs.Marks.{is_list, plain_member, escaped_member};
 ghost use Rattle.rc_marks.specs.View.{Lexes, Gives, LexesToken};
 
 use crate::escapes::escape;
-use crate::text::{after, first, has_twice};
 use crate::refusal::Refusal;
+use crate::text::{after, first, has_twice};
 use crate::tokens::{Escape, List, Member, Token};
 use std::alloc::Global;
 
@@ -119,7 +119,13 @@ fn members(alloc: Global, text: &[char]) -> Result<Vec<Member>, Refusal>
     Ok(all)
 }
 
-fn list_then<'t>(alloc: Global, negated: bool, bracket: bool, text: &[char], rest: &'t [char]) -> Result<(Token, &'t [char]), Refusal>
+fn list_then<'t>(
+    alloc: Global,
+    negated: bool,
+    bracket: bool,
+    text: &[char],
+    rest: &'t [char],
+) -> Result<(Token, &'t [char]), Refusal>
     ensures { LexesToken result (list_then negated bracket text.now rest.now) }
 {
     let Some(rest) = after(rest, ']') else {
@@ -129,7 +135,11 @@ fn list_then<'t>(alloc: Global, negated: bool, bracket: bool, text: &[char], res
         return Err(Refusal::Syntax);
     }
     let members = members(alloc, text)?;
-    let list = List { negated, bracket, members };
+    let list = List {
+        negated,
+        bracket,
+        members,
+    };
     Ok((Token::List(list), rest))
 }
 

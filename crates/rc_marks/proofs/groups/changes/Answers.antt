@@ -1,5 +1,5 @@
-use Rattle.std.proofs.Common.{◌≡◌, sym, ◌∙◌, Some, None}
-use Rattle.rc_marks.proofs.FlagLemmas.{flag_goes, flag_fails, flags_end}
+use Rattle.std.proofs.Common.{sym, ◌∙◌}
+use Rattle.rc_marks.proofs.FlagLemmas.{flag_goes, flag_fails}
 use Rattle.rc_marks.proofs.groups.changes.Goals as goal
 
 pub returns-in_default : goal.returns-in_default
