@@ -8,3 +8,4 @@ pub mod MemberLemmas
 pub mod FlagLemmas
 pub mod SoundLemmas
 pub mod AgainLemmas
+pub mod ClassSteps

@@ -2,4 +2,6 @@ pub mod Text
 pub mod Said
 pub mod Marks
 pub mod Lexer
+pub mod Classes
 pub mod View
+pub mod ClassView

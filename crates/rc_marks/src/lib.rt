@@ -1,6 +1,7 @@
 //! The marks of which the text of a pattern is made.
 #![tactic(auto)]
 
+pub mod classes;
 mod escapes;
 mod groups;
 pub mod lexer;
