@@ -9,3 +9,5 @@ pub mod FlagLemmas
 pub mod SoundLemmas
 pub mod AgainLemmas
 pub mod ClassSteps
+pub mod ItemLemmas
+pub mod LeadLemmas

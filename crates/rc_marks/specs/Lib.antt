@@ -5,3 +5,4 @@ pub mod Lexer
 pub mod Classes
 pub mod View
 pub mod ClassView
+pub mod Items

@@ -41,14 +41,14 @@ fn is_apart(unicode: bool, low: u32, high: u32) -> bool
     next(unicode, low) < high as u64
 }
 
-fn push(ranges: &mut Vec<CodeRange>, start: u32, end: u32) -> Result<(), AllocError>
+pub(crate) fn push(ranges: &mut Vec<CodeRange>, start: u32, end: u32) -> Result<(), AllocError>
     ensures { OnOk result (pairs ranges.new.items ≡ pairs ranges.old.items ++ (start, end) ∷ []) }
 {
     ranges.push(CodeRange { start, end })?;
     Ok(())
 }
 
-fn append(ranges: &mut Vec<CodeRange>, more: &[CodeRange]) -> Result<(), AllocError>
+pub(crate) fn append(ranges: &mut Vec<CodeRange>, more: &[CodeRange]) -> Result<(), AllocError>
     ensures { OnOk result (pairs ranges.new.items ≡ pairs ranges.old.items ++ pairs more.now) }
 {
     for range in more {

@@ -4,6 +4,7 @@
 pub mod classes;
 mod escapes;
 mod groups;
+pub mod items;
 pub mod lexer;
 mod lists;
 pub mod refusal;
