@@ -1,7 +1,6 @@
 -- The steps of the loops that make classes.
-use Rattle.std.proofs.Common.{◌≡◌, ℕ, zero, suc, ◌+◌, ◌-◌, ◌<◌, ◌≤◌, Bool, true, false, not, List, [], ◌∷◌, ◌++◌, length, take, drop, get_or, map, max, min, nat_lt, nat_le, refl, ap, sym, subst, ◌∙◌, append_assoc, append-nil, arith, if◌then◌else◌}
+use Rattle.std.proofs.Common.{◌≡◌, ℕ, ◌+◌, ◌<◌, ◌≤◌, Bool, true, false, List, [], ◌∷◌, ◌++◌, length, drop, get_or, max, min, nat_lt, nat_le, refl, ap, sym, ◌∙◌, arith, if◌then◌else◌}
 use Rattle.std.proofs.lemmas.List.{drop_more, drop_all}
-use Rattle.rc_pattern.specs.Re.{Range}
 use Rattle.rc_marks.specs.ClassView.{pair, pairs}
 use Rattle.rc_marks.specs.Classes.{next, before, joins, canonical, shared, lower, upper, folded, gaps, last_code}
 use Rattle.rc_marks.specs.declared.classes.CodeRange.{CodeRange}

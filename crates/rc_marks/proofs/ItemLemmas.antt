@@ -1,7 +1,6 @@
 -- The ranges of a list are those of its items.
-use Rattle.std.proofs.Common.{◌≡◌, ℕ, zero, suc, ◌+◌, ◌<◌, ◌≤◌, Bool, true, false, not, nat_le, List, [], ◌∷◌, ◌++◌, Option, Some, None, length, drop, get_or, ◌==◌, refl, ap, sym, subst, ◌∙◌, append_assoc, append-nil, arith}
+use Rattle.std.proofs.Common.{◌≡◌, ℕ, ◌<◌, ◌≤◌, Bool, true, false, nat_le, List, [], ◌∷◌, ◌++◌, Option, Some, None, length, refl, ap, sym, ◌∙◌, append_assoc, append-nil, arith}
 use Rattle.std.proofs.lemmas.Option.{none-some, same_Some}
-use Rattle.std.proofs.lemmas.List.{nil_from_length}
 use Rattle.rc_pattern.specs.Re.{Range}
 use Rattle.rc_marks.specs.Text.{◌>>=◌, ◌>>◌}
 use Rattle.rc_marks.specs.Classes.{perl_ranges, code_of, items}
@@ -11,7 +10,7 @@ use Rattle.rc_marks.specs.declared.tokens.Member.TheVariants.{Character, Byte, H
 use Rattle.rc_marks.specs.declared.tokens.Member.TheVariants as member
 use Rattle.rc_marks.proofs.StepLemmas.{some_parts, guard_parts}
 
-abbrev then_more : Bool → Taken → Option (List Range)
+abbrev pub then_more : Bool → Taken → Option (List Range)
 then_more unicode r = more unicode r.1.0 r.1.1 r.0
 
 -- ranges before others
@@ -33,37 +32,48 @@ to u c b ms done = go (code_of u b)
         ≡ ((t >> taken (done ++ (c, high) ∷ []) true ms) >>= then_more u)
     last high true = front (items u true ms) done ((c, high) ∷ [])
     last high false = refl
+
     go : (o : Option ℕ) → ((o >>= λ high. nat_le c high >> (items u true ms >>= λ rs. Some ((c, high) ∷ rs))) >>= λ rs. Some (done ++ rs))
         ≡ ((o >>= λ high. nat_le c high >> taken (done ++ (c, high) ∷ []) true ms) >>= then_more u)
     go None = refl
     go (Some high) = last high (nat_le c high)
 
-byte_step : (u after : Bool) (b : ℕ) (ms : List Member) (done : List Range) → more u after (Byte b ∷ ms) done ≡ (ranged u b ms done >>= then_more u)
-byte_step u after b [] done = alone u b [] done
-byte_step u after b (Hyphen ∷ []) done = alone u b (Hyphen ∷ []) done
-byte_step u after b (Hyphen ∷ x ∷ ms) done = to u b x ms done
-byte_step u after b (Character c ∷ []) done = alone u b (Character c ∷ []) done
-byte_step u after b (Character c ∷ x ∷ ms) done = alone u b (Character c ∷ x ∷ ms) done
-byte_step u after b (Byte c ∷ []) done = alone u b (Byte c ∷ []) done
-byte_step u after b (Byte c ∷ x ∷ ms) done = alone u b (Byte c ∷ x ∷ ms) done
-byte_step u after b (member.Perl p ∷ []) done = alone u b (member.Perl p ∷ []) done
-byte_step u after b (member.Perl p ∷ x ∷ ms) done = alone u b (member.Perl p ∷ x ∷ ms) done
+-- after the code of a character, which may begin a range
+abbrev coded : Bool → ℕ → List Member → Option (List Range)
+coded u c (Hyphen ∷ b ∷ ms) = code_of u b >>= λ high. nat_le c high >> (items u true ms >>= λ rs. Some ((c, high) ∷ rs))
+coded u c ms = items u false ms >>= λ rs. Some ((c, c) ∷ rs)
 
--- a character is read as the byte of its code, where it has one
-as_byte : (u after : Bool) (c : ℕ) (ms : List Member) → items u after (Character c ∷ ms) ≡ (code_of u (Character c) >>= λ b. items u after (Byte b ∷ ms))
-as_byte u after c [] = refl
-as_byte u after c (Hyphen ∷ []) = refl
-as_byte u after c (Hyphen ∷ x ∷ ms) = refl
-as_byte u after c (Character d ∷ ms) = refl
-as_byte u after c (Byte d ∷ ms) = refl
-as_byte u after c (member.Perl p ∷ ms) = refl
+coded_step : (u : Bool) (b : ℕ) (ms : List Member) (done : List Range) → (coded u b ms >>= λ rs. Some (done ++ rs)) ≡ (ranged u b ms done >>= then_more u)
+coded_step u b [] done = alone u b [] done
+coded_step u b (Hyphen ∷ []) done = alone u b (Hyphen ∷ []) done
+coded_step u b (Hyphen ∷ x ∷ ms) done = to u b x ms done
+coded_step u b (Character c ∷ []) done = alone u b (Character c ∷ []) done
+coded_step u b (Character c ∷ x ∷ ms) done = alone u b (Character c ∷ x ∷ ms) done
+coded_step u b (Byte c ∷ []) done = alone u b (Byte c ∷ []) done
+coded_step u b (Byte c ∷ x ∷ ms) done = alone u b (Byte c ∷ x ∷ ms) done
+coded_step u b (member.Perl p ∷ []) done = alone u b (member.Perl p ∷ []) done
+coded_step u b (member.Perl p ∷ x ∷ ms) done = alone u b (member.Perl p ∷ x ∷ ms) done
 
-character_step : (u after : Bool) (c : ℕ) (ms : List Member) (done : List Range) → more u after (Character c ∷ ms) done ≡ (item u after (Character c) ms done >>= then_more u)
-character_step u after c ms done = ap (λ o. o >>= λ rs. Some (done ++ rs)) (as_byte u after c ms) ∙ go (code_of u (Character c))
-  where
-    go : (o : Option ℕ) → ((o >>= λ b. items u after (Byte b ∷ ms)) >>= λ rs. Some (done ++ rs)) ≡ ((o >>= λ c. ranged u c ms done) >>= then_more u)
-    go None = refl
-    go (Some b) = byte_step u after b ms done
+character_coded : (u after : Bool) (c : ℕ) (ms : List Member) → items u after (Character c ∷ ms) ≡ (code_of u (Character c) >>= λ b. coded u b ms)
+character_coded u after c [] = refl
+character_coded u after c (Hyphen ∷ []) = refl
+character_coded u after c (Hyphen ∷ x ∷ ms) = refl
+character_coded u after c (Character d ∷ ms) = refl
+character_coded u after c (Byte d ∷ ms) = refl
+character_coded u after c (member.Perl p ∷ ms) = refl
+
+byte_coded : (u after : Bool) (c : ℕ) (ms : List Member) → items u after (Byte c ∷ ms) ≡ (code_of u (Byte c) >>= λ b. coded u b ms)
+byte_coded u after c [] = refl
+byte_coded u after c (Hyphen ∷ []) = refl
+byte_coded u after c (Hyphen ∷ x ∷ ms) = refl
+byte_coded u after c (Character d ∷ ms) = refl
+byte_coded u after c (Byte d ∷ ms) = refl
+byte_coded u after c (member.Perl p ∷ ms) = refl
+
+code_step : (u : Bool) (o : Option ℕ) (ms : List Member) (done : List Range) →
+    ((o >>= λ b. coded u b ms) >>= λ rs. Some (done ++ rs)) ≡ ((o >>= λ c. ranged u c ms done) >>= then_more u)
+code_step u None ms done = refl
+code_step u (Some b) ms done = coded_step u b ms done
 
 hyphen_step : (u after : Bool) (ms : List Member) (done : List Range) → more u after (Hyphen ∷ ms) done ≡ (item u after Hyphen ms done >>= then_more u)
 hyphen_step u true [] done = ap Some (ap (λ x. done ++ x) refl) ∙ ap Some (sym (append-nil (done ++ (45, 45) ∷ [])))
@@ -77,9 +87,9 @@ hyphen_step u false (Byte b ∷ ms) done = refl
 hyphen_step u true (member.Perl p ∷ ms) done = front (items u false (member.Perl p ∷ ms)) done ((45, 45) ∷ [])
 hyphen_step u false (member.Perl p ∷ ms) done = refl
 
-step : (u after : Bool) (m : Member) (ms : List Member) (done : List Range) → more u after (m ∷ ms) done ≡ (item u after m ms done >>= then_more u)
-step u after (Character c) ms done = character_step u after c ms done
-step u after (Byte b) ms done = byte_step u after b ms done
+pub step : (u after : Bool) (m : Member) (ms : List Member) (done : List Range) → more u after (m ∷ ms) done ≡ (item u after m ms done >>= then_more u)
+step u after (Character c) ms done = ap (λ o. o >>= λ rs. Some (done ++ rs)) (character_coded u after c ms) ∙ code_step u (code_of u (Character c)) ms done
+step u after (Byte b) ms done = ap (λ o. o >>= λ rs. Some (done ++ rs)) (byte_coded u after b ms) ∙ code_step u (code_of u (Byte b)) ms done
 step u after Hyphen ms done = hyphen_step u after ms done
 step u after (member.Perl p) ms done = front (items u false ms) done (perl_ranges u p)
 
@@ -104,14 +114,15 @@ ranged_shorter u c ms done d a left h = go (range_end ms) refl h
         let x = left_of (done ++ (c, high) ∷ []) d true a r.1 left same in
         let y = range_end_shorter ms r.0 r.1 e in omega (arith, x, y)
 
-item_left : (u after : Bool) (m : Member) (ms : List Member) (done d : List Range) (a : Bool) (left : List Member) →
+pub item_left : (u after : Bool) (m : Member) (ms : List Member) (done d : List Range) (a : Bool) (left : List Member) →
     item u after m ms done ≡ Some (d, (a, left)) → length left ≤ length ms
 item_left u after Hyphen ms done d a left h =
     let (_, same) = guard_parts (may_be_itself after ms) _ (d, (a, left)) h in left_of (done ++ (45, 45) ∷ []) d false a ms left same
 item_left u after (member.Perl p) ms done d a left h = left_of (done ++ perl_ranges u p) d false a ms left h
 item_left u after (Character c) ms done d a left h =
     let (code, _, more) = some_parts (code_of u (Character c)) _ (d, (a, left)) h in ranged_shorter u code ms done d a left more
-item_left u after (Byte b) ms done d a left h = ranged_shorter u b ms done d a left h
+item_left u after (Byte b) ms done d a left h =
+    let (code, _, more) = some_parts (code_of u (Byte b)) _ (d, (a, left)) h in ranged_shorter u code ms done d a left more
 
 -- ---- steps over what is left
 

@@ -1,8 +1,8 @@
 -- The hyphens at the front of a list.
-use Rattle.std.proofs.Common.{◌≡◌, ℕ, ◌+◌, Bool, true, false, List, [], ◌∷◌, ◌++◌, Option, Some, None, refl, ap, sym, ◌∙◌, append_assoc, append-nil}
+use Rattle.std.proofs.Common.{◌≡◌, Bool, true, false, List, [], ◌∷◌, ◌++◌, Option, Some, None, refl, ap, sym, ◌∙◌, append_assoc}
 use Rattle.rc_pattern.specs.Re.{Range}
 use Rattle.rc_marks.specs.Text.{◌>>=◌}
-use Rattle.rc_marks.specs.Classes.{items, led_items}
+use Rattle.rc_marks.specs.Classes.{led_items}
 use Rattle.rc_marks.specs.Items.{is_hyphen, more, led_more}
 use Rattle.rc_marks.specs.declared.tokens.Member.{Member}
 use Rattle.rc_marks.specs.declared.tokens.Member.TheVariants.{Character, Byte, Hyphen}

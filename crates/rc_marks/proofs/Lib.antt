@@ -11,3 +11,4 @@ pub mod AgainLemmas
 pub mod ClassSteps
 pub mod ItemLemmas
 pub mod LeadLemmas
+pub mod ClassLemmas

@@ -1,5 +1,5 @@
 -- What the values of the code for classes stand for.
-use Rattle.std.specs.Prelude.{◌≡◌, List, map}
+use Rattle.std.specs.Prelude.{List, map}
 use Rattle.rc_pattern.specs.Re.{Range}
 use Rattle.rc_marks.specs.declared.classes.CodeRange.{CodeRange}
 

@@ -1,7 +1,7 @@
 -- Sets of characters and of bytes, as ranges with both ends included.
-use Rattle.std.specs.Prelude.{◌≡◌, ℕ, ◌+◌, ◌-◌, ◌<◌, ◌≤◌, Bool, true, false, not, ◌&&◌, ◌||◌, ◌==◌, nat_le, nat_lt, List, [], ◌∷◌, ◌++◌, Option, Some, None, if◌then◌else◌, max, min}
+use Rattle.std.specs.Prelude.{◌≡◌, ℕ, ◌+◌, ◌-◌, ◌≤◌, Bool, true, false, ◌&&◌, ◌||◌, ◌==◌, nat_le, nat_lt, List, [], ◌∷◌, ◌++◌, Option, Some, None, if◌then◌else◌, max, min}
 use Rattle.rc_pattern.specs.Re.{Range}
-use Rattle.rc_marks.specs.Text.{◌>>=◌, ◌>>◌}
+use Rattle.rc_marks.specs.Text.{◌>>=◌, ◌>>◌, is_scalar}
 use Rattle.rc_marks.specs.declared.tokens.Set.{Set}
 use Rattle.rc_marks.specs.declared.tokens.Set.TheVariants.{Digits, Spaces, Words}
 use Rattle.rc_marks.specs.declared.tokens.Perl.{Perl}
@@ -76,10 +76,15 @@ set_ranges Words = (48, 57) ∷ (65, 90) ∷ (95, 95) ∷ (97, 122) ∷ []
 abbrev pub perl_ranges : Bool → Perl → List Range
 perl_ranges unicode p = class_of unicode false p.negated (set_ranges p.set)
 
+-- the code is that of a character, or of a byte
+abbrev pub is_code : Bool → ℕ → Bool
+is_code true c = is_scalar c
+is_code false c = nat_lt c 256
+
 -- With `u` off a character above 7F stands in a list only as `\xHH`.
 abbrev pub code_of : Bool → Member → Option ℕ
-code_of unicode (Character c) = (unicode || nat_lt c 128) >> Some c
-code_of unicode (Byte b) = Some b
+code_of unicode (Character c) = ((unicode || nat_lt c 128) && is_code unicode c) >> Some c
+code_of unicode (Byte b) = is_code unicode b >> Some b
 code_of unicode Hyphen = None
 code_of unicode (member.Perl p) = None
 
@@ -110,3 +115,8 @@ list_ranges unicode false ms = led_items unicode ms
 abbrev pub has_high : List Range → Bool
 has_high [] = false
 has_high (r ∷ rs) = nat_le 128 r.1 || has_high rs
+
+-- each range has codes as its ends, and ends where it begins or later
+abbrev pub AreCodes : Bool → List Range → Type 0
+AreCodes unicode [] = Unit {0}
+AreCodes unicode (r ∷ rs) = (is_code unicode r.0 ≡ true) × (is_code unicode r.1 ≡ true) × (r.0 ≤ r.1) × AreCodes unicode rs

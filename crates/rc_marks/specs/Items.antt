@@ -1,5 +1,5 @@
 -- The ranges of a list, an item at a time.
-use Rattle.std.specs.Prelude.{ℕ, Bool, true, false, not, ◌&&◌, ◌||◌, nat_le, List, [], ◌∷◌, ◌++◌, Option, Some, None}
+use Rattle.std.specs.Prelude.{ℕ, Bool, true, false, nat_le, List, [], ◌∷◌, ◌++◌, Option, Some, None}
 use Rattle.rc_pattern.specs.Re.{Range}
 use Rattle.rc_marks.specs.Text.{◌>>=◌, ◌>>◌}
 use Rattle.rc_marks.specs.Classes.{perl_ranges, code_of, items, led_items}
@@ -48,7 +48,7 @@ abbrev pub item : Bool → Bool → Member → List Member → List Range → Op
 item unicode after Hyphen ms done = may_be_itself after ms >> taken (done ++ (45, 45) ∷ []) false ms
 item unicode after (member.Perl p) ms done = taken (done ++ perl_ranges unicode p) false ms
 item unicode after (Character c) ms done = code_of unicode (Character c) >>= λ c. ranged unicode c ms done
-item unicode after (Byte b) ms done = ranged unicode b ms done
+item unicode after (Byte b) ms done = code_of unicode (Byte b) >>= λ c. ranged unicode c ms done
 
 -- the ranges so far, and those of what is left
 abbrev pub more : Bool → Bool → List Member → List Range → Option (List Range)

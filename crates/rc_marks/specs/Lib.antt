@@ -6,3 +6,4 @@ pub mod Classes
 pub mod View
 pub mod ClassView
 pub mod Items
+pub mod Laws

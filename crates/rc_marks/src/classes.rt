@@ -59,7 +59,12 @@ pub(crate) fn append(ranges: &mut Vec<CodeRange>, more: &[CodeRange]) -> Result<
 
 /// Adds a range to ranges in order, and joins it with those that it touches.
 #[tactic(auto, using(crate::proofs::ClassSteps::joins_before, crate::proofs::ClassSteps::joins_after, crate::proofs::ClassSteps::joins_touch, crate::proofs::ClassSteps::joins_end))]
-fn joined(alloc: Global, unicode: bool, range: CodeRange, ranges: &[CodeRange]) -> Result<Vec<CodeRange>, AllocError>
+fn joined(
+    alloc: Global,
+    unicode: bool,
+    range: CodeRange,
+    ranges: &[CodeRange],
+) -> Result<Vec<CodeRange>, AllocError>
     ensures { IfOk result (λ v. pairs v.items ≡ joins unicode (pair range) (pairs ranges.now)) }
 {
     let mut all = Vec::new(alloc);
@@ -85,7 +90,11 @@ fn joined(alloc: Global, unicode: bool, range: CodeRange, ranges: &[CodeRange]) 
 
 /// The ranges in order, and joined where they touch.
 #[tactic(auto, using(crate::proofs::ClassSteps::canonical_start, crate::proofs::ClassSteps::canonical_step))]
-fn canonical(alloc: Global, unicode: bool, ranges: &[CodeRange]) -> Result<Vec<CodeRange>, AllocError>
+fn canonical(
+    alloc: Global,
+    unicode: bool,
+    ranges: &[CodeRange],
+) -> Result<Vec<CodeRange>, AllocError>
     ensures { IfOk result (λ v. pairs v.items ≡ canonical unicode (pairs ranges.now)) }
 {
     let mut all = Vec::new(alloc);
@@ -158,7 +167,13 @@ fn folded(alloc: Global, ranges: &[CodeRange]) -> Result<Vec<CodeRange>, AllocEr
 }
 
 /// The class of the ranges: folded first, then in order and joined, then complemented.
-pub fn class_of(alloc: Global, unicode: bool, fold: bool, negated: bool, ranges: &[CodeRange]) -> Result<Vec<CodeRange>, AllocError>
+pub fn class_of(
+    alloc: Global,
+    unicode: bool,
+    fold: bool,
+    negated: bool,
+    ranges: &[CodeRange],
+) -> Result<Vec<CodeRange>, AllocError>
     ensures { IfOk result (λ v. pairs v.items ≡ class_of unicode fold negated (pairs ranges.now)) }
 {
     let in_order = if fold {

@@ -4,6 +4,7 @@ ghost use Rattle.std.specs.Prelude.{◌≡◌, ◌+◌, ◌-◌, ◌<◌, ◌≤
 ghost use Rattle.rc_pattern.specs.Re.{Range};
 ghost use Rattle.rc_marks.specs.ClassView.{pair, pairs};
 ghost use Rattle.rc_marks.specs.Classes.{set_ranges, perl_ranges, code_of, items, led_items, list_ranges};
+ghost use Rattle.rc_marks.specs.Laws.{ClassLaw, ListLaw};
 ghost use Rattle.rc_marks.specs.Items.{Taken, is_hyphen, range_end, may_be_itself, ranged, item, more, led_more};
 ghost use Rattle.rc_marks.specs.View.{Gives};
 
@@ -108,7 +109,12 @@ fn range_end(rest: &[Member]) -> Option<(Member, &[Member])>
 }
 
 /// `code`, or a range that begins with it.
-fn ranged<'m>(unicode: bool, code: u32, rest: &'m [Member], ranges: &mut Vec<CodeRange>) -> Result<(bool, &'m [Member]), Refusal>
+fn ranged<'m>(
+    unicode: bool,
+    code: u32,
+    rest: &'m [Member],
+    ranges: &mut Vec<CodeRange>,
+) -> Result<(bool, &'m [Member]), Refusal>
     ensures { Gives result (ranged unicode code rest.now (pairs ranges.old.items)) (λ r. (pairs ranges.new.items, (r.0, r.1.now))) }
 {
     if let Some((end, left)) = range_end(rest) {
@@ -126,7 +132,14 @@ fn ranged<'m>(unicode: bool, code: u32, rest: &'m [Member], ranges: &mut Vec<Cod
 }
 
 /// The item at the front.
-fn item<'m>(alloc: Global, unicode: bool, after: bool, member: Member, rest: &'m [Member], ranges: &mut Vec<CodeRange>) -> Result<(bool, &'m [Member]), Refusal>
+fn item<'m>(
+    alloc: Global,
+    unicode: bool,
+    after: bool,
+    member: Member,
+    rest: &'m [Member],
+    ranges: &mut Vec<CodeRange>,
+) -> Result<(bool, &'m [Member]), Refusal>
     ensures { Gives result (item unicode after member rest.now (pairs ranges.old.items)) (λ r. (pairs ranges.new.items, (r.0, r.1.now))) }
 {
     match member {
@@ -148,13 +161,24 @@ fn item<'m>(alloc: Global, unicode: bool, after: bool, member: Member, rest: &'m
             };
             ranged(unicode, code, rest, ranges)
         }
-        Member::Byte(byte) => ranged(unicode, byte as u32, rest, ranges),
+        Member::Byte(_) => {
+            let Some(code) = code_of(unicode, member) else {
+                return Err(Refusal::Syntax);
+            };
+            ranged(unicode, code, rest, ranges)
+        }
     }
 }
 
 /// Adds the ranges of the members.
 #[tactic(auto, using(crate::proofs::ItemLemmas::more_end, crate::proofs::ItemLemmas::more_step, crate::proofs::ItemLemmas::more_none, crate::proofs::ItemLemmas::item_shorter))]
-fn items(alloc: Global, unicode: bool, after: bool, members: &[Member], ranges: &mut Vec<CodeRange>) -> Result<(), Refusal>
+fn items(
+    alloc: Global,
+    unicode: bool,
+    after: bool,
+    members: &[Member],
+    ranges: &mut Vec<CodeRange>,
+) -> Result<(), Refusal>
     ensures { Gives result (more unicode after members.now (pairs ranges.old.items)) (λ _. pairs ranges.new.items) }
 {
     let mut after = after;
@@ -173,7 +197,11 @@ fn items(alloc: Global, unicode: bool, after: bool, members: &[Member], ranges: 
 
 /// Adds the hyphens at the front, and gives what follows.
 #[tactic(auto, using(crate::proofs::LeadLemmas::led_hyphen, crate::proofs::LeadLemmas::led_other, crate::proofs::LeadLemmas::led_end))]
-fn lead<'m>(unicode: bool, members: &'m [Member], ranges: &mut Vec<CodeRange>) -> Result<&'m [Member], AllocError>
+fn lead<'m>(
+    unicode: bool,
+    members: &'m [Member],
+    ranges: &mut Vec<CodeRange>,
+) -> Result<&'m [Member], AllocError>
     ensures { IfOk result (λ rest. led_more unicode members.now (pairs ranges.old.items) ≡ more unicode false rest.now (pairs ranges.new.items)) }
 {
     let mut rest = members;
@@ -201,3 +229,9 @@ pub fn list_ranges(alloc: Global, unicode: bool, list: &List) -> Result<Vec<Code
     items(alloc, unicode, false, rest, &mut ranges)?;
     Ok(ranges)
 }
+
+/// The ends of a class's ranges are codes, and its ranges ascend.
+pub fn classes_ascend()
+    ensures classes { ClassLaw }
+    ensures lists { ListLaw }
+{}
