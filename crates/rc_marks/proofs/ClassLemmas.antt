@@ -25,11 +25,11 @@ le_yes : (a b : ℕ) → a ≤ b → nat_le a b ≡ true
 le_yes a b h = grind (arith, h)
 
 -- what a code is, in numbers
-abbrev IsCode : Bool → ℕ → Type 0
+abbrev pub IsCode : Bool → ℕ → Type 0
 IsCode true c = (c < 0xD800) ⊎ ((0xE000 ≤ c) × (c < 0x110000))
 IsCode false c = c < 256
 
-code_is : (u : Bool) (c : ℕ) → is_code u c ≡ true → IsCode u c
+pub code_is : (u : Bool) (c : ℕ) → is_code u c ≡ true → IsCode u c
 code_is true c h = ⊎_elim (λ l. inl (ltb-true c 0xD800 l))
     (λ g. let (a, b) = and_parts (nat_le 0xE000 c) (nat_lt c 0x110000) g in inr (le_true 0xE000 c a, ltb-true c 0x110000 b))
     (or_parts (nat_lt c 0xD800) (nat_le 0xE000 c && nat_lt c 0x110000) h)

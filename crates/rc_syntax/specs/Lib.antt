@@ -1,0 +1,5 @@
+pub mod Settings
+pub mod Pieces
+pub mod Grammar
+pub mod Machine
+pub mod View

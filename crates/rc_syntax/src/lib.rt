@@ -1,0 +1,11 @@
+//! The text of a pattern, read as a pattern.
+#![tactic(auto)]
+
+mod config;
+mod error;
+mod flags;
+mod parts;
+mod pieces;
+
+pub use config::Config;
+pub use error::Error;
