@@ -1,9 +1,11 @@
 //! The text of a pattern, read as a pattern.
 #![tactic(auto)]
 
+mod builder;
 mod config;
 mod error;
 mod flags;
+mod names;
 mod parts;
 mod pieces;
 
