@@ -1,10 +1,10 @@
 -- What the reader of marks finds is a mark that is written so.
-use Rattle.std.proofs.Common.{◌≡◌, ℕ, zero, suc, Bool, true, false, not, ◌&&◌, ◌==◌, nat_le, List, [], ◌∷◌, ◌++◌, Option, Some, None, length, drop, refl, ap, sym, subst, ◌∙◌, if◌then◌else◌, append_assoc, append-nil, encode_utf8_all}
+use Rattle.std.proofs.Common.{◌≡◌, ℕ, zero, suc, Bool, true, false, not, ◌&&◌, ◌==◌, ◌<◌, arith, nat_le, List, [], ◌∷◌, ◌++◌, Option, Some, None, length, drop, refl, ap, sym, subst, ◌∙◌, if◌then◌else◌, append_assoc, append-nil, encode_utf8_all, length-append}
 use Rattle.std.proofs.lemmas.Bool.{eqb-true}
 use Rattle.std.proofs.lemmas.Option.{none-some, same_Some}
 use Rattle.rc_marks.specs.Text.{Text, ◌>>=◌, ◌>>◌, is_at, is_digit}
 use Rattle.rc_marks.specs.Said.{Said, Stands, Bar, Setting, Opens, Closes, Repeats, Character, Dot, Asserts, Members, Capturing, Named, Flagged}
-use Rattle.rc_marks.specs.Marks.{Amount, any, some, maybe, exactly, from, between, Mark, stands, bar, setting, opens, closes, repeats, character, dot, caret, dollar, escape, brackets, capturing, naming, flagging, Atom, written, written_amount, written_atom, written_atoms, written_escape, written_if, bounds, bounds_of, count, unchanged, change_of, flags_of, is_name, is_list, members_of, sense, said, takes_more, Begins}
+use Rattle.rc_marks.specs.Marks.{short, fixed, braced, Amount, any, some, maybe, exactly, from, between, Mark, stands, bar, setting, opens, closes, repeats, character, dot, caret, dollar, escape, brackets, capturing, naming, flagging, Atom, written, written_amount, written_atom, written_atoms, written_escape, written_if, bounds, bounds_of, count, unchanged, change_of, flags_of, is_name, is_list, members_of, sense, said, takes_more, Begins}
 use Rattle.rc_marks.specs.Lexer.{run, after_run, is_before, past, repeats_then, second, counts, flags_then, name_then, group, opening, lex_escape, inner, after_inner, lex_member, lex_members, list_inside, list, piece_then, lex}
 use Rattle.rc_marks.specs.declared.tokens.Member.{Member}
 use Rattle.rc_marks.specs.declared.tokens.Assertion.TheVariants.{Caret, Dollar}
@@ -281,3 +281,35 @@ lex_sound (c ∷ t) k u h =
       where
         plain : said (stands (character c)) ≡ Some (Stands (Character c))
         plain = rw e9 (rw e10 (rw e5 (rw e4 (rw e6 (rw e3 (rw e2 (rw e1 (rw e8 (rw e7 (rw e11 (rw e12 refl)))))))))))
+
+grows : (f u : Text) → 0 < length f → length u < length (f ++ u)
+grows f u h = let e = length-append f u in omega (arith, e, h)
+
+amount_some : (a : Amount) (q : Text) → 0 < length (written_amount a ++ q)
+amount_some any q = omega arith
+amount_some some q = omega arith
+amount_some maybe q = omega arith
+amount_some (exactly n) q = omega arith
+amount_some (from n) q = omega arith
+amount_some (between n m) q = omega arith
+
+written_some : (m : Mark) → 0 < length (written m)
+written_some (stands (character c)) = omega arith
+written_some (stands dot) = omega arith
+written_some (stands caret) = omega arith
+written_some (stands dollar) = omega arith
+written_some (stands (escape (short c))) = omega arith
+written_some (stands (escape (fixed c ds))) = omega arith
+written_some (stands (escape (braced c t))) = omega arith
+written_some (stands (brackets negated bracket xs)) = omega arith
+written_some bar = omega arith
+written_some (setting f) = omega arith
+written_some (opens capturing) = omega arith
+written_some (opens (naming true name)) = omega arith
+written_some (opens (naming false name)) = omega arith
+written_some (opens (flagging f)) = omega arith
+written_some closes = omega arith
+written_some (repeats o) = amount_some o.amount (written_if o.lazy 63)
+
+pub lex_shorter : (t : Text) (k : Said) (u : Text) → lex t ≡ Some (k, u) → length u < length t
+lex_shorter t k u h = let (m, _, is, _) = lex_sound t k u h in subst (λ s. length u < length s) (sym is) (grows (written m) u (written_some m))

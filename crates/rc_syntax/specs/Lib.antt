@@ -3,3 +3,4 @@ pub mod Pieces
 pub mod Grammar
 pub mod Machine
 pub mod View
+pub mod Outcome

@@ -4,7 +4,7 @@ use Rattle.rc_pattern.specs.Re.{Re, empty}
 use Rattle.rc_marks.specs.Text.{Text, ◌>>=◌}
 use Rattle.rc_marks.specs.Marks.{Mark, said, AreMarks}
 use Rattle.rc_marks.specs.Said.{Said, Stands, Bar, Setting, Opens, Closes, Repeats}
-use Rattle.rc_syntax.specs.Settings.{Settings}
+use Rattle.rc_syntax.specs.Settings.{Settings, first_flags}
 use Rattle.rc_syntax.specs.Pieces.{Part, leaf, sense_part}
 use Rattle.rc_syntax.specs.Grammar.{Level, Tie, begin, add, set_flags, end_branch, whole, repeated_once, inside, tie, closed}
 
@@ -63,3 +63,7 @@ module _ (s : Settings) where
 -- Some marks of the text lead from this work to the part p.
 abbrev pub Has : Settings → Work → Text → Part → Type 0
 Has s w t p = (ms : List Mark) × AreMarks ms t × (run_marks s w ms ≡ Some p)
+
+-- the reader of a whole pattern, before its first mark
+abbrev pub fresh : Settings → Work
+fresh s = work (begin (first_flags s) 0 []) None []

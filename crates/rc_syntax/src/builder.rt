@@ -1,6 +1,6 @@
 //! Builds a pattern from what its marks say, from left to right.
 
-ghost use Rattle.std.specs.Prelude.{◌≡◌, ◌⊎◌, ◌+◌, ◌-◌, ◌^◌, ◌<◌, ◌≤◌, None, Some, [], option_map, MatchResult, MatchOption, OnOk, IfOk, map, string_bytes, ◌∷◌};
+ghost use Rattle.std.specs.Prelude.{◌≡◌, ◌⊎◌, ◌+◌, ◌-◌, ◌^◌, ◌<◌, ◌≤◌, None, Some, [], option_map, MatchResult, MatchOption, OnOk, IfOk, IsOk, Err, map, string_bytes, ◌∷◌};
 ghost use Rattle.rc_pattern.specs.Re as re;
 ghost use Rattle.rc_pattern.specs.Meaning.{meaning};
 ghost use Rattle.rc_marks.specs.Said as said;
@@ -86,6 +86,7 @@ impl Level {
     fn end_branch(&mut self, alloc: Global, config: Config) -> Result<(), Refusal>
         ensures value { MatchResult result (λ _. end_branch (settings_of config) (level self.old) ≡ Some (level self.new)) (λ e. (e ≡ Refusal.Memory) ⊎ (end_branch (settings_of config) (level self.old) ≡ None)) }
         ensures groups { self.new.groups ≡ self.old.groups }
+        ensures names { self.new.names ≡ self.old.names }
     {
         let items = mem::replace(&mut self.items, Parts::new(alloc));
         let branch = items.join_concat(alloc, config)?;
@@ -264,5 +265,71 @@ impl Work {
         };
         self.last = Some(repeat(alloc, self.config, self.level.flags, bounds, item)?);
         Ok(())
+    }
+
+    /// A mark that stands alone is the last item.
+    fn put(&mut self, item: Result<Nested, Refusal>) -> Result<(), Refusal>
+        requires { self.old.last ≡ None }
+        ensures value { MatchResult item (λ n. IsOk result × (state self.new ≡ work (state self.old).level (Some (part n)) (state self.old).outer)) (λ e. result ≡ Err e) }
+        ensures config { self.new.config ≡ self.old.config }
+        ensures groups { self.new.level.groups ≡ self.old.level.groups }
+    {
+        match item {
+            Ok(nested) => {
+                self.last = Some(nested);
+                Ok(())
+            }
+            Err(refusal) => Err(refusal),
+        }
+    }
+
+    /// Reads one mark that is no operator.
+    fn step(&mut self, alloc: Global, token: Token) -> Result<(), Refusal>
+        requires last { self.old.last ≡ None }
+        requires room { self.old.level.groups < 2 ^ 64 - 1 }
+        ensures value { Gives result (step (settings_of self.old.config) (said_of token) (state self.old).level (state self.old).outer) (λ _. state self.new) }
+        ensures config { self.new.config ≡ self.old.config }
+        ensures groups { OnOk result (self.new.level.groups ≤ self.old.level.groups + 1) }
+    {
+        let config = self.config;
+        let flags = self.level.flags;
+        match token {
+            Token::Character(c) => self.put(pieces::character(alloc, config, flags, c)),
+            Token::Byte(byte) => self.put(pieces::byte(alloc, config, flags, byte)),
+            Token::Dot => self.put(pieces::dot(alloc, config, flags)),
+            Token::Perl(perl) => self.put(pieces::perl(alloc, config, flags, perl)),
+            Token::Assertion(assertion) => self.put(Ok(pieces::assertion(flags, assertion))),
+            Token::List(list) => self.put(pieces::list(alloc, config, flags, &list)),
+            Token::Bar => self.bar(alloc),
+            Token::Setting(to) => self.set(to),
+            Token::Opens(opening) => self.open(alloc, opening),
+            Token::Closes => self.close(alloc),
+            Token::Repeats(_) => Err(Refusal::Syntax),
+        }
+    }
+
+    /// Reads one mark more.
+    pub fn accept(&mut self, alloc: Global, token: Token) -> Result<(), Refusal>
+        requires { self.old.level.groups < 2 ^ 64 - 1 }
+        ensures value { Gives result (take_said (settings_of self.old.config) (said_of token) (state self.old)) (λ _. state self.new) }
+        ensures config { self.new.config ≡ self.old.config }
+        ensures groups { OnOk result (self.new.level.groups ≤ self.old.level.groups + 1) }
+    {
+        if let Token::Repeats(bounds) = token {
+            return self.repeat(alloc, bounds);
+        }
+        self.settle()?;
+        self.step(alloc, token)
+    }
+
+    /// The pattern, where no group is open.
+    pub fn finish(&mut self, alloc: Global) -> Result<Nested, Refusal>
+        ensures { Gives result (finish (settings_of self.old.config) (settled (state self.old).last (state self.old).level) (state self.old).outer) part }
+    {
+        self.settle()?;
+        if !self.outer.is_empty() {
+            return Err(Refusal::Syntax);
+        }
+        self.level.whole(alloc, self.config)
     }
 }

@@ -6,8 +6,11 @@ mod config;
 mod error;
 mod flags;
 mod names;
+
 mod parts;
 mod pieces;
+mod reader;
 
 pub use config::Config;
 pub use error::Error;
+pub use reader::{parse, reads_as_one};
