@@ -4,9 +4,9 @@ use Rattle.std.specs.Prelude.{All}
 use Rattle.std.specs.Borrow.{Bor}
 use Rattle.std.specs.Option.{option_map}
 use Rattle.std.proofs.Math.Seq.{take-suc}
-use Rattle.std.proofs.lemmas.List.{take_all, take-map, map-append}
+use Rattle.std.proofs.lemmas.List.{take_all, take-map, map-append, length-map}
 use Rattle.std.proofs.lemmas.List.Elements.{All-cons}
-use Rattle.std.proofs.lemmas.Slice.Zip.{all_zipped_more}
+use Rattle.std.proofs.lemmas.Slice.Zip.{all_zipped_more, AllZip-long}
 use Rattle.std.proofs.lemmas.Option.{slice_get-get_or, slice_get-map}
 use Rattle.rc_pattern.specs.Re.{Re}
 use Rattle.rc_pattern.specs.Meaning.{meaning}
@@ -15,7 +15,10 @@ use Rattle.rc_pattern.specs.declared.syntax.Error.{Error}
 use Rattle.rc_pattern.specs.declared.syntax.Error.TheVariants.{Syntax as FaultAt}
 use Rattle.rc_syntax.specs.Outcome.{OnSyntax}
 use Rattle.rc_syntax.specs.Settings.{Settings}
-use Rattle.rc_build.specs.TextRefusals.{IsReadAs, IsRead, AllRead, IsFirstUnread, texts_of}
+use Rattle.rc_build.specs.TextRefusals.{IsReadAs, IsRead, AllRead, IsFirstUnread, IsReadingRefusal, IsTextRefusal, texts_of}
+use Rattle.rc_build.specs.Refusals.{IsRefusal}
+use Rattle.rc_build.specs.declared.error.BuildError.{BuildError}
+use Rattle.rc_build.specs.declared.error.BuildError.TheVariants.{Syntax, IllFormed, SizeLimit, PlaceLimit, Memory, DfaSizeLimit, CacheTooSmall}
 
 -- one more text is read
 pub read_more : (s : Settings) (ts : List (Bor (List ℕ))) (i : ℕ) (d : Bor (List ℕ)) (hs : List Hir) (h : Hir) → i < length ts →
@@ -51,3 +54,35 @@ first_unread s ts i d hs e at inside before is told =
       unread = λ r. bad.1 r.0 r.1;
       told = (at, bad.0, refl);
     }
+
+-- there are as many patterns as texts
+pub as_many : (s : Settings) (ts : List (Bor (List ℕ))) (hs : List Hir) → AllRead s (texts_of ts) (map meaning hs) → length hs ≡ length ts
+as_many s ts hs r =
+    sym (length-map hs meaning) ∙ AllZip-long (IsReadAs s) (texts_of ts) (map meaning hs) r ∙ length-map ts (λ x. x.now)
+
+-- a refusal of the reading is one of the build
+pub refused_reading : (limit : Option ℕ) (s : Settings) (texts : List (List ℕ)) (e : BuildError) → IsReadingRefusal s texts e → IsTextRefusal limit s texts e
+refused_reading limit s texts (Syntax p e) r = r
+refused_reading limit s texts (IllFormed p) r = absurd r
+refused_reading limit s texts (SizeLimit n) r = absurd r
+refused_reading limit s texts PlaceLimit r = absurd r
+refused_reading limit s texts Memory r = r
+refused_reading limit s texts (DfaSizeLimit n) r = absurd r
+refused_reading limit s texts (CacheTooSmall m n) r = absurd r
+
+-- and so is a refusal of the patterns that were read
+pub refused_patterns : (limit : Option ℕ) (s : Settings) (texts : List (List ℕ)) (hs : List Re) (e : BuildError) → AllRead s texts hs → IsRefusal limit hs e →
+    IsTextRefusal limit s texts e
+refused_patterns limit s texts hs (Syntax p e) read r = absurd r
+refused_patterns limit s texts hs (IllFormed p) read r = (hs, read, r)
+refused_patterns limit s texts hs (SizeLimit n) read r = (hs, read, r)
+refused_patterns limit s texts hs PlaceLimit read r = (hs, read, r)
+refused_patterns limit s texts hs Memory read r = r
+refused_patterns limit s texts hs (DfaSizeLimit n) read r = absurd r
+refused_patterns limit s texts hs (CacheTooSmall m n) read r = absurd r
+
+-- a text that is read alone is read as one pattern
+pub one_read : (s : Settings) (text : List ℕ) (hs : List Re) → AllRead s (text ∷ []) hs → (h : Re) × (hs ≡ h ∷ []) × IsReadAs s text h
+one_read s text [] r = absurd r
+one_read s text (h ∷ []) r = (h, refl, r.0)
+one_read s text (h ∷ g ∷ hs) r = absurd r.1

@@ -1,6 +1,7 @@
 //! Worked rows.
 
 mod lists;
+mod texts;
 
 use crate::builder::Builder;
 use crate::regex::Regex;
