@@ -1,0 +1,4 @@
+//! Regex search over text in chunks.
+#![tactic(auto)]
+
+pub mod run;
