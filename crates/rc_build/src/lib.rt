@@ -1,0 +1,6 @@
+//! What a regex is built from: the refusals of a build, the settings, and the patterns compiled.
+#![tactic(auto)]
+
+pub mod config;
+pub mod error;
+pub mod which;
