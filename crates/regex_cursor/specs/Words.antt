@@ -1,5 +1,5 @@
 -- The words that a program is called with.
-use Rattle.std.specs.Prelude.{◌≡◌, ℕ, ◌≤◌, List, [], ◌∷◌}
+use Rattle.std.specs.Prelude.{◌≡◌, ℕ, ◌≤◌, List, [], ◌∷◌, map}
 use Rattle.std.specs.Borrow.{Bor}
 use Rattle.std.specs.Str.Parse.{IsNumeral, digits_value}
 
@@ -11,4 +11,4 @@ pub record IsLength (word : List ℕ) : Type 0 where
 
 -- The words are a text and the length of a chunk.
 abbrev pub AreWords : List (Bor (List ℕ)) → List ℕ → Type 0
-AreWords words text = (t c : Bor (List ℕ)) × (words ≡ t ∷ c ∷ []) × (t.now ≡ text) × IsLength c.now
+AreWords words text = (chunk : List ℕ) × (map (λ w. w.now) words ≡ text ∷ chunk ∷ []) × IsLength chunk

@@ -41,6 +41,17 @@ fn chunk_len(word: &str) -> Option<usize>
     Some(n)
 }
 
+/// The pattern and the length of chunks, where these are the words.
+fn arguments<'a>(words: &[&'a str]) -> Option<(&'a str, usize)>
+    ensures { IfSome result (λ r. AreWords words.now r.0.now × (1 ≤ r.1)) }
+{
+    let [pattern, chunk] = words else {
+        return None;
+    };
+    let n = chunk_len(chunk)?;
+    Some((pattern, n))
+}
+
 /// The bytes in chunks of `n` bytes, of which the last may be shorter.
 fn cut(alloc: Global, bytes: &[u8], n: usize) -> Result<Vec<&[u8]>, AllocError>
     requires { 1 ≤ n }
@@ -87,10 +98,7 @@ pub fn program<R: Read, W: Sink, E: Write>(
         (λ bytes. IsRun text bytes (W.taken out.old) (W.taken out.new) (nat_eq result MATCHED)) }
     ensures nothing_put { result ≡ FAULT → W.has_failed out.new ≡ false → Keeps (W.taken out.old) (W.taken out.new) }
 {
-    let [pattern, chunk] = words else {
-        return report(err, USAGE);
-    };
-    let Some(n) = chunk_len(chunk) else {
+    let Some((pattern, n)) = arguments(words) else {
         return report(err, USAGE);
     };
     let mut bytes = Vec::new(alloc);
