@@ -2,3 +2,5 @@
 #![tactic(auto)]
 
 pub mod run;
+#[cfg(test)]
+mod tests;
