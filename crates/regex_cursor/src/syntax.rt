@@ -1,0 +1,3 @@
+//! Why a text is not read as a pattern.
+
+pub use rc_pattern::syntax::Error;
