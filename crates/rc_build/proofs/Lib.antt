@@ -1,0 +1,3 @@
+pub mod CheckLemmas
+pub mod NamesLemmas
+pub mod Runnable

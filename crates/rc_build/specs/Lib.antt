@@ -1,2 +1,4 @@
 pub mod Lines
+pub mod Names
+pub mod Refusals
 pub mod Settings

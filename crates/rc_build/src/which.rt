@@ -1,4 +1,6 @@
 //! Which groups a regex keeps.
+ghost use Rattle.std.specs.Prelude.{◌≡◌};
+ghost use Rattle.rc_build.specs.Names.{is_grouped};
 
 /// Which groups a regex keeps: every one, or the whole matches alone.
 #[derive(Clone, Copy, Debug, PartialEq, Eq)]
@@ -9,4 +11,16 @@ pub enum WhichCaptures {
     Implicit,
     /// Read as `Implicit`.
     None,
+}
+
+impl WhichCaptures {
+    /// Whether the explicit groups are kept.
+    pub fn is_grouped(self) -> bool
+        ensures { result ≡ is_grouped self }
+    {
+        match self {
+            WhichCaptures::All => true,
+            WhichCaptures::Implicit | WhichCaptures::None => false,
+        }
+    }
 }

@@ -1,0 +1,79 @@
+-- Searches of an input whose span starts elsewhere.
+use Rattle.std.proofs.Common.{◌≡◌, ◌∙◌, ◌+◌, ◌≤◌, ◌<◌, ◌++◌, ℕ, Bool, true, false, List, [], ◌∷◌, length, Option, Some, None, IfSome, ap, sym, refl, arith, append_assoc}
+use Rattle.rc_text.specs.declared.types.Anchored.{Anchored}
+use Rattle.rc_text.specs.declared.types.Span.{Span}
+use Rattle.rc_text.specs.Found.{Found}
+use Rattle.rc_text.specs.Text.{Searched, Keeps, KeepsText}
+use Rattle.rc_program.specs.Program.{Place}
+use Rattle.rc_program.specs.Answer.{Search, answer}
+use Rattle.rc_program.specs.Sought.{search_over}
+use Rattle.rc_program.specs.Matches.{from_on, answer_from, begin_of, end_of, is_again, next_match, unless_again, matches_left}
+use Rattle.rc_program.proofs.AnswerLemmas.{answer_within}
+use Rattle.rc_program.proofs.MatchLemmas.{IsAfterLast, left_some, left_none}
+use Rattle.rc_matches.specs.Moved.{IsMoved}
+
+-- the search of a content, from `start` to `end`, with this slice and anchoring
+abbrev over : List Place → ℕ → Bool → List ℕ → ℕ → ℕ → Span → Anchored → Search
+over places t b content start end slice anchored = search_over places t b (record {
+  content = content;
+  chunk = content;
+  offset = 0;
+  position = 0;
+  span = record { start = start; end = end };
+  slice = slice;
+  anchored = anchored;
+  earliest = false;
+})
+
+-- the search from where the span starts now
+pub search_moved : (places : List Place) (t : ℕ) (b : Bool) (s u : Searched) → IsMoved s u →
+    search_over places t b u ≡ from_on (search_over places t b s) u.span.start
+search_moved places t b s u m =
+    ap (λ x. over places t b x u.span.start u.span.end u.slice u.anchored) m.content
+    ∙ ap (λ x. over places t b s.content u.span.start x u.slice u.anchored) m.end
+    ∙ ap (λ x. over places t b s.content u.span.start s.span.end x u.anchored) m.slice
+    ∙ ap (λ x. over places t b s.content u.span.start s.span.end s.slice x) m.anchored
+
+-- the same where nothing but the chunk and the position changed
+pub search_kept : (places : List Place) (t : ℕ) (b : Bool) (s u : Searched) → Keeps s u →
+    search_over places t b u ≡ search_over places t b s
+search_kept places t b s u k =
+    ap (λ x. over places t b x u.span.start u.span.end u.slice u.anchored) k.content
+    ∙ ap (λ (x : Span). over places t b s.content x.start x.end u.slice u.anchored) k.span
+    ∙ ap (λ x. over places t b s.content s.span.start s.span.end x u.anchored) k.slice
+    ∙ ap (λ x. over places t b s.content s.span.start s.span.end s.slice x) k.anchored
+
+pub kept_is_moved : (s u : Searched) → Keeps s u → IsMoved s u
+kept_is_moved s u k = record {
+  content = k.content;
+  end = ap (λ (x : Span). x.end) k.span;
+  slice = k.slice;
+  anchored = k.anchored;
+  earliest = k.earliest;
+}
+
+-- the answer lies within the bounds
+pub answer_lies : (s : Search) (o : Option Found) → o ≡ answer s → IfSome o (λ m. (s.lo ≤ m.start) × (m.start ≤ m.end) × (m.end ≤ s.hi))
+answer_lies s None e = tt
+answer_lies s (Some m) e = answer_within s m (sym e)
+
+-- one match of the list, by a search that starts anywhere
+pub step_some : (s t : Search) (j k : ℕ) (last : Option ℕ) (m : Found) → t ≡ from_on s j → IsAfterLast k last →
+    Some m ≡ next_match begin_of end_of (answer_from t) k last → matches_left s k last ≡ m ∷ matches_left s m.end (Some m.end)
+step_some s t j k last m e after f = left_some s k last m after (sym (f ∙ ap (λ x. next_match begin_of end_of (answer_from x) k last) e))
+
+pub step_none : (s t : Search) (j k : ℕ) (last : Option ℕ) → t ≡ from_on s j → IsAfterLast k last →
+    None ≡ next_match begin_of end_of (answer_from t) k last → matches_left s k last ≡ []
+step_none s t j k last e after f = left_none s k last after (sym (f ∙ ap (λ x. next_match begin_of end_of (answer_from x) k last) e))
+
+-- fewer are left behind a match
+pub fewer_left : (s : Search) (k : ℕ) (last : Option ℕ) (m : Found) (at end : ℕ) → matches_left s k last ≡ m ∷ matches_left s m.end (Some m.end) →
+    at ≡ m.end → end ≡ m.end → length (matches_left s at (Some end)) < length (matches_left s k last)
+fewer_left s k last m at end step a e = rw a (rw e (omega (arith, ap length step)))
+
+-- the matches so far and one more
+pub one_more : (s : Search) (k : ℕ) (last : Option ℕ) (m : Found) (at end : ℕ) (whole all more : List Found) →
+    matches_left s k last ≡ m ∷ matches_left s m.end (Some m.end) → at ≡ m.end → end ≡ m.end → whole ≡ all ++ matches_left s k last →
+    more ≡ all ++ m ∷ [] → whole ≡ more ++ matches_left s at (Some end)
+one_more s k last m at end whole all more step a e w n =
+    rw a (rw e (rw n (w ∙ ap (λ x. all ++ x) step ∙ sym (append_assoc all (m ∷ []) (matches_left s m.end (Some m.end))))))

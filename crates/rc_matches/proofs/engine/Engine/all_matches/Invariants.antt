@@ -1,0 +1,17 @@
+use Rattle.std.proofs.Common.{◌≡◌, ◌++◌, None, length}
+use Rattle.rc_program.specs.Matches.{matches_left}
+use Rattle.rc_program.proofs.MatchLemmas.{IsAfterLast}
+use Rattle.rc_matches.specs.Engine.{engine_search}
+use Rattle.rc_matches.specs.Moved.{IsMoved}
+use Rattle.rc_matches.proofs.engine.Engine.all_matches.Given as goal
+
+abbrev pub invariant-loop-all : goal.invariant-loop-all
+invariant-loop-all g l = record {
+  moved : IsMoved l.fn.input l.input;
+  after : IsAfterLast l.input.span.start l.last;
+  listed : matches_left (engine_search l.self l.fn.input) l.fn.input.span.start None
+      ≡ l.all.items ++ matches_left (engine_search l.self l.fn.input) l.input.span.start l.last;
+}
+
+abbrev pub decreases-loop-all : goal.decreases-loop-all
+decreases-loop-all g l = length (matches_left (engine_search l.self l.fn.input) l.input.span.start l.last)
