@@ -1,5 +1,5 @@
 -- The text that is put out for the matches of a pattern.
-use Rattle.std.specs.Prelude.{◌↔◌, ℕ, ◌<◌, Bool, true, false, List, [], ◌∷◌, ◌++◌, length, Option, IsTrue, codes, None}
+use Rattle.std.specs.Prelude.{◌≡◌, ◌↔◌, ℕ, ◌<◌, Bool, true, false, List, [], ◌∷◌, ◌++◌, length, Option, IsTrue, codes, None}
 use Rattle.std.specs.List.{flat_map}
 use Rattle.std.specs.Fmt.{decimal}
 use Rattle.std.specs.Io.KnownBytes.{Appends}
@@ -31,6 +31,11 @@ whole content = record {
   anchored = No;
   earliest = false;
 }
+
+-- The input's span begins at 0, and a search of it is that of the whole content.
+pub record IsWhole (content : List ℕ) (s : Searched) : Type 0 where
+  pub start : s.span.start ≡ 0
+  pub same : (q : Sought) → search_for q s ≡ search_for q (whole content)
 
 -- what a regex of this pattern seeks by default
 abbrev pub sought_by_default : Re → Sought

@@ -1,11 +1,37 @@
 //! A search of chunks, with a line for each match.
-ghost use Rattle.std.specs.Prelude.{◌≡◌, ◌≢◌, false, true, Err, IfErr, IfOk, OnErr, OnOk};
+ghost use Rattle.std.specs.Prelude.{◌≡◌, ◌≢◌, ◌⊎◌, ◌∷◌, [], false, true, Err, IfErr, IfOk, MatchResult, OnErr, OnOk};
 ghost use Rattle.std.specs.Io.KnownBytes.{Keeps};
 ghost use Rattle.rc_text.specs.Joined.{joined, IsTooLong};
-ghost use Rattle.regex_cursor.specs.Output.{IsRun};
+ghost use Rattle.rc_build.specs.Settings.{unset};
+ghost use Rattle.rc_meta.specs.Views.{regex_patterns, regex_settings};
+ghost use Rattle.regex_cursor.specs.Faults.{IsBuildFault, IsFault};
+ghost use Rattle.regex_cursor.specs.Output.{IsRun, IsWhole};
+ghost use Rattle.regex_cursor.specs.Reading.{IsReadAs};
 
+use super::literal::literal;
 use crate::run::{RunError, Sink};
+use rc_build::error::BuildError;
+use rc_meta::regex::Regex;
+use rc_text::chunks::{ChunkCursor, TooLong};
+use rc_text::input::Input;
 use std::alloc::Global;
+
+/// The regex of the text, with the settings by default.
+fn built(alloc: Global, text: &str) -> Result<Regex, BuildError>
+    ensures { MatchResult result (λ r. (regex_settings r ≡ unset) × ((p : _) × IsReadAs text.now p × (regex_patterns r ≡ p ∷ [])))
+        (IsBuildFault text.now) }
+{
+    let hir = literal(alloc, text)?;
+    Regex::builder().build_from_hir(alloc, &hir)
+}
+
+/// The chunks, as an input.
+fn input_over<'a>(chunks: &'a [&'a [u8]]) -> Result<Input<ChunkCursor<'a>>, TooLong>
+    ensures whole { MatchResult result (IsWhole (joined chunks.now)) (λ _. IsTooLong chunks.now) }
+    ensures short { OnOk result (¬ IsTooLong chunks.now) }
+{
+    Ok(Input::new(ChunkCursor::new(chunks)?))
+}
 
 /// Puts a line for each match of the pattern in the chunks, one after another, and tells whether
 /// there is one.
@@ -23,8 +49,8 @@ pub fn run<W: Sink>(
     ensures sound { OnOk result (W.has_failed out.new ≡ false) }
     ensures write_failed { result ≡ Err RunError.Write → W.has_failed out.new ≡ true }
     ensures nothing_put { IfErr result (λ e. e ≢ RunError.Write → Keeps (W.taken out.old) (W.taken out.new)) }
-    ensures too_long { result ≡ Err RunError.TooLong → IsTooLong chunks.now }
+    ensures fault { IfErr result (IsFault pattern.now chunks.now) }
     ensures short { OnOk result (¬ IsTooLong chunks.now) }
 {
-    Err(RunError::Memory)
+    Err(RunError::Build(BuildError::Memory))
 }
