@@ -1,0 +1,29 @@
+-- A regex and a builder as contracts see them.
+use Rattle.std.specs.Prelude.{List, map}
+use Rattle.rc_pattern.specs.Re.{Re}
+use Rattle.rc_pattern.specs.Meaning.{meaning}
+use Rattle.rc_captures.specs.Names.{Names}
+use Rattle.rc_program.specs.Sought.{Sought}
+use Rattle.rc_build.specs.Names.{is_grouped, names_shown}
+use Rattle.rc_build.specs.Settings.{Settings, settings_of, which_captures_of}
+use Rattle.rc_meta.specs.Fits.{sought_by}
+use Rattle.rc_meta.specs.declared.regex.Regex.{Regex}
+use Rattle.rc_meta.specs.declared.builder.Builder.{Builder}
+
+-- the patterns that the regex was built of, and its settings
+abbrev pub regex_patterns : Regex → List Re
+regex_patterns r = map meaning r.hirs.items
+
+abbrev pub regex_settings : Regex → Settings
+regex_settings r = settings_of r.config
+
+-- what it seeks
+abbrev pub sought : Regex → Sought
+sought r = sought_by (regex_settings r) (regex_patterns r)
+
+-- for each pattern the names of its groups that are kept, in order
+abbrev pub regex_names : Regex → Names
+regex_names r = names_shown (is_grouped (which_captures_of (regex_settings r))) (regex_patterns r)
+
+abbrev pub builder_settings : Builder → Settings
+builder_settings b = settings_of b.config

@@ -1,0 +1,107 @@
+//! What makes regexes.
+
+ghost use Rattle.std.specs.Prelude.{◌≡◌, ◌≤◌, ◌∷◌, [], IfOk, IfErr, length, map};
+ghost use Rattle.rc_pattern.specs.Meaning.{meaning};
+ghost use Rattle.rc_program.specs.Sought.{IsRunnable, may_be_empty, passes_over};
+ghost use Rattle.rc_thompson.specs.Places.{places_of};
+ghost use Rattle.rc_build.specs.Refusals.{IsBuildable, IsRefusal};
+ghost use Rattle.rc_build.specs.Settings.{settings_of, unset, overwritten, nfa_size_limit_of, line_terminator_of};
+ghost use Rattle.rc_meta.specs.Fits.{sought_by};
+ghost use Rattle.rc_meta.specs.Views.{builder_settings, regex_patterns, regex_settings};
+
+use crate::regex::{Regex, assembled};
+use rc_build::compile::compile_all;
+use rc_build::config::Config;
+use rc_build::error::BuildError;
+use rc_matches::engine::Engine;
+use rc_pattern::check::copies_of;
+use rc_pattern::hir::Hir;
+use rc_thompson::place::Place;
+use std::alloc::Global;
+
+/// Makes regexes under settings of its own.
+#[derive(Drop)]
+pub struct Builder {
+    config: Config,
+}
+
+impl Builder {
+    /// A builder in which nothing is set.
+    pub fn new() -> Builder
+        ensures { builder_settings result ≡ unset }
+    {
+        Builder {
+            config: Config::new(),
+        }
+    }
+
+    /// Takes over what `config` sets, keeps what it doesn't, and lends the builder on.
+    pub fn configure(&mut self, config: Config) -> &mut Builder
+        ensures same_reference { result.ghost_name ≡ self.entry.ghost_name }
+        ensures value { builder_settings result.now ≡ overwritten (builder_settings self.entry.now) (settings_of config) }
+    {
+        self.config.overwrite(&config);
+        self
+    }
+
+    /// The regex of one pattern. The `Err`s are those of `build_many_from_hir`.
+    pub fn build_from_hir(&self, alloc: Global, hir: &Hir) -> Result<Regex, BuildError>
+        ensures patterns { IfOk result (λ r. regex_patterns r ≡ meaning hir.now ∷ []) }
+        ensures settings { IfOk result (λ r. regex_settings r ≡ builder_settings self.now) }
+        ensures buildable { IfOk result (λ _. IsBuildable (nfa_size_limit_of (builder_settings self.now)) (meaning hir.now ∷ [])) }
+        ensures refused { IfErr result (λ e. IsRefusal (nfa_size_limit_of (builder_settings self.now)) (meaning hir.now ∷ []) e) }
+    {
+        self.build_many_from_hir(alloc, std::slice::from_ref(hir))
+    }
+
+    /// The regex of these patterns, at most 2,147,483,647.
+    ///
+    /// An `Err` is the first of these that applies: `IllFormed`, with the least pattern that isn't well-formed; `SizeLimit`, where
+    /// 32 times the weight of the patterns is above the limit on their size; `PlaceLimit`, where the weight is above 2,147,483,646.
+    /// `Memory` comes where memory was refused. The builder stays as it was.
+    pub fn build_many_from_hir(&self, alloc: Global, hirs: &[Hir]) -> Result<Regex, BuildError>
+        requires { length hirs.now ≤ 2147483647 }
+        ensures patterns { IfOk result (λ r. regex_patterns r ≡ map meaning hirs.now) }
+        ensures settings { IfOk result (λ r. regex_settings r ≡ builder_settings self.now) }
+        ensures buildable { IfOk result (λ _. IsBuildable (nfa_size_limit_of (builder_settings self.now)) (map meaning hirs.now)) }
+        ensures refused { IfErr result (λ e. IsRefusal (nfa_size_limit_of (builder_settings self.now)) (map meaning hirs.now) e) }
+    {
+        let config = self.config;
+        let compiled = compile_all(
+            alloc,
+            hirs,
+            config.get_nfa_size_limit(),
+            config.get_which_captures(),
+        )?;
+        let engine = engine_of(config, hirs, compiled.places);
+        let hirs = copies_of(alloc, hirs)?;
+        Ok(assembled(hirs, config, engine, compiled.info))
+    }
+}
+
+/// The engine of these patterns, whose program this is.
+fn engine_of(config: Config, hirs: &[Hir], places: Vec<Place>) -> Engine
+    requires { IsRunnable (places_of places.items) }
+    ensures places { result.places ≡ places }
+    ensures terminator { result.terminator ≡ line_terminator_of (settings_of config) }
+    ensures passes_over { result.passes_over ≡ passes_over (sought_by (settings_of config) (map meaning hirs.now)) }
+{
+    let passes_over = config.get_utf8_empty() && may_be_empty(hirs);
+    Engine {
+        places,
+        terminator: config.get_line_terminator(),
+        passes_over,
+    }
+}
+
+/// Whether the least length of some pattern is 0.
+fn may_be_empty(hirs: &[Hir]) -> bool
+    ensures { result ≡ may_be_empty (map meaning hirs.now) }
+{
+    for hir in hirs {
+        if hir.properties().minimum_len() == Some(0) {
+            return true;
+        }
+    }
+    false
+}

@@ -1,0 +1,5 @@
+//! Regexes: patterns built under settings, and what a search by them answers.
+#![tactic(auto)]
+
+pub mod builder;
+pub mod regex;
