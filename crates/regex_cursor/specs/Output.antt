@@ -50,10 +50,13 @@ sought_by_default p = record {
 abbrev pub matches_in : Re → List ℕ → List Found
 matches_in p content = matches_left (search_for (sought_by_default p) (whole content)) 0 None
 
--- The text was read as a pattern, the known bytes of a writer grew by the lines of its matches in the content, and it was told
--- whether there is one.
+-- The known bytes of a writer grew by the lines of the matches, and it was told whether there is one.
+pub record IsPut (ms : List Found) (old new : Option (List ℕ)) (found : Bool) : Type 0 where
+  pub lines : Appends old new (lines_of ms)
+  pub told : IsTrue found ↔ (0 < length ms)
+
+-- The text was read as a pattern, whose matches in the content were put.
 pub record IsRun (text content : List ℕ) (old new : Option (List ℕ)) (found : Bool) : Type 0 where
   pub pattern : Re
   pub read : IsReadAs text pattern
-  pub put : Appends old new (lines_of (matches_in pattern content))
-  pub told : IsTrue found ↔ (0 < length (matches_in pattern content))
+  pub put : IsPut (matches_in pattern content) old new found

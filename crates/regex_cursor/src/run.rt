@@ -5,6 +5,7 @@ mod error;
 mod lines;
 mod literal;
 mod shell;
+mod stub;
 mod writers;
 
 pub use engine::run;

@@ -5,14 +5,18 @@ ghost use Rattle.rc_text.specs.Joined.{joined, IsTooLong};
 ghost use Rattle.rc_build.specs.Settings.{unset};
 ghost use Rattle.rc_meta.specs.Views.{regex_patterns, regex_settings};
 ghost use Rattle.regex_cursor.specs.Faults.{IsBuildFault, IsFault};
-ghost use Rattle.regex_cursor.specs.Output.{IsRun, IsWhole};
+ghost use Rattle.regex_cursor.specs.Output.{IsPut, IsRun, IsWhole};
+ghost use Rattle.regex_cursor.specs.Stub.{left};
 ghost use Rattle.regex_cursor.specs.Reading.{IsReadAs};
 
+use super::lines::put_line;
 use super::literal::literal;
+use super::stub::FindMatches;
 use crate::run::{RunError, Sink};
 use rc_build::error::BuildError;
 use rc_meta::regex::Regex;
 use rc_text::chunks::{ChunkCursor, TooLong};
+use rc_text::cursor::Cursor;
 use rc_text::input::Input;
 use std::alloc::Global;
 
@@ -31,6 +35,23 @@ fn input_over<'a>(chunks: &'a [&'a [u8]]) -> Result<Input<ChunkCursor<'a>>, TooL
     ensures short { OnOk result (¬ IsTooLong chunks.now) }
 {
     Ok(Input::new(ChunkCursor::new(chunks)?))
+}
+
+/// Puts the lines of the matches, and tells whether there is one.
+fn put_lines<W: Sink, C: Cursor + Drop>(out: &mut W, matches: FindMatches<'_, C>) -> Result<bool, RunError>
+    requires { W.has_failed out.old ≡ false }
+    ensures put { IfOk result (λ found. IsPut (left matches.entry) (W.taken out.old) (W.taken out.new) found) }
+    ensures sound { OnOk result (W.has_failed out.new ≡ false) }
+    ensures write_failed { IfErr result (λ e. (e ≡ RunError.Write) × (W.has_failed out.new ≡ true)) }
+{
+    let mut is_found = false;
+    for found in matches {
+        match put_line(out, found) {
+            Ok(()) => is_found = true,
+            Err(_) => return Err(RunError::Write),
+        }
+    }
+    Ok(is_found)
 }
 
 /// Puts a line for each match of the pattern in the chunks, one after another, and tells whether
@@ -52,5 +73,9 @@ pub fn run<W: Sink>(
     ensures fault { IfErr result (IsFault pattern.now chunks.now) }
     ensures short { OnOk result (¬ IsTooLong chunks.now) }
 {
-    Err(RunError::Build(BuildError::Memory))
+    let regex = built(alloc, pattern)?;
+    let input = input_over(chunks)?;
+    let matches = FindMatches::of(&regex, alloc, input)?;
+    let is_found = put_lines(out, matches)?;
+    Ok(is_found)
 }
