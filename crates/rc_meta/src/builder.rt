@@ -66,17 +66,27 @@ impl Builder {
         ensures buildable { IfOk result (λ _. IsBuildable (nfa_size_limit_of (builder_settings self.now)) (map meaning hirs.now)) }
         ensures refused { IfErr result (λ e. IsRefusal (nfa_size_limit_of (builder_settings self.now)) (map meaning hirs.now) e) }
     {
-        let config = self.config;
-        let compiled = compile_all(
-            alloc,
-            hirs,
-            config.get_nfa_size_limit(),
-            config.get_which_captures(),
-        )?;
-        let engine = engine_of(config, hirs, compiled.places);
-        let hirs = copies_of(alloc, hirs)?;
-        Ok(assembled(hirs, config, engine, compiled.info))
+        build(alloc, self.config, hirs)
     }
+}
+
+/// The regex of these patterns under these settings.
+pub(crate) fn build(alloc: Global, config: Config, hirs: &[Hir]) -> Result<Regex, BuildError>
+    requires { length hirs.now ≤ 2147483647 }
+    ensures patterns { IfOk result (λ r. regex_patterns r ≡ map meaning hirs.now) }
+    ensures settings { IfOk result (λ r. regex_settings r ≡ settings_of config) }
+    ensures buildable { IfOk result (λ _. IsBuildable (nfa_size_limit_of (settings_of config)) (map meaning hirs.now)) }
+    ensures refused { IfErr result (λ e. IsRefusal (nfa_size_limit_of (settings_of config)) (map meaning hirs.now) e) }
+{
+    let compiled = compile_all(
+        alloc,
+        hirs,
+        config.get_nfa_size_limit(),
+        config.get_which_captures(),
+    )?;
+    let engine = engine_of(config, hirs, compiled.places);
+    let hirs = copies_of(alloc, hirs)?;
+    Ok(assembled(hirs, config, engine, compiled.info))
 }
 
 /// The engine of these patterns, whose program this is.

@@ -1,18 +1,25 @@
 //! A regex, and its searches.
 
-ghost use Rattle.std.specs.Prelude.{◌≡◌, map};
+ghost use Rattle.std.specs.Prelude.{◌≡◌, ◌≤◌, ◌+◌, length, map};
+ghost use Rattle.rc_pattern.specs.Properties.{common};
+ghost use Rattle.rc_pattern.specs.Weight.{list_weight};
+ghost use Rattle.rc_program.specs.Laws.{all_groups};
+ghost use Rattle.rc_build.specs.Refusals.{greatest_weight};
+ghost use Rattle.rc_meta.specs.Counts.{static_groups};
 ghost use Rattle.rc_pattern.specs.Meaning.{meaning};
 ghost use Rattle.rc_build.specs.Settings.{settings_of};
 ghost use Rattle.rc_meta.specs.Fits.{Fits};
 
-use crate::builder::Builder;
+use crate::builder::{Builder, build};
 use rc_build::config::Config;
+use rc_captures::captures::Captures;
 use rc_captures::groups::GroupInfo;
 use rc_matches::engine::Engine;
+use rc_pattern::check::group_count;
 use rc_pattern::hir::Hir;
 use rc_text::cursor::Cursor;
 use rc_text::input::Input;
-use rc_text::types::Match;
+use rc_text::types::{HalfMatch, Match, PatternID};
 use std::alloc::{AllocError, Global};
 
 /// A list of patterns, built.
@@ -26,13 +33,20 @@ pub struct Regex {
 }
 
 impl Regex {
-    ghost use Rattle.std.specs.Prelude.{◌≡◌, ◌≤◌, IfOk, IfSome};
+    ghost use Rattle.std.specs.Prelude.{◌≡◌, ◌≤◌, ◌+◌, ◌↔◌, IfOk, IfSome, OnOk, OnErr, IsSome, IsTrue, MatchOption, Some, None, length, option_map};
+    ghost use Rattle.rc_captures.specs.Captures.{IsCapturesFor, captures_pattern, match_of};
+    ghost use Rattle.rc_captures.specs.Groups.{names_of};
+    ghost use Rattle.rc_captures.specs.Names.{slot_len};
+    ghost use Rattle.rc_matches.specs.Tells.{Tells};
+    ghost use Rattle.rc_text.specs.Found.{Found};
+    ghost use Rattle.rc_program.specs.Laws.{all_groups};
+    ghost use Rattle.rc_meta.specs.Counts.{half_of, static_captures_len};
     ghost use Rattle.rc_text.specs.Text.{low, high};
     ghost use Rattle.rc_text.specs.declared.types.MatchKind.TheVariants.{LeftmostFirst};
-    ghost use Rattle.rc_program.specs.Answer.{answer};
+    ghost use Rattle.rc_program.specs.Answer.{answer, groups};
     ghost use Rattle.rc_program.specs.Sought.{search_for};
     ghost use Rattle.rc_build.specs.Settings.{unset, match_kind_of};
-    ghost use Rattle.rc_meta.specs.Views.{builder_settings, regex_patterns, regex_settings, sought};
+    ghost use Rattle.rc_meta.specs.Views.{builder_settings, regex_patterns, regex_settings, regex_names, sought};
 
     /// A builder in which nothing is set.
     pub fn builder() -> Builder
@@ -62,6 +76,160 @@ impl Regex {
     {
         self.engine.find(alloc, &mut input)
     }
+
+    /// As `find`.
+    pub fn search<C: Cursor + Drop>(
+        &self,
+        alloc: Global,
+        input: Input<C>,
+    ) -> Result<Option<Match>, AllocError>
+        ensures found { match_kind_of (regex_settings self.now) ≡ LeftmostFirst
+            → IfOk result (λ m. m ≡ answer (search_for (sought self.now) input)) }
+        ensures within { IfOk result (λ o. IfSome o (λ m. (low input ≤ m.start) × (m.start ≤ m.end) × (m.end ≤ high input))) }
+    {
+        self.find(alloc, input)
+    }
+
+    /// The pattern and the end of the match that a search of the input finds. An `Err` is want of memory.
+    pub fn search_half<C: Cursor + Drop>(
+        &self,
+        alloc: Global,
+        input: Input<C>,
+    ) -> Result<Option<HalfMatch>, AllocError>
+        ensures found { match_kind_of (regex_settings self.now) ≡ LeftmostFirst
+            → IfOk result (λ m. m ≡ option_map half_of (answer (search_for (sought self.now) input))) }
+        ensures within { IfOk result (λ o. IfSome o (λ m. (low input ≤ m.offset) × (m.offset ≤ high input))) }
+    {
+        match self.find(alloc, input)? {
+            Some(found) => Ok(Some(HalfMatch::new(found.pattern(), found.end()))),
+            None => Ok(None),
+        }
+    }
+
+    /// Whether a search of the input finds a match. An `Err` is want of memory.
+    pub fn is_match<C: Cursor + Drop>(
+        &self,
+        alloc: Global,
+        input: Input<C>,
+    ) -> Result<bool, AllocError>
+        ensures { match_kind_of (regex_settings self.now) ≡ LeftmostFirst
+            → IfOk result (λ b. IsTrue b ↔ IsSome (answer (search_for (sought self.now) input))) }
+    {
+        Ok(self.find(alloc, input)?.is_some())
+    }
+
+    /// How many patterns there are.
+    pub fn pattern_len(&self) -> usize
+        ensures { result ≡ length (regex_patterns self.now) }
+    {
+        self.hirs.len()
+    }
+
+    /// How many groups the patterns have: group 0 of each, and the explicit ones, whether they are kept or not.
+    pub fn captures_len(&self) -> usize
+        ensures { result ≡ length (regex_patterns self.now) + all_groups (regex_patterns self.now) }
+    {
+        self.hirs.len() + explicit_groups(&self.hirs)
+    }
+
+    /// How many groups take part in each match, group 0 among them, where that is known to be one number for all patterns. `None`
+    /// where there is no pattern.
+    pub fn static_captures_len(&self) -> Option<usize>
+        ensures { result ≡ static_captures_len (regex_patterns self.now) }
+    {
+        let explicit = static_groups(&self.hirs)?;
+        Some(explicit.saturating_add(1))
+    }
+
+    /// The groups that are kept.
+    pub fn group_info(&self) -> &GroupInfo
+        ensures { names_of result.now ≡ regex_names self.now }
+    {
+        &self.info
+    }
+
+    /// The settings.
+    pub fn get_config(&self) -> &Config
+        ensures { settings_of result.now ≡ regex_settings self.now }
+    {
+        &self.config
+    }
+
+    /// A regex of the same patterns under the same settings. An `Err` is want of memory.
+    pub fn try_clone(&self, alloc: Global) -> Result<Regex, AllocError>
+        ensures patterns { IfOk result (λ r. regex_patterns r ≡ regex_patterns self.now) }
+        ensures settings { IfOk result (λ r. regex_settings r ≡ regex_settings self.now) }
+    {
+        match build(alloc, self.config, &self.hirs) {
+            Ok(regex) => Ok(regex),
+            // The patterns were built before, so nothing else refuses them.
+            Err(_) => Err(AllocError),
+        }
+    }
+
+    /// Captures that keep the groups of the patterns. They hold no match. An `Err` is want of memory.
+    pub fn create_captures(&self, alloc: Global) -> Result<Captures, AllocError>
+        ensures made { IfOk result (IsCapturesFor (regex_names self.now)) }
+        ensures pattern { IfOk result (λ c. captures_pattern c ≡ None) }
+    {
+        Captures::all(alloc, &self.info)
+    }
+
+    /// The match that a search of the input finds, with its groups. Without a match the captures hold none. An `Err` is want of
+    /// memory.
+    pub fn captures<C: Cursor + Drop>(
+        &self,
+        alloc: Global,
+        input: Input<C>,
+    ) -> Result<Captures, AllocError>
+        ensures made { IfOk result (IsCapturesFor (regex_names self.now)) }
+        ensures found { match_kind_of (regex_settings self.now) ≡ LeftmostFirst
+            → IfOk result (Tells (search_for (sought self.now) input)) }
+        ensures matched { match_kind_of (regex_settings self.now) ≡ LeftmostFirst
+            → IfOk result (λ c. match_of c ≡ answer (search_for (sought self.now) input)) }
+    {
+        let mut caps = self.create_captures(alloc)?;
+        self.search_captures(alloc, input, &mut caps)?;
+        Ok(caps)
+    }
+
+    /// As `captures`, into captures that were made for this regex: by `create_captures`, or of its `group_info`. After an `Err` they
+    /// hold no match.
+    pub fn search_captures<C: Cursor + Drop>(
+        &self,
+        alloc: Global,
+        mut input: Input<C>,
+        caps: &mut Captures,
+    ) -> Result<(), AllocError>
+        requires made { IsCapturesFor (regex_names self.now) caps.old }
+        ensures still_made { IsCapturesFor (regex_names self.now) caps.new }
+        ensures refused { OnErr result (captures_pattern caps.new ≡ None) }
+        ensures found { match_kind_of (regex_settings self.now) ≡ LeftmostFirst
+            → OnOk result (Tells (search_for (sought self.now) input) caps.new) }
+        ensures matched { match_kind_of (regex_settings self.now) ≡ LeftmostFirst
+            → OnOk result (match_of caps.new ≡ answer (search_for (sought self.now) input)) }
+    {
+        self.engine.find_captures(alloc, &mut input, caps)
+    }
+
+    /// The pattern of the match that a search of the input finds, and its slots in `slots`, which may be fewer than the regex has.
+    /// Without a match the slots stay. An `Err` is want of memory.
+    pub fn search_slots<C: Cursor + Drop>(
+        &self,
+        alloc: Global,
+        mut input: Input<C>,
+        slots: &mut [Option<usize>],
+    ) -> Result<Option<PatternID>, AllocError>
+        requires few { length slots.old ≤ slot_len (regex_names self.now) }
+        ensures pattern { match_kind_of (regex_settings self.now) ≡ LeftmostFirst
+            → IfOk result (λ p. p ≡ option_map (λ (m : Found). m.pattern) (answer (search_for (sought self.now) input))) }
+        ensures slots { match_kind_of (regex_settings self.now) ≡ LeftmostFirst
+            → IfOk result (λ p. MatchOption p
+                (slots.new ≡ slots.old)
+                (λ _. Some slots.new ≡ groups (search_for (sought self.now) input) (length slots.old))) }
+    {
+        self.engine.find_slots(alloc, &mut input, slots)
+    }
 }
 
 /// The regex of these patterns under these settings.
@@ -75,5 +243,50 @@ pub(crate) fn assembled(hirs: Vec<Hir>, config: Config, engine: Engine, info: Gr
         config,
         engine,
         info,
+    }
+}
+
+/// How many explicit groups the patterns have.
+#[tactic(auto, using(crate::proofs::Weights::groups_light))]
+fn explicit_groups(hirs: &[Hir]) -> usize
+    requires { list_weight (map meaning hirs.now) ≤ greatest_weight }
+    ensures value { result ≡ all_groups (map meaning hirs.now) }
+    ensures small { length (map meaning hirs.now) + result ≤ greatest_weight }
+{
+    let mut total = 0;
+    for hir in hirs {
+        total += group_count(hir);
+    }
+    total
+}
+
+/// How many explicit groups take part in each match, where that is known to be one number for all patterns.
+fn static_groups(hirs: &[Hir]) -> Option<usize>
+    ensures { result ≡ static_groups (map meaning hirs.now) }
+{
+    if hirs.is_empty() {
+        return None;
+    }
+    let mut groups = hirs[0].properties().static_explicit_captures_len();
+    for hir in &hirs[1..] {
+        groups = common(groups, hir.properties().static_explicit_captures_len());
+    }
+    groups
+}
+
+/// The number that both are, if both are one.
+fn common(left: Option<usize>, right: Option<usize>) -> Option<usize>
+    ensures { result ≡ common left right }
+{
+    match (left, right) {
+        (Some(m), Some(n)) => {
+            if m == n {
+                Some(m)
+            } else {
+                None
+            }
+        }
+        (Some(_), None) => None,
+        (None, _) => None,
     }
 }

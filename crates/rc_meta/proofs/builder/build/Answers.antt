@@ -4,7 +4,7 @@ use Rattle.rc_program.specs.Sought.{IsRunnable}
 use Rattle.rc_build.specs.Names.{is_grouped}
 use Rattle.rc_build.specs.Settings.{settings_of, nfa_size_limit_of, which_captures_of}
 use Rattle.rc_build.proofs.Runnable.{runnable}
-use Rattle.rc_meta.proofs.builder.Builder.build_many_from_hir.Goals as goal
+use Rattle.rc_meta.proofs.builder.build.Goals as goal
 
 pub engine_of-engine-requires : goal.engine_of-engine-requires
 engine_of-engine-requires c = subst IsRunnable (sym c.in_ok-compiled.ensures.places) (runnable _ _ _ c.in_ok-compiled.ensures.buildable)
