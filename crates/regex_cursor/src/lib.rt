@@ -2,12 +2,14 @@
 #![tactic(auto)]
 
 pub mod cursor;
+pub mod engines;
 pub mod hir;
 pub mod input;
 pub mod run;
 pub mod syntax;
 #[cfg(test)]
 mod tests;
+pub mod thompson;
 pub mod types;
 
 pub use cursor::Cursor;
