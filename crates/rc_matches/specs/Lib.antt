@@ -1,3 +1,4 @@
 pub mod Engine
 pub mod Moved
 pub mod Tells
+pub mod Walks

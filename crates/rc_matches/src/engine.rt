@@ -7,6 +7,7 @@ ghost use Rattle.rc_thompson.specs.Places.{places_of};
 
 use rc_captures::captures;
 use rc_captures::captures::Captures;
+use rc_captures::groups::GroupInfo;
 use rc_text::cursor::Cursor;
 use rc_text::input::Input;
 use rc_text::types::{Match, PatternID};
@@ -24,12 +25,14 @@ pub struct Engine {
 }
 
 impl Engine {
-    ghost use Rattle.std.specs.Prelude.{◌≡◌, ◌≤◌, IfOk, OnOk, OnErr, IfSome, MatchOption, Option, Some, None, length};
+    ghost use Rattle.std.specs.Prelude.{◌≡◌, ◌≤◌, All, IfOk, OnOk, OnErr, IfSome, MatchOption, Option, Some, None, length};
     ghost use Rattle.std.specs.Option.{option_map};
     ghost use Rattle.rc_text.specs.Found.{Found};
     ghost use Rattle.rc_captures.specs.Names.{Names};
+    ghost use Rattle.rc_captures.specs.Groups.{names_of};
+    ghost use Rattle.rc_matches.specs.Walks.{walks_left};
     ghost use Rattle.rc_captures.specs.Captures.{IsCapturesFor, captures_pattern};
-    ghost use Rattle.rc_matches.specs.Tells.{Tells, TellsOf};
+    ghost use Rattle.rc_matches.specs.Tells.{Tells, AllTell};
     ghost use Rattle.rc_text.specs.Text.{Keeps, low, high};
     ghost use Rattle.rc_program.specs.Answer.{answer, groups};
     ghost use Rattle.rc_program.specs.Matches.{answer_from, begin_of, end_of, next_match, matches_left};
@@ -144,6 +147,31 @@ impl Engine {
         let pattern = self.find_slots(alloc, input, caps.slots_mut())?;
         captures::set_pattern(caps, pattern);
         Ok(())
+    }
+
+    /// The captures of all matches, from left to right, with all groups of `info`. The start of the input's span may then be
+    /// another. An `Err` is want of memory.
+    pub fn all_captures<C: Cursor>(
+        &self,
+        alloc: Global,
+        input: &mut Input<C>,
+        info: &GroupInfo,
+    ) -> Result<Vec<Captures>, AllocError>
+        ensures moves { IsMoved input.old input.new }
+        ensures made { IfOk result (λ v. All (IsCapturesFor (names_of info.now)) v.items) }
+        ensures told { IfOk result (λ v. AllTell (engine_search self.now input.old)
+            (walks_left (engine_search self.now input.old) input.old.span.start None) v.items) }
+    {
+        let mut all = Vec::new(alloc);
+        let mut last = None;
+        while let Some(found) = self.next_match(alloc, input, last)? {
+            let mut caps = Captures::all(alloc, info)?;
+            self.find_captures(alloc, input, &mut caps)?;
+            input.set_start(found.end());
+            last = Some(found.end());
+            all.push(caps)?;
+        }
+        Ok(all)
     }
 }
 

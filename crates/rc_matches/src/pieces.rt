@@ -1,0 +1,53 @@
+//! The pieces between matches.
+
+ghost use Rattle.std.specs.Prelude.{◌≡◌, IfOk, length};
+ghost use Rattle.rc_text.specs.Text.{Keeps, high};
+ghost use Rattle.rc_program.specs.Matches.{pieces_of, pieces_at_most};
+
+use rc_text::cursor::Cursor;
+use rc_text::input::{Input, move_to, position};
+use rc_text::types::{Match, Span};
+use std::alloc::{AllocError, Global};
+
+/// Where a search of the input ends, in bytes.
+pub fn search_end<C: Cursor>(input: &mut Input<C>) -> usize
+    ensures keeps { Keeps input.old input.new }
+    ensures value { result ≡ high input.old }
+{
+    let end = input.end().min(input.get_slice_span().end);
+    move_to(input, end);
+    position(input)
+}
+
+/// The pieces between the matches, from 0 to `end`. An `Err` is want of memory.
+pub fn all_pieces(alloc: Global, found: &[Match], end: usize) -> Result<Vec<Span>, AllocError>
+    ensures { IfOk result (λ v. v.items ≡ pieces_of end found.now) }
+{
+    let mut pieces = Vec::new(alloc);
+    let mut start = 0;
+    for one in found {
+        pieces.push(Span {
+            start,
+            end: one.start(),
+        })?;
+        start = one.end();
+    }
+    pieces.push(Span { start, end })?;
+    Ok(pieces)
+}
+
+/// At most so many pieces: the last one takes in what further matches would cut. An `Err` is want of memory.
+pub fn pieces_at_most(
+    alloc: Global,
+    found: &[Match],
+    end: usize,
+    limit: usize,
+) -> Result<Vec<Span>, AllocError>
+    ensures { IfOk result (λ v. v.items ≡ pieces_at_most limit end found.now) }
+{
+    if limit == 0 {
+        return Ok(Vec::new(alloc));
+    }
+    let count = found.len().min(limit - 1);
+    all_pieces(alloc, &found[..count], end)
+}
