@@ -1,4 +1,8 @@
 //! The plain engine: it tries the walks of a program in their order.
 #![tactic(auto)]
 
+mod frames;
+#[cfg(test)]
+mod tests;
 pub mod walker;
+mod ways;

@@ -1,0 +1,5 @@
+pub mod TextLemmas
+pub mod StepLemmas
+pub mod SlotLemmas
+pub mod SearchLemmas
+pub mod RunnableLemmas

@@ -1,0 +1,56 @@
+-- What the walks over an input tell of its search.
+use Rattle.std.proofs.Common.{◌≡◌, ℕ, List, [], ◌∷◌, map, Option, Some, None, Bool, not, ◌||◌, sym, ap, ◌∙◌, subst, MatchOption, Vec, Global, ◌≤◌}
+use Rattle.rc_text.specs.Text.{Searched, Keeps, high, is_boundary}
+use Rattle.rc_walks.specs.Walks.{Pair, IsFirstWalk, HasNoWalk}
+use Rattle.rc_program.specs.Text.{Text}
+use Rattle.rc_program.specs.Program.{Place, ways}
+use Rattle.rc_program.specs.Answer.{Search, Chosen, only, IsFirstFrom, HasNoWalkFrom, last_of, is_allowed, chosen, answer, groups, found, slots_of}
+use Rattle.rc_program.proofs.AnswerLemmas.{chosen_law, chosen_within}
+use Rattle.std.specs.Option.{option_map}
+use Rattle.rc_program.specs.Sought.{anchoring_of, search_over, text_of}
+use Rattle.rc_walker.specs.Frames.{pair_of, Ends}
+use Rattle.rc_walker.specs.declared.frames.Frame.{Frame}
+use Rattle.rc_walker.proofs.TextLemmas.{same_text}
+
+-- what a try from a start tells
+abbrev pub Tells : List Place → Text → ℕ → Option ℕ → ℕ → Option (Vec Frame Global) → Type 0
+Tells places t hi allowed start o =
+    MatchOption o
+    (HasNoWalk (ways places t hi) (Ends allowed places) [] ((0, start) ∷ []))
+    (λ walk. IsFirstWalk (ways places t hi) (Ends allowed places) [] ((0, start) ∷ []) (map pair_of walk.items))
+
+module _ (places : List Place) (terminator : ℕ) (passes_over : Bool) (s : Searched) where
+  abbrev pub S : Search
+  S = search_over places terminator passes_over s
+
+  -- a try tells this of the search
+  pub tells : (t : Searched) (hi start : ℕ) (allowed : Option ℕ) (o : Option (Vec Frame Global)) → Keeps s t →
+      hi ≡ high s → allowed ≡ only (anchoring_of s.anchored) → Tells places (text_of terminator t) hi allowed start o →
+      Tells places (text_of terminator s) (high s) (only (anchoring_of s.anchored)) start o
+  tells t hi start allowed o keeps e f h =
+      subst (λ (x : Text). Tells places x (high s) (only (anchoring_of s.anchored)) start o) (same_text s t terminator keeps)
+      (subst (λ (k : ℕ). Tells places (text_of terminator t) k (only (anchoring_of s.anchored)) start o) e
+      (subst (λ (a : Option ℕ). Tells places (text_of terminator t) hi a start o) f h))
+
+  -- whether the walk is allowed
+  pub told_allowed : (content : List ℕ) (w : List Pair) (b answer : Bool) → content ≡ s.content →
+      answer ≡ (not passes_over || is_boundary content (last_of w).1) → answer ≡ b → is_allowed S w ≡ b
+  told_allowed content w b answer e h a =
+      sym (ap (λ xs. not passes_over || is_boundary xs (last_of w).1) e) ∙ sym h ∙ a
+
+-- What was chosen is the answer.
+
+pub chosen_found : (s : Search) (c : Chosen) → Some c ≡ chosen s → Some (found s c) ≡ answer s
+unfolding answer
+chosen_found s c e = ap (option_map (found s)) e
+
+pub none_found : (s : Search) → None ≡ chosen s → None ≡ answer s
+unfolding answer
+none_found s e = ap (option_map (found s)) e
+
+pub chosen_groups : (s : Search) (n : ℕ) (c : Chosen) → Some c ≡ chosen s → Some (slots_of s n c) ≡ groups s n
+unfolding groups
+chosen_groups s n c e = ap (option_map (slots_of s n)) e
+
+pub chosen_inside : (s : Search) (c : Chosen) → Some c ≡ chosen s → (s.lo ≤ c.start) × (c.start ≤ (last_of c.walk).1) × ((last_of c.walk).1 ≤ s.hi)
+chosen_inside s c e = chosen_within s c ((chosen_law s c).0 (sym e))

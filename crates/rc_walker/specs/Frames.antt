@@ -1,0 +1,31 @@
+-- The walk that a stack of frames holds.
+use Rattle.std.specs.Prelude.{ℕ, ◌≤◌, Vec, List, [], ◌∷◌, map, Option, Some, None, IsTrue}
+use Rattle.std.specs.declared.alloc.Global.{Global}
+use Rattle.rc_walks.specs.Walks.{Pair}
+use Rattle.rc_program.specs.Program.{Place, slot, place_at, is_match_place}
+use Rattle.rc_walker.specs.declared.frames.Frame.{Frame}
+
+abbrev pub pair_of : Frame → Pair
+pair_of f = (f.place, f.position)
+
+abbrev pub walk_of : Vec Frame Global → List Pair
+walk_of frames = map pair_of frames.items
+
+-- a walk may end at the match place of an allowed pattern
+abbrev pub Ends : Option ℕ → List Place → Pair → Type 0
+Ends only places n = IsTrue (is_match_place only (place_at places n.0))
+
+-- no frame stands past the position
+abbrev pub AreUpTo : ℕ → List Frame → Type 0
+AreUpTo at [] = Unit {0}
+AreUpTo at (f ∷ fs) = (f.position ≤ at) × AreUpTo at fs
+
+-- the frames, the uppermost first, stand from `low` on, and no position falls along the stack
+abbrev pub Rise : ℕ → List Frame → Type 0
+Rise low [] = Unit {0}
+Rise low (f ∷ fs) = (low ≤ f.position) × AreUpTo f.position fs × Rise low fs
+
+-- the slot that a place names
+abbrev pub slot_name : Place → Option ℕ
+slot_name (slot k n) = Some k
+slot_name _ = None
