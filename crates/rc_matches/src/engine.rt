@@ -30,7 +30,7 @@ impl Engine {
     ghost use Rattle.rc_text.specs.Found.{Found};
     ghost use Rattle.rc_captures.specs.Names.{Names};
     ghost use Rattle.rc_captures.specs.Groups.{names_of};
-    ghost use Rattle.rc_matches.specs.Walks.{walks_left};
+    ghost use Rattle.rc_matches.specs.Walks.{next_start, walks_left};
     ghost use Rattle.rc_captures.specs.Captures.{IsCapturesFor, captures_pattern};
     ghost use Rattle.rc_matches.specs.Tells.{Tells, AllTell};
     ghost use Rattle.rc_text.specs.Text.{Keeps, low, high};
@@ -95,6 +95,8 @@ impl Engine {
         ensures moves { IsMoved input.old input.new }
         ensures found { IfOk result (λ o. o
             ≡ next_match begin_of end_of (answer_from (engine_search self.now input.old)) input.old.span.start last) }
+        ensures start { IfOk result (λ _. input.new.span.start
+            ≡ next_start (engine_search self.now input.old) input.old.span.start last) }
         ensures there { IfOk result (λ o. o ≡ answer (engine_search self.now input.new)) }
         ensures within { IfOk result (λ o. IfSome o (λ m. (low input.new ≤ m.start)
             × (m.start ≤ m.end) × (m.end ≤ high input.new))) }

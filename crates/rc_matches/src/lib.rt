@@ -2,4 +2,5 @@
 #![tactic(auto)]
 
 pub mod engine;
+pub mod laws;
 pub mod pieces;

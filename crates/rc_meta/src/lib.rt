@@ -2,4 +2,5 @@
 #![tactic(auto)]
 
 pub mod builder;
+pub mod iterators;
 pub mod regex;
