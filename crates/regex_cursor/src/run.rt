@@ -2,10 +2,10 @@
 
 mod engine;
 mod error;
+mod line;
 mod lines;
 mod literal;
 mod shell;
-mod stub;
 mod writers;
 
 pub use engine::run;

@@ -6,14 +6,15 @@ ghost use Rattle.rc_build.specs.Settings.{unset};
 ghost use Rattle.rc_meta.specs.Views.{regex_patterns, regex_settings};
 ghost use Rattle.regex_cursor.specs.Faults.{IsBuildFault, IsFault};
 ghost use Rattle.regex_cursor.specs.Output.{IsPut, IsRun, IsWhole};
-ghost use Rattle.regex_cursor.specs.Stub.{left};
+ghost use Rattle.rc_meta.specs.Left.{find_left};
 ghost use Rattle.regex_cursor.specs.Reading.{IsReadAs};
 
 use super::lines::put_line;
 use super::literal::literal;
-use super::stub::FindMatches;
+
 use crate::run::{RunError, Sink};
 use rc_build::error::BuildError;
+use rc_meta::iterators::FindMatches;
 use rc_meta::regex::Regex;
 use rc_text::chunks::{ChunkCursor, TooLong};
 use rc_text::cursor::Cursor;
@@ -40,7 +41,7 @@ fn input_over<'a>(chunks: &'a [&'a [u8]]) -> Result<Input<ChunkCursor<'a>>, TooL
 /// Puts the lines of the matches, and tells whether there is one.
 fn put_lines<W: Sink, C: Cursor + Drop>(out: &mut W, matches: FindMatches<'_, C>) -> Result<bool, RunError>
     requires { W.has_failed out.old ≡ false }
-    ensures put { IfOk result (λ found. IsPut (left matches.entry) (W.taken out.old) (W.taken out.new) found) }
+    ensures put { IfOk result (λ found. IsPut (find_left matches.entry) (W.taken out.old) (W.taken out.new) found) }
     ensures sound { OnOk result (W.has_failed out.new ≡ false) }
     ensures write_failed { IfErr result (λ e. (e ≡ RunError.Write) × (W.has_failed out.new ≡ true)) }
 {
@@ -75,7 +76,7 @@ pub fn run<W: Sink>(
 {
     let regex = built(alloc, pattern)?;
     let input = input_over(chunks)?;
-    let matches = FindMatches::of(&regex, alloc, input)?;
+    let matches = regex.find_iter(alloc, input)?;
     let is_found = put_lines(out, matches)?;
     Ok(is_found)
 }

@@ -10,6 +10,6 @@ returns-clause-done g c =
       pattern = p;
       read = read;
       put = put_as _ _ _ _ _
-        (c.in_ok-matches.ensures.list (ap match_kind_of unset) ∙ listed_whole _ _ _ _ _ unset patterns c.in_ok-input.ensures.whole)
+        (c.in_ok-matches.ensures.left (ap match_kind_of unset) ∙ listed_whole _ _ _ _ _ unset patterns c.in_ok-input.ensures.whole)
         c.in_ok-is_found.ensures.put;
     }
