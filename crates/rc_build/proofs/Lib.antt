@@ -1,3 +1,5 @@
 pub mod CheckLemmas
+mod Examples
 pub mod NamesLemmas
+pub mod RefusalLemmas
 pub mod Runnable

@@ -5,4 +5,7 @@ pub mod check;
 pub mod compile;
 pub mod config;
 pub mod error;
+pub mod laws;
+#[cfg(test)]
+mod tests;
 pub mod which;

@@ -7,8 +7,9 @@ use Rattle.rc_text.specs.Text.{Searched, Keeps, KeepsText}
 use Rattle.rc_program.specs.Program.{Place}
 use Rattle.rc_program.specs.Answer.{Search, answer}
 use Rattle.rc_program.specs.Sought.{search_over}
-use Rattle.rc_program.specs.Matches.{from_on, answer_from, begin_of, end_of, is_again, next_match, unless_again, matches_left}
+use Rattle.rc_program.specs.Matches.{from_on, answer_from, begin_of, end_of, is_again, next_match, unless_again, matches_left, pieces_of}
 use Rattle.rc_program.proofs.AnswerLemmas.{answer_within}
+use Rattle.rc_program.proofs.PieceLemmas.{length-pieces_from}
 use Rattle.rc_program.proofs.MatchLemmas.{IsAfterLast, left_some, left_none}
 use Rattle.rc_matches.specs.Moved.{IsMoved}
 
@@ -77,3 +78,7 @@ pub one_more : (s : Search) (k : ℕ) (last : Option ℕ) (m : Found) (at end : 
     more ≡ all ++ m ∷ [] → whole ≡ more ++ matches_left s at (Some end)
 one_more s k last m at end whole all more step a e w n =
     rw a (rw e (rw n (w ∙ ap (λ x. all ++ x) step ∙ sym (append_assoc all (m ∷ []) (matches_left s m.end (Some m.end))))))
+
+-- there is one piece more than matches
+pub all_counted : (hi : ℕ) (ms : List Found) → length (pieces_of hi ms) ≡ length ms + 1
+all_counted hi ms = length-pieces_from 0 hi ms

@@ -1,6 +1,6 @@
 //! The pieces between matches.
 
-ghost use Rattle.std.specs.Prelude.{◌≡◌, IfOk, length};
+ghost use Rattle.std.specs.Prelude.{◌≡◌, ◌≤◌, IfOk, length};
 ghost use Rattle.rc_text.specs.Text.{Keeps, high};
 ghost use Rattle.rc_program.specs.Matches.{pieces_of, pieces_at_most};
 
@@ -43,11 +43,13 @@ pub fn pieces_at_most(
     end: usize,
     limit: usize,
 ) -> Result<Vec<Span>, AllocError>
-    ensures { IfOk result (λ v. v.items ≡ pieces_at_most limit end found.now) }
+    ensures pieces { IfOk result (λ v. v.items ≡ pieces_at_most limit end found.now) }
+    ensures few { IfOk result (λ v. length v.items ≤ limit) }
 {
     if limit == 0 {
         return Ok(Vec::new(alloc));
     }
     let count = found.len().min(limit - 1);
-    all_pieces(alloc, &found[..count], end)
+    let pieces = all_pieces(alloc, &found[..count], end)?;
+    Ok(pieces)
 }

@@ -11,10 +11,12 @@ ghost use Rattle.rc_build.specs.Settings.{settings_of};
 ghost use Rattle.rc_meta.specs.Fits.{Fits};
 
 use crate::builder::{Builder, build};
+use crate::iterators::{CapturesMatches, FindMatches, Limited, Split, SplitN};
 use rc_build::config::Config;
 use rc_captures::captures::Captures;
 use rc_captures::groups::GroupInfo;
 use rc_matches::engine::Engine;
+use rc_matches::pieces::{all_pieces, pieces_at_most, search_end};
 use rc_pattern::check::group_count;
 use rc_pattern::hir::Hir;
 use rc_text::cursor::Cursor;
@@ -33,11 +35,14 @@ pub struct Regex {
 }
 
 impl Regex {
-    ghost use Rattle.std.specs.Prelude.{◌≡◌, ◌≤◌, ◌+◌, ◌↔◌, IfOk, IfSome, OnOk, OnErr, IsSome, IsTrue, MatchOption, Some, None, length, option_map};
+    ghost use Rattle.std.specs.Prelude.{◌≡◌, ◌≤◌, ◌<◌, ◌+◌, ◌^◌, ◌↔◌, All, IfOk, IfSome, OnOk, OnErr, IsSome, IsTrue, MatchOption, Some, None, length, option_map};
     ghost use Rattle.rc_captures.specs.Captures.{IsCapturesFor, captures_pattern, match_of};
     ghost use Rattle.rc_captures.specs.Groups.{names_of};
     ghost use Rattle.rc_captures.specs.Names.{slot_len};
-    ghost use Rattle.rc_matches.specs.Tells.{Tells};
+    ghost use Rattle.rc_matches.specs.Tells.{Tells, AllTell};
+    ghost use Rattle.rc_matches.specs.Walks.{walks_left};
+    ghost use Rattle.rc_program.specs.Matches.{matches_left, pieces_of, pieces_at_most};
+    ghost use Rattle.rc_meta.specs.Left.{captures_left, captures_regex, find_left, find_regex, split_left, splitn_left, splitn_limit};
     ghost use Rattle.rc_text.specs.Found.{Found};
     ghost use Rattle.rc_program.specs.Laws.{all_groups};
     ghost use Rattle.rc_meta.specs.Counts.{half_of, static_captures_len};
@@ -229,6 +234,90 @@ impl Regex {
                 (λ _. Some slots.new ≡ groups (search_for (sought self.now) input) (length slots.old))) }
     {
         self.engine.find_slots(alloc, &mut input, slots)
+    }
+
+    /// All matches in the input, from left to right.
+    ///
+    /// Each search starts where the match before ended. A match that is empty and ends there gives way to the answer from a byte
+    /// later. An `Err` is want of memory; the items take none.
+    pub fn find_iter<'r, C: Cursor + Drop>(
+        &'r self,
+        alloc: Global,
+        mut input: Input<C>,
+    ) -> Result<FindMatches<'r, C>, AllocError>
+        ensures left { match_kind_of (regex_settings self.now) ≡ LeftmostFirst
+            → IfOk result (λ s. find_left s ≡ matches_left (search_for (sought self.now) input) input.span.start None) }
+        ensures short { IfOk result (λ s. length (find_left s) < 2 ^ 64) }
+        ensures regex { IfOk result (λ s. find_regex s ≡ self.now) }
+    {
+        let found = self.engine.all_matches(alloc, &mut input)?.into_iter();
+        Ok(FindMatches {
+            regex: self,
+            input,
+            found,
+        })
+    }
+
+    /// The matches of `find_iter`, each with its groups. An `Err` is want of memory.
+    pub fn captures_iter<'r, C: Cursor + Drop>(
+        &'r self,
+        alloc: Global,
+        mut input: Input<C>,
+    ) -> Result<CapturesMatches<'r, C>, AllocError>
+        ensures made { IfOk result (λ s. All (IsCapturesFor (regex_names self.now)) (captures_left s)) }
+        ensures told { match_kind_of (regex_settings self.now) ≡ LeftmostFirst
+            → IfOk result (λ s. AllTell (search_for (sought self.now) input)
+                (walks_left (search_for (sought self.now) input) input.span.start None) (captures_left s)) }
+        ensures short { IfOk result (λ s. length (captures_left s) < 2 ^ 64) }
+        ensures regex { IfOk result (λ s. captures_regex s ≡ self.now) }
+    {
+        let found = self
+            .engine
+            .all_captures(alloc, &mut input, &self.info)?
+            .into_iter();
+        Ok(CapturesMatches {
+            regex: self,
+            input,
+            found,
+        })
+    }
+
+    /// The pieces of the content between the matches of `find_iter`, from left to right: the first begins at 0, and the last ends
+    /// where the search does. An `Err` is want of memory; the items take none.
+    pub fn split<C: Cursor + Drop>(
+        &self,
+        alloc: Global,
+        mut input: Input<C>,
+    ) -> Result<Split<C>, AllocError>
+        ensures left { match_kind_of (regex_settings self.now) ≡ LeftmostFirst
+            → IfOk result (λ s. split_left s
+                ≡ pieces_of (high input) (matches_left (search_for (sought self.now) input) input.span.start None)) }
+        ensures short { IfOk result (λ s. length (split_left s) < 2 ^ 64) }
+    {
+        let found = self.engine.all_matches(alloc, &mut input)?;
+        let end = search_end(&mut input);
+        let pieces = all_pieces(alloc, &found, end)?.into_iter();
+        Ok(Split { input, pieces })
+    }
+
+    /// The pieces of `split`, but no more than `limit`: the last one then goes on to where the search ends. An `Err` is want of
+    /// memory; the items take none.
+    pub fn splitn<C: Cursor + Drop>(
+        &self,
+        alloc: Global,
+        mut input: Input<C>,
+        limit: usize,
+    ) -> Result<SplitN<C>, AllocError>
+        ensures left { match_kind_of (regex_settings self.now) ≡ LeftmostFirst
+            → IfOk result (λ s. splitn_left s
+                ≡ pieces_at_most limit (high input) (matches_left (search_for (sought self.now) input) input.span.start None)) }
+        ensures limit { IfOk result (λ s. splitn_limit s ≡ limit) }
+    {
+        let found = self.engine.all_matches(alloc, &mut input)?;
+        let end = search_end(&mut input);
+        let pieces = pieces_at_most(alloc, &found, end, limit)?.into_iter();
+        let limited = Limited { pieces, limit };
+        Ok(SplitN { input, limited })
     }
 }
 

@@ -21,6 +21,7 @@ use Rattle.rc_thompson.specs.Shown.{greatest_group, shown_one, laid}
 use Rattle.rc_thompson.specs.declared.place.Place as code
 use Rattle.rc_thompson.proofs.EmitLemmas.{Emits}
 
+-- each number is one that a group of a light pattern may have
 abbrev pub AreSmall : List ℕ → Type 0
 AreSmall = AllByRecursion (λ n. n ≤ greatest_group)
 

@@ -1,5 +1,5 @@
 -- What the walks over an input tell of its search.
-use Rattle.std.proofs.Common.{◌≡◌, ℕ, List, [], ◌∷◌, map, Option, Some, None, Bool, not, ◌||◌, sym, ap, ◌∙◌, subst, MatchOption, Vec, Global, ◌≤◌}
+use Rattle.std.proofs.Common.{◌≡◌, ℕ, List, [], ◌∷◌, map, Option, Some, None, Bool, not, ◌||◌, sym, ap, ◌∙◌, subst, IsTrue, ◌≤◌}
 use Rattle.rc_text.specs.Text.{Searched, Keeps, high, is_boundary}
 use Rattle.rc_walks.specs.Walks.{Pair, IsFirstWalk, HasNoWalk}
 use Rattle.rc_program.specs.Text.{Text}
@@ -8,29 +8,26 @@ use Rattle.rc_program.specs.Answer.{Search, Chosen, only, IsFirstFrom, HasNoWalk
 use Rattle.rc_program.proofs.AnswerLemmas.{chosen_law, chosen_within}
 use Rattle.std.specs.Option.{option_map}
 use Rattle.rc_program.specs.Sought.{anchoring_of, search_over, text_of}
-use Rattle.rc_walker.specs.Frames.{pair_of, Ends}
-use Rattle.rc_walker.specs.declared.frames.Frame.{Frame}
+use Rattle.rc_walker.specs.Frames.{Ends}
 use Rattle.rc_walker.proofs.TextLemmas.{same_text}
 
 -- what a try from a start tells
-abbrev pub Tells : List Place → Text → ℕ → Option ℕ → ℕ → Option (Vec Frame Global) → Type 0
-Tells places t hi allowed start o =
-    MatchOption o
-    (HasNoWalk (ways places t hi) (Ends allowed places) [] ((0, start) ∷ []))
-    (λ walk. IsFirstWalk (ways places t hi) (Ends allowed places) [] ((0, start) ∷ []) (map pair_of walk.items))
+pub record Tells (places : List Place) (t : Text) (hi : ℕ) (allowed : Option ℕ) (start : ℕ) (w : List Pair) (found : Bool) : Type 0 where
+  pub first : IsTrue found → IsFirstWalk (ways places t hi) (Ends allowed places) [] ((0, start) ∷ []) w
+  pub none : IsTrue (not found) → HasNoWalk (ways places t hi) (Ends allowed places) [] ((0, start) ∷ [])
 
 module _ (places : List Place) (terminator : ℕ) (passes_over : Bool) (s : Searched) where
   abbrev pub S : Search
   S = search_over places terminator passes_over s
 
   -- a try tells this of the search
-  pub tells : (t : Searched) (hi start : ℕ) (allowed : Option ℕ) (o : Option (Vec Frame Global)) → Keeps s t →
-      hi ≡ high s → allowed ≡ only (anchoring_of s.anchored) → Tells places (text_of terminator t) hi allowed start o →
-      Tells places (text_of terminator s) (high s) (only (anchoring_of s.anchored)) start o
-  tells t hi start allowed o keeps e f h =
-      subst (λ (x : Text). Tells places x (high s) (only (anchoring_of s.anchored)) start o) (same_text s t terminator keeps)
-      (subst (λ (k : ℕ). Tells places (text_of terminator t) k (only (anchoring_of s.anchored)) start o) e
-      (subst (λ (a : Option ℕ). Tells places (text_of terminator t) hi a start o) f h))
+  pub tells : (t : Searched) (hi start : ℕ) (allowed : Option ℕ) (w : List Pair) (found : Bool) → Keeps s t →
+      hi ≡ high s → allowed ≡ only (anchoring_of s.anchored) → Tells places (text_of terminator t) hi allowed start w found →
+      Tells places (text_of terminator s) (high s) (only (anchoring_of s.anchored)) start w found
+  tells t hi start allowed w found keeps e f h =
+      subst (λ (x : Text). Tells places x (high s) (only (anchoring_of s.anchored)) start w found) (same_text s t terminator keeps)
+      (subst (λ (k : ℕ). Tells places (text_of terminator t) k (only (anchoring_of s.anchored)) start w found) e
+      (subst (λ (a : Option ℕ). Tells places (text_of terminator t) hi a start w found) f h))
 
   -- whether the walk is allowed
   pub told_allowed : (content : List ℕ) (w : List Pair) (b answer : Bool) → content ≡ s.content →

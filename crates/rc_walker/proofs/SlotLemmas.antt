@@ -36,12 +36,12 @@ set_slot f n j v =
     let long2 : length (map (with_slot f j v) (range_with_len 0 n)) ≡ n = length-map-range_with_len (with_slot f j v) 0 n in
     same_slots (set xs j v) (map (with_slot f j v) (range_with_len 0 n)) (length-set xs j v ∙ long ∙ sym long2)
     (λ k l. let m : k < n = let s = length-set xs j v in omega (arith, l, s, long) in
-      let right : get_or (map (with_slot f j v) (range_with_len 0 n)) k None ≡ with_slot f j v k = get_or-map-range_with_len (with_slot f j v) 0 n k k None m (omega arith) in
-      ⊎_elim
-      (λ e. let at : get_or (set xs j v) k None ≡ v = ap (λ i. get_or (set xs j v) i None) e ∙ get_or-set_same xs j v None (omega (arith, long, m, e)) in
-        at ∙ sym (right ∙ (rw (eq-eqb k j e) refl)))
-      (λ ne. get_or-set_other xs j k v None ne ∙ get_or-map-range_with_len f 0 n k k None m (omega arith) ∙ sym (right ∙ (rw (ne_eqb k j ne) refl)))
-      (cases_eq k j))
+    let right : get_or (map (with_slot f j v) (range_with_len 0 n)) k None ≡ with_slot f j v k = get_or-map-range_with_len (with_slot f j v) 0 n k k None m (omega arith) in
+    ⊎_elim
+    (λ e. let at : get_or (set xs j v) k None ≡ v = ap (λ i. get_or (set xs j v) i None) e ∙ get_or-set_same xs j v None (omega (arith, long, m, e)) in
+    at ∙ sym (right ∙ (rw (eq-eqb k j e) refl)))
+    (λ ne. get_or-set_other xs j k v None ne ∙ get_or-map-range_with_len f 0 n k k None m (omega arith) ∙ sym (right ∙ (rw (ne_eqb k j ne) refl)))
+    (cases_eq k j))
 
 -- an empty slot
 abbrev nothing : Option ℕ

@@ -121,12 +121,12 @@ module _ (places : List Place) (t : Text) (hi start : ℕ) (only : Option ℕ) w
       IsWalking (fresh_frame place position ∷ again f ∷ fs)
   unfolding rest_of
   steps_on f fs place position e new on inside within w =
-    let h : f.position ≤ position = ways_onward places t hi (pair_of f) (place, position) (in_from_get (W (pair_of f)) f.tried (place, position) e) in record {
-    awaits = goes_on W (Ends only places) (0, start) Frame pair_of tried_of (again f) (fresh_frame place position) fs
-        (moved f fs (place, position) e w) on new refl;
-    below = ((inside, omega arith), w.below);
-    rising = (omega (arith, h, w.rising.0), (h, later_up_to f.position position fs h w.rising.1), w.rising);
-  }
+      let h : f.position ≤ position = ways_onward places t hi (pair_of f) (place, position) (in_from_get (W (pair_of f)) f.tried (place, position) e) in record {
+        awaits = goes_on W (Ends only places) (0, start) Frame pair_of tried_of (again f) (fresh_frame place position) fs
+            (moved f fs (place, position) e w) on new refl;
+        below = ((inside, omega arith), w.below);
+        rising = (omega (arith, h, w.rising.0), (h, later_up_to f.position position fs h w.rising.1), w.rising);
+      }
 
   unwinds : (fs : List Frame) (w : List Pair) → unwind W (Ends only places) (0, start) Frame pair_of tried_of fs w ≡ map pair_of (reverse fs) ++ w
   unwinds [] w = refl

@@ -21,7 +21,7 @@ whole_rest k xs = let e = length-drop k xs in take_all (length xs - k) (drop k x
 -- the bytes around a position in the slice decide what holds there
 pub holds_around : (s : Searched) (terminator : ℕ) (look : Look) (p : ℕ) → s.slice.start ≤ p → p ≤ slice_end s →
     holds_between terminator (side_before (take (around_place_at s p) (around_bytes_at s p)))
-      (side_after (take (length (around_bytes_at s p) - around_place_at s p) (drop (around_place_at s p) (around_bytes_at s p)))) look
+    (side_after (take (length (around_bytes_at s p) - around_place_at s p) (drop (around_place_at s p) (around_bytes_at s p)))) look
     ≡ holds (text_of terminator s) look p
 holds_around s terminator look p low high =
     ap₂ (λ b a. holds_between terminator b a look)

@@ -1,5 +1,5 @@
 //! The first walk from a start, on an explicit stack.
-ghost use Rattle.std.specs.Prelude.{◌≡◌, ◌<◌, ◌≤◌, [], ◌∷◌, IfOk, MatchOption, length, map, reverse};
+ghost use Rattle.std.specs.Prelude.{◌≡◌, ◌<◌, ◌≤◌, [], ◌∷◌, IfOk, IsTrue, not, length, map, reverse};
 ghost use Rattle.rc_text.specs.Text.{Keeps, high};
 ghost use Rattle.rc_walks.specs.Walks.{IsFirstWalk, HasNoWalk};
 ghost use Rattle.rc_walks.specs.Tries.{is_in};
@@ -7,13 +7,13 @@ ghost use Rattle.rc_program.specs.Sought.{text_of};
 ghost use Rattle.rc_program.specs.Laws.{IsClosed};
 ghost use Rattle.rc_program.specs.Program.{ways, place_at, is_match_place};
 ghost use Rattle.rc_thompson.specs.Places.{places_of};
-ghost use Rattle.rc_walker.specs.Frames.{AreUpTo, Ends, Rise, pair_of};
+ghost use Rattle.rc_walker.specs.Frames.{AreUpTo, Ends, Rise, pair_of, walk_of};
 
 use crate::ways::way;
 use rc_text::cursor::Cursor;
 use rc_text::input::Input;
 use rc_thompson::place::Place;
-use std::alloc::{AllocError, Global};
+use std::alloc::AllocError;
 
 /// A pair on the walk under way, and how many of its ways out were tried.
 #[derive(Clone, Copy)]
@@ -67,35 +67,37 @@ fn is_on(stack: &[Frame], place: usize, position: usize) -> bool
     false
 }
 
-/// The first of the walks from `start`, as the frames of its pairs.
+/// Whether a walk leads on from `start`. Where one does, the stack ends as the frames of the first
+/// of them.
 pub fn first_walk<C: Cursor>(
-    alloc: Global,
     input: &mut Input<C>,
+    stack: &mut Vec<Frame>,
     places: &[Place],
     terminator: u8,
     only: Option<usize>,
     hi: usize,
     start: usize,
-) -> Result<Option<Vec<Frame>>, AllocError>
+) -> Result<bool, AllocError>
     requires some { 0 < length places.now }
     requires closed { IsClosed (places_of places.now) }
     requires low { input.old.slice.start ≤ start }
     requires start_in { start ≤ hi }
     requires hi_in { hi ≤ high input.old }
     ensures keeps { Keeps input.old input.new }
-    ensures found { IfOk result (λ found. MatchOption found
-        (HasNoWalk (ways (places_of places.now) (text_of terminator input.old) hi) (Ends only (places_of places.now)) [] ((0, start) ∷ []))
-        (λ walk. IsFirstWalk (ways (places_of places.now) (text_of terminator input.old) hi) (Ends only (places_of places.now)) []
-            ((0, start) ∷ []) (map pair_of walk.items))) }
+    ensures first { IfOk result (λ found. IsTrue found →
+        IsFirstWalk (ways (places_of places.now) (text_of terminator input.old) hi) (Ends only (places_of places.now)) []
+        ((0, start) ∷ []) (walk_of stack.new)) }
+    ensures none { IfOk result (λ found. IsTrue (not found) →
+        HasNoWalk (ways (places_of places.now) (text_of terminator input.old) hi) (Ends only (places_of places.now)) [] ((0, start) ∷ [])) }
 {
-    let mut stack = Vec::new(alloc);
+    stack.clear();
     stack.push(Frame {
         place: 0,
         position: start,
         tried: 0,
     })?;
     if is_match(places, 0, only) {
-        return Ok(Some(stack));
+        return Ok(true);
     }
     'steps: while let Some(top) = stack.pop() {
         if let Some((place, position)) = way(
@@ -112,17 +114,17 @@ pub fn first_walk<C: Cursor>(
                 position: top.position,
                 tried: top.tried + 1,
             })?;
-            if !is_on(&stack, place, position) {
+            if !is_on(stack, place, position) {
                 stack.push(Frame {
                     place,
                     position,
                     tried: 0,
                 })?;
                 if is_match(places, place, only) {
-                    return Ok(Some(stack));
+                    return Ok(true);
                 }
             }
         }
     }
-    Ok(None)
+    Ok(false)
 }

@@ -91,9 +91,10 @@ fn find_walk<C: Cursor>(
     let is_anchored = is_anchored(input.get_anchored());
     let lo = low(input);
     let hi = high(input);
-    move_to(input, lo);
+    move_to(input, lo); // the first byte to be read
+    let mut frames = Vec::new(alloc);
     for start in lo..last_start(lo, hi, is_anchored) + 1 {
-        if let Some(frames) = first_walk(alloc, input, places, terminator, only, hi, start)? {
+        if first_walk(input, &mut frames, places, terminator, only, hi, start)? {
             if allows(input, passes_over, &frames) {
                 return Ok(Some(Walk { start, frames }));
             }

@@ -72,18 +72,18 @@ is_match-requires-then-not-is_on g c =
     let e = same_way P c.args.input.now c.steps.input c.args.terminator hi (pair_of top) top.tried (Some next) c.steps.invariant.keeps c.in-Some-way.ensures.value in
     rw length-map at (ways_closed P c.requires.closed T hi (pair_of top) next (in_from_get (ways P T hi (pair_of top)) top.tried next e))
 
-pub returns-then-is_match-clause-found : goal.returns-then-is_match-clause-found
-returns-then-is_match-clause-found g c =
+pub returns-then-is_match-clause-first : goal.returns-then-is_match-clause-first
+returns-then-is_match-clause-first g c =
     let P = places_of c.args.places.now in
     let T = text_of c.args.terminator c.args.input.now in
     let hi = c.args.hi in
     let start = c.args.start in
     let only = c.args.only in
-    rw (c.in_ok-push.ensures.items, c.new-stack.ensures.items)
+    λ yes. rw (c.in_ok-push.ensures.items, c.clear.ensures.items)
     (first_stops (ways P T hi) (Ends only P) same_pair (ends_last P T hi start only) (0, start) [] [] (λ h. h) (sym c.is_match.ensures ∙ c.if-is_match.true))
 
-pub returns-then-is_match-2-clause-found : goal.returns-then-is_match-2-clause-found
-returns-then-is_match-2-clause-found g c =
+pub returns-then-is_match-2-clause-first : goal.returns-then-is_match-2-clause-first
+returns-then-is_match-2-clause-first g c =
     let P = places_of c.args.places.now in
     let T = text_of c.args.terminator c.args.input.now in
     let hi = c.args.hi in
@@ -96,20 +96,20 @@ returns-then-is_match-2-clause-found g c =
     let e = same_way P c.args.input.now c.steps.input c.args.terminator hi (pair_of top) top.tried (Some next) c.steps.invariant.keeps c.in-Some-way.ensures.value in
     let shown = ap (λ xs. is_in next (map pair_of (reverse xs))) (sym c.deref.ensures.value) ∙ sym c.is_on.ensures in
     let new = new_on_stack c.push-in-Some-way.new.self.items rest top next c.in_ok-push-2.ensures.items (shown ∙ c.if-not-is_on.true) in
-    rw (c.in_ok-push-3.ensures.items, c.in_ok-push-2.ensures.items)
+    λ yes. rw (c.in_ok-push-3.ensures.items, c.in_ok-push-2.ensures.items)
     (rw (← walk_of_frames rest top c.in-Some-way.place c.in-Some-way.position)
     (arrives_on P T hi start only top (reverse rest) c.in-Some-way.place c.in-Some-way.position e new
     (sym c.is_match-then-not-is_on.ensures ∙ c.if-is_match-2.true) walking))
 
-pub returns-clause-found : goal.returns-clause-found
-returns-clause-found g c =
+pub returns-clause-none : goal.returns-clause-none
+returns-clause-none g c =
     let P = places_of c.args.places.now in
     let T = text_of c.args.terminator c.args.input.now in
     let hi = c.args.hi in
     let start = c.args.start in
     let only = c.args.only in
     let none : c.steps.stack.items ≡ [] = empty_of_length c.steps.stack.items (omega (arith, c.in_default.ensures.cases.0, c.steps.stack.ok.0)) in
-    gives_up P T hi start only (subst (λ fs. IsWalking P T hi start only (reverse fs)) none c.steps.invariant.walking)
+    λ no. gives_up P T hi start only (subst (λ fs. IsWalking P T hi start only (reverse fs)) none c.steps.invariant.walking)
 
 pub steps-preserved : goal.steps-preserved
 steps-preserved g c =
@@ -186,13 +186,13 @@ steps-preserved-else-is_match-2 g c =
     let over = on_top c.push-in-Some-way.new.self.items rest (again top) c.in_ok-push-2.ensures.items in
     let new = new_on_stack c.push-in-Some-way.new.self.items rest top next c.in_ok-push-2.ensures.items (shown ∙ c.if-not-is_on.true) in
     let stack = on_top c.push-then-not-is_on.new.self.items c.push-in-Some-way.new.self.items (fresh_frame c.in-Some-way.place c.in-Some-way.position) c.in_ok-push-3.ensures.items
-        ∙ ap (λ xs. fresh_frame c.in-Some-way.place c.in-Some-way.position ∷ xs) over in
+    ∙ ap (λ xs. fresh_frame c.in-Some-way.place c.in-Some-way.position ∷ xs) over in
     let inside = in_from_get (ways P T hi (pair_of top)) top.tried next e in
     let below = walking.below.0.1 in
     let on = steps_on P T hi start only top (reverse rest) c.in-Some-way.place c.in-Some-way.position e new
-        (λ t. true≢false (sym t ∙ sym c.is_match-then-not-is_on.ensures ∙ c.if-is_match-2.false))
-        (ways_closed P c.requires.closed T hi (pair_of top) next inside)
-        (ways_within P T hi (pair_of top) next (omega (arith, below)) inside) walking in
+    (λ t. true≢false (sym t ∙ sym c.is_match-then-not-is_on.ensures ∙ c.if-is_match-2.false))
+    (ways_closed P c.requires.closed T hi (pair_of top) next inside)
+    (ways_within P T hi (pair_of top) next (omega (arith, below)) inside) walking in
     record { keeps = search rules; walking = rw stack on }
 
 pub steps-smaller-else-is_match-2 : goal.steps-smaller-else-is_match-2
@@ -212,12 +212,12 @@ steps-smaller-else-is_match-2 g c =
     let over = on_top c.push-in-Some-way.new.self.items rest (again top) c.in_ok-push-2.ensures.items in
     let new = new_on_stack c.push-in-Some-way.new.self.items rest top next c.in_ok-push-2.ensures.items (shown ∙ c.if-not-is_on.true) in
     let stack = on_top c.push-then-not-is_on.new.self.items c.push-in-Some-way.new.self.items (fresh_frame c.in-Some-way.place c.in-Some-way.position) c.in_ok-push-3.ensures.items
-        ∙ ap (λ xs. fresh_frame c.in-Some-way.place c.in-Some-way.position ∷ xs) over in
+    ∙ ap (λ xs. fresh_frame c.in-Some-way.place c.in-Some-way.position ∷ xs) over in
     let inside = in_from_get (ways P T hi (pair_of top)) top.tried next e in
     let below = walking.below.0.1 in
     let on = steps_on P T hi start only top (reverse rest) c.in-Some-way.place c.in-Some-way.position e new
-        (λ t. true≢false (sym t ∙ sym c.is_match-then-not-is_on.ensures ∙ c.if-is_match-2.false))
-        (ways_closed P c.requires.closed T hi (pair_of top) next inside)
-        (ways_within P T hi (pair_of top) next (omega (arith, below)) inside) walking in
+    (λ t. true≢false (sym t ∙ sym c.is_match-then-not-is_on.ensures ∙ c.if-is_match-2.false))
+    (ways_closed P c.requires.closed T hi (pair_of top) next inside)
+    (ways_within P T hi (pair_of top) next (omega (arith, below)) inside) walking in
     let few = few_ways c.args.places.now T hi next in
     rw (stack, under) (on_falls P T hi start only top (fresh_frame c.in-Some-way.place c.in-Some-way.position) (reverse rest) next e on (omega (arith, few)))

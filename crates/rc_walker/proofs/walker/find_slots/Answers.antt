@@ -42,5 +42,5 @@ returns-in-Some-clause-slots g c =
     let visited : c.note_visits.new.slots ≡ visits P n was.walk = c.note_visits.ensures in
     let once : c.put.new.slots ≡ set (visits P n was.walk) (2 * pattern_of s was + 1) (Some (last_of was.walk).1) = rw (visited, own, pos) at c.put.ensures in
     let twice : c.put-in-Some.new.slots ≡ set (set (visits P n was.walk) (2 * pattern_of s was + 1) (Some (last_of was.walk).1)) (2 * pattern_of s was) (Some was.start) =
-        rw (once, own) at c.put-in-Some.ensures in
+    rw (once, own) at c.put-in-Some.ensures in
     ap Some (twice ∙ own_slots s was n) ∙ chosen_groups s n was e

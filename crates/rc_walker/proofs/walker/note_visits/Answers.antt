@@ -24,7 +24,7 @@ visits-preserved c =
     let named = rw same at c.slot_at.ensures in
     let before : c.visits.slots ≡ visits P n w = c.visits.invariant in
     elim c.match-slot_at.branch [
-      in-Some v ↦ rw (v.slots-is, more) (rw same at v.put.ensures ∙ ap (λ xs. set xs v.in-Some.slot (Some frame.position)) before
+      | in-Some v ↦ rw (v.slots-is, more) (rw same at v.put.ensures ∙ ap (λ xs. set xs v.in-Some.slot (Some frame.position)) before
           ∙ visits_here P n w (pair_of frame) v.in-Some.slot (rw v.in-Some.is at named))
       | in_default v ↦ rw (v.slots-is, more) (before ∙ visits_none P n w (pair_of frame) (rw v.in_default.is at named))
     ]

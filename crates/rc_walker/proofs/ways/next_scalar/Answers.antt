@@ -14,11 +14,11 @@ loop-len-preserved g c =
     record {
       keeps = search rules;
       long = elim c.match-byte_at.branch [
-        in-Some w ↦ rw (w.bytes-is, length-set) c.loop-len.invariant.long
+        | in-Some w ↦ rw (w.bytes-is, length-set) c.loop-len.invariant.long
         | in_default w ↦ rw w.bytes-is c.loop-len.invariant.long
       ];
       bytes = elim c.match-byte_at.branch [
-        in-Some w ↦ rw (w.bytes-is) (reads_more content c.loop-len.bytes c.args.position c.loop-len.len w.in-Some.byte
+        | in-Some w ↦ rw (w.bytes-is) (reads_more content c.loop-len.bytes c.args.position c.loop-len.len w.in-Some.byte
             c.loop-len.invariant.bytes (omega (arith, c.loop-len.invariant.long, c.loop-len-test.true, c.min-count.ensures)) (rw (same, w.in-Some.is) at c.byte_at.ensures.value))
         | in_default w ↦ absurd (let past = past_of_none content (c.args.position + c.loop-len.len) (sym (rw (same, w.in_default.is) at c.byte_at.ensures.value)) in
             omega (arith, past, c.requires, c.loop-len-test.true, c.min-count.ensures, c.saturating_sub.ensures))
@@ -31,6 +31,6 @@ returns-clause-value g c =
     let count = c.min-count.result in
     let e : c.loop-len.len ≡ count = omega (arith, c.loop-len-test.false, c.loop-len.auto.len-end) in
     let bytes : take count c.loop-len.bytes ≡ slice_range content c.args.position (c.args.position + count) =
-        subst (λ (n : ℕ). take n c.loop-len.bytes ≡ slice_range content c.args.position (c.args.position + n)) e c.loop-len.invariant.bytes in
+    subst (λ (n : ℕ). take n c.loop-len.bytes ≡ slice_range content c.args.position (c.args.position + n)) e c.loop-len.invariant.bytes in
     c.scalar_at.ensures ∙ ap scalar_at bytes
     ∙ (rw (c.min-count.ensures, c.saturating_sub.ensures) (first_four content c.args.position c.args.hi))

@@ -1,0 +1,38 @@
+-- Worked rows of the definitions.
+use Rattle.std.proofs.Common.{◌≡◌, false, true, [], ◌∷◌, Some, None, refl}
+use Rattle.std.specs.Prelude.{codes}
+use Rattle.rc_pattern.specs.Re.{literal, char_in, repeat, capture, cat}
+use Rattle.rc_build.specs.declared.error.BuildError.TheVariants.{IllFormed}
+use Rattle.rc_build.specs.Lines.{line_of, pattern_of}
+use Rattle.rc_build.specs.Names.{names_shown}
+use Rattle.rc_build.specs.Refusals.{size_of}
+use Rattle.rc_build.specs.Settings.{Settings, unset, overwritten, dfa_of, hybrid_of, utf8_empty_of}
+
+size_of_a : size_of (literal (97 ∷ []) ∷ []) ≡ 192
+size_of_a = refl
+
+size_of_a_class : size_of (char_in ((48, 57) ∷ []) ∷ []) ≡ 2880
+size_of_a_class = refl
+
+-- `(?:a{1000}){1000}`
+size_of_turns : size_of (repeat 1000 (Some 1000) true (repeat 1000 (Some 1000) true (literal (97 ∷ []))) ∷ []) ≡ 96128224
+size_of_turns = refl
+
+names_that_are_kept : names_shown true (cat (capture 1 (Some (110 ∷ [])) (literal (97 ∷ []))) (capture 2 None (literal (98 ∷ []))) ∷ []) ≡ (Some (110 ∷ []) ∷ None ∷ []) ∷ []
+names_that_are_kept = refl
+
+names_that_are_not : names_shown false (capture 1 (Some (110 ∷ [])) (literal (97 ∷ [])) ∷ []) ≡ [] ∷ []
+names_that_are_not = refl
+
+line_of_an_ill_formed_pattern : line_of (IllFormed 3) ≡ Some (codes "error building NFA")
+line_of_an_ill_formed_pattern = refl
+
+pattern_of_an_ill_formed_pattern : pattern_of (IllFormed 3) ≡ None
+pattern_of_an_ill_formed_pattern = refl
+
+-- no DFA, and then no lazy one
+abbrev two_settings : Settings
+two_settings = overwritten (record unset { dfa = Some false }) (record unset { hybrid = Some false })
+
+both_are_kept : (dfa_of two_settings ∷ hybrid_of two_settings ∷ utf8_empty_of two_settings ∷ []) ≡ (false ∷ false ∷ true ∷ [])
+both_are_kept = refl
