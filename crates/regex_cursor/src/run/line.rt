@@ -37,15 +37,18 @@ impl Line {
         self.len += 1;
     }
 
-    /// Adds a number in decimal. There has to be room for it.
+    /// Adds a number in decimal, which has at most 20 digits. There has to be room for 20 bytes.
     pub fn push_decimal(&mut self, n: usize)
-        requires { self.old.len + length (decimal n) ≤ 43 }
+        requires { self.old.len ≤ 23 }
         ensures text { line_text self.new ≡ line_text self.old ++ decimal n }
         ensures len { self.new.len ≡ self.old.len + length (decimal n) }
+        ensures few { self.new.len ≤ self.old.len + 20 }
     {
-        if n >= 10 {
-            self.push_decimal(n / 10);
+        if n < 10 {
+            self.push(b'0' + n as u8);
+            return;
         }
+        self.push_decimal(n / 10);
         self.push(b'0' + (n % 10) as u8);
     }
 
