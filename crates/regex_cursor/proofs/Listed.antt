@@ -1,14 +1,14 @@
 -- The matches that are listed for a whole content.
-use Rattle.std.proofs.Common.{◌≡◌, ℕ, List, [], ◌∷◌, Bool, Option, None, ap, sym, subst, ◌∙◌}
+use Rattle.std.proofs.Common.{◌≡◌, ℕ, List, [], ◌∷◌, Bool, Option, None, ap, subst, ◌∙◌}
 use Rattle.rc_text.specs.Found.{Found}
 use Rattle.rc_text.specs.Text.{Searched}
 use Rattle.rc_pattern.specs.Re.{Re}
 use Rattle.rc_program.specs.Answer.{Search}
-use Rattle.rc_program.specs.Sought.{Sought, search_for}
+use Rattle.rc_program.specs.Sought.{search_for}
 use Rattle.rc_program.specs.Matches.{matches_left}
 use Rattle.rc_build.specs.Settings.{Settings, unset}
 use Rattle.rc_meta.specs.Fits.{sought_by}
-use Rattle.regex_cursor.specs.Output.{IsPut, IsWhole, matches_in, sought_by_default, whole}
+use Rattle.regex_cursor.specs.Output.{IsPut, IsWhole, matches_in, whole}
 
 -- the regex has nothing set and one pattern, and the input is the whole content
 pub listed_whole : (st : Settings) (hs : List Re) (s : Searched) (p : Re) (content : List ℕ) → st ≡ unset → hs ≡ p ∷ [] → IsWhole content s →

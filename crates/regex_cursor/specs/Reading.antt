@@ -1,5 +1,5 @@
 -- The texts that are read as the literal of their bytes.
-use Rattle.std.specs.Prelude.{◌≡◌, ℕ, Bool, ◌||◌, nat_eq, List, Option, Some, None, position}
+use Rattle.std.specs.Prelude.{◌≡◌, ℕ, Bool, ◌||◌, nat_eq, List, Some, None, position}
 use Rattle.rc_build.specs.declared.error.BuildError.{BuildError}
 use Rattle.rc_build.specs.declared.error.BuildError.TheVariants.{Syntax as Refused}
 use Rattle.rc_pattern.specs.declared.syntax.Error.TheVariants.{Syntax as Fault}

@@ -148,7 +148,10 @@ fn tells_of_each_failed_put(rt: HostRuntime) -> Result<(), Fail> {
     let lines = b"0..2\n3..5\n".as_slice();
     for k in 0..lines.len() {
         let mut out = Fixed::new(k);
-        assert_eq!(rt; run(rt.alloc(), "ab", chunks, &mut out), Err(RunError::Write));
+        assert_eq!(rt;
+            run(rt.alloc(), "ab", chunks, &mut out),
+            Err(RunError::Write)
+        );
         assert_eq!(rt; out.failed(), true);
         assert_eq!(rt; out.bytes[..out.len], lines[..k]);
     }

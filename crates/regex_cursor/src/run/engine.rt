@@ -11,7 +11,6 @@ ghost use Rattle.regex_cursor.specs.Reading.{IsReadAs};
 
 use super::lines::put_line;
 use super::literal::literal;
-
 use crate::run::{RunError, Sink};
 use rc_build::error::BuildError;
 use rc_meta::iterators::FindMatches;
@@ -39,7 +38,10 @@ fn input_over<'a>(chunks: &'a [&'a [u8]]) -> Result<Input<ChunkCursor<'a>>, TooL
 }
 
 /// Puts the lines of the matches, and tells whether there is one.
-fn put_lines<W: Sink, C: Cursor + Drop>(out: &mut W, matches: FindMatches<'_, C>) -> Result<bool, RunError>
+fn put_lines<W: Sink, C: Cursor + Drop>(
+    out: &mut W,
+    matches: FindMatches<'_, C>,
+) -> Result<bool, RunError>
     requires { W.has_failed out.old ≡ false }
     ensures put { IfOk result (λ found. IsPut (find_left matches.entry) (W.taken out.old) (W.taken out.new) found) }
     ensures sound { OnOk result (W.has_failed out.new ≡ false) }

@@ -1,6 +1,7 @@
 //! One line, as it is made.
 ghost use Rattle.std.specs.Prelude.{◌≡◌, ◌+◌, ◌<◌, ◌≤◌, ◌++◌, ◌∷◌, [], length};
 ghost use Rattle.std.specs.Fmt.{decimal};
+ghost use Rattle.regex_cursor.specs.declared.run.line.TheConstants.{LONGEST};
 
 /// The most bytes of a line: two numbers of 20 digits, two dots and a line feed.
 const LONGEST: usize = 43;
@@ -8,9 +9,9 @@ const LONGEST: usize = 43;
 /// A line of at most 43 bytes. It takes no memory.
 #[derive(Drop)]
 pub struct Line {
-    bytes: [u8; 43],
+    bytes: [u8; LONGEST],
     len: usize,
-    ghost within: { len ≤ 43 },
+    ghost within: { len ≤ LONGEST },
 }
 
 impl Line {
@@ -29,7 +30,7 @@ impl Line {
 
     /// Adds a byte. There has to be room for it.
     pub fn push(&mut self, byte: u8)
-        requires { self.old.len < 43 }
+        requires { self.old.len < LONGEST }
         ensures text { line_text self.new ≡ line_text self.old ++ byte ∷ [] }
         ensures len { self.new.len ≡ self.old.len + 1 }
     {

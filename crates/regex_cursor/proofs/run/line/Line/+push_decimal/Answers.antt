@@ -1,4 +1,4 @@
-use Rattle.std.proofs.Common.{◌≡◌, ◌++◌, List, ℕ, ap, sym, arith, ◌∙◌}
+use Rattle.std.proofs.Common.{◌++◌, List, ℕ, ap, sym, arith, ◌∙◌}
 use Rattle.std.proofs.lemmas.Fmt.{decimal_digit}
 use Rattle.regex_cursor.proofs.Digits.{decimal_few, decimal_of_one, decimal_longer, decimal_after}
 use Rattle.regex_cursor.specs.Line.{line_text}
