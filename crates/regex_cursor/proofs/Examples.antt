@@ -1,5 +1,5 @@
 -- Worked rows of the definitions.
-use Rattle.std.proofs.Common.{◌≡◌, refl, [], ◌∷◌, ◌++◌, codes, true, false}
+use Rattle.std.proofs.Common.{◌≡◌, refl, [], ◌∷◌, codes}
 use Rattle.std.specs.Prelude.{None, Some, position}
 use Rattle.std.specs.Fmt.{digits}
 use Rattle.rc_program.specs.Matches.{matches_left}

@@ -1,4 +1,4 @@
-ghost use Rattle.std.specs.Prelude.{◌≡◌, false};
+ghost use Rattle.std.specs.Prelude.{◌≡◌, ◌≤◌, false};
 
 use crate::run::{RunError, Sink, Written, program, run};
 use std::io;
@@ -101,6 +101,7 @@ struct Fixed {
     len: usize,
     calls_left: usize,
     has_failed: bool,
+    ghost within: { len ≤ 64 },
 }
 
 impl Fixed {
@@ -113,6 +114,11 @@ impl Fixed {
             calls_left,
             has_failed: false,
         }
+    }
+
+    /// The bytes that it took.
+    fn taken(&self) -> &[u8] {
+        &self.bytes[..self.len]
     }
 }
 
@@ -153,12 +159,12 @@ fn tells_of_each_failed_put(rt: HostRuntime) -> Result<(), Fail> {
             Err(RunError::Write)
         );
         assert_eq!(rt; out.failed(), true);
-        assert_eq!(rt; out.bytes[..out.len], lines[..k]);
+        assert_eq!(rt; out.taken(), &lines[..k]);
     }
     let mut out = Fixed::new(lines.len());
     assert_eq!(rt; run(rt.alloc(), "ab", chunks, &mut out), Ok(true));
     assert_eq!(rt; out.failed(), false);
-    assert_eq!(rt; out.bytes[..out.len], *lines);
+    assert_eq!(rt; out.taken(), lines);
     Ok(())
 }
 
