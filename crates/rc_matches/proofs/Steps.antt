@@ -1,16 +1,17 @@
 -- Searches of an input whose span starts elsewhere.
-use Rattle.std.proofs.Common.{◌≡◌, ◌∙◌, ◌+◌, ◌≤◌, ◌<◌, ◌++◌, ℕ, Bool, true, false, List, [], ◌∷◌, length, Option, Some, None, IfSome, ap, sym, refl, arith, append_assoc}
+use Rattle.std.proofs.Common.{◌≡◌, ◌∙◌, ◌+◌, ◌≤◌, ◌<◌, ◌++◌, ℕ, zero, suc, max, Bool, false, All, List, [], ◌∷◌, length, Option, Some, None, IfSome, ap, sym, arith, append_assoc}
+use Rattle.std.specs.List.{AllByRecursion}
 use Rattle.rc_text.specs.declared.types.Anchored.{Anchored}
 use Rattle.rc_text.specs.declared.types.Span.{Span}
 use Rattle.rc_text.specs.Found.{Found}
-use Rattle.rc_text.specs.Text.{Searched, Keeps, KeepsText}
+use Rattle.rc_text.specs.Text.{Searched, Keeps}
 use Rattle.rc_program.specs.Program.{Place}
 use Rattle.rc_program.specs.Answer.{Search, answer}
 use Rattle.rc_program.specs.Sought.{search_over}
-use Rattle.rc_program.specs.Matches.{from_on, answer_from, begin_of, end_of, is_again, next_match, unless_again, matches_left, pieces_of}
+use Rattle.rc_program.specs.Matches.{from_on, answer_from, begin_of, end_of, next_match, matches_left, pieces_of}
 use Rattle.rc_program.proofs.AnswerLemmas.{answer_within}
 use Rattle.rc_program.proofs.PieceLemmas.{length-pieces_from}
-use Rattle.rc_program.proofs.MatchLemmas.{IsAfterLast, left_some, left_none}
+use Rattle.rc_program.proofs.MatchLemmas.{IsAfterLast, left_some, left_none, left_within}
 use Rattle.rc_matches.specs.Moved.{IsMoved}
 
 -- the search of a content, from `start` to `end`, with this slice and anchoring
@@ -82,3 +83,15 @@ one_more s k last m at end whole all more step a e w n =
 -- there is one piece more than matches
 pub all_counted : (hi : ℕ) (ms : List Found) → length (pieces_of hi ms) ≡ length ms + 1
 all_counted hi ms = length-pieces_from 0 hi ms
+
+-- each match of the list lies within the bounds
+all_within : (s : Search) (k : ℕ) (ms : List Found) →
+    AllByRecursion (λ (m : Found). (k ≤ m.start) × (s.text.slice_start ≤ m.start) × (m.start ≤ m.end) × (m.end ≤ s.hi)) ms →
+    All (λ (m : Found). (max k s.text.slice_start ≤ m.start) × (m.start ≤ m.end) × (m.end ≤ s.hi)) ms
+all_within s k [] all i d l = absurd (omega (arith, l))
+all_within s k (m ∷ ms) all zero d l = let h = all.0 in (omega (arith, h.0, h.1), h.2, h.3)
+all_within s k (m ∷ ms) all (suc i) d l = all_within s k ms all.1 i d (omega (arith, l))
+
+pub list_within : (s : Search) (k : ℕ) →
+    All (λ (m : Found). (max k s.text.slice_start ≤ m.start) × (m.start ≤ m.end) × (m.end ≤ s.hi)) (matches_left s k None)
+list_within s k = all_within s k (matches_left s k None) (left_within s k None tt)

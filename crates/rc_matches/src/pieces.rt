@@ -1,23 +1,10 @@
 //! The pieces between matches.
 
 ghost use Rattle.std.specs.Prelude.{◌≡◌, ◌≤◌, IfOk, length};
-ghost use Rattle.rc_text.specs.Text.{Keeps, high};
 ghost use Rattle.rc_program.specs.Matches.{pieces_of, pieces_at_most};
 
-use rc_text::cursor::Cursor;
-use rc_text::input::{Input, move_to, position};
 use rc_text::types::{Match, Span};
 use std::alloc::{AllocError, Global};
-
-/// Where a search of the input ends, in bytes.
-pub fn search_end<C: Cursor>(input: &mut Input<C>) -> usize
-    ensures keeps { Keeps input.old input.new }
-    ensures value { result ≡ high input.old }
-{
-    let end = input.end().min(input.get_slice_span().end);
-    move_to(input, end);
-    position(input)
-}
 
 /// The pieces between the matches, from 0 to `end`. An `Err` is want of memory.
 pub fn all_pieces(alloc: Global, found: &[Match], end: usize) -> Result<Vec<Span>, AllocError>

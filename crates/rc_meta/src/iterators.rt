@@ -116,16 +116,16 @@ impl<'r, C: Cursor + Drop> CapturesMatches<'r, C> {
 }
 
 impl<'r, C: Cursor + Drop> Iterator for CapturesMatches<'r, C> {
-    ghost use Rattle.std.specs.Iterator.{YieldsFirst, item_count};
-    ghost use Rattle.rc_meta.specs.Left.{captures_items};
+    ghost use Rattle.std.specs.Iterator.{item_count};
+    ghost use Rattle.rc_meta.specs.Left.{captures_left, GivesCaptures};
 
     type Item = Result<Captures, AllocError>;
 
-    ghost next_gives = { YieldsFirst captures_items };
+    ghost next_gives = { GivesCaptures };
 
-    ghost remaining = { item_count captures_items };
+    ghost remaining = { item_count captures_left };
 
-    /// The next match, with its groups. No item is an `Err`.
+    /// The next match, with its groups. After an `Err`, which is want of memory, no item comes.
     fn next(&mut self) -> Option<Result<Captures, AllocError>> {
         match self.found.next() {
             Some(caps) => Some(Ok(caps)),

@@ -99,12 +99,12 @@ count_in s =
     (cases_Bool (is_anchored s.anchoring))
 
 -- the starts that are tried are those
-start_below : (s : Search) (y : ℕ) → IsStart s y → y < s.lo + start_count s
+pub start_below : (s : Search) (y : ℕ) → IsStart s y → y < s.lo + start_count s
 start_below s y h =
     ⊎_elim (λ t. let e = h.2 t in rw t (omega (arith, h.0, h.1, e))) (λ f. rw f (omega (arith, h.0, h.1)))
     (cases_Bool (is_anchored s.anchoring))
 
-start_from : (s : Search) (y : ℕ) → s.lo ≤ y → y < s.lo + start_count s → IsStart s y
+pub start_from : (s : Search) (y : ℕ) → s.lo ≤ y → y < s.lo + start_count s → IsStart s y
 start_from s y a b =
     ⊎_elim (λ t. let c : y < s.lo + min 1 (s.hi + 1 - s.lo) = rw t at b in (a, omega (arith, c), λ u. omega (arith, c)))
     (λ f. let c : y < s.lo + (s.hi + 1 - s.lo) = rw f at b in (a, omega (arith, c), λ u. absurd (true≢false (sym u ∙ f))))

@@ -12,3 +12,6 @@ pub mod GroupLemmas
 mod Examples
 mod LookExamples
 pub mod EntryLemmas
+pub mod GreatestLemmas
+pub mod KindLemmas
+mod KindExamples

@@ -7,3 +7,5 @@ pub mod Answer
 pub mod Matches
 pub mod Laws
 pub mod Sought
+pub mod Greatest
+pub mod Kinds

@@ -1,5 +1,7 @@
 //! The laws that tie the definitions. Each function does nothing: its contract is the law.
 ghost use Rattle.rc_program.specs.Answer.{AnswerLaw};
+ghost use Rattle.rc_program.specs.Greatest.{GreatestLaw};
+ghost use Rattle.rc_program.specs.Kinds.{KindsLaw};
 ghost use Rattle.rc_program.specs.Laws.{ClosedLaw, EntryLaw, GroupLaw, ProgramLaw};
 ghost use Rattle.rc_program.specs.Matches.{MatchesLaw, PiecesLaw};
 ghost use Rattle.rc_program.specs.Scalars.{ScalarLaw};
@@ -50,4 +52,18 @@ pub fn pieces_are_gaps()
 /// a group has walks over the same spans.
 pub fn groups_can_be_left_out()
     ensures { GroupLaw }
+{}
+
+/// The greatest span, as contracts name it, is the greatest as it is defined: of the spans that allowed walks spell the one with the
+/// greatest end, then the least start, then the least pattern; and nothing exactly where none is spelled. Where no answer is passed
+/// over, that is exactly where there is no answer, and an answer is always a span that is spelled.
+pub fn greatest_spans_are_greatest()
+    ensures { GreatestLaw }
+{}
+
+/// The match of each kind is an answer, with the earliest flag on or off; each answer is a span that is spelled; and an answer is
+/// missing exactly where there is no match. The list of a kind's matches is the one that the definition gives over them: they rise,
+/// lie within the bounds, and are no more than there are positions.
+pub fn kinds_have_answers()
+    ensures { KindsLaw }
 {}

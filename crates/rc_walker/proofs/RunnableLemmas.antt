@@ -1,10 +1,10 @@
 -- Places by hand that an engine may run over.
-use Rattle.std.proofs.Common.{◌≡◌, ◌≢◌, ℕ, zero, suc, ◌+◌, ◌<◌, ◌≤◌, List, [], ◌∷◌, length, map, sym, ap, subst, ◌∙◌, refl, ⊎_elim, arith, slice_index_or, ◌==◌, true≢false, false}
+use Rattle.std.proofs.Common.{◌≡◌, ◌≢◌, ℕ, zero, suc, ◌+◌, ◌<◌, ◌≤◌, List, [], ◌∷◌, length, map, sym, subst, ◌∙◌, refl, ⊎_elim, arith, slice_index_or, ◌==◌, true≢false, false}
 use Rattle.std.specs.List.{All}
 use Rattle.std.proofs.lemmas.Bool.{cases_lt, cases_eq}
 use Rattle.std.proofs.lemmas.List.{length-map, get_or_past}
-use Rattle.rc_program.specs.Program.{Place, choice, accept, place_at}
-use Rattle.rc_program.specs.Laws.{targets, IsClosed}
+use Rattle.rc_program.specs.Program.{Place, choice, accept}
+use Rattle.rc_program.specs.Laws.{targets}
 use Rattle.rc_program.specs.Sought.{IsRunnable}
 use Rattle.rc_thompson.specs.Places.{place_of, places_of}
 use Rattle.rc_thompson.specs.declared.place.Place as code

@@ -1,10 +1,10 @@
 -- What the walks over an input tell of its search.
-use Rattle.std.proofs.Common.{◌≡◌, ℕ, List, [], ◌∷◌, map, Option, Some, None, Bool, not, ◌||◌, sym, ap, ◌∙◌, subst, IsTrue, ◌≤◌}
+use Rattle.std.proofs.Common.{◌≡◌, ℕ, List, [], ◌∷◌, Option, Some, None, Bool, not, ◌||◌, sym, ap, ◌∙◌, subst, IsTrue, ◌≤◌}
 use Rattle.rc_text.specs.Text.{Searched, Keeps, high, is_boundary}
 use Rattle.rc_walks.specs.Walks.{Pair, IsFirstWalk, HasNoWalk}
 use Rattle.rc_program.specs.Text.{Text}
 use Rattle.rc_program.specs.Program.{Place, ways}
-use Rattle.rc_program.specs.Answer.{Search, Chosen, only, IsFirstFrom, HasNoWalkFrom, last_of, is_allowed, chosen, answer, groups, found, slots_of}
+use Rattle.rc_program.specs.Answer.{Search, Chosen, only, last_of, is_allowed, chosen, answer, groups, found, slots_of}
 use Rattle.rc_program.proofs.AnswerLemmas.{chosen_law, chosen_within}
 use Rattle.std.specs.Option.{option_map}
 use Rattle.rc_program.specs.Sought.{anchoring_of, search_over, text_of}

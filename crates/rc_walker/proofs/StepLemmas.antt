@@ -1,5 +1,5 @@
 -- The steps of the walker: what its stack of frames shows.
-use Rattle.std.proofs.Common.{◌≡◌, ℕ, zero, suc, ◌+◌, ◌-◌, ◌*◌, ◌<◌, ◌≤◌, List, [], ◌∷◌, ◌++◌, length, map, drop, reverse, inl, inr, ⊎_elim, sym, subst, ap, ◌∙◌, refl, arith, Bool, true, false, true≢false, IsTrue, Option, Some, None, if◌then◌else◌, slice_get, slice_index_or, nat_eq, ◌&&◌, ◌||◌, ne_eqb, take, add-one, append_assoc}
+use Rattle.std.proofs.Common.{◌≡◌, ℕ, zero, suc, ◌+◌, ◌-◌, ◌*◌, ◌<◌, ◌≤◌, List, [], ◌∷◌, ◌++◌, length, map, drop, reverse, inl, inr, sym, subst, ap, ◌∙◌, refl, arith, Bool, true, false, true≢false, Option, Some, None, if◌then◌else◌, slice_get, slice_index_or, nat_eq, ◌&&◌, ◌||◌, ne_eqb, take, add-one, append_assoc}
 use Rattle.std.proofs.lemmas.List.{reverse-append, length-map, reverse-reverse, map-append, take_more}
 use Rattle.std.proofs.lemmas.Option.{none-some, same_Some, slice_get_within}
 use Rattle.rc_pattern.specs.declared.hir.Look.{Look}

@@ -1,5 +1,5 @@
 -- What an input shows of its text.
-use Rattle.std.proofs.Common.{◌≡◌, ℕ, zero, suc, ◌+◌, ◌-◌, ◌<◌, ◌≤◌, List, [], ◌∷◌, ◌++◌, length, take, drop, map, Option, Some, None, Bool, true, false, inl, inr, sym, ap, ap₂, ◌∙◌, refl, arith, slice_range, slice_get, if◌then◌else◌, length-drop, length-take, min, set}
+use Rattle.std.proofs.Common.{◌≡◌, ℕ, ◌+◌, ◌-◌, ◌<◌, ◌≤◌, List, [], ◌∷◌, ◌++◌, length, take, drop, Some, None, inl, inr, sym, ap, ap₂, ◌∙◌, refl, arith, slice_range, slice_get, length-drop, length-take, min, set}
 use Rattle.std.proofs.lemmas.Bool.{cases_lt}
 use Rattle.std.proofs.lemmas.List.{take_all, take-take, take_more_set}
 use Rattle.std.proofs.lemmas.Option.{none-some, same_Some}
@@ -8,7 +8,7 @@ use Rattle.rc_text.specs.Text.{Searched, Keeps, slice_end, around_bytes_at, arou
 use Rattle.rc_text.proofs.Arounds.{around-before, around-after}
 use Rattle.rc_text.proofs.Ranges.{slice_range-add_one}
 use Rattle.rc_program.proofs.WayLemmas.{scalar_at_short}
-use Rattle.rc_program.specs.Text.{Text, holds}
+use Rattle.rc_program.specs.Text.{holds}
 use Rattle.rc_program.specs.Looks.{side_before, side_after, holds_between}
 use Rattle.rc_program.specs.Sought.{text_of}
 use Rattle.rc_program.specs.Scalars.{scalar_at}

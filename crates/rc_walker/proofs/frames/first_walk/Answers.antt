@@ -1,17 +1,16 @@
-use Rattle.std.proofs.Common.{rules, ◌≡◌, ◌+◌, ◌<◌, ◌≤◌, [], ◌∷◌, ℕ, Bool, true, false, true≢false, List, ◌++◌, length, map, reverse, sym, ap, ◌∙◌, subst, arith, Option, Some, None, IsTrue}
+use Rattle.std.proofs.Common.{rules, ◌≡◌, [], ◌∷◌, true≢false, map, reverse, sym, ap, ◌∙◌, subst, arith, Some, None}
 use Rattle.std.proofs.lemmas.List.{length-map}
 use Rattle.std.proofs.lemmas.Option.{slice_get_within}
-use Rattle.rc_walks.specs.Walks.{Pair, IsIn, IsFirstWalk}
+use Rattle.rc_walks.specs.Walks.{Pair}
 use Rattle.rc_walks.specs.Tries.{is_in}
 use Rattle.rc_walks.proofs.WalkLemmas.{first_stops}
-use Rattle.rc_program.specs.Text.{Text}
 use Rattle.rc_program.specs.Sought.{text_of}
-use Rattle.rc_program.specs.Program.{Place, ways}
+use Rattle.rc_program.specs.Program.{ways}
 use Rattle.rc_program.proofs.WayLemmas.{same_pair, ways_onward, ways_within}
 use Rattle.rc_program.proofs.PlaceLemmas.{ways_closed}
 use Rattle.rc_thompson.specs.Places.{places_of}
 use Rattle.rc_walker.specs.Frames.{pair_of, Ends}
-use Rattle.rc_walker.proofs.StepLemmas.{IsWalking, begins, steps_back, steps_over, steps_on, arrives_on, gives_up, back_falls, over_falls, on_falls, few_ways, in_from_get, seen_on_stack, new_on_stack, on_top, empty_of_length, ends_last, walk_of_frames, fresh_frame, again, same_way, top_walking, rise_lower, later_up_to}
+use Rattle.rc_walker.proofs.StepLemmas.{IsWalking, steps_back, steps_over, steps_on, arrives_on, gives_up, back_falls, over_falls, on_falls, few_ways, in_from_get, seen_on_stack, new_on_stack, on_top, empty_of_length, ends_last, walk_of_frames, fresh_frame, again, same_way, top_walking, rise_lower, later_up_to}
 use Rattle.rc_walker.proofs.frames.first_walk.Goals as goal
 
 pub overflow_add-top : goal.overflow_add-top

@@ -1,4 +1,4 @@
-use Rattle.std.proofs.Common.{◌≡◌, ◌+◌, ◌-◌, ◌*◌, ◌<◌, ◌≤◌, length, reverse, map}
+use Rattle.std.proofs.Common.{reverse}
 use Rattle.rc_text.specs.Text.{Keeps}
 use Rattle.rc_program.specs.Sought.{text_of}
 use Rattle.rc_thompson.specs.Places.{places_of}

@@ -1,6 +1,4 @@
-use Rattle.std.proofs.Common.{◌≡◌, ◌<◌, ◌≤◌, ◌-◌, ◌∷◌, ◌∙◌, sym, ap, map, reverse, take, arith, subst, slice_index_or, ℕ, List, false}
-use Rattle.rc_walks.specs.Tries.{is_in}
-use Rattle.rc_walker.specs.Frames.{AreUpTo, pair_of}
+use Rattle.std.proofs.Common.{◌<◌, ◌-◌, ◌∷◌, reverse, take, arith, slice_index_or}
 use Rattle.rc_walker.specs.declared.frames.Frame.{Frame}
 use Rattle.rc_walker.proofs.StepLemmas.{absent, top_left}
 use Rattle.rc_walker.proofs.frames.is_on.Goals as goal

@@ -1,5 +1,5 @@
-use Rattle.std.proofs.Common.{◌≡◌, ◌<◌, ◌+◌, ◌≤◌, ℕ, arith, length, subst, sym, ◌∙◌}
-use Rattle.rc_walker.proofs.RunnableLemmas.{IsSound, AreSound, one_more_sound, runs, some_of}
+use Rattle.std.proofs.Common.{◌≡◌, arith, length, subst, sym, ◌∙◌}
+use Rattle.rc_walker.proofs.RunnableLemmas.{AreSound, one_more_sound, runs, some_of}
 use Rattle.rc_walker.proofs.tests.is_runnable.Goals as goal
 
 pub returns : goal.returns

@@ -1,7 +1,5 @@
-use Rattle.std.proofs.Common.{◌≡◌, ℕ, ◌-◌, length, List, Some, None, sym, ap, ◌∙◌}
+use Rattle.std.proofs.Common.{◌-◌, length, List, sym, ap, ◌∙◌}
 use Rattle.std.specs.List.{slice_get}
-use Rattle.rc_program.specs.Answer.{last_of}
-use Rattle.rc_walker.specs.Frames.{walk_of}
 use Rattle.rc_walker.proofs.StepLemmas.{last_of_frames}
 use Rattle.rc_walker.specs.declared.frames.Frame.{Frame}
 use Rattle.rc_walker.proofs.walker.end_of.Goals as goal

@@ -1,14 +1,12 @@
-use Rattle.std.proofs.Common.{rules, ◌≡◌, ◌≤◌, ◌<◌, ◌+◌, ◌*◌, ◌∙◌, ℕ, List, sym, ap, ap₂, subst, arith, Some, None, Option, length, map, set, nat_eq}
-use Rattle.std.specs.Option.{option_map}
+use Rattle.std.proofs.Common.{◌≡◌, ◌∙◌, ℕ, ap, ap₂, Some}
 use Rattle.rc_text.specs.Found.{Found}
 use Rattle.rc_walks.specs.Walks.{Pair}
-use Rattle.rc_program.specs.Answer.{answer, chosen, found, last_of, pattern_at, Chosen, slots_of, last_visit, pattern_of}
+use Rattle.rc_program.specs.Answer.{chosen, found, last_of, pattern_at, Chosen, pattern_of}
 use Rattle.rc_program.specs.Program.{place_at}
 use Rattle.rc_program.specs.Sought.{search_over}
 use Rattle.rc_thompson.specs.Places.{places_of}
-use Rattle.rc_walker.specs.Frames.{walk_of}
 use Rattle.rc_walker.specs.Found.{chosen_of}
-use Rattle.rc_walker.proofs.SearchLemmas.{chosen_found, none_found, chosen_groups, chosen_inside}
+use Rattle.rc_walker.proofs.SearchLemmas.{chosen_found, none_found, chosen_inside}
 use Rattle.rc_walker.proofs.walker.find.Goals as goal
 
 pub new-requires : goal.new-requires

@@ -1,12 +1,9 @@
-use Rattle.std.proofs.Common.{rules, ◌≡◌, ℕ, ◌+◌, ◌<◌, ◌≤◌, ◌⊎◌, sym, ◌∙◌, ap, subst, inl, inr, arith, true, false, IsTrue, min, Option, Some, None, if◌then◌else◌, [], ◌∷◌, List, Bool, not}
-use Rattle.rc_text.specs.Text.{Searched, Keeps, is_boundary}
-use Rattle.rc_walks.specs.Walks.{Pair, IsFirstWalk, HasNoWalk}
-use Rattle.rc_program.specs.Text.{Text}
-use Rattle.rc_program.specs.Program.{ways}
-use Rattle.rc_program.specs.Answer.{Search, only, chosen, IsStart, IsPassed, IsFirstFrom, HasNoWalkFrom, is_anchored, last_of, is_allowed}
-use Rattle.rc_program.specs.Sought.{anchoring_of, search_over, text_of}
+use Rattle.std.proofs.Common.{rules, ◌≡◌, ◌+◌, ◌<◌, ◌≤◌, ◌∙◌, ap, inl, inr, arith, true, false, List, not}
+use Rattle.rc_walks.specs.Walks.{Pair}
+use Rattle.rc_program.specs.Answer.{IsFirstFrom}
+use Rattle.rc_program.specs.Sought.{search_over}
 use Rattle.rc_thompson.specs.Places.{places_of}
-use Rattle.rc_walker.specs.Frames.{walk_of, Ends}
+use Rattle.rc_walker.specs.Frames.{walk_of}
 use Rattle.rc_program.proofs.AnswerLemmas.{first_start_chosen, no_start_chosen, start_to_last, start_within_last, one_more_passed, last_start_of}
 use Rattle.rc_walker.proofs.SearchLemmas.{tells, told_allowed}
 use Rattle.rc_walker.proofs.walker.find_walk.Goals as goal
@@ -24,10 +21,10 @@ returns-then-allows-clause-found g c =
     let keeps = c.loop-start.invariant.keeps in
     let only_is = rw c.get_anchored.ensures at c.only_of-only.ensures in
     let told = tells P t over input c.loop-start.input c.high-hi.result start c.only_of-only.result walk c.in_ok-first_walk.field-0 keeps c.high-hi.ensures.value only_is
-        (record { first = c.in_ok-first_walk.ensures.first; none = c.in_ok-first_walk.ensures.none }) in
+    (record { first = c.in_ok-first_walk.ensures.first; none = c.in_ok-first_walk.ensures.none }) in
     let first : IsFirstFrom s start walk = told.first c.if-branch.true in
     let last : c.last_start-start-end.result ≡ last_start_of s =
-        rw (c.is_anchored-is_anchored.ensures, c.get_anchored-2.ensures, c.low-lo.ensures, c.high-hi.ensures.value) at c.last_start-start-end.ensures in
+    rw (c.is_anchored-is_anchored.ensures, c.get_anchored-2.ensures, c.low-lo.ensures, c.high-hi.ensures.value) at c.last_start-start-end.ensures in
     let low : s.lo ≤ start = rw c.low-lo.ensures at c.loop-start.auto.start in
     first_start_chosen s start walk (start_within_last s start low (rw last at c.loop-start-test.true)) first
     (told_allowed P t over input c.first_walk.new.input.content walk true c.allows.result (c.in_ok-first_walk.ensures.keeps.content ∙ keeps.content)
@@ -46,13 +43,16 @@ loop-start-preserved g c =
     let keeps = c.loop-start.invariant.keeps in
     let only_is = rw c.get_anchored.ensures at c.only_of-only.ensures in
     let told = tells P t over input c.loop-start.input c.high-hi.result start c.only_of-only.result walk c.in_ok-first_walk.field-0 keeps c.high-hi.ensures.value only_is
-        (record { first = c.in_ok-first_walk.ensures.first; none = c.in_ok-first_walk.ensures.none }) in
+    (record { first = c.in_ok-first_walk.ensures.first; none = c.in_ok-first_walk.ensures.none }) in
     record {
       keeps = search rules;
       passed = one_more_passed s start c.loop-start.invariant.passed (elim c.if-branch.branch [
-        then-branch+else-allows w ↦ inr (walk, told.first w.if-branch.true,
-            told_allowed P t over input c.first_walk.new.input.content walk false w.allows.result
-            (c.in_ok-first_walk.ensures.keeps.content ∙ keeps.content) w.allows.ensures.value w.if-allows.false)
+        | then-branch+else-allows w ↦ inr (
+          walk,
+          told.first w.if-branch.true,
+          told_allowed P t over input c.first_walk.new.input.content walk false w.allows.result
+              (c.in_ok-first_walk.ensures.keeps.content ∙ keeps.content) w.allows.ensures.value w.if-allows.false,
+        )
         | else-branch w ↦ inl (told.none (ap not w.if-branch.false))
       ]);
     }

@@ -1,7 +1,7 @@
-use Rattle.std.proofs.Common.{◌≡◌, ℕ, ◌+◌, ◌<◌, ◌∙◌, sym, ap, length, map, take, set, arith, Some, None, slice_index_or, List, [], ◌∷◌, ◌++◌, Option}
+use Rattle.std.proofs.Common.{◌≡◌, ◌∙◌, ap, length, map, take, set, Some, slice_index_or, List}
 use Rattle.rc_thompson.specs.Places.{places_of}
 use Rattle.rc_walks.specs.Walks.{Pair}
-use Rattle.rc_walker.specs.Frames.{pair_of, slot_name}
+use Rattle.rc_walker.specs.Frames.{pair_of}
 use Rattle.rc_walker.specs.declared.frames.Frame.{Frame}
 use Rattle.rc_walker.proofs.SlotLemmas.{no_slots, visits, visits_here, visits_none, one_more_frame}
 use Rattle.rc_walker.proofs.walker.note_visits.Goals as goal

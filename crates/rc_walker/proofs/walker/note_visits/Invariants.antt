@@ -1,4 +1,4 @@
-use Rattle.std.proofs.Common.{◌≡◌, ℕ, map, take, length}
+use Rattle.std.proofs.Common.{◌≡◌, map, take, length}
 use Rattle.std.specs.List.{range_with_len}
 use Rattle.rc_program.specs.Answer.{last_visit}
 use Rattle.rc_thompson.specs.Places.{places_of}

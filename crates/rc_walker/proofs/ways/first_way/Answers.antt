@@ -1,4 +1,4 @@
-use Rattle.std.proofs.Common.{◌≡◌, ◌+◌, ◌≤◌, arith, sym, ◌∙◌}
+use Rattle.std.proofs.Common.{arith}
 use Rattle.rc_walker.proofs.TextLemmas.{scalar_within}
 use Rattle.rc_walker.proofs.ways.first_way.Goals as goal
 

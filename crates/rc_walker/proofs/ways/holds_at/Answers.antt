@@ -1,4 +1,4 @@
-use Rattle.std.proofs.Common.{◌≡◌, ◌∙◌, take, drop, arith}
+use Rattle.std.proofs.Common.{◌∙◌}
 use Rattle.rc_walker.proofs.TextLemmas.{holds_around}
 use Rattle.rc_walker.proofs.ways.holds_at.Goals as goal
 

@@ -1,6 +1,4 @@
-use Rattle.std.proofs.Common.{rules, ◌≡◌, ◌<◌, ◌≤◌, ◌+◌, ◌∙◌, ℕ, ap, sym, subst, take, arith, length, slice_range, length-set}
-use Rattle.std.proofs.lemmas.Option.{none-some}
-use Rattle.rc_text.specs.Text.{Keeps}
+use Rattle.std.proofs.Common.{rules, ◌≡◌, ◌+◌, ◌∙◌, ℕ, ap, sym, subst, take, arith, slice_range, length-set}
 use Rattle.rc_text.proofs.Ranges.{past_of_none}
 use Rattle.rc_program.specs.Scalars.{scalar_at}
 use Rattle.rc_walker.proofs.TextLemmas.{reads_more, first_four}

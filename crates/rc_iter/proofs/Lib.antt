@@ -1,0 +1,5 @@
+pub mod Failing
+pub mod Going
+pub mod Halved
+pub mod Lists
+mod Examples

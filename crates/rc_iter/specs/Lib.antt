@@ -1,0 +1,3 @@
+pub mod Finders
+pub mod Searchers
+pub mod Halves

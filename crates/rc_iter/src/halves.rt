@@ -1,0 +1,82 @@
+//! The half matches over a finder, one after another.
+ghost use Rattle.std.specs.Prelude.{◌≡◌};
+ghost use Rattle.rc_iter.specs.Finders.{IsLawfulFinder, offset_of};
+
+use crate::kept::KeptInput;
+use crate::searcher::SearcherOf;
+use rc_text::input::Input;
+use rc_text::types::{HalfMatch, MatchError};
+use std::marker::Model;
+
+/// The half matches over a finder and an `Input<C>`.
+pub type TryHalfMatchesIter<F, C> = TryHalfMatchesOf<F, Input<C>>;
+
+/// The half matches that a finder gives, one after another, as `SearcherOf::try_advance_half` says.
+///
+/// An error of the finder is an item, and nothing comes after it.
+#[derive(Drop)]
+pub struct TryHalfMatchesOf<F, I: KeptInput> {
+    searcher: SearcherOf<I>,
+    finder: F,
+    is_done: bool,
+}
+
+impl<F, I: KeptInput> Model for TryHalfMatchesOf<F, I> {
+    ghost use Rattle.rc_iter.specs.Halves.{HalvesLeft};
+
+    ghost Value = { HalvesLeft };
+
+    ghost view = { λ h. record { searcher = h.searcher; is_done = h.is_done } };
+}
+
+impl<I: KeptInput + Drop> SearcherOf<I> {
+    ghost use Rattle.rc_iter.specs.Halves.{HalvesLaw, going};
+
+    /// The half matches from here on.
+    pub fn into_half_matches_iter<F: FnMut(&mut I) -> Result<Option<HalfMatch>, MatchError>>(
+        self,
+        finder: F,
+    ) -> TryHalfMatchesOf<F, I>
+        requires callable { (state : F) (i : _) → F.pre state i }
+        requires lawful { IsLawfulFinder offset_of offset_of I.searched F.FnMut }
+        ensures left { result ≡ going self }
+        ensures law { HalvesLaw I.searched F.FnMut self }
+    {
+        TryHalfMatchesOf {
+            searcher: self,
+            finder,
+            is_done: false,
+        }
+    }
+}
+
+impl<F: FnMut(&mut I) -> Result<Option<HalfMatch>, MatchError> + Drop, I: KeptInput + Drop> Iterator
+    for TryHalfMatchesOf<F, I> {
+    ghost use Rattle.std.specs.Iterator.{at_most};
+    ghost use Rattle.rc_iter.specs.Halves.{GivesNext, items_at_most};
+
+    type Item = Result<HalfMatch, MatchError>;
+
+    ghost can_next = { λ _. ((state : F) (i : _) → F.pre state i) × IsLawfulFinder offset_of offset_of I.searched F.FnMut };
+
+    ghost next_gives = { GivesNext I.searched F.FnMut };
+
+    ghost remaining = { λ s. at_most (items_at_most s) };
+
+    fn next(&mut self) -> Option<Result<HalfMatch, MatchError>> {
+        if self.is_done {
+            return None;
+        }
+        match self.searcher.try_advance_half(&mut self.finder) {
+            Ok(Some(found)) => Some(Ok(found)),
+            Ok(None) => {
+                self.is_done = true;
+                None
+            }
+            Err(e) => {
+                self.is_done = true;
+                Some(Err(e))
+            }
+        }
+    }
+}

@@ -1,0 +1,8 @@
+//! Iteration over any finder: matches one after another, each search from where the last match ended.
+#![tactic(auto)]
+
+pub mod halves;
+pub mod kept;
+pub mod searcher;
+#[cfg(test)]
+mod tests;

@@ -1,0 +1,152 @@
+//! A searcher: a kept input, whose matches a finder gives one after another.
+ghost use Rattle.std.specs.Prelude.{◌≡◌, ◌+◌, ◌≤◌, IfErr, IfOk, None, Option, option_map};
+ghost use Rattle.rc_text.specs.Found.{Found, HalfFound};
+ghost use Rattle.rc_program.specs.Matches.{begin_of, end_of};
+ghost use Rattle.rc_iter.specs.Finders.{AnswersAs, IsLawfulFinder, MayFail, Task, half_of, offset_of};
+ghost use Rattle.rc_iter.specs.Searchers.{FindsAhead, GoesOn, IsPast, Leaves, Rises, StaysWithin, halves_of, next_by};
+
+use crate::kept::KeptInput;
+use rc_text::input::Input;
+use rc_text::types::{HalfMatch, Match, MatchError};
+use std::marker::Model;
+
+/// A searcher over an `Input<C>`.
+pub type Searcher<C> = SearcherOf<Input<C>>;
+
+/// An input, and where the last match in it ended.
+///
+/// Each call of `advance`, `try_advance` or `try_advance_half` gives the next match that a finder
+/// finds. A finder is called with the kept input. Each of its calls has to leave the input's span,
+/// slice, anchoring and earliest flag, and a match that it answers has to lie from the input's
+/// start to its end, and in the content.
+#[derive(Drop)]
+pub struct SearcherOf<I: KeptInput> {
+    input: I,
+    last: Option<usize>,
+}
+
+impl<I: KeptInput> Model for SearcherOf<I> {
+    ghost use Rattle.rc_iter.specs.Searchers.{Searching};
+
+    ghost Value = { Searching };
+
+    ghost view = { λ s. record { input = I.searched s.input; last = s.last } };
+}
+
+impl<I: KeptInput + Drop> SearcherOf<I> {
+    /// A searcher of the input, with no last match.
+    pub fn new(input: I) -> SearcherOf<I>
+        ensures input { result.input ≡ I.searched input }
+        ensures last { result.last ≡ None }
+    {
+        SearcherOf { input, last: None }
+    }
+
+    /// Lends the kept input. It may be changed: the next search is over what it then is.
+    pub fn input(&mut self) -> &mut I
+        ensures { I.searched result.now ≡ self.old.input }
+    {
+        &mut self.input
+    }
+
+    /// The next match, or an error of the finder, as `try_advance` says.
+    pub fn advance<F: FnMut(&mut I) -> Result<Option<Match>, MatchError>>(
+        &mut self,
+        finder: F,
+    ) -> Result<Option<Match>, MatchError>
+        requires callable { (state : F) (i : _) → F.pre state i }
+        requires lawful { IsLawfulFinder begin_of end_of I.searched F.FnMut }
+        ensures exact { (find : Task → Option Found) → AnswersAs I.searched F.FnMut find
+            → IfOk result (λ o. o ≡ next_by begin_of end_of find self.old) }
+        ensures failed { IfErr result (MayFail I.searched F.FnMut self.old.input) }
+        ensures within { StaysWithin begin_of end_of self.old result }
+        ensures rises { Rises begin_of end_of self.old result }
+        ensures leaves { Leaves begin_of end_of self.old result self.new }
+    {
+        self.try_advance(finder)
+    }
+
+    /// The next match: what the finder answers from where the last match ended, or where that is an
+    /// empty match that ends there too, what it answers from a byte later.
+    ///
+    /// An error is the finder's. After a match the kept input's span begins where the match ends.
+    /// After None and after an error all is as before, save the input's position and chunk.
+    pub fn try_advance<F: FnMut(&mut I) -> Result<Option<Match>, MatchError>>(
+        &mut self,
+        mut finder: F,
+    ) -> Result<Option<Match>, MatchError>
+        requires callable { (state : F) (i : _) → F.pre state i }
+        requires lawful { IsLawfulFinder begin_of end_of I.searched F.FnMut }
+        ensures exact { (find : Task → Option Found) → AnswersAs I.searched F.FnMut find
+            → IfOk result (λ o. o ≡ next_by begin_of end_of find self.old) }
+        ensures failed { IfErr result (MayFail I.searched F.FnMut self.old.input) }
+        ensures within { StaysWithin begin_of end_of self.old result }
+        ensures rises { Rises begin_of end_of self.old result }
+        ensures leaves { Leaves begin_of end_of self.old result self.new }
+    {
+        let start = self.input.span_start();
+        let Some(found) = finder(&mut self.input)? else {
+            return Ok(None);
+        };
+        if !found.is_empty() || self.last != Some(found.end()) {
+            self.go_on(found.end());
+            return Ok(Some(found));
+        }
+        self.input.restart(start + 1);
+        let answer = finder(&mut self.input);
+        self.input.restart(start);
+        let Some(found) = answer? else {
+            return Ok(None);
+        };
+        self.go_on(found.end());
+        Ok(Some(found))
+    }
+
+    /// The pattern and the end of the next match: the half that the finder answers from where the
+    /// last match ended, or where that half ends there too, what it answers from a byte later.
+    ///
+    /// An error is the finder's. After a half the kept input's span begins where it ends. After None
+    /// and after an error all is as before, save the input's position and chunk.
+    pub fn try_advance_half<F: FnMut(&mut I) -> Result<Option<HalfMatch>, MatchError>>(
+        &mut self,
+        mut finder: F,
+    ) -> Result<Option<HalfMatch>, MatchError>
+        requires callable { (state : F) (i : _) → F.pre state i }
+        requires lawful { IsLawfulFinder offset_of offset_of I.searched F.FnMut }
+        ensures exact { (find : Task → Option HalfFound) → AnswersAs I.searched F.FnMut find
+            → IfOk result (λ o. o ≡ next_by offset_of offset_of find self.old) }
+        ensures halves { (find : Task → Option Found) → FindsAhead find
+            → AnswersAs I.searched F.FnMut (halves_of find) → IsPast self.old
+            → IfOk result (λ o. o ≡ option_map half_of (next_by begin_of end_of find self.old)) }
+        ensures failed { IfErr result (MayFail I.searched F.FnMut self.old.input) }
+        ensures within { StaysWithin offset_of offset_of self.old result }
+        ensures rises { Rises offset_of offset_of self.old result }
+        ensures leaves { Leaves offset_of offset_of self.old result self.new }
+    {
+        let from = self.input.span_start();
+        let Some(found) = finder(&mut self.input)? else {
+            return Ok(None);
+        };
+        if self.last != Some(found.offset()) {
+            self.go_on(found.offset());
+            return Ok(Some(found));
+        }
+        self.input.restart(from + 1);
+        let later = finder(&mut self.input);
+        self.input.restart(from);
+        let Some(found) = later? else {
+            return Ok(None);
+        };
+        self.go_on(found.offset());
+        Ok(Some(found))
+    }
+
+    /// Goes on from where a match ends.
+    fn go_on(&mut self, end: usize)
+        requires { end ≤ self.old.input.span.end + 1 }
+        ensures { GoesOn self.old end self.new }
+    {
+        self.input.restart(end);
+        self.last = Some(end);
+    }
+}

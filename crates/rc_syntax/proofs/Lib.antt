@@ -1,0 +1,3 @@
+pub mod PieceLemmas
+pub mod TreeLemmas
+pub mod ReadLemmas

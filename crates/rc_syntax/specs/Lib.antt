@@ -1,0 +1,6 @@
+pub mod Settings
+pub mod Pieces
+pub mod Grammar
+pub mod Machine
+pub mod View
+pub mod Outcome

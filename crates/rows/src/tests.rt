@@ -1,0 +1,9 @@
+//! Worked rows.
+//!
+//! A comment before a row shows its pattern as text.
+
+mod assertions;
+mod groups;
+mod lists;
+mod repetitions;
+mod words;
