@@ -11,6 +11,7 @@ pub mod syntax;
 mod tests;
 pub mod thompson;
 pub mod types;
+pub mod util;
 
 pub use cursor::Cursor;
 pub use input::Input;

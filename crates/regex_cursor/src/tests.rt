@@ -190,12 +190,7 @@ impl Sink for Fixed {
 /// The lines of `ab` in chunks of `abcab`, put into a sink that fails at its call `k`.
 fn run_until(rt: &HostRuntime, k: usize) -> (Result<bool, RunError>, Fixed) {
     let mut out = Fixed::new(k);
-    let result = run(
-        rt.alloc(),
-        "ab",
-        &[&b"a"[..], b"", b"bca", b"b"],
-        &mut out,
-    );
+    let result = run(rt.alloc(), "ab", &[&b"a"[..], b"", b"bca", b"b"], &mut out);
     (result, out)
 }
 
