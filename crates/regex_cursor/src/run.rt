@@ -4,7 +4,7 @@ mod engine;
 mod error;
 mod line;
 mod lines;
-mod literal;
+mod reading;
 mod shell;
 mod writers;
 

@@ -1,3 +1,4 @@
-//! Why a text is not read as a pattern.
+//! The texts of patterns, and why one is not read.
 
 pub use rc_pattern::syntax::Error;
+pub use rc_syntax::{Config, parse};

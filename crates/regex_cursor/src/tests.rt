@@ -32,7 +32,7 @@ fn shown_once(rt: &HostRuntime, words: &[&str], mut input: &[u8]) -> (u8, Vec<u8
 }
 
 #[test]
-fn finds_literals(rt: HostRuntime) {
+fn finds_matches(rt: HostRuntime) {
     for (pattern, chunk, input, status, lines) in [
         ("abcd", "3", "xxabcdx", 0, "2..6\n"),
         ("abcd", "3", "xxabc", 1, ""),
@@ -45,6 +45,8 @@ fn finds_literals(rt: HostRuntime) {
         ("aa", "2", "aaaaa", 0, "0..2\n2..4\n"),
         ("", "1", "é", 0, "0..0\n2..2\n"),
         ("x", "5", "aaaaaaaaaax", 0, "10..11\n"),
+        ("b+", "2", "abbab", 0, "1..3\n4..5\n"),
+        ("a.b", "3", "xa.b", 0, "1..4\n"),
     ] {
         let (found, out, err) = shown(&rt, &[pattern, chunk], input.as_bytes());
         assert_eq!(rt; found, status, "{pattern} on {input}");
@@ -56,7 +58,8 @@ fn finds_literals(rt: HostRuntime) {
 #[test]
 fn refuses_words(rt: HostRuntime) {
     for (words, line) in [
-        (&["a.b", "3"][..], "error parsing pattern 0\n"),
+        (&["*", "3"][..], "error parsing pattern 0\n"),
+        (&["a{2,1}", "3"][..], "error parsing pattern 0\n"),
         (&["(", "4"][..], "error parsing pattern 0\n"),
         (&["a", "0"][..], USAGE),
         (&["a"][..], USAGE),

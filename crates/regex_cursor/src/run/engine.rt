@@ -10,7 +10,7 @@ ghost use Rattle.rc_meta.specs.Left.{find_left};
 ghost use Rattle.regex_cursor.specs.Reading.{IsReadAs};
 
 use super::lines::put_line;
-use super::literal::literal;
+use super::reading::read;
 use crate::run::{RunError, Sink};
 use rc_build::error::BuildError;
 use rc_meta::iterators::FindMatches;
@@ -25,7 +25,7 @@ fn built(alloc: Global, text: &str) -> Result<Regex, BuildError>
     ensures { MatchResult result (λ r. (regex_settings r ≡ unset) × ((p : _) × IsReadAs text.now p × (regex_patterns r ≡ p ∷ [])))
         (IsBuildFault text.now) }
 {
-    let hir = literal(alloc, text)?;
+    let hir = read(alloc, text)?;
     Regex::builder().build_from_hir(alloc, &hir)
 }
 
