@@ -173,10 +173,7 @@ fn builds(rt: HostRuntime) -> Result<(), Fail> {
 
 /// Why one pattern isn't built.
 fn refusal(alloc: Global, builder: &Builder, hir: &Hir) -> Option<BuildError> {
-    match builder.build_from_hir(alloc, hir) {
-        Ok(_) => None,
-        Err(error) => Some(error),
-    }
+    builder.build_from_hir(alloc, hir).err()
 }
 
 #[test]

@@ -14,10 +14,10 @@ use std::test::Fail;
 fn line(alloc: Global, builder: &Builder, patterns: &[&str]) -> Result<String, AllocError>
     requires { length patterns.now ≤ 2147483647 }
 {
-    match builder.build_many(alloc, patterns) {
-        Ok(_) => Ok(String::new(alloc)),
-        Err(error) => Ok(format!(in alloc; "{error}")?),
-    }
+    let Some(error) = builder.build_many(alloc, patterns).err() else {
+        return Ok(String::new(alloc));
+    };
+    Ok(format!(in alloc; "{error}")?)
 }
 
 /// The pattern, the start and the end of the first match in the text.
