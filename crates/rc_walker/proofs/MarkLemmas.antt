@@ -1,5 +1,5 @@
 -- The marks of the places on the stack.
-use Rattle.std.proofs.Common.{◌≡◌, ◌≢◌, ℕ, ◌<◌, ◌≤◌, List, [], ◌∷◌, ◌++◌, reverse, length, map, inl, inr, sym, ap, ap₂, ◌∙◌, subst, refl, arith, Option, Some, None, ⊎_elim, slice_index_or, slice_set, replicate}
+use Rattle.std.proofs.Common.{◌≡◌, ◌≢◌, ℕ, ◌<◌, ◌≤◌, List, [], ◌∷◌, ◌++◌, reverse, length, map, inl, inr, sym, ap, ap₂, ◌∙◌, subst, arith, Option, Some, None, ⊎_elim, slice_index_or, slice_set, replicate}
 use Rattle.std.proofs.lemmas.Bool.{cases_eq, cases_lt}
 use Rattle.std.proofs.lemmas.List.{length-set, length-replicate, get_or_past, get_or-replicate, get_or-set_same, get_or-set_other, set-get_or, set-set}
 use Rattle.std.proofs.lemmas.Option.{none-some, same_Some}
@@ -60,8 +60,7 @@ is_marked n marks (f ∷ fs) low p q h r a i =
 pub enters : (n : ℕ) (marks : List (Option ℕ)) (fs : List Frame) (p q : ℕ) → p < n → IsMarked n marks fs →
     IsMarked n (slice_set marks p (Some q)) (fresh_frame p q (mark_at marks p) ∷ fs)
 enters n marks fs p q l h =
-    let long = marked_length n marks fs h in
-    (
+    let long = marked_length n marks fs h in (
       l,
       get_or-set_same marks p (Some q) None (omega (arith, l, long)),
       subst (λ xs. IsMarked n xs fs) (sym (set-set marks p (Some q) (mark_at marks p) ∙ set-get_or marks p None)) h,

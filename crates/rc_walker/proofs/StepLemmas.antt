@@ -1,15 +1,13 @@
 -- The steps of the walker: what its stack of frames shows.
-use Rattle.std.proofs.Common.{◌≡◌, ℕ, zero, suc, ◌+◌, ◌-◌, ◌*◌, ◌<◌, ◌≤◌, List, [], ◌∷◌, ◌++◌, length, map, drop, reverse, inl, inr, sym, subst, ap, ◌∙◌, refl, arith, Bool, true, false, true≢false, Option, Some, None, if◌then◌else◌, slice_get, slice_index_or, nat_eq, ◌&&◌, ◌||◌, ne_eqb, take, add-one, append_assoc}
-use Rattle.std.proofs.lemmas.List.{reverse-append, length-map, reverse-reverse, map-append, take_more}
+use Rattle.std.proofs.Common.{◌≡◌, ℕ, zero, suc, ◌+◌, ◌-◌, ◌*◌, ◌<◌, ◌≤◌, List, [], ◌∷◌, ◌++◌, length, map, drop, reverse, inl, inr, sym, subst, ap, ◌∙◌, refl, arith, Bool, true, false, Option, Some, None, if◌then◌else◌, slice_get, slice_index_or, add-one, append_assoc}
+use Rattle.std.proofs.lemmas.List.{reverse-append, length-map, reverse-reverse, map-append}
 use Rattle.std.proofs.lemmas.Option.{none-some, same_Some, slice_get_within}
 use Rattle.rc_pattern.specs.declared.hir.Look.{Look}
 use Rattle.rc_pattern.specs.Meaning.{byte_range, char_range}
 use Rattle.rc_text.specs.Text.{Searched, Keeps}
 use Rattle.rc_walks.specs.Walks.{Pair, IsIn, IsFirstWalk, HasNoWalk}
-use Rattle.rc_walks.specs.Tries.{is_in}
 use Rattle.rc_walks.proofs.StackLemmas.{untried, Awaits, unwind, goes_back, skips_way, goes_on, arrives_at, same_ways, no_ways}
 use Rattle.rc_walks.proofs.CountLemmas.{AreApart, AreBelow, length_below, steps_left, falls_back, falls_skipping, falls_on}
-use Rattle.rc_walks.proofs.TryLemmas.{is_in-true, is_in-from}
 use Rattle.rc_program.specs.Answer.{last_of}
 use Rattle.rc_program.specs.Text.{Text, holds, ahead}
 use Rattle.rc_program.specs.Program.{Place, choice, Way, stays, over_byte, over_scalar, reads, in_ranges, place_at, ways, ways_out, pair_at}

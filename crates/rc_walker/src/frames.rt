@@ -89,8 +89,8 @@ fn unwind(stack: &mut Vec<Frame>, marks: &mut [Option<usize>])
     ensures none { stack.new.items ≡ [] }
     ensures marked { IsMarked (length marks.old) marks.new [] }
 {
-    'down: while let Some(top) = stack.pop() {
-        marks[top.place] = top.before;
+    'down: while let Some(frame) = stack.pop() {
+        marks[frame.place] = frame.before;
     }
 }
 

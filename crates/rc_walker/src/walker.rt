@@ -95,7 +95,16 @@ fn find_walk<C: Cursor>(
     let mut frames = Vec::new(alloc);
     let mut marks = vec![in alloc; None; places.len()]?;
     for start in lo..last_start(lo, hi, is_anchored) + 1 {
-        if first_walk(input, &mut frames, &mut marks, places, terminator, only, hi, start)? {
+        if first_walk(
+            input,
+            &mut frames,
+            &mut marks,
+            places,
+            terminator,
+            only,
+            hi,
+            start,
+        )? {
             if allows(input, passes_over, &frames) {
                 return Ok(Some(Walk { start, frames }));
             }
