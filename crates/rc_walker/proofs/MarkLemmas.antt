@@ -4,9 +4,9 @@ use Rattle.std.proofs.lemmas.Bool.{cases_eq, cases_lt}
 use Rattle.std.proofs.lemmas.List.{length-set, length-replicate, get_or_past, get_or-replicate, get_or-set_same, get_or-set_other, set-get_or, set-set}
 use Rattle.std.proofs.lemmas.Option.{none-some, same_Some}
 use Rattle.rc_walks.specs.Walks.{Pair, IsIn}
-use Rattle.rc_walker.specs.Frames.{pair_of, AreUpTo, Rise, IsMarked, fresh_frame}
+use Rattle.rc_walker.specs.Frames.{pair_of, IsMarked, fresh_frame}
 use Rattle.rc_walker.specs.declared.frames.Frame.{Frame}
-use Rattle.rc_walker.proofs.StepLemmas.{on_top, later_up_to}
+use Rattle.rc_walker.proofs.StepLemmas.{AreUpTo, Rise, on_top, later_up_to}
 
 abbrev pub mark_at : List (Option ℕ) → ℕ → Option ℕ
 mark_at marks p = slice_index_or marks p None
@@ -70,13 +70,6 @@ enters n marks fs p q l h =
 pub top_marked : (n : ℕ) (marks : List (Option ℕ)) (items rest : List Frame) (f : Frame) → items ≡ rest ++ f ∷ [] →
     IsMarked n marks (reverse items) → IsMarked n marks (f ∷ reverse rest)
 top_marked n marks items rest f e h = subst (λ fs. IsMarked n marks fs) (on_top items rest f e) h
-
-pub top_within : (n : ℕ) (marks : List (Option ℕ)) (items rest : List Frame) (f : Frame) → items ≡ rest ++ f ∷ [] →
-    IsMarked n marks (reverse items) → f.place < length marks
-top_within n marks items rest f e h =
-    let m = top_marked n marks items rest f e h in
-    let long = marked_length n marks (f ∷ reverse rest) m in
-    omega (arith, long, m.0)
 
 pub own_marked : (n : ℕ) (marks : List (Option ℕ)) (fs : List Frame) → IsMarked n marks fs → IsMarked (length marks) marks fs
 own_marked n marks fs h = subst (λ k. IsMarked k marks fs) (sym (marked_length n marks fs h)) h

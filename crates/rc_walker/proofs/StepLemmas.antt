@@ -18,7 +18,7 @@ use Rattle.rc_thompson.specs.Places.{place_of}
 use Rattle.rc_walker.proofs.TextLemmas.{same_text}
 use Rattle.rc_thompson.specs.declared.place.Place as code
 use Rattle.rc_thompson.specs.declared.place.Place.TheVariants as code_variants
-use Rattle.rc_walker.specs.Frames.{pair_of, Ends, AreUpTo, Rise, fresh_frame}
+use Rattle.rc_walker.specs.Frames.{pair_of, Ends, fresh_frame}
 use Rattle.rc_walker.specs.declared.frames.Frame.{Frame}
 
 drop-get : {X : Type 0} (xs : List X) (k : ℕ) (x : X) → slice_get xs k ≡ Some x → drop k xs ≡ x ∷ drop (suc k) xs
@@ -41,14 +41,20 @@ reverse-push xs x = reverse-append xs (x ∷ [])
 abbrev pub again : Frame → Frame
 again f = record { place = f.place; position = f.position; tried = f.tried + 1; before = f.before }
 
+-- no frame stands past the position
+abbrev pub AreUpTo : ℕ → List Frame → Type 0
+AreUpTo at [] = Unit {0}
+AreUpTo at (f ∷ fs) = (f.position ≤ at) × AreUpTo at fs
+
+-- the frames, the uppermost first, stand from `low` on, and no position falls along the stack
+abbrev pub Rise : ℕ → List Frame → Type 0
+Rise low [] = Unit {0}
+Rise low (f ∷ fs) = (low ≤ f.position) × AreUpTo f.position fs × Rise low fs
+
 -- frames up to a position are up to each later one
 pub later_up_to : (at later : ℕ) (fs : List Frame) → at ≤ later → AreUpTo at fs → AreUpTo later fs
 later_up_to at later [] h a = tt
 later_up_to at later (f ∷ fs) h a = (omega (arith, a.0), later_up_to at later fs h a.1)
-
-pub rise_lower : (low : ℕ) (fs : List Frame) → Rise low fs → Rise 0 fs
-rise_lower low [] r = tt
-rise_lower low (f ∷ fs) r = (omega arith, r.1, rise_lower low fs r.2)
 
 pub in_from_get : (xs : List Pair) (k : ℕ) (n : Pair) → slice_get xs k ≡ Some n → IsIn n xs
 in_from_get [] k n e = absurd (none-some n e)

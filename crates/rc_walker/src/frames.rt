@@ -48,7 +48,7 @@ fn is_match(places: &[Place], place: usize, only: Option<usize>) -> bool
     }
 }
 
-/// The place is marked with the position.
+/// The pair stands on the stack: its place is marked with its position.
 fn is_on(marks: &[Option<usize>], place: usize, position: usize) -> bool
     requires { place < length marks.now }
     ensures on { IsTrue result → slice_index_or marks.now place None ≡ Some position }
