@@ -1,8 +1,8 @@
 //! Rows of many patterns, groups and slots.
 
-use crate::cursors::Recut;
-use crate::patterns::{bytes_in, group, literal, named, or, then, turns};
-use crate::searches::{Asked, finds, groups};
+use crate::tests::cursors::Recut;
+use crate::tests::patterns::{bytes_in, group, literal, named, or, then, turns};
+use crate::tests::searches::{Asked, finds, groups};
 use rc_build::error::BuildError;
 use rc_build::which::WhichCaptures;
 use rc_meta::regex::Regex;

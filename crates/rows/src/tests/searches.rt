@@ -1,6 +1,6 @@
 //! Searches of one text over many cursors, which all have to answer the same.
 
-use crate::cursors::Recut;
+use crate::tests::cursors::Recut;
 use rc_captures::captures::Captures;
 use rc_meta::iterators::FindMatches;
 use rc_meta::regex::Regex;
