@@ -1,3 +1,5 @@
 pub mod PieceLemmas
 pub mod TreeLemmas
 pub mod ReadLemmas
+pub mod SpineLemmas
+pub mod FitLemmas
