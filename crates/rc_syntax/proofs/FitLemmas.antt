@@ -35,7 +35,7 @@ pub record AllFit (c : ℕ) (ps : Parts) : Type 0 where
   pub fine : AllFine (3 * ps.deepest + c) ps.res
   pub within : ps.deepest ≤ 250
 
-fit_with : (c : ℕ) (p : Part) (ps : Parts) → Fit c p → AllFit c ps → AllFit c (with_part p ps)
+pub fit_with : (c : ℕ) (p : Part) (ps : Parts) → Fit c p → AllFit c ps → AllFit c (with_part p ps)
 fit_with c p ps h g =
     let a = h.within in let b = g.within in
     record {
@@ -44,10 +44,10 @@ fit_with c p ps h g =
       within = omega (arith, a, b);
     }
 
-no_fit : (c : ℕ) → AllFit c no_parts
+pub no_fit : (c : ℕ) → AllFit c no_parts
 no_fit c = record { fine = tt; within = omega arith }
 
-with_groups : (p : Part) (ps : Parts) → all_groups (with_part p ps).res ≡ all_groups ps.res ++ groups p.re
+pub with_groups : (p : Part) (ps : Parts) → all_groups (with_part p ps).res ≡ all_groups ps.res ++ groups p.re
 with_groups p ps = all_append ps.res (p.re ∷ []) ∙ ap (λ t. all_groups ps.res ++ t) (append-nil (groups p.re))
 
 module _ (s : Settings) where
@@ -58,13 +58,13 @@ module _ (s : Settings) where
       let e = same_Some (record { re = re; depth = d + 1 }) p same in
       (ap (λ (p : Part). p.re) (sym e), ap (λ (p : Part). p.depth) (sym e), subst (λ (p : Part). p.depth ≤ 250) e (omega (arith, l)))
 
-  deeper_fit : (c k : ℕ) (re : Re) (d : ℕ) (p : Part) → k ≤ c + 3 → Fine (3 * d + k) re → deeper s re d ≡ Some p → Fit c p × (p.re ≡ re)
+  pub deeper_fit : (c k : ℕ) (re : Re) (d : ℕ) (p : Part) → k ≤ c + 3 → Fine (3 * d + k) re → deeper s re d ≡ Some p → Fit c p × (p.re ≡ re)
   deeper_fit c k re d p l h e =
       let (is, deep, within) = deeper_parts re d p e in
       (record { fine = subst (Fine (3 * p.depth + c)) (sym is) (fine_more (3 * d + k) (3 * p.depth + c) re (omega (arith, deep, l)) h); within = within }, is)
 
   -- parts joined by what makes a pattern of patterns
-  join_fit : (c : ℕ) (all : List Re → Re) (ps : Parts) (p : Part) →
+  pub join_fit : (c : ℕ) (all : List Re → Re) (ps : Parts) (p : Part) →
       ((d : ℕ) (res : List Re) → AllFine d res → Fine (d + 1) (all res)) → ((d : ℕ) (res : List Re) → AllFine d res → groups (all res) ≡ all_groups res) →
       AllFit c ps → join s all ps ≡ Some p → Fit (c + 1) p × (groups p.re ≡ all_groups ps.res)
   join_fit c all ps p makes keeps h e = go (nat_le (length ps.res) 1) e
@@ -101,7 +101,7 @@ module _ (s : Settings) where
           let (ordered, same) = guard_parts (nat_le k j) _ b rest in
           at (bounds o.lazy k (Some j)) (le_true k j ordered, g) same
 
-  repeated_fit : (f : Flags) (os : List Operator) (p q : Part) → Fit 1 p → repeated s f os p ≡ Some q → Fit 1 q × (groups q.re ≡ groups p.re)
+  pub repeated_fit : (f : Flags) (os : List Operator) (p q : Part) → Fit 1 p → repeated s f os p ≡ Some q → Fit 1 q × (groups q.re ≡ groups p.re)
   repeated_fit f [] p q h e = let is = same_Some p q e in subst (λ (q : Part). Fit 1 q × (groups q.re ≡ groups p.re)) is (h, refl)
   repeated_fit f (o ∷ os) p q h e =
       let (b, at_b, next) = some_parts (bounds_of o.lazy o.amount) _ q e in
@@ -115,10 +115,10 @@ module _ (s : Settings) where
 
   -- ---- pieces
 
-  abbrev Plain : Re → Type 0
+  abbrev pub Plain : Re → Type 0
   Plain re = HasBounds re × (depth re ≤ 1) × IsSpine front re × (groups re ≡ [])
 
-  plain_fit : (re : Re) → Plain re → Fit 1 (leaf re)
+  pub plain_fit : (re : Re) → Plain re → Fit 1 (leaf re)
   plain_fit re h = record { fine = record { bounded = h.0; shallow = let d = h.1 in omega (arith, d); spine = h.2 }; within = omega arith }
 
   plain_literal : (bs : List ℕ) → Plain (literal_of bs)
@@ -183,7 +183,7 @@ module _ (s : Settings) where
       let (re, is, same) = some_parts o (λ re. Some (leaf re)) p e in
       subst (λ (p : Part). Fit 1 p × (groups p.re ≡ [])) (same_Some (leaf re) p same) (plain_fit re (plain re is), (plain re is).3)
 
-  sense_fit : (f : Flags) (k : sense.Sense) (p : Part) → s.line_terminator < 256 → sense_part s f k ≡ Some p → Fit 1 p × (groups p.re ≡ [])
+  pub sense_fit : (f : Flags) (k : sense.Sense) (p : Part) → s.line_terminator < 256 → sense_part s f k ≡ Some p → Fit 1 p × (groups p.re ≡ [])
   sense_fit f (sense.Character c) p l e = leaf_fit (char_re s f c) p (λ re h. char_plain f c re h) e
   sense_fit f (sense.Byte b) p l e = leaf_fit (byte_re s f b) p (λ re h. byte_plain f b re h) e
   sense_fit f sense.Dot p l e =

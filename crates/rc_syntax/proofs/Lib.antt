@@ -3,3 +3,4 @@ pub mod TreeLemmas
 pub mod ReadLemmas
 pub mod SpineLemmas
 pub mod FitLemmas
+pub mod StandLemmas
