@@ -1,3 +1,6 @@
 pub mod PieceLemmas
 pub mod TreeLemmas
 pub mod ReadLemmas
+pub mod SpineLemmas
+pub mod FitLemmas
+pub mod StandLemmas

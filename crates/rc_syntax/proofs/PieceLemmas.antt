@@ -23,7 +23,7 @@ codes_at_true rs i q h e g = let k = codes_from true rs i q h e g in (code_is tr
 pub codes_at_false : (rs : List CodeRange) (i : ℕ) (q : CodeRange) → i < length rs → q ≡ get_or rs i q → AreCodes false (pairs (drop i rs)) → (q.start < 256) × (q.end < 256)
 codes_at_false rs i q h e g = let k = codes_from false rs i q h e g in (code_is false q.start k.0, code_is false q.end k.1)
 
-letter_small : (c : ℕ) → is_letter c ≡ true → c < 128
+pub letter_small : (c : ℕ) → is_letter c ≡ true → c < 128
 letter_small c h = go (nat_lt c 128) refl
   where
     go : (b : Bool) → nat_lt c 128 ≡ b → c < 128

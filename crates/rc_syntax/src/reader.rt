@@ -9,6 +9,7 @@ ghost use Rattle.rc_syntax.specs.Pieces.{Part};
 ghost use Rattle.rc_syntax.specs.Grammar.{Reads};
 ghost use Rattle.rc_syntax.specs.Machine.{Has, fresh};
 ghost use Rattle.rc_syntax.specs.View.{part};
+ghost use Rattle.rc_syntax.specs.Laws.{WellFormedLaw};
 ghost use Rattle.rc_syntax.specs.Outcome.{OnSyntax, OnFault};
 
 use crate::builder::Work;
@@ -103,5 +104,11 @@ pub fn parse(alloc: Global, text: &str, config: &Config) -> Result<Hir, Error>
 /// No text is read as two patterns.
 pub fn reads_as_one()
     ensures { (s : Settings) (text : Text) (a b : Re) → Reads s text a → Reads s text b → a ≡ b }
+{
+}
+
+/// What is read is well-formed.
+pub fn reads_well_formed()
+    ensures { WellFormedLaw }
 {
 }
