@@ -1,8 +1,9 @@
 //! Reads the text of a pattern.
 
-ghost use Rattle.std.specs.Prelude.{◌≡◌, ℕ, ◌≤◌, ◌+◌, None, [], MatchResult, IfOk, length, chars};
+ghost use Rattle.std.specs.Prelude.{◌≡◌, ℕ, ◌≤◌, ◌<◌, ◌+◌, None, [], MatchResult, IfOk, length, chars};
 ghost use Rattle.rc_pattern.specs.Re.{Re};
 ghost use Rattle.rc_pattern.specs.Meaning.{meaning};
+ghost use Rattle.rc_pattern.specs.WellFormed.{IsWellFormed};
 ghost use Rattle.rc_marks.specs.Text.{Text};
 ghost use Rattle.rc_syntax.specs.Settings.{Settings, settings_of};
 ghost use Rattle.rc_syntax.specs.Pieces.{Part};
@@ -31,7 +32,8 @@ pub enum Fault {
 
 #[tactic(auto, using(crate::proofs::ReadLemmas::same_start, crate::proofs::ReadLemmas::same_step, crate::proofs::ReadLemmas::same_stuck, crate::proofs::ReadLemmas::same_refused, crate::proofs::ReadLemmas::same_end, crate::proofs::ReadLemmas::same_none, rc_marks::proofs::SoundLemmas::lex_shorter))]
 fn read(alloc: Global, chars: &[char], config: Config) -> Result<Nested, Fault>
-    ensures { MatchResult result (λ n. Has (settings_of config) (fresh (settings_of config)) chars.now (part n)) (λ e. OnFault e ((p : Part) → Has (settings_of config) (fresh (settings_of config)) chars.now p → ⊥)) }
+    ensures terminator { (settings_of config).line_terminator < 256 }
+    ensures reads { MatchResult result (λ n. Has (settings_of config) (fresh (settings_of config)) chars.now (part n)) (λ e. OnFault e ((p : Part) → Has (settings_of config) (fresh (settings_of config)) chars.now p → ⊥)) }
 {
     let mut work = Work::new(alloc, config);
     let mut rest = chars;
@@ -78,12 +80,13 @@ fn characters(alloc: Global, text: &str) -> Result<Vec<char>, AllocError>
 
 /// Reads the text of a pattern.
 ///
-/// The answer is the pattern as which the grammar reads the text. `Syntax` comes only where it reads
-/// none, and `Memory` is want of memory.
+/// The answer is the pattern as which the grammar reads the text, and is well-formed. `Syntax` comes
+/// only where the grammar reads none, and `Memory` is want of memory.
 pub fn parse(alloc: Global, text: &str, config: &Config) -> Result<Hir, Error>
-    ensures { MatchResult result
+    ensures reads { MatchResult result
         (λ h. Reads (settings_of config.now) (chars text.now) (meaning h))
         (λ e. OnSyntax e (λ at. (at ≤ length text.now) × ((re : Re) → Reads (settings_of config.now) (chars text.now) re → ⊥))) }
+    ensures well_formed { IfOk result (λ h. IsWellFormed (meaning h)) }
 {
     let Ok(all) = characters(alloc, text) else {
         return Err(Error::Memory);
