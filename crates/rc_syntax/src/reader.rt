@@ -10,7 +10,7 @@ ghost use Rattle.rc_syntax.specs.Pieces.{Part};
 ghost use Rattle.rc_syntax.specs.Grammar.{Reads};
 ghost use Rattle.rc_syntax.specs.Machine.{Has, fresh};
 ghost use Rattle.rc_syntax.specs.View.{part};
-ghost use Rattle.rc_syntax.specs.Laws.{WellFormedLaw};
+ghost use Rattle.rc_syntax.specs.Laws.{OneLaw, WellFormedLaw, PlainLaw};
 ghost use Rattle.rc_syntax.specs.Outcome.{OnSyntax, OnFault};
 
 use crate::builder::Work;
@@ -106,12 +106,18 @@ pub fn parse(alloc: Global, text: &str, config: &Config) -> Result<Hir, Error>
 
 /// No text is read as two patterns.
 pub fn reads_as_one()
-    ensures { (s : Settings) (text : Text) (a b : Re) → Reads s text a → Reads s text b → a ≡ b }
+    ensures { OneLaw }
 {
 }
 
 /// What is read is well-formed.
 pub fn reads_well_formed()
     ensures { WellFormedLaw }
+{
+}
+
+/// Under the default settings a text without special characters is read as its UTF-8 bytes.
+pub fn reads_plain()
+    ensures { PlainLaw }
 {
 }
