@@ -4,3 +4,4 @@ pub mod ReadLemmas
 pub mod SpineLemmas
 pub mod FitLemmas
 pub mod StandLemmas
+pub mod PlainLemmas

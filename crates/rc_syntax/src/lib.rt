@@ -13,4 +13,7 @@ mod reader;
 
 pub use config::Config;
 pub use error::Error;
-pub use reader::{parse, reads_as_one, reads_well_formed};
+pub use reader::{parse, reads_as_one, reads_plain, reads_well_formed};
+
+#[cfg(test)]
+mod tests;
