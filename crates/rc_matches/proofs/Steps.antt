@@ -1,14 +1,14 @@
 -- Searches of an input whose span starts elsewhere.
-use Rattle.std.proofs.Common.{◌≡◌, ◌∙◌, ◌+◌, ◌≤◌, ◌<◌, ◌++◌, ℕ, zero, suc, max, Bool, true, false, All, List, [], ◌∷◌, get_or, length, Option, Some, None, IfSome, ap, sym, refl, arith, append_assoc}
+use Rattle.std.proofs.Common.{◌≡◌, ◌∙◌, ◌+◌, ◌≤◌, ◌<◌, ◌++◌, ℕ, zero, suc, max, Bool, false, All, List, [], ◌∷◌, length, Option, Some, None, IfSome, ap, sym, arith, append_assoc}
 use Rattle.std.specs.List.{AllByRecursion}
 use Rattle.rc_text.specs.declared.types.Anchored.{Anchored}
 use Rattle.rc_text.specs.declared.types.Span.{Span}
 use Rattle.rc_text.specs.Found.{Found}
-use Rattle.rc_text.specs.Text.{Searched, Keeps, KeepsText}
+use Rattle.rc_text.specs.Text.{Searched, Keeps}
 use Rattle.rc_program.specs.Program.{Place}
 use Rattle.rc_program.specs.Answer.{Search, answer}
 use Rattle.rc_program.specs.Sought.{search_over}
-use Rattle.rc_program.specs.Matches.{from_on, answer_from, begin_of, end_of, is_again, next_match, unless_again, matches_left, pieces_of}
+use Rattle.rc_program.specs.Matches.{from_on, answer_from, begin_of, end_of, next_match, matches_left, pieces_of}
 use Rattle.rc_program.proofs.AnswerLemmas.{answer_within}
 use Rattle.rc_program.proofs.PieceLemmas.{length-pieces_from}
 use Rattle.rc_program.proofs.MatchLemmas.{IsAfterLast, left_some, left_none, left_within}

@@ -1,12 +1,12 @@
 -- What captures hold once the slots of a search stand in them.
-use Rattle.std.proofs.Common.{◌≡◌, ◌∙◌, ◌+◌, ◌<◌, ℕ, List, [], ◌∷◌, length, map, Option, Some, None, MatchOption, ap, sym, refl, arith}
+use Rattle.std.proofs.Common.{◌≡◌, ◌∙◌, ◌<◌, ℕ, List, length, map, Option, Some, None, MatchOption, ap, sym, arith}
 use Rattle.std.specs.Prelude.{slice_get}
 use Rattle.std.specs.List.{range_with_len}
 use Rattle.std.specs.Option.{option_map}
 use Rattle.std.proofs.lemmas.Option.{same_Some, none-some, slice_get-get_or}
 use Rattle.std.proofs.lemmas.List.FromFn.{get_or-map-range_with_len, length-map-range_with_len}
 use Rattle.rc_text.specs.Found.{Found}
-use Rattle.rc_captures.specs.Captures.{captures_pattern, captures_slots, HasMatch}
+use Rattle.rc_captures.specs.Captures.{captures_pattern, captures_slots}
 use Rattle.rc_captures.specs.declared.captures.Captures.{Captures}
 use Rattle.rc_program.specs.Answer.{Search, Chosen, chosen, answer, groups, found, slot_of, slots_of}
 use Rattle.rc_matches.specs.Tells.{Tells, TellsOf}

@@ -1,5 +1,4 @@
 -- What an engine searches.
-use Rattle.std.specs.Prelude.{◌≡◌, ℕ, List}
 use Rattle.rc_text.specs.Text.{Searched}
 use Rattle.rc_program.specs.Answer.{Search}
 use Rattle.rc_program.specs.Sought.{search_over}

@@ -1,8 +1,14 @@
 -- What captures hold after a search.
-use Rattle.std.specs.Prelude.{◌≡◌, ℕ, List, [], ◌∷◌, Option, Some, None}
-use Rattle.rc_captures.specs.Captures.{captures_pattern, HasMatch}
+use Rattle.std.specs.Prelude.{◌≡◌, List, [], ◌∷◌, length, Option, Some, None}
+use Rattle.rc_captures.specs.Captures.{captures_names, captures_pattern, captures_slots, HasMatch}
+use Rattle.rc_captures.specs.Names.{Names, slot_len}
 use Rattle.rc_captures.specs.declared.captures.Captures.{Captures}
 use Rattle.rc_program.specs.Answer.{Search, Chosen, chosen, pattern_of, slot_of}
+
+-- The captures are of patterns with these names, and keep all their groups.
+pub record KeepsAll (names : Names) (caps : Captures) : Type 0 where
+  pub named : captures_names caps ≡ names
+  pub sized : length (captures_slots caps) ≡ slot_len names
 
 -- the match that a chosen walk is, with what stands in each of its pattern's slots
 abbrev pub TellsOf : Search → Option Chosen → Captures → Type 0

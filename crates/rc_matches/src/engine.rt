@@ -28,11 +28,10 @@ impl Engine {
     ghost use Rattle.std.specs.Prelude.{◌≡◌, ◌≤◌, All, IfOk, OnOk, OnErr, IfSome, MatchOption, Option, Some, None, length};
     ghost use Rattle.std.specs.Option.{option_map};
     ghost use Rattle.rc_text.specs.Found.{Found};
-    ghost use Rattle.rc_captures.specs.Names.{Names};
     ghost use Rattle.rc_captures.specs.Groups.{names_of};
     ghost use Rattle.rc_matches.specs.Walks.{next_start, walks_left};
-    ghost use Rattle.rc_captures.specs.Captures.{IsCapturesFor, captures_pattern};
-    ghost use Rattle.rc_matches.specs.Tells.{Tells, AllTell};
+    ghost use Rattle.rc_captures.specs.Captures.{captures_names, captures_pattern, captures_slots};
+    ghost use Rattle.rc_matches.specs.Tells.{Tells, AllTell, KeepsAll};
     ghost use Rattle.rc_text.specs.Text.{Keeps, low, high};
     ghost use Rattle.rc_program.specs.Answer.{answer, groups};
     ghost use Rattle.rc_program.specs.Matches.{answer_from, begin_of, end_of, next_match, matches_left};
@@ -143,7 +142,8 @@ impl Engine {
         caps: &mut Captures,
     ) -> Result<(), AllocError>
         ensures keeps { Keeps input.old input.new }
-        ensures made { (names : Names) → IsCapturesFor names caps.old → IsCapturesFor names caps.new }
+        ensures names { captures_names caps.new ≡ captures_names caps.old }
+        ensures long { length (captures_slots caps.new) ≡ length (captures_slots caps.old) }
         ensures refused { OnErr result (captures_pattern caps.new ≡ None) }
         ensures found { OnOk result (Tells (engine_search self.now input.old) caps.new) }
     {
@@ -162,7 +162,7 @@ impl Engine {
         info: &GroupInfo,
     ) -> Result<Vec<Captures>, AllocError>
         ensures moves { IsMoved input.old input.new }
-        ensures made { IfOk result (λ v. All (IsCapturesFor (names_of info.now)) v.items) }
+        ensures made { IfOk result (λ v. All (KeepsAll (names_of info.now)) v.items) }
         ensures told { IfOk result (λ v. AllTell (engine_search self.now input.old)
             (walks_left (engine_search self.now input.old) input.old.span.start None) v.items) }
     {

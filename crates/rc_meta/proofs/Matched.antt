@@ -1,16 +1,16 @@
 -- The match that captures answer is that of the search.
-use Rattle.std.proofs.Common.{◌≡◌, ◌≢◌, ◌∙◌, ℕ, zero, suc, ◌+◌, ◌-◌, ◌*◌, ◌<◌, ◌≤◌, Bool, true, false, All, List, [], ◌∷◌, length, map, Option, Some, None, OnOk, Result, Ok, Err, if◌then◌else◌, nat_eq, ap, sym, refl, arith, eq-eqb}
+use Rattle.std.proofs.Common.{◌≡◌, ◌∙◌, ℕ, zero, suc, ◌+◌, ◌-◌, ◌*◌, All, List, [], ◌∷◌, inl, inr, ⊎_elim, get_or, length, map, Option, Some, None, ap, sym, refl, arith, eq-eqb}
 use Rattle.std.proofs.lemmas.Bool.{ne_eqb}
 use Rattle.std.specs.Option.{option_and_then, option_map}
 use Rattle.rc_pattern.specs.Re.{Re}
 use Rattle.rc_captures.specs.Names.{Names}
-use Rattle.rc_captures.specs.Captures.{IsCapturesFor, HasMatch, captures_pattern, group_span, match_at, match_of}
+use Rattle.rc_captures.specs.Captures.{IsCapturesFor, captures_names, captures_slots, group_span, match_at, match_of}
 use Rattle.rc_captures.specs.declared.captures.Captures.{Captures}
 use Rattle.rc_captures.proofs.CapturesLaws.{match-whole}
-use Rattle.rc_program.specs.Program.{program, shown}
-use Rattle.rc_program.specs.Answer.{Search, Chosen, IsAnswer, chosen, answer, found, last_of, pattern_of, slot_of}
+use Rattle.rc_program.specs.Program.{program}
+use Rattle.rc_program.specs.Answer.{Search, Chosen, chosen, answer, found, last_of, pattern_of, slot_of}
 use Rattle.rc_program.proofs.AnswerLemmas.{chosen_law, chosen_within, chosen_pattern}
-use Rattle.rc_matches.specs.Tells.{Tells, TellsOf, AllTell}
+use Rattle.rc_matches.specs.Tells.{Tells, TellsOf, AllTell, KeepsAll}
 use Rattle.rc_matches.specs.Walks.{walk_start, walk_end, chosen_from, next_start, walks_left}
 use Rattle.rc_matches.proofs.Walked.{next_started, walks_law}
 use Rattle.rc_program.specs.Matches.{from_on, and_on, matches_by, matches_left, next_match}
@@ -60,8 +60,18 @@ walks_told hs s names (suc n) k last xs placed named made told =
     (next_match walk_start walk_end (chosen_from s) k last) xs placed named refl
     (λ c ys. walks_told hs s names n (walk_end c) (Some (walk_end c)) ys placed named) made told
 
+-- captures with as many slots of the same patterns are captures of the patterns
+pub still_for : (names : Names) (old new : Captures) → IsCapturesFor names old → captures_names new ≡ captures_names old →
+    length (captures_slots new) ≡ length (captures_slots old) → IsCapturesFor names new
+still_for names old new made same long =
+    record { named = same ∙ made.named; sized = ⊎_elim (λ e. inl (long ∙ e)) (λ e. inr (long ∙ e)) made.sized }
+
+-- captures that keep all groups are captures of the patterns
+pub keeps_is_for : (names : Names) (caps : Captures) → KeepsAll names caps → IsCapturesFor names caps
+keeps_is_for names caps keeps = record { named = keeps.named; sized = inl keeps.sized }
+
 pub tell_matches : (hs : List Re) (s : Search) (names : Names) (k : ℕ) (last : Option ℕ) (xs : List Captures) → s.places ≡ program hs →
-    length names ≡ length hs → All (IsCapturesFor names) xs → AllTell s (walks_left s k last) xs → map match_of xs ≡ map Some (matches_left s k last)
+    length names ≡ length hs → All (KeepsAll names) xs → AllTell s (walks_left s k last) xs → map match_of xs ≡ map Some (matches_left s k last)
 unfolding walks_left
 tell_matches hs s names k last xs placed named made told =
-    walks_told hs s names (s.hi + 1 - k) k last xs placed named made told ∙ ap (map Some) (walks_law s k last)
+    walks_told hs s names (s.hi + 1 - k) k last xs placed named (λ i d l. keeps_is_for names (get_or xs i d) (made i d l)) told ∙ ap (map Some) (walks_law s k last)

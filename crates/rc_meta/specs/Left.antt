@@ -1,5 +1,5 @@
 -- What the iterators have still to give.
-use Rattle.std.specs.Prelude.{ℕ, List, map, Result, Ok}
+use Rattle.std.specs.Prelude.{◌≡◌, ℕ, List, [], ◌∷◌, Option, Result, MatchOption, MatchResult}
 use Rattle.std.specs.declared.alloc.AllocError.{AllocError}
 use Rattle.std.specs.Vec.Iter.{into_iter_items}
 use Rattle.rc_text.specs.Found.{Found}
@@ -20,16 +20,19 @@ find_left s = into_iter_items s.found
 abbrev pub captures_left : {C : Type 0} → CapturesMatches C → List Captures
 captures_left s = into_iter_items s.found
 
--- the same, as items
-abbrev pub captures_items : {C : Type 0} → CapturesMatches C → List (Result Captures AllocError)
-captures_items s = map Ok (captures_left s)
+-- What `next` gives: the first of the captures that are left, or want of memory, after which none are left; and nothing where none
+-- are left.
+abbrev pub GivesCaptures : {C : Type 0} → CapturesMatches C → Option (Result Captures AllocError) → CapturesMatches C → Type 0
+GivesCaptures s r t = MatchOption r
+    ((captures_left s ≡ []) × (captures_left t ≡ []))
+    (λ item. MatchResult item (λ caps. captures_left s ≡ caps ∷ captures_left t) (λ _. captures_left t ≡ []))
 
 -- the pieces that are left
 abbrev pub split_left : {C : Type 0} → Split C → List Span
 split_left s = into_iter_items s.pieces
 
 abbrev pub limited_left : Limited → List Span
-limited_left s = into_iter_items s.pieces
+limited_left s = into_iter_items s.rest
 
 abbrev pub splitn_left : {C : Type 0} → SplitN C → List Span
 splitn_left s = limited_left s.limited

@@ -2,3 +2,4 @@ pub mod Fits
 pub mod Views
 pub mod Counts
 pub mod Left
+pub mod Laws

@@ -3,4 +3,7 @@
 
 pub mod builder;
 pub mod iterators;
+pub mod laws;
 pub mod regex;
+#[cfg(test)]
+mod tests;

@@ -36,10 +36,10 @@ pub struct Regex {
 
 impl Regex {
     ghost use Rattle.std.specs.Prelude.{◌≡◌, ◌≤◌, ◌<◌, ◌+◌, ◌^◌, ◌↔◌, All, IfOk, IfSome, OnOk, OnErr, IsSome, IsTrue, MatchOption, Some, None, length, map, option_map};
-    ghost use Rattle.rc_captures.specs.Captures.{IsCapturesFor, captures_pattern, match_of};
+    ghost use Rattle.rc_captures.specs.Captures.{IsCapturesFor, captures_pattern, captures_slots, match_of};
     ghost use Rattle.rc_captures.specs.Groups.{names_of};
     ghost use Rattle.rc_captures.specs.Names.{slot_len};
-    ghost use Rattle.rc_matches.specs.Tells.{Tells, AllTell};
+    ghost use Rattle.rc_matches.specs.Tells.{Tells, AllTell, KeepsAll};
     ghost use Rattle.rc_matches.specs.Walks.{walks_left};
     ghost use Rattle.rc_program.specs.Matches.{matches_left, pieces_of, pieces_at_most};
     ghost use Rattle.rc_meta.specs.Left.{captures_left, captures_regex, find_left, find_regex, split_left, splitn_left, splitn_limit};
@@ -92,7 +92,8 @@ impl Regex {
             → IfOk result (λ m. m ≡ answer (search_for (sought self.now) input)) }
         ensures within { IfOk result (λ o. IfSome o (λ m. (low input ≤ m.start) × (m.start ≤ m.end) × (m.end ≤ high input))) }
     {
-        self.find(alloc, input)
+        let found = self.find(alloc, input)?;
+        Ok(found)
     }
 
     /// The pattern and the end of the match that a search of the input finds. An `Err` is want of memory.
@@ -134,7 +135,7 @@ impl Regex {
     pub fn captures_len(&self) -> usize
         ensures { result ≡ length (regex_patterns self.now) + all_groups (regex_patterns self.now) }
     {
-        self.hirs.len() + explicit_groups(&self.hirs)
+        self.pattern_len() + explicit_groups(&self.hirs)
     }
 
     /// How many groups take part in each match, group 0 among them, where that is known to be one number for all patterns. `None`
@@ -175,6 +176,7 @@ impl Regex {
     /// Captures that keep the groups of the patterns. They hold no match. An `Err` is want of memory.
     pub fn create_captures(&self, alloc: Global) -> Result<Captures, AllocError>
         ensures made { IfOk result (IsCapturesFor (regex_names self.now)) }
+        ensures whole { IfOk result (KeepsAll (regex_names self.now)) }
         ensures pattern { IfOk result (λ c. captures_pattern c ≡ None) }
     {
         Captures::all(alloc, &self.info)
@@ -188,6 +190,7 @@ impl Regex {
         input: Input<C>,
     ) -> Result<Captures, AllocError>
         ensures made { IfOk result (IsCapturesFor (regex_names self.now)) }
+        ensures whole { IfOk result (KeepsAll (regex_names self.now)) }
         ensures found { match_kind_of (regex_settings self.now) ≡ LeftmostFirst
             → IfOk result (Tells (search_for (sought self.now) input)) }
         ensures matched { match_kind_of (regex_settings self.now) ≡ LeftmostFirst
@@ -209,6 +212,7 @@ impl Regex {
     ) -> Result<(), AllocError>
         requires made { IsCapturesFor (regex_names self.now) caps.old }
         ensures still_made { IsCapturesFor (regex_names self.now) caps.new }
+        ensures long { length (captures_slots caps.new) ≡ length (captures_slots caps.old) }
         ensures refused { OnErr result (captures_pattern caps.new ≡ None) }
         ensures found { match_kind_of (regex_settings self.now) ≡ LeftmostFirst
             → OnOk result (Tells (search_for (sought self.now) input) caps.new) }
@@ -233,8 +237,8 @@ impl Regex {
             → IfOk result (λ p. p ≡ option_map (λ (m : Found). m.pattern) (answer (search_for (sought self.now) input))) }
         ensures slots { match_kind_of (regex_settings self.now) ≡ LeftmostFirst
             → IfOk result (λ p. MatchOption p
-                (slots.new ≡ slots.old)
-                (λ _. Some slots.new ≡ groups (search_for (sought self.now) input) (length slots.old))) }
+            (slots.new ≡ slots.old)
+            (λ _. Some slots.new ≡ groups (search_for (sought self.now) input) (length slots.old))) }
     {
         self.engine.find_slots(alloc, &mut input, slots)
     }
@@ -268,13 +272,13 @@ impl Regex {
         alloc: Global,
         mut input: Input<C>,
     ) -> Result<CapturesMatches<'r, C>, AllocError>
-        ensures made { IfOk result (λ s. All (IsCapturesFor (regex_names self.now)) (captures_left s)) }
+        ensures made { IfOk result (λ s. All (KeepsAll (regex_names self.now)) (captures_left s)) }
         ensures told { match_kind_of (regex_settings self.now) ≡ LeftmostFirst
             → IfOk result (λ s. AllTell (search_for (sought self.now) input)
-                (walks_left (search_for (sought self.now) input) input.span.start None) (captures_left s)) }
+            (walks_left (search_for (sought self.now) input) input.span.start None) (captures_left s)) }
         ensures matched { match_kind_of (regex_settings self.now) ≡ LeftmostFirst
             → IfOk result (λ s. map match_of (captures_left s)
-                ≡ map Some (matches_left (search_for (sought self.now) input) input.span.start None)) }
+            ≡ map Some (matches_left (search_for (sought self.now) input) input.span.start None)) }
         ensures short { IfOk result (λ s. length (captures_left s) < 2 ^ 64) }
         ensures regex { IfOk result (λ s. captures_regex s ≡ self.now) }
     {
@@ -298,7 +302,7 @@ impl Regex {
     ) -> Result<Split<C>, AllocError>
         ensures left { match_kind_of (regex_settings self.now) ≡ LeftmostFirst
             → IfOk result (λ s. split_left s
-                ≡ pieces_of (high input) (matches_left (search_for (sought self.now) input) input.span.start None)) }
+            ≡ pieces_of (high input) (matches_left (search_for (sought self.now) input) input.span.start None)) }
         ensures short { IfOk result (λ s. length (split_left s) < 2 ^ 64) }
     {
         let found = self.engine.all_matches(alloc, &mut input)?;
@@ -317,13 +321,13 @@ impl Regex {
     ) -> Result<SplitN<C>, AllocError>
         ensures left { match_kind_of (regex_settings self.now) ≡ LeftmostFirst
             → IfOk result (λ s. splitn_left s
-                ≡ pieces_at_most limit (high input) (matches_left (search_for (sought self.now) input) input.span.start None)) }
+            ≡ pieces_at_most limit (high input) (matches_left (search_for (sought self.now) input) input.span.start None)) }
         ensures limit { IfOk result (λ s. splitn_limit s ≡ limit) }
     {
         let found = self.engine.all_matches(alloc, &mut input)?;
         let end = high(&mut input);
-        let pieces = pieces_at_most(alloc, &found, end, limit)?.into_iter();
-        let limited = Limited { pieces, limit };
+        let rest = pieces_at_most(alloc, &found, end, limit)?.into_iter();
+        let limited = Limited { rest, limit };
         Ok(SplitN { input, limited })
     }
 }
@@ -375,13 +379,7 @@ fn common(left: Option<usize>, right: Option<usize>) -> Option<usize>
     ensures { result ≡ common left right }
 {
     match (left, right) {
-        (Some(m), Some(n)) => {
-            if m == n {
-                Some(m)
-            } else {
-                None
-            }
-        }
+        (Some(m), Some(n)) => { if m == n { Some(m) } else { None } }
         (Some(_), None) => None,
         (None, _) => None,
     }

@@ -1,16 +1,16 @@
 -- The kinds of answer, run on worked rows.
-use Rattle.std.proofs.Common.{◌≡◌, ℕ, true, false, List, [], ◌∷◌, length, map, Option, Some, None, refl, codes}
+use Rattle.std.proofs.Common.{◌≡◌, ℕ, false, List, [], ◌∷◌, length, map, Some, None, refl, codes}
 use Rattle.std.specs.Option.{option_map}
 use Rattle.rc_text.specs.Found.{Found}
 use Rattle.rc_text.specs.declared.types.Span.{Span}
 use Rattle.rc_text.specs.declared.types.MatchKind.TheVariants.{All as all_matches, LeftmostFirst as leftmost_first}
 use Rattle.rc_pattern.specs.Re.{Re, empty, literal, repeat}
-use Rattle.rc_pattern.specs.Meaning.{cat_all, alt_all}
+use Rattle.rc_pattern.specs.Meaning.{alt_all}
 use Rattle.rc_program.specs.Program.{program}
 use Rattle.rc_program.specs.Answer.{Search, anywhere, at_start, by_pattern, answer, chosen}
 use Rattle.rc_program.specs.Greatest.{greatest}
 use Rattle.rc_program.specs.Kinds.{answer_by, matches_by_kind}
-use Rattle.rc_program.specs.Matches.{matches_left, pieces_of}
+use Rattle.rc_program.specs.Matches.{pieces_of}
 
 -- the search for these patterns over a content
 abbrev over : List Re → List ℕ → Search

@@ -1,11 +1,11 @@
 -- Each kind of answer, and its list of matches.
-use Rattle.std.proofs.Common.{◌≡◌, ◌↔◌, ℕ, ◌+◌, ◌-◌, ◌≤◌, List, length, Option, Some, None, Bool, true, false, not, ◌&&◌, ◌⊎◌, if◌then◌else◌, IsTrue, ⊎_elim, sym, subst, ap, ◌∙◌, refl, arith}
+use Rattle.std.proofs.Common.{◌≡◌, ◌↔◌, ℕ, ◌+◌, ◌-◌, List, length, Option, Some, None, Bool, false, ⊎_elim, sym, refl, arith}
 use Rattle.std.proofs.lemmas.Bool.{cases_Bool}
 use Rattle.rc_text.specs.Found.{Found}
 use Rattle.rc_text.specs.declared.types.MatchKind.{MatchKind}
 use Rattle.rc_text.specs.declared.types.MatchKind.TheVariants.{All as all_matches, LeftmostFirst as leftmost_first}
 use Rattle.rc_program.specs.Answer.{Search, answer}
-use Rattle.rc_program.specs.Greatest.{IsSpelledIn, greatest}
+use Rattle.rc_program.specs.Greatest.{IsSpelledIn}
 use Rattle.rc_program.specs.Kinds.{answer_by, is_early, IsEarlyAnswer, IsAnswerBy, answer_by_from, matches_by_kind, KindsLaw}
 use Rattle.rc_program.specs.Matches
 use Rattle.rc_program.specs.Matches.{begin_of, end_of, from_on, matches_left}

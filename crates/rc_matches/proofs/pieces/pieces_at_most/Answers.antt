@@ -1,4 +1,4 @@
-use Rattle.std.proofs.Common.{◌≤◌, arith, ap, length, take}
+use Rattle.std.proofs.Common.{arith, ap, length, take}
 use Rattle.std.proofs.lemmas.List.{length-take}
 use Rattle.rc_matches.proofs.Steps.{all_counted}
 use Rattle.rc_matches.proofs.pieces.pieces_at_most.Goals as goal

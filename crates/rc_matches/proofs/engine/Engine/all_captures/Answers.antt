@@ -1,13 +1,13 @@
-use Rattle.std.proofs.Common.{◌≡◌, ◌∙◌, ◌++◌, ◌∷◌, [], All, ap, sym, subst, Some, length, rules}
-use Rattle.std.proofs.lemmas.List.{append-nil}
+use Rattle.std.proofs.Common.{◌∙◌, ◌++◌, ◌∷◌, [], All, ap, sym, subst, None, length, rules}
+use Rattle.std.proofs.lemmas.List.{append-nil, length-replicate}
 use Rattle.std.proofs.lemmas.List.Elements.{All-push}
 use Rattle.rc_text.specs.Found.{Found}
-use Rattle.rc_captures.specs.Captures.{IsCapturesFor}
+use Rattle.rc_captures.specs.Names.{slot_len}
 use Rattle.rc_captures.specs.Groups.{names_of}
 use Rattle.rc_program.specs.Matches.{from_on}
 use Rattle.rc_thompson.specs.Places.{places_of}
 use Rattle.rc_matches.specs.Engine.{engine_search}
-use Rattle.rc_matches.specs.Tells.{AllTell}
+use Rattle.rc_matches.specs.Tells.{AllTell, KeepsAll}
 use Rattle.rc_matches.proofs.Steps.{search_moved, step_some, fewer_left}
 use Rattle.rc_matches.proofs.Walked.{Step, walk_step, last_step, one_more_walk, all_tell_more, tells_there}
 use Rattle.rc_matches.proofs.engine.Engine.all_captures.Goals as goal
@@ -18,7 +18,7 @@ loop-all-smaller g c =
     let s = engine_search e c.args.input.now in
     let moved = search_moved (places_of e.places.items) e.terminator e.passes_over c.args.input.now c.loop-all.input c.loop-all.invariant.moved in
     let step = step_some s (engine_search e c.loop-all.input) c.loop-all.input.span.start c.loop-all.input.span.start c.loop-all.last c.in-Some.found moved
-        c.loop-all.invariant.after (sym c.in-Some.is ∙ c.in_ok-found.ensures.found) in
+    c.loop-all.invariant.after (sym c.in-Some.is ∙ c.in_ok-found.ensures.found) in
     fewer_left s c.loop-all.input.span.start c.loop-all.last c.in-Some.found c.set_start.new.self.span.start c.end-in-Some.result step
     (c.set_start.ensures.start ∙ c.end.ensures.value) c.end-in-Some.ensures.value
 
@@ -33,20 +33,25 @@ loop-all-preserved g c =
     let moved = search_moved (places_of e.places.items) e.terminator e.passes_over c.args.input.now c.loop-all.input c.loop-all.invariant.moved in
     let there = search_moved (places_of e.places.items) e.terminator e.passes_over c.loop-all.input c.next_match.new.input c.in_ok-found.ensures.moves in
     let step : Step s u k c.loop-all.last c.in-Some.found =
-        walk_step s t u k k c.loop-all.last c.in-Some.found x moved there c.in_ok-found.ensures.start c.loop-all.invariant.after (sym c.in-Some.is ∙ c.in_ok-found.ensures.found) in
+    walk_step s t u k k c.loop-all.last c.in-Some.found x moved there c.in_ok-found.ensures.start c.loop-all.invariant.after (sym c.in-Some.is ∙ c.in_ok-found.ensures.found) in
     let end = ap (λ (m : Found). m.end) step.is_found in
     record {
       moved = search rules;
       after = c.set_start.ensures.start ∙ c.end.ensures.value ∙ sym c.end-in-Some.ensures.value;
-      made = subst (All (IsCapturesFor (names_of c.args.info.now))) (sym c.in_ok-push.ensures.items)
-          (All-push (IsCapturesFor (names_of c.args.info.now)) c.loop-all.all.items c.find_captures.new.caps c.loop-all.invariant.made
-          (c.in_ok-find_captures.ensures.made (names_of c.args.info.now) c.in_ok-caps.ensures.made));
-      told = (c.loop-all.invariant.told.0 ++ step.walk ∷ [],
-          one_more_walk s k c.loop-all.last step.walk c.set_start.new.self.span.start c.end-in-Some.result _ c.loop-all.invariant.told.0 step.left
-              (c.set_start.ensures.start ∙ c.end.ensures.value ∙ end) (c.end-in-Some.ensures.value ∙ end) c.loop-all.invariant.told.1,
-          subst (λ xs. AllTell s (c.loop-all.invariant.told.0 ++ step.walk ∷ []) xs) (sym c.in_ok-push.ensures.items)
-          (all_tell_more s c.loop-all.invariant.told.0 c.loop-all.all.items step.walk c.find_captures.new.caps c.loop-all.invariant.told.2
-          (tells_there s u x c.find_captures.new.caps step.walk (there ∙ ap (λ y. from_on y x) moved) step.is_chosen c.in_ok-find_captures.ensures.found)));
+      made = subst (All (KeepsAll (names_of c.args.info.now))) (sym c.in_ok-push.ensures.items)
+          (All-push (KeepsAll (names_of c.args.info.now)) c.loop-all.all.items c.find_captures.new.caps c.loop-all.invariant.made
+          (record {
+            named = c.in_ok-find_captures.ensures.names ∙ c.in_ok-caps.ensures.made.named;
+            sized = c.in_ok-find_captures.ensures.long ∙ ap length c.in_ok-caps.ensures.slots ∙ length-replicate (slot_len (names_of c.args.info.now)) None;
+          }));
+      told = (
+        c.loop-all.invariant.told.0 ++ step.walk ∷ [],
+        one_more_walk s k c.loop-all.last step.walk c.set_start.new.self.span.start c.end-in-Some.result _ c.loop-all.invariant.told.0 step.left
+            (c.set_start.ensures.start ∙ c.end.ensures.value ∙ end) (c.end-in-Some.ensures.value ∙ end) c.loop-all.invariant.told.1,
+        subst (λ xs. AllTell s (c.loop-all.invariant.told.0 ++ step.walk ∷ []) xs) (sym c.in_ok-push.ensures.items)
+            (all_tell_more s c.loop-all.invariant.told.0 c.loop-all.all.items step.walk c.find_captures.new.caps c.loop-all.invariant.told.2
+            (tells_there s u x c.find_captures.new.caps step.walk (there ∙ ap (λ y. from_on y x) moved) step.is_chosen c.in_ok-find_captures.ensures.found)),
+      );
     }
 
 pub returns-clause-told : goal.returns-clause-told

@@ -1,12 +1,11 @@
 use Rattle.std.proofs.Common.{◌≡◌, ◌++◌, List, All, None, length}
 use Rattle.rc_captures.specs.Groups.{names_of}
-use Rattle.rc_captures.specs.Captures.{IsCapturesFor}
 use Rattle.rc_program.specs.Answer.{Chosen}
 use Rattle.rc_program.specs.Matches.{matches_left}
 use Rattle.rc_program.proofs.MatchLemmas.{IsAfterLast}
 use Rattle.rc_matches.specs.Engine.{engine_search}
 use Rattle.rc_matches.specs.Moved.{IsMoved}
-use Rattle.rc_matches.specs.Tells.{AllTell}
+use Rattle.rc_matches.specs.Tells.{AllTell, KeepsAll}
 use Rattle.rc_matches.specs.Walks.{walks_left}
 use Rattle.rc_matches.proofs.engine.Engine.all_captures.Given as goal
 
@@ -14,7 +13,7 @@ abbrev pub invariant-loop-all : goal.invariant-loop-all
 invariant-loop-all g l = record {
   moved : IsMoved l.fn.input l.input;
   after : IsAfterLast l.input.span.start l.last;
-  made : All (IsCapturesFor (names_of l.info)) l.all.items;
+  made : All (KeepsAll (names_of l.info)) l.all.items;
   told : (done : List Chosen) × (walks_left (engine_search l.self l.fn.input) l.fn.input.span.start None
       ≡ done ++ walks_left (engine_search l.self l.fn.input) l.input.span.start l.last) × AllTell (engine_search l.self l.fn.input) done l.all.items;
 }

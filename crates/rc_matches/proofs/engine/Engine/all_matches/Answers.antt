@@ -1,4 +1,4 @@
-use Rattle.std.proofs.Common.{◌≡◌, ◌≤◌, ◌∙◌, ◌++◌, All, ap, subst, sym, Some, rules}
+use Rattle.std.proofs.Common.{◌≤◌, ◌∙◌, ◌++◌, All, ap, subst, sym, rules}
 use Rattle.std.proofs.lemmas.List.{append-nil}
 use Rattle.rc_text.specs.Found.{Found}
 use Rattle.rc_thompson.specs.Places.{places_of}
@@ -12,7 +12,7 @@ loop-all-smaller g c =
     let s = engine_search e c.args.input.now in
     let moved = search_moved (places_of e.places.items) e.terminator e.passes_over c.args.input.now c.loop-all.input c.loop-all.invariant.moved in
     let step = step_some s (engine_search e c.loop-all.input) c.loop-all.input.span.start c.loop-all.input.span.start c.loop-all.last c.in-Some.found moved
-        c.loop-all.invariant.after (sym c.in-Some.is ∙ c.in_ok-found.ensures.found) in
+    c.loop-all.invariant.after (sym c.in-Some.is ∙ c.in_ok-found.ensures.found) in
     fewer_left s c.loop-all.input.span.start c.loop-all.last c.in-Some.found c.set_start.new.self.span.start c.end-in-Some.result step
     (c.set_start.ensures.start ∙ c.end.ensures.value) c.end-in-Some.ensures.value
 
@@ -22,7 +22,7 @@ loop-all-preserved g c =
     let s = engine_search e c.args.input.now in
     let moved = search_moved (places_of e.places.items) e.terminator e.passes_over c.args.input.now c.loop-all.input c.loop-all.invariant.moved in
     let step = step_some s (engine_search e c.loop-all.input) c.loop-all.input.span.start c.loop-all.input.span.start c.loop-all.last c.in-Some.found moved
-        c.loop-all.invariant.after (sym c.in-Some.is ∙ c.in_ok-found.ensures.found) in
+    c.loop-all.invariant.after (sym c.in-Some.is ∙ c.in_ok-found.ensures.found) in
     record {
       moved = search rules;
       after = c.set_start.ensures.start ∙ c.end.ensures.value ∙ sym c.end-in-Some.ensures.value;
@@ -36,7 +36,7 @@ returns-clause-listed g c =
     let s = engine_search e c.args.input.now in
     let moved = search_moved (places_of e.places.items) e.terminator e.passes_over c.args.input.now c.loop-all.input c.loop-all.invariant.moved in
     let none = step_none s (engine_search e c.loop-all.input) c.loop-all.input.span.start c.loop-all.input.span.start c.loop-all.last moved
-        c.loop-all.invariant.after (sym c.in_default.is ∙ c.in_ok-found.ensures.found) in
+    c.loop-all.invariant.after (sym c.in_default.is ∙ c.in_ok-found.ensures.found) in
     sym (append-nil c.loop-all.all.items) ∙ ap (λ x. c.loop-all.all.items ++ x) (sym none) ∙ sym c.loop-all.invariant.listed
 
 pub returns-clause-within : goal.returns-clause-within

@@ -1,4 +1,4 @@
-use Rattle.std.proofs.Common.{IfOk, Result, Ok, Err, Option, IfSome, ◌≡◌, ◌≤◌, ℕ}
+use Rattle.std.proofs.Common.{IfOk, Result, Ok, Err, Option, IfSome, ◌≡◌, ◌≤◌}
 use Rattle.rc_text.specs.Found.{Found}
 use Rattle.rc_thompson.specs.Places.{places_of}
 use Rattle.rc_program.specs.Answer.{Search, answer}

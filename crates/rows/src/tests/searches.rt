@@ -1,8 +1,8 @@
 //! Searches of one text over many cursors, which all have to answer the same.
 
-use crate::cursors::Recut;
+use crate::tests::cursors::Recut;
 use rc_captures::captures::Captures;
-use rc_meta::iterators::FindMatches;
+use rc_meta::iterators::{FindMatches, Split, SplitN};
 use rc_meta::regex::Regex;
 use rc_text::cursor::Cursor;
 use rc_text::input::Input;
@@ -182,11 +182,22 @@ pub fn lists(
     Ok(())
 }
 
-/// The pieces are these.
-fn pieces<I: Iterator<Item = Span>>(rt: &impl Abort, mut pieces: I, want: Pairs) {
-    for (index, (start, end)) in want.iter().enumerate() {
+/// What is left of the pieces is this.
+fn piece_spans<C: Cursor + Drop>(rt: &impl Abort, pieces: Split<C>, want: Pairs) {
+    let mut seen = 0;
+    for piece in pieces {
+        let span = (piece.start, piece.end);
+        assert_eq!(rt; want.get(seen).copied(), Some(span), "piece {seen}");
+        seen += 1;
+    }
+    assert_eq!(rt; seen, want.len());
+}
+
+/// What is left of the pieces that a limit leaves is this.
+fn limited_spans<C: Cursor + Drop>(rt: &impl Abort, mut pieces: SplitN<C>, want: Pairs) {
+    for span in want {
         let piece = pieces.next().map(|s| (s.start, s.end));
-        assert_eq!(rt; piece, Some((*start, *end)), "piece {index}");
+        assert_eq!(rt; piece, Some(*span));
     }
     assert!(rt; pieces.next().is_none());
 }
@@ -200,18 +211,18 @@ pub fn splits(
     asked: Asked,
     want: Pairs,
 ) -> Result<(), AllocError> {
-    pieces(rt, regex.split(alloc, asked.input(text))?, want);
-    pieces(
+    piece_spans(rt, regex.split(alloc, asked.input(text))?, want);
+    piece_spans(
         rt,
         regex.split(alloc, asked.input(Recut::by_bytes(text)))?,
         want,
     );
-    pieces(
+    piece_spans(
         rt,
         regex.split(alloc, asked.input(Recut::in_ring(text)))?,
         want,
     );
-    pieces(
+    piece_spans(
         rt,
         regex.split(alloc, asked.input(Recut::without_total(text)))?,
         want,
@@ -229,18 +240,18 @@ pub fn splits_at_most(
     want: Pairs,
 ) -> Result<(), AllocError> {
     let asked = Asked::all();
-    pieces(rt, regex.splitn(alloc, asked.input(text), limit)?, want);
-    pieces(
+    limited_spans(rt, regex.splitn(alloc, asked.input(text), limit)?, want);
+    limited_spans(
         rt,
         regex.splitn(alloc, asked.input(Recut::by_bytes(text)), limit)?,
         want,
     );
-    pieces(
+    limited_spans(
         rt,
         regex.splitn(alloc, asked.input(Recut::in_ring(text)), limit)?,
         want,
     );
-    pieces(
+    limited_spans(
         rt,
         regex.splitn(alloc, asked.input(Recut::without_total(text)), limit)?,
         want,

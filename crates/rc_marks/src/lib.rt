@@ -1,0 +1,12 @@
+//! The marks of which the text of a pattern is made.
+#![tactic(auto)]
+
+pub mod classes;
+mod escapes;
+mod groups;
+pub mod items;
+pub mod lexer;
+mod lists;
+pub mod refusal;
+mod text;
+pub mod tokens;

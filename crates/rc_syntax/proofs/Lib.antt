@@ -1,0 +1,7 @@
+pub mod PieceLemmas
+pub mod TreeLemmas
+pub mod ReadLemmas
+pub mod SpineLemmas
+pub mod FitLemmas
+pub mod StandLemmas
+pub mod PlainLemmas

@@ -1,0 +1,7 @@
+pub mod Settings
+pub mod Pieces
+pub mod Grammar
+pub mod Machine
+pub mod View
+pub mod Outcome
+pub mod Laws

@@ -1,0 +1,19 @@
+//! The text of a pattern, read as a pattern.
+#![tactic(auto)]
+
+mod builder;
+mod config;
+mod error;
+mod flags;
+mod names;
+
+mod parts;
+mod pieces;
+mod reader;
+
+pub use config::Config;
+pub use error::Error;
+pub use reader::{parse, reads_as_one, reads_plain, reads_well_formed};
+
+#[cfg(test)]
+mod tests;
