@@ -169,12 +169,12 @@ impl Config {
         ensures { result ≡ first_flags (settings_of self.now) }
     {
         Flags {
-            case_insensitive: self.case_insensitive,
-            multi_line: self.multi_line,
-            dot_matches_new_line: self.dot_matches_new_line,
-            crlf: self.crlf,
-            swap_greed: self.swap_greed,
-            unicode: self.unicode,
+            case_insensitive: self.get_case_insensitive(),
+            multi_line: self.get_multi_line(),
+            dot_matches_new_line: self.get_dot_matches_new_line(),
+            crlf: self.get_crlf(),
+            swap_greed: self.get_swap_greed(),
+            unicode: self.get_unicode(),
         }
     }
 
@@ -182,7 +182,7 @@ impl Config {
     pub(crate) fn depth_limit(&self) -> u32
         ensures { result ≡ depth_limit (settings_of self.now) }
     {
-        self.nest_limit.min(250)
+        self.get_nest_limit().min(250)
     }
 }
 
