@@ -1,28 +1,26 @@
 -- What the grammar reads is well-formed.
-use Rattle.std.proofs.Common.{◌≡◌, ◌≢◌, ℕ, zero, suc, ◌+◌, ◌-◌, ◌*◌, ◌<◌, ◌≤◌, max, min, Bool, true, false, not, ◌&&◌, ◌||◌, ◌==◌, nat_lt, nat_le, List, [], ◌∷◌, ◌++◌, Option, Some, None, length, map, refl, ap, sym, subst, ◌∙◌, arith, append_assoc, append-nil, if◌then◌else◌, encode_utf8_all}
-use Rattle.std.proofs.lemmas.Bool.{ltb-true, ltb-false, eqb-true, eqb-false, false_from_ne_true}
-use Rattle.std.proofs.lemmas.Option.{none-some, same_Some}
-use Rattle.std.specs.List.{range_with_len}
-use Rattle.rc_pattern.specs.Re.{Re, Range, empty, literal, byte_in, char_in, look, repeat, capture, cat, alt, none}
-use Rattle.rc_pattern.specs.Meaning.{literal_of, concat_of, alternation_of}
+use Rattle.std.proofs.Common.{◌≡◌, ℕ, ◌+◌, ◌-◌, ◌*◌, ◌<◌, ◌≤◌, max, Bool, true, false, not, ◌&&◌, ◌||◌, ◌==◌, nat_lt, nat_le, List, [], ◌∷◌, ◌++◌, Option, Some, None, length, refl, ap, sym, subst, ◌∙◌, arith, append-nil, if◌then◌else◌, encode_utf8_all}
+use Rattle.std.proofs.lemmas.Bool.{ltb-true, eqb-true, eqb-false, false_from_ne_true}
+use Rattle.std.proofs.lemmas.Option.{same_Some}
+use Rattle.rc_pattern.specs.Re.{Re, Range, byte_in, char_in, look, repeat}
+use Rattle.rc_pattern.specs.Meaning.{literal_of}
 use Rattle.rc_pattern.specs.Dots.{dot_of, char_before, char_after, chars_except, bytes_except}
-use Rattle.rc_pattern.specs.WellFormed.{group_numbers, group_names, group_count, IsNew, AreDistinct, AreAscending, HasBounds, depth, IsWellFormed}
-use Rattle.rc_pattern.specs.declared.hir.dots.Dot.{Dot}
+use Rattle.rc_pattern.specs.WellFormed.{AreAscending, HasBounds, depth}
 use Rattle.rc_pattern.specs.declared.hir.dots.Dot.TheVariants.{AnyChar, AnyByte, AnyCharExcept, AnyByteExcept, AnyCharExceptCRLF, AnyByteExceptCRLF}
-use Rattle.rc_marks.specs.Text.{◌>>=◌, ◌>>◌, same_text, is_letter}
-use Rattle.rc_marks.specs.Classes.{class_of, perl_ranges, list_ranges, has_high, AreCodes}
+use Rattle.rc_marks.specs.Text.{◌>>=◌, ◌>>◌, is_letter}
+use Rattle.rc_marks.specs.Classes.{class_of, perl_ranges, list_ranges, has_high}
 use Rattle.rc_marks.specs.Said as sense
 use Rattle.rc_marks.specs.Said.{Start, Capturing, Named, Flagged}
-use Rattle.rc_marks.specs.Marks.{Operator, Amount, any, some, maybe, exactly, from, between, count, bounds, bounds_of, piece_says, opening_says, flags_of}
+use Rattle.rc_marks.specs.Marks.{Operator, Amount, any, some, maybe, exactly, from, between, count, bounds, bounds_of}
 use Rattle.rc_marks.specs.declared.tokens.Bounds.{Bounds}
 use Rattle.rc_marks.proofs.StepLemmas.{some_parts, guard_parts, and_parts}
-use Rattle.rc_marks.proofs.ClassLemmas.{class_ascending, class_codes, perl_ascending, list_codes, letter_codes, if_elim, le_true}
+use Rattle.rc_marks.proofs.ClassLemmas.{class_ascending, perl_ascending, list_codes, letter_codes, le_true}
 use Rattle.rc_syntax.proofs.PieceLemmas.{letter_small}
-use Rattle.rc_syntax.specs.Settings.{Settings, first_flags}
+use Rattle.rc_syntax.specs.Settings.{Settings}
 use Rattle.rc_syntax.specs.Pieces.{Part, leaf, depth_limit, deeper, set_re, char_re, byte_re, dot_kind, has_dot, look_of, sense_part}
-use Rattle.rc_syntax.specs.Grammar.{Body, ends, bars, sets, piece, group, Parts, no_parts, with_part, Level, begin, add, set_flags, is_named, inside, Tie, tie, tied, join, end_branch, whole, repeated_once, repeated, closed, reads, Reads}
+use Rattle.rc_syntax.specs.Grammar.{Parts, no_parts, with_part, join, repeated_once, repeated}
 use Rattle.rc_syntax.specs.declared.flags.Flags.{Flags}
-use Rattle.rc_syntax.proofs.SpineLemmas.{Numbered, groups, all_groups, all_append, numbers_are, names_are, IsSpine, front, Fine, AllFine, fine_more, all_more, fine_append, concat_fine, concat_groups, alternation_fine, alternation_groups}
+use Rattle.rc_syntax.proofs.SpineLemmas.{groups, all_groups, all_append, IsSpine, front, Fine, AllFine, fine_more, all_more, fine_append}
 
 -- ---- parts
 
@@ -71,8 +69,10 @@ module _ (s : Settings) where
     where
       fine : Fine (3 * ps.deepest + c + 1) (all ps.res)
       fine = makes (3 * ps.deepest + c) ps.res h.fine
+
       same : groups (all ps.res) ≡ all_groups ps.res
       same = keeps (3 * ps.deepest + c) ps.res h.fine
+
       go : (b : Bool) → (if b then Some (record { re = all ps.res; depth = ps.deepest }) else deeper s (all ps.res) ps.deepest) ≡ Some p →
           Fit (c + 1) p × (groups p.re ≡ all_groups ps.res)
       go true g =
@@ -81,7 +81,7 @@ module _ (s : Settings) where
           (record { fine = fine_more (3 * ps.deepest + c + 1) (3 * ps.deepest + (c + 1)) (all ps.res) (omega arith) fine; within = h.within }, same)
       go false g =
           let (fit, is) = deeper_fit (c + 1) (c + 1) (all ps.res) ps.deepest p (omega arith)
-              (fine_more (3 * ps.deepest + c + 1) (3 * ps.deepest + (c + 1)) (all ps.res) (omega arith) fine) g in
+          (fine_more (3 * ps.deepest + c + 1) (3 * ps.deepest + (c + 1)) (all ps.res) (omega arith) fine) g in
           (fit, ap groups is ∙ same)
 
   bounds_ordered : (o : Operator) (b : Bounds) → bounds_of o.lazy o.amount ≡ Some b → (re : Re) → HasBounds re → (greedy : Bool) → HasBounds (repeat b.min b.max greedy re)
@@ -89,6 +89,7 @@ module _ (s : Settings) where
     where
       at : (x : Bounds) → HasBounds (repeat x.min x.max greedy re) → Some x ≡ Some b → HasBounds (repeat b.min b.max greedy re)
       at x y e = subst (λ (x : Bounds). HasBounds (repeat x.min x.max greedy re)) (same_Some x b e) y
+
       go : (a : Amount) → bounds_of o.lazy a ≡ Some b → HasBounds (repeat b.min b.max greedy re)
       go any e = at (bounds o.lazy 0 None) g e
       go some e = at (bounds o.lazy 1 None) g e
@@ -109,7 +110,7 @@ module _ (s : Settings) where
       let deep = h.fine.shallow in
       let greedy : Bool = if b.lazy then f.swap_greed else not f.swap_greed in
       let (fit, is) = deeper_fit 1 2 (repeat b.min b.max greedy p.re) p.depth r (omega arith)
-          (record { bounded = bounds_ordered o b at_b p.re h.fine.bounded greedy; shallow = omega (arith, deep); spine = tt }) at_r in
+      (record { bounded = bounds_ordered o b at_b p.re h.fine.bounded greedy; shallow = omega (arith, deep); spine = tt }) at_r in
       let (last, same) = repeated_fit f os r q fit rest in
       (last, same ∙ ap groups is)
 

@@ -5,3 +5,4 @@ pub mod SpineLemmas
 pub mod FitLemmas
 pub mod StandLemmas
 pub mod PlainLemmas
+mod Examples

@@ -1,10 +1,9 @@
 -- The ends of a class's ranges.
-use Rattle.std.proofs.Common.{◌≡◌, ℕ, zero, suc, ◌+◌, ◌<◌, ◌≤◌, ◌⊎◌, inl, inr, ⊎_elim, Bool, true, false, List, [], ◌∷◌, ◌++◌, Option, Some, None, length, drop, get_or, nat_lt, nat_le, refl, ap, sym, subst, ◌∙◌, arith}
-use Rattle.std.proofs.lemmas.List.{drop_more, drop_all}
+use Rattle.std.proofs.Common.{◌≡◌, ℕ, ◌+◌, ◌<◌, ◌≤◌, ◌⊎◌, Bool, true, false, List, [], ◌∷◌, Some, length, drop, get_or, nat_lt, refl, subst, arith}
 use Rattle.rc_pattern.specs.Re.{Range}
 use Rattle.rc_marks.specs.ClassView.{pair, pairs}
-use Rattle.rc_marks.specs.Text.{is_letter, is_scalar}
-use Rattle.rc_marks.specs.Classes.{AreCodes, is_code, class_of, list_ranges}
+use Rattle.rc_marks.specs.Text.{is_letter}
+use Rattle.rc_marks.specs.Classes.{AreCodes, class_of, list_ranges}
 use Rattle.rc_marks.specs.declared.classes.CodeRange.{CodeRange}
 use Rattle.rc_marks.specs.declared.tokens.Member.{Member}
 use Rattle.rc_marks.proofs.ClassLemmas.{class_codes, list_codes, letter_codes, code_is}

@@ -1,15 +1,14 @@
 -- A text without special characters is read as its bytes.
-use Rattle.std.proofs.Common.{◌≡◌, ℕ, zero, suc, ◌+◌, ◌<◌, ◌≤◌, max, Bool, true, false, not, List, [], ◌∷◌, ◌++◌, Option, Some, None, length, map, refl, ap, sym, subst, ◌∙◌, arith, append_assoc, append-nil, encode_utf8_all, nat_le, if◌then◌else◌}
+use Rattle.std.proofs.Common.{◌≡◌, ℕ, ◌<◌, Bool, true, false, List, [], ◌∷◌, ◌++◌, Some, length, map, refl, ap, sym, ◌∙◌, arith, append_assoc, append-nil, encode_utf8_all, nat_le, if◌then◌else◌}
 use Rattle.std.proofs.lemmas.Str.{encodes-append, length-le-encodes}
 use Rattle.std.specs.List.{flat_map}
-use Rattle.rc_pattern.specs.Re.{Re, empty, literal}
+use Rattle.rc_pattern.specs.Re.{Re, literal}
 use Rattle.rc_pattern.specs.Meaning.{cat_members, joins, joined, cat_of, literal_of, concat_of, alternation_of}
-use Rattle.rc_marks.specs.Text.{Text, ◌>>=◌, ◌>>◌, each}
-use Rattle.rc_marks.specs.Marks.{Mark, stands, character, is_special, piece_says, AreMarks}
+use Rattle.rc_marks.specs.Text.{Text, each}
+use Rattle.rc_marks.specs.Marks.{character, AreMarks}
 use Rattle.rc_marks.proofs.StepLemmas.{and_parts}
-use Rattle.rc_syntax.specs.Settings.{Settings, default_settings, first_flags}
-use Rattle.rc_syntax.specs.Pieces.{Part, leaf, sense_part}
-use Rattle.rc_syntax.specs.Grammar.{Body, ends, piece, marks, Parts, no_parts, with_part, Level, begin, add, join, end_branch, whole, reads, Reads}
+use Rattle.rc_syntax.specs.Settings.{default_settings, first_flags}
+use Rattle.rc_syntax.specs.Grammar.{Body, ends, piece, marks, Level, begin, whole, reads, Reads}
 use Rattle.rc_syntax.specs.Laws.{is_plain}
 
 -- the bytes of one character

@@ -1,19 +1,19 @@
 -- Where the reading of a body stands: its groups are numbered in order, and no name stands twice.
-use Rattle.std.proofs.Common.{◌≡◌, ◌≢◌, ℕ, zero, suc, ◌+◌, ◌*◌, ◌<◌, ◌≤◌, Bool, true, false, not, ◌&&◌, ◌||◌, ◌==◌, List, [], ◌∷◌, ◌++◌, Option, Some, None, length, map, refl, ap, sym, subst, ◌∙◌, arith, append_assoc, append-nil}
+use Rattle.std.proofs.Common.{◌≡◌, ◌≢◌, ℕ, zero, suc, ◌+◌, ◌<◌, Bool, true, false, not, ◌&&◌, ◌||◌, ◌==◌, List, [], ◌∷◌, ◌++◌, Option, Some, None, length, map, refl, ap, sym, subst, ◌∙◌, arith, append_assoc, append-nil}
 use Rattle.std.proofs.lemmas.Option.{none-some, same_Some}
 use Rattle.std.proofs.lemmas.List.FromFn.{length-range_with_len}
 use Rattle.std.specs.List.{range_with_len}
 use Rattle.rc_pattern.specs.Re.{Re, empty, capture}
 use Rattle.rc_pattern.specs.Meaning.{concat_of, alternation_of}
-use Rattle.rc_pattern.specs.WellFormed.{group_numbers, group_names, group_count, IsNew, AreDistinct, IsWellFormed}
-use Rattle.rc_marks.specs.Text.{Text, ◌>>=◌, ◌>>◌, same_text}
+use Rattle.rc_pattern.specs.WellFormed.{group_numbers, IsNew, AreDistinct, IsWellFormed}
+use Rattle.rc_marks.specs.Text.{Text, ◌>>=◌, same_text}
 use Rattle.rc_marks.specs.Said.{Start, Capturing, Named, Flagged}
-use Rattle.rc_marks.specs.Marks.{Operator, piece_says, opening_says, flags_of}
-use Rattle.rc_marks.proofs.StepLemmas.{some_parts, guard_parts, and_parts}
+use Rattle.rc_marks.specs.Marks.{piece_says, opening_says, flags_of}
+use Rattle.rc_marks.proofs.StepLemmas.{some_parts, guard_parts}
 use Rattle.rc_syntax.specs.Settings.{Settings, first_flags}
-use Rattle.rc_syntax.specs.Pieces.{Part, leaf, deeper, sense_part}
+use Rattle.rc_syntax.specs.Pieces.{Part, leaf, sense_part}
 use Rattle.rc_syntax.specs.Grammar.{Body, ends, bars, sets, piece, group, Parts, no_parts, with_part, Level, begin, add, set_flags, is_named, inside, Tie, tie, tied, join, end_branch, whole, repeated, closed, reads, Reads}
-use Rattle.rc_syntax.proofs.SpineLemmas.{Numbered, groups, all_groups, all_append, map-append, numbers_are, names_are, Fine, concat_fine, concat_groups, alternation_fine, alternation_groups}
+use Rattle.rc_syntax.proofs.SpineLemmas.{Numbered, groups, all_groups, map-append, numbers_are, names_are, concat_fine, concat_groups, alternation_fine, alternation_groups}
 use Rattle.rc_syntax.proofs.FitLemmas.{Fit, AllFit, fit_with, no_fit, with_groups, deeper_fit, join_fit, repeated_fit, sense_fit, plain_fit}
 
 -- ---- numbers and names
@@ -158,12 +158,14 @@ module _ (s : Settings) where
       let (fit, gs) = join_fit s 1 concat_of l.items branch concat_fine concat_groups h.items is in
       let next : Level = record l { branches = with_part branch l.branches; items = no_parts } in
       let all : all_groups next.branches.res ≡ held l = with_groups branch l.branches ∙ ap (λ t. all_groups l.branches.res ++ t) gs in
-      subst (λ (m : Level). Stands pre m × (all_groups m.branches.res ≡ held l)) (same_Some next m same)
-      (record {
-        ordered = ordered_as (pre ++ held next) (pre ++ held l) l.groups l.names (ap (λ t. pre ++ t) (append-nil (all_groups next.branches.res) ∙ all)) h.ordered;
-        items = no_fit 1;
-        branches = fit_with 2 branch l.branches fit h.branches;
-      }, all)
+      subst (λ (m : Level). Stands pre m × (all_groups m.branches.res ≡ held l)) (same_Some next m same) (
+        record {
+          ordered = ordered_as (pre ++ held next) (pre ++ held l) l.groups l.names (ap (λ t. pre ++ t) (append-nil (all_groups next.branches.res) ∙ all)) h.ordered;
+          items = no_fit 1;
+          branches = fit_with 2 branch l.branches fit h.branches;
+        },
+        all,
+      )
 
   whole_stands : (pre : List Numbered) (l : Level) (body : Part) → Stands pre l → whole s l ≡ Some body → Fit 3 body × (groups body.re ≡ held l)
   whole_stands pre l body h e =

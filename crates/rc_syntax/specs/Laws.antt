@@ -1,5 +1,5 @@
 -- What holds of all that is read.
-use Rattle.std.specs.Prelude.{◌≡◌, ◌<◌, ℕ, Bool, true, not, List, encode_utf8_all}
+use Rattle.std.specs.Prelude.{◌≡◌, ◌<◌, ℕ, Bool, true, not, encode_utf8_all}
 use Rattle.rc_pattern.specs.Re.{Re}
 use Rattle.rc_pattern.specs.Meaning.{literal_of}
 use Rattle.rc_pattern.specs.WellFormed.{IsWellFormed}

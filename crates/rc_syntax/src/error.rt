@@ -21,6 +21,7 @@ pub enum Error {
 
 impl From<AllocError> for Error {
     ghost use Rattle.rc_syntax.specs.declared.error.Error.TheVariants.{Memory};
+
     ghost from_gives = { λ _ e. e ≡ Memory };
 
     fn from(_: AllocError) -> Error {

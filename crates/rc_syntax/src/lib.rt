@@ -6,7 +6,6 @@ mod config;
 mod error;
 mod flags;
 mod names;
-
 mod parts;
 mod pieces;
 mod reader;

@@ -107,17 +107,14 @@ pub fn parse(alloc: Global, text: &str, config: &Config) -> Result<Hir, Error>
 /// No text is read as two patterns.
 pub fn reads_as_one()
     ensures { OneLaw }
-{
-}
+{}
 
 /// What is read is well-formed.
 pub fn reads_well_formed()
     ensures { WellFormedLaw }
-{
-}
+{}
 
 /// Under the default settings a text without special characters is read as its UTF-8 bytes.
 pub fn reads_plain()
     ensures { PlainLaw }
-{
-}
+{}

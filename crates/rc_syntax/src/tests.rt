@@ -79,7 +79,13 @@ fn show_class(text: &mut String, class: &Class) -> Result<(), AllocError> {
 }
 
 /// The text is read as the pattern that is shown so.
-fn is_read(rt: &impl Abort, alloc: Global, config: &Config, text: &str, want: &str) -> Result<(), Fail> {
+fn is_read(
+    rt: &impl Abort,
+    alloc: Global,
+    config: &Config,
+    text: &str,
+    want: &str,
+) -> Result<(), Fail> {
     match parse(alloc, text, config) {
         Ok(hir) => {
             let mut shown = String::new(alloc);
@@ -103,7 +109,12 @@ fn is_refused(rt: &impl Abort, alloc: Global, config: &Config, text: &str) -> Re
     }
 }
 
-fn all_read(rt: &impl Abort, alloc: Global, config: &Config, rows: &[(&str, &str)]) -> Result<(), Fail> {
+fn all_read(
+    rt: &impl Abort,
+    alloc: Global,
+    config: &Config,
+    rows: &[(&str, &str)],
+) -> Result<(), Fail> {
     for row in rows {
         is_read(rt, alloc, config, row.0, row.1)?;
     }
@@ -157,12 +168,24 @@ fn assertions(rt: HostRuntime) -> Result<(), Fail> {
         (r"\A\z", r"concat(Start;End;)"),
         (r"\b\B", r"concat(WordUnicode;WordUnicodeNegate;)"),
         (r"\<\>", r"concat(WordStartUnicode;WordEndUnicode;)"),
-        (r"\b{start}\b{end}", r"concat(WordStartUnicode;WordEndUnicode;)"),
-        (r"\b{start-half}\b{end-half}", r"concat(WordStartHalfUnicode;WordEndHalfUnicode;)"),
+        (
+            r"\b{start}\b{end}",
+            r"concat(WordStartUnicode;WordEndUnicode;)",
+        ),
+        (
+            r"\b{start-half}\b{end-half}",
+            r"concat(WordStartHalfUnicode;WordEndHalfUnicode;)",
+        ),
         (r"\b{2}", r"repeat 2 Some(2) true WordUnicode"),
         (r"(?-u)\b", r"WordAscii"),
-        (r"(?-u:\B\<\>)", r"concat(WordAsciiNegate;WordStartAscii;WordEndAscii;)"),
-        (r"(?-u)\b{start-half}\b{end-half}", r"concat(WordStartHalfAscii;WordEndHalfAscii;)"),
+        (
+            r"(?-u:\B\<\>)",
+            r"concat(WordAsciiNegate;WordStartAscii;WordEndAscii;)",
+        ),
+        (
+            r"(?-u)\b{start-half}\b{end-half}",
+            r"concat(WordStartHalfAscii;WordEndHalfAscii;)",
+        ),
     ];
     all_read(&rt, rt.alloc(), &config, &rows)
 }
@@ -184,7 +207,10 @@ fn repetitions(rt: HostRuntime) -> Result<(), Fail> {
         (r"(?U)a*", r"repeat 0 None false bytes 61"),
         (r"(?U)a*?", r"repeat 0 None true bytes 61"),
         (r"a**", r"repeat 0 None true repeat 0 None true bytes 61"),
-        (r"a{4294967295}", r"repeat 4294967295 Some(4294967295) true bytes 61"),
+        (
+            r"a{4294967295}",
+            r"repeat 4294967295 Some(4294967295) true bytes 61",
+        ),
         (r"ab*", r"concat(bytes 61;repeat 0 None true bytes 62;)"),
     ];
     all_read(&rt, rt.alloc(), &config, &rows)
@@ -196,7 +222,10 @@ fn groups(rt: HostRuntime) -> Result<(), Fail> {
     let config = Config::new();
     let rows = [
         (r"(a)", r"group 1 bytes 61"),
-        (r"(a(b))(c)", r"concat(group 1 concat(bytes 61;group 2 bytes 62;);group 3 bytes 63;)"),
+        (
+            r"(a(b))(c)",
+            r"concat(group 1 concat(bytes 61;group 2 bytes 62;);group 3 bytes 63;)",
+        ),
         (r"(?P<n>a)", r"group 1 n bytes 61"),
         (r"(?<n.1[0]>a)", r"group 1 n.1[0] bytes 61"),
         (r"(?:a)b", r"bytes 61 62"),
@@ -206,7 +235,10 @@ fn groups(rt: HostRuntime) -> Result<(), Fail> {
         (r"a|b", r"alternation(bytes 61;bytes 62;)"),
         (r"|", r"alternation(empty;empty;)"),
         (r"a|(?:b|c)", r"alternation(bytes 61;bytes 62;bytes 63;)"),
-        (r"((?i)a|b)c", r"concat(group 1 alternation(chars 41-41 61-61;chars 42-42 62-62;);bytes 63;)"),
+        (
+            r"((?i)a|b)c",
+            r"concat(group 1 alternation(chars 41-41 61-61;chars 42-42 62-62;);bytes 63;)",
+        ),
     ];
     all_read(&rt, rt.alloc(), &config, &rows)
 }
@@ -368,10 +400,7 @@ fn no_bytes(rt: HostRuntime) -> Result<(), Fail> {
 #[test]
 fn no_characters(rt: HostRuntime) -> Result<(), Fail> {
     let config = Config::new().utf8(false).unicode(false);
-    let rows = [
-        r"[é]",
-        r"[a-é]",
-    ];
+    let rows = [r"[é]", r"[a-é]"];
     all_refused(&rt, rt.alloc(), &config, &rows)
 }
 
@@ -379,10 +408,7 @@ fn no_characters(rt: HostRuntime) -> Result<(), Fail> {
 #[test]
 fn no_dot(rt: HostRuntime) -> Result<(), Fail> {
     let config = Config::new().line_terminator(200);
-    let rows = [
-        r".",
-        r"a.",
-    ];
+    let rows = [r".", r"a."];
     all_refused(&rt, rt.alloc(), &config, &rows)
 }
 
@@ -390,14 +416,59 @@ fn no_dot(rt: HostRuntime) -> Result<(), Fail> {
 #[test]
 fn settings(rt: HostRuntime) -> Result<(), Fail> {
     let alloc = rt.alloc();
-    is_read(&rt, alloc, &Config::new().case_insensitive(true), "k", "chars 4b-4b 6b-6b")?;
+    is_read(
+        &rt,
+        alloc,
+        &Config::new().case_insensitive(true),
+        "k",
+        "chars 4b-4b 6b-6b",
+    )?;
     is_read(&rt, alloc, &Config::new().multi_line(true), "^", "StartLF")?;
-    is_read(&rt, alloc, &Config::new().multi_line(true).crlf(true), "$", "EndCRLF")?;
-    is_read(&rt, alloc, &Config::new().dot_matches_new_line(true), ".", "chars 0-10ffff")?;
-    is_read(&rt, alloc, &Config::new().swap_greed(true), "a+", "repeat 1 None false bytes 61")?;
-    is_read(&rt, alloc, &Config::new().line_terminator(0), ".", "chars 1-10ffff")?;
-    is_read(&rt, alloc, &Config::new().line_terminator(200).unicode(false).utf8(false), ".", "bytes of 0-c7 c9-ff")?;
-    is_read(&rt, alloc, &Config::new().unicode(false), r"\b", "WordAscii")
+    is_read(
+        &rt,
+        alloc,
+        &Config::new().multi_line(true).crlf(true),
+        "$",
+        "EndCRLF",
+    )?;
+    is_read(
+        &rt,
+        alloc,
+        &Config::new().dot_matches_new_line(true),
+        ".",
+        "chars 0-10ffff",
+    )?;
+    is_read(
+        &rt,
+        alloc,
+        &Config::new().swap_greed(true),
+        "a+",
+        "repeat 1 None false bytes 61",
+    )?;
+    is_read(
+        &rt,
+        alloc,
+        &Config::new().line_terminator(0),
+        ".",
+        "chars 1-10ffff",
+    )?;
+    is_read(
+        &rt,
+        alloc,
+        &Config::new()
+            .line_terminator(200)
+            .unicode(false)
+            .utf8(false),
+        ".",
+        "bytes of 0-c7 c9-ff",
+    )?;
+    is_read(
+        &rt,
+        alloc,
+        &Config::new().unicode(false),
+        r"\b",
+        "WordAscii",
+    )
 }
 
 /// Each getter answers what was set.
@@ -419,7 +490,12 @@ fn depth(rt: HostRuntime) -> Result<(), Fail> {
     let alloc = rt.alloc();
     let flat = Config::new().nest_limit(0);
     is_read(&rt, alloc, &flat, "a", "bytes 61")?;
-    all_refused(&rt, alloc, &flat, &["ab", "a*", "(a)", "a|b", "[a]", "(?i)a", "(?:a)"])?;
+    all_refused(
+        &rt,
+        alloc,
+        &flat,
+        &["ab", "a*", "(a)", "a|b", "[a]", "(?i)a", "(?:a)"],
+    )?;
     let one = Config::new().nest_limit(1);
     is_read(&rt, alloc, &one, "ab", "bytes 61 62")?;
     is_read(&rt, alloc, &one, "[a]", "chars 61-61")?;
@@ -445,9 +521,18 @@ fn greatest_depth(rt: HostRuntime) -> Result<(), Fail> {
 fn places(rt: HostRuntime) -> Result<(), Fail> {
     let alloc = rt.alloc();
     let config = Config::new();
-    assert_eq!(&rt; parse(alloc, "é)", &config).err(), Some(Error::Syntax { at: 2 }));
-    assert_eq!(&rt; parse(alloc, "(a", &config).err(), Some(Error::Syntax { at: 2 }));
-    assert_eq!(&rt; parse(alloc, "*", &config).err(), Some(Error::Syntax { at: 0 }));
+    assert_eq!(&rt;
+        parse(alloc, "é)", &config).err(),
+        Some(Error::Syntax { at: 2 })
+    );
+    assert_eq!(&rt;
+        parse(alloc, "(a", &config).err(),
+        Some(Error::Syntax { at: 2 })
+    );
+    assert_eq!(&rt;
+        parse(alloc, "*", &config).err(),
+        Some(Error::Syntax { at: 0 })
+    );
     Ok(())
 }
 
@@ -457,6 +542,9 @@ fn errors(rt: HostRuntime) -> Result<(), Fail> {
     let alloc = rt.alloc();
     let mut text = String::new(alloc);
     write!(text, "{}, {}", Error::Syntax { at: 3 }, Error::Memory)?;
-    assert_eq!(&rt; text.as_str(), "no pattern: the fault was found at byte 3, out of memory");
+    assert_eq!(&rt;
+        text.as_str(),
+        "no pattern: the fault was found at byte 3, out of memory"
+    );
     Ok(())
 }

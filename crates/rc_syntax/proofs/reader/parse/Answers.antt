@@ -1,4 +1,4 @@
-use Rattle.std.proofs.Common.{◌≡◌, ◌∙◌, chars, subst, length, List, ℕ}
+use Rattle.std.proofs.Common.{◌≡◌, ◌∙◌, chars, subst, ℕ}
 use Rattle.rc_syntax.specs.Settings.{settings_of}
 use Rattle.rc_syntax.specs.Pieces.{Part}
 use Rattle.rc_syntax.specs.Machine.{Has, fresh}
@@ -26,8 +26,11 @@ returns-in-Ok-read-clause-well_formed c = well_formed (settings_of c.args.config
     (c.deref.ensures.value ∙ c.in-Ok.ensures) c.in-Ok-read.ensures.reads))
 
 pub returns-clause-reads : goal.returns-clause-reads
-returns-clause-reads c = (c.byte_before-at.ensures, nothing_read (settings_of c.args.config.now) (chars c.args.text.now)
-    (subst (λ t. (p : Part) → Has (settings_of c.args.config.now) (fresh (settings_of c.args.config.now)) t p → ⊥)
-    (c.deref.ensures.value ∙ c.in-Ok.ensures)
-    (of_fault c.in-Err-Syntax.field-0 c.in-Err-Syntax.left ((p : Part) → Has (settings_of c.args.config.now) (fresh (settings_of c.args.config.now)) c.deref.result.now p → ⊥)
-    c.in-Err-Syntax.field-0-is c.in-Err-Syntax.ensures.reads)))
+returns-clause-reads c = (
+  c.byte_before-at.ensures,
+  nothing_read (settings_of c.args.config.now) (chars c.args.text.now)
+      (subst (λ t. (p : Part) → Has (settings_of c.args.config.now) (fresh (settings_of c.args.config.now)) t p → ⊥)
+      (c.deref.ensures.value ∙ c.in-Ok.ensures)
+      (of_fault c.in-Err-Syntax.field-0 c.in-Err-Syntax.left ((p : Part) → Has (settings_of c.args.config.now) (fresh (settings_of c.args.config.now)) c.deref.result.now p → ⊥)
+      c.in-Err-Syntax.field-0-is c.in-Err-Syntax.ensures.reads)),
+)

@@ -1,4 +1,4 @@
-use Rattle.std.proofs.Common.{◌≡◌, ◌==◌, ◌<◌, ◌≤◌, ◌+◌, ℕ, ◌⊎◌, ⊎_elim, length, None, Some, [], arith, sym, ◌∙◌, ap, subst, true, false, Bool}
+use Rattle.std.proofs.Common.{◌≡◌, ◌==◌, ◌<◌, ℕ, ◌⊎◌, ⊎_elim, length, None, Some, arith, sym, ◌∙◌, subst, false}
 use Rattle.std.proofs.lemmas.Bool.{eqb-true, eqb-false}
 use Rattle.rc_marks.specs.View.{said_of}
 use Rattle.rc_marks.specs.declared.refusal.Refusal.{Refusal}
@@ -37,11 +37,13 @@ pub loop-rest-preserved : goal.loop-rest-preserved
 loop-rest-preserved c =
     let shorter = lex_shorter c.loop-rest.rest.now (said_of c.in-Ok.found.0) c.in-Ok.found.1.now c.in-Ok.ensures in
     let groups = c.in-Ok-accept.ensures.groups in
-    let before = c.loop-rest.invariant.1 in
-    (c.in-Ok-accept.ensures.config ∙ c.loop-rest.invariant.0, omega (arith, shorter, groups, before),
-    same_step (settings_of c.args.config) (fresh (settings_of c.args.config)) (state c.loop-rest.work) (state c.accept.new.self) c.args.chars.now c.loop-rest.rest.now
-      c.in-Ok.found.1.now (said_of c.in-Ok.found.0) c.loop-rest.invariant.2 c.in-Ok.ensures
-      (subst (λ n. take_said (settings_of n) (said_of c.in-Ok.found.0) (state c.loop-rest.work) ≡ Some (state c.accept.new.self)) c.loop-rest.invariant.0 c.in-Ok-accept.ensures.value))
+    let before = c.loop-rest.invariant.1 in (
+      c.in-Ok-accept.ensures.config ∙ c.loop-rest.invariant.0,
+      omega (arith, shorter, groups, before),
+      same_step (settings_of c.args.config) (fresh (settings_of c.args.config)) (state c.loop-rest.work) (state c.accept.new.self) c.args.chars.now c.loop-rest.rest.now
+          c.in-Ok.found.1.now (said_of c.in-Ok.found.0) c.loop-rest.invariant.2 c.in-Ok.ensures
+          (subst (λ n. take_said (settings_of n) (said_of c.in-Ok.found.0) (state c.loop-rest.work) ≡ Some (state c.accept.new.self)) c.loop-rest.invariant.0 c.in-Ok-accept.ensures.value),
+    )
 
 pub returns-in-Ok-finish-clause-reads : goal.returns-in-Ok-finish-clause-reads
 returns-in-Ok-finish-clause-reads c = same_end (settings_of c.args.config) (fresh (settings_of c.args.config)) (state c.loop-rest.work) c.args.chars.now c.loop-rest.rest.now
