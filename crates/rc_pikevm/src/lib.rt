@@ -1,0 +1,4 @@
+//! The ordered pass over a text: all threads at once, in order, each place entered once at a position.
+#![tactic(auto)]
+
+pub mod sparse_set;
