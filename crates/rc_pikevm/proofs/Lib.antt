@@ -1,1 +1,2 @@
 pub mod SparseLemmas
+pub mod RowLemmas

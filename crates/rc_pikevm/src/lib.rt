@@ -2,3 +2,4 @@
 #![tactic(auto)]
 
 pub mod sparse_set;
+pub mod threads;
