@@ -1,2 +1,5 @@
 pub mod SparseLemmas
 pub mod RowLemmas
+pub mod PassLemmas
+pub mod EnteredLemmas
+pub mod MoveLemmas

@@ -1,2 +1,5 @@
 pub mod Sparse
 pub mod Threads
+pub mod Trace
+pub mod Moves
+pub mod Passing
