@@ -3,3 +3,5 @@ pub mod RowLemmas
 pub mod PassLemmas
 pub mod EnteredLemmas
 pub mod MoveLemmas
+pub mod AroundLemmas
+pub mod LookUpLemmas
