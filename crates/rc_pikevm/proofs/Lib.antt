@@ -5,3 +5,4 @@ pub mod EnteredLemmas
 pub mod MoveLemmas
 pub mod AroundLemmas
 pub mod LookUpLemmas
+pub mod GrownLemmas

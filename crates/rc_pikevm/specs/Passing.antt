@@ -77,16 +77,16 @@ abbrev pub count_from : ℕ → List Thread → ℕ
 count_from q [] = 0
 count_from q (t ∷ ts) = (if nat_le q t.at then 1 else 0) + count_from q ts
 
--- there is room, and all that is there belongs to the program
-pub record IsSound (s : Search) (at : ℕ) (threads : ThreadList) (entered : Members) : Type 0 where
-  pub capacity : entered.capacity ≡ length s.places
-  pub few : length entered.items ≤ length s.places
-  pub room : length threads.items + length s.places ≤ threads.room + length entered.items
-  pub inside : AllIn (length s.places) (at + 1) (min s.hi (at + 4)) threads.items
+-- There is room, and all that is there belongs to the n places; no thread goes on past hi.
+pub record IsSound (n hi at : ℕ) (threads : ThreadList) (entered : Members) : Type 0 where
+  pub capacity : entered.capacity ≡ n
+  pub few : length entered.items ≤ n
+  pub room : length threads.items + n ≤ threads.room + length entered.items
+  pub inside : AllIn n (at + 1) (min hi (at + 4)) threads.items
 
 -- what the closure of a thread that began at `start` adds at the position `at`
-pub record IsGrown (s : Search) (start at : ℕ) (threads0 : ThreadList) (entered0 : Members) (threads : ThreadList) (entered : Members) : Type 0 where
-  pub sound : IsSound s at threads entered
+pub record IsGrown (n hi start at : ℕ) (threads0 : ThreadList) (entered0 : Members) (threads : ThreadList) (entered : Members) : Type 0 where
+  pub sound : IsSound n hi at threads entered
   pub same_room : threads.room ≡ threads0.room
   pub same_most : threads.most ≡ threads0.most
   pub same_width : threads.width ≡ threads0.width
@@ -94,3 +94,14 @@ pub record IsGrown (s : Search) (start at : ℕ) (threads0 : ThreadList) (entere
   -- each new thread comes from a place that was entered
   pub counts : (q : ℕ) → count_from q threads.items + length entered0.items ≤ count_from q threads0.items + length entered.items
   pub begun : (x : ℕ) → x ≤ start → AllFrom x threads0.items → AllFrom x threads.items
+
+-- a closure under way: what it gives is what the thread that it began with gives
+pub record IsClosing (s : Search) (n hi start at root : ℕ) (threads0 : ThreadList) (entered0 : Members) (slots0 : List (Option ℕ))
+    (threads : ThreadList) (entered : Members) (frames : List Frame) (slots : List (Option ℕ)) : Type 0 where
+  pub carries : (below : List (Trace × Pair)) (best o : Option Trace) →
+      Carries s at threads.items entered.items (waits start at frames slots ++ below) best o →
+      Carries s at threads0.items entered0.items ((trace start slots0, (root, at)) ∷ below) best o
+  pub grown : IsGrown n hi start at threads0 entered0 threads entered
+  pub some : 0 < length entered.items
+  pub frames_in : AllInside n (length slots) frames
+  pub width : length slots ≡ threads.width
