@@ -6,3 +6,4 @@ pub mod MoveLemmas
 pub mod AroundLemmas
 pub mod LookUpLemmas
 pub mod GrownLemmas
+pub mod KeptLemmas
