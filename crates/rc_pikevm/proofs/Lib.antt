@@ -7,3 +7,4 @@ pub mod AroundLemmas
 pub mod LookUpLemmas
 pub mod GrownLemmas
 pub mod KeptLemmas
+pub mod StepLemmas

@@ -105,3 +105,26 @@ pub record IsClosing (s : Search) (n hi start at root : ℕ) (threads0 : ThreadL
   pub some : 0 < length entered.items
   pub frames_in : AllInside n (length slots) frames
   pub width : length slots ≡ threads.width
+
+-- The threads of a position have gone on so far: `left` are those still to go on.
+pub record IsStepping (s : Search) (n hi at : ℕ) (all left : List Thread) (threads0 threads : ThreadList) (entered : Members) : Type 0 where
+  pub carries : (below : List (Trace × Pair)) (best o : Option Trace) → Carries s at threads.items entered.items (map pending left ++ below) best o →
+      Carries s at [] [] (map pending all ++ below) best o
+  pub sound : IsSound n hi at threads entered
+  pub same_room : threads.room ≡ threads0.room
+  pub same_most : threads.most ≡ threads0.most
+  pub same_width : threads.width ≡ threads0.width
+  pub counts : (q : ℕ) → count_from q threads.items + count_from q left ≤ count_from q all + length entered.items
+  pub begun : (x : ℕ) → AllFrom x all → AllFrom x threads.items
+  pub some : (length all ≤ length left) ⊎ (0 < length threads.items + length entered.items)
+
+-- the starts from `at` to `last`, while none has given a match
+abbrev pub waiting_starts : Bool → ℕ → ℕ → ℕ → List (Trace × Pair)
+waiting_starts is_open width at last = if is_open then starts width at (last + 1 - at) else []
+
+-- What is noted along the first walk of the least start in from..=last that has one; None where there is no such start.
+abbrev pub Gives : Search → ℕ → ℕ → ℕ → Option Trace → Type 0
+Gives s width from last o =
+    ((o ≡ None) × ((y : ℕ) → from ≤ y → y ≤ last → HasNoWalkFrom s y))
+        ⊎ ((x : ℕ) × (w : List Pair) × (from ≤ x) × (x ≤ last) × IsFirstFrom s x w × ((y : ℕ) → from ≤ y → y < x → HasNoWalkFrom s y)
+            × (o ≡ Some (noted (note s.places) (sets_out width x).0 w)))

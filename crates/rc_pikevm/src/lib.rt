@@ -3,5 +3,6 @@
 
 pub mod closure;
 pub mod moves;
+pub mod pass;
 pub mod sparse_set;
 pub mod threads;

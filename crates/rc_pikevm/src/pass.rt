@@ -1,0 +1,74 @@
+//! One ordered pass over a text.
+ghost use Rattle.std.specs.Prelude.{◌≡◌, ℕ, ◌+◌, ◌-◌, ◌*◌, ◌<◌, ◌≤◌, ◌⊎◌, ⊤, List, [], ◌∷◌, ◌++◌, length, map, min, vec_len, vec_capacity, Option, None, Some, MatchOption, Bool, true};
+ghost use Rattle.rc_walks.specs.Walks.{Pair};
+ghost use Rattle.rc_text.specs.Text.{Keeps, low};
+ghost use Rattle.rc_pikevm.specs.Moves.{IsSetting, seen};
+ghost use Rattle.rc_pikevm.specs.Trace.{Trace, done};
+ghost use Rattle.rc_pikevm.specs.Passing.{Carries, pending, AllIn, AllFrom, count_from, IsSound, waiting_starts};
+
+use crate::closure::{close, Frame};
+use crate::sparse_set::SparseSet;
+use crate::threads::Threads;
+use rc_text::cursor::Cursor;
+use rc_text::input::Input;
+use rc_thompson::place::Place;
+
+/// Lets the threads of `curr` that go on at `at` do so, in order; those that go on later are put
+/// into `threads`.
+///
+/// Answers the pattern and the start of the first thread of which a walk ends: the slots are those
+/// of that walk then, and the threads behind it are dropped.
+fn step<C: Cursor>(
+    input: &mut Input<C>,
+    places: &[Place],
+    terminator: u8,
+    hi: usize,
+    pattern: Option<usize>,
+    at: usize,
+    curr: &Threads,
+    threads: &mut Threads,
+    entered: &mut SparseSet,
+    stack: &mut Vec<Frame>,
+    slots: &mut [Option<usize>],
+) -> Option<(usize, usize)>
+    requires setting { IsSetting places.now hi pattern input.old }
+    requires at_in { (low input.old ≤ at) × (at ≤ hi) }
+    requires inside { AllIn (length places.now) at (min hi (at + 3)) curr.now.items }
+    requires widths { (curr.now.width ≡ length slots.old) × (threads.old.width ≡ length slots.old) }
+    requires empty { (threads.old.items ≡ []) × (entered.old.items ≡ []) }
+    requires capacity { entered.old.capacity ≡ length places.now }
+    requires room { count_from (at + 1) curr.now.items + length places.now ≤ threads.old.room }
+    requires stack { (vec_len stack.old ≡ 0) × (length places.now + 1 ≤ vec_capacity stack.old) }
+    ensures keeps { Keeps input.old input.new }
+    ensures carries { (below : List (Trace × Pair)) (best o : Option Trace)
+        → MatchOption result
+            (Carries (seen places.now terminator input.old) at threads.new.items entered.new.items below best o)
+            (λ r. Carries (seen places.now terminator input.old) at threads.new.items entered.new.items []
+                (Some (done r.0 r.1 at slots.new)) o)
+        → Carries (seen places.now terminator input.old) at [] [] (map pending curr.now.items ++ below) best o }
+    ensures sound { IsSound (length places.now) hi at threads.new entered.new }
+    ensures same { (threads.new.room ≡ threads.old.room) × (threads.new.most ≡ threads.old.most)
+        × (threads.new.width ≡ threads.old.width) }
+    ensures counts { (q : ℕ) → count_from q threads.new.items ≤ count_from q curr.now.items + length entered.new.items }
+    ensures begun { (x : ℕ) → AllFrom x curr.now.items → AllFrom x threads.new.items }
+    ensures ended { MatchOption result
+        ((length curr.now.items ≡ 0) ⊎ (0 < length threads.new.items + length entered.new.items))
+        (λ r. (0 < length entered.new.items) × ((x : ℕ) → AllFrom x curr.now.items → x ≤ r.1)) }
+    ensures stack { (vec_len stack.new ≡ 0) × (length places.now + 1 ≤ vec_capacity stack.new) }
+{
+    'threads: for index in 0..curr.len() {
+        let (head, row) = curr.get(index);
+        if head.at > at {
+            threads.push(head, row);
+            continue;
+        }
+        slots.copy_from_slice(row);
+        if let Some(number) = close(
+            input, places, terminator, hi, pattern, at, head.place, head.start, threads, entered,
+            stack, slots,
+        ) {
+            return Some((number, head.start));
+        }
+    }
+    None
+}
