@@ -8,3 +8,4 @@ pub mod LookUpLemmas
 pub mod GrownLemmas
 pub mod KeptLemmas
 pub mod StepLemmas
+pub mod StartLemmas

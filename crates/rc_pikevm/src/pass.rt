@@ -1,5 +1,5 @@
 //! One ordered pass over a text.
-ghost use Rattle.std.specs.Prelude.{◌≡◌, ℕ, ◌+◌, ◌-◌, ◌*◌, ◌<◌, ◌≤◌, ◌⊎◌, ⊤, List, [], ◌∷◌, ◌++◌, length, map, min, vec_len, vec_capacity, Option, None, Some, MatchOption, Bool, true};
+ghost use Rattle.std.specs.Prelude.{◌≡◌, ℕ, ◌+◌, ◌-◌, ◌*◌, ◌<◌, ◌≤◌, ◌⊎◌, ⊤, List, [], ◌∷◌, ◌++◌, length, map, min, vec_len, vec_capacity, Option, None, Some, MatchOption, Bool, true, replicate};
 ghost use Rattle.rc_walks.specs.Walks.{Pair};
 ghost use Rattle.rc_text.specs.Text.{Keeps, low};
 ghost use Rattle.rc_pikevm.specs.Moves.{IsSetting, seen};
@@ -71,4 +71,71 @@ fn step<C: Cursor>(
         }
     }
     None
+}
+
+/// Lets the threads of `curr` go on at `at`, and after them, where `is_open` and `at` is at most
+/// `last`, a new thread set out there. The rest is as in `step`.
+fn advance<C: Cursor>(
+    input: &mut Input<C>,
+    places: &[Place],
+    terminator: u8,
+    hi: usize,
+    pattern: Option<usize>,
+    at: usize,
+    last: usize,
+    is_open: bool,
+    curr: &Threads,
+    threads: &mut Threads,
+    entered: &mut SparseSet,
+    stack: &mut Vec<Frame>,
+    slots: &mut [Option<usize>],
+) -> Option<(usize, usize)>
+    requires setting { IsSetting places.now hi pattern input.old }
+    requires at_in { (low input.old ≤ at) × (at ≤ hi) }
+    requires inside { AllIn (length places.now) at (min hi (at + 3)) curr.now.items }
+    requires widths { (curr.now.width ≡ length slots.old) × (threads.old.width ≡ length slots.old) }
+    requires empty { (threads.old.items ≡ []) × (entered.old.items ≡ []) }
+    requires capacity { entered.old.capacity ≡ length places.now }
+    requires room { count_from (at + 1) curr.now.items + length places.now ≤ threads.old.room }
+    requires stack { (vec_len stack.old ≡ 0) × (length places.now + 1 ≤ vec_capacity stack.old) }
+    ensures keeps { Keeps input.old input.new }
+    ensures carries { (best o : Option Trace)
+        → MatchOption result
+            (Carries (seen places.now terminator input.old) at threads.new.items entered.new.items
+                (waiting_starts is_open (length slots.old) (at + 1) last) best o)
+            (λ r. Carries (seen places.now terminator input.old) at threads.new.items entered.new.items []
+                (Some (done r.0 r.1 at slots.new)) o)
+        → Carries (seen places.now terminator input.old) at [] []
+            (map pending curr.now.items ++ waiting_starts is_open (length slots.old) at last) best o }
+    ensures sound { IsSound (length places.now) hi at threads.new entered.new }
+    ensures same { (threads.new.room ≡ threads.old.room) × (threads.new.most ≡ threads.old.most)
+        × (threads.new.width ≡ threads.old.width) }
+    ensures counts { (q : ℕ) → count_from q threads.new.items ≤ count_from q curr.now.items + length entered.new.items }
+    ensures begun { (x : ℕ) → x ≤ at → AllFrom x curr.now.items → AllFrom x threads.new.items }
+    ensures ended { MatchOption result ⊤
+        (λ r. (0 < length entered.new.items) × ((x : ℕ) → x ≤ at → AllFrom x curr.now.items → x ≤ r.1)) }
+    ensures stack { (vec_len stack.new ≡ 0) × (length places.now + 1 ≤ vec_capacity stack.new) }
+{
+    if let Some(end) = step(
+        input, places, terminator, hi, pattern, at, curr, threads, entered, stack, slots,
+    ) {
+        return Some(end);
+    }
+    if !is_open || at > last {
+        return None;
+    }
+    empty(slots);
+    if let Some(number) = close(
+        input, places, terminator, hi, pattern, at, 0, at, threads, entered, stack, slots,
+    ) {
+        return Some((number, at));
+    }
+    None
+}
+
+/// Forgets what stands in the slots.
+fn empty(slots: &mut [Option<usize>])
+    ensures { slots.new ≡ replicate (length slots.old) None }
+{
+    slots.fill(None);
 }
