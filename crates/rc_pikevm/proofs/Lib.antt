@@ -9,3 +9,4 @@ pub mod GrownLemmas
 pub mod KeptLemmas
 pub mod StepLemmas
 pub mod StartLemmas
+pub mod TurnLemmas

@@ -1,5 +1,5 @@
 -- What one ordered pass over a text keeps.
-use Rattle.std.specs.Prelude.{◌≡◌, ℕ, ◌+◌, ◌-◌, ◌<◌, ◌≤◌, ◌⊎◌, Bool, true, false, List, [], ◌∷◌, ◌++◌, length, map, reverse, Option, Some, None, IsTrue, slice_set, slice_index_or, if◌then◌else◌, is_none, option_map, nat_lt, nat_le, min}
+use Rattle.std.specs.Prelude.{◌≡◌, ℕ, ◌+◌, ◌-◌, ◌<◌, ◌≤◌, ◌⊎◌, Bool, true, false, List, [], ◌∷◌, ◌++◌, length, map, reverse, Option, Some, None, IsTrue, slice_set, slice_index_or, if◌then◌else◌, is_none, option_map, nat_lt, nat_le, min, ◌*◌, MatchOption}
 use Rattle.rc_walks.specs.Walks.{Pair}
 use Rattle.rc_walks.specs.Threads.{Pends, noted}
 use Rattle.rc_program.specs.Answer.{Search, ends, next_of, IsFirstFrom, HasNoWalkFrom}
@@ -10,6 +10,7 @@ use Rattle.rc_pikevm.specs.declared.moves.Move.{Move}
 use Rattle.rc_pikevm.specs.declared.moves.Move.TheVariants.{Fork, Save, Matches, Stays, Reads, Stops}
 use Rattle.rc_pikevm.specs.declared.closure.Frame.{Frame}
 use Rattle.rc_pikevm.specs.declared.closure.Frame.TheVariants.{Explore, Restore}
+use Rattle.rc_pikevm.specs.declared.pass.Ending.{Ending}
 
 -- a thread, by what it noted and where it goes on
 abbrev pub pending : Thread → Trace × Pair
@@ -128,3 +129,24 @@ Gives s width from last o =
     ((o ≡ None) × ((y : ℕ) → from ≤ y → y ≤ last → HasNoWalkFrom s y))
         ⊎ ((x : ℕ) × (w : List Pair) × (from ≤ x) × (x ≤ last) × IsFirstFrom s x w × ((y : ℕ) → from ≤ y → y < x → HasNoWalkFrom s y)
             × (o ≡ Some (noted (note s.places) (sets_out width x).0 w)))
+
+-- what was noted along the best walk so far
+abbrev pub best_of : Option Ending → List (Option ℕ) → Option Trace
+best_of best found = option_map (λ (r : Ending). done r.pattern r.start r.end found) best
+
+-- what pends before the position `at`
+abbrev pub Pending : Search → ℕ → ℕ → ℕ → List Thread → Option Ending → List (Option ℕ) → Option Trace → Type 0
+Pending s width last at curr best found o =
+    Carries s at [] [] (map pending curr ++ waiting_starts (is_none best) width at last) (best_of best found) o
+
+-- The threads wait for `at` or later, few enough for the next list, and each position since its walk began was counted.
+pub record IsLined (n hi width at insertions : ℕ) (curr : ThreadList) : Type 0 where
+  pub inside : AllIn n at (min hi (at + 3)) curr.items
+  pub width_is : curr.width ≡ width
+  pub room : curr.room ≡ 4 * n
+  pub counts : (k : ℕ) → k ≤ 3 → count_from (at + k) curr.items + k * n ≤ 4 * n
+  pub begun : AllFrom (at - insertions) curr.items
+
+-- each position of the walk was counted
+abbrev pub IsCounted : ℕ → Option Ending → Type 0
+IsCounted insertions best = MatchOption best (Unit {0}) (λ (r : Ending). r.end + 1 ≤ insertions + r.start)

@@ -1,10 +1,10 @@
 //! One ordered pass over a text.
-ghost use Rattle.std.specs.Prelude.{◌≡◌, ℕ, ◌+◌, ◌-◌, ◌*◌, ◌<◌, ◌≤◌, ◌⊎◌, ⊤, List, [], ◌∷◌, ◌++◌, length, map, min, vec_len, vec_capacity, Option, None, Some, MatchOption, Bool, true, replicate};
+ghost use Rattle.std.specs.Prelude.{◌≡◌, ℕ, ◌+◌, ◌-◌, ◌*◌, ◌<◌, ◌≤◌, ◌⊎◌, ⊤, List, [], ◌∷◌, ◌++◌, length, map, min, vec_len, vec_capacity, Option, None, Some, MatchOption, Bool, true, replicate, ◌^◌};
 ghost use Rattle.rc_walks.specs.Walks.{Pair};
 ghost use Rattle.rc_text.specs.Text.{Keeps, low};
 ghost use Rattle.rc_pikevm.specs.Moves.{IsSetting, seen};
 ghost use Rattle.rc_pikevm.specs.Trace.{Trace, done};
-ghost use Rattle.rc_pikevm.specs.Passing.{Carries, pending, AllIn, AllFrom, count_from, IsSound, waiting_starts};
+ghost use Rattle.rc_pikevm.specs.Passing.{Carries, pending, AllIn, AllFrom, count_from, IsSound, waiting_starts, Pending, IsLined, IsCounted};
 
 use crate::closure::{close, Frame};
 use crate::sparse_set::SparseSet;
@@ -12,6 +12,17 @@ use crate::threads::Threads;
 use rc_text::cursor::Cursor;
 use rc_text::input::Input;
 use rc_thompson::place::Place;
+
+/// A walk that has ended.
+#[derive(Clone, Copy)]
+pub struct Ending {
+    /// The number of its pattern.
+    pub pattern: usize,
+    /// Where it began, in bytes.
+    pub start: usize,
+    /// Where it ended, in bytes.
+    pub end: usize,
+}
 
 /// Lets the threads of `curr` that go on at `at` do so, in order; those that go on later are put
 /// into `threads`.
@@ -138,4 +149,78 @@ fn empty(slots: &mut [Option<usize>])
     ensures { slots.new ≡ replicate (length slots.old) None }
 {
     slots.fill(None);
+}
+
+/// Where no place was entered and yet threads wait, puts the first one's place into the set: a
+/// position that threads pass within a scalar counts too.
+fn touch(entered: &mut SparseSet, threads: &Threads)
+    requires inside { (lo hi : ℕ) × AllIn entered.old.capacity lo hi threads.now.items }
+    requires few { length entered.old.items ≤ entered.old.capacity }
+    ensures capacity { entered.new.capacity ≡ entered.old.capacity }
+    ensures few { length entered.new.items ≤ entered.old.capacity }
+    ensures more { length entered.old.items ≤ length entered.new.items }
+    ensures some { (0 < length threads.now.items) → 0 < length entered.new.items }
+{
+    if entered.len() == 0 && threads.len() > 0 {
+        let (head, _) = threads.get(0);
+        entered.insert(head.place);
+    }
+}
+
+/// One position of a pass: lets the threads of `curr` go on into `next`, counts the places entered,
+/// and answers the best walk that has ended so far, with its slots in `found`.
+fn turn<C: Cursor>(
+    input: &mut Input<C>,
+    places: &[Place],
+    terminator: u8,
+    hi: usize,
+    pattern: Option<usize>,
+    at: usize,
+    last: usize,
+    best: Option<Ending>,
+    curr: &Threads,
+    next: &mut Threads,
+    entered: &mut SparseSet,
+    stack: &mut Vec<Frame>,
+    slots: &mut [Option<usize>],
+    found: &mut [Option<usize>],
+    insertions: &mut u128,
+) -> Option<Ending>
+    requires setting { IsSetting places.now hi pattern input.old }
+    requires at_in { (low input.old ≤ at) × (at ≤ hi) }
+    requires lined { IsLined (length places.now) hi (length slots.old) at insertions.old curr.now }
+    requires room { (next.old.room ≡ 4 * length places.now) × (length slots.old ≤ next.old.most) }
+    requires capacity { entered.old.capacity ≡ length places.now }
+    requires stack { (vec_len stack.old ≡ 0) × (length places.now + 1 ≤ vec_capacity stack.old) }
+    requires widths { length found.old ≡ length slots.old }
+    requires counted { IsCounted insertions.old best }
+    requires small { insertions.old + length places.now < 2 ^ 128 }
+    ensures keeps { Keeps input.old input.new }
+    ensures carries { (o : Option Trace)
+        → Pending (seen places.now terminator input.old) (length slots.old) last (at + 1) next.new.items result found.new o
+        → Pending (seen places.now terminator input.old) (length slots.old) last at curr.now.items best found.old o }
+    ensures lined { IsLined (length places.now) hi (length slots.old) (at + 1) insertions.new next.new }
+    ensures most { next.new.most ≡ next.old.most }
+    ensures capacity { entered.new.capacity ≡ length places.now }
+    ensures stack { (vec_len stack.new ≡ 0) × (length places.now + 1 ≤ vec_capacity stack.new) }
+    ensures counted { IsCounted insertions.new result }
+    ensures few { insertions.new ≤ insertions.old + length places.now }
+{
+    next.clear(slots.len());
+    entered.clear();
+    let end = advance(
+        input, places, terminator, hi, pattern, at, last, best.is_none(), curr, next, entered,
+        stack, slots,
+    );
+    touch(entered, next);
+    *insertions += entered.len() as u128;
+    if let Some((number, start)) = end {
+        found.copy_from_slice(slots);
+        return Some(Ending {
+            pattern: number,
+            start,
+            end: at,
+        });
+    }
+    best
 }
