@@ -10,3 +10,4 @@ pub mod KeptLemmas
 pub mod StepLemmas
 pub mod StartLemmas
 pub mod TurnLemmas
+pub mod PassingLemmas

@@ -150,3 +150,12 @@ pub record IsLined (n hi width at insertions : ℕ) (curr : ThreadList) : Type 0
 -- each position of the walk was counted
 abbrev pub IsCounted : ℕ → Option Ending → Type 0
 IsCounted insertions best = MatchOption best (Unit {0}) (λ (r : Ending). r.end + 1 ≤ insertions + r.start)
+
+-- the pass from the start `from` has come to the position `at`
+pub record IsPassing (s : Search) (n hi width from last at insertions : ℕ) (curr : ThreadList) (best : Option Ending) (found : List (Option ℕ)) : Type 0 where
+  pub carries : (o : Option Trace) → Pending s width last at curr.items best found o → Gives s width from last o
+  pub lined : IsLined n hi width at insertions curr
+  pub ended : IsCounted insertions best
+  pub few : insertions ≤ n * (at - from)
+  pub reached : from ≤ at
+  pub within : at ≤ hi + 1

@@ -1,10 +1,10 @@
 //! One ordered pass over a text.
-ghost use Rattle.std.specs.Prelude.{◌≡◌, ℕ, ◌+◌, ◌-◌, ◌*◌, ◌<◌, ◌≤◌, ◌⊎◌, ⊤, List, [], ◌∷◌, ◌++◌, length, map, min, vec_len, vec_capacity, Option, None, Some, MatchOption, Bool, true, replicate, ◌^◌};
+ghost use Rattle.std.specs.Prelude.{◌≡◌, ℕ, ◌+◌, ◌-◌, ◌*◌, ◌<◌, ◌≤◌, ◌⊎◌, ⊤, List, [], ◌∷◌, ◌++◌, length, map, min, vec_len, vec_capacity, Option, None, Some, MatchOption, Bool, true, false, replicate, ◌^◌, IsTrue, is_none};
 ghost use Rattle.rc_walks.specs.Walks.{Pair};
 ghost use Rattle.rc_text.specs.Text.{Keeps, low};
 ghost use Rattle.rc_pikevm.specs.Moves.{IsSetting, seen};
 ghost use Rattle.rc_pikevm.specs.Trace.{Trace, done};
-ghost use Rattle.rc_pikevm.specs.Passing.{Carries, pending, AllIn, AllFrom, count_from, IsSound, waiting_starts, Pending, IsLined, IsCounted};
+ghost use Rattle.rc_pikevm.specs.Passing.{Carries, pending, AllIn, AllFrom, count_from, IsSound, waiting_starts, Pending, IsLined, IsCounted, Gives, best_of};
 
 use crate::closure::{close, Frame};
 use crate::sparse_set::SparseSet;
@@ -12,6 +12,7 @@ use crate::threads::Threads;
 use rc_text::cursor::Cursor;
 use rc_text::input::Input;
 use rc_thompson::place::Place;
+use std::mem;
 
 /// A walk that has ended.
 #[derive(Clone, Copy)]
@@ -221,6 +222,74 @@ fn turn<C: Cursor>(
             start,
             end: at,
         });
+    }
+    best
+}
+
+/// Whether after the position `at` no thread is left to go on, and none to set out.
+fn is_done(curr: &Threads, best: Option<Ending>, at: usize, last: usize) -> bool
+    ensures { IsTrue result → (length curr.now.items ≡ 0) × ((is_none best ≡ false) ⊎ (last ≤ at)) }
+{
+    if curr.len() > 0 {
+        return false;
+    }
+    if best.is_some() {
+        return true;
+    }
+    at >= last
+}
+
+/// One pass over the positions `from..=hi`: of the starts `from..=last` the least that has a walk,
+/// and its first walk, with its slots in `found`. In each of the three lists of slots there are as
+/// many; without a match, `found` is left as it was.
+///
+/// Where `pattern` is Some, that pattern's walks alone count. A place is entered once at a position,
+/// and `insertions` says how many were.
+pub fn pass<C: Cursor>(
+    input: &mut Input<C>,
+    places: &[Place],
+    terminator: u8,
+    hi: usize,
+    pattern: Option<usize>,
+    from: usize,
+    last: usize,
+    curr: &mut Threads,
+    next: &mut Threads,
+    entered: &mut SparseSet,
+    stack: &mut Vec<Frame>,
+    slots: &mut [Option<usize>],
+    found: &mut [Option<usize>],
+    insertions: &mut u128,
+) -> Option<Ending>
+    requires setting { IsSetting places.now hi pattern input.old }
+    requires bounds { (low input.old ≤ from) × (from ≤ last) × (last ≤ hi) }
+    requires below { hi + 1 < 2 ^ 64 }
+    requires rooms { (curr.old.room ≡ 4 * length places.now) × (next.old.room ≡ 4 * length places.now) }
+    requires most { (curr.old.most ≡ next.old.most) × (length slots.old ≤ curr.old.most) }
+    requires capacity { entered.old.capacity ≡ length places.now }
+    requires stack { (vec_len stack.old ≡ 0) × (length places.now + 1 ≤ vec_capacity stack.old) }
+    requires widths { length found.old ≡ length slots.old }
+    ensures keeps { Keeps input.old input.new }
+    ensures gives { Gives (seen places.now terminator input.old) (length slots.old) from last (best_of result found.new) }
+    ensures counted { IsCounted insertions.new result }
+    ensures few { insertions.new ≤ length places.now * (hi - from + 1) }
+    ensures rooms { (curr.new.room ≡ 4 * length places.now) × (next.new.room ≡ 4 * length places.now) }
+    ensures most { (curr.new.most ≡ curr.old.most) × (next.new.most ≡ curr.old.most) }
+    ensures capacity { entered.new.capacity ≡ length places.now }
+    ensures stack { (vec_len stack.new ≡ 0) × (length places.now + 1 ≤ vec_capacity stack.new) }
+{
+    let mut best: Option<Ending> = None;
+    *insertions = 0;
+    curr.clear(slots.len());
+    'positions: for at in from..hi + 1 {
+        best = turn(
+            input, places, terminator, hi, pattern, at, last, best, curr, next, entered, stack, slots,
+            found, insertions,
+        );
+        mem::swap(curr, next);
+        if is_done(curr, best, at, last) {
+            return best;
+        }
     }
     best
 }
