@@ -11,3 +11,5 @@ pub mod StepLemmas
 pub mod StartLemmas
 pub mod TurnLemmas
 pub mod PassingLemmas
+pub mod NotedLemmas
+pub mod SearchLemmas

@@ -3,3 +3,4 @@ pub mod Threads
 pub mod Trace
 pub mod Moves
 pub mod Passing
+pub mod Found

@@ -4,5 +4,6 @@
 pub mod closure;
 pub mod moves;
 pub mod pass;
+pub mod search;
 pub mod sparse_set;
 pub mod threads;
