@@ -125,6 +125,10 @@ module _ (s : Search) where
   pub outside_chosen : s.hi < s.lo → chosen s ≡ None
   outside_chosen past = sym (no_start_chosen s (λ y h. absurd (omega (arith, past, h.0, h.1))))
 
+  pub answer_none : chosen s ≡ None → answer s ≡ None
+  unfolding answer
+  answer_none e = ap (option_map (found s)) e
+
   -- The answer, once the walk is chosen.
   module _ (e : Ending) (slots : List (Option ℕ)) (c : Chosen) (is : IsChosen s e slots c) where
     pub answer_is : answer s ≡ Some (record { pattern = e.pattern; start = e.start; end = e.end })
@@ -164,18 +168,28 @@ module _ (s : Search) where
             ap (λ y. if nat_eq k (2 * pattern_of s c) then Some c.start else if nat_eq k (2 * pattern_of s c + 1) then Some y else last_visit s.places k c.walk) (sym is.end)
             ∙ ap₂ (λ p x. both p x k) (sym is.pattern) (sym is.start)
 
-        at_slot : (k : ℕ) → k < length slots → slice_index_or (slice_set first (2 * e.pattern + 1) (Some e.end)) k None ≡ slot_of s c k
-        at_slot k l =
+        at_first : (k : ℕ) → k ≡ 2 * e.pattern → both e.pattern e.start k ≡ Some e.start
+        at_first k eq = rw (eq-eqb k (2 * e.pattern) eq) refl
+
+        at_second : (k : ℕ) → k ≢ 2 * e.pattern → k ≡ 2 * e.pattern + 1 → both e.pattern e.start k ≡ Some e.end
+        at_second k ne eq = rw (ne_eqb k (2 * e.pattern) ne, eq-eqb k (2 * e.pattern + 1) eq) refl
+
+        at_other : (k : ℕ) → k ≢ 2 * e.pattern → k ≢ 2 * e.pattern + 1 → both e.pattern e.start k ≡ last_visit s.places k c.walk
+        at_other k ne nf = rw (ne_eqb k (2 * e.pattern) ne, ne_eqb k (2 * e.pattern + 1) nf) refl
+
+        written : (k : ℕ) → k < length slots → slice_index_or (slice_set first (2 * e.pattern + 1) (Some e.end)) k None ≡ both e.pattern e.start k
+        written k l =
             ⊎_elim
             (λ eq. get_or-set_other first (2 * e.pattern + 1) k (Some e.end) None (λ q. absurd (omega (arith, eq, q)))
             ∙ subst (λ x. slice_index_or first x None ≡ Some e.start) (sym eq) (get_or-set_same slots (2 * e.pattern) (Some e.start) None (omega (arith, eq, l)))
-            ∙ sym (rw (eq-eqb k (2 * e.pattern) eq) refl))
+            ∙ sym (at_first k eq))
             (λ ne. ⊎_elim
             (λ eq. subst (λ x. slice_index_or (slice_set first (2 * e.pattern + 1) (Some e.end)) x None ≡ Some e.end) (sym eq)
             (get_or-set_same first (2 * e.pattern + 1) (Some e.end) None (omega (arith, eq, l, same_length)))
-            ∙ sym (rw (ne_eqb k (2 * e.pattern) ne, eq-eqb k (2 * e.pattern + 1) eq) refl))
+            ∙ sym (at_second k ne eq))
             (λ nf. get_or-set_other first (2 * e.pattern + 1) k (Some e.end) None nf
-            ∙ get_or-set_other slots (2 * e.pattern) k (Some e.start) None ne ∙ is.visits k l
-            ∙ sym (rw (ne_eqb k (2 * e.pattern) ne, ne_eqb k (2 * e.pattern + 1) nf) refl)) (cases_eq k (2 * e.pattern + 1)))
+            ∙ get_or-set_other slots (2 * e.pattern) k (Some e.start) None ne ∙ is.visits k l ∙ sym (at_other k ne nf)) (cases_eq k (2 * e.pattern + 1)))
             (cases_eq k (2 * e.pattern))
-            ∙ sym (told k)
+
+        at_slot : (k : ℕ) → k < length slots → slice_index_or (slice_set first (2 * e.pattern + 1) (Some e.end)) k None ≡ slot_of s c k
+        at_slot k l = written k l ∙ sym (told k)

@@ -4,3 +4,4 @@ pub mod Trace
 pub mod Moves
 pub mod Passing
 pub mod Found
+pub mod Caches
