@@ -1,5 +1,5 @@
 -- What is seen of a text in the bytes around a position.
-use Rattle.std.proofs.Common.{◌≡◌, ℕ, ◌+◌, ◌-◌, ◌≤◌, ◌<◌, List, length, take, drop, slice_range, min, sym, ap, ap₂, ◌∙◌, refl, arith, inl, inr, ⊎_elim, length-take, length-drop}
+use Rattle.std.proofs.Common.{◌≡◌, ℕ, ◌-◌, ◌≤◌, List, length, take, drop, slice_range, min, sym, ap, ap₂, ◌∙◌, arith, ⊎_elim, length-take, length-drop}
 use Rattle.std.proofs.lemmas.Bool.{cases_lt}
 use Rattle.std.proofs.lemmas.List.{take-take, take_all}
 use Rattle.rc_text.specs.Text.{Searched, slice_end, around_bytes_at, around_place_at, bytes_before, bytes_after}

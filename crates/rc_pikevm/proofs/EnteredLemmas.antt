@@ -1,5 +1,5 @@
 -- The pairs that were entered at a position.
-use Rattle.std.proofs.Common.{◌≡◌, ℕ, ◌⊎◌, List, [], ◌∷◌, ◌++◌, map, reverse, inl, inr, ⊎_elim, sym, ap, ◌∙◌}
+use Rattle.std.proofs.Common.{◌≡◌, ℕ, ◌⊎◌, List, [], ◌∷◌, ◌++◌, map, reverse, inl, inr, ⊎_elim, sym, ap}
 use Rattle.std.proofs.lemmas.List.{reverse-append}
 use Rattle.rc_walks.specs.Walks.{Pair, IsIn}
 use Rattle.rc_pikevm.specs.Sparse.{Has}

@@ -1,12 +1,11 @@
 -- How the list of threads grows.
-use Rattle.std.proofs.Common.{◌≡◌, ◌≢◌, ℕ, zero, suc, ◌+◌, ◌-◌, ◌*◌, ◌<◌, ◌≤◌, ◌⊎◌, List, [], ◌∷◌, ◌++◌, length, map, min, inl, inr, ⊎_elim, sym, subst, ap, ◌∙◌, refl, arith, Bool, true, false, Option, Some, None, if◌then◌else◌, nat_le, slice_get}
-use Rattle.std.proofs.lemmas.Bool.{cases_Bool, cases_lt, le-leb, lt-leb, lt-ltb, le-ltb}
+use Rattle.std.proofs.Common.{◌≡◌, ℕ, ◌+◌, ◌<◌, ◌≤◌, List, [], ◌∷◌, ◌++◌, length, map, min, inl, inr, ⊎_elim, sym, subst, ◌∙◌, refl, arith, Bool, true, false, Option, if◌then◌else◌, nat_le}
+use Rattle.std.proofs.lemmas.Bool.{cases_lt, le-leb, lt-leb, lt-ltb, le-ltb}
 use Rattle.std.proofs.lemmas.List.{length_push, append-nil}
-use Rattle.std.proofs.lemmas.Option.{none-some}
-use Rattle.rc_walks.specs.Walks.{Pair, IsIn}
-use Rattle.rc_program.specs.Program.{slot, place_at, ways_out, pair_at}
+use Rattle.rc_walks.specs.Walks.{IsIn}
+use Rattle.rc_program.specs.Program.{ways_out, pair_at}
 use Rattle.rc_program.specs.Text.{holds, ahead}
-use Rattle.rc_program.specs.Answer.{Search, next_of}
+use Rattle.rc_program.specs.Answer.{Search}
 use Rattle.rc_program.specs.Laws.{IsClosed}
 use Rattle.rc_program.proofs.PlaceLemmas.{ways_closed}
 use Rattle.rc_pikevm.specs.Sparse.{Members}
@@ -16,13 +15,13 @@ use Rattle.rc_pikevm.specs.Passing.{resting_of, frames_of, AllInside, IsMoveInsi
 use Rattle.rc_pikevm.specs.declared.moves.Move.{Move}
 use Rattle.rc_pikevm.specs.declared.moves.Move.TheVariants.{Fork, Save, Matches, Stays, Reads, Stops}
 use Rattle.rc_pikevm.specs.declared.closure.Frame.{Frame}
-use Rattle.rc_pikevm.specs.declared.closure.Frame.TheVariants.{Explore, Restore}
 
 -- the places that a move names are places of the program
 pub move_inside : (s : Search) (p at : ℕ) (move : Move) → IsClosed s.places → IsMove s (p, at) move → IsMoveInside (length s.places) move
-move_inside s p at (Fork a b) closed m =
-    (ways_closed s.places closed s.text s.hi (p, at) (a, at) (subst (λ ms. IsIn (a, at) ms) (sym m.0) (inl refl)),
-    ways_closed s.places closed s.text s.hi (p, at) (b, at) (subst (λ ms. IsIn (b, at) ms) (sym m.0) (inr (inl refl))))
+move_inside s p at (Fork a b) closed m = (
+  ways_closed s.places closed s.text s.hi (p, at) (a, at) (subst (λ ms. IsIn (a, at) ms) (sym m.0) (inl refl)),
+  ways_closed s.places closed s.text s.hi (p, at) (b, at) (subst (λ ms. IsIn (b, at) ms) (sym m.0) (inr (inl refl))),
+)
 move_inside s p at (Save k n) closed m =
     ways_closed s.places closed s.text s.hi (p, at) (n, at)
     (subst (λ q. IsIn (n, at) (map (pair_at at) (ways_out (λ l. holds s.text l at) (ahead s.text s.hi at) q))) (sym m) (inl refl))
@@ -103,7 +102,7 @@ grown_then n hi start at threads0 threads1 threads2 entered0 entered1 entered2 a
 pub grown_by : (n hi start at p : ℕ) (slots : List (Option ℕ)) (move : Move) (threads : ThreadList) (entered : Members) (s : Search) → s.hi ≡ hi →
     IsSound n hi at threads entered → length entered.items + 1 ≤ n → IsMove s (p, at) move → IsMoveInside n move →
     IsGrown n hi start at threads entered (record threads { items = threads.items ++ resting_of start slots move })
-        (record entered { items = entered.items ++ p ∷ [] })
+    (record entered { items = entered.items ++ p ∷ [] })
 grown_by n hi start at p slots move threads entered s bound sound few m inside = record {
   sound = record {
     capacity = sound.capacity;

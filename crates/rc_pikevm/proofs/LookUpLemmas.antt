@@ -1,16 +1,15 @@
 -- The move over a scalar.
-use Rattle.std.proofs.Common.{◌≡◌, ℕ, ◌+◌, ◌-◌, ◌≤◌, ◌<◌, List, [], ◌∷◌, length, take, drop, map, slice_range, sym, subst, ap, ◌∙◌, refl, arith, true, false, IsTrue, Option, Some, None, length-take, get_or, if◌then◌else◌}
+use Rattle.std.proofs.Common.{◌≡◌, ℕ, ◌+◌, ◌-◌, ◌≤◌, ◌<◌, List, [], ◌∷◌, length, drop, map, slice_range, sym, ap, ◌∙◌, refl, arith, true, false, Option, Some, None, length-take, get_or, if◌then◌else◌}
 use Rattle.std.proofs.lemmas.List.{get_or-map}
-use Rattle.rc_walks.specs.Walks.{Pair}
-use Rattle.rc_program.specs.Program.{Place, choice, scalar, place_at, ways_out, pair_at, in_ranges, is_match_place, over_scalar, reads}
+use Rattle.rc_program.specs.Program.{choice, scalar, place_at, ways_out, pair_at, in_ranges, is_match_place, over_scalar, reads}
 use Rattle.rc_program.specs.Scalars.{scalar_at}
 use Rattle.rc_program.specs.Text.{holds, ahead}
-use Rattle.rc_program.specs.Answer.{Search, only, ends, next_of}
+use Rattle.rc_program.specs.Answer.{Search, only}
 use Rattle.rc_program.proofs.WayLemmas.{scalar_at_short}
 use Rattle.rc_thompson.specs.Places.{place_of, places_of}
 use Rattle.rc_thompson.specs.declared.place.Place as code
-use Rattle.rc_pikevm.specs.Trace.{Trace, note, note_at}
-use Rattle.rc_pikevm.specs.Moves.{IsMove, IsPlain}
+use Rattle.rc_pikevm.specs.Trace.{note_at}
+use Rattle.rc_pikevm.specs.Moves.{IsMove}
 use Rattle.rc_pikevm.specs.declared.moves.Move.TheVariants.{Reads}
 
 -- the place that was read is that of the program
@@ -34,8 +33,8 @@ pub scalar_move : (s : Search) (p at c count n : ℕ) (rs : List (ℕ × ℕ)) �
 scalar_move s p at c count n rs is here inside =
     let r = scalar_size s.text.content at s.hi c count here in (
       ap (λ q. map (pair_at at) (ways_out (λ l. holds s.text l at) (ahead s.text s.hi at) q)) is
-      ∙ ap (λ o. map (pair_at at) (over_scalar rs n o)) here
-      ∙ ap (λ b. map (pair_at at) (if b then reads count n ∷ [] else [])) inside,
+          ∙ ap (λ o. map (pair_at at) (over_scalar rs n o)) here
+          ∙ ap (λ b. map (pair_at at) (if b then reads count n ∷ [] else [])) inside,
       record {
         silent = λ h. ap (λ q. note_at q h at) is;
         on = ap (is_match_place (only s.anchoring)) is ∙ no_end (only s.anchoring) rs n;

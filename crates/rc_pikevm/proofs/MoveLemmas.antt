@@ -1,11 +1,11 @@
 -- What a thread's entering of a place does to what pends.
-use Rattle.std.proofs.Common.{◌≡◌, ◌≢◌, ℕ, zero, suc, ◌+◌, ◌<◌, ◌≤◌, ◌⊎◌, List, [], ◌∷◌, ◌++◌, length, map, reverse, inl, inr, ⊎_elim, sym, subst, ap, ◌∙◌, refl, arith, Bool, true, false, true≢false, IsTrue, Option, Some, None, slice_index_or, slice_set, if◌then◌else◌, nat_lt}
-use Rattle.std.proofs.lemmas.Bool.{cases_Bool, cases_lt, lt-ltb, le-ltb}
+use Rattle.std.proofs.Common.{◌≡◌, ◌≢◌, ℕ, zero, suc, ◌+◌, ◌<◌, ◌≤◌, List, [], ◌∷◌, ◌++◌, length, map, ⊎_elim, sym, subst, ap, ◌∙◌, refl, arith, false, true≢false, IsTrue, Option, Some, None, slice_index_or, slice_set}
+use Rattle.std.proofs.lemmas.Bool.{cases_lt, lt-ltb, le-ltb}
 use Rattle.std.proofs.lemmas.List.{set-get_or, set-set, map-append, append-nil}
 use Rattle.rc_walks.specs.Walks.{Pair, IsIn}
-use Rattle.rc_walks.specs.Threads.{Pends, IsFirstOf, over, threads, AllPast}
+use Rattle.rc_walks.specs.Threads.{Pends, threads, AllPast}
 use Rattle.rc_walks.proofs.ThreadLemmas.{of_none, of_rest, skips_pends, enters_pends, matches_pends}
-use Rattle.rc_program.specs.Program.{Place, slot, accept, place_at, ways_out, pair_at, is_match_place}
+use Rattle.rc_program.specs.Program.{slot, accept, place_at, ways_out, pair_at, is_match_place}
 use Rattle.rc_program.specs.Text.{holds, ahead}
 use Rattle.rc_program.specs.Answer.{Search, only, ends, next_of}
 use Rattle.rc_program.proofs.WayLemmas.{same_pair, ways_onward}
@@ -18,7 +18,6 @@ use Rattle.rc_pikevm.specs.Passing.{pending, pairs, waits, resting_of, frames_of
 use Rattle.rc_pikevm.specs.declared.moves.Move.{Move}
 use Rattle.rc_pikevm.specs.declared.moves.Move.TheVariants.{Fork, Save, Matches, Stays, Reads, Stops}
 use Rattle.rc_pikevm.specs.declared.closure.Frame.{Frame}
-use Rattle.rc_pikevm.specs.declared.closure.Frame.TheVariants.{Explore, Restore}
 use Rattle.rc_pikevm.proofs.PassLemmas.{waits_pends, turned_pends}
 use Rattle.rc_pikevm.proofs.EnteredLemmas.{has_pairs, pairs_has, pairs_at, pairs_push}
 
@@ -35,7 +34,7 @@ no_slot (s ∷ slots) (suc k) v h = ap (λ l. s ∷ l) (no_slot slots k v (omega
 -- what waits on the stack once the position stands in a slot
 waits_saved : (start at k n : ℕ) (slots : List (Option ℕ)) (frames : List Frame) →
     waits start at (frames_of slots (Save k n) ++ frames) (slice_set slots k (Some at))
-        ≡ (trace start (slice_set slots k (Some at)), (n, at)) ∷ waits start at frames slots
+    ≡ (trace start (slice_set slots k (Some at)), (n, at)) ∷ waits start at frames slots
 waits_saved start at k n slots frames =
     ⊎_elim
     (λ l. rw (lt-ltb k (length slots) l)
@@ -114,7 +113,7 @@ module _ (s : Search) where
       -- the place is entered, and its move is made
       pub moved : (move : Move) (frames : List Frame) (below : List (Trace × Pair)) → IsMove s (p, at) move → ((q : ℕ) → move ≢ Matches q) →
           Carries s at (rest ++ resting_of start slots move) (items ++ p ∷ [])
-              (waits start at (frames_of slots move ++ frames) (slots_after at slots move) ++ below) best o →
+          (waits start at (frames_of slots move ++ frames) (slots_after at slots move) ++ below) best o →
           Carries s at rest items ((trace start slots, (p, at)) ∷ (waits start at frames slots ++ below)) best o
       moved (Fork a b) frames below m other x =
           plain_on ((a, at) ∷ (b, at) ∷ []) (waits start at frames slots ++ below) m.0 m.1

@@ -1,11 +1,11 @@
 -- What is noted along a walk: where it began, the last visit of each slot, and its end.
-use Rattle.std.proofs.Common.{◌≡◌, ◌≢◌, ℕ, zero, suc, ◌+◌, ◌<◌, ◌≤◌, ◌⊎◌, List, [], ◌∷◌, length, inl, inr, ⊎_elim, sym, subst, ap, ◌∙◌, refl, arith, Bool, true, false, true≢false, IsTrue, Option, Some, None, nat_eq, slice_set, slice_index_or, if◌then◌else◌, get_or-set_same, get_or-set_other, length-set, eqb-true, eq-eqb, replicate}
+use Rattle.std.proofs.Common.{◌≡◌, ℕ, ◌<◌, List, [], ◌∷◌, length, ⊎_elim, sym, subst, ap, ◌∙◌, refl, arith, true≢false, Option, Some, None, nat_eq, slice_set, slice_index_or, if◌then◌else◌, get_or-set_same, get_or-set_other, length-set, eqb-true, eq-eqb, replicate}
 use Rattle.std.proofs.lemmas.Bool.{cases_Bool}
 use Rattle.std.proofs.lemmas.List.{length-replicate, get_or-replicate}
 use Rattle.std.specs.Option.{option_or}
-use Rattle.rc_walks.specs.Walks.{Pair, IsIn, IsWalk, stops, goes}
+use Rattle.rc_walks.specs.Walks.{Pair, IsWalk, stops, goes}
 use Rattle.rc_walks.specs.Threads.{noted}
-use Rattle.rc_program.specs.Program.{Place, choice, byte, branch, scalar, guard, slot, accept, place_at, is_match_place}
+use Rattle.rc_program.specs.Program.{Place, choice, byte, branch, scalar, guard, slot, accept, place_at}
 use Rattle.rc_program.specs.Answer.{names, last_visit, last_of, pattern_at}
 use Rattle.rc_program.proofs.AnswerLemmas.{last_of_more}
 use Rattle.rc_pikevm.specs.Trace.{Trace, note, note_at}

@@ -1,12 +1,11 @@
 -- The pass over all positions.
-use Rattle.std.proofs.Common.{◌≡◌, ◌≢◌, ℕ, zero, suc, ◌+◌, ◌-◌, ◌*◌, ◌<◌, ◌≤◌, ◌⊎◌, List, [], ◌∷◌, ◌++◌, length, map, min, inl, inr, ⊎_elim, sym, subst, ap, ◌∙◌, refl, arith, Bool, true, false, Option, Some, None, is_none, IsTrue}
+use Rattle.std.proofs.Common.{◌≡◌, ℕ, suc, ◌+◌, ◌-◌, ◌*◌, ◌<◌, ◌≤◌, ◌⊎◌, List, [], ◌∷◌, ◌++◌, length, map, min, ⊎_elim, sym, subst, ap, refl, arith, true, false, Option, None, is_none}
 use Rattle.std.proofs.Math.Nat.{mul-le-mul_left, mul-le-mul_right}
-use Rattle.rc_walks.specs.Walks.{Pair}
 use Rattle.rc_walks.specs.Threads.{IsFirstOf, over}
 use Rattle.rc_program.specs.Answer.{Search, next_of}
 use Rattle.rc_pikevm.specs.Threads.{Thread, ThreadList}
 use Rattle.rc_pikevm.specs.Trace.{Trace, note, starts}
-use Rattle.rc_pikevm.specs.Passing.{pending, Carries, AllIn, count_from, IsLined, IsPassing, IsCounted, waiting_starts, Pending, Gives, best_of}
+use Rattle.rc_pikevm.specs.Passing.{pending, Carries, AllIn, IsLined, IsPassing, IsCounted, waiting_starts, Pending, Gives, best_of}
 use Rattle.rc_pikevm.specs.declared.pass.Ending.{Ending}
 use Rattle.rc_pikevm.proofs.MoveLemmas.{Ends}
 use Rattle.rc_pikevm.proofs.StartLemmas.{starts_give, waiting_over}

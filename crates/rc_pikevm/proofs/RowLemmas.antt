@@ -1,5 +1,5 @@
 -- Threads over a list of heads and a table of cells.
-use Rattle.std.proofs.Common.{◌≡◌, ℕ, zero, suc, ◌+◌, ◌*◌, ◌<◌, ◌≤◌, List, [], ◌∷◌, ◌++◌, length, take, drop, get_or, refl, sym, ◌∙◌, ap, arith, Option, Some, slice_get, drop-drop, length-drop}
+use Rattle.std.proofs.Common.{◌≡◌, ℕ, zero, suc, ◌+◌, ◌*◌, ◌<◌, ◌≤◌, List, [], ◌∷◌, ◌++◌, length, take, drop, get_or, refl, ◌∙◌, ap, arith, Option, Some, slice_get, drop-drop, length-drop}
 use Rattle.std.proofs.lemmas.List.{take-append-le, take_all}
 use Rattle.rc_pikevm.specs.declared.threads.Head.{Head}
 use Rattle.rc_pikevm.specs.Threads.{thread_of, threads_of}

@@ -1,9 +1,7 @@
 -- From passes to the answer of a search.
-use Rattle.std.proofs.Common.{◌≡◌, ◌≢◌, ℕ, ◌+◌, ◌*◌, ◌<◌, ◌≤◌, ◌⊎◌, List, [], ◌∷◌, length, map, min, inl, inr, ⊎_elim, sym, subst, ap, ap₂, ◌∙◌, refl, arith, Bool, true, false, true≢false, IsTrue, Option, Some, None, not, ◌||◌, slice_index_or, slice_set, replicate, get_or-set_same, get_or-set_other, length-set, nat_eq, if◌then◌else◌, eq-eqb, ne_eqb, eqb-true}
+use Rattle.std.proofs.Common.{◌≡◌, ◌≢◌, ℕ, ◌+◌, ◌*◌, ◌<◌, ◌≤◌, List, length, inl, inr, ⊎_elim, sym, subst, ap, ap₂, ◌∙◌, refl, arith, true, false, Option, Some, None, not, slice_index_or, slice_set, get_or-set_same, get_or-set_other, length-set, nat_eq, if◌then◌else◌, eq-eqb, ne_eqb}
 use Rattle.std.specs.Option.{option_map}
-use Rattle.std.specs.List.{range_with_len}
-use Rattle.std.proofs.lemmas.Bool.{cases_Bool, cases_lt, cases_eq, or_right}
-use Rattle.std.proofs.lemmas.List.{length-replicate}
+use Rattle.std.proofs.lemmas.Bool.{cases_lt, cases_eq, or_right}
 use Rattle.std.proofs.lemmas.List.FromFn.{fill_by_all}
 use Rattle.std.proofs.lemmas.Option.{none-some, same_Some}
 use Rattle.rc_text.specs.Text.{is_boundary}
@@ -11,14 +9,14 @@ use Rattle.rc_text.specs.Found.{Found}
 use Rattle.rc_walks.specs.Walks.{Pair}
 use Rattle.rc_walks.specs.Threads.{noted}
 use Rattle.rc_program.specs.Program.{place_at, accept}
-use Rattle.rc_program.specs.Answer.{Search, only, next_of, IsFirstFrom, HasNoWalkFrom, IsPassed, IsStart, is_allowed, last_of, Chosen, IsAnswer, chosen, answer, groups, found, pattern_of, pattern_at, slot_of, slots_of, last_visit, Anchoring, is_anchored}
-use Rattle.rc_program.proofs.AnswerLemmas.{first_start_chosen, no_start_chosen, last_start_of, start_within_last, start_to_last, one_more_passed, match_place_is, chosen_law, chosen_within, chosen_accepts}
-use Rattle.rc_pikevm.specs.Trace.{Trace, note, trace, sets_out, done}
+use Rattle.rc_program.specs.Answer.{Search, only, next_of, IsFirstFrom, HasNoWalkFrom, IsPassed, is_allowed, last_of, Chosen, chosen, answer, groups, found, pattern_of, pattern_at, slot_of, slots_of, last_visit, Anchoring, is_anchored}
+use Rattle.rc_program.proofs.AnswerLemmas.{first_start_chosen, no_start_chosen, last_start_of, start_within_last, start_to_last, match_place_is, chosen_law, chosen_within, chosen_accepts}
+use Rattle.rc_pikevm.specs.Trace.{Trace, note, sets_out, done}
 use Rattle.rc_pikevm.specs.Passing.{Gives, best_of}
-use Rattle.rc_pikevm.specs.Found.{IsChosen, IsResult}
+use Rattle.rc_pikevm.specs.Found.{IsChosen}
 use Rattle.rc_pikevm.specs.declared.pass.Ending.{Ending}
-use Rattle.rc_pikevm.proofs.MoveLemmas.{Ends, no_slot}
-use Rattle.rc_pikevm.proofs.NotedLemmas.{noted_start, noted_visit, noted_length, noted_end}
+use Rattle.rc_pikevm.proofs.MoveLemmas.{Ends}
+use Rattle.rc_pikevm.proofs.NotedLemmas.{noted_start, noted_visit, noted_end}
 
 -- what a pass that found a walk has shown of it
 pub record IsBest (s : Search) (width from last : ℕ) (e : Ending) (slots : List (Option ℕ)) (w : List Pair) : Type 0 where
@@ -41,8 +39,8 @@ module _ (s : Search) (width from last : ℕ) where
   best_gives e slots x w low high first before same =
       let begun : e.start ≡ x = ap (λ (t : Trace). t.start) same ∙ noted_start s.places (sets_out width x).0 w in
       let stop = same_Some (e.pattern, e.end) (pattern_at (place_at s.places (last_of w).0), (last_of w).1)
-          (ap (λ (t : Trace). t.ended) same
-          ∙ noted_end s.places (next_of s) (Ends s) (λ n h. match_place_is (only s.anchoring) (place_at s.places n.0) h) (sets_out width x).0 first.is_walk) in
+      (ap (λ (t : Trace). t.ended) same
+      ∙ noted_end s.places (next_of s) (Ends s) (λ n h. match_place_is (only s.anchoring) (place_at s.places n.0) h) (sets_out width x).0 first.is_walk) in
       record {
         low = omega (arith, begun, low);
         high = omega (arith, begun, high);
@@ -98,15 +96,17 @@ module _ (s : Search) where
     -- the found walk is the answer's
     pub best_chosen : (e : Ending) (slots : List (Option ℕ)) (w : List Pair) → length slots ≡ width → s.lo ≤ from → IsBest s width from last e slots w →
         is_allowed s w ≡ true → (c : Chosen) × IsChosen s e slots c
-    best_chosen e slots w wide low best allowed =
-        (record { start = e.start; walk = w }, record {
-          is_chosen = sym (first_start_chosen s e.start w (start_within_last s e.start (omega (arith, low, best.low)) (omega (arith, best.high, last_is)))
-              best.first allowed before);
-          pattern = best.pattern;
-          start = refl;
-          end = best.end;
-          visits = λ k l. best.visits k (omega (arith, wide, l));
-        })
+    best_chosen e slots w wide low best allowed = (
+      record { start = e.start; walk = w },
+      record {
+        is_chosen = sym (first_start_chosen s e.start w (start_within_last s e.start (omega (arith, low, best.low)) (omega (arith, best.high, last_is)))
+            best.first allowed before);
+        pattern = best.pattern;
+        start = refl;
+        end = best.end;
+        visits = λ k l. best.visits k (omega (arith, wide, l));
+      },
+    )
       where
         before : (y : ℕ) → s.lo ≤ y → y < e.start → IsPassed s y
         before y l h = ⊎_elim (λ b. passed y l b) (λ ge. inl (best.before y ge h)) (cases_lt y from)

@@ -1,7 +1,7 @@
 -- Sparse sets.
-use Rattle.std.proofs.Common.{◌≡◌, ◌≢◌, ℕ, zero, suc, ◌+◌, ◌<◌, ◌≤◌, ◌⊎◌, List, [], ◌∷◌, ◌++◌, length, inl, inr, ⊎_elim, sym, subst, ap, ◌∙◌, refl, arith, Bool, true, false, true≢false, slice_index, slice_set, get_or, nat_eq, nat_lt, ne_eqb, eqb-true, eq-eqb, ltb-true, get_or-set_same, get_or-set_other, length-set, length-append}
+use Rattle.std.proofs.Common.{◌≡◌, ◌≢◌, ℕ, zero, suc, ◌+◌, ◌<◌, ◌≤◌, List, [], ◌∷◌, ◌++◌, length, inl, inr, ⊎_elim, sym, subst, ap, ◌∙◌, refl, arith, true, false, true≢false, slice_index, slice_set, nat_eq, nat_lt, ne_eqb, eqb-true, eq-eqb, ltb-true, get_or-set_same, get_or-set_other, length-set}
 use Rattle.std.proofs.Math.Dec.{eqb}
-use Rattle.std.proofs.lemmas.Bool.{cases_lt, cases_Bool, cases_eq}
+use Rattle.std.proofs.lemmas.Bool.{cases_lt, cases_Bool}
 use Rattle.std.proofs.lemmas.List.{length_push, get_or_push, get_or_append_left}
 use Rattle.std.specs.List.{IsDistinct, AllByRecursion, list_any}
 use Rattle.std.specs.Bool.{MatchBool}
@@ -25,9 +25,10 @@ apart_all x (y ∷ ys) h = (ne_eqb _ _ (h 0 (omega arith)), apart_all x ys (λ j
 distinct : (xs : List ℕ) → ((i j : ℕ) → i < length xs → j < length xs → slice_index xs i ≡ slice_index xs j → i ≡ j) → IsDistinct eqb xs
 unfolding IsDistinct
 distinct [] h = tt
-distinct (x ∷ xs) h =
-    (apart_all x xs (λ j l e. let f : 0 ≡ suc j = h 0 (suc j) (omega arith) (omega arith) e in omega arith),
-    distinct xs (λ i j a b e. let f : suc i ≡ suc j = h (suc i) (suc j) (omega arith) (omega arith) e in omega arith))
+distinct (x ∷ xs) h = (
+  apart_all x xs (λ j l e. let f : 0 ≡ suc j = h 0 (suc j) (omega arith) (omega arith) e in omega arith),
+  distinct xs (λ i j a b e. let f : suc i ≡ suc j = h (suc i) (suc j) (omega arith) (omega arith) e in omega arith),
+)
 
 has_from_any : (q : ℕ) (xs : List ℕ) → list_any (eqb q) xs ≡ true → Has xs q
 has_from_any q [] h = absurd (true≢false (sym h))
@@ -56,7 +57,7 @@ set_of dense sparse h = record {
 pub room_for : (dense sparse : List ℕ) (p : ℕ) → IsIndexed dense sparse → ¬ Has dense p → p < length sparse → length dense < length sparse
 room_for dense sparse p h new inside =
     let all : length (p ∷ dense) ≤ length sparse = few_of (length sparse) (p ∷ dense)
-        (λ q i. ⊎_elim (λ e. subst (λ x. x < length sparse) e inside) (λ r. index_below dense sparse h q r) i) apart in
+    (λ q i. ⊎_elim (λ e. subst (λ x. x < length sparse) e inside) (λ r. index_below dense sparse h q r) i) apart in
     omega arith
   where
     apart : (i j : ℕ) → i < length (p ∷ dense) → j < length (p ∷ dense) → slice_index (p ∷ dense) i ≡ slice_index (p ∷ dense) j → i ≡ j
@@ -70,14 +71,14 @@ pub indexed_push : (dense sparse : List ℕ) (p : ℕ) → IsIndexed dense spars
 indexed_push dense sparse p h new inside k l =
     ⊎_elim
     (λ before.
-      let old : slice_index (dense ++ p ∷ []) k ≡ slice_index dense k = get_or_append_left dense (p ∷ []) 0 k before in
-      let other : slice_index dense k ≢ p = λ e. new (subst (λ x. Has dense x) e (has_at dense k before)) in
-      (rw (old, length-set) (h k before).0, rw old (get_or-set_other sparse p (slice_index dense k) (length dense) 0 other ∙ (h k before).1)))
+    let old : slice_index (dense ++ p ∷ []) k ≡ slice_index dense k = get_or_append_left dense (p ∷ []) 0 k before in
+    let other : slice_index dense k ≢ p = λ e. new (subst (λ x. Has dense x) e (has_at dense k before)) in
+    (rw (old, length-set) (h k before).0, rw old (get_or-set_other sparse p (slice_index dense k) (length dense) 0 other ∙ (h k before).1)))
     (λ after.
-      let l2 : k < length dense + 1 = rw length_push at l in
-      let same : length dense ≡ k = omega arith in
-      let last : slice_index (dense ++ p ∷ []) k ≡ p = get_or_push dense p 0 k same in
-      (rw (last, length-set) inside, rw last (get_or-set_same sparse p (length dense) 0 inside ∙ same)))
+    let l2 : k < length dense + 1 = rw length_push at l in
+    let same : length dense ≡ k = omega arith in
+    let last : slice_index (dense ++ p ∷ []) k ≡ p = get_or_push dense p 0 k same in
+    (rw (last, length-set) inside, rw last (get_or-set_same sparse p (length dense) 0 inside ∙ same)))
     (cases_lt k (length dense))
 
 -- what a look-up tells
@@ -87,8 +88,8 @@ looked_up dense sparse p i x h e l is =
     ⊎_elim
     (λ t. rw t (subst (λ y. Has dense y) (sym is ∙ eqb-true _ _ t) (has_at dense i l)))
     (λ f. rw f (λ has. let r = index_of dense p has in
-      let same : i ≡ r.0 = e ∙ ap (slice_index sparse) (sym r.2) ∙ (h r.0 r.1).1 in
-      true≢false (sym (eq-eqb _ _ (is ∙ ap (slice_index dense) same ∙ r.2)) ∙ f)))
+    let same : i ≡ r.0 = e ∙ ap (slice_index sparse) (sym r.2) ∙ (h r.0 r.1).1 in
+    true≢false (sym (eq-eqb _ _ (is ∙ ap (slice_index dense) same ∙ r.2)) ∙ f)))
     (cases_Bool (nat_eq x p))
 
 pub not_looked_up : (dense sparse : List ℕ) (p i n : ℕ) → IsIndexed dense sparse → i ≡ slice_index sparse p →
@@ -97,7 +98,7 @@ not_looked_up dense sparse p i n h e len past =
     ⊎_elim
     (λ t. let l : i < n = ltb-true i n t in absurd (omega arith))
     (λ f. rw f (λ has. let r = index_of dense p has in
-      let same : i ≡ r.0 = e ∙ ap (slice_index sparse) (sym r.2) ∙ (h r.0 r.1).1 in
-      let l : r.0 < length dense = r.1 in
-      absurd (omega arith)))
+    let same : i ≡ r.0 = e ∙ ap (slice_index sparse) (sym r.2) ∙ (h r.0 r.1).1 in
+    let l : r.0 < length dense = r.1 in
+    absurd (omega arith)))
     (cases_Bool (nat_lt i n))

@@ -1,8 +1,7 @@
 -- The starts that are still to come.
-use Rattle.std.proofs.Common.{◌≡◌, ◌≢◌, ℕ, zero, suc, ◌+◌, ◌-◌, ◌*◌, ◌<◌, ◌≤◌, ◌⊎◌, List, [], ◌∷◌, ◌++◌, length, map, inl, inr, ⊎_elim, sym, subst, ap, ◌∙◌, refl, arith, Bool, true, false, IsTrue, Option, Some, None}
+use Rattle.std.proofs.Common.{◌≡◌, ℕ, zero, suc, ◌+◌, ◌-◌, ◌<◌, ◌≤◌, [], ◌∷◌, inl, inr, ⊎_elim, subst, ap, refl, arith, Bool, true, false, Option, None}
 use Rattle.std.proofs.lemmas.Bool.{cases_lt}
-use Rattle.rc_walks.specs.Walks.{Pair}
-use Rattle.rc_walks.specs.Threads.{IsFirstOf, AllPast, noted}
+use Rattle.rc_walks.specs.Threads.{IsFirstOf, AllPast}
 use Rattle.rc_walks.proofs.ThreadLemmas.{of_none, of_one}
 use Rattle.rc_program.specs.Answer.{Search, next_of, HasNoWalkFrom}
 use Rattle.rc_pikevm.specs.Trace.{Trace, note, starts, sets_out}

@@ -1,6 +1,6 @@
 -- The threads of one position.
-use Rattle.std.proofs.Common.{◌≡◌, ◌≢◌, ℕ, zero, suc, ◌+◌, ◌-◌, ◌*◌, ◌<◌, ◌≤◌, ◌⊎◌, List, [], ◌∷◌, ◌++◌, length, map, drop, min, inl, inr, ⊎_elim, sym, subst, ap, ◌∙◌, refl, arith, Bool, true, false, Option, Some, None, if◌then◌else◌, nat_le, slice_get, add-one}
-use Rattle.std.proofs.lemmas.Bool.{le-leb, lt-leb}
+use Rattle.std.proofs.Common.{◌≡◌, ℕ, zero, suc, ◌+◌, ◌<◌, ◌≤◌, List, [], ◌∷◌, ◌++◌, length, map, drop, min, inl, inr, sym, subst, ap, ◌∙◌, refl, arith, Option, Some, if◌then◌else◌, nat_le, slice_get, add-one}
+use Rattle.std.proofs.lemmas.Bool.{le-leb}
 use Rattle.std.proofs.lemmas.List.{length_push}
 use Rattle.std.proofs.lemmas.Option.{none-some}
 use Rattle.rc_walks.specs.Walks.{Pair}
@@ -8,7 +8,7 @@ use Rattle.rc_program.specs.Answer.{Search}
 use Rattle.rc_pikevm.specs.Sparse.{Members}
 use Rattle.rc_pikevm.specs.Threads.{Thread, ThreadList}
 use Rattle.rc_pikevm.specs.Trace.{Trace, trace, done}
-use Rattle.rc_pikevm.specs.Passing.{pending, Carries, AllIn, AllFrom, count_from, IsSound, IsGrown, IsStepping}
+use Rattle.rc_pikevm.specs.Passing.{pending, Carries, AllIn, AllFrom, count_from, IsGrown, IsStepping}
 use Rattle.rc_pikevm.proofs.MoveLemmas.{waited}
 use Rattle.rc_pikevm.proofs.GrownLemmas.{count_push, count_all, in_push, from_push}
 
@@ -93,7 +93,7 @@ module _ (s : Search) (n hi at : ℕ) (all : List Thread) (threads0 : ThreadList
     -- a thread goes on here
     pub stepping_closes : (threads2 : ThreadList) (entered2 : Members) (slots : List (Option ℕ)) → t.at ≤ at → t.slots ≡ slots →
         ((below : List (Trace × Pair)) (best o : Option Trace) → Carries s at threads2.items entered2.items below best o →
-            Carries s at threads.items entered.items ((trace t.start slots, (t.place, at)) ∷ below) best o) →
+        Carries s at threads.items entered.items ((trace t.start slots, (t.place, at)) ∷ below) best o) →
         IsGrown n hi t.start at threads entered threads2 entered2 → 0 < length entered2.items →
         IsStepping s n hi at all (drop (index + 1) all) threads0 threads2 entered2
     stepping_closes threads2 entered2 slots now same closing grown some = record {
@@ -122,7 +122,7 @@ module _ (s : Search) (n hi at : ℕ) (all : List Thread) (threads0 : ThreadList
     -- a walk of the thread ends
     pub stepping_ends : (resting : List Thread) (other : List ℕ) (slots after : List (Option ℕ)) (p : ℕ) → t.at ≤ at → t.slots ≡ slots →
         ((below : List (Trace × Pair)) (best o : Option Trace) → Carries s at resting other [] (Some (done p t.start at after)) o →
-            Carries s at threads.items entered.items ((trace t.start slots, (t.place, at)) ∷ below) best o) →
+        Carries s at threads.items entered.items ((trace t.start slots, (t.place, at)) ∷ below) best o) →
         (below : List (Trace × Pair)) (best o : Option Trace) → Carries s at resting other [] (Some (done p t.start at after)) o →
         Carries s at [] [] (map pending all ++ below) best o
     stepping_ends resting other slots after p now same closing below best o x =

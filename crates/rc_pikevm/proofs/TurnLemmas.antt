@@ -1,7 +1,6 @@
 -- From one position to the next.
-use Rattle.std.proofs.Common.{◌≡◌, ◌≢◌, ℕ, zero, suc, ◌+◌, ◌-◌, ◌*◌, ◌<◌, ◌≤◌, ◌⊎◌, List, [], ◌∷◌, ◌++◌, length, map, min, inl, inr, ⊎_elim, sym, subst, ap, ◌∙◌, refl, arith, Bool, true, false, Option, Some, None, is_none, is_some, not, true≢false}
+use Rattle.std.proofs.Common.{◌≡◌, ℕ, suc, ◌+◌, ◌-◌, ◌*◌, ◌<◌, ◌≤◌, List, [], ◌∷◌, ◌++◌, length, map, min, ⊎_elim, sym, subst, ap, refl, arith, Bool, true, false, Option, Some, None, is_none, is_some, not, true≢false}
 use Rattle.std.proofs.lemmas.Bool.{cases_lt}
-use Rattle.rc_walks.specs.Walks.{Pair}
 use Rattle.rc_program.specs.Answer.{Search}
 use Rattle.rc_pikevm.specs.Sparse.{Members}
 use Rattle.rc_pikevm.specs.Threads.{Thread, ThreadList}
@@ -65,7 +64,7 @@ lined_next n hi width at insertions more curr next entered lined sound wide room
 pub turned_on : (s : Search) (width last at : ℕ) (curr next : List Thread) (items : List ℕ) (best : Option Ending) (found : List (Option ℕ)) (o : Option Trace)
     (is_open : Bool) → is_open ≡ is_none best →
     ((best o : Option Trace) → Carries s at next items (waiting_starts is_open width (at + 1) last) best o →
-        Carries s at [] [] (map pending curr ++ waiting_starts is_open width at last) best o) →
+    Carries s at [] [] (map pending curr ++ waiting_starts is_open width at last) best o) →
     Pending s width last (at + 1) next best found o → Pending s width last at curr best found o
 turned_on s width last at curr next items best found o is_open open_is step x =
     subst (λ b. Carries s at [] [] (map pending curr ++ waiting_starts b width at last) (best_of best found) o) open_is
@@ -77,7 +76,7 @@ turned_on s width last at curr next items best found o is_open open_is step x =
 pub turned_ends : (s : Search) (width last at : ℕ) (curr next : List Thread) (items : List ℕ) (best : Option Ending) (found0 found : List (Option ℕ))
     (o : Option Trace) (is_open : Bool) (end : Ending) → is_open ≡ is_none best →
     ((best o : Option Trace) → Carries s at next items [] (Some (done end.pattern end.start end.end found)) o →
-        Carries s at [] [] (map pending curr ++ waiting_starts is_open width at last) best o) →
+    Carries s at [] [] (map pending curr ++ waiting_starts is_open width at last) best o) →
     Pending s width last (at + 1) next (Some end) found o → Pending s width last at curr best found0 o
 turned_ends s width last at curr next items best found0 found o is_open end open_is step x =
     subst (λ b. Carries s at [] [] (map pending curr ++ waiting_starts b width at last) (best_of best found0) o) open_is

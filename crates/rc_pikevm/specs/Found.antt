@@ -1,8 +1,6 @@
 -- What a search has found.
-use Rattle.std.specs.Prelude.{◌≡◌, ℕ, ◌+◌, ◌*◌, ◌<◌, ◌≤◌, List, length, Option, Some, None, MatchOption, slice_index_or}
+use Rattle.std.specs.Prelude.{◌≡◌, ℕ, ◌<◌, List, length, Option, Some, None, MatchOption, slice_index_or}
 use Rattle.rc_program.specs.Answer.{Search, Chosen, chosen, pattern_of, last_of, last_visit}
-use Rattle.rc_pikevm.specs.Threads.{ThreadList}
-use Rattle.rc_pikevm.specs.Sparse.{Members}
 use Rattle.rc_pikevm.specs.declared.pass.Ending.{Ending}
 
 -- the chosen walk, of which the slots alone are told that stand in groups

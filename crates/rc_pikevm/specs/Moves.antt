@@ -1,5 +1,5 @@
 -- How a thread goes on from a place that it enters.
-use Rattle.std.specs.Prelude.{◌≡◌, ℕ, ◌+◌, ◌<◌, ◌≤◌, List, [], ◌∷◌, Bool, false, IsTrue, Option, None}
+use Rattle.std.specs.Prelude.{◌≡◌, ℕ, ◌+◌, ◌<◌, ◌≤◌, List, [], ◌∷◌, false, IsTrue, Option}
 use Rattle.rc_text.specs.Text.{Searched, high}
 use Rattle.rc_walks.specs.Walks.{Pair}
 use Rattle.rc_program.specs.Program.{slot, accept, place_at}

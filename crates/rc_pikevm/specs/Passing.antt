@@ -1,5 +1,5 @@
 -- What one ordered pass over a text keeps.
-use Rattle.std.specs.Prelude.{◌≡◌, ℕ, ◌+◌, ◌-◌, ◌<◌, ◌≤◌, ◌⊎◌, Bool, true, false, List, [], ◌∷◌, ◌++◌, length, map, reverse, Option, Some, None, IsTrue, slice_set, slice_index_or, if◌then◌else◌, is_none, option_map, nat_lt, nat_le, min, ◌*◌, MatchOption}
+use Rattle.std.specs.Prelude.{◌≡◌, ℕ, ◌+◌, ◌-◌, ◌<◌, ◌≤◌, ◌⊎◌, Bool, List, [], ◌∷◌, ◌++◌, length, map, reverse, Option, Some, None, IsTrue, slice_set, slice_index_or, if◌then◌else◌, is_none, option_map, nat_lt, nat_le, min, ◌*◌, MatchOption}
 use Rattle.rc_walks.specs.Walks.{Pair}
 use Rattle.rc_walks.specs.Threads.{Pends, noted}
 use Rattle.rc_program.specs.Answer.{Search, ends, next_of, IsFirstFrom, HasNoWalkFrom}
@@ -127,8 +127,8 @@ waiting_starts is_open width at last = if is_open then starts width at (last + 1
 abbrev pub Gives : Search → ℕ → ℕ → ℕ → Option Trace → Type 0
 Gives s width from last o =
     ((o ≡ None) × ((y : ℕ) → from ≤ y → y ≤ last → HasNoWalkFrom s y))
-        ⊎ ((x : ℕ) × (w : List Pair) × (from ≤ x) × (x ≤ last) × IsFirstFrom s x w × ((y : ℕ) → from ≤ y → y < x → HasNoWalkFrom s y)
-            × (o ≡ Some (noted (note s.places) (sets_out width x).0 w)))
+    ⊎ ((x : ℕ) × (w : List Pair) × (from ≤ x) × (x ≤ last) × IsFirstFrom s x w × ((y : ℕ) → from ≤ y → y < x → HasNoWalkFrom s y)
+    × (o ≡ Some (noted (note s.places) (sets_out width x).0 w)))
 
 -- what was noted along the best walk so far
 abbrev pub best_of : Option Ending → List (Option ℕ) → Option Trace

@@ -7,7 +7,7 @@ ghost use Rattle.rc_pikevm.specs.Trace.{Trace, trace, done};
 ghost use Rattle.rc_pikevm.specs.Passing.{Carries, waits, AllInside, IsSound, IsGrown, frames_of, resting_of, slots_after};
 ghost use Rattle.rc_pikevm.specs.declared.moves.Move.TheVariants.{Matches};
 
-use crate::moves::{look_up, Move};
+use crate::moves::{Move, look_up};
 use crate::sparse_set::SparseSet;
 use crate::threads::{Head, Threads};
 use rc_text::cursor::Cursor;
@@ -121,12 +121,12 @@ fn visit<C: Cursor>(
     ensures keeps { Keeps input.old input.new }
     ensures carries { (below : List (Trace × Pair)) (best o : Option Trace)
         → MatchOption result
-            (Carries (seen places.now terminator input.old) at threads.new.items entered.new.items
-                (waits start at (reverse stack.new.items) slots.new ++ below) best o)
-            (λ p. Carries (seen places.now terminator input.old) at threads.new.items entered.new.items []
-                (Some (done p start at slots.new)) o)
+        (Carries (seen places.now terminator input.old) at threads.new.items entered.new.items
+        (waits start at (reverse stack.new.items) slots.new ++ below) best o)
+        (λ p. Carries (seen places.now terminator input.old) at threads.new.items entered.new.items []
+        (Some (done p start at slots.new)) o)
         → Carries (seen places.now terminator input.old) at threads.old.items entered.old.items
-            ((trace start slots.old, (place, at)) ∷ (waits start at (reverse stack.old.items) slots.old ++ below)) best o }
+        ((trace start slots.old, (place, at)) ∷ (waits start at (reverse stack.old.items) slots.old ++ below)) best o }
     ensures grown { IsGrown (length places.now) hi start at threads.old entered.old threads.new entered.new }
     ensures some { 0 < length entered.new.items }
     ensures frames { AllInside (length places.now) (length slots.old) (reverse stack.new.items) }
@@ -172,11 +172,11 @@ pub fn close<C: Cursor>(
     ensures keeps { Keeps input.old input.new }
     ensures carries { (below : List (Trace × Pair)) (best o : Option Trace)
         → MatchOption result
-            (Carries (seen places.now terminator input.old) at threads.new.items entered.new.items below best o)
-            (λ p. Carries (seen places.now terminator input.old) at threads.new.items entered.new.items []
-                (Some (done p start at slots.new)) o)
+        (Carries (seen places.now terminator input.old) at threads.new.items entered.new.items below best o)
+        (λ p. Carries (seen places.now terminator input.old) at threads.new.items entered.new.items []
+        (Some (done p start at slots.new)) o)
         → Carries (seen places.now terminator input.old) at threads.old.items entered.old.items
-            ((trace start slots.old, (root, at)) ∷ below) best o }
+        ((trace start slots.old, (root, at)) ∷ below) best o }
     ensures grown { IsGrown (length places.now) hi start at threads.old entered.old threads.new entered.new }
     ensures some { 0 < length entered.new.items }
     ensures stack { (vec_len stack.new ≡ 0) × (length places.now + 1 ≤ vec_capacity stack.new) }
@@ -191,8 +191,8 @@ pub fn close<C: Cursor>(
         match frame {
             Frame::Explore(place) => {
                 if let Some(number) = visit(
-                    input, places, terminator, hi, pattern, at, place, start, threads, entered, stack,
-                    slots,
+                    input, places, terminator, hi, pattern, at, place, start, threads, entered,
+                    stack, slots,
                 ) {
                     stack.clear();
                     return Some(number);

@@ -11,7 +11,7 @@ ghost use Rattle.rc_pikevm.specs.Moves.{IsMove, IsSetting, seen};
 use rc_pattern::hir::{ClassBytesRange, ClassUnicodeRange, Look};
 use rc_program::look::{holds, scalar_at};
 use rc_text::cursor::Cursor;
-use rc_text::input::{around, byte_at, Input};
+use rc_text::input::{Input, around, byte_at};
 use rc_thompson::place::Place;
 
 /// How a thread goes on from a place that it enters.

@@ -6,7 +6,7 @@ ghost use Rattle.rc_pikevm.specs.Moves.{IsSetting, seen};
 ghost use Rattle.rc_pikevm.specs.Trace.{Trace, done};
 ghost use Rattle.rc_pikevm.specs.Passing.{Carries, pending, AllIn, AllFrom, count_from, IsSound, waiting_starts, Pending, IsLined, IsCounted, Gives, best_of};
 
-use crate::closure::{close, Frame};
+use crate::closure::{Frame, close};
 use crate::sparse_set::SparseSet;
 use crate::threads::Threads;
 use rc_text::cursor::Cursor;
@@ -54,9 +54,9 @@ fn step<C: Cursor>(
     ensures keeps { Keeps input.old input.new }
     ensures carries { (below : List (Trace × Pair)) (best o : Option Trace)
         → MatchOption result
-            (Carries (seen places.now terminator input.old) at threads.new.items entered.new.items below best o)
-            (λ r. Carries (seen places.now terminator input.old) at threads.new.items entered.new.items []
-                (Some (done r.0 r.1 at slots.new)) o)
+        (Carries (seen places.now terminator input.old) at threads.new.items entered.new.items below best o)
+        (λ r. Carries (seen places.now terminator input.old) at threads.new.items entered.new.items []
+        (Some (done r.0 r.1 at slots.new)) o)
         → Carries (seen places.now terminator input.old) at [] [] (map pending curr.now.items ++ below) best o }
     ensures sound { IsSound (length places.now) hi at threads.new entered.new }
     ensures same { (threads.new.room ≡ threads.old.room) × (threads.new.most ≡ threads.old.most)
@@ -113,12 +113,12 @@ fn advance<C: Cursor>(
     ensures keeps { Keeps input.old input.new }
     ensures carries { (best o : Option Trace)
         → MatchOption result
-            (Carries (seen places.now terminator input.old) at threads.new.items entered.new.items
-                (waiting_starts is_open (length slots.old) (at + 1) last) best o)
-            (λ r. Carries (seen places.now terminator input.old) at threads.new.items entered.new.items []
-                (Some (done r.0 r.1 at slots.new)) o)
+        (Carries (seen places.now terminator input.old) at threads.new.items entered.new.items
+        (waiting_starts is_open (length slots.old) (at + 1) last) best o)
+        (λ r. Carries (seen places.now terminator input.old) at threads.new.items entered.new.items []
+        (Some (done r.0 r.1 at slots.new)) o)
         → Carries (seen places.now terminator input.old) at [] []
-            (map pending curr.now.items ++ waiting_starts is_open (length slots.old) at last) best o }
+        (map pending curr.now.items ++ waiting_starts is_open (length slots.old) at last) best o }
     ensures sound { IsSound (length places.now) hi at threads.new entered.new }
     ensures same { (threads.new.room ≡ threads.old.room) × (threads.new.most ≡ threads.old.most)
         × (threads.new.width ≡ threads.old.width) }
@@ -210,8 +210,19 @@ fn turn<C: Cursor>(
     next.clear(slots.len());
     entered.clear();
     let end = advance(
-        input, places, terminator, hi, pattern, at, last, best.is_none(), curr, next, entered,
-        stack, slots,
+        input,
+        places,
+        terminator,
+        hi,
+        pattern,
+        at,
+        last,
+        best.is_none(),
+        curr,
+        next,
+        entered,
+        stack,
+        slots,
     );
     touch(entered, next);
     *insertions += entered.len() as u128;
@@ -283,8 +294,8 @@ pub fn pass<C: Cursor>(
     curr.clear(slots.len());
     'positions: for at in from..hi + 1 {
         best = turn(
-            input, places, terminator, hi, pattern, at, last, best, curr, next, entered, stack, slots,
-            found, insertions,
+            input, places, terminator, hi, pattern, at, last, best, curr, next, entered, stack,
+            slots, found, insertions,
         );
         mem::swap(curr, next);
         if is_done(curr, best, at, last) {

@@ -12,11 +12,11 @@ ghost use Rattle.rc_pikevm.specs.Caches.{IsCacheFor};
 
 use crate::cache::Cache;
 use crate::closure::Frame;
-use crate::pass::{pass, Ending};
+use crate::pass::{Ending, pass};
 use crate::sparse_set::SparseSet;
 use crate::threads::Threads;
 use rc_text::cursor::Cursor;
-use rc_text::input::{high, is_boundary_at, low, move_to, Input};
+use rc_text::input::{Input, high, is_boundary_at, low, move_to};
 use rc_text::types::{Anchored, Match, PatternID, Span};
 use rc_thompson::place::Place;
 

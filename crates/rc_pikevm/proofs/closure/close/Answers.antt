@@ -1,4 +1,4 @@
-use Rattle.std.proofs.Common.{◌≡◌, ℕ, ◌+◌, ◌≤◌, List, [], ◌∷◌, ◌++◌, length, reverse, refl, sym, ap, subst, ◌∙◌, arith, rules}
+use Rattle.std.proofs.Common.{◌≡◌, ℕ, List, [], ◌∷◌, ◌++◌, length, reverse, refl, sym, ap, subst, ◌∙◌, arith, rules}
 use Rattle.rc_pikevm.specs.Moves.{seen}
 use Rattle.rc_pikevm.specs.Trace.{trace}
 use Rattle.rc_pikevm.specs.Passing.{Carries, waits}

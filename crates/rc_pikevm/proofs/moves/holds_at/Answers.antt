@@ -1,4 +1,4 @@
-use Rattle.std.proofs.Common.{◌≡◌, ◌∙◌, ap, length, take, slice_range}
+use Rattle.std.proofs.Common.{◌∙◌, ap, take}
 use Rattle.rc_program.specs.Looks.{side_before, side_after, holds_between}
 use Rattle.rc_pikevm.proofs.AroundLemmas.{holds_around, rest_is}
 use Rattle.rc_pikevm.proofs.moves.holds_at.Goals as goal

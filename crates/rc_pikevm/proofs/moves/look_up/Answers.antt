@@ -1,8 +1,7 @@
-use Rattle.std.proofs.Common.{◌≡◌, ◌∙◌, ◌+◌, ap, arith, sym, map, slice_range}
+use Rattle.std.proofs.Common.{◌∙◌, ap, arith, sym, map, slice_range}
 use Rattle.rc_pattern.specs.Meaning.{char_range}
-use Rattle.rc_program.specs.Program.{place_at, scalar}
 use Rattle.rc_program.specs.Scalars.{scalar_at}
-use Rattle.rc_thompson.specs.Places.{place_of, places_of}
+use Rattle.rc_thompson.specs.Places.{place_of}
 use Rattle.rc_pikevm.specs.Moves.{seen}
 use Rattle.rc_pikevm.proofs.LookUpLemmas.{placed, scalar_size, scalar_move}
 use Rattle.rc_pikevm.proofs.moves.look_up.Goals as goal

@@ -1,4 +1,4 @@
-use Rattle.std.proofs.Common.{◌≡◌, ◌∙◌, ◌-◌, arith, ap, length, drop, take, min, slice_range}
+use Rattle.std.proofs.Common.{◌∙◌, ◌-◌, arith, ap, length, take, min, slice_range}
 use Rattle.rc_program.specs.Scalars.{scalar_at}
 use Rattle.rc_pikevm.proofs.AroundLemmas.{scalar_around, rest_is}
 use Rattle.rc_pikevm.proofs.moves.next_scalar.Goals as goal

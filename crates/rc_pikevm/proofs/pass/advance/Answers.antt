@@ -1,8 +1,8 @@
-use Rattle.std.proofs.Common.{◌≡◌, ℕ, ◌+◌, ◌≤◌, ◌<◌, List, [], ◌∷◌, ◌++◌, length, refl, sym, ap, subst, ◌∙◌, arith, rules, Option, Some, None, replicate}
+use Rattle.std.proofs.Common.{◌≡◌, ℕ, ◌+◌, List, [], ◌∷◌, length, sym, ap, subst, ◌∙◌, arith, Some, None, replicate}
 use Rattle.rc_walks.specs.Walks.{Pair}
 use Rattle.rc_pikevm.specs.Moves.{seen}
 use Rattle.rc_pikevm.specs.Trace.{Trace, trace, done}
-use Rattle.rc_pikevm.specs.Passing.{Carries, pending, waiting_starts}
+use Rattle.rc_pikevm.specs.Passing.{Carries, waiting_starts}
 use Rattle.rc_pikevm.proofs.StartLemmas.{waiting_next}
 use Rattle.rc_pikevm.proofs.KeptLemmas.{kept_seen}
 use Rattle.rc_pikevm.proofs.pass.advance.Goals as goal

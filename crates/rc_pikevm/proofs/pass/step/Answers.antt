@@ -1,14 +1,12 @@
-use Rattle.std.proofs.Common.{◌≡◌, ℕ, ◌+◌, ◌≤◌, ◌<◌, List, [], ◌∷◌, ◌++◌, length, refl, sym, ap, subst, ◌∙◌, arith, rules, Option, Some, min}
-use Rattle.rc_walks.specs.Walks.{Pair}
+use Rattle.std.proofs.Common.{◌+◌, ◌<◌, [], ◌∷◌, length, sym, subst, arith, rules, Some, min}
 use Rattle.rc_program.specs.Answer.{Search}
 use Rattle.rc_pikevm.specs.Moves.{seen}
-use Rattle.rc_pikevm.specs.Threads.{Thread, thread_of}
-use Rattle.rc_pikevm.specs.Trace.{Trace, trace, done}
-use Rattle.rc_pikevm.specs.Passing.{Carries, AllIn}
+use Rattle.rc_pikevm.specs.Threads.{thread_of}
+use Rattle.rc_pikevm.specs.Trace.{trace, done}
+use Rattle.rc_pikevm.specs.Passing.{Carries}
 use Rattle.rc_pikevm.proofs.StepLemmas.{in_at, from_at, has_room, stepping_waits, stepping_closes, stepping_ends}
 use Rattle.rc_pikevm.proofs.KeptLemmas.{kept_seen}
 use Rattle.rc_pikevm.proofs.pass.step.Goals as goal
-
 
 pub push-requires-clause-room : goal.push-requires-clause-room
 push-requires-clause-room g c =
@@ -20,8 +18,8 @@ pub threads-preserved-then-head-at : goal.threads-preserved-then-head-at
 threads-preserved-then-head-at g c =
     let later : c.args.at < c.get.result.0.at = omega (arith, c.if-head-at.true) in
     let room = has_room (seen c.args.places.now c.args.terminator c.args.input.now) (length c.args.places.now) c.args.hi c.args.at c.args.curr.now.items
-        c.args.threads.now c.threads.threads c.threads.entered c.threads.index (thread_of c.get.result.0 c.get.result.1.now) c.get.ensures.item
-        c.requires.inside c.threads.invariant.stepping later c.requires.room in
+    c.args.threads.now c.threads.threads c.threads.entered c.threads.index (thread_of c.get.result.0 c.get.result.1.now) c.get.ensures.item
+    c.requires.inside c.threads.invariant.stepping later c.requires.room in
     record {
       keeps = c.threads.invariant.keeps;
       stepping = stepping_waits (seen c.args.places.now c.args.terminator c.args.input.now) (length c.args.places.now) c.args.hi c.args.at
@@ -56,9 +54,10 @@ returns-in-Some-clause-begun g c x h =
     (c.threads.invariant.stepping.begun x h)
 
 pub returns-in-Some-clause-ended : goal.returns-in-Some-clause-ended
-returns-in-Some-clause-ended g c =
-    (c.in-Some.ensures.some,
-    λ x h. from_at x c.args.curr.now.items c.threads.index (thread_of c.get.result.0 c.get.result.1.now) h c.get.ensures.item)
+returns-in-Some-clause-ended g c = (
+  c.in-Some.ensures.some,
+  λ x h. from_at x c.args.curr.now.items c.threads.index (thread_of c.get.result.0 c.get.result.1.now) h c.get.ensures.item,
+)
 
 pub threads-preserved : goal.threads-preserved
 threads-preserved g c =

@@ -1,4 +1,3 @@
-use Rattle.std.proofs.Common.{◌≡◌, ◌<◌, arith}
 use Rattle.rc_pikevm.specs.Threads.{thread_of}
 use Rattle.rc_pikevm.proofs.StepLemmas.{in_at}
 use Rattle.rc_pikevm.proofs.pass.touch.Goals as goal

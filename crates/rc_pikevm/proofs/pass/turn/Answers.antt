@@ -1,17 +1,18 @@
-use Rattle.std.proofs.Common.{◌≡◌, ℕ, ◌+◌, ◌-◌, ◌*◌, ◌≤◌, ◌<◌, List, [], ◌∷◌, ◌++◌, length, map, min, refl, sym, ap, subst, ◌∙◌, arith, rules, Option, Some, None}
-use Rattle.rc_pikevm.specs.Sparse.{Members}
+use Rattle.std.proofs.Common.{◌+◌, ◌-◌, [], length, min, sym, ap, subst, ◌∙◌, arith, Some}
 use Rattle.rc_pikevm.specs.Threads.{ThreadList}
 use Rattle.rc_pikevm.specs.Moves.{seen}
-use Rattle.rc_pikevm.specs.Trace.{Trace, done}
-use Rattle.rc_pikevm.specs.Passing.{Carries, pending, waiting_starts, Pending, AllIn}
+use Rattle.rc_pikevm.specs.Trace.{done}
+use Rattle.rc_pikevm.specs.Passing.{Carries, AllIn}
 use Rattle.rc_pikevm.proofs.TurnLemmas.{none_from, lined_next, turned_on, turned_ends}
 use Rattle.rc_pikevm.proofs.pass.turn.Goals as goal
 
 pub touch-requires-clause-inside : goal.touch-requires-clause-inside
-touch-requires-clause-inside g c =
-    (c.args.at + 1, min c.args.hi (c.args.at + 4),
-    subst (λ n. AllIn n (c.args.at + 1) (min c.args.hi (c.args.at + 4)) c.advance-end.new.threads.items) (sym c.advance-end.ensures.sound.capacity)
-    c.advance-end.ensures.sound.inside)
+touch-requires-clause-inside g c = (
+  c.args.at + 1,
+  min c.args.hi (c.args.at + 4),
+  subst (λ n. AllIn n (c.args.at + 1) (min c.args.hi (c.args.at + 4)) c.advance-end.new.threads.items) (sym c.advance-end.ensures.sound.capacity)
+      c.advance-end.ensures.sound.inside,
+)
 
 pub returns-in-Some-clause-carries : goal.returns-in-Some-clause-carries
 returns-in-Some-clause-carries g c o x =

@@ -1,6 +1,6 @@
-use Rattle.std.proofs.Common.{◌≡◌, ℕ, ◌+◌, ◌-◌, ◌*◌, ◌≤◌, ◌<◌, List, length, refl, sym, ap, subst, ◌∙◌, arith, rules, Option, Some, None, Bool, true, false}
+use Rattle.std.proofs.Common.{◌≡◌, ◌+◌, ◌-◌, ◌≤◌, length, sym, ap, subst, ◌∙◌, arith, rules}
 use Rattle.std.proofs.Math.Nat.{mul-le-mul_left}
-use Rattle.rc_text.specs.Text.{low, high, is_boundary}
+use Rattle.rc_text.specs.Text.{is_boundary}
 use Rattle.rc_program.specs.Answer.{Search}
 use Rattle.rc_program.specs.Sought.{anchoring_of, search_over}
 use Rattle.rc_program.proofs.AnswerLemmas.{last_start_of}
@@ -12,7 +12,6 @@ use Rattle.rc_pikevm.proofs.SearchLemmas.{none_gives, some_gives, last_found, al
 use Rattle.rc_pikevm.proofs.search.choose.Given.{Over}
 use Rattle.rc_pikevm.proofs.search.choose.Goals as goal
 use Rattle.rc_pikevm.proofs.search.choose.Goals.{After-starts, After-pass}
-
 
 last_is : (g : Over) (c : After-starts g) → c.starts_of-pattern.result.1
     ≡ last_start_of (search_over (places_of c.args.places.now) c.args.terminator c.args.passes_over c.args.input.now)
@@ -32,7 +31,7 @@ last_there g c =
 
 gives : (g : Over) (c : After-pass g) →
     Gives (seen c.args.places.now c.args.terminator c.args.input.now) (length c.starts.slots) c.starts.from c.starts_of-pattern.result.1
-        (best_of c.pass.result c.pass.new.found)
+    (best_of c.pass.result c.pass.new.found)
 gives g c =
     subst (λ s. Gives s (length c.starts.slots) c.starts.from c.starts_of-pattern.result.1 (best_of c.pass.result c.pass.new.found))
     (kept_seen c.args.places.now c.args.terminator c.args.input.now c.starts.input c.starts.invariant.keeps) c.pass.ensures.gives
@@ -55,8 +54,8 @@ pub returns-then-not-passes_over-clause-chosen : goal.returns-then-not-passes_ov
 returns-then-not-passes_over-clause-chosen g c =
     let s : Search = search_over (places_of c.args.places.now) c.args.terminator c.args.passes_over c.args.input.now in
     let b = some_gives s (length c.starts.slots) c.starts.from c.starts_of-pattern.result.1 c.in-Some.end c.pass.new.found
-        (subst (λ r. Gives s (length c.starts.slots) c.starts.from c.starts_of-pattern.result.1 (best_of r c.pass.new.found)) c.in-Some.is
-        (gives g (goal.at.returns-then-not-passes_over-clause-chosen g c).After-pass)) in
+    (subst (λ r. Gives s (length c.starts.slots) c.starts.from c.starts_of-pattern.result.1 (best_of r c.pass.new.found)) c.in-Some.is
+    (gives g (goal.at.returns-then-not-passes_over-clause-chosen g c).After-pass)) in
     best_chosen s (length c.starts.slots) c.starts.from c.starts_of-pattern.result.1 c.starts.invariant.passed
     (last_there g (goal.at.returns-then-not-passes_over-clause-chosen g c).After-pass) c.in-Some.end c.pass.new.found b.0
     (omega (arith, c.starts.invariant.widths, c.pass.auto.found)) (omega (arith, c.starts.invariant.low.0, c.bounds-lo.ensures.low)) b.1
@@ -66,8 +65,8 @@ pub returns-then-is_boundary_at-clause-chosen : goal.returns-then-is_boundary_at
 returns-then-is_boundary_at-clause-chosen g c =
     let s : Search = search_over (places_of c.args.places.now) c.args.terminator c.args.passes_over c.args.input.now in
     let b = some_gives s (length c.starts.slots) c.starts.from c.starts_of-pattern.result.1 c.in-Some.end c.pass.new.found
-        (subst (λ r. Gives s (length c.starts.slots) c.starts.from c.starts_of-pattern.result.1 (best_of r c.pass.new.found)) c.in-Some.is
-        (gives g (goal.at.returns-then-is_boundary_at-clause-chosen g c).After-pass)) in
+    (subst (λ r. Gives s (length c.starts.slots) c.starts.from c.starts_of-pattern.result.1 (best_of r c.pass.new.found)) c.in-Some.is
+    (gives g (goal.at.returns-then-is_boundary_at-clause-chosen g c).After-pass)) in
     let content = c.in-Some.ensures.keeps.content ∙ c.starts.invariant.keeps.content in
     best_chosen s (length c.starts.slots) c.starts.from c.starts_of-pattern.result.1 c.starts.invariant.passed
     (last_there g (goal.at.returns-then-is_boundary_at-clause-chosen g c).After-pass) c.in-Some.end c.pass.new.found b.0
@@ -79,24 +78,24 @@ pub overflow_add-from : goal.overflow_add-from
 overflow_add-from g c =
     let s : Search = search_over (places_of c.args.places.now) c.args.terminator c.args.passes_over c.args.input.now in
     let b = some_gives s (length c.starts.slots) c.starts.from c.starts_of-pattern.result.1 c.in-Some.end c.pass.new.found
-        (subst (λ r. Gives s (length c.starts.slots) c.starts.from c.starts_of-pattern.result.1 (best_of r c.pass.new.found)) c.in-Some.is
-        (gives g (goal.at.overflow_add-from g c).After-pass)) in
+    (subst (λ r. Gives s (length c.starts.slots) c.starts.from c.starts_of-pattern.result.1 (best_of r c.pass.new.found)) c.in-Some.is
+    (gives g (goal.at.overflow_add-from g c).After-pass)) in
     omega (arith, b.1.high, c.starts.invariant.low.1, c.bounds-lo.ensures.small)
 
 pub starts-smaller : goal.starts-smaller
 starts-smaller g c =
     let s : Search = search_over (places_of c.args.places.now) c.args.terminator c.args.passes_over c.args.input.now in
     let b = some_gives s (length c.starts.slots) c.starts.from c.starts_of-pattern.result.1 c.in-Some.end c.pass.new.found
-        (subst (λ r. Gives s (length c.starts.slots) c.starts.from c.starts_of-pattern.result.1 (best_of r c.pass.new.found)) c.in-Some.is
-        (gives g (goal.at.starts-smaller g c).After-pass)) in
+    (subst (λ r. Gives s (length c.starts.slots) c.starts.from c.starts_of-pattern.result.1 (best_of r c.pass.new.found)) c.in-Some.is
+    (gives g (goal.at.starts-smaller g c).After-pass)) in
     omega (arith, b.1.low, b.1.high, c.starts-test.true)
 
 pub starts-preserved : goal.starts-preserved
 starts-preserved g c =
     let s : Search = search_over (places_of c.args.places.now) c.args.terminator c.args.passes_over c.args.input.now in
     let b = some_gives s (length c.starts.slots) c.starts.from c.starts_of-pattern.result.1 c.in-Some.end c.pass.new.found
-        (subst (λ r. Gives s (length c.starts.slots) c.starts.from c.starts_of-pattern.result.1 (best_of r c.pass.new.found)) c.in-Some.is
-        (gives g (goal.at.starts-preserved g c).After-pass)) in
+    (subst (λ r. Gives s (length c.starts.slots) c.starts.from c.starts_of-pattern.result.1 (best_of r c.pass.new.found)) c.in-Some.is
+    (gives g (goal.at.starts-preserved g c).After-pass)) in
     let content = c.in-Some.ensures.keeps.content ∙ c.starts.invariant.keeps.content in
     record {
       keeps = search rules;

@@ -1,4 +1,4 @@
-use Rattle.std.proofs.Common.{◌≡◌, ℕ, ◌+◌, ◌-◌, ◌*◌, ◌≤◌, length, vec_len, vec_capacity}
+use Rattle.std.proofs.Common.{◌≡◌, ◌+◌, ◌-◌, ◌*◌, ◌≤◌, length, vec_len, vec_capacity}
 use Rattle.rc_text.specs.Text.{Keeps}
 use Rattle.rc_program.specs.Sought.{search_over}
 use Rattle.rc_thompson.specs.Places.{places_of}

@@ -1,4 +1,4 @@
-use Rattle.std.proofs.Common.{◌≡◌, ◌∙◌, sym, ap, arith, Some, None}
+use Rattle.std.proofs.Common.{◌∙◌, sym, ap, Some}
 use Rattle.rc_text.specs.Found.{Found}
 use Rattle.rc_program.specs.Sought.{search_over}
 use Rattle.rc_thompson.specs.Places.{places_of}

@@ -1,4 +1,4 @@
-use Rattle.std.proofs.Common.{◌≡◌, ◌∙◌, ◌+◌, ◌-◌, ◌≤◌, ℕ, sym, ap, subst, arith, Option, Some, None, length}
+use Rattle.std.proofs.Common.{◌≡◌, ◌∙◌, sym, ap, arith, Some}
 use Rattle.std.specs.Option.{option_map}
 use Rattle.std.proofs.lemmas.Option.{none-some, same_Some}
 use Rattle.rc_text.specs.Found.{Found}
@@ -34,9 +34,9 @@ returns-clause-slots g c =
 pub returns-clause-counted : goal.returns-clause-counted
 returns-clause-counted g c m e =
     let f = same_Some _ _ (sym (answer_is (search_over (places_of c.args.places.now) c.args.terminator c.args.passes_over c.args.input.now) c.in-Some.end
-        c.choose_in.new.slots c.in-Some.ensures.chosen.0 c.in-Some.ensures.chosen.1) ∙ e) in
+    c.choose_in.new.slots c.in-Some.ensures.chosen.0 c.in-Some.ensures.chosen.1) ∙ e) in
     let start : c.in-Some.end.start ≡ m.start = ap (λ (x : Found). x.start) f in
     let end : c.in-Some.end.end ≡ m.end = ap (λ (x : Found). x.end) f in
     let w = within (search_over (places_of c.args.places.now) c.args.terminator c.args.passes_over c.args.input.now) c.in-Some.end
-        c.choose_in.new.slots c.in-Some.ensures.chosen.0 c.in-Some.ensures.chosen.1 in
+    c.choose_in.new.slots c.in-Some.ensures.chosen.0 c.in-Some.ensures.chosen.1 in
     omega (arith, start, end, w.1, c.in-Some.ensures.counted)

@@ -1,4 +1,4 @@
-use Rattle.std.proofs.Common.{refl, sym, subst, ap, ◌≡◌, ◌<◌, ◌≤◌, ◌∙◌, length, slice_index, List, ℕ, arith}
+use Rattle.std.proofs.Common.{refl, ap, ◌<◌, length, arith}
 use Rattle.std.proofs.lemmas.List.{get_or_read_under}
 use Rattle.rc_pikevm.specs.Sparse.{Members}
 use Rattle.rc_pikevm.proofs.SparseLemmas.{looked_up, not_looked_up}

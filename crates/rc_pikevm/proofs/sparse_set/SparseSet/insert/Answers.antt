@@ -1,4 +1,4 @@
-use Rattle.std.proofs.Common.{refl, sym, subst, ap, ◌≡◌, ◌<◌, ◌≤◌, ◌∙◌, length, slice_index, slice_set, List, ℕ, arith}
+use Rattle.std.proofs.Common.{ap, ◌≡◌, ◌<◌, length, arith}
 use Rattle.std.proofs.lemmas.List.{length_push}
 use Rattle.rc_pikevm.specs.Sparse.{Members, Has}
 use Rattle.rc_pikevm.proofs.SparseLemmas.{set_of, room_for, indexed_push}
@@ -28,8 +28,10 @@ invariant_of-self c =
     let inside : c.args.number < length a.sparse.items = let e = ap (λ (m : Members). m.capacity) c.self.view_is in omega (arith, e, c.requires, a.sparse.ok.0) in
     let new : ¬ Has a.dense.items c.args.number = let e = ap (λ (m : Members). m.items) c.self.view_is in rw e (λ h. c.if-contains.ensures h) in
     let len : c.len.result ≡ length a.dense.items = omega (arith, c.len.ensures, a.dense.ok.0) in
-    rw (c.push_reserved.ensures.items, len) (omega (arith, c.self.invariant.0, c.push_reserved.ensures.capacity),
-    indexed_push a.dense.items a.sparse.items c.args.number c.self.invariant.1 new inside)
+    rw (c.push_reserved.ensures.items, len) (
+      omega (arith, c.self.invariant.0, c.push_reserved.ensures.capacity),
+      indexed_push a.dense.items a.sparse.items c.args.number c.self.invariant.1 new inside,
+    )
 
 pub returns-clause-few : goal.returns-clause-few
 returns-clause-few c =

@@ -1,5 +1,3 @@
-use Rattle.std.proofs.Common.{sym, subst}
-use Rattle.rc_pikevm.specs.Sparse.{Members, IsSet}
 use Rattle.rc_pikevm.proofs.SparseLemmas.{set_of}
 use Rattle.rc_pikevm.proofs.sparse_set.SparseSet.len.Goals as goal
 

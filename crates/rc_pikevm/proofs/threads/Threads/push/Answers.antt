@@ -1,7 +1,7 @@
 use Rattle.std.proofs.Common.{◌≡◌, ◌+◌, ◌*◌, ◌≤◌, ◌∙◌, length, vec_len, ap, sym, arith, length-append}
 use Rattle.std.proofs.lemmas.Nat.{row_fits}
 use Rattle.std.proofs.Math.Nat.{mul-le-mul_left}
-use Rattle.rc_pikevm.specs.Threads.{ThreadList, thread_of}
+use Rattle.rc_pikevm.specs.Threads.{ThreadList}
 use Rattle.rc_pikevm.proofs.RowLemmas.{length-threads_of, threads_of_append}
 use Rattle.rc_pikevm.proofs.threads.Threads.push.Goals as goal
 
