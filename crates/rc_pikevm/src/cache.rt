@@ -2,9 +2,10 @@
 
 use crate::closure::Frame;
 use crate::sparse_set::SparseSet;
-use crate::threads::Threads;
+use crate::threads::{Head, Threads};
 use std::alloc::{AllocError, Global};
 use std::marker::Model;
+use std::mem::size_of;
 
 /// What a search works in: all memory that it needs, made once.
 #[derive(Drop)]
@@ -69,5 +70,24 @@ impl Cache {
         ensures { result ≡ self.now.insertions }
     {
         self.insertions
+    }
+
+    /// About how many bytes the cache has taken for its lists.
+    pub fn memory_usage(&self) -> usize {
+        let heads = self.places.saturating_mul(8 * size_of::<Head>());
+        let cells = self.places.saturating_mul(8).saturating_add(2);
+        let rows = self
+            .slots
+            .saturating_mul(cells)
+            .saturating_mul(size_of::<Option<usize>>());
+        let set = self.places.saturating_mul(2 * size_of::<usize>());
+        let frames = self
+            .places
+            .saturating_add(1)
+            .saturating_mul(size_of::<Frame>());
+        heads
+            .saturating_add(rows)
+            .saturating_add(set)
+            .saturating_add(frames)
     }
 }

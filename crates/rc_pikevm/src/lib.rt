@@ -2,9 +2,11 @@
 #![tactic(auto)]
 
 pub mod cache;
-pub mod closure;
-pub mod moves;
-pub mod pass;
+mod closure;
+mod moves;
+mod pass;
 pub mod search;
 pub mod sparse_set;
-pub mod threads;
+#[cfg(test)]
+mod tests;
+mod threads;
