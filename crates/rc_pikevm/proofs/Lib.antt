@@ -13,3 +13,4 @@ pub mod TurnLemmas
 pub mod PassingLemmas
 pub mod NotedLemmas
 pub mod SearchLemmas
+pub mod NearLemmas

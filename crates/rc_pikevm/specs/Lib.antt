@@ -5,3 +5,5 @@ pub mod Moves
 pub mod Passing
 pub mod Found
 pub mod Caches
+pub mod Windows
+pub mod Near

@@ -10,3 +10,4 @@ pub mod sparse_set;
 #[cfg(test)]
 mod tests;
 mod threads;
+mod window;
