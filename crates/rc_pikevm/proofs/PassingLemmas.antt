@@ -1,5 +1,5 @@
 -- The pass over all positions.
-use Rattle.std.proofs.Common.{◌≡◌, ℕ, suc, ◌+◌, ◌-◌, ◌*◌, ◌<◌, ◌≤◌, ◌⊎◌, List, [], ◌∷◌, ◌++◌, length, map, min, ⊎_elim, sym, subst, ap, refl, arith, true, false, Option, None, is_none}
+use Rattle.std.proofs.Common.{◌≡◌, ℕ, suc, ◌+◌, ◌-◌, ◌*◌, ◌^◌, ◌<◌, ◌≤◌, ◌⊎◌, List, [], ◌∷◌, ◌++◌, length, map, min, ⊎_elim, sym, subst, ap, refl, arith, true, false, Option, None, is_none}
 use Rattle.std.proofs.Math.Nat.{mul-le-mul_left, mul-le-mul_right}
 use Rattle.rc_walks.specs.Threads.{IsFirstOf, over}
 use Rattle.rc_program.specs.Answer.{Search, next_of}
@@ -91,3 +91,17 @@ pub counted_in_all : (n at from hi insertions : ℕ) → insertions ≤ n * (at 
 counted_in_all n at from hi insertions few within low =
     let m : n * (at - from) ≤ n * (hi - from + 1) = mul-le-mul_left n (omega arith) in
     omega (arith, m, few)
+
+-- what was counted fits a u128, with the places of one position more
+pub counts_fit : (n k insertions : ℕ) → n < 2 ^ 63 → k < 2 ^ 64 → insertions ≤ n * k → insertions + n < 2 ^ 128
+counts_fit n k insertions few short counted =
+    let m : n * k ≤ n * 18446744073709551616 = mul-le-mul_left n (omega (arith, short)) in
+    omega (arith, m, few, counted)
+
+-- the same, where the last of the positions adds n at most
+pub counted_at_last : (n at from hi insertions insertions2 : ℕ) → insertions ≤ n * (at - from) → insertions2 ≤ insertions + n → at < hi + 1 → from ≤ at →
+    insertions2 ≤ n * (hi - from + 1)
+counted_at_last n at from hi insertions insertions2 before more within low =
+    let m : n * suc (at - from) ≤ n * (hi - from + 1) = mul-le-mul_left n (omega (arith, within, low)) in
+    let e : n * suc (at - from) ≡ n * (at - from) + n = omega arith in
+    omega (arith, m, e, before, more)

@@ -1,7 +1,8 @@
 //! The closure of a thread at one position: all places that it reaches without reading.
 ghost use Rattle.std.specs.Prelude.{◌≡◌, ◌≢◌, ℕ, ◌+◌, ◌*◌, ◌<◌, ◌≤◌, List, [], ◌∷◌, ◌++◌, length, reverse, vec_len, vec_capacity, Option, None, Some, MatchOption, slice_set, slice_index_or};
 ghost use Rattle.rc_walks.specs.Walks.{Pair};
-ghost use Rattle.rc_text.specs.Text.{Keeps, low};
+ghost use Rattle.rc_text.specs.Text.{Searched};
+ghost use Rattle.rc_pikevm.specs.Near.{IsNear};
 ghost use Rattle.rc_pikevm.specs.Moves.{IsSetting, seen};
 ghost use Rattle.rc_pikevm.specs.Trace.{Trace, trace, done};
 ghost use Rattle.rc_pikevm.specs.Passing.{Carries, waits, AllInside, IsSound, IsGrown, frames_of, resting_of, slots_after};
@@ -10,8 +11,6 @@ ghost use Rattle.rc_pikevm.specs.declared.moves.Move.TheVariants.{Matches};
 use crate::moves::{Move, look_up};
 use crate::sparse_set::SparseSet;
 use crate::threads::{Head, Threads};
-use rc_text::cursor::Cursor;
-use rc_text::input::Input;
 use rc_thompson::place::Place;
 
 /// What a closure comes back to when the way that it follows ends.
@@ -97,13 +96,14 @@ fn ended(step: Move) -> Option<usize>
 
 /// Enters a place, unless it was entered at this position already. Answers the pattern where a walk
 /// ends there.
-fn visit<C: Cursor>(
-    input: &mut Input<C>,
+fn visit(
     places: &[Place],
     terminator: u8,
     hi: usize,
     pattern: Option<usize>,
     at: usize,
+    before: &[u8],
+    after: &[u8],
     place: usize,
     start: usize,
     threads: &mut Threads,
@@ -111,21 +111,21 @@ fn visit<C: Cursor>(
     stack: &mut Vec<Frame>,
     slots: &mut [Option<usize>],
 ) -> Option<usize>
-    requires setting { IsSetting places.now hi pattern input.old }
+    ghost text: { Searched }
+    requires setting { IsSetting places.now hi pattern text }
     requires place_in { place < length places.now }
-    requires at_in { (low input.old ≤ at) × (at ≤ hi) }
+    requires near { IsNear (seen places.now terminator text) at before.now after.now }
     requires sound { IsSound (length places.now) hi at threads.old entered.old }
     requires frames { AllInside (length places.now) (length slots.old) (reverse stack.old.items) }
     requires width { length slots.old ≡ threads.old.width }
     requires deep { (vec_len stack.old ≤ length entered.old.items) × (length places.now + 1 ≤ vec_capacity stack.old) }
-    ensures keeps { Keeps input.old input.new }
     ensures carries { (below : List (Trace × Pair)) (best o : Option Trace)
         → MatchOption result
-        (Carries (seen places.now terminator input.old) at threads.new.items entered.new.items
+        (Carries (seen places.now terminator text) at threads.new.items entered.new.items
         (waits start at (reverse stack.new.items) slots.new ++ below) best o)
-        (λ p. Carries (seen places.now terminator input.old) at threads.new.items entered.new.items []
+        (λ p. Carries (seen places.now terminator text) at threads.new.items entered.new.items []
         (Some (done p start at slots.new)) o)
-        → Carries (seen places.now terminator input.old) at threads.old.items entered.old.items
+        → Carries (seen places.now terminator text) at threads.old.items entered.old.items
         ((trace start slots.old, (place, at)) ∷ (waits start at (reverse stack.old.items) slots.old ++ below)) best o }
     ensures grown { IsGrown (length places.now) hi start at threads.old entered.old threads.new entered.new }
     ensures some { 0 < length entered.new.items }
@@ -136,7 +136,7 @@ fn visit<C: Cursor>(
     if !entered.insert(place) {
         return None;
     }
-    let step = look_up(input, places, terminator, hi, pattern, place, at);
+    let step = look_up(places, terminator, hi, pattern, place, at, before, after);
     if let Some(number) = ended(step) {
         return Some(number);
     }
@@ -149,13 +149,14 @@ fn visit<C: Cursor>(
 ///
 /// Answers the pattern where a walk ends on the way: the slots are those of that walk then, and the
 /// ways that were still to come are dropped.
-pub fn close<C: Cursor>(
-    input: &mut Input<C>,
+pub fn close(
     places: &[Place],
     terminator: u8,
     hi: usize,
     pattern: Option<usize>,
     at: usize,
+    before: &[u8],
+    after: &[u8],
     root: usize,
     start: usize,
     threads: &mut Threads,
@@ -163,26 +164,25 @@ pub fn close<C: Cursor>(
     stack: &mut Vec<Frame>,
     slots: &mut [Option<usize>],
 ) -> Option<usize>
-    requires setting { IsSetting places.now hi pattern input.old }
+    ghost text: { Searched }
+    requires setting { IsSetting places.now hi pattern text }
     requires root_in { root < length places.now }
-    requires at_in { (low input.old ≤ at) × (at ≤ hi) }
+    requires near { IsNear (seen places.now terminator text) at before.now after.now }
     requires sound { IsSound (length places.now) hi at threads.old entered.old }
     requires width { length slots.old ≡ threads.old.width }
     requires stack { (vec_len stack.old ≡ 0) × (length places.now + 1 ≤ vec_capacity stack.old) }
-    ensures keeps { Keeps input.old input.new }
     ensures carries { (below : List (Trace × Pair)) (best o : Option Trace)
         → MatchOption result
-        (Carries (seen places.now terminator input.old) at threads.new.items entered.new.items below best o)
-        (λ p. Carries (seen places.now terminator input.old) at threads.new.items entered.new.items []
+        (Carries (seen places.now terminator text) at threads.new.items entered.new.items below best o)
+        (λ p. Carries (seen places.now terminator text) at threads.new.items entered.new.items []
         (Some (done p start at slots.new)) o)
-        → Carries (seen places.now terminator input.old) at threads.old.items entered.old.items
+        → Carries (seen places.now terminator text) at threads.old.items entered.old.items
         ((trace start slots.old, (root, at)) ∷ below) best o }
     ensures grown { IsGrown (length places.now) hi start at threads.old entered.old threads.new entered.new }
     ensures some { 0 < length entered.new.items }
     ensures stack { (vec_len stack.new ≡ 0) × (length places.now + 1 ≤ vec_capacity stack.new) }
 {
-    if let Some(number) = visit(
-        input, places, terminator, hi, pattern, at, root, start, threads, entered, stack, slots,
+    if let Some(number) = visit(places, terminator, hi, pattern, at, before, after, root, start, threads, entered, stack, slots,
     ) {
         stack.clear();
         return Some(number);
@@ -190,8 +190,7 @@ pub fn close<C: Cursor>(
     'frames: while let Some(frame) = stack.pop() {
         match frame {
             Frame::Explore(place) => {
-                if let Some(number) = visit(
-                    input, places, terminator, hi, pattern, at, place, start, threads, entered,
+                if let Some(number) = visit(places, terminator, hi, pattern, at, before, after, place, start, threads, entered,
                     stack, slots,
                 ) {
                     stack.clear();

@@ -1,17 +1,14 @@
 //! How a thread goes on from a place.
-ghost use Rattle.std.specs.Prelude.{◌≡◌, ◌<◌, ◌≤◌, length, slice_get, slice_range, map};
+ghost use Rattle.std.specs.Prelude.{◌≡◌, ◌<◌, ◌≤◌, length, slice_get, take, map};
 ghost use Rattle.rc_pattern.specs.Meaning.{byte_range, char_range};
-ghost use Rattle.rc_text.specs.Text.{Keeps, low, slice_end};
+ghost use Rattle.rc_text.specs.Text.{Searched};
+ghost use Rattle.rc_pikevm.specs.Near.{IsNear};
 ghost use Rattle.rc_program.specs.Program.{in_ranges, is_match_place, accept};
 ghost use Rattle.rc_program.specs.Scalars.{scalar_at};
-ghost use Rattle.rc_program.specs.Sought.{text_of};
-ghost use Rattle.rc_program.specs.Text.{holds};
 ghost use Rattle.rc_pikevm.specs.Moves.{IsMove, IsSetting, seen};
 
 use rc_pattern::hir::{ClassBytesRange, ClassUnicodeRange, Look};
 use rc_program::look::{holds, scalar_at};
-use rc_text::cursor::Cursor;
-use rc_text::input::{Input, around, byte_at};
 use rc_thompson::place::Place;
 
 /// How a thread goes on from a place that it enters.
@@ -32,53 +29,60 @@ pub enum Move {
 }
 
 /// How a thread goes on from a place that it enters at the byte `at`, where no walk goes past `hi`
-/// and, where `pattern` is Some, that pattern's walks alone count.
-pub fn look_up<C: Cursor>(
-    input: &mut Input<C>,
+/// and, where `pattern` is Some, that pattern's walks alone count. `before` and `after` are the bytes
+/// on the two sides of `at`: four at least, or all that the slice has.
+pub fn look_up(
     places: &[Place],
     terminator: u8,
     hi: usize,
     pattern: Option<usize>,
     place: usize,
     at: usize,
+    before: &[u8],
+    after: &[u8],
 ) -> Move
-    requires setting { IsSetting places.now hi pattern input.old }
+    ghost text: { Searched }
+    requires setting { IsSetting places.now hi pattern text }
     requires place_in { place < length places.now }
-    requires at_in { (low input.old ≤ at) × (at ≤ hi) }
-    ensures keeps { Keeps input.old input.new }
-    ensures is_move { IsMove (seen places.now terminator input.old) (place, at) result }
+    requires near { IsNear (seen places.now terminator text) at before.now after.now }
+    ensures { IsMove (seen places.now terminator text) (place, at) result }
 {
     match &places[place] {
         Place::Choice(first, second) => Move::Fork(*first, *second),
         Place::Pass(next) => Move::Stays(*next),
         Place::Dead => Move::Stops,
         Place::Byte(byte, next) => {
-            if next_byte(input, at, hi) == Some(*byte) {
-                return Move::Reads(*next, at + 1);
+            let Some(found) = next_byte(after, hi - at) else {
+                return Move::Stops;
+            };
+            if found != *byte {
+                return Move::Stops;
             }
-            Move::Stops
+            Move::Reads(*next, at + 1)
         }
         Place::Bytes(ranges, next) => {
-            if let Some(byte) = next_byte(input, at, hi) {
-                if has_byte(ranges, byte) {
-                    return Move::Reads(*next, at + 1);
-                }
+            let Some(found) = next_byte(after, hi - at) else {
+                return Move::Stops;
+            };
+            if !has_byte(ranges, found) {
+                return Move::Stops;
             }
-            Move::Stops
+            Move::Reads(*next, at + 1)
         }
         Place::Scalar(ranges, next) => {
-            if let Some((c, count)) = next_scalar(input, at, hi) {
-                if has_char(ranges, c) {
-                    return Move::Reads(*next, at + count);
-                }
+            let Some((c, count)) = next_scalar(after, hi - at) else {
+                return Move::Stops;
+            };
+            if !has_char(ranges, c) {
+                return Move::Stops;
             }
-            Move::Stops
+            Move::Reads(*next, at + count)
         }
         Place::Guard(look, next) => {
-            if holds_at(input, terminator, *look, at) {
-                return Move::Stays(*next);
+            if !holds(*look, terminator, before, after) {
+                return Move::Stops;
             }
-            Move::Stops
+            Move::Stays(*next)
         }
         Place::Slot(slot, next) => Move::Save(*slot, *next),
         Place::Accept(number) => {
@@ -124,35 +128,19 @@ fn has_char(ranges: &Vec<ClassUnicodeRange>, c: char) -> bool
     false
 }
 
-/// The byte at `at`, where that is before `hi`.
-fn next_byte<C: Cursor>(input: &mut Input<C>, at: usize, hi: usize) -> Option<u8>
-    requires { hi ≤ length input.old.content }
-    ensures keeps { Keeps input.old input.new }
-    ensures value { result ≡ slice_get (slice_range input.old.content at hi) 0 }
+/// The first of the bytes, where one of the first `room` stands there.
+fn next_byte(after: &[u8], room: usize) -> Option<u8>
+    ensures { result ≡ slice_get (take room after.now) 0 }
 {
-    if at >= hi {
+    if room == 0 || after.is_empty() {
         return None;
     }
-    byte_at(input, at)
+    Some(after[0])
 }
 
-/// The scalar whose bytes stand from `at` on, before `hi`, and how many they are.
-fn next_scalar<C: Cursor>(input: &mut Input<C>, at: usize, hi: usize) -> Option<(char, usize)>
-    requires inside { (input.old.slice.start ≤ at) × (at ≤ hi) × (hi ≤ slice_end input.old) }
-    ensures keeps { Keeps input.old input.new }
-    ensures value { result ≡ scalar_at (slice_range input.old.content at hi) }
+/// The scalar that begins the first `room` of the bytes, and how many it takes.
+fn next_scalar(after: &[u8], room: usize) -> Option<(char, usize)>
+    ensures { result ≡ scalar_at (take room after.now) }
 {
-    let (bytes, place) = around(input, at);
-    let after = &bytes[place..];
-    scalar_at(&after[..after.len().min(hi - at)])
-}
-
-/// Whether the assertion holds at `at`.
-fn holds_at<C: Cursor>(input: &mut Input<C>, terminator: u8, look: Look, at: usize) -> bool
-    requires inside { (input.old.slice.start ≤ at) × (at ≤ slice_end input.old) }
-    ensures keeps { Keeps input.old input.new }
-    ensures value { result ≡ holds (text_of terminator input.old) look at }
-{
-    let (bytes, place) = around(input, at);
-    holds(look, terminator, &bytes[..place], &bytes[place..])
+    scalar_at(&after[..after.len().min(room)])
 }

@@ -1,7 +1,8 @@
 //! One ordered pass over a text.
 ghost use Rattle.std.specs.Prelude.{◌≡◌, ℕ, ◌+◌, ◌-◌, ◌*◌, ◌<◌, ◌≤◌, ◌⊎◌, ⊤, List, [], ◌∷◌, ◌++◌, length, map, min, vec_len, vec_capacity, Option, None, Some, MatchOption, Bool, true, false, replicate, ◌^◌, IsTrue, is_none};
 ghost use Rattle.rc_walks.specs.Walks.{Pair};
-ghost use Rattle.rc_text.specs.Text.{Keeps, low};
+ghost use Rattle.rc_text.specs.Text.{Searched, Keeps, low};
+ghost use Rattle.rc_pikevm.specs.Near.{IsNear};
 ghost use Rattle.rc_pikevm.specs.Moves.{IsSetting, seen};
 ghost use Rattle.rc_pikevm.specs.Trace.{Trace, done};
 ghost use Rattle.rc_pikevm.specs.Passing.{Carries, pending, AllIn, AllFrom, count_from, IsSound, waiting_starts, Pending, IsLined, IsCounted, Gives, best_of};
@@ -9,6 +10,7 @@ ghost use Rattle.rc_pikevm.specs.Passing.{Carries, pending, AllIn, AllFrom, coun
 use crate::closure::{Frame, close};
 use crate::sparse_set::SparseSet;
 use crate::threads::Threads;
+use crate::window::{open, reach};
 use rc_text::cursor::Cursor;
 use rc_text::input::Input;
 use rc_thompson::place::Place;
@@ -30,34 +32,35 @@ pub struct Ending {
 ///
 /// Answers the pattern and the start of the first thread of which a walk ends: the slots are those
 /// of that walk then, and the threads behind it are dropped.
-fn step<C: Cursor>(
-    input: &mut Input<C>,
+fn step(
     places: &[Place],
     terminator: u8,
     hi: usize,
     pattern: Option<usize>,
     at: usize,
+    before: &[u8],
+    after: &[u8],
     curr: &Threads,
     threads: &mut Threads,
     entered: &mut SparseSet,
     stack: &mut Vec<Frame>,
     slots: &mut [Option<usize>],
 ) -> Option<(usize, usize)>
-    requires setting { IsSetting places.now hi pattern input.old }
-    requires at_in { (low input.old ≤ at) × (at ≤ hi) }
+    ghost text: { Searched }
+    requires setting { IsSetting places.now hi pattern text }
+    requires near { IsNear (seen places.now terminator text) at before.now after.now }
     requires inside { AllIn (length places.now) at (min hi (at + 3)) curr.now.items }
     requires widths { (curr.now.width ≡ length slots.old) × (threads.old.width ≡ length slots.old) }
     requires empty { (threads.old.items ≡ []) × (entered.old.items ≡ []) }
     requires capacity { entered.old.capacity ≡ length places.now }
     requires room { count_from (at + 1) curr.now.items + length places.now ≤ threads.old.room }
     requires stack { (vec_len stack.old ≡ 0) × (length places.now + 1 ≤ vec_capacity stack.old) }
-    ensures keeps { Keeps input.old input.new }
     ensures carries { (below : List (Trace × Pair)) (best o : Option Trace)
         → MatchOption result
-        (Carries (seen places.now terminator input.old) at threads.new.items entered.new.items below best o)
-        (λ r. Carries (seen places.now terminator input.old) at threads.new.items entered.new.items []
+        (Carries (seen places.now terminator text) at threads.new.items entered.new.items below best o)
+        (λ r. Carries (seen places.now terminator text) at threads.new.items entered.new.items []
         (Some (done r.0 r.1 at slots.new)) o)
-        → Carries (seen places.now terminator input.old) at [] [] (map pending curr.now.items ++ below) best o }
+        → Carries (seen places.now terminator text) at [] [] (map pending curr.now.items ++ below) best o }
     ensures sound { IsSound (length places.now) hi at threads.new entered.new }
     ensures same { (threads.new.room ≡ threads.old.room) × (threads.new.most ≡ threads.old.most)
         × (threads.new.width ≡ threads.old.width) }
@@ -75,8 +78,7 @@ fn step<C: Cursor>(
             continue;
         }
         slots.copy_from_slice(row);
-        if let Some(number) = close(
-            input, places, terminator, hi, pattern, at, head.place, head.start, threads, entered,
+        if let Some(number) = close(places, terminator, hi, pattern, at, before, after, head.place, head.start, threads, entered,
             stack, slots,
         ) {
             return Some((number, head.start));
@@ -87,13 +89,14 @@ fn step<C: Cursor>(
 
 /// Lets the threads of `curr` go on at `at`, and after them, where `is_open` and `at` is at most
 /// `last`, a new thread set out there. The rest is as in `step`.
-fn advance<C: Cursor>(
-    input: &mut Input<C>,
+fn advance(
     places: &[Place],
     terminator: u8,
     hi: usize,
     pattern: Option<usize>,
     at: usize,
+    before: &[u8],
+    after: &[u8],
     last: usize,
     is_open: bool,
     curr: &Threads,
@@ -102,22 +105,22 @@ fn advance<C: Cursor>(
     stack: &mut Vec<Frame>,
     slots: &mut [Option<usize>],
 ) -> Option<(usize, usize)>
-    requires setting { IsSetting places.now hi pattern input.old }
-    requires at_in { (low input.old ≤ at) × (at ≤ hi) }
+    ghost text: { Searched }
+    requires setting { IsSetting places.now hi pattern text }
+    requires near { IsNear (seen places.now terminator text) at before.now after.now }
     requires inside { AllIn (length places.now) at (min hi (at + 3)) curr.now.items }
     requires widths { (curr.now.width ≡ length slots.old) × (threads.old.width ≡ length slots.old) }
     requires empty { (threads.old.items ≡ []) × (entered.old.items ≡ []) }
     requires capacity { entered.old.capacity ≡ length places.now }
     requires room { count_from (at + 1) curr.now.items + length places.now ≤ threads.old.room }
     requires stack { (vec_len stack.old ≡ 0) × (length places.now + 1 ≤ vec_capacity stack.old) }
-    ensures keeps { Keeps input.old input.new }
     ensures carries { (best o : Option Trace)
         → MatchOption result
-        (Carries (seen places.now terminator input.old) at threads.new.items entered.new.items
+        (Carries (seen places.now terminator text) at threads.new.items entered.new.items
         (waiting_starts is_open (length slots.old) (at + 1) last) best o)
-        (λ r. Carries (seen places.now terminator input.old) at threads.new.items entered.new.items []
+        (λ r. Carries (seen places.now terminator text) at threads.new.items entered.new.items []
         (Some (done r.0 r.1 at slots.new)) o)
-        → Carries (seen places.now terminator input.old) at [] []
+        → Carries (seen places.now terminator text) at [] []
         (map pending curr.now.items ++ waiting_starts is_open (length slots.old) at last) best o }
     ensures sound { IsSound (length places.now) hi at threads.new entered.new }
     ensures same { (threads.new.room ≡ threads.old.room) × (threads.new.most ≡ threads.old.most)
@@ -128,8 +131,7 @@ fn advance<C: Cursor>(
         (λ r. (0 < length entered.new.items) × ((x : ℕ) → x ≤ at → AllFrom x curr.now.items → x ≤ r.1)) }
     ensures stack { (vec_len stack.new ≡ 0) × (length places.now + 1 ≤ vec_capacity stack.new) }
 {
-    if let Some(end) = step(
-        input, places, terminator, hi, pattern, at, curr, threads, entered, stack, slots,
+    if let Some(end) = step(places, terminator, hi, pattern, at, before, after, curr, threads, entered, stack, slots,
     ) {
         return Some(end);
     }
@@ -137,8 +139,7 @@ fn advance<C: Cursor>(
         return None;
     }
     empty(slots);
-    if let Some(number) = close(
-        input, places, terminator, hi, pattern, at, 0, at, threads, entered, stack, slots,
+    if let Some(number) = close(places, terminator, hi, pattern, at, before, after, 0, at, threads, entered, stack, slots,
     ) {
         return Some((number, at));
     }
@@ -170,13 +171,14 @@ fn touch(entered: &mut SparseSet, threads: &Threads)
 
 /// One position of a pass: lets the threads of `curr` go on into `next`, counts the places entered,
 /// and answers the best walk that has ended so far, with its slots in `found`.
-fn turn<C: Cursor>(
-    input: &mut Input<C>,
+fn turn(
     places: &[Place],
     terminator: u8,
     hi: usize,
     pattern: Option<usize>,
     at: usize,
+    before: &[u8],
+    after: &[u8],
     last: usize,
     best: Option<Ending>,
     curr: &Threads,
@@ -187,8 +189,9 @@ fn turn<C: Cursor>(
     found: &mut [Option<usize>],
     insertions: &mut u128,
 ) -> Option<Ending>
-    requires setting { IsSetting places.now hi pattern input.old }
-    requires at_in { (low input.old ≤ at) × (at ≤ hi) }
+    ghost text: { Searched }
+    requires setting { IsSetting places.now hi pattern text }
+    requires near { IsNear (seen places.now terminator text) at before.now after.now }
     requires lined { IsLined (length places.now) hi (length slots.old) at insertions.old curr.now }
     requires room { (next.old.room ≡ 4 * length places.now) × (length slots.old ≤ next.old.most) }
     requires capacity { entered.old.capacity ≡ length places.now }
@@ -196,10 +199,9 @@ fn turn<C: Cursor>(
     requires widths { length found.old ≡ length slots.old }
     requires counted { IsCounted insertions.old best }
     requires small { insertions.old + length places.now < 2 ^ 128 }
-    ensures keeps { Keeps input.old input.new }
     ensures carries { (o : Option Trace)
-        → Pending (seen places.now terminator input.old) (length slots.old) last (at + 1) next.new.items result found.new o
-        → Pending (seen places.now terminator input.old) (length slots.old) last at curr.now.items best found.old o }
+        → Pending (seen places.now terminator text) (length slots.old) last (at + 1) next.new.items result found.new o
+        → Pending (seen places.now terminator text) (length slots.old) last at curr.now.items best found.old o }
     ensures lined { IsLined (length places.now) hi (length slots.old) (at + 1) insertions.new next.new }
     ensures most { next.new.most ≡ next.old.most }
     ensures capacity { entered.new.capacity ≡ length places.now }
@@ -209,13 +211,7 @@ fn turn<C: Cursor>(
 {
     next.clear(slots.len());
     entered.clear();
-    let end = advance(
-        input,
-        places,
-        terminator,
-        hi,
-        pattern,
-        at,
+    let end = advance(places, terminator, hi, pattern, at, before, after,
         last,
         best.is_none(),
         curr,
@@ -272,8 +268,10 @@ pub fn pass<C: Cursor>(
     found: &mut [Option<usize>],
     insertions: &mut u128,
 ) -> Option<Ending>
-    requires setting { IsSetting places.now hi pattern input.old }
-    requires bounds { (low input.old ≤ from) × (from ≤ last) × (last ≤ hi) }
+    ghost text: { Searched }
+    requires same { Keeps text input.old }
+    requires setting { IsSetting places.now hi pattern text }
+    requires bounds { (low text ≤ from) × (from ≤ last) × (last ≤ hi) }
     requires below { hi + 1 < 2 ^ 64 }
     requires rooms { (curr.old.room ≡ 4 * length places.now) × (next.old.room ≡ 4 * length places.now) }
     requires most { (curr.old.most ≡ next.old.most) × (length slots.old ≤ curr.old.most) }
@@ -281,7 +279,7 @@ pub fn pass<C: Cursor>(
     requires stack { (vec_len stack.old ≡ 0) × (length places.now + 1 ≤ vec_capacity stack.old) }
     requires widths { length found.old ≡ length slots.old }
     ensures keeps { Keeps input.old input.new }
-    ensures gives { Gives (seen places.now terminator input.old) (length slots.old) from last (best_of result found.new) }
+    ensures gives { Gives (seen places.now terminator text) (length slots.old) from last (best_of result found.new) }
     ensures counted { IsCounted insertions.new result }
     ensures few { insertions.new ≤ length places.now * (hi - from + 1) }
     ensures rooms { (curr.new.room ≡ 4 * length places.now) × (next.new.room ≡ 4 * length places.now) }
@@ -292,9 +290,13 @@ pub fn pass<C: Cursor>(
     let mut best: Option<Ending> = None;
     *insertions = 0;
     curr.clear(slots.len());
+    let mut window = open(input, from);
     'positions: for at in from..hi + 1 {
-        best = turn(
-            input, places, terminator, hi, pattern, at, last, best, curr, next, entered, stack,
+        reach(&mut window, input, at);
+        let place = at - window.start;
+        let before = &window.bytes[..place];
+        let after = &window.bytes[place..window.len];
+        best = turn(places, terminator, hi, pattern, at, before, after, last, best, curr, next, entered, stack,
             slots, found, insertions,
         );
         mem::swap(curr, next);

@@ -15,17 +15,17 @@ use Rattle.rc_pikevm.proofs.closure.visit.Goals.{After-look_up-step}
 
 pub returns-then-not-insert-clause-carries : goal.returns-then-not-insert-clause-carries
 returns-then-not-insert-clause-carries g c below best o x =
-    skipped (seen c.args.places.now c.args.terminator c.args.input.now) c.args.at c.args.threads.now.items c.args.entered.now.items best o
+    skipped (seen c.args.places.now c.args.terminator g.text) c.args.at c.args.threads.now.items c.args.entered.now.items best o
     c.args.place (trace c.args.start c.args.slots.now) (waits c.args.start c.args.at (reverse c.args.stack.now.items) c.args.slots.now ++ below)
     c.if-not-insert.ensures.member
-    (subst (λ items. Carries (seen c.args.places.now c.args.terminator c.args.input.now) c.args.at c.args.threads.now.items items
+    (subst (λ items. Carries (seen c.args.places.now c.args.terminator g.text) c.args.at c.args.threads.now.items items
     (waits c.args.start c.args.at (reverse c.args.stack.now.items) c.args.slots.now ++ below) best o)
     (ap (λ (m : Members). m.items) c.if-not-insert.ensures.after) x)
 
 pub returns-in-Some-clause-carries : goal.returns-in-Some-clause-carries
 returns-in-Some-clause-carries g c below best o x =
-    let s : Search = seen c.args.places.now c.args.terminator c.args.input.now in
-    let m = subst (IsMove s (c.args.place, c.args.at)) c.in-Some.ensures c.look_up-step.ensures.is_move in
+    let s : Search = seen c.args.places.now c.args.terminator g.text in
+    let m = subst (IsMove s (c.args.place, c.args.at)) c.in-Some.ensures c.look_up-step.ensures in
     matched s c.args.at c.args.threads.now.items c.args.entered.now.items best o
     c.args.place c.in-Some.number c.args.start c.args.slots.now c.insert.new.self.items
     (waits c.args.start c.args.at (reverse c.args.stack.now.items) c.args.slots.now ++ below)
@@ -33,10 +33,10 @@ returns-in-Some-clause-carries g c below best o x =
 
 pub returns-clause-carries : goal.returns-clause-carries
 returns-clause-carries g c below best o x =
-    let s : Search = seen c.args.places.now c.args.terminator c.args.input.now in
+    let s : Search = seen c.args.places.now c.args.terminator g.text in
     let step = c.look_up-step.result in
     moved s c.args.at c.args.threads.now.items c.args.entered.now.items best o c.args.place c.args.start c.args.slots.now
-    c.if-not-insert.ensures.member step (reverse c.args.stack.now.items) below c.look_up-step.ensures.is_move c.in_default.ensures
+    c.if-not-insert.ensures.member step (reverse c.args.stack.now.items) below c.look_up-step.ensures c.in_default.ensures
     (subst (λ (l : ThreadList). Carries s c.args.at l.items (c.args.entered.now.items ++ c.args.place ∷ [])
     (waits c.args.start c.args.at (frames_of c.args.slots.now step ++ reverse c.args.stack.now.items) (slots_after c.args.at c.args.slots.now step) ++ below) best o)
     c.follow.ensures.threads
@@ -51,26 +51,26 @@ returns-clause-carries g c below best o x =
 move_in : (g : Over) (c : After-look_up-step g) → IsMoveInside (length c.args.places.now) c.look_up-step.result
 move_in g c =
     subst (λ n. IsMoveInside n c.look_up-step.result) (length-map c.args.places.now place_of)
-    (move_inside (seen c.args.places.now c.args.terminator c.args.input.now) c.args.place c.args.at c.look_up-step.result
-    c.requires.setting.runnable.closed c.look_up-step.ensures.is_move)
+    (move_inside (seen c.args.places.now c.args.terminator g.text) c.args.place c.args.at c.look_up-step.result
+    c.requires.0.runnable.closed c.look_up-step.ensures)
 
 pub returns-clause-grown : goal.returns-clause-grown
 returns-clause-grown g c =
     let n : ℕ = length c.args.places.now in
-    let s : Search = seen c.args.places.now c.args.terminator c.args.input.now in
+    let s : Search = seen c.args.places.now c.args.terminator g.text in
     let few : length c.args.entered.now.items + 1 ≤ n =
     let e = ap (λ (m : Members). length m.items) c.if-not-insert.ensures.after ∙ length_push c.args.entered.now.items c.args.place in
     let f = ap (λ (m : Members). m.capacity) c.if-not-insert.ensures.after in
-    omega (arith, e, f, c.if-not-insert.ensures.few, c.requires.sound.capacity) in
+    omega (arith, e, f, c.if-not-insert.ensures.few, c.requires.1.1.1.0.capacity) in
     subst (λ t. IsGrown n c.args.hi c.args.start c.args.at c.args.threads.now c.args.entered.now t c.insert.new.self) (sym c.follow.ensures.threads)
     (subst (λ e. IsGrown n c.args.hi c.args.start c.args.at c.args.threads.now c.args.entered.now
     (record c.args.threads.now { items = c.args.threads.now.items ++ resting_of c.args.start c.args.slots.now c.look_up-step.result }) e) (sym c.if-not-insert.ensures.after)
     (grown_by n c.args.hi c.args.start c.args.at c.args.place c.args.slots.now c.look_up-step.result c.args.threads.now c.args.entered.now s
-    (sym c.requires.setting.bound) c.requires.sound few c.look_up-step.ensures.is_move
+    (sym c.requires.0.bound) c.requires.1.1.1.0 few c.look_up-step.ensures
     (move_in g (goal.at.returns-clause-grown g c).After-look_up-step)))
 
 pub returns-clause-frames : goal.returns-clause-frames
 returns-clause-frames g c =
     subst (λ f. AllInside (length c.args.places.now) (length c.args.slots.now) f) (sym c.follow.ensures.stack)
     (frames_inside (length c.args.places.now) (length c.args.slots.now) c.args.slots.now c.look_up-step.result (reverse c.args.stack.now.items) refl
-    (move_in g (goal.at.returns-clause-frames g c).After-look_up-step) c.requires.frames)
+    (move_in g (goal.at.returns-clause-frames g c).After-look_up-step) c.requires.1.1.1.1.0)

@@ -20,3 +20,6 @@ invariant-starts g l = record {
 
 abbrev pub decreases-starts : goal.decreases-starts
 decreases-starts g l = l.last + 1 - l.from
+
+abbrev pub ghost-pass : goal.ghost-pass
+ghost-pass g a = a.input.now
