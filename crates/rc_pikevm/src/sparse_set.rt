@@ -42,12 +42,12 @@ impl SparseSet {
         self.dense.len()
     }
 
-    /// The member that was inserted as number `index`, counted from 0.
-    pub fn get(&self, index: usize) -> usize
-        requires { index < length self.now.items }
-        ensures { slice_get self.now.items index ≡ Some result }
+    /// The member that was inserted as number `place`, counted from 0.
+    pub fn get(&self, place: usize) -> usize
+        requires { place < length self.now.items }
+        ensures { slice_get self.now.items place ≡ Some result }
     {
-        self.dense[index]
+        self.dense[place]
     }
 
     pub fn clear(&mut self)

@@ -64,6 +64,17 @@ fn empty() -> [Place; 4] {
     ]
 }
 
+/// `\bb`, by ASCII
+fn word_start() -> [Place; 5] {
+    [
+        Place::Choice(1, 4),
+        Place::Guard(Look::WordAscii, 2),
+        Place::Byte(b'b', 3),
+        Place::Accept(0),
+        Place::Dead,
+    ]
+}
+
 #[test]
 fn spans_and_anchoring(rt: HostRuntime) -> Result<(), Fail> {
     let places = literal();
@@ -194,14 +205,7 @@ fn passing_over(rt: HostRuntime) -> Result<(), Fail> {
 
 #[test]
 fn assertions_see_the_slice(rt: HostRuntime) -> Result<(), Fail> {
-    // `\bb` by ASCII
-    let places = [
-        Place::Choice(1, 4),
-        Place::Guard(Look::WordAscii, 2),
-        Place::Byte(b'b', 3),
-        Place::Accept(0),
-        Place::Dead,
-    ];
+    let places = word_start();
     let mut cache = Cache::new(rt.alloc(), 5, 0)?;
     let chunks = cut(rt.alloc(), b"abb b")?;
     let mut input = Input::new(ChunkCursor::new(&chunks)?);
@@ -219,5 +223,24 @@ fn assertions_see_the_slice(rt: HostRuntime) -> Result<(), Fail> {
         span_of(find(&mut cache, &mut input, &places, 10, false)),
         Some((2, 3))
     );
+    Ok(())
+}
+
+#[test]
+fn texts_longer_than_a_window(rt: HostRuntime) -> Result<(), Fail> {
+    let places = word_start();
+    let mut cache = Cache::new(rt.alloc(), 5, 0)?;
+    for len in [250, 251, 252, 253, 255, 256, 257, 507, 508, 509, 600] {
+        let mut text = Vec::new(rt.alloc());
+        for _ in 0..len {
+            text.push(b'b')?;
+        }
+        text.extend_from_slice(b" b")?;
+        let chunks = cut(rt.alloc(), &text)?;
+        let mut input = Input::new(ChunkCursor::new(&chunks)?);
+        input.set_start(1);
+        let found = span_of(find(&mut cache, &mut input, &places, 10, false));
+        assert_eq!(rt; found, Some((len + 1, len + 2)), "after {len}");
+    }
     Ok(())
 }
