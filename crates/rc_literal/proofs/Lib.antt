@@ -1,0 +1,4 @@
+pub mod RangeLemmas
+pub mod StandLemmas
+pub mod ScanLemmas
+pub mod TableLemmas

@@ -1,0 +1,4 @@
+pub mod Needles
+pub mod Prefilters
+pub mod Scans
+pub mod Tables
