@@ -2,3 +2,4 @@ pub mod RangeLemmas
 pub mod StandLemmas
 pub mod ScanLemmas
 pub mod TableLemmas
+pub mod FindLemmas

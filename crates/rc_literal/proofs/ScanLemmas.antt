@@ -1,10 +1,10 @@
 -- Places of a piece where no needle can stand.
-use Rattle.std.proofs.Common.{◌≡◌, ◌≢◌, ℕ, zero, suc, ◌+◌, ◌-◌, ◌<◌, ◌≤◌, List, [], ◌∷◌, length, take, drop, Bool, true, false, true≢false, Some, sym, ap, subst, ◌∙◌, refl, arith, inl, inr, slice_get, slice_index, get_or, zero-le, length-take, length-drop}
+use Rattle.std.proofs.Common.{◌≡◌, ◌≢◌, ℕ, zero, suc, ◌+◌, ◌-◌, ◌<◌, ◌≤◌, ◌⊎◌, List, [], ◌∷◌, length, take, drop, Bool, true, false, true≢false, Some, sym, ap, subst, ◌∙◌, refl, arith, inl, inr, slice_get, slice_index, get_or, zero-le, length-take, length-drop}
 use Rattle.std.proofs.lemmas.Bool.{cases_lt, cases_Bool}
 use Rattle.std.proofs.lemmas.Bool.Decides.{nat_tests}
 use Rattle.std.proofs.lemmas.List.{get_or-drop, get_or-take}
 use Rattle.std.proofs.lemmas.Option.{slice_get-get_or}
-use Rattle.memchr.specs.Find.{Nowhere, Passes, OccursAt, is_byte, IsFirst}
+use Rattle.memchr.specs.Find.{Nowhere, Passes, OccursAt, is_byte, is_byte2, is_byte3, IsFirst}
 use Rattle.rc_literal.specs.Tables.{numbered, Begins, Agrees, IsRuledOut, AreSome, AreHeads}
 use Rattle.rc_literal.specs.Scans.{AllBegin}
 use Rattle.rc_literal.proofs.StandLemmas.{false_if_not}
@@ -64,3 +64,52 @@ head_of needles heads k b headed l small begins =
 
 pub tail_length : (piece : List ℕ) (from : ℕ) → length (take (length piece - from) (drop from piece)) ≡ length piece - from
 tail_length piece from = simp (length-take, length-drop) (omega arith)
+
+-- what holds at b, and at no place from one on up to another, holds at that or later
+pub not_skipped : (P : ℕ → Type 0) (from at b : ℕ) → Nowhere P from at → P b → from ≤ b → (b ≡ at) ⊎ (at + 1 ≤ b)
+not_skipped P from at b none here low =
+    elim (cases_lt b at) [
+      | inl h ↦ absurd (none b low h here)
+      | inr h ↦ elim (cases_lt at b) [ inl g ↦ inr (omega (arith, g)) | inr g ↦ inl (omega arith) ]
+    ]
+
+-- the byte has a head
+abbrev pub HasHead : List ℕ → ℕ → ℕ → Type 0
+HasHead heads count b = slice_index heads b < count
+
+pub one_begins : (needles : List (List ℕ)) (heads : List ℕ) (count a : ℕ) → count ≡ length needles → AreHeads needles 0 heads →
+    Nowhere (HasHead heads count) 0 a → Nowhere (HasHead heads count) (a + 1) 256 → AllBegin needles (is_byte a)
+one_begins needles heads count a same headed none last k b l small begins =
+    let h : HasHead heads count b = let x = head_of needles heads k b headed l small begins in omega (arith, x, same) in
+    elim (not_skipped (HasHead heads count) 0 a b none h zero-le) [
+      | inl e ↦ grind (arith, nat_tests)
+      | inr g ↦ absurd (last b g small h)
+    ]
+
+pub two_begin : (needles : List (List ℕ)) (heads : List ℕ) (count a c : ℕ) → count ≡ length needles → AreHeads needles 0 heads →
+    Nowhere (HasHead heads count) 0 a → Nowhere (HasHead heads count) (a + 1) c → Nowhere (HasHead heads count) (c + 1) 256 → AllBegin needles (is_byte2 a c)
+two_begin needles heads count a c same headed none second last k b l small begins =
+    let h : HasHead heads count b = let x = head_of needles heads k b headed l small begins in omega (arith, x, same) in
+    elim (not_skipped (HasHead heads count) 0 a b none h zero-le) [
+      | inl e ↦ grind (arith, nat_tests)
+      | inr g ↦ elim (not_skipped (HasHead heads count) (a + 1) c b second h g) [
+          | inl e ↦ grind (arith, nat_tests)
+          | inr f ↦ absurd (last b f small h)
+        ]
+    ]
+
+pub three_begin : (needles : List (List ℕ)) (heads : List ℕ) (count a c d : ℕ) → count ≡ length needles → AreHeads needles 0 heads →
+    Nowhere (HasHead heads count) 0 a → Nowhere (HasHead heads count) (a + 1) c → Nowhere (HasHead heads count) (c + 1) d →
+    Nowhere (HasHead heads count) (d + 1) 256 → AllBegin needles (is_byte3 a c d)
+three_begin needles heads count a c d same headed none second third last k b l small begins =
+    let h : HasHead heads count b = let x = head_of needles heads k b headed l small begins in omega (arith, x, same) in
+    elim (not_skipped (HasHead heads count) 0 a b none h zero-le) [
+      | inl e ↦ grind (arith, nat_tests)
+      | inr g ↦ elim (not_skipped (HasHead heads count) (a + 1) c b second h g) [
+          | inl e ↦ grind (arith, nat_tests)
+          | inr f ↦ elim (not_skipped (HasHead heads count) (c + 1) d b third h f) [
+              | inl e ↦ grind (arith, nat_tests)
+              | inr z ↦ absurd (last b z small h)
+            ]
+        ]
+    ]

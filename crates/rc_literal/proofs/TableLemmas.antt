@@ -1,9 +1,10 @@
 -- A table grown from its end.
-use Rattle.std.proofs.Common.{◌≡◌, ◌≢◌, ℕ, zero, suc, ◌+◌, ◌-◌, ◌<◌, ◌≤◌, List, [], ◌∷◌, length, set, Some, sym, ap, subst, ◌∙◌, refl, arith, inl, inr, slice_get, slice_index, get_or}
+use Rattle.std.proofs.Common.{◌≡◌, ◌≢◌, ℕ, zero, suc, ◌+◌, ◌-◌, ◌<◌, ◌≤◌, List, [], ◌∷◌, length, set, Some, sym, ap, subst, ◌∙◌, refl, arith, inl, inr, slice_get, slice_index, get_or, max, take, map, ◌++◌, ap₂, Vec}
 use Rattle.std.proofs.lemmas.Bool.{cases_lt, cases_eq}
-use Rattle.std.proofs.lemmas.List.{get_or-set_same, get_or-set_other}
+use Rattle.std.proofs.lemmas.List.{get_or-set_same, get_or-set_other, take_more, map-append}
 use Rattle.std.proofs.lemmas.Option.{same_Some}
-use Rattle.rc_literal.specs.Tables.{numbered, Begins, IsNextWith, AreHeads, AreNexts}
+use Rattle.rc_literal.specs.Tables.{needles_in, numbered, Begins, IsNextWith, AreHeads, AreNexts}
+use Rattle.rc_literal.specs.Needles.{longest}
 
 -- where there are no more needles
 pub no_more : (needles : List (List ℕ)) (b : ℕ) → IsNextWith needles b (length needles) (length needles)
@@ -65,3 +66,17 @@ one_more_next needles heads nexts n a long small l begins headed linked k b low 
           let r : slice_index (set nexts n (slice_index heads a)) k ≡ slice_index nexts k = get_or-set_other nexts n k (slice_index heads a) 0 ne in
           subst (λ j. IsNextWith needles b (k + 1) j) (sym r) (linked k b (omega arith) high starts)
     ]
+
+-- one more needle was copied
+pub needles_more : {Y : Type 0} (vs : List (Vec ℕ Y)) (v : Vec ℕ Y) (ws : List (List ℕ)) (i : ℕ) → i < length ws → needles_in vs ≡ take i ws →
+    v.items ≡ numbered ws i → needles_in (vs ++ v ∷ []) ≡ take (i + 1) ws
+needles_more vs v ws i l so_far is =
+    map-append (λ w. w.items) vs (v ∷ []) ∙ ap₂ (λ xs x. xs ++ x ∷ []) so_far is ∙ sym (take_more ws i [] l)
+
+-- the longest of one more
+longest_more : (ws : List (List ℕ)) (w : List ℕ) → longest (ws ++ w ∷ []) ≡ max (longest ws) (length w)
+longest_more [] w = omega arith
+longest_more (v ∷ ws) w = let e = longest_more ws w in omega (arith, e)
+
+pub longest_next : (ws : List (List ℕ)) (i : ℕ) → i < length ws → longest (take (i + 1) ws) ≡ max (longest (take i ws)) (length (numbered ws i))
+longest_next ws i l = ap longest (take_more ws i [] l) ∙ longest_more (take i ws) (numbered ws i)

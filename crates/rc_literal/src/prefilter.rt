@@ -41,7 +41,7 @@ impl Prefilter {
     {
         let mut most = 0;
         for needle in &self.searcher.table.needles {
-            most = most.max(needle.len());
+            most = most.max(needle.as_slice().len());
         }
         most
     }
@@ -81,7 +81,7 @@ fn is_usable(needles: &Vec<Vec<u8>>) -> bool
     ensures { Decides result (IsUsable (needles_in needles.now.items)) }
 {
     for needle in needles {
-        if needle.is_empty() {
+        if needle.as_slice().is_empty() {
             return false;
         }
     }
