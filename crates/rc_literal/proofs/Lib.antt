@@ -3,3 +3,5 @@ pub mod StandLemmas
 pub mod ScanLemmas
 pub mod TableLemmas
 pub mod FindLemmas
+pub mod ReadLemmas
+pub mod WayLemmas

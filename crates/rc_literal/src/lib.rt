@@ -6,6 +6,7 @@
 #![tactic(auto)]
 
 pub mod hit;
+pub mod laws;
 pub mod literal;
 pub mod prefilter;
 mod scan;

@@ -1,0 +1,6 @@
+use Rattle.rc_literal.proofs.ReadLemmas.{reads_is}
+use Rattle.rc_literal.proofs.WayLemmas.{alternation_gives}
+use Rattle.rc_literal.proofs.laws.literals_are_exact.Goals as goal
+
+pub returns : goal.returns
+returns c = ?
