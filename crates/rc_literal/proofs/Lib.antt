@@ -5,3 +5,5 @@ pub mod TableLemmas
 pub mod FindLemmas
 pub mod ReadLemmas
 pub mod WayLemmas
+pub mod RelationLemmas
+pub mod ExactLemmas

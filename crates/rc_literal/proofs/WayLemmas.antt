@@ -163,7 +163,7 @@ module _ (prog : List Place) (t : Text) (hi : ℕ) (only : Option ℕ) where
       (left ((start, i) ∷ passed) (more_before start (start + 1) i passed (omega arith) before))
       (right ((start, i) ∷ passed) (more_before start (start + 1 + a.size) i passed (omega arith) before)))
 
-  dead_gives : (start next i : ℕ) (passed : List Pair) → place_at prog start ≡ choice [] → AreBefore start passed → Gives passed ((start, i) ∷ []) next None
+  pub dead_gives : (start next i : ℕ) (passed : List Pair) → place_at prog start ≡ choice [] → AreBefore start passed → Gives passed ((start, i) ∷ []) next None
   dead_gives start next i passed at before =
       onward start i next passed [] None before (not_choice [] start i at) (choice_ways [] start i at) (nowhere ((start, i) ∷ passed) next)
 
