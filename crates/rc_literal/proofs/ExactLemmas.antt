@@ -183,3 +183,9 @@ covers_pattern t h ws i j (many some) s = covers_members t ws i j s
 pub covers_of : (t : Text) (h : Re) (ws : List (List ℕ)) → IsList h ws → Covers t (h ∷ []) ws
 covers_of t h ws list p i j (inl s) = covers_pattern t h ws i j list s.1
 covers_of t h ws list p i j (inr never) = absurd never
+
+-- the place to which the pattern's part leads is its match place
+pub program_ends : (h : Re) → place_at (program (h ∷ [])) (1 + (part h).size) ≡ accept 0
+program_ends h =
+    pattern_ends (program (h ∷ [])) 0 2 h 0 1 0
+    (Stand-first (program (h ∷ [])) (pattern_part 0 2 h) (choice_of_patterns 1 (2 + 2 * group_count h) []) 0 0 0 (stand_all [] (program (h ∷ []))))

@@ -37,14 +37,14 @@ none_past needles content hi i some past =
     (λ e. let le = (stands_parts content hi i (numbered needles n) e).0 in let long = some n l in omega (arith, le, long, past)))
 
 -- no start gives one
-by_none : (gives : ℕ → Option Hit) (n i : ℕ) → ((y : ℕ) → i ≤ y → y < i + n → gives y ≡ None) → by_starts gives n i ≡ None
+pub by_none : (gives : ℕ → Option Hit) (n i : ℕ) → ((y : ℕ) → i ≤ y → y < i + n → gives y ≡ None) → by_starts gives n i ≡ None
 by_none gives zero i h = refl
 by_none gives (suc n) i h =
     let e : gives i ≡ None = h i (omega arith) (omega arith) in
     rw e (by_none gives n (i + 1) (λ y a b. h y (omega (arith, a)) (omega (arith, b))))
 
 -- the start x gives the first one
-by_first : (gives : ℕ → Option Hit) (n i x : ℕ) (hit : Hit) → i ≤ x → x < i + n → ((y : ℕ) → i ≤ y → y < x → gives y ≡ None) →
+pub by_first : (gives : ℕ → Option Hit) (n i x : ℕ) (hit : Hit) → i ≤ x → x < i + n → ((y : ℕ) → i ≤ y → y < x → gives y ≡ None) →
     gives x ≡ Some hit → by_starts gives n i ≡ Some hit
 by_first gives zero i x hit low high h e = absurd (omega arith)
 by_first gives (suc n) i x hit low high h e =

@@ -6,4 +6,6 @@ pub mod FindLemmas
 pub mod ReadLemmas
 pub mod WayLemmas
 pub mod RelationLemmas
+pub mod StartLemmas
 pub mod ExactLemmas
+pub mod AnswerLemmas

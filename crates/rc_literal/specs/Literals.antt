@@ -26,10 +26,20 @@ pub record IsExact (s : Search) (needles : List (List ℕ)) : Type 0 where
       (w : List Pair) × IsFirstFrom s x w × ((last_of w).1 ≡ h.end)
   pub none : (x : ℕ) → x ≤ s.hi → NoneAt needles s.text.content s.hi x → HasNoWalkFrom s x
 
+-- the bytes of a literal that isn't empty
+abbrev pub literal_bytes : Re → Option (List ℕ)
+literal_bytes (literal (b ∷ bs)) = Some (b ∷ bs)
+literal_bytes _ = None
+
+-- one more needle, where there is one
+abbrev pub before : Option (List ℕ) → Option (List (List ℕ)) → Option (List (List ℕ))
+before None needles = None
+before (Some needle) needles = option_map (λ ws. needle ∷ ws) needles
+
 -- the bytes of the members of an alternation, where each is a literal that isn't empty
 abbrev pub member_literals : Re → Option (List (List ℕ))
 member_literals none = Some []
-member_literals (alt (literal (b ∷ bs)) rest) = option_map (λ needles. (b ∷ bs) ∷ needles) (member_literals rest)
+member_literals (alt a rest) = before (literal_bytes a) (member_literals rest)
 member_literals _ = None
 
 -- the bytes of a literal that isn't empty, or of the members of an alternation of such literals; and nothing for other patterns

@@ -5,6 +5,7 @@
 //! No search takes memory, and none copies a byte of the content.
 #![tactic(auto)]
 
+pub mod exact;
 pub mod hit;
 pub mod laws;
 pub mod literal;
