@@ -9,3 +9,4 @@ pub mod RelationLemmas
 pub mod StartLemmas
 pub mod ExactLemmas
 pub mod AnswerLemmas
+pub mod KindLemmas
