@@ -93,9 +93,9 @@ two_begin needles heads count a c same headed none second last k b l small begin
     elim (not_skipped (HasHead heads count) 0 a b none h zero-le) [
       | inl e ↦ grind (arith, nat_tests)
       | inr g ↦ elim (not_skipped (HasHead heads count) (a + 1) c b second h g) [
-          | inl e ↦ grind (arith, nat_tests)
-          | inr f ↦ absurd (last b f small h)
-        ]
+        | inl e ↦ grind (arith, nat_tests)
+        | inr f ↦ absurd (last b f small h)
+      ]
     ]
 
 pub three_begin : (needles : List (List ℕ)) (heads : List ℕ) (count a c d : ℕ) → count ≡ length needles → AreHeads needles 0 heads →
@@ -106,10 +106,10 @@ three_begin needles heads count a c d same headed none second third last k b l s
     elim (not_skipped (HasHead heads count) 0 a b none h zero-le) [
       | inl e ↦ grind (arith, nat_tests)
       | inr g ↦ elim (not_skipped (HasHead heads count) (a + 1) c b second h g) [
+        | inl e ↦ grind (arith, nat_tests)
+        | inr f ↦ elim (not_skipped (HasHead heads count) (c + 1) d b third h f) [
           | inl e ↦ grind (arith, nat_tests)
-          | inr f ↦ elim (not_skipped (HasHead heads count) (c + 1) d b third h f) [
-              | inl e ↦ grind (arith, nat_tests)
-              | inr z ↦ absurd (last b z small h)
-            ]
+          | inr z ↦ absurd (last b z small h)
         ]
+      ]
     ]

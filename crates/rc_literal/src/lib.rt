@@ -12,3 +12,5 @@ pub mod literal;
 pub mod prefilter;
 mod scan;
 mod table;
+#[cfg(test)]
+mod tests;

@@ -2,6 +2,7 @@
 ghost use Rattle.std.specs.Prelude.{◌≡◌, ◌+◌, ◌<◌, ◌≤◌, IfSome, bytes_eq, length, slice_range};
 ghost use Rattle.rc_text.specs.Text.{Keeps, high, low};
 ghost use Rattle.rc_literal.specs.Needles.{find_needle, needle_at, prefix_needle};
+ghost use Rattle.rc_literal.specs.Literals.{literal_answer};
 ghost use Rattle.rc_literal.specs.Prefilters.{needles_of};
 ghost use Rattle.rc_literal.specs.Tables.{needles_in};
 
@@ -11,6 +12,7 @@ use crate::scan::candidate;
 use crate::table::Table;
 use rc_text::cursor::Cursor;
 use rc_text::input::{Input, byte_at, high, low, piece_from};
+use rc_text::types::{Anchored, Match, PatternID, Span};
 
 /// Whether the needle stands from `at` to `to`, read a piece of a chunk at a time.
 fn stands<C: Cursor>(input: &mut Input<C>, needle: &[u8], at: usize, to: usize) -> bool
@@ -95,4 +97,27 @@ pub fn prefix<C: Cursor>(input: &mut Input<C>, prefilter: &Prefilter) -> Option<
         return needle_at(input, &prefilter.searcher.table, at, end);
     }
     None
+}
+
+/// The match of one pattern that is exactly the needles: its number is 0, and an anchored search
+/// for another pattern has none.
+pub fn search<C: Cursor>(input: &mut Input<C>, prefilter: &Prefilter) -> Option<Match>
+    ensures keeps { Keeps input.old input.new }
+    ensures value { result ≡ literal_answer (needles_of prefilter.now) input.old }
+{
+    let hit = match input.get_anchored() {
+        Anchored::No => find(input, prefilter)?,
+        Anchored::Yes => prefix(input, prefilter)?,
+        Anchored::Pattern(pattern) => {
+            if pattern.as_usize() != 0 {
+                return None;
+            }
+            prefix(input, prefilter)?
+        }
+    };
+    let span = Span {
+        start: hit.start,
+        end: hit.end,
+    };
+    Some(Match::new(PatternID::ZERO, span))
 }

@@ -24,7 +24,11 @@ impl Prefilter {
     /// A search for these needles, in order; None where there is none, or one of them is empty.
     ///
     /// It is the same for each kind of match.
-    pub fn new(alloc: Global, _kind: MatchKind, needles: &[&[u8]]) -> Result<Option<Prefilter>, AllocError>
+    pub fn new(
+        alloc: Global,
+        _kind: MatchKind,
+        needles: &[&[u8]],
+    ) -> Result<Option<Prefilter>, AllocError>
         ensures { IfOk result (λ found. MatchOption found (¬ IsUsable (map (λ w. w.now) needles.now))
             (λ p. IsUsable (map (λ w. w.now) needles.now) × (needles_of p ≡ map (λ w. w.now) needles.now))) }
     {

@@ -82,7 +82,7 @@ loop-at-smaller g c =
     omega (arith, some, c.if-passed-len.false, c.candidate-passed.ensures.within, c.loop-at-test.true)
 
 pub loop-at-preserved : goal.loop-at-preserved
-loop-at-preserved g c = 
+loop-at-preserved g c =
     let content = c.args.input.now.content in
     let piece = c.piece_from-piece.result.now in
     let same : c.loop-at.input.content ≡ content = c.loop-at.invariant.keeps.content in
