@@ -1,4 +1,4 @@
-use Rattle.std.proofs.Common.{◌≡◌, ◌≤◌, ◌⊎◌, ℕ, List, length, inl, inr, refl, subst, sym}
+use Rattle.std.proofs.Common.{◌≡◌, ◌≤◌, ◌⊎◌, ℕ, List, length, inl, inr, subst, sym}
 use Rattle.std.specs.Prelude.{chars}
 use Rattle.rc_pattern.specs.Re.{Re}
 use Rattle.rc_syntax.specs.Grammar.{Reads}
