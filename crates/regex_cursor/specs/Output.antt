@@ -9,7 +9,8 @@ use Rattle.rc_text.specs.declared.types.Anchored.TheVariants.{No}
 use Rattle.rc_pattern.specs.Re.{Re}
 use Rattle.rc_program.specs.Sought.{Sought, search_for}
 use Rattle.rc_program.specs.Matches.{matches_left}
-use Rattle.regex_cursor.specs.Reading.{IsReadAs}
+use Rattle.rc_syntax.specs.Settings.{default_settings}
+use Rattle.rc_build.specs.TextRefusals.{IsReadAs}
 
 -- where the match begins, two dots, where it ends, and a line feed
 abbrev pub line_of : Found → List ℕ
@@ -55,8 +56,8 @@ pub record IsPut (ms : List Found) (old new : Option (List ℕ)) (found : Bool) 
   pub lines : Appends old new (lines_of ms)
   pub told : IsTrue found ↔ (0 < length ms)
 
--- The text was read as a pattern, whose matches in the content were put.
+-- The text is read as a pattern, by the default settings, and its matches in the content were put.
 pub record IsRun (text content : List ℕ) (old new : Option (List ℕ)) (found : Bool) : Type 0 where
   pub pattern : Re
-  pub read : IsReadAs text pattern
+  pub read : IsReadAs default_settings text pattern
   pub put : IsPut (matches_in pattern content) old new found

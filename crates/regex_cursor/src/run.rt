@@ -4,7 +4,6 @@ mod engine;
 mod error;
 mod line;
 mod lines;
-mod reading;
 mod shell;
 mod writers;
 

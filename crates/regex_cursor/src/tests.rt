@@ -46,7 +46,8 @@ fn finds_matches(rt: HostRuntime) {
         ("", "1", "é", 0, "0..0\n2..2\n"),
         ("x", "5", "aaaaaaaaaax", 0, "10..11\n"),
         ("b+", "2", "abbab", 0, "1..3\n4..5\n"),
-        ("a.b", "3", "xa.b", 0, "1..4\n"),
+        ("a.b", "3", "xa.baxb", 0, "1..4\n4..7\n"),
+        ("\\bfo+\\b", "64", "foo fox ofo fooo", 0, "0..3\n12..16\n"),
     ] {
         let (found, out, err) = shown(&rt, &[pattern, chunk], input.as_bytes());
         assert_eq!(rt; found, status, "{pattern} on {input}");

@@ -1,11 +1,13 @@
 use Rattle.std.proofs.Common.{ap, ◌∙◌}
 use Rattle.rc_build.specs.Settings.{match_kind_of}
+use Rattle.rc_build.proofs.TextLemmas.{one_read}
 use Rattle.regex_cursor.proofs.Listed.{listed_whole, put_as}
 use Rattle.regex_cursor.proofs.run.engine.run.Goals as goal
 
 pub returns-clause-done : goal.returns-clause-done
 returns-clause-done g c =
-    let (unset, (p, read, patterns)) = c.in_ok-regex.ensures in
+    let unset = c.in_ok-regex.ensures.settings in
+    let (p, patterns, read) = one_read _ _ _ c.in_ok-regex.ensures.read in
     record {
       pattern = p;
       read = read;
