@@ -1,0 +1,12 @@
+//! The ordered pass over a text: all threads at once, in order, each place entered once at a position.
+#![tactic(auto)]
+
+pub mod cache;
+mod closure;
+mod moves;
+mod pass;
+pub mod search;
+pub mod sparse_set;
+#[cfg(test)]
+mod tests;
+mod threads;
