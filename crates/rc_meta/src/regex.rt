@@ -326,8 +326,8 @@ impl Regex {
     {
         let found = self.engine.all_matches(alloc, &mut input)?;
         let end = high(&mut input);
-        let pieces = pieces_at_most(alloc, &found, end, limit)?.into_iter();
-        let limited = Limited { pieces, limit };
+        let rest = pieces_at_most(alloc, &found, end, limit)?.into_iter();
+        let limited = Limited { rest, limit };
         Ok(SplitN { input, limited })
     }
 }

@@ -1,4 +1,4 @@
-use Rattle.std.proofs.Common.{◌≡◌, ◌∙◌, None, ap, length, map, refl, subst}
+use Rattle.std.proofs.Common.{◌∙◌, None, ap, length, map, refl, subst}
 use Rattle.std.proofs.lemmas.List.{length-map}
 use Rattle.rc_pattern.specs.WellFormed.{group_names}
 use Rattle.rc_captures.specs.Captures.{match_of}

@@ -1,9 +1,7 @@
-use Rattle.std.proofs.Common.{◌≡◌, ◌≤◌, ℕ, List, IfSome, OnOk, Result, Ok, Err, length, refl, subst}
+use Rattle.std.proofs.Common.{OnOk, Result, Ok, Err, refl, subst}
 use Rattle.std.proofs.lemmas.List.{length-map}
 use Rattle.rc_pattern.specs.WellFormed.{group_names}
-use Rattle.rc_text.specs.Found.{Found}
 use Rattle.rc_captures.specs.Captures.{match_of}
-use Rattle.rc_program.specs.Answer.{answer}
 use Rattle.rc_program.specs.Program.{shown}
 use Rattle.rc_program.specs.Sought.{search_for}
 use Rattle.rc_build.specs.Names.{is_grouped}
