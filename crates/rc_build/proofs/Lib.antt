@@ -3,3 +3,4 @@ mod Examples
 pub mod NamesLemmas
 pub mod RefusalLemmas
 pub mod Runnable
+pub mod TextLemmas

@@ -3,3 +3,4 @@ pub mod Lines
 pub mod Names
 pub mod Refusals
 pub mod Settings
+pub mod TextRefusals

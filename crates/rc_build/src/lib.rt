@@ -8,4 +8,5 @@ pub mod error;
 pub mod laws;
 #[cfg(test)]
 mod tests;
+pub mod texts;
 pub mod which;

@@ -6,6 +6,7 @@ use Rattle.rc_captures.specs.Names.{Names}
 use Rattle.rc_program.specs.Sought.{Sought}
 use Rattle.rc_build.specs.Names.{is_grouped, names_shown}
 use Rattle.rc_build.specs.Settings.{Settings, settings_of, which_captures_of}
+use Rattle.rc_syntax.specs.Settings.{Settings as SyntaxSettings, settings_of as syntax_of}
 use Rattle.rc_meta.specs.Fits.{sought_by}
 use Rattle.rc_meta.specs.declared.regex.Regex.{Regex}
 use Rattle.rc_meta.specs.declared.builder.Builder.{Builder}
@@ -27,3 +28,7 @@ regex_names r = names_shown (is_grouped (which_captures_of (regex_settings r))) 
 
 abbrev pub builder_settings : Builder → Settings
 builder_settings b = settings_of b.config
+
+-- the settings by which a builder reads text
+abbrev pub builder_syntax : Builder → SyntaxSettings
+builder_syntax b = syntax_of b.syntax

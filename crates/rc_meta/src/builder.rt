@@ -6,32 +6,38 @@ ghost use Rattle.rc_program.specs.Sought.{IsRunnable, may_be_empty, passes_over}
 ghost use Rattle.rc_thompson.specs.Places.{places_of};
 ghost use Rattle.rc_build.specs.Refusals.{IsBuildable, IsRefusal};
 ghost use Rattle.rc_build.specs.Settings.{settings_of, unset, overwritten, nfa_size_limit_of, line_terminator_of};
+ghost use Rattle.rc_build.specs.TextRefusals.{AllRead, IsTextRefusal, texts_of};
 ghost use Rattle.rc_meta.specs.Fits.{sought_by};
-ghost use Rattle.rc_meta.specs.Views.{builder_settings, regex_patterns, regex_settings};
+ghost use Rattle.rc_meta.specs.Views.{builder_settings, builder_syntax, regex_patterns, regex_settings};
+ghost use Rattle.rc_syntax.specs.Settings.{default_settings, settings_of as syntax_of};
 
 use crate::regex::{Regex, assembled};
 use rc_build::compile::compile_all;
 use rc_build::config::Config;
 use rc_build::error::BuildError;
+use rc_build::texts::parse_all;
 use rc_matches::engine::Engine;
 use rc_pattern::check::copies_of;
 use rc_pattern::hir::Hir;
 use rc_thompson::place::Place;
 use std::alloc::Global;
 
-/// Makes regexes under settings of its own.
+/// Makes regexes under settings of its own: those of the regex, and those by which its text is read.
 #[derive(Drop)]
 pub struct Builder {
     config: Config,
+    syntax: rc_syntax::Config,
 }
 
 impl Builder {
-    /// A builder in which nothing is set.
+    /// A builder in which nothing is set. It reads text by the default settings.
     pub fn new() -> Builder
-        ensures { builder_settings result ≡ unset }
+        ensures settings { builder_settings result ≡ unset }
+        ensures syntax { builder_syntax result ≡ default_settings }
     {
         Builder {
             config: Config::new(),
+            syntax: rc_syntax::Config::new(),
         }
     }
 
@@ -39,9 +45,45 @@ impl Builder {
     pub fn configure(&mut self, config: Config) -> &mut Builder
         ensures same_reference { result.ghost_name ≡ self.entry.ghost_name }
         ensures value { builder_settings result.now ≡ overwritten (builder_settings self.entry.now) (settings_of config) }
+        ensures syntax_kept { builder_syntax result.now ≡ builder_syntax self.entry.now }
     {
         self.config.overwrite(&config);
         self
+    }
+
+    /// Reads text by these settings from now on, and lends the builder on.
+    pub fn syntax(&mut self, config: rc_syntax::Config) -> &mut Builder
+        ensures same_reference { result.ghost_name ≡ self.entry.ghost_name }
+        ensures value { builder_syntax result.now ≡ syntax_of config }
+        ensures settings_kept { builder_settings result.now ≡ builder_settings self.entry.now }
+    {
+        self.syntax = config;
+        self
+    }
+
+    /// The regex of the pattern as which this text is read. The `Err`s are those of `build_many`.
+    pub fn build(&self, alloc: Global, pattern: &str) -> Result<Regex, BuildError>
+        ensures read { IfOk result (λ r. AllRead (builder_syntax self.now) (pattern.now ∷ []) (regex_patterns r)) }
+        ensures settings { IfOk result (λ r. regex_settings r ≡ builder_settings self.now) }
+        ensures buildable { IfOk result (λ r. IsBuildable (nfa_size_limit_of (builder_settings self.now)) (regex_patterns r)) }
+        ensures refused { IfErr result (λ e. IsTextRefusal (nfa_size_limit_of (builder_settings self.now)) (builder_syntax self.now) (pattern.now ∷ []) e) }
+    {
+        self.build_many(alloc, std::slice::from_ref(&pattern))
+    }
+
+    /// The regex of the patterns as which these texts are read, at most 2,147,483,647.
+    ///
+    /// An `Err` is the first of these that applies: `Syntax`, with the least text from which no pattern is read, and a byte of it;
+    /// then those of `build_many_from_hir`. All texts are read before any pattern is built. The builder stays as it was.
+    pub fn build_many(&self, alloc: Global, patterns: &[&str]) -> Result<Regex, BuildError>
+        requires { length patterns.now ≤ 2147483647 }
+        ensures read { IfOk result (λ r. AllRead (builder_syntax self.now) (texts_of patterns.now) (regex_patterns r)) }
+        ensures settings { IfOk result (λ r. regex_settings r ≡ builder_settings self.now) }
+        ensures buildable { IfOk result (λ r. IsBuildable (nfa_size_limit_of (builder_settings self.now)) (regex_patterns r)) }
+        ensures refused { IfErr result (λ e. IsTextRefusal (nfa_size_limit_of (builder_settings self.now)) (builder_syntax self.now) (texts_of patterns.now) e) }
+    {
+        let hirs = parse_all(alloc, patterns, &self.syntax)?;
+        self.build_many_from_hir(alloc, &hirs)
     }
 
     /// The regex of one pattern. The `Err`s are those of `build_many_from_hir`.

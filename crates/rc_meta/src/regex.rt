@@ -13,6 +13,7 @@ ghost use Rattle.rc_meta.specs.Fits.{Fits};
 use crate::builder::{Builder, build};
 use crate::iterators::{CapturesMatches, FindMatches, Limited, Split, SplitN};
 use rc_build::config::Config;
+use rc_build::error::BuildError;
 use rc_captures::captures::Captures;
 use rc_captures::groups::GroupInfo;
 use rc_matches::engine::Engine;
@@ -35,7 +36,7 @@ pub struct Regex {
 }
 
 impl Regex {
-    ghost use Rattle.std.specs.Prelude.{◌≡◌, ◌≤◌, ◌<◌, ◌+◌, ◌^◌, ◌↔◌, All, IfOk, IfSome, OnOk, OnErr, IsSome, IsTrue, MatchOption, Some, None, length, map, option_map};
+    ghost use Rattle.std.specs.Prelude.{◌≡◌, ◌≤◌, ◌<◌, ◌+◌, ◌^◌, ◌↔◌, ◌∷◌, [], All, IfErr, IfOk, IfSome, OnOk, OnErr, IsSome, IsTrue, MatchOption, Some, None, length, map, option_map};
     ghost use Rattle.rc_captures.specs.Captures.{IsCapturesFor, captures_pattern, captures_slots, match_of};
     ghost use Rattle.rc_captures.specs.Groups.{names_of};
     ghost use Rattle.rc_captures.specs.Names.{slot_len};
@@ -50,12 +51,42 @@ impl Regex {
     ghost use Rattle.rc_text.specs.declared.types.MatchKind.TheVariants.{LeftmostFirst};
     ghost use Rattle.rc_program.specs.Answer.{answer, groups};
     ghost use Rattle.rc_program.specs.Sought.{search_for};
-    ghost use Rattle.rc_build.specs.Settings.{unset, match_kind_of};
-    ghost use Rattle.rc_meta.specs.Views.{builder_settings, regex_patterns, regex_settings, regex_names, sought};
+    ghost use Rattle.rc_build.specs.Settings.{unset, match_kind_of, nfa_size_limit_of};
+    ghost use Rattle.rc_build.specs.Refusals.{IsBuildable};
+    ghost use Rattle.rc_build.specs.TextRefusals.{AllRead, IsTextRefusal, texts_of};
+    ghost use Rattle.rc_syntax.specs.Settings.{default_settings};
+    ghost use Rattle.rc_meta.specs.Views.{builder_settings, builder_syntax, regex_patterns, regex_settings, regex_names, sought};
 
-    /// A builder in which nothing is set.
+    /// The regex of the pattern as which this text is read by the default settings. Nothing else is set. The `Err`s are those of
+    /// `new_many`.
+    pub fn new(alloc: Global, pattern: &str) -> Result<Regex, BuildError>
+        ensures read { IfOk result (λ r. AllRead default_settings (pattern.now ∷ []) (regex_patterns r)) }
+        ensures settings { IfOk result (λ r. regex_settings r ≡ unset) }
+        ensures buildable { IfOk result (λ r. IsBuildable (nfa_size_limit_of unset) (regex_patterns r)) }
+        ensures refused { IfErr result (λ e. IsTextRefusal (nfa_size_limit_of unset) default_settings (pattern.now ∷ []) e) }
+    {
+        Regex::builder().build(alloc, pattern)
+    }
+
+    /// The regex of the patterns as which these texts are read by the default settings, at most 2,147,483,647. Nothing else is set.
+    ///
+    /// An `Err` is the first of these that applies: `Syntax`, with the least text from which no pattern is read, and a byte of it;
+    /// `IllFormed`, with the least pattern that isn't well-formed; `SizeLimit`, where 32 times the weight of the patterns is above
+    /// 10,485,760; `PlaceLimit`, where the weight is above 2,147,483,646. `Memory` comes where memory was refused.
+    pub fn new_many(alloc: Global, patterns: &[&str]) -> Result<Regex, BuildError>
+        requires { length patterns.now ≤ 2147483647 }
+        ensures read { IfOk result (λ r. AllRead default_settings (texts_of patterns.now) (regex_patterns r)) }
+        ensures settings { IfOk result (λ r. regex_settings r ≡ unset) }
+        ensures buildable { IfOk result (λ r. IsBuildable (nfa_size_limit_of unset) (regex_patterns r)) }
+        ensures refused { IfErr result (λ e. IsTextRefusal (nfa_size_limit_of unset) default_settings (texts_of patterns.now) e) }
+    {
+        Regex::builder().build_many(alloc, patterns)
+    }
+
+    /// A builder in which nothing is set. It reads text by the default settings.
     pub fn builder() -> Builder
-        ensures { builder_settings result ≡ unset }
+        ensures settings { builder_settings result ≡ unset }
+        ensures syntax { builder_syntax result ≡ default_settings }
     {
         Builder::new()
     }

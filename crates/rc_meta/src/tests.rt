@@ -1,6 +1,7 @@
 //! Worked rows.
 
 mod lists;
+mod texts;
 
 use crate::regex::Regex;
 use rc_build::config::Config;

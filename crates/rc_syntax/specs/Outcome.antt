@@ -1,7 +1,7 @@
 -- What a refusal says of the text.
 use Rattle.std.specs.Prelude.{ℕ}
-use Rattle.rc_syntax.specs.declared.error.Error.{Error}
-use Rattle.rc_syntax.specs.declared.error.Error.TheVariants as error
+use Rattle.rc_pattern.specs.declared.syntax.Error.{Error}
+use Rattle.rc_pattern.specs.declared.syntax.Error.TheVariants as error
 use Rattle.rc_syntax.specs.declared.reader.Fault.{Fault}
 use Rattle.rc_syntax.specs.declared.reader.Fault.TheVariants as fault
 

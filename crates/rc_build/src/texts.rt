@@ -1,0 +1,41 @@
+//! Texts read as patterns.
+ghost use Rattle.std.specs.Prelude.{◌≡◌, ◌≤◌, ◌<◌, ℕ, length, map, IfErr, IfOk};
+ghost use Rattle.rc_pattern.specs.Meaning.{meaning};
+ghost use Rattle.rc_syntax.specs.Settings.{settings_of};
+ghost use Rattle.rc_build.specs.TextRefusals.{AllRead, IsReadingRefusal, texts_of};
+
+use crate::error::BuildError;
+use rc_pattern::hir::Hir;
+use rc_pattern::syntax;
+use rc_syntax::Config;
+use rc_syntax::parse;
+use rc_text::types::PatternID;
+use std::alloc::Global;
+
+/// The patterns as which the texts are read, at most 2,147,483,647 of them, each at the place of its text.
+///
+/// An `Err` is `Syntax`, with the least text from which no pattern is read, or `Memory`, where memory
+/// was refused.
+pub fn parse_all(
+    alloc: Global,
+    texts: &[&str],
+    config: &Config,
+) -> Result<Vec<Hir>, BuildError>
+    requires { length texts.now ≤ 2147483647 }
+    ensures read { IfOk result (λ hirs. AllRead (settings_of config.now) (texts_of texts.now) (map meaning hirs.items)) }
+    ensures refused { IfErr result (λ e. IsReadingRefusal (settings_of config.now) (texts_of texts.now) e) }
+{
+    let mut hirs = Vec::new(alloc);
+    for (i, text) in texts.iter().enumerate() {
+        match parse(alloc, text, config) {
+            Ok(hir) => hirs.push(hir)?,
+            Err(syntax::Error::Memory) => return Err(BuildError::Memory),
+            Err(syntax::Error::Syntax { at }) => {
+                let pattern = PatternID::new(i).unwrap();
+                let error = syntax::Error::Syntax { at };
+                return Err(BuildError::Syntax { pattern, error });
+            }
+        }
+    }
+    Ok(hirs)
+}

@@ -1,0 +1,3 @@
+//! What searches.
+
+pub mod meta;

@@ -1,0 +1,6 @@
+//! Patterns as trees.
+
+pub use rc_pattern::hir::{
+    Capture, Class, ClassBytesRange, ClassUnicodeRange, Dot, Hir, HirKind, Look, LookSet,
+    Properties, Repetition,
+};

@@ -1,0 +1,3 @@
+//! What is searched, and how.
+
+pub use rc_text::input::Input;

@@ -1,0 +1,17 @@
+//! Regex search over text in chunks.
+#![tactic(auto)]
+
+pub mod cursor;
+pub mod engines;
+pub mod hir;
+pub mod input;
+pub mod run;
+pub mod syntax;
+#[cfg(test)]
+mod tests;
+pub mod thompson;
+pub mod types;
+pub mod util;
+
+pub use cursor::Cursor;
+pub use input::Input;

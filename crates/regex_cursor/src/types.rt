@@ -1,0 +1,3 @@
+//! The plain types of searches.
+
+pub use rc_text::types::{Anchored, HalfMatch, Match, MatchError, MatchKind, PatternID, Span};

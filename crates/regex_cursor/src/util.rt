@@ -1,0 +1,3 @@
+//! Iteration over finders of a caller's own.
+
+pub mod iter;
