@@ -9,4 +9,5 @@ mod lists;
 mod patterns;
 mod repetitions;
 mod searches;
+mod texts;
 mod words;
