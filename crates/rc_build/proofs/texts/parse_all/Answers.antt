@@ -3,7 +3,7 @@ use Rattle.rc_pattern.specs.Meaning.{meaning}
 use Rattle.rc_pattern.specs.declared.syntax.Error.TheVariants.{Syntax as FaultAt}
 use Rattle.rc_syntax.specs.Settings.{settings_of}
 use Rattle.rc_build.specs.TextRefusals.{AllRead, texts_of}
-use Rattle.rc_build.proofs.TextLemmas.{read_more, all_read, first_unread}
+use Rattle.rc_build.proofs.TextLemmas.{read_more, first_unread}
 use Rattle.rc_build.proofs.CheckLemmas.{number_of_some}
 use Rattle.rc_build.proofs.texts.parse_all.Goals as goal
 
