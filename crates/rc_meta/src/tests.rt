@@ -1,5 +1,6 @@
 //! Worked rows.
 
+mod caches;
 mod lists;
 mod texts;
 
