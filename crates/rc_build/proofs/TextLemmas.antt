@@ -1,5 +1,5 @@
 -- Steps of the reading of texts, one after another.
-use Rattle.std.proofs.Common.{◌≡◌, ℕ, zero, suc, ◌+◌, ◌<◌, ◌≤◌, List, [], ◌∷◌, ◌++◌, take, map, length, get_or, chars, Option, Some, ap, refl, sym, ◌∙◌, subst, subst₂, arith}
+use Rattle.std.proofs.Common.{◌≡◌, ℕ, suc, ◌+◌, ◌<◌, ◌≤◌, List, [], ◌∷◌, ◌++◌, take, map, length, get_or, Option, ap, refl, sym, ◌∙◌, subst, subst₂, arith}
 use Rattle.std.specs.Prelude.{All}
 use Rattle.std.specs.Borrow.{Bor}
 use Rattle.std.specs.Option.{option_map}
@@ -29,6 +29,7 @@ read_more s ts i d hs h inside before here =
   where
     one_more : i + 1 ≡ suc i
     one_more = omega arith
+
     longer : texts_of (take (i + 1) ts) ≡ texts_of (take i ts) ++ (get_or ts i d).now ∷ []
     longer = ap (λ n. texts_of (take n ts)) one_more ∙ ap texts_of (take-suc ts i d inside) ∙ map-append (λ x. x.now) (take i ts) (get_or ts i d ∷ [])
 

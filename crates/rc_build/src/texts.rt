@@ -7,8 +7,7 @@ ghost use Rattle.rc_build.specs.TextRefusals.{AllRead, IsReadingRefusal, texts_o
 use crate::error::BuildError;
 use rc_pattern::hir::Hir;
 use rc_pattern::syntax;
-use rc_syntax::Config;
-use rc_syntax::parse;
+use rc_syntax::{Config, parse};
 use rc_text::types::PatternID;
 use std::alloc::Global;
 
@@ -16,11 +15,7 @@ use std::alloc::Global;
 ///
 /// An `Err` is `Syntax`, with the least text from which no pattern is read, or `Memory`, where memory
 /// was refused.
-pub fn parse_all(
-    alloc: Global,
-    texts: &[&str],
-    config: &Config,
-) -> Result<Vec<Hir>, BuildError>
+pub fn parse_all(alloc: Global, texts: &[&str], config: &Config) -> Result<Vec<Hir>, BuildError>
     requires { length texts.now ≤ 2147483647 }
     ensures read { IfOk result (λ hirs. AllRead (settings_of config.now) (texts_of texts.now) (map meaning hirs.items)) }
     ensures refused { IfErr result (λ e. IsReadingRefusal (settings_of config.now) (texts_of texts.now) e) }

@@ -1,23 +1,21 @@
 -- The answer of a pattern that is a list of needles.
-use Rattle.std.proofs.Common.{◌≡◌, ◌≢◌, ℕ, zero, suc, ◌+◌, ◌-◌, ◌<◌, ◌≤◌, List, [], ◌∷◌, length, Bool, true, false, true≢false, IsTrue, not, ◌&&◌, ◌||◌, min, Option, Some, None, sym, ap, ap₂, subst, ◌∙◌, refl, arith, inl, inr, nat_eq, option_map}
-use Rattle.std.proofs.lemmas.Bool.{cases_lt, cases_Bool}
+use Rattle.std.proofs.Common.{◌≡◌, ℕ, zero, suc, ◌+◌, ◌<◌, ◌≤◌, List, [], ◌∷◌, length, Bool, true, false, true≢false, IsTrue, not, ◌&&◌, ◌||◌, Option, Some, None, sym, ap, ap₂, subst, ◌∙◌, refl, arith, inl, option_map}
 use Rattle.std.proofs.lemmas.Bool.Decides.{nat_tests}
-use Rattle.std.proofs.lemmas.Option.{none-some, same_Some}
 use Rattle.rc_text.specs.declared.types.Anchored.{Anchored}
 use Rattle.rc_text.specs.declared.types.Anchored.TheVariants.{No, Yes, Pattern}
 use Rattle.rc_text.specs.Text.{Searched, low, high, is_boundary}
 use Rattle.rc_text.specs.Found.{Found}
-use Rattle.rc_walks.specs.Walks.{Pair, IsWalk}
-use Rattle.rc_pattern.specs.Re.{Re, literal, alt, none}
+use Rattle.rc_walks.specs.Walks.{Pair}
+use Rattle.rc_pattern.specs.Re.{Re, literal, alt}
 use Rattle.rc_pattern.specs.Properties.{minimum_len, saturated, least}
-use Rattle.rc_program.specs.Program.{Place, accept, place_at, is_match_place, program, part, without_groups, shown}
-use Rattle.rc_program.specs.Answer.{Search, Chosen, only, is_anchored, last_of, is_allowed, IsStart, IsFirstFrom, HasNoWalkFrom, next_of, ends, found, chosen, answer, pattern_at}
+use Rattle.rc_program.specs.Program.{accept, place_at, is_match_place, program, part, without_groups, shown}
+use Rattle.rc_program.specs.Answer.{Search, Chosen, only, is_anchored, last_of, is_allowed, IsStart, HasNoWalkFrom, next_of, ends, found, chosen, answer, pattern_at}
 use Rattle.rc_program.specs.Sought.{Sought, anchoring_of, search_over, search_for, passes_over, may_be_empty, is_zero}
 use Rattle.rc_program.proofs.AnswerLemmas.{first_start_chosen, no_start_chosen, walk_ends, match_place_is}
 use Rattle.rc_program.proofs.PlaceLemmas.{accept_below}
 use Rattle.rc_literal.specs.declared.hit.Hit.{Hit}
 use Rattle.rc_literal.specs.Needles.{needle_at, find_needle, prefix_needle}
-use Rattle.rc_literal.specs.Literals.{IsExact, found_at, literal_answer_by, literal_answer, literals_of, LiteralLaw}
+use Rattle.rc_literal.specs.Literals.{IsExact, found_at, literal_answer_by, literal_answer, LiteralLaw}
 use Rattle.rc_literal.proofs.FindLemmas.{prefix_is}
 use Rattle.rc_literal.proofs.RelationLemmas.{first_to}
 use Rattle.rc_literal.proofs.StartLemmas.{find_found, find_none}

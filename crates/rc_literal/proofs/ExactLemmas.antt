@@ -1,26 +1,24 @@
 -- What a search of one pattern finds that is exactly a list of needles.
-use Rattle.std.proofs.Common.{◌≡◌, ◌≢◌, ◌↔◌, ℕ, zero, suc, ◌+◌, ◌-◌, ◌*◌, ◌<◌, ◌≤◌, ◌⊎◌, List, [], ◌∷◌, length, Bool, true, false, true≢false, IsTrue, Option, Some, None, sym, ap, ap₂, subst, ◌∙◌, refl, arith, inl, inr, ⊎_elim, nat_eq, slice_get, if◌then◌else◌, option_map}
+use Rattle.std.proofs.Common.{◌≡◌, ◌≢◌, ℕ, zero, suc, ◌+◌, ◌*◌, ◌<◌, ◌≤◌, List, [], ◌∷◌, length, IsTrue, Option, Some, None, sym, ap, subst, ◌∙◌, refl, arith, inl, inr, slice_get, option_map}
 use Rattle.std.specs.Option.{option_or}
-use Rattle.std.proofs.lemmas.Bool.{cases_lt, cases_Bool, cases_eq}
-use Rattle.std.proofs.lemmas.Bool.Decides.{nat_tests}
+use Rattle.std.proofs.lemmas.Bool.{cases_Bool}
 use Rattle.std.proofs.lemmas.Option.{none-some, same_Some}
-use Rattle.rc_walks.specs.Walks.{Pair, IsIn, IsWalk, IsFirstWalk, HasNoWalk}
+use Rattle.rc_walks.specs.Walks.{Pair}
 use Rattle.rc_pattern.specs.Re.{Re, empty, literal, byte_in, char_in, look, repeat, capture, cat, alt, none}
 use Rattle.rc_pattern.specs.WellFormed.{group_count}
 use Rattle.rc_program.specs.Text.{Text}
-use Rattle.rc_program.specs.Spells.{Stands, Spells, SpelledBy}
-use Rattle.rc_program.specs.Program.{Place, choice, accept, place_at, ways, is_match_place, Part, dead, part, pattern_part, choice_of_patterns, program}
+use Rattle.rc_program.specs.Spells.{Stands, Spells}
+use Rattle.rc_program.specs.Program.{Place, accept, place_at, is_match_place, part, pattern_part, choice_of_patterns, program}
 use Rattle.rc_program.specs.Answer.{Search, only, last_of, IsFirstFrom, HasNoWalkFrom}
 use Rattle.rc_program.proofs.PlaceLemmas.{pattern_sized}
 use Rattle.rc_program.proofs.PartLemmas.{Stand, Stand-first, Stand-second}
 use Rattle.rc_program.proofs.WholeLemmas.{stand_all, pattern_stands, pattern_ends}
 use Rattle.rc_literal.specs.declared.hit.Hit.{Hit}
-use Rattle.rc_literal.specs.Needles.{StandsAt, stands_within, first_from, needle_at, IsFirstAt, NoneAt}
+use Rattle.rc_literal.specs.Needles.{StandsAt, stands_within, first_from, needle_at}
 use Rattle.rc_literal.specs.Literals.{Covers, IsExact, member_literals, literals_of}
-use Rattle.rc_literal.proofs.StandLemmas.{false_if_not}
-use Rattle.rc_literal.proofs.ReadLemmas.{reads, reads_is, end_if}
+use Rattle.rc_literal.proofs.ReadLemmas.{reads, reads_is}
 use Rattle.rc_literal.proofs.WayLemmas.{alternation, reads_any, AllSome, Gives, AreBefore, literal_gives, alternation_gives, either_gives, dead_gives}
-use Rattle.rc_literal.proofs.RelationLemmas.{range_of, first_of, none_of, get_some}
+use Rattle.rc_literal.proofs.RelationLemmas.{range_of, first_of, none_of}
 
 -- Which patterns they are.
 

@@ -1,5 +1,5 @@
 -- A search over rising starts.
-use Rattle.std.proofs.Common.{◌≡◌, ◌≢◌, ℕ, zero, suc, ◌+◌, ◌-◌, ◌<◌, ◌≤◌, List, [], ◌∷◌, length, Bool, true, false, true≢false, Option, Some, None, IfSome, sym, ap, subst, ◌∙◌, refl, arith, inl, inr, slice_range, slice_index, get_or, zero-le}
+use Rattle.std.proofs.Common.{◌≡◌, ℕ, zero, suc, ◌+◌, ◌-◌, ◌<◌, ◌≤◌, List, [], ◌∷◌, length, true, Option, Some, None, IfSome, sym, ap, subst, ◌∙◌, refl, arith, inl, inr, slice_range, slice_index}
 use Rattle.std.proofs.lemmas.Bool.{cases_lt, cases_Bool}
 use Rattle.std.proofs.lemmas.Option.{none-some, same_Some}
 use Rattle.rc_text.proofs.Ranges.{get_or-slice_range}

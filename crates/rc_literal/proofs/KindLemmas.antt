@@ -1,5 +1,5 @@
 -- Nodes that are no literal.
-use Rattle.std.proofs.Common.{◌≡◌, ℕ, ◌⊎◌, List, [], ◌∷◌, map, Option, Some, None, sym, ap, ◌∙◌, refl, inl, inr, Vec, Global}
+use Rattle.std.proofs.Common.{◌≡◌, ℕ, ◌⊎◌, List, [], ◌∷◌, map, Option, None, ap, ◌∙◌, refl, inl, inr, Vec, Global}
 use Rattle.rc_pattern.specs.Re.{Re}
 use Rattle.rc_pattern.specs.Meaning.{meaning, kind_meaning, class_meaning, cat_all, alt_all}
 use Rattle.rc_pattern.specs.declared.hir.Look.{Look}

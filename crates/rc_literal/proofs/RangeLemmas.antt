@@ -1,5 +1,5 @@
 -- A needle read piece by piece.
-use Rattle.std.proofs.Common.{◌≡◌, ◌≢◌, ℕ, ◌+◌, ◌-◌, ◌<◌, ◌≤◌, List, ◌++◌, length, take, drop, Bool, true, false, true≢false, sym, ap, ap₂, ◌∙◌, refl, arith, slice_range, take-add}
+use Rattle.std.proofs.Common.{◌≡◌, ◌≢◌, ℕ, ◌+◌, ◌-◌, ◌≤◌, List, ◌++◌, length, take, drop, true, false, true≢false, sym, ap, ap₂, ◌∙◌, refl, arith, slice_range, take-add}
 use Rattle.std.specs.Prelude.{bytes_eq}
 use Rattle.std.proofs.lemmas.List.{drop-take, drop-drop, take-take}
 use Rattle.std.proofs.lemmas.Slice.Eq.{bytes_eq-Decides}

@@ -1,8 +1,8 @@
 -- A needle read byte by byte.
-use Rattle.std.proofs.Common.{◌≡◌, ◌≢◌, ℕ, zero, suc, ◌+◌, ◌-◌, ◌<◌, ◌≤◌, List, [], ◌∷◌, length, take, drop, Bool, true, false, true≢false, Option, Some, None, sym, ap, ap₂, subst, ◌∙◌, refl, arith, inl, inr, nat_eq, slice_get, slice_range, if◌then◌else◌}
-use Rattle.std.proofs.lemmas.Bool.{cases_lt, cases_Bool, cases_eq}
+use Rattle.std.proofs.Common.{◌≡◌, ℕ, zero, suc, ◌+◌, ◌-◌, ◌<◌, ◌≤◌, List, [], ◌∷◌, length, take, drop, Bool, true, false, true≢false, Option, Some, None, sym, ap, ap₂, ◌∙◌, refl, arith, inl, inr, nat_eq, slice_get, slice_range, if◌then◌else◌}
+use Rattle.std.proofs.lemmas.Bool.{cases_lt, cases_Bool}
 use Rattle.std.proofs.lemmas.Bool.Decides.{nat_tests}
-use Rattle.std.proofs.lemmas.Option.{none-some, same_Some, slice_get_within}
+use Rattle.std.proofs.lemmas.Option.{none-some}
 use Rattle.rc_literal.specs.Needles.{stands_within}
 use Rattle.rc_literal.proofs.StandLemmas.{stands_parts, stands_from, false_if_not}
 

@@ -1,11 +1,10 @@
 -- The needle that is found, as a function, is the one of the relation.
-use Rattle.std.proofs.Common.{◌≡◌, ◌≢◌, ◌↔◌, ℕ, zero, suc, ◌+◌, ◌-◌, ◌<◌, ◌≤◌, List, [], ◌∷◌, length, Bool, true, false, true≢false, Option, Some, None, sym, ap, ap₂, subst, ◌∙◌, refl, arith, inl, inr, slice_get, slice_range, get_or}
-use Rattle.std.specs.Option.{option_or}
-use Rattle.std.proofs.lemmas.Bool.{cases_lt, cases_Bool}
-use Rattle.std.proofs.lemmas.Option.{none-some, same_Some, slice_get_within, slice_get-get_or, get_or_from_slice_get}
+use Rattle.std.proofs.Common.{◌≡◌, ℕ, zero, suc, ◌+◌, ◌<◌, List, [], ◌∷◌, length, true, false, true≢false, Option, Some, None, sym, ap, ap₂, subst, ◌∙◌, refl, arith, inl, inr, slice_get, slice_range}
+use Rattle.std.proofs.lemmas.Bool.{cases_Bool}
+use Rattle.std.proofs.lemmas.Option.{none-some, same_Some}
 use Rattle.rc_program.specs.Spells.{Stands}
 use Rattle.rc_literal.specs.declared.hit.Hit.{Hit}
-use Rattle.rc_literal.specs.Needles.{StandsAt, StandsWithin, NoneAt, IsFirstAt, IsFirstNeedle, HasNoNeedle, stands_within, first_from, needle_at, by_starts, find_needle, prefix_needle, NeedleLaw}
+use Rattle.rc_literal.specs.Needles.{StandsWithin, NoneAt, IsFirstAt, stands_within, first_from, needle_at}
 use Rattle.rc_literal.specs.Tables.{numbered}
 use Rattle.rc_literal.proofs.StandLemmas.{stands_parts, stands_from, false_if_not, none_from, some_from}
 use Rattle.rc_literal.proofs.ReadLemmas.{range_some, range_none, range_done}

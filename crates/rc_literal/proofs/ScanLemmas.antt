@@ -1,13 +1,12 @@
 -- Places of a piece where no needle can stand.
-use Rattle.std.proofs.Common.{◌≡◌, ◌≢◌, ℕ, zero, suc, ◌+◌, ◌-◌, ◌<◌, ◌≤◌, ◌⊎◌, List, [], ◌∷◌, length, take, drop, Bool, true, false, true≢false, Some, sym, ap, subst, ◌∙◌, refl, arith, inl, inr, slice_get, slice_index, get_or, zero-le, length-take, length-drop}
-use Rattle.std.proofs.lemmas.Bool.{cases_lt, cases_Bool}
+use Rattle.std.proofs.Common.{◌≡◌, ℕ, ◌+◌, ◌-◌, ◌<◌, ◌≤◌, ◌⊎◌, List, length, take, drop, Bool, Some, sym, ap, ◌∙◌, arith, inl, inr, slice_index, zero-le, length-take, length-drop}
+use Rattle.std.proofs.lemmas.Bool.{cases_lt}
 use Rattle.std.proofs.lemmas.Bool.Decides.{nat_tests}
 use Rattle.std.proofs.lemmas.List.{get_or-drop, get_or-take}
 use Rattle.std.proofs.lemmas.Option.{slice_get-get_or}
-use Rattle.memchr.specs.Find.{Nowhere, Passes, OccursAt, is_byte, is_byte2, is_byte3, IsFirst}
+use Rattle.memchr.specs.Find.{Nowhere, Passes, OccursAt, is_byte, is_byte2, is_byte3}
 use Rattle.rc_literal.specs.Tables.{numbered, Begins, Agrees, IsRuledOut, AreSome, AreHeads}
 use Rattle.rc_literal.specs.Scans.{AllBegin}
-use Rattle.rc_literal.proofs.StandLemmas.{false_if_not}
 
 -- a needle begins with its first byte
 pub begins_itself : (needle : List ℕ) → 0 < length needle → Begins needle (slice_index needle 0)

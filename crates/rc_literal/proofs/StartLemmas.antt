@@ -1,10 +1,10 @@
 -- What the first of the starts gives.
-use Rattle.std.proofs.Common.{◌≡◌, ◌↔◌, ℕ, zero, suc, ◌+◌, ◌-◌, ◌<◌, ◌≤◌, List, [], ◌∷◌, length, Option, Some, None, sym, ap, subst, ◌∙◌, refl, arith, inl, inr, zero-le}
+use Rattle.std.proofs.Common.{◌≡◌, ℕ, zero, suc, ◌+◌, ◌-◌, ◌<◌, ◌≤◌, List, Option, Some, None, sym, subst, ◌∙◌, refl, arith, inl, inr}
 use Rattle.std.specs.Option.{option_or}
 use Rattle.std.proofs.lemmas.Bool.{cases_lt}
-use Rattle.std.proofs.lemmas.Option.{none-some, same_Some}
+use Rattle.std.proofs.lemmas.Option.{none-some}
 use Rattle.rc_literal.specs.declared.hit.Hit.{Hit}
-use Rattle.rc_literal.specs.Needles.{StandsWithin, NoneAt, IsFirstAt, IsFirstNeedle, HasNoNeedle, needle_at, by_starts, find_needle, prefix_needle, NeedleLaw}
+use Rattle.rc_literal.specs.Needles.{NoneAt, IsFirstNeedle, HasNoNeedle, needle_at, by_starts, find_needle, NeedleLaw}
 use Rattle.rc_literal.proofs.RelationLemmas.{first_to, first_of, none_to, none_of}
 use Rattle.rc_literal.proofs.FindLemmas.{by_first, by_none, prefix_is}
 

@@ -1,5 +1,5 @@
 -- A table grown from its end.
-use Rattle.std.proofs.Common.{◌≡◌, ◌≢◌, ℕ, zero, suc, ◌+◌, ◌-◌, ◌<◌, ◌≤◌, List, [], ◌∷◌, length, set, Some, sym, ap, subst, ◌∙◌, refl, arith, inl, inr, slice_get, slice_index, get_or, max, take, map, ◌++◌, ap₂, Vec}
+use Rattle.std.proofs.Common.{◌≡◌, ℕ, ◌+◌, ◌<◌, List, [], ◌∷◌, length, set, sym, ap, subst, ◌∙◌, arith, inl, inr, slice_get, slice_index, max, take, ◌++◌, ap₂, Vec}
 use Rattle.std.proofs.lemmas.Bool.{cases_lt, cases_eq}
 use Rattle.std.proofs.lemmas.List.{get_or-set_same, get_or-set_other, take_more, map-append}
 use Rattle.std.proofs.lemmas.Option.{same_Some}

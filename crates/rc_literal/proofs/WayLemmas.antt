@@ -1,22 +1,20 @@
 -- The first walk of a literal, and of an alternation of literals.
-use Rattle.std.proofs.Common.{◌≡◌, ◌≢◌, ℕ, zero, suc, ◌+◌, ◌-◌, ◌<◌, ◌≤◌, ◌⊎◌, List, [], ◌∷◌, ◌++◌, length, map, Bool, true, false, true≢false, IsTrue, Option, Some, None, sym, ap, ap₂, subst, ◌∙◌, refl, arith, inl, inr, ⊎_elim, nat_eq, nat_le, ◌&&◌, ◌||◌, slice_range, if◌then◌else◌}
+use Rattle.std.proofs.Common.{◌≡◌, ℕ, suc, ◌+◌, ◌<◌, ◌≤◌, List, [], ◌∷◌, length, map, Bool, true, false, true≢false, IsTrue, Option, Some, None, sym, ap, subst, ◌∙◌, refl, arith, inl, inr, ⊎_elim, nat_eq, nat_le, ◌&&◌, ◌||◌, slice_range, if◌then◌else◌}
 use Rattle.std.specs.Option.{option_or}
-use Rattle.std.proofs.lemmas.Bool.{cases_lt, cases_Bool, cases_eq}
+use Rattle.std.proofs.lemmas.Bool.{cases_Bool, cases_eq}
 use Rattle.std.proofs.lemmas.Bool.Decides.{nat_tests}
-use Rattle.rc_walks.specs.Walks.{Pair, IsIn, IsWalk, stops, goes, IsFirstWalk, HasNoWalk}
+use Rattle.rc_walks.specs.Walks.{Pair, IsIn, IsFirstWalk, HasNoWalk}
 use Rattle.rc_walks.proofs.WalkLemmas.{drop_way, first_after, first_stops, first_goes}
 use Rattle.rc_walks.proofs.StackLemmas.{dead_if_tried, no_ways}
 use Rattle.rc_walks.proofs.TryLemmas.{first_way}
 use Rattle.rc_pattern.specs.Re.{Re, literal, alt, none}
-use Rattle.rc_pattern.specs.WellFormed.{group_count}
 use Rattle.rc_program.specs.Text.{Text, holds, ahead}
-use Rattle.rc_program.specs.Program.{Place, choice, byte, accept, Way, reads as Reads, in_ranges, over_byte, ways, ways_out, pair_at, place_at, is_match_place, Part, dead, either, bytes_in_order, literal_part, part, pattern_part, choice_of_patterns, program}
+use Rattle.rc_program.specs.Program.{Place, choice, byte, reads as Reads, in_ranges, over_byte, ways, ways_out, pair_at, place_at, is_match_place, Part, dead, bytes_in_order, part}
 use Rattle.rc_program.specs.Answer.{last_of}
 use Rattle.rc_program.proofs.WayLemmas.{same_pair, no_match, no_way_from}
 use Rattle.rc_program.proofs.AnswerLemmas.{last_of_more}
-use Rattle.rc_program.proofs.PlaceLemmas.{part_sized, pattern_sized}
-use Rattle.rc_program.proofs.PartLemmas.{Stand, Stand-left, Stand-right, Stand-first, Stand-second}
-use Rattle.rc_program.proofs.WholeLemmas.{stand_all, pattern_stands, pattern_ends}
+use Rattle.rc_program.proofs.PlaceLemmas.{part_sized}
+use Rattle.rc_program.proofs.PartLemmas.{Stand, Stand-first, Stand-second}
 use Rattle.rc_literal.proofs.ReadLemmas.{first_is, reads}
 
 -- the alternation of these literals

@@ -1,5 +1,5 @@
 -- Patterns that are lists of needles.
-use Rattle.std.specs.Prelude.{◌≡◌, ◌≢◌, ◌↔◌, ℕ, zero, suc, ◌+◌, ◌≤◌, List, [], ◌∷◌, Option, Some, None, option_map, slice_get, length}
+use Rattle.std.specs.Prelude.{◌≡◌, ◌≢◌, ℕ, zero, suc, ◌+◌, ◌≤◌, List, [], ◌∷◌, Option, Some, None, option_map, slice_get, length}
 use Rattle.rc_text.specs.Found.{Found}
 use Rattle.rc_text.specs.Text.{Searched, low, high}
 use Rattle.rc_text.specs.declared.types.Anchored.{Anchored}

@@ -1,5 +1,5 @@
 -- What a prefilter keeps of its needles.
-use Rattle.std.specs.Prelude.{◌≡◌, ◌≢◌, ℕ, ◌+◌, ◌<◌, ◌≤◌, List, [], length, map, Some, slice_get, slice_index, slice_index_or, Vec}
+use Rattle.std.specs.Prelude.{◌≡◌, ℕ, ◌+◌, ◌<◌, ◌≤◌, List, [], length, map, Some, slice_get, slice_index, slice_index_or, Vec}
 
 -- the needles as lists
 abbrev pub needles_in : {Y : Type 0} → List (Vec ℕ Y) → List (List ℕ)

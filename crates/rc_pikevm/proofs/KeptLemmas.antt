@@ -1,5 +1,5 @@
 -- A search is that of an input whose shown chunk and position alone have changed.
-use Rattle.std.proofs.Common.{◌≡◌, ℕ, ◌+◌, ◌≤◌, List, refl, sym, ◌∙◌, arith, inl, inr, ⊎_elim}
+use Rattle.std.proofs.Common.{◌≡◌, ℕ, ◌+◌, List, refl, sym, ◌∙◌, arith, inl, inr, ⊎_elim}
 use Rattle.rc_text.specs.Text.{Searched, Keeps}
 use Rattle.rc_thompson.specs.declared.place.Place as code
 use Rattle.rc_pikevm.specs.Moves.{seen}

@@ -61,8 +61,8 @@ module _ (s : Search) (p at : ℕ) where
         let l = (length-ahead s.text s.hi at).0 in
         let some : 0 < length (ahead s.text s.hi at) = slice_get_within (ahead s.text s.hi at) 0 b here in (
           ap (λ q. map (pair_at at) (ways_out (λ l. holds s.text l at) (ahead s.text s.hi at) q)) is
-          ∙ ap (map (pair_at at)) (over_some (λ b. if in_ranges rs b then reads 1 n ∷ [] else []) (ahead s.text s.hi at) b here)
-          ∙ ap (λ t. map (pair_at at) (if t then reads 1 n ∷ [] else [])) inside,
+              ∙ ap (map (pair_at at)) (over_some (λ b. if in_ranges rs b then reads 1 n ∷ [] else []) (ahead s.text s.hi at) b here)
+              ∙ ap (λ t. map (pair_at at) (if t then reads 1 n ∷ [] else [])) inside,
           record {
             silent = λ h. ap (λ q. note_at q h at) is;
             on = ap (is_match_place (only s.anchoring)) is ∙ byte_no_end (only s.anchoring) rs n;

@@ -1,12 +1,11 @@
 -- A window shows what a search sees at a position.
-use Rattle.std.proofs.Common.{◌≡◌, ℕ, ◌+◌, ◌-◌, ◌≤◌, ◌<◌, ◌⊎◌, List, ◌++◌, length, take, drop, slice_range, slice_get, min, sym, subst, ap, ap₂, ◌∙◌, refl, arith, inl, inr, ⊎_elim, length-take, length-drop}
+use Rattle.std.proofs.Common.{◌≡◌, ℕ, ◌+◌, ◌-◌, ◌≤◌, ◌⊎◌, List, length, take, drop, slice_range, slice_get, sym, ap, ap₂, ◌∙◌, arith, inl, inr, ⊎_elim, length-take}
 use Rattle.std.proofs.lemmas.Bool.{cases_lt}
 use Rattle.std.proofs.lemmas.List.{take-take, take_all, drop-take, drop-drop}
-use Rattle.rc_text.specs.Text.{Searched, slice_end, low, high}
+use Rattle.rc_text.specs.Text.{Searched, slice_end, high}
 use Rattle.rc_text.proofs.Ranges.{length-slice_range, slice_range-append, slice_get-slice_range}
 use Rattle.rc_program.specs.Looks.{side_before, side_after}
 use Rattle.rc_program.specs.Scalars.{scalar_at}
-use Rattle.rc_program.specs.Answer.{Search}
 use Rattle.rc_program.proofs.SideLemmas.{side_before-append, side_after-append, scalar_at-take}
 use Rattle.rc_thompson.specs.declared.place.Place as code
 use Rattle.rc_pikevm.specs.Windows.{IsWindow, IsBegun, IsAround}
@@ -59,14 +58,17 @@ module _ (s : Searched) (at : ℕ) (w : Window) (window : IsWindow s w) (begun :
   -- the bytes up to hi, or more than a scalar takes
   ahead_is : (hi : ℕ) → hi ≤ slice_end s →
       (take (hi - at) (slice_range s.content at (w.start + w.len)) ≡ slice_range s.content at hi)
-          ⊎ ((at + 4 ≤ w.start + w.len) × (at + 4 ≤ hi)
-              × (take (hi - at) (slice_range s.content at (w.start + w.len)) ≡ slice_range s.content at (w.start + w.len)))
+      ⊎ ((at + 4 ≤ w.start + w.len) × (at + 4 ≤ hi)
+      × (take (hi - at) (slice_range s.content at (w.start + w.len)) ≡ slice_range s.content at (w.start + w.len)))
   ahead_is hi le =
       let rest = drop at s.content in
       ⊎_elim
       (λ l. ⊎_elim (λ e. absurd (omega (arith, l, e, le)))
-      (λ four. inr (four, omega (arith, l, four),
-      take_all (hi - at) (slice_range s.content at (w.start + w.len)) (let n = length-take (w.start + w.len - at) rest in omega (arith, n, l)))) around.four)
+      (λ four. inr (
+        four,
+        omega (arith, l, four),
+        take_all (hi - at) (slice_range s.content at (w.start + w.len)) (let n = length-take (w.start + w.len - at) rest in omega (arith, n, l)),
+      )) around.four)
       (λ ge. inl (take-take (hi - at) (w.start + w.len - at) rest (omega (arith, ge))))
       (cases_lt (w.start + w.len) hi)
 

@@ -182,7 +182,9 @@ pub fn close(
     ensures some { 0 < length entered.new.items }
     ensures stack { (vec_len stack.new ≡ 0) × (length places.now + 1 ≤ vec_capacity stack.new) }
 {
-    if let Some(number) = visit(places, terminator, hi, pattern, at, before, after, root, start, threads, entered, stack, slots,
+    if let Some(number) = visit(
+        places, terminator, hi, pattern, at, before, after, root, start, threads, entered, stack,
+        slots,
     ) {
         stack.clear();
         return Some(number);
@@ -190,8 +192,9 @@ pub fn close(
     'frames: while let Some(frame) = stack.pop() {
         match frame {
             Frame::Explore(place) => {
-                if let Some(number) = visit(places, terminator, hi, pattern, at, before, after, place, start, threads, entered,
-                    stack, slots,
+                if let Some(number) = visit(
+                    places, terminator, hi, pattern, at, before, after, place, start, threads,
+                    entered, stack, slots,
                 ) {
                     stack.clear();
                     return Some(number);

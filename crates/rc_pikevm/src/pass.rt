@@ -78,8 +78,9 @@ fn step(
             continue;
         }
         slots.copy_from_slice(row);
-        if let Some(number) = close(places, terminator, hi, pattern, at, before, after, head.place, head.start, threads, entered,
-            stack, slots,
+        if let Some(number) = close(
+            places, terminator, hi, pattern, at, before, after, head.place, head.start, threads,
+            entered, stack, slots,
         ) {
             return Some((number, head.start));
         }
@@ -131,7 +132,8 @@ fn advance(
         (λ r. (0 < length entered.new.items) × ((x : ℕ) → x ≤ at → AllFrom x curr.now.items → x ≤ r.1)) }
     ensures stack { (vec_len stack.new ≡ 0) × (length places.now + 1 ≤ vec_capacity stack.new) }
 {
-    if let Some(end) = step(places, terminator, hi, pattern, at, before, after, curr, threads, entered, stack, slots,
+    if let Some(end) = step(
+        places, terminator, hi, pattern, at, before, after, curr, threads, entered, stack, slots,
     ) {
         return Some(end);
     }
@@ -139,7 +141,8 @@ fn advance(
         return None;
     }
     empty(slots);
-    if let Some(number) = close(places, terminator, hi, pattern, at, before, after, 0, at, threads, entered, stack, slots,
+    if let Some(number) = close(
+        places, terminator, hi, pattern, at, before, after, 0, at, threads, entered, stack, slots,
     ) {
         return Some((number, at));
     }
@@ -211,7 +214,14 @@ fn turn(
 {
     next.clear(slots.len());
     entered.clear();
-    let end = advance(places, terminator, hi, pattern, at, before, after,
+    let end = advance(
+        places,
+        terminator,
+        hi,
+        pattern,
+        at,
+        before,
+        after,
         last,
         best.is_none(),
         curr,
@@ -296,8 +306,9 @@ pub fn pass<C: Cursor>(
         let place = at - window.start;
         let before = &window.bytes[..place];
         let after = &window.bytes[place..window.len];
-        best = turn(places, terminator, hi, pattern, at, before, after, last, best, curr, next, entered, stack,
-            slots, found, insertions,
+        best = turn(
+            places, terminator, hi, pattern, at, before, after, last, best, curr, next, entered,
+            stack, slots, found, insertions,
         );
         mem::swap(curr, next);
         if is_done(curr, best, at, last) {

@@ -21,7 +21,11 @@ fn line(alloc: Global, builder: &Builder, patterns: &[&str]) -> Result<String, A
 }
 
 /// The pattern, the start and the end of the first match in the text.
-fn found(alloc: Global, re: &Regex, text: &str) -> Result<Option<(usize, usize, usize)>, AllocError> {
+fn found(
+    alloc: Global,
+    re: &Regex,
+    text: &str,
+) -> Result<Option<(usize, usize, usize)>, AllocError> {
     Ok(parts(re.find(alloc, Input::new(text))?))
 }
 

@@ -88,6 +88,25 @@ pub fn finds(
     assert_eq!(rt; span_of(found), want, "cut anew");
     let found = regex.find(alloc, asked.input(Recut::without_total(text)))?;
     assert_eq!(rt; span_of(found), want, "without a total");
+    finds_with(rt, alloc, regex, text, asked, want)
+}
+
+/// The same in a cache that is made once.
+fn finds_with(
+    rt: &impl Abort,
+    alloc: Global,
+    regex: &Regex,
+    text: &[u8],
+    asked: Asked,
+    want: Option<(usize, usize)>,
+) -> Result<(), AllocError> {
+    let mut cache = regex.create_cache(alloc)?;
+    let found = regex.search_with(&mut cache, &mut asked.input(text));
+    assert_eq!(rt; span_of(found), want, "in a cache");
+    let found = regex.search_with(&mut cache, &mut asked.input(Recut::by_bytes(text)));
+    assert_eq!(rt; span_of(found), want, "in a cache, one-byte chunks");
+    let found = regex.search_with(&mut cache, &mut asked.input(Recut::in_ring(text)));
+    assert_eq!(rt; span_of(found), want, "in a cache, cut anew");
     Ok(())
 }
 

@@ -5,7 +5,7 @@ use rc_build::config::Config;
 use rc_build::error::BuildError;
 use rc_meta::regex::Regex;
 use rc_syntax::Config as Syntax;
-use std::alloc::Global;
+use std::alloc::{AllocError, Global};
 use std::process::Abort;
 use std::test::Fail;
 
@@ -303,5 +303,30 @@ fn texts_that_are_not_read(rt: HostRuntime) -> Result<(), Fail> {
         .err()
         .ok_or("it was built")?;
     assert_eq!(rt; refusal.size_limit(), Some(10485760));
+    Ok(())
+}
+
+/// A text of 65,537 bytes: byte i is `a` where i has an even number of binary ones, else `b`; the last is `c`.
+fn thue_morse(alloc: Global) -> Result<Vec<u8>, AllocError> {
+    let mut text = Vec::new(alloc);
+    for i in 0u32..65536 {
+        let even = i.count_ones() % 2 == 0;
+        text.push(if even { b'a' } else { b'b' })?;
+    }
+    text.push(b'c')?;
+    Ok(text)
+}
+
+#[test]
+fn long_searches_end(rt: HostRuntime) -> Result<(), Fail> {
+    let alloc = rt.alloc();
+    row(&rt, alloc, "(a*)*b", &[b'a'; 40], &[])?;
+    let text = thue_morse(alloc)?;
+    let regex = built(alloc, "[ab]*a[ab]{12}c", Syntax::new(), Config::new())?;
+    let found = regex.find(alloc, Asked::all().input(text.as_slice()))?;
+    assert_eq!(rt; found.map(|m| (m.start(), m.end())), Some((0, 65537)));
+    let regex = built(alloc, "[ab]*a[ab]{13}c", Syntax::new(), Config::new())?;
+    let found = regex.find(alloc, Asked::all().input(text.as_slice()))?;
+    assert!(rt; found.is_none());
     Ok(())
 }

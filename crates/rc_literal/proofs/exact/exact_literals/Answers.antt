@@ -1,4 +1,4 @@
-use Rattle.std.proofs.Common.{◌≡◌, ap, sym, ◌∙◌}
+use Rattle.std.proofs.Common.{ap, sym, ◌∙◌}
 use Rattle.rc_literal.specs.Literals.{literals_of}
 use Rattle.rc_literal.proofs.KindLemmas.{no_literals}
 use Rattle.rc_literal.proofs.exact.exact_literals.Goals as goal

@@ -1,4 +1,4 @@
-use Rattle.std.proofs.Common.{◌≡◌, ap, sym, ◌∙◌}
+use Rattle.std.proofs.Common.{ap, sym, ◌∙◌}
 use Rattle.rc_literal.specs.Literals.{literal_bytes}
 use Rattle.rc_literal.proofs.KindLemmas.{no_bytes}
 use Rattle.rc_literal.proofs.exact.literal_bytes.Goals as goal

@@ -1,6 +1,6 @@
-use Rattle.std.proofs.Common.{rules, arith, ◌≡◌, ◌+◌, ◌-◌, ◌<◌, ◌≤◌, ◌∙◌, refl, sym, ap, length, slice_range, Some, None}
-use Rattle.rc_text.specs.Text.{Keeps, low, high}
-use Rattle.rc_literal.specs.Needles.{needle_at, find_needle}
+use Rattle.std.proofs.Common.{arith, ◌≡◌, ◌+◌, ◌<◌, ◌≤◌, ◌∙◌, refl, sym, ap, length, slice_range, Some, None}
+use Rattle.rc_text.specs.Text.{low, high}
+use Rattle.rc_literal.specs.Needles.{needle_at}
 use Rattle.rc_literal.specs.Prefilters.{needles_of}
 use Rattle.rc_literal.proofs.FindLemmas.{same_low, more_passed, one_more_start, first_found, none_found, needle_within, keeps_on, same_at}
 use Rattle.rc_literal.proofs.literal.find.Goals as goal

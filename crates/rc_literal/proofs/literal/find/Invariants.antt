@@ -1,4 +1,4 @@
-use Rattle.std.proofs.Common.{◌≡◌, ℕ, ◌-◌, ◌<◌, ◌≤◌, None, length}
+use Rattle.std.proofs.Common.{◌≡◌, ℕ, ◌-◌, ◌<◌, ◌≤◌, None}
 use Rattle.rc_text.specs.Text.{Keeps, low, high}
 use Rattle.rc_literal.specs.Needles.{needle_at}
 use Rattle.rc_literal.specs.Prefilters.{needles_of}

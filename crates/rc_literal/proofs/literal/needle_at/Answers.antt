@@ -1,9 +1,8 @@
-use Rattle.std.proofs.Common.{rules, arith, ◌≡◌, ◌+◌, ◌-◌, ◌<◌, ◌≤◌, ℕ, true, false, true≢false, length, sym, ap, ◌∙◌, refl, Some, slice_get, subst, get_or}
+use Rattle.std.proofs.Common.{rules, arith, ◌≡◌, ◌+◌, ◌<◌, true, false, true≢false, length, sym, ap, ◌∙◌, Some, slice_get, get_or}
 use Rattle.std.proofs.lemmas.List.{get_or_read}
-use Rattle.rc_literal.specs.declared.hit.Hit.{Hit}
-use Rattle.rc_literal.specs.Needles.{stands_within, needle_at}
-use Rattle.rc_literal.specs.Tables.{needles_in, numbered, Begins, IsNextWith}
-use Rattle.rc_literal.proofs.StandLemmas.{NoneBelow, none_to_next, none_one_more, none_here, first_here, numbered_in, needle_count, stands_from, stands_parts, false_if_not}
+use Rattle.rc_literal.specs.Needles.{stands_within}
+use Rattle.rc_literal.specs.Tables.{needles_in, numbered, IsNextWith}
+use Rattle.rc_literal.proofs.StandLemmas.{none_to_next, none_one_more, none_here, first_here, numbered_in, needle_count, stands_from, stands_parts, false_if_not}
 use Rattle.std.proofs.lemmas.Slice.Eq.{bytes_eq-Decides}
 use Rattle.std.specs.Prelude.{bytes_eq, slice_range}
 use Rattle.rc_literal.proofs.literal.needle_at.Goals as goal

@@ -1,4 +1,4 @@
-use Rattle.std.proofs.Common.{◌≡◌, ◌+◌, ◌<◌, ◌≤◌, length, ◌-◌, Some, slice_get}
+use Rattle.std.proofs.Common.{◌<◌, ◌≤◌, length, ◌-◌}
 use Rattle.rc_text.specs.Text.{Keeps}
 use Rattle.rc_literal.specs.Tables.{needles_in, numbered, Begins}
 use Rattle.rc_literal.proofs.StandLemmas.{NoneBelow}

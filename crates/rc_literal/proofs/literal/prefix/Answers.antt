@@ -1,9 +1,8 @@
-use Rattle.std.proofs.Common.{arith, ◌≡◌, ◌<◌, ◌≤◌, ◌∙◌, sym, Some, None, Option, IfSome}
+use Rattle.std.proofs.Common.{arith, ◌≡◌, ◌∙◌, sym}
 use Rattle.rc_text.specs.Text.{low, high}
-use Rattle.rc_literal.specs.declared.hit.Hit.{Hit}
-use Rattle.rc_literal.specs.Needles.{needle_at, prefix_needle}
+use Rattle.rc_literal.specs.Needles.{needle_at}
 use Rattle.rc_literal.specs.Prefilters.{needles_of}
-use Rattle.rc_literal.proofs.FindLemmas.{same_low, prefix_is, none_past, needle_within, if_needle_within, same_at}
+use Rattle.rc_literal.proofs.FindLemmas.{same_low, prefix_is, none_past, if_needle_within, same_at}
 use Rattle.rc_literal.proofs.literal.prefix.Goals as goal
 
 pub returns-then-at-end-clause-value : goal.returns-then-at-end-clause-value

@@ -1,6 +1,5 @@
-use Rattle.std.proofs.Common.{rules, arith, ◌≡◌, ◌+◌, ◌<◌, ◌++◌, ◌∷◌, [], length, ap, sym, ◌∙◌, take}
+use Rattle.std.proofs.Common.{rules, arith, ◌≡◌, ◌<◌, length, ap, ◌∙◌}
 use Rattle.rc_literal.specs.Tables.{needles_in, numbered}
-use Rattle.rc_literal.specs.Prefilters.{needles_of}
 use Rattle.rc_literal.proofs.StandLemmas.{numbered_in, needle_count}
 use Rattle.rc_literal.proofs.TableLemmas.{needles_more}
 use Rattle.rc_literal.proofs.prefilter.copy_of.Goals as goal

@@ -1,7 +1,7 @@
-use Rattle.std.proofs.Common.{rules, arith, ◌≡◌, ◌+◌, ◌<◌, ◌≤◌, ℕ, length, ap, sym, ◌∙◌, subst, false, true, true≢false, refl, below_more}
+use Rattle.std.proofs.Common.{arith, ◌≡◌, ◌<◌, length, ap, ◌∙◌, below_more}
 use Rattle.std.proofs.lemmas.Bool.{false≢true}
 use Rattle.std.proofs.lemmas.Bool.Decides.{nat_tests}
-use Rattle.rc_literal.specs.Tables.{needles_in, numbered, IsUsable}
+use Rattle.rc_literal.specs.Tables.{needles_in, numbered}
 use Rattle.rc_literal.proofs.StandLemmas.{numbered_in, needle_count}
 use Rattle.rc_literal.proofs.prefilter.is_usable.Goals as goal
 

@@ -1,4 +1,4 @@
-use Rattle.std.proofs.Common.{ℕ, ◌<◌, ◌≤◌, length, slice_index}
+use Rattle.std.proofs.Common.{◌<◌, length, slice_index}
 use Rattle.memchr.specs.Find.{Nowhere}
 use Rattle.rc_literal.proofs.scan.first_byte_from.Given as goal
 

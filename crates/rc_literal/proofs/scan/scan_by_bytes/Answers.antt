@@ -1,4 +1,4 @@
-use Rattle.std.proofs.Common.{ℕ, length, sym}
+use Rattle.std.proofs.Common.{length, sym}
 use Rattle.rc_literal.specs.Tables.{needles_in}
 use Rattle.rc_literal.proofs.StandLemmas.{needle_count}
 use Rattle.rc_literal.proofs.ScanLemmas.{one_begins, two_begin, three_begin}

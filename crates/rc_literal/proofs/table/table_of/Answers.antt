@@ -1,4 +1,4 @@
-use Rattle.std.proofs.Common.{rules, arith, ◌≡◌, ◌+◌, ◌-◌, ◌<◌, ◌≤◌, length, length-set, sym, ap, subst, ◌∙◌, refl, set, get_or, Some, slice_get, slice_index}
+use Rattle.std.proofs.Common.{arith, ◌≡◌, ◌+◌, ◌-◌, ◌<◌, length, length-set, sym, ap, subst, ◌∙◌, set, slice_get, slice_index}
 use Rattle.std.proofs.lemmas.List.{get_or_read}
 use Rattle.rc_literal.specs.Tables.{needles_in, numbered, Begins, AreHeads, AreNexts}
 use Rattle.rc_literal.proofs.StandLemmas.{numbered_in, needle_count}

@@ -1,9 +1,9 @@
-use Rattle.std.proofs.Common.{◌≡◌, ◌∙◌, ◌+◌, ◌-◌, ap, arith, sym, map, take, slice_get, slice_range, ◌∷◌, [], ℕ, Option, Some, true, eq-eqb, length}
+use Rattle.std.proofs.Common.{◌∙◌, ◌-◌, ap, arith, sym, map, take, slice_get, ◌∷◌, []}
 use Rattle.rc_pattern.specs.Meaning.{byte_range, char_range}
 use Rattle.rc_text.specs.Text.{high}
-use Rattle.rc_program.specs.Program.{place_at, scalar, in_ranges}
+use Rattle.rc_program.specs.Program.{in_ranges}
 use Rattle.rc_program.specs.Scalars.{scalar_at}
-use Rattle.rc_thompson.specs.Places.{place_of, places_of}
+use Rattle.rc_thompson.specs.Places.{place_of}
 use Rattle.rc_pikevm.specs.Moves.{seen}
 use Rattle.rc_pikevm.proofs.LookUpLemmas.{placed, scalar_size, scalar_move, byte_move, single_in}
 use Rattle.rc_pikevm.proofs.moves.look_up.Goals as goal
@@ -11,7 +11,7 @@ use Rattle.rc_pikevm.proofs.moves.look_up.Goals as goal
 pub overflow_add-result-in-Scalar : goal.overflow_add-result-in-Scalar
 overflow_add-result-in-Scalar g c =
     let here = sym c.requires.1.1.scalar ∙ ap (λ hi. scalar_at (take (hi - c.args.at) c.args.after.now)) (sym c.requires.0.bound)
-        ∙ sym c.in-Some-next_scalar.ensures in
+    ∙ sym c.in-Some-next_scalar.ensures in
     let r = scalar_size g.text.content c.args.at (high g.text) c.in-Some-next_scalar.c c.in-Some-next_scalar.count here in
     omega (arith, r, c.ranges.hi, c.requires.0.bound)
 

@@ -1,7 +1,7 @@
-use Rattle.std.proofs.Common.{◌≡◌, ℕ, ◌+◌, List, [], ◌∷◌, length, sym, ap, subst, ◌∙◌, arith, Some, None, replicate}
+use Rattle.std.proofs.Common.{◌≡◌, ℕ, ◌+◌, List, ◌∷◌, length, sym, ap, subst, ◌∙◌, arith, None, replicate}
 use Rattle.rc_walks.specs.Walks.{Pair}
 use Rattle.rc_pikevm.specs.Moves.{seen}
-use Rattle.rc_pikevm.specs.Trace.{Trace, trace, done}
+use Rattle.rc_pikevm.specs.Trace.{Trace, trace}
 use Rattle.rc_pikevm.specs.Passing.{Carries, waiting_starts}
 use Rattle.rc_pikevm.proofs.StartLemmas.{waiting_next}
 use Rattle.rc_pikevm.proofs.pass.advance.Goals as goal

@@ -1,8 +1,8 @@
-use Rattle.std.proofs.Common.{◌≡◌, ℕ, ◌+◌, length, refl, sym, ap, subst, ◌∙◌, arith, ◌-◌, ◌*◌, ◌≤◌, ◌<◌, rules}
+use Rattle.std.proofs.Common.{◌≡◌, ℕ, ◌+◌, length, refl, sym, ap, subst, ◌∙◌, arith, ◌-◌, ◌≤◌}
 use Rattle.rc_pikevm.specs.Threads.{ThreadList}
 use Rattle.rc_pikevm.specs.Moves.{seen}
 use Rattle.rc_pikevm.specs.Passing.{Pending, IsLined}
-use Rattle.rc_pikevm.proofs.KeptLemmas.{kept_back, kept_then, kept_window, kept_begun, kept_around, begun_later}
+use Rattle.rc_pikevm.proofs.KeptLemmas.{kept_back, kept_then, kept_window, kept_begun, kept_around}
 use Rattle.rc_text.specs.Text.{high}
 use Rattle.rc_pikevm.proofs.NearLemmas.{is_near}
 use Rattle.rc_pikevm.proofs.PassingLemmas.{counts_fit, counted_at_last, passing_begins, passing_turns, passing_stops, passing_ends}
@@ -62,9 +62,23 @@ turn-best-requires g c =
             (kept_around c.positions.input g.text c.positions.at c.reach.new.window back r.around) c.args.places.now c.args.terminator within,
         (
           subst (λ w. IsLined (length c.args.places.now) c.args.hi w c.positions.at c.positions.insertions c.positions.curr) (sym inv.widths.0) inv.passing.lined,
-          ((inv.room, omega (arith, inv.most.1, inv.widths.0, c.requires.1.1.1.1.1.1.0)),
-          (inv.capacity, (inv.stack, (omega (arith, inv.widths), (inv.passing.ended, counts_fit (length c.args.places.now) (c.positions.at - c.args.from) c.positions.insertions
-          (omega (arith, c.args.stack.now.small, c.requires.1.1.1.1.1.1.1.1.0.1)) (omega (arith, c.ranges.hi, c.requires.1.1.1.1.0, c.positions-test.true)) inv.passing.few))))),
+          (
+            (inv.room, omega (arith, inv.most.1, inv.widths.0, c.requires.1.1.1.1.1.1.0)),
+            (
+              inv.capacity,
+              (
+                inv.stack,
+                (
+                  omega (arith, inv.widths),
+                  (
+                    inv.passing.ended,
+                    counts_fit (length c.args.places.now) (c.positions.at - c.args.from) c.positions.insertions
+                        (omega (arith, c.args.stack.now.small, c.requires.1.1.1.1.1.1.1.1.0.1)) (omega (arith, c.ranges.hi, c.requires.1.1.1.1.0, c.positions-test.true)) inv.passing.few,
+                  ),
+                ),
+              ),
+            ),
+          ),
         ),
       ),
     )

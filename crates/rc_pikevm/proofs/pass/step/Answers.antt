@@ -1,9 +1,7 @@
-use Rattle.std.proofs.Common.{◌+◌, ◌<◌, [], ◌∷◌, length, sym, subst, arith, rules, length-drop, inl, inr, ⊎_elim, Some, min}
+use Rattle.std.proofs.Common.{◌+◌, ◌<◌, length, sym, arith, length-drop, inl, inr, ⊎_elim, min}
 use Rattle.rc_program.specs.Answer.{Search}
 use Rattle.rc_pikevm.specs.Moves.{seen}
 use Rattle.rc_pikevm.specs.Threads.{thread_of}
-use Rattle.rc_pikevm.specs.Trace.{trace, done}
-use Rattle.rc_pikevm.specs.Passing.{Carries}
 use Rattle.rc_pikevm.proofs.StepLemmas.{in_at, from_at, has_room, stepping_waits, stepping_closes, stepping_ends}
 use Rattle.rc_pikevm.proofs.pass.step.Goals as goal
 
@@ -27,11 +25,23 @@ threads-preserved-then-head-at g c =
     }
 
 pub close-requires : goal.close-requires
-close-requires g c =
-    (c.requires.0, ((in_at (length c.args.places.now) c.args.at (min c.args.hi (c.args.at + 3)) c.args.curr.now.items c.threads.index
-    (thread_of c.get.result.0 c.get.result.1.now) c.requires.1.1.0 c.get.ensures.item).0,
-    (c.requires.1.0, (c.threads.invariant.stepping.sound, (omega (arith, c.copy_from_slice.ensures.len, c.threads.auto.slots, c.requires.1.1.1.0, c.threads.invariant.stepping.same_width),
-    c.threads.invariant.stack)))))
+close-requires g c = (
+  c.requires.0,
+  (
+    (in_at (length c.args.places.now) c.args.at (min c.args.hi (c.args.at + 3)) c.args.curr.now.items c.threads.index
+        (thread_of c.get.result.0 c.get.result.1.now) c.requires.1.1.0 c.get.ensures.item).0,
+    (
+      c.requires.1.0,
+      (
+        c.threads.invariant.stepping.sound,
+        (
+          omega (arith, c.copy_from_slice.ensures.len, c.threads.auto.slots, c.requires.1.1.1.0, c.threads.invariant.stepping.same_width),
+          c.threads.invariant.stack,
+        ),
+      ),
+    ),
+  ),
+)
 
 pub returns-clause-ended : goal.returns-clause-ended
 returns-clause-ended g c =

@@ -1,4 +1,4 @@
-use Rattle.std.proofs.Common.{◌≡◌, ◌+◌, ◌≤◌, arith, inl, inr, ⊎_elim}
+use Rattle.std.proofs.Common.{◌+◌, arith, inl, inr, ⊎_elim}
 use Rattle.std.proofs.lemmas.Bool.{cases_lt}
 use Rattle.rc_text.specs.Text.{slice_end}
 use Rattle.rc_pikevm.proofs.window.reach.Goals as goal

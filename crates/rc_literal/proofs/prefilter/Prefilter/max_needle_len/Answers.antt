@@ -1,6 +1,5 @@
-use Rattle.std.proofs.Common.{rules, arith, ◌≡◌, ◌+◌, ◌<◌, length, ap, sym, ◌∙◌, max, take}
+use Rattle.std.proofs.Common.{arith, ◌≡◌, ◌<◌, length, ap, sym, ◌∙◌, max}
 use Rattle.std.proofs.lemmas.Grind.{common_steps}
-use Rattle.rc_literal.specs.Needles.{longest}
 use Rattle.rc_literal.specs.Tables.{needles_in, numbered}
 use Rattle.rc_literal.proofs.StandLemmas.{numbered_in, needle_count}
 use Rattle.rc_literal.proofs.TableLemmas.{longest_next}

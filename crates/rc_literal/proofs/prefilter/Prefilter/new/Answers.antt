@@ -1,4 +1,4 @@
-use Rattle.std.proofs.Common.{rules, arith, ◌≡◌, ◌+◌, ◌<◌, ◌++◌, ◌∷◌, [], length, ap, sym, ◌∙◌, take, map, List, ℕ}
+use Rattle.std.proofs.Common.{arith, ◌≡◌, ◌<◌, [], length, ap, sym, ◌∙◌, map, List, ℕ}
 use Rattle.std.proofs.lemmas.List.{length-map, get_or-map}
 use Rattle.std.specs.Borrow.{Bor}
 use Rattle.rc_literal.specs.Tables.{needles_in, numbered}
