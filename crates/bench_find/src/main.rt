@@ -95,8 +95,11 @@ fn cut(alloc: Global, bytes: &[u8], n: usize) -> Result<Vec<&[u8]>, AllocError> 
 /// The number of matches in the chunks.
 fn count_in(alloc: Global, regex: &Regex, chunks: &[&[u8]]) -> Result<usize, RunError> {
     let input = Input::new(ChunkCursor::new(chunks)?);
-    let matches = regex.find_iter(alloc, input)?;
-    Ok(matches.count())
+    let mut count: usize = 0;
+    for _ in regex.find_iter(alloc, input)? {
+        count = count.saturating_add(1);
+    }
+    Ok(count)
 }
 
 /// Counts the matches once, and writes their number and the time. The answer is the time.
@@ -114,9 +117,7 @@ fn rounds(rt: &HostRuntime, regex: &Regex, chunks: &[&[u8]], n: u32) -> Result<(
     let mut least = Duration::MAX;
     for _ in 0..n {
         let time = round(rt, regex, chunks)?;
-        if time < least {
-            least = time;
-        }
+        least = least.min(time);
     }
     let millis = least.as_millis();
     writeln!(rt.stdout(), "least: {millis} ms")?;
