@@ -104,6 +104,8 @@ pub fn prefix<C: Cursor>(input: &mut Input<C>, prefilter: &Prefilter) -> Option<
 pub fn search<C: Cursor>(input: &mut Input<C>, prefilter: &Prefilter) -> Option<Match>
     ensures keeps { Keeps input.old input.new }
     ensures value { result ≡ literal_answer (needles_of prefilter.now) input.old }
+    ensures within { IfSome result (λ found. (low input.old ≤ found.start) × (found.start ≤ found.end)
+        × (found.end ≤ high input.old)) }
 {
     let hit = match input.get_anchored() {
         Anchored::No => find(input, prefilter)?,

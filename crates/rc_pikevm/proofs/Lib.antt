@@ -13,3 +13,4 @@ pub mod PassingLemmas
 pub mod NotedLemmas
 pub mod SearchLemmas
 pub mod NearLemmas
+pub mod RunnableLemmas

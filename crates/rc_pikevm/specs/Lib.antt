@@ -7,3 +7,4 @@ pub mod Found
 pub mod Caches
 pub mod Windows
 pub mod Near
+pub mod Runnable

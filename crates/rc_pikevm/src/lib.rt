@@ -5,6 +5,7 @@ pub mod cache;
 mod closure;
 mod moves;
 mod pass;
+pub mod runnable;
 pub mod search;
 pub mod sparse_set;
 #[cfg(test)]
