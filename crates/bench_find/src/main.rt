@@ -5,9 +5,8 @@
 #![tactic(auto)]
 
 use regex_cursor::Input;
-use regex_cursor::cursor::ChunkCursor;
+use regex_cursor::cursor::{ChunkCursor, TooLong};
 use regex_cursor::engines::meta::Regex;
-use regex_cursor::run::RunError;
 use std::alloc::{AllocError, Global};
 use std::io;
 use std::io::{Read, Write};
@@ -30,18 +29,26 @@ struct Job<'a> {
     rounds: u32,
 }
 
-/// Why the benchmark stopped.
+/// Why the benchmark stopped, once the pattern was built.
 #[derive(Drop)]
 enum BenchError {
-    /// The pattern was refused, the text is too long, or there is no memory for a search.
-    Run(RunError),
+    /// The number of bytes in the text reaches the greatest `usize`.
+    TooLong,
+    /// Memory was refused.
+    Memory,
     /// The text wasn't read, the clock gave no time, or a line wasn't written.
     Io(io::Error),
 }
 
-impl From<RunError> for BenchError {
-    fn from(error: RunError) -> BenchError {
-        BenchError::Run(error)
+impl From<TooLong> for BenchError {
+    fn from(_: TooLong) -> BenchError {
+        BenchError::TooLong
+    }
+}
+
+impl From<AllocError> for BenchError {
+    fn from(_: AllocError) -> BenchError {
+        BenchError::Memory
     }
 }
 
@@ -93,7 +100,7 @@ fn cut(alloc: Global, bytes: &[u8], n: usize) -> Result<Vec<&[u8]>, AllocError> 
 }
 
 /// The number of matches in the chunks.
-fn count_in(alloc: Global, regex: &Regex, chunks: &[&[u8]]) -> Result<usize, RunError> {
+fn count_in(alloc: Global, regex: &Regex, chunks: &[&[u8]]) -> Result<usize, BenchError> {
     let input = Input::new(ChunkCursor::new(chunks)?);
     let mut count: usize = 0;
     for _ in regex.find_iter(alloc, input)? {
@@ -124,19 +131,19 @@ fn rounds(rt: &HostRuntime, regex: &Regex, chunks: &[&[u8]], n: u32) -> Result<(
     Ok(())
 }
 
-/// Reads the text, cuts it, builds the pattern, and counts its matches in rounds.
-fn bench(rt: &HostRuntime, job: &Job<'_>) -> Result<(), BenchError> {
+/// Reads the text, cuts it, and counts its matches in rounds.
+fn bench(rt: &HostRuntime, regex: &Regex, job: &Job<'_>) -> Result<(), BenchError> {
     let mut bytes = Vec::new(rt.alloc());
     rt.stdin().read_to_end(&mut bytes)?;
-    let chunks = cut(rt.alloc(), &bytes, job.chunk_len).map_err(RunError::from)?;
-    let regex = Regex::new(rt.alloc(), job.pattern).map_err(RunError::from)?;
-    rounds(rt, &regex, &chunks, job.rounds)
+    let chunks = cut(rt.alloc(), &bytes, job.chunk_len)?;
+    rounds(rt, regex, &chunks, job.rounds)
 }
 
 /// Writes the line of a fault. A fault of the standard error is ignored.
 fn report(rt: &HostRuntime, error: &BenchError) -> u8 {
     let _ = match error {
-        BenchError::Run(error) => writeln!(rt.stderr(), "{error}"),
+        BenchError::TooLong => writeln!(rt.stderr(), "input too long"),
+        BenchError::Memory => writeln!(rt.stderr(), "out of memory"),
         BenchError::Io(error) => writeln!(rt.stderr(), "{error}"),
     };
     FAULT
@@ -151,7 +158,14 @@ fn run_with(rt: &HostRuntime, words: &[&str]) -> u8 {
         let _ = writeln!(rt.stderr(), "{USAGE}");
         return FAULT;
     };
-    match bench(rt, &job) {
+    let regex = match Regex::new(rt.alloc(), job.pattern) {
+        Ok(regex) => regex,
+        Err(error) => {
+            let _ = writeln!(rt.stderr(), "{error}");
+            return FAULT;
+        }
+    };
+    match bench(rt, &regex, &job) {
         Ok(()) => 0,
         Err(error) => report(rt, &error),
     }
@@ -160,7 +174,7 @@ fn run_with(rt: &HostRuntime, words: &[&str]) -> u8 {
 /// Reads the words, and does what they ask for.
 fn run(rt: &HostRuntime) -> Result<u8, BenchError> {
     let words = words_of(rt)?;
-    let words = lent(rt.alloc(), &words).map_err(RunError::from)?;
+    let words = lent(rt.alloc(), &words)?;
     Ok(run_with(rt, &words))
 }
 
