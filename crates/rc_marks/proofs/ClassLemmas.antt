@@ -18,7 +18,7 @@ use Rattle.rc_marks.proofs.ItemLemmas.{step, item_left, then_more}
 
 -- ---- codes
 
-le_true : (a b : ℕ) → nat_le a b ≡ true → a ≤ b
+pub le_true : (a b : ℕ) → nat_le a b ≡ true → a ≤ b
 le_true a b h = grind (arith, h)
 
 le_yes : (a b : ℕ) → a ≤ b → nat_le a b ≡ true
@@ -57,7 +57,7 @@ one u c h = (h, h, omega arith, tt)
 
 -- ---- folding
 
-if_elim : {A : Type 0} (P : A → Type 0) (b : Bool) (x y : A) → (b ≡ true → P x) → (b ≡ false → P y) → P (if b then x else y)
+pub if_elim : {A : Type 0} (P : A → Type 0) (b : Bool) (x y : A) → (b ≡ true → P x) → (b ≡ false → P y) → P (if b then x else y)
 if_elim P true x y f g = f refl
 if_elim P false x y f g = g refl
 

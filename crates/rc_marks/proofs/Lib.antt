@@ -12,3 +12,4 @@ pub mod ClassSteps
 pub mod ItemLemmas
 pub mod LeadLemmas
 pub mod ClassLemmas
+mod Examples

@@ -8,11 +8,12 @@ ghost use Rattle.rc_thompson.specs.Places.{places_of};
 use rc_captures::captures;
 use rc_captures::captures::Captures;
 use rc_captures::groups::GroupInfo;
+use rc_pikevm::cache::Cache;
+use rc_pikevm::search;
 use rc_text::cursor::Cursor;
 use rc_text::input::Input;
 use rc_text::types::{Match, PatternID};
 use rc_thompson::place::Place;
-use rc_walker::walker;
 use std::alloc::{AllocError, Global};
 
 /// The places of a program, the byte at which lines end, and whether passing over is in play.
@@ -35,22 +36,27 @@ impl Engine {
     ghost use Rattle.rc_text.specs.Text.{Keeps, low, high};
     ghost use Rattle.rc_program.specs.Answer.{answer, groups};
     ghost use Rattle.rc_program.specs.Matches.{answer_from, begin_of, end_of, next_match, matches_left};
-    ghost use Rattle.rc_matches.specs.Engine.{engine_search};
+    ghost use Rattle.rc_matches.specs.Engine.{engine_search, IsEngineCache, IsSameCache};
+    ghost use Rattle.rc_captures.specs.Names.{slot_len};
     ghost use Rattle.rc_matches.specs.Moved.{IsMoved};
 
-    /// The match that a search finds. An `Err` is want of memory.
-    pub fn find<C: Cursor>(
-        &self,
-        alloc: Global,
-        input: &mut Input<C>,
-    ) -> Result<Option<Match>, AllocError>
-        ensures keeps { Keeps input.old input.new }
-        ensures found { IfOk result (λ m. m ≡ answer (engine_search self.now input.old)) }
-        ensures within { IfOk result (λ o. IfSome o (λ m. (low input.old ≤ m.start)
-            × (m.start ≤ m.end) × (m.end ≤ high input.old))) }
+    /// A cache for searches by this engine, with at most so many slots. An `Err` is want of memory.
+    pub fn create_cache(&self, alloc: Global, slots: usize) -> Result<Cache, AllocError>
+        ensures { IfOk result (IsEngineCache self.now slots) }
     {
-        walker::find(
-            alloc,
+        Cache::new(alloc, self.places.len(), slots)
+    }
+
+    /// The match that a search finds. It takes no memory.
+    pub fn find<C: Cursor>(&self, cache: &mut Cache, input: &mut Input<C>) -> Option<Match>
+        requires made { IsEngineCache self.now 0 cache.old }
+        ensures keeps { Keeps input.old input.new }
+        ensures found { result ≡ answer (engine_search self.now input.old) }
+        ensures within { IfSome result (λ m. (low input.old ≤ m.start) × (m.start ≤ m.end) × (m.end ≤ high input.old)) }
+        ensures cache { IsSameCache cache.old cache.new }
+    {
+        search::find(
+            cache,
             input,
             &self.places,
             self.terminator,
@@ -58,23 +64,24 @@ impl Engine {
         )
     }
 
-    /// The pattern that a search finds, with the first of its slots. Without a match the slots stay. An `Err` is want of memory.
+    /// The pattern that a search finds, with the first of its slots. Without a match the slots stay. It takes no memory.
     pub fn find_slots<C: Cursor>(
         &self,
-        alloc: Global,
+        cache: &mut Cache,
         input: &mut Input<C>,
         slots: &mut [Option<usize>],
-    ) -> Result<Option<PatternID>, AllocError>
+    ) -> Option<PatternID>
+        requires made { IsEngineCache self.now (length slots.old) cache.old }
         ensures keeps { Keeps input.old input.new }
-        ensures pattern { IfOk result (λ p. p
-            ≡ option_map (λ (m : Found). m.pattern) (answer (engine_search self.now input.old))) }
+        ensures pattern { result ≡ option_map (λ (m : Found). m.pattern) (answer (engine_search self.now input.old)) }
         ensures long { length slots.new ≡ length slots.old }
-        ensures slots { IfOk result (λ p. MatchOption p
+        ensures slots { MatchOption result
             (slots.new ≡ slots.old)
-            (λ _. Some slots.new ≡ groups (engine_search self.now input.old) (length slots.old))) }
+            (λ _. Some slots.new ≡ groups (engine_search self.now input.old) (length slots.old)) }
+        ensures cache { IsSameCache cache.old cache.new }
     {
-        walker::find_slots(
-            alloc,
+        search::search_slots(
+            cache,
             input,
             &self.places,
             self.terminator,
@@ -84,48 +91,50 @@ impl Engine {
     }
 
     /// The next match of a list: the answer from where the span starts, and where that is empty and ends at `last`, the answer from
-    /// a byte later. The span then starts where the answer was looked for. An `Err` is want of memory.
+    /// a byte later. The span then starts where the answer was looked for. It takes no memory.
     pub fn next_match<C: Cursor>(
         &self,
-        alloc: Global,
+        cache: &mut Cache,
         input: &mut Input<C>,
         last: Option<usize>,
-    ) -> Result<Option<Match>, AllocError>
+    ) -> Option<Match>
+        requires made { IsEngineCache self.now 0 cache.old }
         ensures moves { IsMoved input.old input.new }
-        ensures found { IfOk result (λ o. o
-            ≡ next_match begin_of end_of (answer_from (engine_search self.now input.old)) input.old.span.start last) }
-        ensures start { IfOk result (λ _. input.new.span.start
-            ≡ next_start (engine_search self.now input.old) input.old.span.start last) }
-        ensures there { IfOk result (λ o. o ≡ answer (engine_search self.now input.new)) }
-        ensures within { IfOk result (λ o. IfSome o (λ m. (low input.new ≤ m.start)
-            × (m.start ≤ m.end) × (m.end ≤ high input.new))) }
+        ensures found { result
+            ≡ next_match begin_of end_of (answer_from (engine_search self.now input.old)) input.old.span.start last }
+        ensures start { input.new.span.start
+            ≡ next_start (engine_search self.now input.old) input.old.span.start last }
+        ensures there { result ≡ answer (engine_search self.now input.new) }
+        ensures within { IfSome result (λ m. (low input.new ≤ m.start) × (m.start ≤ m.end) × (m.end ≤ high input.new)) }
+        ensures cache { IsSameCache cache.old cache.new }
     {
-        let Some(found) = self.find(alloc, input)? else {
-            return Ok(None);
-        };
+        let found = self.find(cache, input)?;
         if !is_again(last, found) {
-            return Ok(Some(found));
+            return Some(found);
         }
         // The content is shorter than the greatest number.
         let _offset = input.chunk_offset();
         input.set_start(input.start() + 1);
-        self.find(alloc, input)
+        self.find(cache, input)
     }
 
     /// All matches, from left to right. The start of the input's span may then be another. An `Err` is want of memory.
     pub fn all_matches<C: Cursor>(
         &self,
         alloc: Global,
+        cache: &mut Cache,
         input: &mut Input<C>,
     ) -> Result<Vec<Match>, AllocError>
+        requires made { IsEngineCache self.now 0 cache.old }
         ensures moves { IsMoved input.old input.new }
         ensures listed { IfOk result (λ v. v.items ≡ matches_left (engine_search self.now input.old) input.old.span.start None) }
         ensures within { IfOk result (λ v. All (λ m. (low input.old ≤ m.start)
             × (m.start ≤ m.end) × (m.end ≤ high input.old)) v.items) }
+        ensures cache { IsSameCache cache.old cache.new }
     {
         let mut all = Vec::new(alloc);
         let mut last = None;
-        while let Some(found) = self.next_match(alloc, input, last)? {
+        while let Some(found) = self.next_match(cache, input, last) {
             input.set_start(found.end());
             last = Some(found.end());
             all.push(found)?;
@@ -133,24 +142,24 @@ impl Engine {
         Ok(all)
     }
 
-    /// Writes the match that a search finds, with its groups, into captures of the patterns of these names. Without a match, and
-    /// after an `Err`, which is want of memory, they hold none.
+    /// Writes the match that a search finds, with its groups, into captures of the patterns of these names. Without a match they
+    /// hold none. It takes no memory.
     pub fn find_captures<C: Cursor>(
         &self,
-        alloc: Global,
+        cache: &mut Cache,
         input: &mut Input<C>,
         caps: &mut Captures,
-    ) -> Result<(), AllocError>
+    )
+        requires made { IsEngineCache self.now (length (captures_slots caps.old)) cache.old }
         ensures keeps { Keeps input.old input.new }
         ensures names { captures_names caps.new ≡ captures_names caps.old }
         ensures long { length (captures_slots caps.new) ≡ length (captures_slots caps.old) }
-        ensures refused { OnErr result (captures_pattern caps.new ≡ None) }
-        ensures found { OnOk result (Tells (engine_search self.now input.old) caps.new) }
+        ensures found { Tells (engine_search self.now input.old) caps.new }
+        ensures cache { IsSameCache cache.old cache.new }
     {
         captures::clear(caps);
-        let pattern = self.find_slots(alloc, input, caps.slots_mut())?;
+        let pattern = self.find_slots(cache, input, caps.slots_mut());
         captures::set_pattern(caps, pattern);
-        Ok(())
     }
 
     /// The captures of all matches, from left to right, with all groups of `info`. The start of the input's span may then be
@@ -158,19 +167,22 @@ impl Engine {
     pub fn all_captures<C: Cursor>(
         &self,
         alloc: Global,
+        cache: &mut Cache,
         input: &mut Input<C>,
         info: &GroupInfo,
     ) -> Result<Vec<Captures>, AllocError>
+        requires made { IsEngineCache self.now (slot_len (names_of info.now)) cache.old }
         ensures moves { IsMoved input.old input.new }
         ensures made { IfOk result (λ v. All (KeepsAll (names_of info.now)) v.items) }
         ensures told { IfOk result (λ v. AllTell (engine_search self.now input.old)
             (walks_left (engine_search self.now input.old) input.old.span.start None) v.items) }
+        ensures cache { IsSameCache cache.old cache.new }
     {
         let mut all = Vec::new(alloc);
         let mut last = None;
-        while let Some(found) = self.next_match(alloc, input, last)? {
+        while let Some(found) = self.next_match(cache, input, last) {
             let mut caps = Captures::all(alloc, info)?;
-            self.find_captures(alloc, input, &mut caps)?;
+            self.find_captures(cache, input, &mut caps);
             input.set_start(found.end());
             last = Some(found.end());
             all.push(caps)?;

@@ -1,14 +1,14 @@
 -- The match that captures answer is that of the search.
-use Rattle.std.proofs.Common.{◌≡◌, ◌≢◌, ◌∙◌, ℕ, zero, suc, ◌+◌, ◌-◌, ◌*◌, ◌<◌, ◌≤◌, Bool, true, false, All, List, [], ◌∷◌, inl, inr, ⊎_elim, get_or, length, map, Option, Some, None, OnOk, Result, Ok, Err, if◌then◌else◌, nat_eq, ap, sym, refl, arith, eq-eqb}
+use Rattle.std.proofs.Common.{◌≡◌, ◌∙◌, ℕ, zero, suc, ◌+◌, ◌-◌, ◌*◌, All, List, [], ◌∷◌, inl, inr, ⊎_elim, get_or, length, map, Option, Some, None, ap, sym, refl, arith, eq-eqb}
 use Rattle.std.proofs.lemmas.Bool.{ne_eqb}
 use Rattle.std.specs.Option.{option_and_then, option_map}
 use Rattle.rc_pattern.specs.Re.{Re}
 use Rattle.rc_captures.specs.Names.{Names}
-use Rattle.rc_captures.specs.Captures.{IsCapturesFor, HasMatch, captures_names, captures_pattern, captures_slots, group_span, match_at, match_of}
+use Rattle.rc_captures.specs.Captures.{IsCapturesFor, captures_names, captures_slots, group_span, match_at, match_of}
 use Rattle.rc_captures.specs.declared.captures.Captures.{Captures}
 use Rattle.rc_captures.proofs.CapturesLaws.{match-whole}
-use Rattle.rc_program.specs.Program.{program, shown}
-use Rattle.rc_program.specs.Answer.{Search, Chosen, IsAnswer, chosen, answer, found, last_of, pattern_of, slot_of}
+use Rattle.rc_program.specs.Program.{program}
+use Rattle.rc_program.specs.Answer.{Search, Chosen, chosen, answer, found, last_of, pattern_of, slot_of}
 use Rattle.rc_program.proofs.AnswerLemmas.{chosen_law, chosen_within, chosen_pattern}
 use Rattle.rc_matches.specs.Tells.{Tells, TellsOf, AllTell, KeepsAll}
 use Rattle.rc_matches.specs.Walks.{walk_start, walk_end, chosen_from, next_start, walks_left}

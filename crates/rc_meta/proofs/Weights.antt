@@ -1,8 +1,8 @@
 -- Patterns have no more groups than weight.
-use Rattle.std.proofs.Common.{◌≡◌, ℕ, zero, suc, ◌+◌, ◌*◌, ◌≤◌, max, List, [], ◌∷◌, length, Option, Some, None, arith, length-append}
+use Rattle.std.proofs.Common.{ℕ, zero, suc, ◌+◌, ◌*◌, ◌≤◌, max, List, [], ◌∷◌, length, Option, Some, None, arith, length-append}
 use Rattle.rc_pattern.specs.Re.{Re, empty, literal, byte_in, char_in, look, repeat, capture, cat, alt, none}
 use Rattle.rc_pattern.specs.WellFormed.{group_count, group_numbers}
-use Rattle.rc_pattern.specs.Weight.{copies_of, weight, sum_of_weights, list_weight}
+use Rattle.rc_pattern.specs.Weight.{copies_of, weight, sum_of_weights}
 use Rattle.rc_program.specs.Laws.{all_groups}
 
 times : (n w : ℕ) → 1 ≤ n → w ≤ n * w

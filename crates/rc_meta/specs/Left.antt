@@ -32,7 +32,7 @@ abbrev pub split_left : {C : Type 0} → Split C → List Span
 split_left s = into_iter_items s.pieces
 
 abbrev pub limited_left : Limited → List Span
-limited_left s = into_iter_items s.pieces
+limited_left s = into_iter_items s.rest
 
 abbrev pub splitn_left : {C : Type 0} → SplitN C → List Span
 splitn_left s = limited_left s.limited

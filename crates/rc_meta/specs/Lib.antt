@@ -1,5 +1,6 @@
 pub mod Fits
 pub mod Views
+pub mod Caches
 pub mod Counts
 pub mod Left
 pub mod Laws

@@ -47,9 +47,9 @@ pub struct SplitN<C: Cursor> {
 /// Pieces, and how many more calls of `next` may give one.
 #[derive(Drop)]
 pub(crate) struct Limited {
-    pub(crate) pieces: IntoIter<Span>,
+    pub(crate) rest: IntoIter<Span>,
     pub(crate) limit: usize,
-    ghost few: { length (into_iter_items pieces) ≤ limit },
+    ghost few: { length (into_iter_items rest) ≤ limit },
 }
 
 impl<'r, C: Cursor> FindMatches<'r, C> {
@@ -161,15 +161,27 @@ impl<C: Cursor + Drop> Iterator for Split<C> {
 impl<C: Cursor + Drop> FusedIterator for Split<C> {}
 
 impl<C: Cursor> SplitN<C> {
+    ghost use Rattle.std.specs.Prelude.{◌≡◌, ◌-◌};
+    ghost use Rattle.std.specs.Iterator.{YieldsFirst};
+    ghost use Rattle.rc_meta.specs.Left.{splitn_left, splitn_limit};
+
     /// The input. What is done to it changes no item.
     pub fn input(&mut self) -> &mut Input<C> {
         &mut self.input
     }
+
+    /// The next piece. Each call lowers the limit.
+    pub fn next(&mut self) -> Option<Span>
+        ensures steps { YieldsFirst splitn_left self.old result self.new }
+        ensures limit { splitn_limit self.new ≡ splitn_limit self.old - 1 }
+    {
+        self.limited.next()
+    }
 }
 
 impl<C: Cursor + Drop> Iterator for SplitN<C> {
-    ghost use Rattle.std.specs.Prelude.{◌≡◌, ◌-◌, Some, IfSome, ⊤};
-    ghost use Rattle.std.specs.Iterator.{YieldsFirst, MakesProgress, UpTo, at_most};
+    ghost use Rattle.std.specs.Prelude.{◌≡◌, Some, IfSome};
+    ghost use Rattle.std.specs.Iterator.{YieldsFirst, UpTo, at_most};
     ghost use Rattle.std.specs.Iterator.SizeHint.{IsWithinCount};
     ghost use Rattle.rc_meta.specs.Left.{splitn_left, splitn_limit};
 
@@ -179,12 +191,8 @@ impl<C: Cursor + Drop> Iterator for SplitN<C> {
 
     ghost remaining = { λ s. at_most (splitn_limit s) };
 
-    fn next(&mut self) -> Option<Span>
-        ensures steps { YieldsFirst splitn_left self.old result self.new }
-        ensures goes { MakesProgress (λ _. ⊤) (λ s. at_most (splitn_limit s)) self.old result self.new }
-        ensures limit { splitn_limit self.new ≡ splitn_limit self.old - 1 }
-    {
-        self.limited.next()
+    fn next(&mut self) -> Option<Span> {
+        SplitN::next(self)
     }
 
     /// From none to the limit, less the calls of `next` so far.
@@ -208,7 +216,7 @@ impl Limited {
         ensures steps { YieldsFirst limited_left self.old result self.new }
         ensures limit { self.new.limit ≡ self.old.limit - 1 }
     {
-        let piece = self.pieces.next();
+        let piece = self.rest.next();
         self.limit = self.limit.saturating_sub(1);
         piece
     }

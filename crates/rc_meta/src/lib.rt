@@ -2,6 +2,7 @@
 #![tactic(auto)]
 
 pub mod builder;
+pub mod cache;
 pub mod iterators;
 pub mod laws;
 pub mod regex;

@@ -11,19 +11,24 @@ ghost use Rattle.rc_build.specs.Settings.{settings_of};
 ghost use Rattle.rc_meta.specs.Fits.{Fits};
 
 use crate::builder::{Builder, build};
+use crate::cache::Cache;
 use crate::iterators::{CapturesMatches, FindMatches, Limited, Split, SplitN};
 use rc_build::config::Config;
 use rc_build::error::BuildError;
+use rc_captures::captures;
 use rc_captures::captures::Captures;
 use rc_captures::groups::GroupInfo;
 use rc_matches::engine::Engine;
 use rc_matches::pieces::{all_pieces, pieces_at_most};
 use rc_pattern::check::group_count;
 use rc_pattern::hir::Hir;
+use rc_pikevm::cache;
 use rc_text::cursor::Cursor;
 use rc_text::input::{Input, high};
 use rc_text::types::{HalfMatch, Match, PatternID};
+use rc_thompson::place::Place;
 use std::alloc::{AllocError, Global};
+use std::mem::size_of;
 
 /// A list of patterns, built.
 #[derive(Drop)]
@@ -47,7 +52,7 @@ impl Regex {
     ghost use Rattle.rc_text.specs.Found.{Found};
     ghost use Rattle.rc_program.specs.Laws.{all_groups};
     ghost use Rattle.rc_meta.specs.Counts.{half_of, static_captures_len};
-    ghost use Rattle.rc_text.specs.Text.{low, high};
+    ghost use Rattle.rc_text.specs.Text.{Keeps, low, high};
     ghost use Rattle.rc_text.specs.declared.types.MatchKind.TheVariants.{LeftmostFirst};
     ghost use Rattle.rc_program.specs.Answer.{answer, groups};
     ghost use Rattle.rc_program.specs.Sought.{search_for};
@@ -55,6 +60,8 @@ impl Regex {
     ghost use Rattle.rc_build.specs.Refusals.{IsBuildable};
     ghost use Rattle.rc_build.specs.TextRefusals.{AllRead, IsTextRefusal, texts_of};
     ghost use Rattle.rc_syntax.specs.Settings.{default_settings};
+    ghost use Rattle.rc_matches.specs.Engine.{IsEngineCache};
+    ghost use Rattle.rc_meta.specs.Caches.{IsCacheFor};
     ghost use Rattle.rc_meta.specs.Views.{builder_settings, builder_syntax, regex_patterns, regex_settings, regex_names, sought};
 
     /// The regex of the pattern as which this text is read by the default settings. Nothing else is set. The `Err`s are those of
@@ -110,7 +117,8 @@ impl Regex {
             → IfOk result (λ m. m ≡ answer (search_for (sought self.now) input)) }
         ensures within { IfOk result (λ o. IfSome o (λ m. (low input ≤ m.start) × (m.start ≤ m.end) × (m.end ≤ high input))) }
     {
-        self.engine.find(alloc, &mut input)
+        let mut cache = self.engine.create_cache(alloc, 0)?;
+        Ok(self.engine.find(&mut cache, &mut input))
     }
 
     /// As `find`.
@@ -127,6 +135,18 @@ impl Regex {
         Ok(found)
     }
 
+    /// As `find`, in a cache that was made for this regex. It takes no memory.
+    pub fn search_with<C: Cursor>(&self, cache: &mut Cache, input: &mut Input<C>) -> Option<Match>
+        requires made { IsCacheFor (regex_patterns self.now) (regex_settings self.now) cache.old }
+        ensures cache { IsCacheFor (regex_patterns self.now) (regex_settings self.now) cache.new }
+        ensures keeps { Keeps input.old input.new }
+        ensures found { match_kind_of (regex_settings self.now) ≡ LeftmostFirst
+            → result ≡ answer (search_for (sought self.now) input.old) }
+        ensures within { IfSome result (λ m. (low input.old ≤ m.start) × (m.start ≤ m.end) × (m.end ≤ high input.old)) }
+    {
+        self.engine.find(&mut cache.inner, input)
+    }
+
     /// The pattern and the end of the match that a search of the input finds. An `Err` is want of memory.
     pub fn search_half<C: Cursor + Drop>(
         &self,
@@ -140,6 +160,25 @@ impl Regex {
         match self.find(alloc, input)? {
             Some(found) => Ok(Some(HalfMatch::new(found.pattern(), found.end()))),
             None => Ok(None),
+        }
+    }
+
+    /// As `search_half`, in a cache that was made for this regex. It takes no memory.
+    pub fn search_half_with<C: Cursor>(
+        &self,
+        cache: &mut Cache,
+        input: &mut Input<C>,
+    ) -> Option<HalfMatch>
+        requires made { IsCacheFor (regex_patterns self.now) (regex_settings self.now) cache.old }
+        ensures cache { IsCacheFor (regex_patterns self.now) (regex_settings self.now) cache.new }
+        ensures keeps { Keeps input.old input.new }
+        ensures found { match_kind_of (regex_settings self.now) ≡ LeftmostFirst
+            → result ≡ option_map half_of (answer (search_for (sought self.now) input.old)) }
+        ensures within { IfSome result (λ m. (low input.old ≤ m.offset) × (m.offset ≤ high input.old)) }
+    {
+        match self.search_with(cache, input) {
+            Some(found) => Some(HalfMatch::new(found.pattern(), found.end())),
+            None => None,
         }
     }
 
@@ -204,6 +243,30 @@ impl Regex {
         }
     }
 
+    /// About how many bytes the program and the groups take.
+    pub fn memory_usage(&self) -> usize {
+        let places = self.engine.places.len().saturating_mul(size_of::<Place>());
+        let slots = self
+            .info
+            .slot_len()
+            .saturating_mul(size_of::<Option<usize>>());
+        places.saturating_add(slots)
+    }
+
+    /// A cache for searches by this regex. An `Err` is want of memory.
+    pub fn create_cache(&self, alloc: Global) -> Result<Cache, AllocError>
+        ensures { IfOk result (IsCacheFor (regex_patterns self.now) (regex_settings self.now)) }
+    {
+        Cache::new(alloc, self)
+    }
+
+    /// A cache for searches by the engine, with all slots.
+    pub(crate) fn engine_cache(&self, alloc: Global) -> Result<cache::Cache, AllocError>
+        ensures { IfOk result (IsEngineCache self.now.engine (slot_len (names_of self.now.info))) }
+    {
+        self.engine.create_cache(alloc, self.info.slot_len())
+    }
+
     /// Captures that keep the groups of the patterns. They hold no match. An `Err` is want of memory.
     pub fn create_captures(&self, alloc: Global) -> Result<Captures, AllocError>
         ensures made { IfOk result (IsCapturesFor (regex_names self.now)) }
@@ -252,7 +315,33 @@ impl Regex {
         ensures within { OnOk result (IfSome (match_of caps.new)
             (λ m. (low input ≤ m.start) × (m.start ≤ m.end) × (m.end ≤ high input))) }
     {
-        self.engine.find_captures(alloc, &mut input, caps)
+        captures::clear(caps);
+        let mut cache = self.create_cache(alloc)?;
+        self.search_captures_with(&mut cache, &mut input, caps);
+        Ok(())
+    }
+
+    /// As `search_captures`, in a cache that was made for this regex. It takes no memory.
+    pub fn search_captures_with<C: Cursor>(
+        &self,
+        cache: &mut Cache,
+        input: &mut Input<C>,
+        caps: &mut Captures,
+    )
+        requires made { IsCacheFor (regex_patterns self.now) (regex_settings self.now) cache.old }
+        requires for_regex { IsCapturesFor (regex_names self.now) caps.old }
+        ensures cache { IsCacheFor (regex_patterns self.now) (regex_settings self.now) cache.new }
+        ensures keeps { Keeps input.old input.new }
+        ensures still_made { IsCapturesFor (regex_names self.now) caps.new }
+        ensures long { length (captures_slots caps.new) ≡ length (captures_slots caps.old) }
+        ensures found { match_kind_of (regex_settings self.now) ≡ LeftmostFirst
+            → Tells (search_for (sought self.now) input.old) caps.new }
+        ensures matched { match_kind_of (regex_settings self.now) ≡ LeftmostFirst
+            → match_of caps.new ≡ answer (search_for (sought self.now) input.old) }
+        ensures within { IfSome (match_of caps.new)
+            (λ m. (low input.old ≤ m.start) × (m.start ≤ m.end) × (m.end ≤ high input.old)) }
+    {
+        self.engine.find_captures(&mut cache.inner, input, caps);
     }
 
     /// The pattern of the match that a search of the input finds, and its slots in `slots`, which may be fewer than the regex has.
@@ -271,7 +360,29 @@ impl Regex {
             (slots.new ≡ slots.old)
             (λ _. Some slots.new ≡ groups (search_for (sought self.now) input) (length slots.old))) }
     {
-        self.engine.find_slots(alloc, &mut input, slots)
+        let mut cache = self.engine.create_cache(alloc, slots.len())?;
+        Ok(self.engine.find_slots(&mut cache, &mut input, slots))
+    }
+
+    /// As `search_slots`, in a cache that was made for this regex. It takes no memory.
+    pub fn search_slots_with<C: Cursor>(
+        &self,
+        cache: &mut Cache,
+        input: &mut Input<C>,
+        slots: &mut [Option<usize>],
+    ) -> Option<PatternID>
+        requires made { IsCacheFor (regex_patterns self.now) (regex_settings self.now) cache.old }
+        requires few { length slots.old ≤ slot_len (regex_names self.now) }
+        ensures cache { IsCacheFor (regex_patterns self.now) (regex_settings self.now) cache.new }
+        ensures keeps { Keeps input.old input.new }
+        ensures pattern { match_kind_of (regex_settings self.now) ≡ LeftmostFirst
+            → result ≡ option_map (λ (m : Found). m.pattern) (answer (search_for (sought self.now) input.old)) }
+        ensures slots { match_kind_of (regex_settings self.now) ≡ LeftmostFirst
+            → MatchOption result
+            (slots.new ≡ slots.old)
+            (λ _. Some slots.new ≡ groups (search_for (sought self.now) input.old) (length slots.old)) }
+    {
+        self.engine.find_slots(&mut cache.inner, input, slots)
     }
 
     /// All matches in the input, from left to right.
@@ -289,7 +400,11 @@ impl Regex {
         ensures short { IfOk result (λ s. length (find_left s) < 2 ^ 64) }
         ensures regex { IfOk result (λ s. find_regex s ≡ self.now) }
     {
-        let found = self.engine.all_matches(alloc, &mut input)?.into_iter();
+        let mut cache = self.engine.create_cache(alloc, 0)?;
+        let found = self
+            .engine
+            .all_matches(alloc, &mut cache, &mut input)?
+            .into_iter();
         Ok(FindMatches {
             regex: self,
             input,
@@ -313,9 +428,10 @@ impl Regex {
         ensures short { IfOk result (λ s. length (captures_left s) < 2 ^ 64) }
         ensures regex { IfOk result (λ s. captures_regex s ≡ self.now) }
     {
+        let mut cache = self.engine_cache(alloc)?;
         let found = self
             .engine
-            .all_captures(alloc, &mut input, &self.info)?
+            .all_captures(alloc, &mut cache, &mut input, &self.info)?
             .into_iter();
         Ok(CapturesMatches {
             regex: self,
@@ -336,7 +452,8 @@ impl Regex {
             ≡ pieces_of (high input) (matches_left (search_for (sought self.now) input) input.span.start None)) }
         ensures short { IfOk result (λ s. length (split_left s) < 2 ^ 64) }
     {
-        let found = self.engine.all_matches(alloc, &mut input)?;
+        let mut cache = self.engine.create_cache(alloc, 0)?;
+        let found = self.engine.all_matches(alloc, &mut cache, &mut input)?;
         let end = high(&mut input);
         let pieces = all_pieces(alloc, &found, end)?.into_iter();
         Ok(Split { input, pieces })
@@ -355,10 +472,11 @@ impl Regex {
             ≡ pieces_at_most limit (high input) (matches_left (search_for (sought self.now) input) input.span.start None)) }
         ensures limit { IfOk result (λ s. splitn_limit s ≡ limit) }
     {
-        let found = self.engine.all_matches(alloc, &mut input)?;
+        let mut cache = self.engine.create_cache(alloc, 0)?;
+        let found = self.engine.all_matches(alloc, &mut cache, &mut input)?;
         let end = high(&mut input);
-        let pieces = pieces_at_most(alloc, &found, end, limit)?.into_iter();
-        let limited = Limited { pieces, limit };
+        let rest = pieces_at_most(alloc, &found, end, limit)?.into_iter();
+        let limited = Limited { rest, limit };
         Ok(SplitN { input, limited })
     }
 }

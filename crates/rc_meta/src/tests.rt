@@ -1,9 +1,9 @@
 //! Worked rows.
 
+mod caches;
 mod lists;
 mod texts;
 
-use crate::builder::Builder;
 use crate::regex::Regex;
 use rc_build::config::Config;
 use rc_build::error::BuildError;
@@ -171,11 +171,6 @@ fn builds(rt: HostRuntime) -> Result<(), Fail> {
     Ok(())
 }
 
-/// Why one pattern isn't built.
-fn refusal(alloc: Global, builder: &Builder, hir: &Hir) -> Option<BuildError> {
-    builder.build_from_hir(alloc, hir).err()
-}
-
 #[test]
 fn refuses(rt: HostRuntime) -> Result<(), Fail> {
     let alloc = rt.alloc();
@@ -183,13 +178,13 @@ fn refuses(rt: HostRuntime) -> Result<(), Fail> {
     let hir = group(alloc, 1, literal(alloc, "a")?)?;
     builder.configure(Config::new().nfa_size_limit(Some(255)));
     let limit = BuildError::SizeLimit { limit: 255 };
-    assert_eq!(&rt; refusal(alloc, &builder, &hir), Some(limit));
+    assert_eq!(&rt; builder.build_from_hir(alloc, &hir).err(), Some(limit));
     builder.configure(Config::new().nfa_size_limit(Some(256)));
-    assert_eq!(&rt; refusal(alloc, &builder, &hir), None);
+    assert_eq!(&rt; builder.build_from_hir(alloc, &hir).err(), None);
     let bad = group(alloc, 2, literal(alloc, "a")?)?;
     let ill_formed = BuildError::IllFormed {
         pattern: PatternID::ZERO,
     };
-    assert_eq!(&rt; refusal(alloc, &builder, &bad), Some(ill_formed));
+    assert_eq!(&rt; builder.build_from_hir(alloc, &bad).err(), Some(ill_formed));
     Ok(())
 }

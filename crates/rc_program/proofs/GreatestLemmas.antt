@@ -1,14 +1,18 @@
 -- The greatest span as a function is the greatest as a relation.
-use Rattle.std.proofs.Common.{◌≡◌, ◌↔◌, ℕ, zero, suc, ◌+◌, ◌*◌, ◌<◌, ◌≤◌, List, [], ◌∷◌, Option, Some, None, true, false, ◌&&◌, IsTrue, nat_eq, length, inl, inr, ⊎_elim, sym, subst, ap, ap₂, ◌∙◌, refl, arith, eqb-true, eq-eqb, true≢false}
+use Rattle.std.proofs.Common.{◌≡◌, ◌↔◌, ℕ, zero, suc, ◌+◌, ◌*◌, ◌<◌, ◌≤◌, List, [], ◌∷◌, Option, Some, None, Bool, true, false, ◌&&◌, IsTrue, nat_eq, length, All, inl, inr, ⊎_elim, sym, subst, ap, ap₂, ◌∙◌, refl, arith, eqb-true, eq-eqb, true≢false}
 use Rattle.std.specs.Option.{option_or, option_map}
 use Rattle.std.proofs.lemmas.Bool.{cases_lt, and_parts, and_from}
 use Rattle.rc_text.specs.Found.{Found}
+use Rattle.rc_pattern.specs.Re.{Re}
+use Rattle.rc_pattern.specs.WellFormed.{HasBounds}
 use Rattle.rc_walks.specs.Walks.{Pair, IsWalk, stops, goes}
 use Rattle.rc_walks.specs.Tries.{walk_by}
 use Rattle.rc_walks.proofs.TryLemmas.{Finds, IsBounded, walk_by_finds}
-use Rattle.rc_program.specs.Program.{Place, choice, byte, branch, scalar, guard, slot, accept, place_at, is_match_place}
+use Rattle.rc_program.specs.Program.{Place, choice, byte, branch, scalar, guard, slot, accept, place_at, is_match_place, ways, program}
 use Rattle.rc_program.specs.Answer.{Search, only, ends, next_of, last_of, is_allowed, IsStart, HasNoAnswer, Chosen, IsAnswer, found, start_count, answer, pattern_at}
-use Rattle.rc_program.specs.Greatest.{IsSpelledIn, HasNoSpan, IsNoGreater, IsGreatest, ends_for, span_by, first_from, last_below, past_patterns, by_patterns, to_end, greatest, GreatestLaw}
+use Rattle.rc_program.specs.Spells.{SpelledBy}
+use Rattle.rc_program.specs.Greatest.{IsSpelledIn, AllowsPattern, HasNoSpan, IsNoGreater, IsGreatest, ends_for, span_by, first_from, last_below, past_patterns, by_patterns, to_end, greatest, GreatestLaw}
+use Rattle.rc_program.proofs.WholeLemmas.{program_law}
 use Rattle.rc_program.proofs.WayLemmas.{same_pair}
 use Rattle.rc_program.proofs.AnswerLemmas.{last_pair, is_bounded, last_of_more, walk_ends, walk_within, match_place_is, chosen_accepts, answer_law, start_from, start_below}
 
@@ -314,14 +318,61 @@ pub no_answer_no_span : (s : Search) → s.passes_over ≡ false → HasNoAnswer
 no_answer_no_span s off none = λ m h.
     ⊎_elim (λ no. no h.walk h.is_walk) (λ q. true≢false (sym (all_allowed s off q.0) ∙ q.2)) (none m.start h.is_start)
 
+-- what is spelled by the program of some patterns
+spelled_program : (hs : List Re) (s : Search) (m : Found) → All HasBounds hs → s.places ≡ program hs → IsSpelledIn s m →
+    IsStart s m.start × AllowsPattern s m.pattern × (m.end ≤ s.hi) × SpelledBy s.text 0 hs m.pattern m.start m.end
+spelled_program hs s m bounds e h =
+    let w = spelled_within s m h in
+    let last = last_of h.walk in
+    let Plain : List Place → Pair → Type 0 = λ places n. IsTrue (is_match_place None (place_at places n.0)) in
+    let walk : IsWalk (next_of s) (Plain s.places) [] ((0, m.start) ∷ []) h.walk =
+    other_ends (next_of s) (λ n. IsTrue (ends s n)) (Plain s.places) h.is_walk (ap (is_match_place None) h.pattern) in
+    let allowed : is_match_place (only s.anchoring) (accept m.pattern) ≡ true =
+    ap (is_match_place (only s.anchoring)) (sym h.pattern) ∙ walk_ends (next_of s) (λ n. IsTrue (ends s n)) h.is_walk in (
+      h.is_start,
+      allowed,
+      w.2,
+      (program_law hs s.text s.hi m.pattern m.start m.end bounds w.2).0 (
+        h.walk,
+        record {
+          is_walk = subst (λ places. IsWalk (ways places s.text s.hi) (Plain places) [] ((0, m.start) ∷ []) h.walk) e walk;
+          pattern = subst (λ places. place_at places last.0 ≡ accept m.pattern) e h.pattern;
+          position = h.position;
+        },
+      ),
+    )
+
+program_spelled : (hs : List Re) (s : Search) (m : Found) → All HasBounds hs → s.places ≡ program hs →
+    IsStart s m.start × AllowsPattern s m.pattern × (m.end ≤ s.hi) × SpelledBy s.text 0 hs m.pattern m.start m.end → IsSpelledIn s m
+program_spelled hs s m bounds e h =
+    let r = (program_law hs s.text s.hi m.pattern m.start m.end bounds h.2).1 h.3 in
+    let Plain : List Place → Pair → Type 0 = λ places n. IsTrue (is_match_place None (place_at places n.0)) in
+    let pattern : place_at s.places (last_of r.0).0 ≡ accept m.pattern =
+    subst (λ places. place_at places (last_of r.0).0 ≡ accept m.pattern) (sym e) r.1.pattern in
+    let walk : IsWalk (next_of s) (Plain s.places) [] ((0, m.start) ∷ []) r.0 =
+    subst (λ places. IsWalk (ways places s.text s.hi) (Plain places) [] ((0, m.start) ∷ []) r.0) (sym e) r.1.is_walk in
+    record {
+      is_start = h.0;
+      walk = r.0;
+      is_walk = other_ends (next_of s) (Plain s.places) (λ n. IsTrue (ends s n)) walk (ap (is_match_place (only s.anchoring)) pattern ∙ h.1);
+      pattern = pattern;
+      position = r.1.position;
+    }
+
+pub greatest_regardless : (s : Search) (over : Bool) → greatest (record s { passes_over = over }) ≡ greatest s
+unfolding greatest
+greatest_regardless s over = refl
+
 pub greatest_law : GreatestLaw
 greatest_law = record {
   some = greatest_some;
   none = greatest_none;
+  by_program = λ hs s m bounds e. (spelled_program hs s m bounds e, program_spelled hs s m bounds e);
   answer_spelled = answer_spelled;
   same_none = λ s off. (
     (λ e. (answer_law.answer_none s).1 (no_span_no_answer s ((greatest_none s).0 e))),
     (λ e. (greatest_none s).1 (no_answer_no_span s off ((answer_law.answer_none s).0 e))),
   );
+  regardless = greatest_regardless;
   within = spelled_within;
 }

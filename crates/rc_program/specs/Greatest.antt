@@ -1,11 +1,14 @@
 -- The greatest of the spans that walks of a search spell.
-use Rattle.std.specs.Prelude.{◌≡◌, ◌↔◌, ℕ, zero, suc, ◌+◌, ◌*◌, ◌<◌, ◌≤◌, ◌⊎◌, Bool, false, ◌&&◌, List, [], ◌∷◌, length, Option, Some, None, IsTrue, nat_eq, max}
+use Rattle.std.specs.Prelude.{◌≡◌, ◌↔◌, ℕ, zero, suc, ◌+◌, ◌*◌, ◌<◌, ◌≤◌, ◌⊎◌, Bool, false, ◌&&◌, List, [], ◌∷◌, length, Option, Some, None, IsTrue, nat_eq, max, All}
 use Rattle.std.specs.Option.{option_or, option_map}
 use Rattle.rc_text.specs.Found.{Found}
+use Rattle.rc_pattern.specs.Re.{Re}
+use Rattle.rc_pattern.specs.WellFormed.{HasBounds}
 use Rattle.rc_walks.specs.Walks.{Pair, IsWalk}
 use Rattle.rc_walks.specs.Tries.{walk_by}
-use Rattle.rc_program.specs.Program.{Place, accept, place_at, is_match_place}
-use Rattle.rc_program.specs.Answer.{Search, ends, next_of, last_of, IsStart, start_count, answer}
+use Rattle.rc_program.specs.Program.{Place, accept, place_at, is_match_place, program}
+use Rattle.rc_program.specs.Spells.{SpelledBy}
+use Rattle.rc_program.specs.Answer.{Search, only, ends, next_of, last_of, IsStart, start_count, answer}
 
 -- The search allows a walk that leads from the match's start to its end, and ends at the match place of its pattern.
 pub record IsSpelledIn (s : Search) (m : Found) : Type 0 where
@@ -14,6 +17,10 @@ pub record IsSpelledIn (s : Search) (m : Found) : Type 0 where
   pub is_walk : IsWalk (next_of s) (λ n. IsTrue (ends s n)) [] ((0, m.start) ∷ []) walk
   pub pattern : place_at s.places (last_of walk).0 ≡ accept m.pattern
   pub position : (last_of walk).1 ≡ m.end
+
+-- the search allows walks of the pattern
+abbrev pub AllowsPattern : Search → ℕ → Type 0
+AllowsPattern s p = IsTrue (is_match_place (only s.anchoring) (accept p))
 
 -- nothing is spelled
 abbrev pub HasNoSpan : Search → Type 0
@@ -73,9 +80,14 @@ greatest s = last_below (to_end s) (s.hi + 1)
 pub record GreatestLaw : Type 0 where
   pub some : (s : Search) (m : Found) → (greatest s ≡ Some m) ↔ IsGreatest s m
   pub none : (s : Search) → (greatest s ≡ None) ↔ HasNoSpan s
-  -- the answer is spelled, and nothing is greater than the greatest
+  -- what a search by the program of some patterns spells is what the patterns spell
+  pub by_program : (hs : List Re) (s : Search) (m : Found) → All HasBounds hs → s.places ≡ program hs →
+      IsSpelledIn s m ↔ (IsStart s m.start × AllowsPattern s m.pattern × (m.end ≤ s.hi) × SpelledBy s.text 0 hs m.pattern m.start m.end)
+  -- the answer is spelled
   pub answer_spelled : (s : Search) (m : Found) → answer s ≡ Some m → IsSpelledIn s m
   -- where passing over isn't in play, something is spelled exactly where there is an answer
   pub same_none : (s : Search) → s.passes_over ≡ false → (greatest s ≡ None) ↔ (answer s ≡ None)
+  -- passing over changes nothing here
+  pub regardless : (s : Search) (over : Bool) → greatest (record s { passes_over = over }) ≡ greatest s
   -- it lies within the bounds
   pub within : (s : Search) (m : Found) → IsSpelledIn s m → (s.lo ≤ m.start) × (m.start ≤ m.end) × (m.end ≤ s.hi)

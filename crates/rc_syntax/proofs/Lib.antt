@@ -1,3 +1,8 @@
 pub mod PieceLemmas
 pub mod TreeLemmas
 pub mod ReadLemmas
+pub mod SpineLemmas
+pub mod FitLemmas
+pub mod StandLemmas
+pub mod PlainLemmas
+mod Examples

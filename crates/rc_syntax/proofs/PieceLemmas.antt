@@ -1,10 +1,9 @@
 -- The ends of a class's ranges.
-use Rattle.std.proofs.Common.{◌≡◌, ℕ, zero, suc, ◌+◌, ◌<◌, ◌≤◌, ◌⊎◌, inl, inr, ⊎_elim, Bool, true, false, List, [], ◌∷◌, ◌++◌, Option, Some, None, length, drop, get_or, nat_lt, nat_le, refl, ap, sym, subst, ◌∙◌, arith}
-use Rattle.std.proofs.lemmas.List.{drop_more, drop_all}
+use Rattle.std.proofs.Common.{◌≡◌, ℕ, ◌+◌, ◌<◌, ◌≤◌, ◌⊎◌, Bool, true, false, List, [], ◌∷◌, Some, length, drop, get_or, nat_lt, refl, subst, arith}
 use Rattle.rc_pattern.specs.Re.{Range}
 use Rattle.rc_marks.specs.ClassView.{pair, pairs}
-use Rattle.rc_marks.specs.Text.{is_letter, is_scalar}
-use Rattle.rc_marks.specs.Classes.{AreCodes, is_code, class_of, list_ranges}
+use Rattle.rc_marks.specs.Text.{is_letter}
+use Rattle.rc_marks.specs.Classes.{AreCodes, class_of, list_ranges}
 use Rattle.rc_marks.specs.declared.classes.CodeRange.{CodeRange}
 use Rattle.rc_marks.specs.declared.tokens.Member.{Member}
 use Rattle.rc_marks.proofs.ClassLemmas.{class_codes, list_codes, letter_codes, code_is}
@@ -23,7 +22,7 @@ codes_at_true rs i q h e g = let k = codes_from true rs i q h e g in (code_is tr
 pub codes_at_false : (rs : List CodeRange) (i : ℕ) (q : CodeRange) → i < length rs → q ≡ get_or rs i q → AreCodes false (pairs (drop i rs)) → (q.start < 256) × (q.end < 256)
 codes_at_false rs i q h e g = let k = codes_from false rs i q h e g in (code_is false q.start k.0, code_is false q.end k.1)
 
-letter_small : (c : ℕ) → is_letter c ≡ true → c < 128
+pub letter_small : (c : ℕ) → is_letter c ≡ true → c < 128
 letter_small c h = go (nat_lt c 128) refl
   where
     go : (b : Bool) → nat_lt c 128 ≡ b → c < 128

@@ -1,5 +1,5 @@
 -- A reader that takes the first mark, again and again, reads what the grammar reads.
-use Rattle.std.proofs.Common.{◌≡◌, ℕ, zero, suc, ◌+◌, ◌<◌, ◌≤◌, ◌⊎◌, inl, inr, ⊎_elim, Bool, true, false, ◌&&◌, List, [], ◌∷◌, ◌++◌, Option, Some, None, length, refl, ap, sym, subst, ◌∙◌, arith, length-append}
+use Rattle.std.proofs.Common.{◌≡◌, ℕ, zero, suc, ◌<◌, ◌⊎◌, inl, inr, ⊎_elim, false, [], ◌∷◌, ◌++◌, Option, Some, None, length, refl, ap, sym, subst, ◌∙◌, arith}
 use Rattle.std.proofs.lemmas.Option.{none-some, same_Some}
 use Rattle.std.proofs.lemmas.List.{nil_from_length}
 use Rattle.rc_pattern.specs.Re.{Re}
@@ -12,8 +12,8 @@ use Rattle.rc_marks.proofs.SoundLemmas.{lex_sound, lex_shorter}
 use Rattle.rc_marks.proofs.AgainLemmas.{lex_again}
 use Rattle.rc_syntax.specs.Settings.{Settings, first_flags}
 use Rattle.rc_syntax.specs.Pieces.{Part}
-use Rattle.rc_syntax.specs.Grammar.{Body, marks, Level, begin, reads, whole, Reads}
-use Rattle.rc_syntax.specs.Machine.{Work, work, settled, take_said, finish, run_marks, Has, fresh}
+use Rattle.rc_syntax.specs.Grammar.{marks, begin, reads, whole, Reads}
+use Rattle.rc_syntax.specs.Machine.{Work, settled, take_said, finish, run_marks, Has, fresh}
 use Rattle.rc_syntax.proofs.TreeLemmas.{body_run, bodies_of, no_operator}
 
 lex_mark : (t : Text) (k : Said) (u : Text) → lex t ≡ Some (k, u) → Begins t k u
@@ -35,9 +35,12 @@ module _ (s : Settings) where
 
   has_more : (w v : Work) (t : Text) (k : Said) (u : Text) (p : Part) → lex t ≡ Some (k, u) → take_said s k w ≡ Some v → Has s v u p → Has s w t p
   has_more w v t k u p is_lex took (ms, are, h) =
-      let (m, is_token, is, alone) = lex_mark t k u is_lex in
-      (m ∷ ms, (u, is, alone, are), ap (λ o. o >>= λ k. take_said s k w >>= λ v. run_marks s v ms) is_token
-      ∙ ap (λ o. o >>= λ v. run_marks s v ms) took ∙ h)
+      let (m, is_token, is, alone) = lex_mark t k u is_lex in (
+        m ∷ ms,
+        (u, is, alone, are),
+        ap (λ o. o >>= λ k. take_said s k w >>= λ v. run_marks s v ms) is_token
+            ∙ ap (λ o. o >>= λ v. run_marks s v ms) took ∙ h,
+      )
 
   -- what is read of t from w is what was read of the whole text
   pub record Same (start : Work) (text : Text) (w : Work) (t : Text) : Type 0 where
@@ -85,8 +88,14 @@ module _ (s : Settings) where
       (λ (k, u, v, lexed, _, _). none-some (k, u) (sym (ap lex (nil_from_length t nil)) ∙ lexed)) (has_first w t p (same.takes p h))
 
   pub has_from_reads : (t : Text) (re : Re) → Reads s t re → (depth : ℕ) × Has s (fresh s) t (record { re = re; depth = depth })
-  has_from_reads t re r = (r.depth, (marks r.body, r.is_written,
-    body_run s r.body (begin (first_flags s) 0 []) ∙ ap (λ o. o >>= whole s) r.is_read ∙ r.is_whole))
+  has_from_reads t re r = (
+    r.depth,
+    (
+      marks r.body,
+      r.is_written,
+      body_run s r.body (begin (first_flags s) 0 []) ∙ ap (λ o. o >>= whole s) r.is_read ∙ r.is_whole,
+    ),
+  )
 
   pub reads_from_has : (t : Text) (p : Part) → Has s (fresh s) t p → Reads s t p.re
   reads_from_has t p (ms, are, h) =

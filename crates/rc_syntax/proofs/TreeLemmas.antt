@@ -1,14 +1,14 @@
 -- A reader that goes from mark to mark reads what the tree of a body is read as.
-use Rattle.std.proofs.Common.{◌≡◌, ℕ, zero, suc, ◌+◌, Bool, true, false, List, [], ◌∷◌, ◌++◌, length, Option, Some, None, map, refl, ap, sym, subst, ◌∙◌, append_assoc, append-nil}
+use Rattle.std.proofs.Common.{◌≡◌, List, [], ◌∷◌, ◌++◌, Option, Some, None, map, refl, ap, sym, subst, ◌∙◌, append_assoc, append-nil}
 use Rattle.std.proofs.lemmas.Option.{none-some}
-use Rattle.rc_pattern.specs.Re.{Re, empty}
-use Rattle.rc_marks.specs.Text.{◌>>=◌, ◌>>◌}
-use Rattle.rc_marks.specs.Marks.{Operator, Piece, Opening, Mark, stands, bar, setting, opens, closes, repeats, said, piece_says, opening_says, flags_of, bounds_of}
-use Rattle.rc_marks.specs.Said.{Said, Sense, Start, Stands, Bar, Setting, Opens, Closes, Repeats}
+use Rattle.rc_pattern.specs.Re.{empty}
+use Rattle.rc_marks.specs.Text.{◌>>=◌}
+use Rattle.rc_marks.specs.Marks.{Operator, Piece, Opening, Mark, stands, bar, setting, opens, closes, repeats, piece_says, opening_says, flags_of, bounds_of}
+use Rattle.rc_marks.specs.Said.{Said, Start, Stands, Setting, Opens, Repeats}
 use Rattle.rc_syntax.specs.Settings.{Settings}
 use Rattle.rc_syntax.specs.Pieces.{Part, leaf, sense_part}
-use Rattle.rc_syntax.specs.Grammar.{Body, ends, bars, sets, piece, group, marks, Level, Tie, begin, add, set_flags, end_branch, whole, repeated_once, repeated, inside, tie, closed, reads}
-use Rattle.rc_syntax.specs.Machine.{Outside, Work, work, nameless, settled, step, take_said, close, finish, run_marks}
+use Rattle.rc_syntax.specs.Grammar.{Body, ends, bars, sets, piece, group, marks, Level, Tie, add, set_flags, end_branch, whole, repeated_once, repeated, inside, tie, closed, reads}
+use Rattle.rc_syntax.specs.Machine.{Outside, Work, work, nameless, settled, take_said, run_marks}
 
 -- one step, and what is read after it
 step_then : {A B C D : Type 0} (o : Option A) (h : A → B) (K : B → Option D) (r : A → Option C) (F : C → Option D) →
@@ -222,5 +222,5 @@ module _ (s : Settings) where
   bodies_of (closes ∷ ms) l last [] p h = absurd (none-some p h)
   bodies_of (closes ∷ ms) l last (f ∷ outer) p h =
       let (q, at_q) = two_some (whole s (settled last l)) (λ body. closed s f.0 body)
-          (λ q. work (record (f.1) { groups = (settled last l).groups; names = (settled last l).names }) (Some q) outer) (λ v. run_marks s v ms) p h in
+      (λ q. work (record (f.1) { groups = (settled last l).groups; names = (settled last l).names }) (Some q) outer) (λ v. run_marks s v ms) p h in
       plainly last (f ∷ outer) (closes ∷ ms) (after_close f (Some q) outer ms (bodies_of ms _ (Some q) outer p at_q))

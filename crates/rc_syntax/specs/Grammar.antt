@@ -1,5 +1,5 @@
 -- What the text of a pattern is read as.
-use Rattle.std.specs.Prelude.{◌≡◌, ℕ, ◌+◌, Bool, true, false, not, ◌&&◌, ◌||◌, nat_le, nat_lt, List, [], ◌∷◌, ◌++◌, Option, Some, None, map, max, length, if◌then◌else◌}
+use Rattle.std.specs.Prelude.{◌≡◌, ℕ, ◌+◌, Bool, false, not, ◌||◌, nat_le, List, [], ◌∷◌, ◌++◌, Option, Some, None, map, max, length, if◌then◌else◌}
 use Rattle.rc_pattern.specs.Re.{Re, empty, repeat, capture}
 use Rattle.rc_pattern.specs.Meaning.{concat_of, alternation_of}
 use Rattle.rc_marks.specs.Text.{Text, ◌>>=◌, ◌>>◌, same_text}

@@ -4,3 +4,4 @@ pub mod Grammar
 pub mod Machine
 pub mod View
 pub mod Outcome
+pub mod Laws

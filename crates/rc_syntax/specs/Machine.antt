@@ -1,6 +1,6 @@
 -- What a reader that goes from mark to mark keeps.
-use Rattle.std.specs.Prelude.{◌≡◌, ℕ, List, [], ◌∷◌, Option, Some, None}
-use Rattle.rc_pattern.specs.Re.{Re, empty}
+use Rattle.std.specs.Prelude.{◌≡◌, List, [], ◌∷◌, Option, Some, None}
+use Rattle.rc_pattern.specs.Re.{empty}
 use Rattle.rc_marks.specs.Text.{Text, ◌>>=◌}
 use Rattle.rc_marks.specs.Marks.{Mark, said, AreMarks}
 use Rattle.rc_marks.specs.Said.{Said, Stands, Bar, Setting, Opens, Closes, Repeats}

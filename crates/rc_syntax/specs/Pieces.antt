@@ -1,5 +1,5 @@
 -- What a mark that stands alone is read as.
-use Rattle.std.specs.Prelude.{ℕ, ◌+◌, Bool, true, false, not, ◌&&◌, ◌||◌, nat_le, nat_lt, List, [], ◌∷◌, Option, Some, None, if◌then◌else◌, min, encode_utf8_all}
+use Rattle.std.specs.Prelude.{ℕ, ◌+◌, Bool, true, false, not, ◌&&◌, ◌||◌, nat_le, nat_lt, List, [], ◌∷◌, Option, Some, if◌then◌else◌, min, encode_utf8_all}
 use Rattle.rc_pattern.specs.Re.{Re, Range, byte_in, char_in, look}
 use Rattle.rc_pattern.specs.Meaning.{literal_of}
 use Rattle.rc_pattern.specs.Dots.{dot_of}

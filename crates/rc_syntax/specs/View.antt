@@ -1,5 +1,5 @@
 -- What the reader's values stand for.
-use Rattle.std.specs.Prelude.{◌≡◌, ℕ, ◌⊎◌, List, map, reverse, Option, Some, None, option_map, string_bytes}
+use Rattle.std.specs.Prelude.{ℕ, List, map, reverse, Option, option_map, string_bytes}
 use Rattle.rc_pattern.specs.Meaning.{meaning}
 use Rattle.rc_syntax.specs.Pieces.{Part}
 use Rattle.rc_syntax.specs.Grammar as spec

@@ -105,11 +105,21 @@ impl Level {
     }
 }
 
-fn repeat(alloc: Global, config: Config, flags: Flags, bounds: Bounds, item: Nested) -> Result<Nested, Refusal>
+fn repeat(
+    alloc: Global,
+    config: Config,
+    flags: Flags,
+    bounds: Bounds,
+    item: Nested,
+) -> Result<Nested, Refusal>
     ensures { Gives result (repeated_once (settings_of config) flags bounds (part item)) part }
 {
     let Nested { hir, depth } = item;
-    let greedy = if bounds.lazy { flags.swap_greed } else { !flags.swap_greed };
+    let greedy = if bounds.lazy {
+        flags.swap_greed
+    } else {
+        !flags.swap_greed
+    };
     let hir = Hir::repetition(Repetition {
         min: bounds.min,
         max: bounds.max,
@@ -120,7 +130,12 @@ fn repeat(alloc: Global, config: Config, flags: Flags, bounds: Bounds, item: Nes
 }
 
 /// The group around a body.
-fn group_of(alloc: Global, config: Config, group: Option<Group>, body: Nested) -> Result<Nested, Refusal>
+fn group_of(
+    alloc: Global,
+    config: Config,
+    group: Option<Group>,
+    body: Nested,
+) -> Result<Nested, Refusal>
     ensures { Gives result (closed (settings_of config) (option_map paired_name group) (part body)) part }
 {
     let Nested { hir, depth } = body;
@@ -195,7 +210,14 @@ impl Work {
     }
 
     /// Goes into a group.
-    fn enter(&mut self, alloc: Global, flags: Flags, groups: usize, names: Vec<String>, group: Option<Group>) -> Result<(), Refusal>
+    fn enter(
+        &mut self,
+        alloc: Global,
+        flags: Flags,
+        groups: usize,
+        names: Vec<String>,
+        group: Option<Group>,
+    ) -> Result<(), Refusal>
         requires last { self.old.last ≡ None }
         requires names { self.old.level.names.items ≡ [] }
         ensures value { MatchResult result (λ _. state self.new ≡ work (begin flags groups (map string_bytes names.items)) None ((option_map paired_name group, (state self.old).level) ∷ (state self.old).outer)) (λ e. e ≡ Refusal.Memory) }

@@ -56,7 +56,10 @@ impl Config {
     pub fn case_insensitive(self, case_insensitive: bool) -> Config
         ensures { settings_of result ≡ record (settings_of self) { case_insensitive = case_insensitive } }
     {
-        Config { case_insensitive, ..self }
+        Config {
+            case_insensitive,
+            ..self
+        }
     }
 
     /// The flag `m` at the start.
@@ -70,7 +73,10 @@ impl Config {
     pub fn dot_matches_new_line(self, dot_matches_new_line: bool) -> Config
         ensures { settings_of result ≡ record (settings_of self) { dot_matches_new_line = dot_matches_new_line } }
     {
-        Config { dot_matches_new_line, ..self }
+        Config {
+            dot_matches_new_line,
+            ..self
+        }
     }
 
     /// The flag `R` at the start.
@@ -84,7 +90,10 @@ impl Config {
     pub fn line_terminator(self, line_terminator: u8) -> Config
         ensures { settings_of result ≡ record (settings_of self) { line_terminator = line_terminator } }
     {
-        Config { line_terminator, ..self }
+        Config {
+            line_terminator,
+            ..self
+        }
     }
 
     /// The flag `U` at the start.
@@ -169,12 +178,12 @@ impl Config {
         ensures { result ≡ first_flags (settings_of self.now) }
     {
         Flags {
-            case_insensitive: self.case_insensitive,
-            multi_line: self.multi_line,
-            dot_matches_new_line: self.dot_matches_new_line,
-            crlf: self.crlf,
-            swap_greed: self.swap_greed,
-            unicode: self.unicode,
+            case_insensitive: self.get_case_insensitive(),
+            multi_line: self.get_multi_line(),
+            dot_matches_new_line: self.get_dot_matches_new_line(),
+            crlf: self.get_crlf(),
+            swap_greed: self.get_swap_greed(),
+            unicode: self.get_unicode(),
         }
     }
 
@@ -182,7 +191,7 @@ impl Config {
     pub(crate) fn depth_limit(&self) -> u32
         ensures { result ≡ depth_limit (settings_of self.now) }
     {
-        self.nest_limit.min(250)
+        self.get_nest_limit().min(250)
     }
 }
 

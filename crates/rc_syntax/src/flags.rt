@@ -29,7 +29,9 @@ pub fn changed(to: Change, flags: Flags) -> Flags
     Flags {
         case_insensitive: to.case_insensitive.unwrap_or(flags.case_insensitive),
         multi_line: to.multi_line.unwrap_or(flags.multi_line),
-        dot_matches_new_line: to.dot_matches_new_line.unwrap_or(flags.dot_matches_new_line),
+        dot_matches_new_line: to
+            .dot_matches_new_line
+            .unwrap_or(flags.dot_matches_new_line),
         crlf: to.crlf.unwrap_or(flags.crlf),
         swap_greed: to.swap_greed.unwrap_or(flags.swap_greed),
         unicode: to.unicode.unwrap_or(flags.unicode),

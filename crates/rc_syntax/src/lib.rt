@@ -6,11 +6,13 @@ mod config;
 mod error;
 mod flags;
 mod names;
-
 mod parts;
 mod pieces;
 mod reader;
 
 pub use config::Config;
 pub use error::Error;
-pub use reader::{parse, reads_as_one};
+pub use reader::{parse, reads_as_one, reads_plain, reads_well_formed};
+
+#[cfg(test)]
+mod tests;

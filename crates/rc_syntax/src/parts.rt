@@ -33,7 +33,10 @@ pub fn one_deeper(config: Config, hir: Hir, depth: u32) -> Option<Nested>
     ensures { option_map part result ≡ deeper (settings_of config) (meaning hir) depth }
 {
     if depth < config.depth_limit() {
-        return Some(Nested { hir, depth: depth + 1 });
+        return Some(Nested {
+            hir,
+            depth: depth + 1,
+        });
     }
     None
 }
@@ -65,7 +68,10 @@ impl Parts {
         let count = hirs.len();
         let hir = Hir::concat(alloc, hirs)?;
         if count <= 1 {
-            return Ok(Nested { hir, depth: deepest });
+            return Ok(Nested {
+                hir,
+                depth: deepest,
+            });
         }
         one_deeper(config, hir, deepest).ok_or(Refusal::Syntax)
     }
@@ -78,7 +84,10 @@ impl Parts {
         let count = hirs.len();
         let hir = Hir::alternation(alloc, hirs)?;
         if count <= 1 {
-            return Ok(Nested { hir, depth: deepest });
+            return Ok(Nested {
+                hir,
+                depth: deepest,
+            });
         }
         one_deeper(config, hir, deepest).ok_or(Refusal::Syntax)
     }

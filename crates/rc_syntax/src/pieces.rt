@@ -61,7 +61,11 @@ fn look_of(flags: Flags, assertion: Assertion) -> Look
         Assertion::NotBoundary => word(flags, Look::WordUnicodeNegate, Look::WordAsciiNegate),
         Assertion::WordStart => word(flags, Look::WordStartUnicode, Look::WordStartAscii),
         Assertion::WordEnd => word(flags, Look::WordEndUnicode, Look::WordEndAscii),
-        Assertion::WordStartHalf => word(flags, Look::WordStartHalfUnicode, Look::WordStartHalfAscii),
+        Assertion::WordStartHalf => word(
+            flags,
+            Look::WordStartHalfUnicode,
+            Look::WordStartHalfAscii,
+        ),
         Assertion::WordEndHalf => word(flags, Look::WordEndHalfUnicode, Look::WordEndHalfAscii),
     }
 }
@@ -141,7 +145,10 @@ fn letter(alloc: Global, config: Config, flags: Flags, c: char) -> Result<Hir, R
     ensures { Gives result (set_re (settings_of config) flags (class_of flags.unicode true false ((c, c) ∷ []))) meaning }
 {
     let code = c as u32;
-    let ranges = [CodeRange { start: code, end: code }];
+    let ranges = [CodeRange {
+        start: code,
+        end: code,
+    }];
     let class = class_of(alloc, flags.unicode, true, false, &ranges)?;
     set(alloc, config, flags, &class)
 }
@@ -236,7 +243,13 @@ pub fn list(alloc: Global, config: Config, flags: Flags, list: &List) -> Result<
     ensures { Gives result (sense_part (settings_of config) flags (sense.Members list.now.negated list.now.bracket list.now.members.items)) part }
 {
     let ranges = list_ranges(alloc, flags.unicode, list)?;
-    let class = class_of(alloc, flags.unicode, flags.case_insensitive, list.negated, &ranges)?;
+    let class = class_of(
+        alloc,
+        flags.unicode,
+        flags.case_insensitive,
+        list.negated,
+        &ranges,
+    )?;
     let hir = set(alloc, config, flags, &class)?;
     one_deeper(config, hir, 0).ok_or(Refusal::Syntax)
 }

@@ -1,14 +1,16 @@
 //! Reads the text of a pattern.
 
-ghost use Rattle.std.specs.Prelude.{◌≡◌, ℕ, ◌≤◌, ◌+◌, None, [], MatchResult, IfOk, length, chars};
+ghost use Rattle.std.specs.Prelude.{◌≡◌, ℕ, ◌≤◌, ◌<◌, ◌+◌, None, [], MatchResult, IfOk, length, chars};
 ghost use Rattle.rc_pattern.specs.Re.{Re};
 ghost use Rattle.rc_pattern.specs.Meaning.{meaning};
+ghost use Rattle.rc_pattern.specs.WellFormed.{IsWellFormed};
 ghost use Rattle.rc_marks.specs.Text.{Text};
 ghost use Rattle.rc_syntax.specs.Settings.{Settings, settings_of};
 ghost use Rattle.rc_syntax.specs.Pieces.{Part};
 ghost use Rattle.rc_syntax.specs.Grammar.{Reads};
 ghost use Rattle.rc_syntax.specs.Machine.{Has, fresh};
 ghost use Rattle.rc_syntax.specs.View.{part};
+ghost use Rattle.rc_syntax.specs.Laws.{OneLaw, WellFormedLaw, PlainLaw};
 ghost use Rattle.rc_syntax.specs.Outcome.{OnSyntax, OnFault};
 
 use crate::builder::Work;
@@ -30,7 +32,8 @@ pub enum Fault {
 
 #[tactic(auto, using(crate::proofs::ReadLemmas::same_start, crate::proofs::ReadLemmas::same_step, crate::proofs::ReadLemmas::same_stuck, crate::proofs::ReadLemmas::same_refused, crate::proofs::ReadLemmas::same_end, crate::proofs::ReadLemmas::same_none, rc_marks::proofs::SoundLemmas::lex_shorter))]
 fn read(alloc: Global, chars: &[char], config: Config) -> Result<Nested, Fault>
-    ensures { MatchResult result (λ n. Has (settings_of config) (fresh (settings_of config)) chars.now (part n)) (λ e. OnFault e ((p : Part) → Has (settings_of config) (fresh (settings_of config)) chars.now p → ⊥)) }
+    ensures terminator { (settings_of config).line_terminator < 256 }
+    ensures reads { MatchResult result (λ n. Has (settings_of config) (fresh (settings_of config)) chars.now (part n)) (λ e. OnFault e ((p : Part) → Has (settings_of config) (fresh (settings_of config)) chars.now p → ⊥)) }
 {
     let mut work = Work::new(alloc, config);
     let mut rest = chars;
@@ -77,12 +80,13 @@ fn characters(alloc: Global, text: &str) -> Result<Vec<char>, AllocError>
 
 /// Reads the text of a pattern.
 ///
-/// The answer is the pattern as which the grammar reads the text. `Syntax` comes only where it reads
-/// none, and `Memory` is want of memory.
+/// The answer is the pattern as which the grammar reads the text, and is well-formed. `Syntax` comes
+/// only where the grammar reads none, and `Memory` is want of memory.
 pub fn parse(alloc: Global, text: &str, config: &Config) -> Result<Hir, Error>
-    ensures { MatchResult result
+    ensures reads { MatchResult result
         (λ h. Reads (settings_of config.now) (chars text.now) (meaning h))
         (λ e. OnSyntax e (λ at. (at ≤ length text.now) × ((re : Re) → Reads (settings_of config.now) (chars text.now) re → ⊥))) }
+    ensures well_formed { IfOk result (λ h. IsWellFormed (meaning h)) }
 {
     let Ok(all) = characters(alloc, text) else {
         return Err(Error::Memory);
@@ -102,6 +106,15 @@ pub fn parse(alloc: Global, text: &str, config: &Config) -> Result<Hir, Error>
 
 /// No text is read as two patterns.
 pub fn reads_as_one()
-    ensures { (s : Settings) (text : Text) (a b : Re) → Reads s text a → Reads s text b → a ≡ b }
-{
-}
+    ensures { OneLaw }
+{}
+
+/// What is read is well-formed.
+pub fn reads_well_formed()
+    ensures { WellFormedLaw }
+{}
+
+/// Under the default settings a text without special characters is read as its UTF-8 bytes.
+pub fn reads_plain()
+    ensures { PlainLaw }
+{}

@@ -3,3 +3,4 @@ pub mod StepLemmas
 pub mod SlotLemmas
 pub mod SearchLemmas
 pub mod RunnableLemmas
+pub mod MarkLemmas

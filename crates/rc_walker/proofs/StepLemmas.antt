@@ -1,15 +1,13 @@
 -- The steps of the walker: what its stack of frames shows.
-use Rattle.std.proofs.Common.{◌≡◌, ℕ, zero, suc, ◌+◌, ◌-◌, ◌*◌, ◌<◌, ◌≤◌, List, [], ◌∷◌, ◌++◌, length, map, drop, reverse, inl, inr, sym, subst, ap, ◌∙◌, refl, arith, Bool, true, false, true≢false, Option, Some, None, if◌then◌else◌, slice_get, slice_index_or, nat_eq, ◌&&◌, ◌||◌, ne_eqb, take, add-one, append_assoc}
-use Rattle.std.proofs.lemmas.List.{reverse-append, length-map, reverse-reverse, map-append, take_more}
+use Rattle.std.proofs.Common.{◌≡◌, ℕ, zero, suc, ◌+◌, ◌-◌, ◌*◌, ◌<◌, ◌≤◌, List, [], ◌∷◌, ◌++◌, length, map, drop, reverse, inl, inr, sym, subst, ap, ◌∙◌, refl, arith, Bool, true, false, Option, Some, None, if◌then◌else◌, slice_get, slice_index_or, add-one, append_assoc}
+use Rattle.std.proofs.lemmas.List.{reverse-append, length-map, reverse-reverse, map-append}
 use Rattle.std.proofs.lemmas.Option.{none-some, same_Some, slice_get_within}
 use Rattle.rc_pattern.specs.declared.hir.Look.{Look}
 use Rattle.rc_pattern.specs.Meaning.{byte_range, char_range}
 use Rattle.rc_text.specs.Text.{Searched, Keeps}
 use Rattle.rc_walks.specs.Walks.{Pair, IsIn, IsFirstWalk, HasNoWalk}
-use Rattle.rc_walks.specs.Tries.{is_in}
 use Rattle.rc_walks.proofs.StackLemmas.{untried, Awaits, unwind, goes_back, skips_way, goes_on, arrives_at, same_ways, no_ways}
 use Rattle.rc_walks.proofs.CountLemmas.{AreApart, AreBelow, length_below, steps_left, falls_back, falls_skipping, falls_on}
-use Rattle.rc_walks.proofs.TryLemmas.{is_in-true, is_in-from}
 use Rattle.rc_program.specs.Answer.{last_of}
 use Rattle.rc_program.specs.Text.{Text, holds, ahead}
 use Rattle.rc_program.specs.Program.{Place, choice, Way, stays, over_byte, over_scalar, reads, in_ranges, place_at, ways, ways_out, pair_at}
@@ -20,7 +18,7 @@ use Rattle.rc_thompson.specs.Places.{place_of}
 use Rattle.rc_walker.proofs.TextLemmas.{same_text}
 use Rattle.rc_thompson.specs.declared.place.Place as code
 use Rattle.rc_thompson.specs.declared.place.Place.TheVariants as code_variants
-use Rattle.rc_walker.specs.Frames.{pair_of, Ends, AreUpTo, Rise}
+use Rattle.rc_walker.specs.Frames.{pair_of, Ends, fresh_frame}
 use Rattle.rc_walker.specs.declared.frames.Frame.{Frame}
 
 drop-get : {X : Type 0} (xs : List X) (k : ℕ) (x : X) → slice_get xs k ≡ Some x → drop k xs ≡ x ∷ drop (suc k) xs
@@ -40,20 +38,23 @@ reverse-first x xs = reverse-append (x ∷ []) xs
 pub reverse-push : {X : Type 0} (xs : List X) (x : X) → reverse (xs ++ x ∷ []) ≡ x ∷ reverse xs
 reverse-push xs x = reverse-append xs (x ∷ [])
 
-abbrev pub fresh_frame : ℕ → ℕ → Frame
-fresh_frame place position = record { place = place; position = position; tried = 0 }
-
 abbrev pub again : Frame → Frame
-again f = record { place = f.place; position = f.position; tried = f.tried + 1 }
+again f = record { place = f.place; position = f.position; tried = f.tried + 1; before = f.before }
+
+-- no frame stands past the position
+abbrev pub AreUpTo : ℕ → List Frame → Type 0
+AreUpTo at [] = Unit {0}
+AreUpTo at (f ∷ fs) = (f.position ≤ at) × AreUpTo at fs
+
+-- the frames, the uppermost first, stand from `low` on, and no position falls along the stack
+abbrev pub Rise : ℕ → List Frame → Type 0
+Rise low [] = Unit {0}
+Rise low (f ∷ fs) = (low ≤ f.position) × AreUpTo f.position fs × Rise low fs
 
 -- frames up to a position are up to each later one
 pub later_up_to : (at later : ℕ) (fs : List Frame) → at ≤ later → AreUpTo at fs → AreUpTo later fs
 later_up_to at later [] h a = tt
 later_up_to at later (f ∷ fs) h a = (omega (arith, a.0), later_up_to at later fs h a.1)
-
-pub rise_lower : (low : ℕ) (fs : List Frame) → Rise low fs → Rise 0 fs
-rise_lower low [] r = tt
-rise_lower low (f ∷ fs) r = (omega arith, r.1, rise_lower low fs r.2)
 
 pub in_from_get : (xs : List Pair) (k : ℕ) (n : Pair) → slice_get xs k ≡ Some n → IsIn n xs
 in_from_get [] k n e = absurd (none-some n e)
@@ -79,8 +80,8 @@ module _ (places : List Place) (t : Text) (hi start : ℕ) (only : Option ℕ) w
   pub ends_last : (n m : Pair) → Ends only places n → ¬ IsIn m (W n)
   ends_last n m e = no_way_from only (λ l. holds t l n.1) (ahead t hi n.1) (place_at places n.0) n.1 m e
 
-  pub begins : ¬ Ends only places (0, start) → 0 < length places → start ≤ hi → IsWalking (fresh_frame 0 start ∷ [])
-  begins on some inside = record {
+  pub begins : (before : Option ℕ) → ¬ Ends only places (0, start) → 0 < length places → start ≤ hi → IsWalking (fresh_frame 0 start before ∷ [])
+  begins before on some inside = record {
     awaits = (on, (λ h. h), same_ways W (Ends only places) _ _, same_ways W (Ends only places) _ _);
     below = ((some, omega arith), tt);
     rising = (omega arith, tt, tt);
@@ -115,14 +116,14 @@ module _ (places : List Place) (t : Text) (hi start : ℕ) (only : Option ℕ) w
     rising = w.rising;
   }
 
-  pub steps_on : (f : Frame) (fs : List Frame) (place position : ℕ) →
+  pub steps_on : (f : Frame) (fs : List Frame) (place position : ℕ) (before : Option ℕ) →
       slice_get (W (pair_of f)) f.tried ≡ Some (place, position) → ¬ IsIn (place, position) (pair_of f ∷ map pair_of fs) →
       ¬ Ends only places (place, position) → place < length places → position ≤ hi → IsWalking (f ∷ fs) →
-      IsWalking (fresh_frame place position ∷ again f ∷ fs)
+      IsWalking (fresh_frame place position before ∷ again f ∷ fs)
   unfolding rest_of
-  steps_on f fs place position e new on inside within w =
+  steps_on f fs place position before e new on inside within w =
       let h : f.position ≤ position = ways_onward places t hi (pair_of f) (place, position) (in_from_get (W (pair_of f)) f.tried (place, position) e) in record {
-        awaits = goes_on W (Ends only places) (0, start) Frame pair_of tried_of (again f) (fresh_frame place position) fs
+        awaits = goes_on W (Ends only places) (0, start) Frame pair_of tried_of (again f) (fresh_frame place position before) fs
             (moved f fs (place, position) e w) on new refl;
         below = ((inside, omega arith), w.below);
         rising = (omega (arith, h, w.rising.0), (h, later_up_to f.position position fs h w.rising.1), w.rising);
@@ -194,10 +195,6 @@ module _ (places : List Place) (t : Text) (hi start : ℕ) (only : Option ℕ) w
       (subst (λ r. steps_left 2 (rem g ∷ rem (again f) ∷ map rem fs) k < steps_left 2 (r ∷ map rem fs) (suc k)) (sym (one_way_less f n e))
       (falls_on 2 (rem (again f)) (rem g) (map rem fs) k few))
 
-and_false : (b : Bool) → (b && false) ≡ false
-and_false true = refl
-and_false false = refl
-
 at_each : (P : Place → Type 0) → P (choice []) → ((q : code.Place) → P (place_of q)) → (xs : List code.Place) (p : ℕ) →
     P (slice_index_or (map place_of xs) p (choice []))
 at_each P none each [] p = none
@@ -234,45 +231,20 @@ few_ways xs t hi n =
     at_each (λ q. length (map (pair_at n.1) (ways_out (λ l. holds t l n.1) (ahead t hi n.1) q)) ≤ 2) (omega arith)
     (few_of (λ l. holds t l n.1) (ahead t hi n.1) n.1) xs n.0
 
-pub seen_on_stack : (items rest : List Frame) (f : Frame) (n : Pair) → items ≡ rest ++ again f ∷ [] →
-    is_in n (map pair_of (reverse items)) ≡ true → IsIn n (pair_of f ∷ map pair_of (reverse rest))
-seen_on_stack items rest f n e h =
-    is_in-true n (pair_of f ∷ map pair_of (reverse rest)) (subst (λ xs. is_in n (map pair_of xs) ≡ true) (ap reverse e ∙ reverse-push rest (again f)) h)
-
-pub new_on_stack : (items rest : List Frame) (f : Frame) (n : Pair) → items ≡ rest ++ again f ∷ [] →
-    is_in n (map pair_of (reverse items)) ≡ false → ¬ IsIn n (pair_of f ∷ map pair_of (reverse rest))
-new_on_stack items rest f n e h q =
-    true≢false (sym (is_in-from n (pair_of f ∷ map pair_of (reverse rest)) q)
-    ∙ subst (λ xs. is_in n (map pair_of xs) ≡ false) (ap reverse e ∙ reverse-push rest (again f)) h)
-
 pub on_top : (items rest : List Frame) (f : Frame) → items ≡ rest ++ f ∷ [] → reverse items ≡ f ∷ reverse rest
 on_top items rest f e = ap reverse e ∙ reverse-push rest f
-
--- no frame of an earlier position is that of the pair
-pub absent : (at : ℕ) (n : Pair) (fs : List Frame) → AreUpTo at fs → at < n.1 → false ≡ is_in n (map pair_of fs)
-absent at n [] a h = refl
-absent at n (f ∷ fs) a h =
-    absent at n fs a.1 h ∙ sym (ap (λ b. (nat_eq f.place n.0 && b) || is_in n (map pair_of fs)) (ne_eqb f.position n.1 (λ e. omega (arith, a.0, e)))
-    ∙ ap (λ b. b || is_in n (map pair_of fs)) (and_false (nat_eq f.place n.0)))
-
--- the uppermost of the frames that are left
-pub top_left : (fs : List Frame) (count : ℕ) (d : Frame) → 0 < count → count ≤ length fs →
-    reverse (take count fs) ≡ slice_index_or fs (count - 1) d ∷ reverse (take (count - 1) fs)
-top_left fs count d some within =
-    let n : count ≡ count - 1 + 1 = omega arith in
-    ap (λ k. reverse (take k fs)) n ∙ ap reverse (take_more fs (count - 1) d (omega arith)) ∙ reverse-push (take (count - 1) fs) (slice_index_or fs (count - 1) d)
 
 pub empty_of_length : (fs : List Frame) → length fs ≡ 0 → fs ≡ []
 empty_of_length [] h = refl
 empty_of_length (f ∷ fs) h = absurd (omega arith)
 
-pub walk_of_frames : (xs : List Frame) (f : Frame) (p q : ℕ) →
-    map pair_of (reverse (f ∷ reverse xs)) ++ (p, q) ∷ [] ≡ map pair_of ((xs ++ again f ∷ []) ++ fresh_frame p q ∷ [])
-walk_of_frames xs f p q =
+pub walk_of_frames : (xs : List Frame) (f : Frame) (p q : ℕ) (before : Option ℕ) →
+    map pair_of (reverse (f ∷ reverse xs)) ++ (p, q) ∷ [] ≡ map pair_of ((xs ++ again f ∷ []) ++ fresh_frame p q before ∷ [])
+walk_of_frames xs f p q before =
     let e : reverse (f ∷ reverse xs) ≡ xs ++ f ∷ [] = reverse-first f (reverse xs) ∙ ap (λ y. y ++ f ∷ []) (reverse-reverse xs) in
     ap (λ y. map pair_of y ++ (p, q) ∷ []) e
     ∙ ap (λ y. y ++ (p, q) ∷ []) (map-append pair_of xs (f ∷ []))
-    ∙ sym (map-append pair_of (xs ++ again f ∷ []) (fresh_frame p q ∷ [])
+    ∙ sym (map-append pair_of (xs ++ again f ∷ []) (fresh_frame p q before ∷ [])
     ∙ ap (λ y. y ++ (p, q) ∷ []) (map-append pair_of xs (again f ∷ [])))
 
 -- where a walk of frames ends

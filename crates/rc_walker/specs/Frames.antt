@@ -1,5 +1,5 @@
 -- The walk that a stack of frames holds.
-use Rattle.std.specs.Prelude.{ℕ, ◌≤◌, Vec, List, [], ◌∷◌, map, Option, Some, None, IsTrue}
+use Rattle.std.specs.Prelude.{◌≡◌, ℕ, ◌<◌, Vec, List, [], ◌∷◌, map, Option, Some, None, IsTrue, replicate, slice_index_or, slice_set}
 use Rattle.std.specs.declared.alloc.Global.{Global}
 use Rattle.rc_walks.specs.Walks.{Pair}
 use Rattle.rc_program.specs.Program.{Place, slot, place_at, is_match_place}
@@ -15,15 +15,16 @@ walk_of frames = map pair_of frames.items
 abbrev pub Ends : Option ℕ → List Place → Pair → Type 0
 Ends only places n = IsTrue (is_match_place only (place_at places n.0))
 
--- no frame stands past the position
-abbrev pub AreUpTo : ℕ → List Frame → Type 0
-AreUpTo at [] = Unit {0}
-AreUpTo at (f ∷ fs) = (f.position ≤ at) × AreUpTo at fs
+-- a pair that is new on the stack
+abbrev pub fresh_frame : ℕ → ℕ → Option ℕ → Frame
+fresh_frame place position before = record { place = place; position = position; tried = 0; before = before }
 
--- the frames, the uppermost first, stand from `low` on, and no position falls along the stack
-abbrev pub Rise : ℕ → List Frame → Type 0
-Rise low [] = Unit {0}
-Rise low (f ∷ fs) = (low ≤ f.position) × AreUpTo f.position fs × Rise low fs
+-- Of n places, those of the frames, the uppermost first, are marked. A place is marked with the
+-- position of its uppermost frame, and a frame keeps the mark that was there before.
+abbrev pub IsMarked : ℕ → List (Option ℕ) → List Frame → Type 0
+IsMarked n marks [] = marks ≡ replicate n None
+IsMarked n marks (f ∷ fs) = (f.place < n) × (slice_index_or marks f.place None ≡ Some f.position)
+    × IsMarked n (slice_set marks f.place f.before) fs
 
 -- the slot that a place names
 abbrev pub slot_name : Place → Option ℕ

@@ -1,13 +1,12 @@
 //! The first walk from a start, on an explicit stack.
-ghost use Rattle.std.specs.Prelude.{◌≡◌, ◌<◌, ◌≤◌, [], ◌∷◌, IfOk, IsTrue, not, length, map, reverse};
+ghost use Rattle.std.specs.Prelude.{◌≡◌, ◌≢◌, ◌<◌, ◌≤◌, [], ◌∷◌, ◌++◌, IfOk, IsTrue, Some, None, not, length, reverse, slice_index_or};
 ghost use Rattle.rc_text.specs.Text.{Keeps, high};
 ghost use Rattle.rc_walks.specs.Walks.{IsFirstWalk, HasNoWalk};
-ghost use Rattle.rc_walks.specs.Tries.{is_in};
 ghost use Rattle.rc_program.specs.Sought.{text_of};
 ghost use Rattle.rc_program.specs.Laws.{IsClosed};
 ghost use Rattle.rc_program.specs.Program.{ways, place_at, is_match_place};
 ghost use Rattle.rc_thompson.specs.Places.{places_of};
-ghost use Rattle.rc_walker.specs.Frames.{AreUpTo, Ends, Rise, pair_of, walk_of};
+ghost use Rattle.rc_walker.specs.Frames.{Ends, IsMarked, fresh_frame, walk_of};
 
 use crate::ways::way;
 use rc_text::cursor::Cursor;
@@ -24,6 +23,8 @@ pub struct Frame {
     pub position: usize,
     /// How many of its ways out were tried.
     pub tried: usize,
+    /// The mark of its place before the frame was put on the stack.
+    pub before: Option<usize>,
 }
 
 /// The place is a match place of an allowed pattern; `None` allows all.
@@ -47,31 +48,59 @@ fn is_match(places: &[Place], place: usize, only: Option<usize>) -> bool
     }
 }
 
-/// The pair stands on the stack. It looks no further than where positions are lower.
-fn is_on(stack: &[Frame], place: usize, position: usize) -> bool
-    requires rising { Rise 0 (reverse stack.now) }
-    requires low { AreUpTo position (reverse stack.now) }
-    ensures { result ≡ is_in (place, position) (map pair_of (reverse stack.now)) }
+/// The pair stands on the stack: its place is marked with its position.
+fn is_on(marks: &[Option<usize>], place: usize, position: usize) -> bool
+    requires { place < length marks.now }
+    ensures on { IsTrue result → slice_index_or marks.now place None ≡ Some position }
+    ensures off { IsTrue (not result) → slice_index_or marks.now place None ≢ Some position }
 {
-    let mut count = stack.len();
-    'down: while count > 0 {
-        let frame = stack[count - 1];
-        if frame.position != position {
-            return false;
-        }
-        if frame.place == place {
-            return true;
-        }
-        count -= 1;
+    match marks[place] {
+        Some(mark) => mark == position,
+        None => false,
     }
-    false
+}
+
+/// Puts a pair on the stack, and marks its place.
+fn enter(
+    stack: &mut Vec<Frame>,
+    marks: &mut [Option<usize>],
+    place: usize,
+    position: usize,
+) -> Result<(), AllocError>
+    requires inside { place < length marks.now }
+    requires marked { IsMarked (length marks.old) marks.old (reverse stack.old.items) }
+    ensures pushed { IfOk result (λ _. stack.new.items
+        ≡ stack.old.items ++ fresh_frame place position (slice_index_or marks.old place None) ∷ []) }
+    ensures marked { IfOk result (λ _. IsMarked (length marks.old) marks.new (reverse stack.new.items)) }
+{
+    stack.push(Frame {
+        place,
+        position,
+        tried: 0,
+        before: marks[place],
+    })?;
+    marks[place] = Some(position);
+    Ok(())
+}
+
+/// Takes every frame off the stack, and its mark.
+fn unwind(stack: &mut Vec<Frame>, marks: &mut [Option<usize>])
+    requires marked { IsMarked (length marks.old) marks.old (reverse stack.old.items) }
+    ensures none { stack.new.items ≡ [] }
+    ensures marked { IsMarked (length marks.old) marks.new [] }
+{
+    'down: while let Some(frame) = stack.pop() {
+        marks[frame.place] = frame.before;
+    }
 }
 
 /// Whether a walk leads on from `start`. Where one does, the stack ends as the frames of the first
-/// of them.
+/// of them. Each place on the stack is marked with the position of its uppermost frame. The stack and
+/// the marks are taken as the start before left them.
 pub fn first_walk<C: Cursor>(
     input: &mut Input<C>,
     stack: &mut Vec<Frame>,
+    marks: &mut [Option<usize>],
     places: &[Place],
     terminator: u8,
     only: Option<usize>,
@@ -83,19 +112,17 @@ pub fn first_walk<C: Cursor>(
     requires low { input.old.slice.start ≤ start }
     requires start_in { start ≤ hi }
     requires hi_in { hi ≤ high input.old }
+    requires marked { IsMarked (length places.now) marks.old (reverse stack.old.items) }
     ensures keeps { Keeps input.old input.new }
+    ensures marked { IfOk result (λ _. IsMarked (length places.now) marks.new (reverse stack.new.items)) }
     ensures first { IfOk result (λ found. IsTrue found →
         IsFirstWalk (ways (places_of places.now) (text_of terminator input.old) hi) (Ends only (places_of places.now)) []
         ((0, start) ∷ []) (walk_of stack.new)) }
     ensures none { IfOk result (λ found. IsTrue (not found) →
         HasNoWalk (ways (places_of places.now) (text_of terminator input.old) hi) (Ends only (places_of places.now)) [] ((0, start) ∷ [])) }
 {
-    stack.clear();
-    stack.push(Frame {
-        place: 0,
-        position: start,
-        tried: 0,
-    })?;
+    unwind(stack, marks);
+    enter(stack, marks, 0, start)?;
     if is_match(places, 0, only) {
         return Ok(true);
     }
@@ -113,17 +140,16 @@ pub fn first_walk<C: Cursor>(
                 place: top.place,
                 position: top.position,
                 tried: top.tried + 1,
+                before: top.before,
             })?;
-            if !is_on(stack, place, position) {
-                stack.push(Frame {
-                    place,
-                    position,
-                    tried: 0,
-                })?;
+            if !is_on(marks, place, position) {
+                enter(stack, marks, place, position)?;
                 if is_match(places, place, only) {
                     return Ok(true);
                 }
             }
+        } else {
+            marks[top.place] = top.before;
         }
     }
     Ok(false)

@@ -240,3 +240,47 @@ fn slots_keep_the_last_visit(rt: HostRuntime) -> Result<(), Fail> {
     assert_eq!(rt; one, [Some(1)]);
     Ok(())
 }
+
+#[test]
+fn a_long_chain_of_assertions_ends_at_once(rt: HostRuntime) -> Result<(), Fail> {
+    // `(?:^){100000}b`
+    let mut places = Vec::new(rt.alloc());
+    for place in 0..100_000 {
+        places.push(Place::Guard(Look::Start, place + 1))?;
+    }
+    places.push(Place::Byte(b'b', 100_001))?;
+    places.push(Place::Accept(0))?;
+    let text: &[u8] = b"bb";
+    let mut input = Input::new(text);
+    assert_eq!(rt;
+        found(rt.alloc(), &mut input, &places, false)?,
+        Some((0, 0, 1))
+    );
+    input.set_start(1);
+    assert_eq!(rt; found(rt.alloc(), &mut input, &places, false)?, None);
+    let other: &[u8] = b"ab";
+    assert_eq!(rt;
+        found(rt.alloc(), &mut Input::new(other), &places, false)?,
+        None
+    );
+    Ok(())
+}
+
+#[test]
+fn walks_before_leave_no_marks(rt: HostRuntime) -> Result<(), Fail> {
+    // `(?:x|y)*z`: the starts before the match lead nowhere
+    let places = [
+        Place::Choice(1, 3),
+        Place::Choice(2, 4),
+        Place::Byte(b'x', 0),
+        Place::Byte(b'z', 5),
+        Place::Byte(b'y', 0),
+        Place::Accept(0),
+    ];
+    let text: &[u8] = b"xyxaxyyz";
+    assert_eq!(rt;
+        found(rt.alloc(), &mut Input::new(text), &places, false)?,
+        Some((0, 4, 8))
+    );
+    Ok(())
+}

@@ -93,8 +93,18 @@ fn find_walk<C: Cursor>(
     let hi = high(input);
     move_to(input, lo); // the first byte to be read
     let mut frames = Vec::new(alloc);
+    let mut marks = vec![in alloc; None; places.len()]?;
     for start in lo..last_start(lo, hi, is_anchored) + 1 {
-        if first_walk(input, &mut frames, places, terminator, only, hi, start)? {
+        if first_walk(
+            input,
+            &mut frames,
+            &mut marks,
+            places,
+            terminator,
+            only,
+            hi,
+            start,
+        )? {
             if allows(input, passes_over, &frames) {
                 return Ok(Some(Walk { start, frames }));
             }

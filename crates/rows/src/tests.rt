@@ -3,7 +3,11 @@
 //! A comment before a row shows its pattern as text.
 
 mod assertions;
+mod cursors;
 mod groups;
 mod lists;
+mod patterns;
 mod repetitions;
+mod searches;
+mod texts;
 mod words;

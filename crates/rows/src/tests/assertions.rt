@@ -1,7 +1,7 @@
 //! Rows of assertions, classes and dots, in whole and in broken UTF-8.
 
-use crate::patterns::{bytes_in, chars_in, literal, look, or, then, turns};
-use crate::searches::{Asked, finds, lists};
+use crate::tests::patterns::{bytes_in, chars_in, literal, look, or, then, turns};
+use crate::tests::searches::{Asked, finds, lists};
 use rc_build::config::Config;
 use rc_build::error::BuildError;
 use rc_meta::regex::Regex;

@@ -1,8 +1,9 @@
 //! Rows of many patterns, groups and slots.
+ghost use Rattle.std.specs.Prelude.{◌≤◌, length};
 
-use crate::cursors::Recut;
-use crate::patterns::{bytes_in, group, literal, named, or, then, turns};
-use crate::searches::{Asked, finds, groups};
+use crate::tests::cursors::Recut;
+use crate::tests::patterns::{bytes_in, group, literal, named, or, then, turns};
+use crate::tests::searches::{Asked, Groups, finds, groups};
 use rc_build::error::BuildError;
 use rc_build::which::WhichCaptures;
 use rc_meta::regex::Regex;
@@ -22,14 +23,26 @@ fn row(
     alloc: Global,
     hirs: &[Hir],
     text: &[u8],
-    want: (usize, &[Option<(usize, usize)>]),
-) -> Result<(), BuildError> {
-    if hirs.len() > 2 {
-        return Ok(());
-    }
+    want: Groups,
+) -> Result<(), BuildError>
+    requires { length hirs.now ≤ 2147483647 }
+{
     let regex = Regex::builder().build_many_from_hir(alloc, hirs)?;
     groups(rt, alloc, &regex, text, Asked::all(), Some(want))?;
     Ok(())
+}
+
+/// The number of the pattern that isn't well-formed, where that is the refusal.
+fn ill_formed(refusal: &BuildError) -> Option<usize> {
+    match refusal {
+        BuildError::IllFormed { pattern } => Some(pattern.as_usize()),
+        BuildError::Syntax { .. }
+        | BuildError::SizeLimit { .. }
+        | BuildError::PlaceLimit
+        | BuildError::Memory
+        | BuildError::DfaSizeLimit { .. }
+        | BuildError::CacheTooSmall { .. } => None,
+    }
 }
 
 /// A letter in a group.
@@ -123,6 +136,9 @@ fn named_groups(rt: HostRuntime) -> Result<(), Fail> {
     );
     assert_eq!(rt; found.get_group_by_name("z"), None);
     let mut slots = [None; 6];
+    if regex.group_info().slot_len() < slots.len() {
+        return Err("too few slots".into());
+    }
     let input = Asked::all().input(b"12-345".as_slice());
     let pattern = regex.search_slots(alloc, input, &mut slots)?;
     assert_eq!(rt; pattern, Some(PatternID::ZERO));
@@ -209,7 +225,7 @@ fn ill_numbered_groups(rt: HostRuntime) -> Result<(), Fail> {
         .build_many_from_hir(alloc, &hirs)
         .err()
         .ok_or("built")?;
-    assert!(rt; matches!(refusal, BuildError::IllFormed { pattern } if pattern.as_usize() == 1));
+    assert_eq!(rt; ill_formed(&refusal), Some(1));
     assert_eq!(rt; refusal.pattern(), None);
     // `(?P<n>a)(?P<n>b)`
     let twice = then(
@@ -221,7 +237,7 @@ fn ill_numbered_groups(rt: HostRuntime) -> Result<(), Fail> {
         .build_from_hir(alloc, &twice)
         .err()
         .ok_or("built")?;
-    assert!(rt; matches!(refusal, BuildError::IllFormed { pattern } if pattern.as_usize() == 0));
+    assert_eq!(rt; ill_formed(&refusal), Some(0));
     // the same name in two patterns
     let hirs = [
         named(alloc, 1, "n", literal(alloc, "a")?)?,

@@ -1,7 +1,7 @@
 //! Rows of lists of matches, and of pieces.
 
-use crate::patterns::{bytes_in, group, literal, or, then, turns};
-use crate::searches::{Asked, finds, lists, splits, splits_at_most};
+use crate::tests::patterns::{bytes_in, group, literal, or, then, turns};
+use crate::tests::searches::{Asked, finds, lists, splits, splits_at_most};
 use rc_build::error::BuildError;
 use rc_meta::regex::Regex;
 use rc_pattern::hir::{Hir, Look};
@@ -52,7 +52,7 @@ fn matches_follow_each_other(rt: HostRuntime) -> Result<(), Fail> {
     // `a{2,3}?`
     let regex = built(
         alloc,
-        &crate::patterns::few_turns(alloc, 2, Some(3), literal(alloc, "a")?)?,
+        &crate::tests::patterns::few_turns(alloc, 2, Some(3), literal(alloc, "a")?)?,
     )?;
     lists(&rt, alloc, &regex, b"aaaa", Asked::all(), &[(0, 2), (2, 4)])?;
     // `b+`

@@ -1,7 +1,7 @@
 //! Rows of repetitions, also of bodies that can be empty.
 
-use crate::patterns::{few_turns, literal, look, or, turns};
-use crate::searches::{Asked, finds};
+use crate::tests::patterns::{few_turns, literal, look, or, turns};
+use crate::tests::searches::{Asked, finds};
 use rc_build::error::BuildError;
 use rc_meta::regex::Regex;
 use rc_pattern::hir::{Hir, Look};

@@ -1,7 +1,7 @@
 //! Rows of literals, alternations, and the two ends.
 
-use crate::patterns::{literal, look, or, then};
-use crate::searches::{Asked, finds};
+use crate::tests::patterns::{literal, look, or, then};
+use crate::tests::searches::{Asked, finds};
 use rc_meta::regex::Regex;
 use rc_pattern::hir::{Hir, Look};
 use rc_text::types::{Anchored, PatternID};

@@ -1,8 +1,5 @@
-use Rattle.std.proofs.Common.{◌≡◌, sym, subst}
-use Rattle.rc_pattern.specs.Meaning.{meaning}
+use Rattle.std.proofs.Common.{sym, subst}
 use Rattle.rc_program.specs.Sought.{IsRunnable}
-use Rattle.rc_build.specs.Names.{is_grouped}
-use Rattle.rc_build.specs.Settings.{settings_of, nfa_size_limit_of, which_captures_of}
 use Rattle.rc_build.proofs.Runnable.{runnable}
 use Rattle.rc_meta.proofs.builder.build.Goals as goal
 

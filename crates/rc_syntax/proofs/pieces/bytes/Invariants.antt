@@ -1,5 +1,5 @@
-use Rattle.std.proofs.Common.{◌≡◌, ◌++◌, drop, map, true, false}
-use Rattle.rc_pattern.specs.Meaning.{char_range, byte_range}
+use Rattle.std.proofs.Common.{◌≡◌, ◌++◌, drop, map, false}
+use Rattle.rc_pattern.specs.Meaning.{byte_range}
 use Rattle.rc_marks.specs.ClassView.{pairs}
 use Rattle.rc_marks.specs.Classes.{AreCodes}
 use Rattle.rc_syntax.proofs.pieces.bytes.Given as goal

@@ -1,11 +1,13 @@
-use Rattle.std.proofs.Common.{rules, ◌≡◌, ◌+◌, ◌<◌, ◌≤◌, ◌∙◌, ap, inl, inr, arith, true, false, List, not}
+use Rattle.std.proofs.Common.{rules, ◌≡◌, ◌+◌, ◌<◌, ◌≤◌, ◌∙◌, ap, inl, inr, arith, true, false, List, not, length, reverse, subst, sym}
+use Rattle.std.proofs.lemmas.List.{take_at}
 use Rattle.rc_walks.specs.Walks.{Pair}
 use Rattle.rc_program.specs.Answer.{IsFirstFrom}
 use Rattle.rc_program.specs.Sought.{search_over}
 use Rattle.rc_thompson.specs.Places.{places_of}
-use Rattle.rc_walker.specs.Frames.{walk_of}
+use Rattle.rc_walker.specs.Frames.{IsMarked, walk_of}
 use Rattle.rc_program.proofs.AnswerLemmas.{first_start_chosen, no_start_chosen, start_to_last, start_within_last, one_more_passed, last_start_of}
 use Rattle.rc_walker.proofs.SearchLemmas.{tells, told_allowed}
+use Rattle.rc_walker.proofs.MarkLemmas.{marked_length}
 use Rattle.rc_walker.proofs.walker.find_walk.Goals as goal
 use Rattle.rc_walker.proofs.walker.find_walk.Goals.{then-branch+else-allows, else-branch}
 
@@ -44,6 +46,11 @@ loop-start-preserved g c =
     let only_is = rw c.get_anchored.ensures at c.only_of-only.ensures in
     let told = tells P t over input c.loop-start.input c.high-hi.result start c.only_of-only.result walk c.in_ok-first_walk.field-0 keeps c.high-hi.ensures.value only_is
     (record { first = c.in_ok-first_walk.ensures.first; none = c.in_ok-first_walk.ensures.none }) in
+    let n = length c.args.places.now in
+    let marks = c.first_walk.new.marks in
+    let long = marked_length n marks (reverse c.first_walk.new.stack.items) c.in_ok-first_walk.ensures.marked in
+    let was = marked_length n c.loop-start.marks.items (reverse c.loop-start.frames.items) c.loop-start.invariant.marked in
+    let same : length marks ≡ c.loop-start.marks.len = omega (arith, long, was, c.loop-start.marks.ok.0) in
     record {
       keeps = search rules;
       passed = one_more_passed s start c.loop-start.invariant.passed (elim c.if-branch.branch [
@@ -55,6 +62,7 @@ loop-start-preserved g c =
         )
         | else-branch w ↦ inl (told.none (ap not w.if-branch.false))
       ]);
+      marked = subst (λ xs. IsMarked n xs (reverse c.first_walk.new.stack.items)) (sym (take_at marks _ c.loop-start.marks.len same)) c.in_ok-first_walk.ensures.marked;
     }
 
 pub returns-clause-found : goal.returns-clause-found

@@ -1,7 +1,7 @@
-use Rattle.std.proofs.Common.{◌≡◌, ◌∙◌, ap, length, map, take, set, Some, slice_index_or, List}
+use Rattle.std.proofs.Common.{◌≡◌, ◌∙◌, ap, length, map, take, set, Some, None, slice_index_or, List}
 use Rattle.rc_thompson.specs.Places.{places_of}
 use Rattle.rc_walks.specs.Walks.{Pair}
-use Rattle.rc_walker.specs.Frames.{pair_of}
+use Rattle.rc_walker.specs.Frames.{pair_of, fresh_frame}
 use Rattle.rc_walker.specs.declared.frames.Frame.{Frame}
 use Rattle.rc_walker.proofs.SlotLemmas.{no_slots, visits, visits_here, visits_none, one_more_frame}
 use Rattle.rc_walker.proofs.walker.note_visits.Goals as goal
@@ -16,7 +16,7 @@ visits-preserved c =
     let n = length c.args.slots.now in
     let i = c.visits.frame-index in
     let fs = c.args.frames.now.items in
-    let none : Frame = record { place = 0; position = 0; tried = 0 } in
+    let none = fresh_frame 0 0 None in
     let frame : Frame = slice_index_or fs i none in
     let w : List Pair = map pair_of (take i fs) in
     let same = c.deref-frame-items.ensures.value in

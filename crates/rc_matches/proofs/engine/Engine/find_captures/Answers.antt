@@ -6,7 +6,7 @@ use Rattle.rc_matches.proofs.engine.Engine.find_captures.Goals as goal
 
 pub returns-clause-found : goal.returns-clause-found
 returns-clause-found g c =
-    tells (engine_search c.args.self.now c.args.input.now) c.set_pattern.new.caps c.in_ok-pattern.pattern _ _
-    c.in_ok-pattern.ensures.pattern c.in_ok-pattern.ensures.slots c.set_pattern.ensures.pattern
-    (c.set_pattern.ensures.slots ∙ lent-written c.clear.new.caps c.find_slots.new.slots (c.find_slots.ensures.long ∙ ap length c.slots_mut.ensures.value))
-    c.find_slots.ensures.long
+    tells (engine_search c.args.self.now c.args.input.now) c.set_pattern.new.caps c.find_slots-pattern.result _ _
+    c.find_slots-pattern.ensures.pattern c.find_slots-pattern.ensures.slots c.set_pattern.ensures.pattern
+    (c.set_pattern.ensures.slots ∙ lent-written c.clear.new.caps c.find_slots-pattern.new.slots (c.find_slots-pattern.ensures.long ∙ ap length c.slots_mut.ensures.value))
+    c.find_slots-pattern.ensures.long

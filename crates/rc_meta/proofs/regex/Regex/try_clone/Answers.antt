@@ -1,4 +1,4 @@
-use Rattle.std.proofs.Common.{◌≤◌, arith, length, map, ap}
+use Rattle.std.proofs.Common.{arith, length, map, ap}
 use Rattle.std.proofs.lemmas.List.{length-map}
 use Rattle.rc_pattern.specs.Meaning.{meaning}
 use Rattle.rc_meta.proofs.Weights.{groups_light}

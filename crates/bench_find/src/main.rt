@@ -1,0 +1,186 @@
+//! Times searches: counts the matches of a pattern in the standard input, cut into chunks, in rounds.
+//!
+//! The words are the pattern, the length of a chunk in bytes (0 for one chunk) and the number of
+//! rounds (3 where it is left out). With no words it prints nothing.
+#![tactic(auto)]
+
+use regex_cursor::Input;
+use regex_cursor::cursor::{ChunkCursor, TooLong};
+use regex_cursor::engines::meta::Regex;
+use std::alloc::{AllocError, Global};
+use std::io;
+use std::io::{Read, Write};
+use std::process::ExitCode;
+use std::time::{Duration, Instant};
+
+/// The status of a fault.
+const FAULT: u8 = 2;
+
+/// The rounds where the words name no number.
+const ROUNDS: u32 = 3;
+
+const USAGE: &str = "usage: bench_find PATTERN CHUNK [ROUNDS]";
+
+/// What the words ask for.
+#[derive(Drop)]
+struct Job<'a> {
+    pattern: &'a str,
+    chunk_len: usize,
+    rounds: u32,
+}
+
+/// Why the benchmark stopped, once the pattern was built.
+#[derive(Drop)]
+enum BenchError {
+    /// The number of bytes in the text reaches the greatest `usize`.
+    TooLong,
+    /// Memory was refused.
+    Memory,
+    /// The text wasn't read, the clock gave no time, or a line wasn't written.
+    Io(io::Error),
+}
+
+impl From<TooLong> for BenchError {
+    fn from(_: TooLong) -> BenchError {
+        BenchError::TooLong
+    }
+}
+
+impl From<AllocError> for BenchError {
+    fn from(_: AllocError) -> BenchError {
+        BenchError::Memory
+    }
+}
+
+impl From<io::Error> for BenchError {
+    fn from(error: io::Error) -> BenchError {
+        BenchError::Io(error)
+    }
+}
+
+/// The words after the program's name. An error is want of memory, or a word that isn't text.
+fn words_of(rt: &HostRuntime) -> io::Result<Vec<String>> {
+    let words = std::env::args(rt)?.skip(1).collect(rt.alloc())?;
+    Ok(words)
+}
+
+/// The same words, lent.
+fn lent(alloc: Global, words: &[String]) -> Result<Vec<&str>, AllocError> {
+    words.iter().map(|word| word.as_str()).collect(alloc)
+}
+
+/// What these words ask for, where they ask for at least one round.
+fn job_of<'a>(words: &[&'a str]) -> Option<Job<'a>> {
+    let (pattern, chunk, rounds) = match words {
+        [pattern, chunk] => (pattern, chunk, ROUNDS),
+        [pattern, chunk, rounds] => (pattern, chunk, rounds.parse::<u32>().ok()?),
+        _ => return None,
+    };
+    if rounds == 0 {
+        return None;
+    }
+    Some(Job {
+        pattern,
+        chunk_len: chunk.parse::<usize>().ok()?,
+        rounds,
+    })
+}
+
+/// The bytes in chunks of `n` bytes, of which the last may be shorter, or in one chunk where `n` is 0.
+fn cut(alloc: Global, bytes: &[u8], n: usize) -> Result<Vec<&[u8]>, AllocError> {
+    let mut chunks = Vec::new(alloc);
+    if n == 0 {
+        chunks.push(bytes)?;
+        return Ok(chunks);
+    }
+    for chunk in bytes.chunks(n) {
+        chunks.push(chunk)?;
+    }
+    Ok(chunks)
+}
+
+/// The number of matches in the chunks.
+fn count_in(alloc: Global, regex: &Regex, chunks: &[&[u8]]) -> Result<usize, BenchError> {
+    let input = Input::new(ChunkCursor::new(chunks)?);
+    let mut count: usize = 0;
+    for _ in regex.find_iter(alloc, input)? {
+        count = count.saturating_add(1);
+    }
+    Ok(count)
+}
+
+/// Counts the matches once, and writes their number and the time. The answer is the time.
+fn round(rt: &HostRuntime, regex: &Regex, chunks: &[&[u8]]) -> Result<Duration, BenchError> {
+    let start = Instant::now(rt)?;
+    let count = count_in(rt.alloc(), regex, chunks)?;
+    let time = start.elapsed(rt)?;
+    let millis = time.as_millis();
+    writeln!(rt.stdout(), "{count} matches, {millis} ms")?;
+    Ok(time)
+}
+
+/// Counts the matches in so many rounds, and writes the least time at the end.
+fn rounds(rt: &HostRuntime, regex: &Regex, chunks: &[&[u8]], n: u32) -> Result<(), BenchError> {
+    let mut least = Duration::MAX;
+    for _ in 0..n {
+        let time = round(rt, regex, chunks)?;
+        least = least.min(time);
+    }
+    let millis = least.as_millis();
+    writeln!(rt.stdout(), "least: {millis} ms")?;
+    Ok(())
+}
+
+/// Reads the text, cuts it, and counts its matches in rounds.
+fn bench(rt: &HostRuntime, regex: &Regex, job: &Job<'_>) -> Result<(), BenchError> {
+    let mut bytes = Vec::new(rt.alloc());
+    rt.stdin().read_to_end(&mut bytes)?;
+    let chunks = cut(rt.alloc(), &bytes, job.chunk_len)?;
+    rounds(rt, regex, &chunks, job.rounds)
+}
+
+/// Writes the line of a fault. A fault of the standard error is ignored.
+fn report(rt: &HostRuntime, error: &BenchError) -> u8 {
+    let _ = match error {
+        BenchError::TooLong => writeln!(rt.stderr(), "input too long"),
+        BenchError::Memory => writeln!(rt.stderr(), "out of memory"),
+        BenchError::Io(error) => writeln!(rt.stderr(), "{error}"),
+    };
+    FAULT
+}
+
+/// Does what the words ask for, which is nothing where there are none.
+fn run_with(rt: &HostRuntime, words: &[&str]) -> u8 {
+    if words.is_empty() {
+        return 0;
+    }
+    let Some(job) = job_of(words) else {
+        let _ = writeln!(rt.stderr(), "{USAGE}");
+        return FAULT;
+    };
+    let regex = match Regex::new(rt.alloc(), job.pattern) {
+        Ok(regex) => regex,
+        Err(error) => {
+            let _ = writeln!(rt.stderr(), "{error}");
+            return FAULT;
+        }
+    };
+    match bench(rt, &regex, &job) {
+        Ok(()) => 0,
+        Err(error) => report(rt, &error),
+    }
+}
+
+/// Reads the words, and does what they ask for.
+fn run(rt: &HostRuntime) -> Result<u8, BenchError> {
+    let words = words_of(rt)?;
+    let words = lent(rt.alloc(), &words)?;
+    Ok(run_with(rt, &words))
+}
+
+fn main(rt: HostRuntime) -> ExitCode {
+    ExitCode::from(match run(&rt) {
+        Ok(status) => status,
+        Err(error) => report(&rt, &error),
+    })
+}

@@ -1,0 +1,148 @@
+-- A search over rising starts.
+use Rattle.std.proofs.Common.{◌≡◌, ℕ, zero, suc, ◌+◌, ◌-◌, ◌<◌, ◌≤◌, List, [], ◌∷◌, length, true, Option, Some, None, IfSome, sym, ap, subst, ◌∙◌, refl, arith, inl, inr, slice_range, slice_index}
+use Rattle.std.proofs.lemmas.Bool.{cases_lt, cases_Bool}
+use Rattle.std.proofs.lemmas.Option.{none-some, same_Some}
+use Rattle.rc_text.proofs.Ranges.{get_or-slice_range}
+use Rattle.rc_text.specs.Text.{Searched, Keeps, low}
+use Rattle.rc_literal.specs.declared.hit.Hit.{Hit}
+use Rattle.rc_literal.specs.Needles.{stands_within, first_from, needle_at, by_starts, find_needle, prefix_needle}
+use Rattle.rc_literal.specs.Tables.{numbered, Agrees, IsRuledOut, AreSome}
+use Rattle.rc_literal.proofs.StandLemmas.{stands_parts, false_if_not, none_from}
+
+-- a needle that stands agrees with the piece there
+stands_agrees : (content piece needle : List ℕ) (hi p k : ℕ) → piece ≡ slice_range content p (p + length piece) →
+    stands_within content hi (p + k) needle ≡ true → Agrees piece needle k
+stands_agrees content piece needle hi p k is e j l m =
+    let same = (stands_parts content hi (p + k) needle e).1 in
+    let n : p + (k + j) ≡ p + k + j = omega arith in
+    let left : slice_index piece (k + j) ≡ slice_index content (p + (k + j)) =
+    ap (λ xs. slice_index xs (k + j)) is ∙ get_or-slice_range content p (p + length piece) (k + j) 0 (omega (arith, m)) in
+    let right : slice_index (slice_range content (p + k) (p + k + length needle)) j ≡ slice_index content (p + k + j) =
+    get_or-slice_range content (p + k) (p + k + length needle) j 0 (omega (arith, l)) in
+    left ∙ ap (slice_index content) n ∙ sym right ∙ ap (λ xs. slice_index xs j) same
+
+-- where it can't stand in a piece, it doesn't stand in the content
+pub none_ruled_out : (needles : List (List ℕ)) (content piece : List ℕ) (hi p k : ℕ) → piece ≡ slice_range content p (p + length piece) →
+    IsRuledOut needles piece k → needle_at needles content hi (p + k) ≡ None
+none_ruled_out needles content piece hi p k is out =
+    none_from needles content hi (p + k) 0
+    (λ n l. false_if_not (stands_within content hi (p + k) (numbered needles n))
+    (λ e. out n l (stands_agrees content piece (numbered needles n) hi p k is e)))
+
+-- no needle stands at the end
+pub none_past : (needles : List (List ℕ)) (content : List ℕ) (hi i : ℕ) → AreSome needles → hi ≤ i → needle_at needles content hi i ≡ None
+none_past needles content hi i some past =
+    none_from needles content hi i 0
+    (λ n l. false_if_not (stands_within content hi i (numbered needles n))
+    (λ e. let le = (stands_parts content hi i (numbered needles n) e).0 in let long = some n l in omega (arith, le, long, past)))
+
+-- no start gives one
+pub by_none : (gives : ℕ → Option Hit) (n i : ℕ) → ((y : ℕ) → i ≤ y → y < i + n → gives y ≡ None) → by_starts gives n i ≡ None
+by_none gives zero i h = refl
+by_none gives (suc n) i h =
+    let e : gives i ≡ None = h i (omega arith) (omega arith) in
+    rw e (by_none gives n (i + 1) (λ y a b. h y (omega (arith, a)) (omega (arith, b))))
+
+-- the start x gives the first one
+pub by_first : (gives : ℕ → Option Hit) (n i x : ℕ) (hit : Hit) → i ≤ x → x < i + n → ((y : ℕ) → i ≤ y → y < x → gives y ≡ None) →
+    gives x ≡ Some hit → by_starts gives n i ≡ Some hit
+by_first gives zero i x hit low high h e = absurd (omega arith)
+by_first gives (suc n) i x hit low high h e =
+    elim (cases_lt i x) [
+      | inl l ↦
+          let f : gives i ≡ None = h i (omega arith) l in
+          rw f (by_first gives n (i + 1) x hit (omega (arith, l)) (omega (arith, high)) (λ y a b. h y (omega (arith, a)) b) e)
+      | inr g ↦
+          let s : x ≡ i = omega arith in
+          let f : gives i ≡ Some hit = subst (λ z. gives z ≡ Some hit) s e in rw f refl
+    ]
+
+pub first_found : (needles : List (List ℕ)) (content : List ℕ) (lo hi x : ℕ) (hit : Hit) → lo ≤ x → x ≤ hi →
+    ((y : ℕ) → lo ≤ y → y < x → needle_at needles content hi y ≡ None) → Some hit ≡ needle_at needles content hi x →
+    Some hit ≡ find_needle needles content lo hi
+unfolding find_needle
+first_found needles content lo hi x hit low high h e =
+    sym (by_first (needle_at needles content hi) (hi + 1 - lo) lo x hit low (omega (arith, low, high)) h (sym e))
+
+pub none_found : (needles : List (List ℕ)) (content : List ℕ) (lo hi x : ℕ) → AreSome needles → hi ≤ x →
+    ((y : ℕ) → lo ≤ y → y < x → needle_at needles content hi y ≡ None) → None ≡ find_needle needles content lo hi
+unfolding find_needle
+none_found needles content lo hi x some past h =
+    sym (by_none (needle_at needles content hi) (hi + 1 - lo) lo
+    (λ y a b. elim (cases_lt y x) [ inl l ↦ h y a l | inr g ↦ none_past needles content hi y some (omega (arith, g, past)) ]))
+
+pub prefix_is : (needles : List (List ℕ)) (content : List ℕ) (lo hi : ℕ) → needle_at needles content hi lo ≡ prefix_needle needles content lo hi
+unfolding prefix_needle
+prefix_is needles content lo hi = refl
+
+-- what is found lies within
+from_within : (needles : List (List ℕ)) (content : List ℕ) (hi i n : ℕ) (hit : Hit) → AreSome needles →
+    first_from content hi i n needles ≡ Some hit → (hit.start ≡ i) × (i < hit.end) × (hit.end ≤ hi)
+from_within [] content hi i n hit some e = absurd (none-some hit e)
+from_within (w ∷ ws) content hi i n hit some e =
+    let o : Option Hit = Some (record { start = i; end = i + length w; number = n }) in
+    elim (cases_Bool (stands_within content hi i w)) [
+      | inl t ↦
+          let is : o ≡ Some hit = rw t at e in
+          let same = same_Some _ hit is in
+          let le = (stands_parts content hi i w t).0 in
+          let long : 0 < length w = some 0 (omega arith) in
+          let a : i ≡ hit.start = ap (λ (h : Hit). h.start) same in
+          let b : i + length w ≡ hit.end = ap (λ (h : Hit). h.end) same in
+          (sym a, omega (arith, b, long), omega (arith, b, le))
+      | inr f ↦ from_within ws content hi i (n + 1) hit (λ k l. some (suc k) (omega (arith, l))) (rw f at e)
+    ]
+
+pub needle_within : (needles : List (List ℕ)) (content : List ℕ) (hi i : ℕ) (hit : Hit) → AreSome needles →
+    Some hit ≡ needle_at needles content hi i → (hit.start ≡ i) × (i < hit.end) × (hit.end ≤ hi)
+needle_within needles content hi i hit some e = from_within needles content hi i 0 hit some (sym e)
+
+-- the bounds stay where the input moved
+pub same_low : (s t : Searched) → Keeps s t → low t ≡ low s
+same_low s t k = rw (k.span, k.slice) refl
+
+-- no needle stands from lo on, below x
+abbrev pub NoneBefore : List (List ℕ) → List ℕ → ℕ → ℕ → ℕ → Type 0
+NoneBefore needles content hi lo x = (i : ℕ) → lo ≤ i → i < x → needle_at needles content hi i ≡ None
+
+-- the places of a piece that are ruled out
+pub more_passed : (needles : List (List ℕ)) (content piece : List ℕ) (lo hi at passed : ℕ) → NoneBefore needles content hi lo at →
+    piece ≡ slice_range content at (at + length piece) → ((k : ℕ) → k < passed → IsRuledOut needles piece k) →
+    NoneBefore needles content hi lo (at + passed)
+more_passed needles content piece lo hi at passed before is out i low high =
+    elim (cases_lt i at) [
+      | inl l ↦ before i low l
+      | inr g ↦
+          let e : at + (i - at) ≡ i = omega (arith, g) in
+          subst (λ j. needle_at needles content hi j ≡ None) e (none_ruled_out needles content piece hi at (i - at) is (out (i - at) (omega (arith, g, high))))
+    ]
+
+-- and one more
+pub one_more_start : (needles : List (List ℕ)) (content : List ℕ) (lo hi x : ℕ) → NoneBefore needles content hi lo x →
+    needle_at needles content hi x ≡ None → NoneBefore needles content hi lo (x + 1)
+one_more_start needles content lo hi x before here i low high =
+    elim (cases_lt i x) [
+      | inl l ↦ before i low l
+      | inr g ↦
+          let e : x ≡ i = omega arith in subst (λ j. needle_at needles content hi j ≡ None) e here
+    ]
+
+pub keeps_on : (a b c : Searched) → Keeps a b → Keeps b c → Keeps a c
+keeps_on a b c x y = record {
+  content = y.content ∙ x.content;
+  span = y.span ∙ x.span;
+  slice = y.slice ∙ x.slice;
+  anchored = y.anchored ∙ x.anchored;
+  earliest = y.earliest ∙ x.earliest;
+}
+
+pub if_needle_within : (needles : List (List ℕ)) (content : List ℕ) (hi i : ℕ) (o : Option Hit) → AreSome needles →
+    o ≡ needle_at needles content hi i → IfSome o (λ hit. (hit.start ≡ i) × (hit.start < hit.end) × (hit.end ≤ hi))
+if_needle_within needles content hi i None some e = tt
+if_needle_within needles content hi i (Some hit) some e =
+    let r = needle_within needles content hi i hit some e in (r.0, omega (arith, r.0, r.1), r.2)
+
+pub same_at : (needles : List (List ℕ)) (content text : List ℕ) (hi end i j : ℕ) → content ≡ text → hi ≡ end → i ≡ j →
+    needle_at needles content hi i ≡ needle_at needles text end j
+same_at needles content text hi end i j c h e =
+    ap (λ t. needle_at needles t hi i) c ∙ ap (λ z. needle_at needles text z i) h ∙ ap (needle_at needles text end) e

@@ -1,0 +1,70 @@
+-- Nodes that are no literal.
+use Rattle.std.proofs.Common.{◌≡◌, ℕ, ◌⊎◌, List, [], ◌∷◌, map, Option, None, ap, ◌∙◌, refl, inl, inr, Vec, Global}
+use Rattle.rc_pattern.specs.Re.{Re}
+use Rattle.rc_pattern.specs.Meaning.{meaning, kind_meaning, class_meaning, cat_all, alt_all}
+use Rattle.rc_pattern.specs.declared.hir.Look.{Look}
+use Rattle.rc_pattern.specs.declared.hir.Class.{Class}
+use Rattle.rc_pattern.specs.declared.hir.Class.TheVariants.{Unicode, Bytes}
+use Rattle.rc_pattern.specs.declared.hir.Hir.{Hir}
+use Rattle.rc_pattern.specs.declared.hir.HirKind.{HirKind}
+use Rattle.rc_pattern.specs.declared.hir.HirKind.TheVariants as HirKind
+use Rattle.rc_pattern.specs.declared.hir.Repetition.{Repetition}
+use Rattle.rc_pattern.specs.declared.hir.Capture.{Capture}
+use Rattle.rc_pattern.proofs.FoldLemmas.{kind_Empty, kind_Class, kind_Look, kind_Repetition, kind_Capture, kind_Concat, kind_Alternation, meaning_of_repetition, meaning_of_capture}
+use Rattle.rc_literal.specs.Literals.{literal_bytes, literals_of}
+
+class_bytes : (c : Class) → literal_bytes (class_meaning c) ≡ None
+class_bytes (Unicode rs) = refl
+class_bytes (Bytes rs) = refl
+
+class_literals : (c : Class) → literals_of (class_meaning c) ≡ None
+class_literals (Unicode rs) = refl
+class_literals (Bytes rs) = refl
+
+cat_bytes : (hs : List Re) → literal_bytes (cat_all hs) ≡ None
+cat_bytes [] = refl
+cat_bytes (h ∷ hs) = refl
+
+cat_literals : (hs : List Re) → literals_of (cat_all hs) ≡ None
+cat_literals [] = refl
+cat_literals (h ∷ hs) = refl
+
+alt_bytes : (hs : List Re) → literal_bytes (alt_all hs) ≡ None
+alt_bytes [] = refl
+alt_bytes (h ∷ hs) = refl
+
+-- a node that is neither a literal nor an alternation
+abbrev pub IsOther : HirKind → Type 0 → Type 0
+IsOther k More =
+    (k ≡ HirKind.Empty) ⊎ (((c : Class) × (k ≡ HirKind.Class c)) ⊎ (((l : Look) × (k ≡ HirKind.Look l)) ⊎ (((r : Repetition) × (k ≡ HirKind.Repetition r))
+    ⊎ (((c : Capture) × (k ≡ HirKind.Capture c)) ⊎ More))))
+
+-- or a concatenation
+abbrev pub IsConcat : HirKind → Type 0
+IsConcat k = (subs : Vec Hir Global) × (k ≡ HirKind.Concat subs)
+
+abbrev pub IsAlternation : HirKind → Type 0
+IsAlternation k = (subs : Vec Hir Global) × (k ≡ HirKind.Alternation subs)
+
+module _ (X : Type 0) (f : Re → Option X) (k : HirKind) where
+  of_kind : (j : HirKind) (h : Re) → k ≡ j → kind_meaning j ≡ h → f h ≡ None → f (kind_meaning k) ≡ None
+  of_kind j h e m n = ap (λ z. f (kind_meaning z)) e ∙ ap f m ∙ n
+
+pub no_bytes : (k : HirKind) → IsOther k (IsConcat k ⊎ IsAlternation k) → literal_bytes (kind_meaning k) ≡ None
+no_bytes k (inl e) = of_kind (List ℕ) literal_bytes k HirKind.Empty _ e kind_Empty refl
+no_bytes k (inr (inl (c, e))) = of_kind (List ℕ) literal_bytes k (HirKind.Class c) _ e (kind_Class c) (class_bytes c)
+no_bytes k (inr (inr (inl (l, e)))) = of_kind (List ℕ) literal_bytes k (HirKind.Look l) _ e (kind_Look l) refl
+no_bytes k (inr (inr (inr (inl (r, e))))) = of_kind (List ℕ) literal_bytes k (HirKind.Repetition r) _ e (kind_Repetition r ∙ meaning_of_repetition r) refl
+no_bytes k (inr (inr (inr (inr (inl (c, e)))))) = of_kind (List ℕ) literal_bytes k (HirKind.Capture c) _ e (kind_Capture c ∙ meaning_of_capture c) refl
+no_bytes k (inr (inr (inr (inr (inr (inl (s, e))))))) = of_kind (List ℕ) literal_bytes k (HirKind.Concat s) _ e (kind_Concat s) (cat_bytes (map meaning s.items))
+no_bytes k (inr (inr (inr (inr (inr (inr (s, e))))))) =
+    of_kind (List ℕ) literal_bytes k (HirKind.Alternation s) _ e (kind_Alternation s) (alt_bytes (map meaning s.items))
+
+pub no_literals : (k : HirKind) → IsOther k (IsConcat k) → literals_of (kind_meaning k) ≡ None
+no_literals k (inl e) = of_kind (List (List ℕ)) literals_of k HirKind.Empty _ e kind_Empty refl
+no_literals k (inr (inl (c, e))) = of_kind (List (List ℕ)) literals_of k (HirKind.Class c) _ e (kind_Class c) (class_literals c)
+no_literals k (inr (inr (inl (l, e)))) = of_kind (List (List ℕ)) literals_of k (HirKind.Look l) _ e (kind_Look l) refl
+no_literals k (inr (inr (inr (inl (r, e))))) = of_kind (List (List ℕ)) literals_of k (HirKind.Repetition r) _ e (kind_Repetition r ∙ meaning_of_repetition r) refl
+no_literals k (inr (inr (inr (inr (inl (c, e)))))) = of_kind (List (List ℕ)) literals_of k (HirKind.Capture c) _ e (kind_Capture c ∙ meaning_of_capture c) refl
+no_literals k (inr (inr (inr (inr (inr (s, e)))))) =
+    of_kind (List (List ℕ)) literals_of k (HirKind.Concat s) _ e (kind_Concat s) (cat_literals (map meaning s.items))

@@ -1,0 +1,12 @@
+pub mod RangeLemmas
+pub mod StandLemmas
+pub mod ScanLemmas
+pub mod TableLemmas
+pub mod FindLemmas
+pub mod ReadLemmas
+pub mod WayLemmas
+pub mod RelationLemmas
+pub mod StartLemmas
+pub mod ExactLemmas
+pub mod AnswerLemmas
+pub mod KindLemmas

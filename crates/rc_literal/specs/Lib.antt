@@ -1,0 +1,5 @@
+pub mod Literals
+pub mod Needles
+pub mod Prefilters
+pub mod Scans
+pub mod Tables

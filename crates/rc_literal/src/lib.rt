@@ -1,0 +1,16 @@
+//! Searches for needles, wherever the content is cut.
+//!
+//! A needle is found on the uncut bytes: inside a chunk the searches of `memchr` find where one may
+//! stand, and across a border bytes are compared in place, the cursor moving forward and back.
+//! No search takes memory, and none copies a byte of the content.
+#![tactic(auto)]
+
+pub mod exact;
+pub mod hit;
+pub mod laws;
+pub mod literal;
+pub mod prefilter;
+mod scan;
+mod table;
+#[cfg(test)]
+mod tests;

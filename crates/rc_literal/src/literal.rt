@@ -1,0 +1,125 @@
+//! The search for needles.
+ghost use Rattle.std.specs.Prelude.{◌≡◌, ◌+◌, ◌<◌, ◌≤◌, IfSome, bytes_eq, length, slice_range};
+ghost use Rattle.rc_text.specs.Text.{Keeps, high, low};
+ghost use Rattle.rc_literal.specs.Needles.{find_needle, needle_at, prefix_needle};
+ghost use Rattle.rc_literal.specs.Literals.{literal_answer};
+ghost use Rattle.rc_literal.specs.Prefilters.{needles_of};
+ghost use Rattle.rc_literal.specs.Tables.{needles_in};
+
+use crate::hit::Hit;
+use crate::prefilter::Prefilter;
+use crate::scan::candidate;
+use crate::table::Table;
+use rc_text::cursor::Cursor;
+use rc_text::input::{Input, byte_at, high, low, piece_from};
+use rc_text::types::{Anchored, Match, PatternID, Span};
+
+/// Whether the needle stands from `at` to `to`, read a piece of a chunk at a time.
+fn stands<C: Cursor>(input: &mut Input<C>, needle: &[u8], at: usize, to: usize) -> bool
+    requires long { to ≡ at + length needle.now }
+    requires within { to ≤ length input.old.content }
+    ensures keeps { Keeps input.old input.new }
+    ensures value { result ≡ bytes_eq (slice_range input.old.content at (at + length needle.now)) needle.now }
+{
+    let mut done = 0;
+    while done < needle.len() {
+        let piece = piece_from(input, at + done, to);
+        let len = piece.len();
+        if piece != &needle[done..done + len] {
+            return false;
+        }
+        done += len;
+    }
+    true
+}
+
+/// The first of the needles that stands at `at`, wholly at or below `end`.
+fn needle_at<C: Cursor>(input: &mut Input<C>, table: &Table, at: usize, end: usize) -> Option<Hit>
+    requires low { at < end }
+    requires high { end ≤ length input.old.content }
+    ensures keeps { Keeps input.old input.new }
+    ensures value { result ≡ needle_at (needles_in table.now.needles.items) input.old.content end at }
+{
+    let byte = byte_at(input, at)?;
+    let mut number = table.heads[byte as usize];
+    while number < table.needles.len() {
+        let needle = table.needles[number].as_slice();
+        let len = needle.len();
+        if len <= end - at {
+            let to = at + len;
+            if stands(input, needle, at, to) {
+                return Some(Hit {
+                    start: at,
+                    end: to,
+                    number,
+                });
+            }
+        }
+        number = table.nexts[number];
+    }
+    None
+}
+
+/// The least start at which a needle stands, and the first of the needles there, within the bounds.
+///
+/// It reads on the uncut bytes, wherever the input stood before, takes no memory and copies nothing.
+pub fn find<C: Cursor>(input: &mut Input<C>, prefilter: &Prefilter) -> Option<Hit>
+    ensures keeps { Keeps input.old input.new }
+    ensures value { result ≡ find_needle (needles_of prefilter.now) input.old.content (low input.old) (high input.old) }
+    ensures within { IfSome result (λ hit. (low input.old ≤ hit.start) × (hit.start < hit.end) × (hit.end ≤ high input.old)) }
+{
+    let end = high(input);
+    let mut at = low(input);
+    while at < end {
+        let piece = piece_from(input, at, end);
+        let len = piece.len();
+        let passed = candidate(&prefilter.searcher, piece);
+        at += passed;
+        if passed < len {
+            if let Some(hit) = needle_at(input, &prefilter.searcher.table, at, end) {
+                return Some(hit);
+            }
+            at += 1;
+        }
+    }
+    None
+}
+
+/// The first of the needles that stands where the bounds begin.
+pub fn prefix<C: Cursor>(input: &mut Input<C>, prefilter: &Prefilter) -> Option<Hit>
+    ensures keeps { Keeps input.old input.new }
+    ensures value { result ≡ prefix_needle (needles_of prefilter.now) input.old.content (low input.old) (high input.old) }
+    ensures within { IfSome result (λ hit. (hit.start ≡ low input.old) × (hit.start < hit.end) × (hit.end ≤ high input.old)) }
+{
+    let end = high(input);
+    let at = low(input);
+    if at < end {
+        return needle_at(input, &prefilter.searcher.table, at, end);
+    }
+    None
+}
+
+/// The match of one pattern that is exactly the needles: its number is 0, and an anchored search
+/// for another pattern has none.
+pub fn search<C: Cursor>(input: &mut Input<C>, prefilter: &Prefilter) -> Option<Match>
+    ensures keeps { Keeps input.old input.new }
+    ensures value { result ≡ literal_answer (needles_of prefilter.now) input.old }
+    ensures within { IfSome result (λ found. (low input.old ≤ found.start) × (found.start ≤ found.end)
+        × (found.end ≤ high input.old)) }
+{
+    let hit = match input.get_anchored() {
+        Anchored::No => find(input, prefilter)?,
+        Anchored::Yes => prefix(input, prefilter)?,
+        Anchored::Pattern(pattern) => {
+            if pattern.as_usize() != 0 {
+                return None;
+            }
+            prefix(input, prefilter)?
+        }
+    };
+    let span = Span {
+        start: hit.start,
+        end: hit.end,
+    };
+    Some(Match::new(PatternID::ZERO, span))
+}

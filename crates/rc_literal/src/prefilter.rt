@@ -1,0 +1,105 @@
+//! Lists of needles that a content can be searched for.
+ghost use Rattle.std.specs.Prelude.{◌≡◌, IfOk, MatchOption, length, map};
+ghost use Rattle.rc_literal.specs.Needles.{longest};
+ghost use Rattle.rc_literal.specs.Tables.{IsUsable, needles_in};
+ghost use Rattle.std.specs.Bool.{Decides};
+ghost use Rattle.rc_literal.specs.Prefilters.{needles_of};
+
+use crate::scan::{Scan, Searcher, searcher_of};
+use rc_text::types::MatchKind;
+use std::alloc::{AllocError, Global};
+
+/// A list of needles, none of them empty, made ready for searches.
+///
+/// A search for one needle goes by the needle, and one for needles that begin with at most three
+/// bytes goes by these bytes. Where they begin with more, each byte of the content is looked up in a
+/// table. Where a needle may stand, those alone are compared that begin with the byte there: so the
+/// work for each byte grows with how many share a first byte, and not with how many there are.
+#[derive(Drop)]
+pub struct Prefilter {
+    pub searcher: Searcher,
+}
+
+impl Prefilter {
+    /// A search for these needles, in order; None where there is none, or one of them is empty.
+    ///
+    /// It is the same for each kind of match.
+    pub fn new(
+        alloc: Global,
+        _kind: MatchKind,
+        needles: &[&[u8]],
+    ) -> Result<Option<Prefilter>, AllocError>
+        ensures { IfOk result (λ found. MatchOption found (¬ IsUsable (map (λ w. w.now) needles.now))
+            (λ p. IsUsable (map (λ w. w.now) needles.now) × (needles_of p ≡ map (λ w. w.now) needles.now))) }
+    {
+        let mut copies = Vec::with_capacity(alloc, needles.len())?;
+        for needle in needles {
+            copies.push(needle.to_vec(alloc)?)?;
+        }
+        from_needles(alloc, copies)
+    }
+
+    /// How many bytes the longest needle has.
+    pub fn max_needle_len(&self) -> usize
+        ensures { result ≡ longest (needles_of self.now) }
+    {
+        let mut most = 0;
+        for needle in &self.searcher.table.needles {
+            most = most.max(needle.as_slice().len());
+        }
+        most
+    }
+
+    /// Whether a search goes by a needle or by at most three bytes, and not by a table.
+    pub fn is_fast(&self) -> bool {
+        match &self.searcher.scan {
+            Scan::Needle(_) | Scan::One(_) | Scan::Two(_, _) | Scan::Three(_, _, _) => true,
+            Scan::Many => false,
+        }
+    }
+
+    /// About how many bytes of memory it takes, beyond its own.
+    pub fn memory_usage(&self) -> usize {
+        let mut bytes: usize = 8 * 256;
+        for needle in &self.searcher.table.needles {
+            bytes = bytes.saturating_add(needle.len()).saturating_add(32);
+        }
+        bytes
+    }
+}
+
+/// A search for these needles, as `Prefilter::new` makes it.
+pub fn from_needles(alloc: Global, needles: Vec<Vec<u8>>) -> Result<Option<Prefilter>, AllocError>
+    ensures { IfOk result (λ found. MatchOption found (¬ IsUsable (needles_in needles.items))
+        (λ p. IsUsable (needles_in needles.items) × (needles_of p ≡ needles_in needles.items))) }
+{
+    if !is_usable(&needles) {
+        return Ok(None);
+    }
+    let searcher = searcher_of(alloc, needles)?;
+    Ok(Some(Prefilter { searcher }))
+}
+
+/// There is a needle, and none is empty.
+fn is_usable(needles: &Vec<Vec<u8>>) -> bool
+    ensures { Decides result (IsUsable (needles_in needles.now.items)) }
+{
+    for needle in needles {
+        if needle.as_slice().is_empty() {
+            return false;
+        }
+    }
+    !needles.is_empty()
+}
+
+/// A copy.
+pub fn copy_of(alloc: Global, prefilter: &Prefilter) -> Result<Prefilter, AllocError>
+    ensures { IfOk result (λ p. needles_of p ≡ needles_of prefilter.now) }
+{
+    let mut needles = Vec::with_capacity(alloc, prefilter.searcher.table.needles.len())?;
+    for needle in &prefilter.searcher.table.needles {
+        needles.push(needle.as_slice().to_vec(alloc)?)?;
+    }
+    let searcher = searcher_of(alloc, needles)?;
+    Ok(Prefilter { searcher })
+}

@@ -1,0 +1,16 @@
+pub mod SparseLemmas
+pub mod RowLemmas
+pub mod PassLemmas
+pub mod EnteredLemmas
+pub mod MoveLemmas
+pub mod LookUpLemmas
+pub mod GrownLemmas
+pub mod KeptLemmas
+pub mod StepLemmas
+pub mod StartLemmas
+pub mod TurnLemmas
+pub mod PassingLemmas
+pub mod NotedLemmas
+pub mod SearchLemmas
+pub mod NearLemmas
+pub mod RunnableLemmas

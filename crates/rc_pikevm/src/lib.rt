@@ -1,0 +1,14 @@
+//! The ordered pass over a text: all threads at once, in order, each place entered once at a position.
+#![tactic(auto)]
+
+pub mod cache;
+mod closure;
+mod moves;
+mod pass;
+pub mod runnable;
+pub mod search;
+pub mod sparse_set;
+#[cfg(test)]
+mod tests;
+mod threads;
+mod window;
