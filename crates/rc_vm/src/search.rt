@@ -4,7 +4,7 @@ ghost use Rattle.std.specs.Prelude.{◌≡◌, ◌≤◌, ◌<◌, ◌+◌, ◌-
 ghost use Rattle.rc_text.specs.Found.{Found};
 ghost use Rattle.rc_text.specs.Text.{Keeps, low, high};
 ghost use Rattle.rc_text.specs.declared.types.MatchKind.TheVariants.{LeftmostFirst};
-ghost use Rattle.rc_captures.specs.Captures.{IsCapturesFor, captures_slots};
+ghost use Rattle.rc_captures.specs.Captures.{IsCapturesFor, captures_slots, match_of};
 ghost use Rattle.rc_captures.specs.Names.{slot_len};
 ghost use Rattle.rc_program.specs.Answer.{answer, groups};
 ghost use Rattle.rc_program.specs.Sought.{search_for};
@@ -31,7 +31,8 @@ pub fn is_match<C: Cursor>(vm: &PikeVM, cache: &mut Cache, input: &mut Input<C>)
         → IsTrue result ↔ IsSome (answer (search_for (sought vm.now) input.old)) }
     ensures none { high input.old < low input.old → insertions_of cache.new ≡ 0 }
     ensures few { insertions_of cache.new ≤ states_of (sought vm.now) * (high input.old - low input.old + 2) }
-    ensures counted { (m : Found) → answer (search_for (sought vm.now) input.old) ≡ Some m → m.end - m.start + 1 ≤ insertions_of cache.new }
+    ensures counted { match_kind_of (vm_settings vm.now) ≡ LeftmostFirst
+        → IfSome (answer (search_for (sought vm.now) input.old)) (λ m. m.end - m.start + 1 ≤ insertions_of cache.new) }
 {
     search::find(
         &mut cache.inner,
@@ -41,6 +42,41 @@ pub fn is_match<C: Cursor>(vm: &PikeVM, cache: &mut Cache, input: &mut Input<C>)
         vm.engine.passes_over,
     )
     .is_some()
+}
+
+/// Writes the match that a search of the input finds, with its groups, into captures that were made of the groups of this `PikeVM`.
+/// Without a match they hold none. The cache has to be made for this `PikeVM`; it stays so.
+pub fn search<C: Cursor>(
+    vm: &PikeVM,
+    cache: &mut Cache,
+    input: &mut Input<C>,
+    caps: &mut Captures,
+)
+    requires made { IsCacheFor (sought vm.now) cache.old }
+    requires for_vm { IsCapturesFor (vm_names vm.now) caps.old }
+    ensures cache { IsCacheFor (sought vm.now) cache.new }
+    ensures keeps { Keeps input.old input.new }
+    ensures still_made { IsCapturesFor (vm_names vm.now) caps.new }
+    ensures long { length (captures_slots caps.new) ≡ length (captures_slots caps.old) }
+    ensures found { match_kind_of (vm_settings vm.now) ≡ LeftmostFirst
+        → Tells (search_for (sought vm.now) input.old) caps.new }
+    ensures matched { match_kind_of (vm_settings vm.now) ≡ LeftmostFirst
+        → match_of caps.new ≡ answer (search_for (sought vm.now) input.old) }
+    ensures none { high input.old < low input.old → insertions_of cache.new ≡ 0 }
+    ensures few { insertions_of cache.new ≤ states_of (sought vm.now) * (high input.old - low input.old + 2) }
+    ensures counted { match_kind_of (vm_settings vm.now) ≡ LeftmostFirst
+        → IfSome (answer (search_for (sought vm.now) input.old)) (λ m. m.end - m.start + 1 ≤ insertions_of cache.new) }
+{
+    captures::clear(caps);
+    let pattern = search::search_slots(
+        &mut cache.inner,
+        input,
+        &vm.engine.places,
+        vm.engine.terminator,
+        vm.engine.passes_over,
+        caps.slots_mut(),
+    );
+    captures::set_pattern(caps, pattern);
 }
 
 /// The pattern of the match that a search of the input finds, and its slots in `slots`, which may be fewer than there are. Without
@@ -63,7 +99,8 @@ pub fn search_slots<C: Cursor>(
         (λ _. Some slots.new ≡ groups (search_for (sought vm.now) input.old) (length slots.old)) }
     ensures none { high input.old < low input.old → insertions_of cache.new ≡ 0 }
     ensures few { insertions_of cache.new ≤ states_of (sought vm.now) * (high input.old - low input.old + 2) }
-    ensures counted { (m : Found) → answer (search_for (sought vm.now) input.old) ≡ Some m → m.end - m.start + 1 ≤ insertions_of cache.new }
+    ensures counted { match_kind_of (vm_settings vm.now) ≡ LeftmostFirst
+        → IfSome (answer (search_for (sought vm.now) input.old)) (λ m. m.end - m.start + 1 ≤ insertions_of cache.new) }
 {
     search::search_slots(
         &mut cache.inner,
