@@ -1,0 +1,3 @@
+pub mod Fitted
+pub mod Sizes
+pub mod Matched

@@ -1,0 +1,5 @@
+pub mod Thompson
+pub mod Configs
+pub mod Fits
+pub mod Views
+pub mod Caches

@@ -1,0 +1,113 @@
+//! Searches in a cache. They take no memory.
+
+ghost use Rattle.std.specs.Prelude.{◌≡◌, ◌≤◌, ◌<◌, ◌+◌, ◌-◌, ◌*◌, ◌↔◌, IsTrue, IsSome, IfSome, MatchOption, Some, length, option_map};
+ghost use Rattle.rc_text.specs.Found.{Found};
+ghost use Rattle.rc_text.specs.Text.{Keeps, low, high};
+ghost use Rattle.rc_text.specs.declared.types.MatchKind.TheVariants.{LeftmostFirst};
+ghost use Rattle.rc_captures.specs.Captures.{IsCapturesFor, captures_slots, match_of};
+ghost use Rattle.rc_captures.specs.Names.{slot_len};
+ghost use Rattle.rc_program.specs.Answer.{answer, groups};
+ghost use Rattle.rc_program.specs.Sought.{search_for};
+ghost use Rattle.rc_matches.specs.Tells.{Tells};
+ghost use Rattle.rc_vm.specs.Caches.{IsCacheFor, insertions_of};
+ghost use Rattle.rc_vm.specs.Configs.{match_kind_of};
+ghost use Rattle.rc_vm.specs.Views.{sought, states_of, vm_names, vm_settings};
+
+use crate::cache::Cache;
+use crate::vm::PikeVM;
+use rc_captures::captures;
+use rc_captures::captures::Captures;
+use rc_pikevm::search;
+use rc_text::cursor::Cursor;
+use rc_text::input::Input;
+use rc_text::types::PatternID;
+
+/// Whether a search of the input finds a match, in a cache that was made for this `PikeVM`. The cache stays so.
+pub fn is_match<C: Cursor>(vm: &PikeVM, cache: &mut Cache, input: &mut Input<C>) -> bool
+    requires made { IsCacheFor (sought vm.now) cache.old }
+    ensures cache { IsCacheFor (sought vm.now) cache.new }
+    ensures keeps { Keeps input.old input.new }
+    ensures found { match_kind_of (vm_settings vm.now) ≡ LeftmostFirst
+        → IsTrue result ↔ IsSome (answer (search_for (sought vm.now) input.old)) }
+    ensures none { high input.old < low input.old → insertions_of cache.new ≡ 0 }
+    ensures few { insertions_of cache.new ≤ states_of (sought vm.now) * (high input.old - low input.old + 2) }
+    ensures counted { match_kind_of (vm_settings vm.now) ≡ LeftmostFirst
+        → IfSome (answer (search_for (sought vm.now) input.old)) (λ m. m.end - m.start + 1 ≤ insertions_of cache.new) }
+{
+    search::find(
+        &mut cache.inner,
+        input,
+        &vm.engine.places,
+        vm.engine.terminator,
+        vm.engine.passes_over,
+    )
+    .is_some()
+}
+
+/// Writes the match that a search of the input finds, with its groups, into captures that were made of the groups of this `PikeVM`.
+/// Without a match they hold none. The cache has to be made for this `PikeVM`; it stays so.
+pub fn search<C: Cursor>(
+    vm: &PikeVM,
+    cache: &mut Cache,
+    input: &mut Input<C>,
+    caps: &mut Captures,
+)
+    requires made { IsCacheFor (sought vm.now) cache.old }
+    requires for_vm { IsCapturesFor (vm_names vm.now) caps.old }
+    ensures cache { IsCacheFor (sought vm.now) cache.new }
+    ensures keeps { Keeps input.old input.new }
+    ensures still_made { IsCapturesFor (vm_names vm.now) caps.new }
+    ensures long { length (captures_slots caps.new) ≡ length (captures_slots caps.old) }
+    ensures found { match_kind_of (vm_settings vm.now) ≡ LeftmostFirst
+        → Tells (search_for (sought vm.now) input.old) caps.new }
+    ensures matched { match_kind_of (vm_settings vm.now) ≡ LeftmostFirst
+        → match_of caps.new ≡ answer (search_for (sought vm.now) input.old) }
+    ensures none { high input.old < low input.old → insertions_of cache.new ≡ 0 }
+    ensures few { insertions_of cache.new ≤ states_of (sought vm.now) * (high input.old - low input.old + 2) }
+    ensures counted { match_kind_of (vm_settings vm.now) ≡ LeftmostFirst
+        → IfSome (answer (search_for (sought vm.now) input.old)) (λ m. m.end - m.start + 1 ≤ insertions_of cache.new) }
+{
+    captures::clear(caps);
+    let pattern = search::search_slots(
+        &mut cache.inner,
+        input,
+        &vm.engine.places,
+        vm.engine.terminator,
+        vm.engine.passes_over,
+        caps.slots_mut(),
+    );
+    captures::set_pattern(caps, pattern);
+}
+
+/// The pattern of the match that a search of the input finds, and its slots in `slots`, which may be fewer than there are. Without
+/// a match the slots stay. The cache has to be made for this `PikeVM`; it stays so.
+pub fn search_slots<C: Cursor>(
+    vm: &PikeVM,
+    cache: &mut Cache,
+    input: &mut Input<C>,
+    slots: &mut [Option<usize>],
+) -> Option<PatternID>
+    requires made { IsCacheFor (sought vm.now) cache.old }
+    requires few_slots { length slots.old ≤ slot_len (vm_names vm.now) }
+    ensures cache { IsCacheFor (sought vm.now) cache.new }
+    ensures keeps { Keeps input.old input.new }
+    ensures pattern { match_kind_of (vm_settings vm.now) ≡ LeftmostFirst
+        → result ≡ option_map (λ (m : Found). m.pattern) (answer (search_for (sought vm.now) input.old)) }
+    ensures slots { match_kind_of (vm_settings vm.now) ≡ LeftmostFirst
+        → MatchOption result
+        (slots.new ≡ slots.old)
+        (λ _. Some slots.new ≡ groups (search_for (sought vm.now) input.old) (length slots.old)) }
+    ensures none { high input.old < low input.old → insertions_of cache.new ≡ 0 }
+    ensures few { insertions_of cache.new ≤ states_of (sought vm.now) * (high input.old - low input.old + 2) }
+    ensures counted { match_kind_of (vm_settings vm.now) ≡ LeftmostFirst
+        → IfSome (answer (search_for (sought vm.now) input.old)) (λ m. m.end - m.start + 1 ≤ insertions_of cache.new) }
+{
+    search::search_slots(
+        &mut cache.inner,
+        input,
+        &vm.engine.places,
+        vm.engine.terminator,
+        vm.engine.passes_over,
+        slots,
+    )
+}

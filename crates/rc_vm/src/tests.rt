@@ -1,0 +1,146 @@
+//! Worked rows.
+use crate::builder::Builder;
+use crate::cache::Cache;
+use crate::config::Config;
+use crate::search::{is_match, search, search_slots};
+use crate::thompson;
+use crate::vm::PikeVM;
+use rc_build::error::BuildError;
+use rc_build::which::WhichCaptures;
+use rc_captures::captures::Captures;
+use rc_text::chunks::ChunkCursor;
+use rc_text::input::Input;
+use rc_text::types::{MatchKind, PatternID, Span};
+use std::alloc::{AllocError, Global};
+use std::test::Fail;
+
+/// The bytes one by one.
+fn cut(alloc: Global, text: &[u8]) -> Result<Vec<&[u8]>, AllocError> {
+    let mut chunks = Vec::new(alloc);
+    for k in 0..text.len() {
+        chunks.push(&text[k..k + 1])?;
+    }
+    Ok(chunks)
+}
+
+fn ends(span: Option<Span>) -> Option<(usize, usize)> {
+    let span = span?;
+    Some((span.start, span.end))
+}
+
+/// The limit that a build passed.
+fn limit_of(built: &Result<PikeVM, BuildError>) -> Option<usize> {
+    match built {
+        Ok(_) => None,
+        Err(refusal) => refusal.size_limit(),
+    }
+}
+
+/// The number of the text that a build could not read.
+fn pattern_of(built: &Result<PikeVM, BuildError>) -> Option<PatternID> {
+    match built {
+        Ok(_) => None,
+        Err(refusal) => refusal.pattern(),
+    }
+}
+
+#[test]
+fn loops_in_loops(rt: HostRuntime) -> Result<(), Fail> {
+    let alloc = rt.alloc();
+    let vm = PikeVM::new(alloc, "(a*)*b")?;
+    let mut cache = vm.create_cache(alloc)?;
+    assert_eq!(rt; cache.insertions(), 0);
+    let chunks = cut(alloc, b"aaaaaaaaaaaaaaaaaaaaaaaaaaaaaaaaaaaaaaaa")?;
+    let mut input = Input::new(ChunkCursor::new(&chunks)?);
+    let states = vm.states_len() as u128;
+    assert!(rt; !is_match(&vm, &mut cache, &mut input));
+    assert!(rt; cache.insertions() <= states * 42);
+    let mut caps = Captures::all(alloc, vm.get_group_info())?;
+    search(&vm, &mut cache, &mut input, &mut caps);
+    assert!(rt; !caps.is_match());
+    assert!(rt; cache.insertions() <= states * 42);
+    let chunks = cut(alloc, b"caab")?;
+    let mut input = Input::new(ChunkCursor::new(&chunks)?);
+    search(&vm, &mut cache, &mut input, &mut caps);
+    assert_eq!(rt; ends(caps.get_group(0)), Some((1, 4)));
+    assert_eq!(rt; ends(caps.get_group(1)), Some((1, 3)));
+    assert!(rt; cache.insertions() >= 4);
+    let mut slots = [None, None];
+    assert_eq!(rt; search_slots(&vm, &mut cache, &mut input, &mut slots), Some(PatternID::ZERO));
+    assert_eq!(rt; slots, [Some(1), Some(4)]);
+    Ok(())
+}
+
+#[test]
+fn counts(rt: HostRuntime) -> Result<(), Fail> {
+    let alloc = rt.alloc();
+    let vm = PikeVM::new(alloc, "x*")?;
+    let mut cache = Cache::new(alloc, &vm)?;
+    let mut input = Input::new("x");
+    assert!(rt; is_match(&vm, &mut cache, &mut input));
+    assert!(rt; cache.insertions() >= 2);
+    assert!(rt; cache.insertions() <= vm.states_len() as u128 * 3);
+    input.set_span(Span { start: 1, end: 0 });
+    assert!(rt; !is_match(&vm, &mut cache, &mut input));
+    assert_eq!(rt; cache.insertions(), 0);
+    assert!(rt; cache.memory_usage() > 0);
+    Ok(())
+}
+
+#[test]
+fn settings_of_the_program(rt: HostRuntime) -> Result<(), Fail> {
+    let alloc = rt.alloc();
+    let bare = thompson::Config::new().which_captures(WhichCaptures::Implicit);
+    let mut builder = PikeVM::builder();
+    let vm = builder.thompson(bare).build(alloc, "(a)")?;
+    let info = vm.get_group_info();
+    assert_eq!(rt; info.slot_len(), 2);
+    let lines = thompson::Config::new().line_terminator(b';');
+    let vm = builder.thompson(lines).build(alloc, "(?m)^b")?;
+    let mut cache = vm.create_cache(alloc)?;
+    assert!(rt; is_match(&vm, &mut cache, &mut Input::new("a;b")));
+    assert!(rt; !is_match(&vm, &mut cache, &mut Input::new("a\nb")));
+    let leftmost = Config::new().match_kind(MatchKind::LeftmostFirst);
+    let vm = builder.configure(leftmost).build_many(alloc, &["ab", "b"])?;
+    cache.reset(&vm)?;
+    let mut slots = [None, None, None, None];
+    let mut input = Input::new("cb");
+    let found = search_slots(&vm, &mut cache, &mut input, &mut slots);
+    assert_eq!(rt; found, PatternID::new(1));
+    assert_eq!(rt; slots, [None, None, Some(1), Some(2)]);
+    Ok(())
+}
+
+#[test]
+fn empty_matches_inside_characters(rt: HostRuntime) -> Result<(), Fail> {
+    let alloc = rt.alloc();
+    let chunks = cut(alloc, b"\xC3\xA9")?;
+    let mut input = Input::new(ChunkCursor::new(&chunks)?);
+    input.set_start(1);
+    let mut slots = [None, None];
+    let vm = PikeVM::new(alloc, "")?;
+    let mut cache = vm.create_cache(alloc)?;
+    let found = search_slots(&vm, &mut cache, &mut input, &mut slots);
+    assert!(rt; found.is_some());
+    assert_eq!(rt; slots, [Some(2), Some(2)]);
+    let bytes = thompson::Config::new().utf8(false);
+    let vm = Builder::new().thompson(bytes).build(alloc, "")?;
+    cache.reset(&vm)?;
+    let found = search_slots(&vm, &mut cache, &mut input, &mut slots);
+    assert!(rt; found.is_some());
+    assert_eq!(rt; slots, [Some(1), Some(1)]);
+    Ok(())
+}
+
+#[test]
+fn refusals(rt: HostRuntime) -> Result<(), Fail> {
+    let alloc = rt.alloc();
+    let mut builder = PikeVM::builder();
+    builder.thompson(thompson::Config::new().nfa_size_limit(Some(10)));
+    assert_eq!(rt; limit_of(&builder.build(alloc, "a")), Some(10));
+    assert_eq!(rt; pattern_of(&builder.build_many(alloc, &["a", "("])), PatternID::new(1));
+    builder.thompson(thompson::Config::new().nfa_size_limit(None));
+    assert!(rt; builder.build(alloc, "a").is_ok());
+    assert!(rt; PikeVM::new_many(alloc, &["a", "b"]).is_ok());
+    Ok(())
+}
