@@ -128,13 +128,7 @@ impl Builder {
         )?;
         let engine = engine_of(thompson, hirs, compiled.places);
         let hirs = copies_of(alloc, hirs)?;
-        Ok(assembled(
-            hirs,
-            self.config,
-            thompson,
-            engine,
-            compiled.info,
-        ))
+        Ok(assembled(hirs, self.config, thompson, engine, compiled.info))
     }
 }
 

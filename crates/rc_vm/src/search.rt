@@ -46,12 +46,7 @@ pub fn is_match<C: Cursor>(vm: &PikeVM, cache: &mut Cache, input: &mut Input<C>)
 
 /// Writes the match that a search of the input finds, with its groups, into captures that were made of the groups of this `PikeVM`.
 /// Without a match they hold none. The cache has to be made for this `PikeVM`; it stays so.
-pub fn search<C: Cursor>(
-    vm: &PikeVM,
-    cache: &mut Cache,
-    input: &mut Input<C>,
-    caps: &mut Captures,
-)
+pub fn search<C: Cursor>(vm: &PikeVM, cache: &mut Cache, input: &mut Input<C>, caps: &mut Captures)
     requires made { IsCacheFor (sought vm.now) cache.old }
     requires for_vm { IsCapturesFor (vm_names vm.now) caps.old }
     ensures cache { IsCacheFor (sought vm.now) cache.new }

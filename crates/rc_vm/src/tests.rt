@@ -66,7 +66,10 @@ fn loops_in_loops(rt: HostRuntime) -> Result<(), Fail> {
     assert_eq!(rt; ends(caps.get_group(1)), Some((1, 3)));
     assert!(rt; cache.insertions() >= 4);
     let mut slots = [None, None];
-    assert_eq!(rt; search_slots(&vm, &mut cache, &mut input, &mut slots), Some(PatternID::ZERO));
+    assert_eq!(rt;
+        search_slots(&vm, &mut cache, &mut input, &mut slots),
+        Some(PatternID::ZERO)
+    );
     assert_eq!(rt; slots, [Some(1), Some(4)]);
     Ok(())
 }
@@ -138,7 +141,10 @@ fn refusals(rt: HostRuntime) -> Result<(), Fail> {
     let mut builder = PikeVM::builder();
     builder.thompson(thompson::Config::new().nfa_size_limit(Some(10)));
     assert_eq!(rt; limit_of(&builder.build(alloc, "a")), Some(10));
-    assert_eq!(rt; pattern_of(&builder.build_many(alloc, &["a", "("])), PatternID::new(1));
+    assert_eq!(rt;
+        pattern_of(&builder.build_many(alloc, &["a", "("])),
+        PatternID::new(1)
+    );
     builder.thompson(thompson::Config::new().nfa_size_limit(None));
     assert!(rt; builder.build(alloc, "a").is_ok());
     assert!(rt; PikeVM::new_many(alloc, &["a", "b"]).is_ok());

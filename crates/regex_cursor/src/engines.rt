@@ -1,3 +1,4 @@
 //! What searches.
 
 pub mod meta;
+pub mod pikevm;

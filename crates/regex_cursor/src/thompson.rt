@@ -1,3 +1,4 @@
-//! Programs of patterns, and what is kept of their groups.
+//! Programs of patterns: how they are built, and what is kept of their groups.
 
 pub use rc_build::which::WhichCaptures;
+pub use rc_vm::thompson::Config;
