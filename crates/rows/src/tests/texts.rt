@@ -330,3 +330,22 @@ fn long_searches_end(rt: HostRuntime) -> Result<(), Fail> {
     assert!(rt; found.is_none());
     Ok(())
 }
+
+#[test]
+fn examples_of_the_readme(rt: HostRuntime) -> Result<(), Fail> {
+    let alloc = rt.alloc();
+    let words = "naïve Straße 東京 it";
+    let want = [(0, 6), (7, 14), (15, 21), (22, 24)];
+    row(&rt, alloc, r"\b\S+\b", words.as_bytes(), &want)?;
+    row(
+        &rt,
+        alloc,
+        r"\d{4}-\d{2}-\d{2}",
+        b"see 2026-11-22.",
+        &[(4, 14)],
+    )?;
+    let log = b"10:01 INFO up\n10:02 ERROR disk full\n";
+    let want = [Some((14, 35)), Some((14, 19)), Some((26, 35))];
+    row_of_groups(&rt, alloc, r"(?m)^(\S+) ERROR (.+)$", log, (0, &want))?;
+    Ok(())
+}
