@@ -542,9 +542,6 @@ fn errors(rt: HostRuntime) -> Result<(), Fail> {
     let alloc = rt.alloc();
     let mut text = String::new(alloc);
     write!(text, "{}, {}", Error::Syntax { at: 3 }, Error::Memory)?;
-    assert_eq!(&rt;
-        text.as_str(),
-        "no pattern: the fault was found at byte 3, out of memory"
-    );
+    assert_eq!(&rt; text.as_str(), "syntax error at byte 3, out of memory");
     Ok(())
 }
