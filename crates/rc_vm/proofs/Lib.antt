@@ -1,3 +1,4 @@
 pub mod Fitted
 pub mod Sizes
 pub mod Matched
+pub mod Left

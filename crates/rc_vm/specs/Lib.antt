@@ -3,3 +3,4 @@ pub mod Configs
 pub mod Fits
 pub mod Views
 pub mod Caches
+pub mod Left

@@ -4,6 +4,7 @@
 pub mod builder;
 pub mod cache;
 pub mod config;
+pub mod iterators;
 pub mod search;
 #[cfg(test)]
 mod tests;

@@ -1,6 +1,6 @@
 //! Searches in a cache. They take no memory.
 
-ghost use Rattle.std.specs.Prelude.{◌≡◌, ◌≤◌, ◌<◌, ◌+◌, ◌-◌, ◌*◌, ◌↔◌, IsTrue, IsSome, IfSome, MatchOption, Some, length, option_map};
+ghost use Rattle.std.specs.Prelude.{◌≡◌, ◌≤◌, ◌<◌, ◌+◌, ◌-◌, ◌*◌, ◌↔◌, ◌∷◌, [], IsTrue, IsSome, IfSome, MatchOption, Some, None, length, option_map};
 ghost use Rattle.rc_text.specs.Found.{Found};
 ghost use Rattle.rc_text.specs.Text.{Keeps, low, high};
 ghost use Rattle.rc_text.specs.declared.types.MatchKind.TheVariants.{LeftmostFirst};
@@ -12,15 +12,18 @@ ghost use Rattle.rc_matches.specs.Tells.{Tells};
 ghost use Rattle.rc_vm.specs.Caches.{IsCacheFor, insertions_of};
 ghost use Rattle.rc_vm.specs.Configs.{match_kind_of};
 ghost use Rattle.rc_vm.specs.Views.{sought, states_of, vm_names, vm_settings};
+ghost use Rattle.rc_vm.specs.Left.{FindKeepsAlong, FindSteps, find_left, find_lender, find_vm, matches_in};
+ghost use Rattle.std.specs.Iterator.Runs.{YieldsInOrder};
 
 use crate::cache::Cache;
+use crate::iterators::FindMatches;
 use crate::vm::PikeVM;
 use rc_captures::captures;
 use rc_captures::captures::Captures;
 use rc_pikevm::search;
 use rc_text::cursor::Cursor;
 use rc_text::input::Input;
-use rc_text::types::PatternID;
+use rc_text::types::{Match, PatternID};
 
 /// Whether a search of the input finds a match, in a cache that was made for this `PikeVM`. The cache stays so.
 pub fn is_match<C: Cursor>(vm: &PikeVM, cache: &mut Cache, input: &mut Input<C>) -> bool
@@ -105,4 +108,48 @@ pub fn search_slots<C: Cursor>(
         vm.engine.passes_over,
         slots,
     )
+}
+
+/// The matches in the input, from left to right. None is searched for before it is asked for, and neither this call nor an item takes
+/// memory. The cache has to be made for this `PikeVM`; it stays so, also where the iterator is dropped before its end.
+pub fn find_iter<'v, 'c, C: Cursor + Drop>(
+    vm: &'v PikeVM,
+    cache: &'c mut Cache,
+    input: Input<C>,
+) -> FindMatches<'v, 'c, C>
+    requires made { IsCacheFor (sought vm.now) cache.old }
+    ensures left { match_kind_of (vm_settings vm.now) ≡ LeftmostFirst
+        → find_left result ≡ matches_in vm.now input None }
+    ensures vm { find_vm result ≡ vm.now }
+    ensures runs { YieldsInOrder (FindSteps {cursor = C.Cursor}) find_left }
+    ensures same_reference { find_lender result ≡ cache.entry.ghost_name }
+    ensures stays { FindKeepsAlong result }
+{
+    FindMatches {
+        vm,
+        cache,
+        input,
+        last: None,
+        is_done: false,
+    }
+}
+
+/// The next match in the input, where the match before ended at `last`. The span then starts where that next match ends.
+pub(crate) fn next_match<C: Cursor>(
+    vm: &PikeVM,
+    cache: &mut Cache,
+    input: &mut Input<C>,
+    last: Option<usize>,
+) -> Option<Match>
+    requires made { IsCacheFor (sought vm.now) cache.old }
+    ensures cache { IsCacheFor (sought vm.now) cache.new }
+    ensures left { MatchOption result
+        (matches_in vm.now input.old last ≡ [])
+        (λ m. matches_in vm.now input.old last ≡ m ∷ matches_in vm.now input.new (Some m.end)) }
+{
+    let Some(found) = vm.engine.next_match(&mut cache.inner, input, last) else {
+        return None;
+    };
+    input.set_start(found.end());
+    Some(found)
 }

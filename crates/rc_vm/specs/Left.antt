@@ -1,0 +1,41 @@
+-- What an iterator of matches has still to give, and what its calls keep.
+use Rattle.std.specs.Prelude.{◌≡◌, ℕ, List, [], Option, if◌then◌else◌}
+use Rattle.std.specs.Borrow.{GName}
+use Rattle.std.specs.Iterator.{Yields, YieldsFirst}
+use Rattle.rc_text.specs.Found.{Found}
+use Rattle.rc_text.specs.Text.{Searched}
+use Rattle.rc_text.specs.declared.cursor.Cursor.{Ghosts}
+use Rattle.rc_program.specs.Matches.{matches_left}
+use Rattle.rc_program.specs.Sought.{search_for}
+use Rattle.rc_vm.specs.Views.{sought}
+use Rattle.rc_vm.specs.declared.vm.PikeVM.{PikeVM}
+use Rattle.rc_vm.specs.declared.iterators.FindMatches.{FindMatches}
+
+-- the matches in an input from its span's start on, where the match before ended at `last`
+abbrev pub matches_in : PikeVM → Searched → Option ℕ → List Found
+matches_in vm i last = matches_left (search_for (sought vm) i) i.span.start last
+
+module _ {C : Type 0} {cursor : Ghosts C} where
+  -- the matches that are left
+  abbrev pub find_left : FindMatches C cursor → List Found
+  find_left s = if s.is_done then [] else matches_in s.vm.now s.input s.last
+
+  -- whose matches they are
+  abbrev pub find_vm : FindMatches C cursor → PikeVM
+  find_vm s = s.vm.now
+
+  -- the ghost name of the reference to the cache
+  abbrev pub find_lender : FindMatches C cursor → GName
+  find_lender s = s.cache.ghost_name
+
+  -- old and new search for the same, and borrow the same cache
+  abbrev pub FindKeeps : FindMatches C cursor → FindMatches C cursor → Type 0
+  FindKeeps old new = (find_vm new ≡ find_vm old) × (find_lender new ≡ find_lender old)
+
+  -- `next` took old to new, and gave the first of the matches left
+  abbrev pub FindSteps : FindMatches C cursor → Option Found → FindMatches C cursor → Type 0
+  FindSteps old item new = YieldsFirst find_left old item new × FindKeeps old new
+
+  -- each state that calls of `next` lead to keeps what the first keeps
+  abbrev pub FindKeepsAlong : FindMatches C cursor → Type 0
+  FindKeepsAlong first = (items : List Found) (later : FindMatches C cursor) → Yields FindSteps first items later → FindKeeps first later
