@@ -1,16 +1,20 @@
 //! Worked rows.
+ghost use Rattle.rc_vm.specs.Caches.{IsCacheFor};
+ghost use Rattle.rc_vm.specs.Views.{sought};
+
 use crate::builder::Builder;
 use crate::cache::Cache;
 use crate::config::Config;
-use crate::search::{is_match, search, search_slots};
+use crate::search::{find_iter, is_match, search, search_slots};
 use crate::thompson;
 use crate::vm::PikeVM;
 use rc_build::error::BuildError;
 use rc_build::which::WhichCaptures;
 use rc_captures::captures::Captures;
 use rc_text::chunks::ChunkCursor;
+use rc_text::cursor::Cursor;
 use rc_text::input::Input;
-use rc_text::types::{MatchKind, PatternID, Span};
+use rc_text::types::{Match, MatchKind, PatternID, Span};
 use std::alloc::{AllocError, Global};
 use std::test::Fail;
 
@@ -26,6 +30,28 @@ fn cut(alloc: Global, text: &[u8]) -> Result<Vec<&[u8]>, AllocError> {
 fn ends(span: Option<Span>) -> Option<(usize, usize)> {
     let span = span?;
     Some((span.start, span.end))
+}
+
+fn parts(found: Option<Match>) -> Option<(usize, usize)> {
+    let found = found?;
+    Some((found.start(), found.end()))
+}
+
+/// Where all matches start and end.
+fn all<C: Cursor + Drop>(
+    alloc: Global,
+    vm: &PikeVM,
+    cache: &mut Cache,
+    input: Input<C>,
+) -> Result<Vec<(usize, usize)>, AllocError>
+    requires { IsCacheFor (sought vm.now) cache.old }
+    ensures { IsCacheFor (sought vm.now) cache.new }
+{
+    let mut spans = Vec::new(alloc);
+    for found in find_iter(vm, cache, input) {
+        spans.push((found.start(), found.end()))?;
+    }
+    Ok(spans)
 }
 
 /// The limit that a build passed.
@@ -148,5 +174,68 @@ fn refusals(rt: HostRuntime) -> Result<(), Fail> {
     builder.thompson(thompson::Config::new().nfa_size_limit(None));
     assert!(rt; builder.build(alloc, "a").is_ok());
     assert!(rt; PikeVM::new_many(alloc, &["a", "b"]).is_ok());
+    Ok(())
+}
+
+#[test]
+fn lists_matches(rt: HostRuntime) -> Result<(), Fail> {
+    let alloc = rt.alloc();
+    let vm = PikeVM::new(alloc, "abcd")?;
+    let mut cache = vm.create_cache(alloc)?;
+    let chunks = cut(alloc, b"abcdabcd")?;
+    let input = Input::new(ChunkCursor::new(&chunks)?);
+    let found = all(alloc, &vm, &mut cache, input)?;
+    assert!(rt; found.as_slice() == [(0, 4), (4, 8)].as_slice());
+    let vm = PikeVM::new(alloc, "(|a)+")?;
+    cache.reset(&vm)?;
+    let found = all(alloc, &vm, &mut cache, Input::new("aaa"))?;
+    assert!(rt; found.as_slice() == [(0, 0), (1, 1), (2, 2), (3, 3)].as_slice());
+    Ok(())
+}
+
+#[test]
+fn lists_no_match_inside_a_character(rt: HostRuntime) -> Result<(), Fail> {
+    let alloc = rt.alloc();
+    let chunks: [&[u8]; 2] = [b"x\xC3", b"\xA9x"];
+    let vm = PikeVM::new(alloc, "x*")?;
+    let mut cache = vm.create_cache(alloc)?;
+    let input = Input::new(ChunkCursor::new(&chunks)?);
+    let found = all(alloc, &vm, &mut cache, input)?;
+    assert!(rt; found.as_slice() == [(0, 1), (3, 4)].as_slice());
+    let bytes = thompson::Config::new().utf8(false);
+    let vm = Builder::new().thompson(bytes).build(alloc, "x*")?;
+    cache.reset(&vm)?;
+    let input = Input::new(ChunkCursor::new(&chunks)?);
+    let found = all(alloc, &vm, &mut cache, input)?;
+    assert!(rt; found.as_slice() == [(0, 1), (2, 2), (3, 4)].as_slice());
+    Ok(())
+}
+
+#[test]
+fn lends_the_cache_while_it_lists(rt: HostRuntime) -> Result<(), Fail> {
+    let alloc = rt.alloc();
+    let vm = PikeVM::new(alloc, "a|b")?;
+    let mut cache = vm.create_cache(alloc)?;
+    let mut found = find_iter(&vm, &mut cache, Input::new("ab"));
+    assert_eq!(rt; parts(found.next()), Some((0, 1)));
+    drop(found);
+    let mut slots = [None, None];
+    let last = search_slots(&vm, &mut cache, &mut Input::new("xxb"), &mut slots);
+    assert!(rt; last.is_some());
+    assert_eq!(rt; slots, [Some(2), Some(3)]);
+    Ok(())
+}
+
+#[test]
+fn gives_nothing_after_the_end(rt: HostRuntime) -> Result<(), Fail> {
+    let alloc = rt.alloc();
+    let vm = PikeVM::new(alloc, "a")?;
+    let mut cache = vm.create_cache(alloc)?;
+    let mut found = find_iter(&vm, &mut cache, Input::new("a"));
+    assert_eq!(rt; found.vm().states_len(), vm.states_len());
+    assert_eq!(rt; parts(found.next()), Some((0, 1)));
+    assert!(rt; found.next().is_none());
+    assert!(rt; found.next().is_none());
+    assert_eq!(rt; found.input().end(), 1);
     Ok(())
 }
