@@ -8,6 +8,7 @@ mod pass;
 pub mod runnable;
 pub mod search;
 pub mod sparse_set;
+mod spread;
 #[cfg(test)]
 mod tests;
 mod threads;
