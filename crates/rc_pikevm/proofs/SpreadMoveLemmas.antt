@@ -134,8 +134,9 @@ module _ (s : Search) where
           ways_on ((n, to) ∷ []) (runners_of start at frames ++ below) m.0 m.1.on (begin_more start at frames below low)
           (later_waits at rest (items ++ p ∷ []) best o (record { place = n; at = to; start = start; slots = [] }) (runners_of start at frames ++ below) m.2 x)
       moved_on (Save k n) frames below m other low x =
+          let e : frames_of [] (Save k n) ≡ Explore n ∷ [] = rw (le-ltb k 0 (omega arith)) refl in
           ways_on ((n, at) ∷ []) (runners_of start at frames ++ below)
           (ap (λ q. map (pair_at at) (ways_out (λ l. holds s.text l at) (ahead s.text s.hi at) q)) m)
           (ap (is_match_place (only s.anchoring)) m ∙ slot_on (only s.anchoring) k n) (begin_more start at frames below low)
-          (subst (λ fs. Seeks s at rest (items ++ p ∷ []) (runners_of start at (fs ++ frames) ++ below) best o) (rw (le-ltb k 0 (omega arith)) refl)
+          (subst (λ fs. Seeks s at rest (items ++ p ∷ []) (runners_of start at (fs ++ frames) ++ below) best o) e
           (subst (λ r. Seeks s at r (items ++ p ∷ []) (runners_of start at (frames_of [] (Save k n) ++ frames) ++ below) best o) (append-nil rest) x))

@@ -3,6 +3,7 @@
 
 pub mod cache;
 mod closure;
+pub mod greatest;
 mod moves;
 mod pass;
 pub mod runnable;
