@@ -16,3 +16,4 @@ pub mod NearLemmas
 pub mod RunnableLemmas
 pub mod SpreadLemmas
 pub mod SpreadMoveLemmas
+pub mod SpreadStepLemmas
