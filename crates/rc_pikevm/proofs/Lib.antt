@@ -17,3 +17,4 @@ pub mod RunnableLemmas
 pub mod SpreadLemmas
 pub mod SpreadMoveLemmas
 pub mod SpreadStepLemmas
+pub mod SpreadPassLemmas

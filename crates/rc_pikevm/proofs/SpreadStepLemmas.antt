@@ -170,3 +170,10 @@ module _ (s : Search) (n hi at : ℕ) (all : List Thread) (threads0 : ThreadList
             let i = in_at n at (min hi (at + 3)) all index t inside item in
             let e : t.at ≡ at = omega (arith, i.1, now) in
             subst (λ q. Seeks s at threads.items entered.items ((t.start, (t.place, q)) ∷ (map running (drop (index + 1) all) ++ below)) best o) (sym e) x
+
+-- none are left
+pub spreading_over : (ts : List Thread) (k : ℕ) → length ts ≤ k → drop k ts ≡ []
+spreading_over [] zero h = refl
+spreading_over [] (suc k) h = refl
+spreading_over (t ∷ ts) zero h = absurd (omega (arith, h))
+spreading_over (t ∷ ts) (suc k) h = spreading_over ts k (omega (arith, h))

@@ -4,6 +4,7 @@
 pub mod cache;
 mod closure;
 pub mod greatest;
+pub mod kinds;
 mod moves;
 mod pass;
 pub mod runnable;
