@@ -82,13 +82,17 @@ module _ (s : Search) where
       ⊎_elim
       (λ i. let u = from_last n h.is_walk i in
       let k : Found = record { pattern = m.pattern; start = c; end = m.end } in
-      inr (k, record {
-        start = refl;
-        walk = u.0;
-        is_walk = u.1;
-        pattern = ap (λ (q : Pair). place_at s.places q.0) u.2 ∙ h.pattern;
-        position = ap (λ (q : Pair). q.1) u.2 ∙ h.position;
-      }, inr (refl, ⊎_elim (λ l. inl l) (λ ge. inr (omega (arith, ge, low, h.start), omega arith)) (cases_lt c m.start))))
+      inr (
+        k,
+        record {
+          start = refl;
+          walk = u.0;
+          is_walk = u.1;
+          pattern = ap (λ (q : Pair). place_at s.places q.0) u.2 ∙ h.pattern;
+          position = ap (λ (q : Pair). q.1) u.2 ∙ h.position;
+        },
+        inr (refl, ⊎_elim (λ l. inl l) (λ ge. inr (omega (arith, ge, low, h.start), omega arith)) (cases_lt c m.start)),
+      ))
       (λ no. inl (record {
         start = h.start;
         walk = h.walk;
@@ -271,9 +275,13 @@ module _ (s : Search) where
         (λ a. ⊎_elim (λ x. inl x) (λ x. ⊎_elim (λ y. inr (inl (inl (respelled [] v r m (past at v r low later).back y)))) (λ never. absurd never) x)
         (some_parts [] rs (r ∷ []) m a))
         (λ b. inr (⊎_elim (λ x. inl (inr x)) (λ x. inr x) b)) h;
-    enough = λ m h. (m, ⊎_elim (λ a. inl (some_left [] rs (r ∷ []) m a)) (λ b. ⊎_elim
-        (λ x. ⊎_elim (λ y. inl (some_right [] rs (r ∷ []) m (inl (respelled v [] r m (past at v r low later).there y)))) (λ y. inr (inl y)) x)
-        (λ x. inr (inr x)) b) h, no_greater_self m);
+    enough = λ m h. (
+      m,
+      ⊎_elim (λ a. inl (some_left [] rs (r ∷ []) m a)) (λ b. ⊎_elim
+          (λ x. ⊎_elim (λ y. inl (some_right [] rs (r ∷ []) m (inl (respelled v [] r m (past at v r low later).there y)))) (λ y. inr (inl y)) x)
+          (λ x. inr (inr x)) b) h,
+      no_greater_self m,
+    );
   }
 
   -- the runners enter later positions
@@ -297,6 +305,10 @@ module _ (s : Search) where
   turns_narrow E at rs v ts low all = record {
     fewer = λ m h. ⊎_elim (λ never. absurd never) (λ b. ⊎_elim
         (λ x. ⊎_elim (λ y. inl y) (λ y. inr (inl (later_back at v ts m low all y))) (some_parts [] rs ts m x)) (λ x. inr (inr x)) b) h;
-    enough = λ m h. (m, ⊎_elim (λ a. inr (inl (some_left [] rs ts m a))) (λ b. ⊎_elim
-        (λ x. inr (inl (some_right [] rs ts m (later_there at v ts m low all x)))) (λ x. inr (inr x)) b) h, no_greater_self m);
+    enough = λ m h. (
+      m,
+      ⊎_elim (λ a. inr (inl (some_left [] rs ts m a))) (λ b. ⊎_elim
+          (λ x. inr (inl (some_right [] rs ts m (later_there at v ts m low all x)))) (λ x. inr (inr x)) b) h,
+      no_greater_self m,
+    );
   }

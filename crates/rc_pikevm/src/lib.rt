@@ -4,6 +4,8 @@
 pub mod cache;
 mod closure;
 pub mod greatest;
+#[cfg(test)]
+mod kind_tests;
 pub mod kinds;
 mod moves;
 mod pass;
