@@ -14,3 +14,7 @@ pub mod NotedLemmas
 pub mod SearchLemmas
 pub mod NearLemmas
 pub mod RunnableLemmas
+pub mod SpreadLemmas
+pub mod SpreadMoveLemmas
+pub mod SpreadStepLemmas
+pub mod SpreadPassLemmas

@@ -44,7 +44,7 @@ waits_saved start at k n slots frames =
     (cases_lt k (length slots))
 
 -- no walk ends at a slot
-slot_on : (pattern : Option ℕ) (k n : ℕ) → is_match_place pattern (slot k n) ≡ false
+pub slot_on : (pattern : Option ℕ) (k n : ℕ) → is_match_place pattern (slot k n) ≡ false
 slot_on None k n = refl
 slot_on (Some p) k n = refl
 

@@ -8,3 +8,5 @@ pub mod Caches
 pub mod Windows
 pub mod Near
 pub mod Runnable
+pub mod Spread
+pub mod KindSlots

@@ -37,7 +37,7 @@ fn save(slot: usize, at: usize, stack: &mut Vec<Frame>, slots: &mut [Option<usiz
 
 /// Makes a move that ends no walk: its places go on the stack, the first uppermost, and a thread
 /// that reads goes behind the threads.
-fn follow(
+pub fn follow(
     step: Move,
     at: usize,
     start: usize,
@@ -81,7 +81,7 @@ fn follow(
 }
 
 /// The pattern of which a walk ends by the move.
-fn ended(step: Move) -> Option<usize>
+pub fn ended(step: Move) -> Option<usize>
     ensures { MatchOption result ((p : ℕ) → step ≢ Matches p) (λ p. step ≡ Matches p) }
 {
     match step {

@@ -3,11 +3,16 @@
 
 pub mod cache;
 mod closure;
+pub mod greatest;
+#[cfg(test)]
+mod kind_tests;
+pub mod kinds;
 mod moves;
 mod pass;
 pub mod runnable;
 pub mod search;
 pub mod sparse_set;
+mod spread;
 #[cfg(test)]
 mod tests;
 mod threads;

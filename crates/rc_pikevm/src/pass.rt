@@ -158,7 +158,7 @@ fn empty(slots: &mut [Option<usize>])
 
 /// Where no place was entered and yet threads wait, puts the first one's place into the set: a
 /// position that threads pass within a scalar counts too.
-fn touch(entered: &mut SparseSet, threads: &Threads)
+pub fn touch(entered: &mut SparseSet, threads: &Threads)
     requires inside { (lo hi : ℕ) × AllIn entered.old.capacity lo hi threads.now.items }
     requires few { length entered.old.items ≤ entered.old.capacity }
     ensures capacity { entered.new.capacity ≡ entered.old.capacity }

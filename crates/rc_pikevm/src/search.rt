@@ -21,7 +21,7 @@ use rc_text::types::{Anchored, Match, PatternID, Span};
 use rc_thompson::place::Place;
 
 /// Where a search begins and ends, in bytes; it stands where it begins then.
-fn bounds<C: Cursor>(input: &mut Input<C>) -> (usize, usize)
+pub(crate) fn bounds<C: Cursor>(input: &mut Input<C>) -> (usize, usize)
     ensures keeps { Keeps input.old input.new }
     ensures low { result.0 ≡ low input.old }
     ensures high { result.1 ≡ high input.old }
@@ -34,7 +34,7 @@ fn bounds<C: Cursor>(input: &mut Input<C>) -> (usize, usize)
 }
 
 /// The pattern of which walks alone count, and the last start, of a search from `lo` to `hi`.
-fn starts_of(anchored: Anchored, lo: usize, hi: usize) -> (Option<usize>, usize)
+pub(crate) fn starts_of(anchored: Anchored, lo: usize, hi: usize) -> (Option<usize>, usize)
     ensures pattern { result.0 ≡ only (anchoring_of anchored) }
     ensures last { result.1 ≡ (if is_anchored (anchoring_of anchored) then lo else hi) }
 {
@@ -58,7 +58,7 @@ fn make_row(row: &mut Vec<Option<usize>>, width: usize)
 }
 
 /// Puts the whole match into its two slots, as far as these are there.
-fn put_match(end: Ending, slots: &mut [Option<usize>])
+pub(crate) fn put_match(end: Ending, slots: &mut [Option<usize>])
     requires { end.pattern ≤ 2147483646 }
     ensures { slots.new ≡ slice_set (slice_set slots.old (2 * end.pattern) (Some end.start)) (2 * end.pattern + 1) (Some end.end) }
 {
