@@ -1,3 +1,4 @@
+pub mod Guards
 pub mod Literals
 pub mod Needles
 pub mod Prefilters

@@ -60,16 +60,23 @@ fn needle_at<C: Cursor>(input: &mut Input<C>, table: &Table, at: usize, end: usi
     None
 }
 
-/// The least start at which a needle stands, and the first of the needles there, within the bounds.
+/// The least start from `from` on at which a needle stands, wholly at or below `end`, and the first
+/// of the needles there, in bytes.
 ///
 /// It reads on the uncut bytes, wherever the input stood before, takes no memory and copies nothing.
-pub fn find<C: Cursor>(input: &mut Input<C>, prefilter: &Prefilter) -> Option<Hit>
+/// The input's bounds are not read.
+pub fn find_from<C: Cursor>(
+    input: &mut Input<C>,
+    prefilter: &Prefilter,
+    from: usize,
+    end: usize,
+) -> Option<Hit>
+    requires inside { end ≤ length input.old.content }
     ensures keeps { Keeps input.old input.new }
-    ensures value { result ≡ find_needle (needles_of prefilter.now) input.old.content (low input.old) (high input.old) }
-    ensures within { IfSome result (λ hit. (low input.old ≤ hit.start) × (hit.start < hit.end) × (hit.end ≤ high input.old)) }
+    ensures value { result ≡ find_needle (needles_of prefilter.now) input.old.content from end }
+    ensures within { IfSome result (λ hit. (from ≤ hit.start) × (hit.start < hit.end) × (hit.end ≤ end)) }
 {
-    let end = high(input);
-    let mut at = low(input);
+    let mut at = from;
     while at < end {
         let piece = piece_from(input, at, end);
         let len = piece.len();
@@ -83,6 +90,19 @@ pub fn find<C: Cursor>(input: &mut Input<C>, prefilter: &Prefilter) -> Option<Hi
         }
     }
     None
+}
+
+/// The least start at which a needle stands, and the first of the needles there, within the bounds.
+///
+/// It reads on the uncut bytes, wherever the input stood before, takes no memory and copies nothing.
+pub fn find<C: Cursor>(input: &mut Input<C>, prefilter: &Prefilter) -> Option<Hit>
+    ensures keeps { Keeps input.old input.new }
+    ensures value { result ≡ find_needle (needles_of prefilter.now) input.old.content (low input.old) (high input.old) }
+    ensures within { IfSome result (λ hit. (low input.old ≤ hit.start) × (hit.start < hit.end) × (hit.end ≤ high input.old)) }
+{
+    let end = high(input);
+    let from = low(input);
+    find_from(input, prefilter, from, end)
 }
 
 /// The first of the needles that stands where the bounds begin.

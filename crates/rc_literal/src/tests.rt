@@ -1,11 +1,11 @@
 //! Worked rows.
 use crate::exact::exact_literals;
-use crate::literal::{find, prefix, search};
+use crate::literal::{find, find_from, prefix, search};
 use crate::prefilter::{Prefilter, copy_of, from_needles};
 use rc_pattern::hir::Hir;
 use rc_text::chunks::ChunkCursor;
 use rc_text::cursor::Cursor;
-use rc_text::input::Input;
+use rc_text::input::{Input, high};
 use rc_text::types::{Anchored, MatchKind, PatternID};
 use std::alloc::{AllocError, Global};
 use std::test::Fail;
@@ -121,6 +121,43 @@ fn a_needle_within_the_bounds(rt: HostRuntime) -> Result<(), Fail> {
     assert_eq!(rt; found(&mut input, &prefilter), Some((2, 4, 0)));
     input.set_range(3, 2);
     assert_eq!(rt; found(&mut input, &prefilter), None);
+    Ok(())
+}
+
+/// Where the first needle from `from` on starts.
+fn start_from<C: Cursor>(
+    input: &mut Input<C>,
+    prefilter: &Prefilter,
+    from: usize,
+) -> Option<usize> {
+    let end = high(input);
+    let hit = find_from(input, prefilter, from, end)?;
+    Some(hit.start)
+}
+
+#[test]
+fn a_needle_from_a_position_on(rt: HostRuntime) -> Result<(), Fail> {
+    let prefilter = of(rt.alloc(), &[b"ab".as_slice()])?;
+    let chunks = bytewise(rt.alloc(), b"xabxab")?;
+    let mut input = Input::new(ChunkCursor::new(&chunks)?);
+    let starts = [
+        (0, Some(1)),
+        (1, Some(1)),
+        (2, Some(4)),
+        (5, None),
+        (7, None),
+    ];
+    for (from, start) in starts {
+        assert_eq!(rt;
+            start_from(&mut input, &prefilter, from),
+            start,
+            "from {from}"
+        );
+    }
+    input.set_range(3, 5);
+    assert_eq!(rt; start_from(&mut input, &prefilter, 1), Some(1));
+    assert_eq!(rt; start_from(&mut input, &prefilter, 2), None);
+    assert_eq!(rt; (input.start(), input.end()), (3, 5));
     Ok(())
 }
 

@@ -1,5 +1,5 @@
 -- A search is that of an input whose shown chunk and position alone have changed.
-use Rattle.std.proofs.Common.{◌≡◌, ℕ, ◌+◌, List, refl, sym, ◌∙◌, arith, inl, inr, ⊎_elim}
+use Rattle.std.proofs.Common.{◌≡◌, ℕ, ◌+◌, ◌≤◌, List, refl, sym, ◌∙◌, arith, inl, inr, ⊎_elim}
 use Rattle.rc_text.specs.Text.{Searched, Keeps}
 use Rattle.rc_thompson.specs.declared.place.Place as code
 use Rattle.rc_pikevm.specs.Moves.{seen}
@@ -43,3 +43,6 @@ kept_around a b at w k x = record { above = x.above; four = rw (k.slice, k.conte
 
 pub begun_later : (s : Searched) (at : ℕ) (w : Window) → IsBegun s at w → IsBegun s (at + 1) w
 begun_later s at w x = record { below = omega (arith, x.below); four = ⊎_elim (λ e. inl e) (λ l. inr (omega (arith, l))) x.four }
+
+pub begun_from : (s : Searched) (at x : ℕ) (w : Window) → at ≤ x → IsBegun s at w → IsBegun s x w
+begun_from s at x w low b = record { below = omega (arith, low, b.below); four = ⊎_elim (λ e. inl e) (λ l. inr (omega (arith, l, low))) b.four }

@@ -1,14 +1,14 @@
 -- The pass over all positions.
-use Rattle.std.proofs.Common.{◌≡◌, ℕ, suc, ◌+◌, ◌-◌, ◌*◌, ◌^◌, ◌<◌, ◌≤◌, ◌⊎◌, List, [], ◌∷◌, ◌++◌, length, map, min, ⊎_elim, sym, subst, ap, refl, arith, true, false, Option, None, is_none}
+use Rattle.std.proofs.Common.{◌≡◌, ℕ, suc, ◌+◌, ◌-◌, ◌*◌, ◌^◌, ◌<◌, ◌≤◌, ◌⊎◌, List, [], ◌∷◌, ◌++◌, length, map, min, ⊎_elim, sym, subst, ap, refl, arith, Bool, true, false, true≢false, IsTrue, Option, Some, None, is_none}
 use Rattle.std.proofs.Math.Nat.{mul-le-mul_left, mul-le-mul_right}
 use Rattle.rc_walks.specs.Threads.{IsFirstOf, over}
-use Rattle.rc_program.specs.Answer.{Search, next_of}
+use Rattle.rc_program.specs.Answer.{Search, next_of, HasNoWalkFrom}
 use Rattle.rc_pikevm.specs.Threads.{Thread, ThreadList}
 use Rattle.rc_pikevm.specs.Trace.{Trace, note, starts}
 use Rattle.rc_pikevm.specs.Passing.{pending, Carries, AllIn, IsLined, IsPassing, IsCounted, waiting_starts, Pending, Gives, best_of}
 use Rattle.rc_pikevm.specs.declared.pass.Ending.{Ending}
 use Rattle.rc_pikevm.proofs.MoveLemmas.{Ends}
-use Rattle.rc_pikevm.proofs.StartLemmas.{starts_give, waiting_over}
+use Rattle.rc_pikevm.proofs.StartLemmas.{starts_give, waiting_over, starts_skipped}
 
 none_in : (n lo hi : ℕ) (ts : List Thread) → AllIn n lo hi ts → hi < lo → ts ≡ []
 none_in n lo hi [] all h = refl
@@ -20,6 +20,10 @@ no_threads (t ∷ ts) e = absurd (omega arith)
 
 none_before : (x y : ℕ) → x ≤ y → y < x → ⊥
 none_before x y l h = omega arith
+
+-- a pass at `at` goes on at x: there, or, where it is idle, at a later position, and no start between has a walk
+abbrev pub GoesOn : Search → ℕ → Bool → ℕ → ℕ → Type 0
+GoesOn s hi idle at x = (at ≤ x) × (x ≤ hi) × ((x ≡ at) ⊎ (IsTrue idle × ((y : ℕ) → at ≤ y → y < x → HasNoWalkFrom s y)))
 
 module _ (s : Search) (n hi width from last : ℕ) where
   all_starts : (o : Option Trace) → Carries s from [] [] (starts width from (last + 1 - from)) None o →
@@ -78,6 +82,62 @@ module _ (s : Search) (n hi width from last : ℕ) where
   passing_stops at insertions curr best found p none ended =
       passing_done (at + 1) insertions curr best found p none
       (⊎_elim (λ e. ap (λ b. waiting_starts b width (at + 1) last) e) (λ l. waiting_over (is_none best) width (at + 1) last (omega arith)) ended)
+
+  -- what an idle pass carries at a later start, it carries at an earlier one, where no start between them has a walk
+  skips_carries : (at x : ℕ) (curr : ThreadList) (best : Option Ending) (found : List (Option ℕ)) (o : Option Trace) → length curr.items ≡ 0 →
+      is_none best ≡ true → at ≤ x → ((y : ℕ) → at ≤ y → y < x → HasNoWalkFrom s y) → Pending s width last x curr.items best found o →
+      Pending s width last at curr.items best found o
+  skips_carries at x curr (Some r) found o none unmatched low no_walk p = absurd (true≢false (sym unmatched))
+  skips_carries at x curr None found o none unmatched low no_walk p =
+      let e : at + (x - at) ≡ x = omega (arith, low) in
+      subst (λ ts. Carries s at [] [] (map pending ts ++ waiting_starts true width at last) None o) (sym (no_threads curr.items none))
+      (over (starts_skipped s width last None (x - at) at o (λ y a b. no_walk y a (omega (arith, b, low)))
+      (subst (λ z. IsFirstOf (next_of s) (Ends s) Trace (note s.places) [] (λ q. q ≡ None) (waiting_starts true width z last) o) (sym e)
+      (waits_alone x o (subst (λ ts. Carries s x [] [] (map pending ts ++ waiting_starts true width x last) None o) (no_threads curr.items none) p)))))
+    where
+      waits_alone : (z : ℕ) (o : Option Trace) → Carries s z [] [] (waiting_starts true width z last) None o →
+          IsFirstOf (next_of s) (Ends s) Trace (note s.places) [] (λ q. q ≡ None) (waiting_starts true width z last) o
+      waits_alone z o (over y) = y
+
+  -- an idle pass goes on at a later position, where no start between has a walk
+  pub passing_skips : (at x insertions : ℕ) (curr : ThreadList) (best : Option Ending) (found : List (Option ℕ)) →
+      IsPassing s n hi width from last at insertions curr best found → length curr.items ≡ 0 → is_none best ≡ true → at ≤ x → x ≤ hi →
+      ((y : ℕ) → at ≤ y → y < x → HasNoWalkFrom s y) → IsPassing s n hi width from last x insertions curr best found
+  passing_skips at x insertions curr best found p none unmatched low high no_walk =
+      let no_items = no_threads curr.items none in
+      record {
+        carries = λ o y. p.carries o (skips_carries at x curr best found o none unmatched low no_walk y);
+        lined = record {
+          inside = rw no_items tt;
+          width_is = p.lined.width_is;
+          room = p.lined.room;
+          counts = λ k h. rw no_items (let m = mul-le-mul_right n h in omega (arith, m));
+          begun = rw no_items tt;
+        };
+        ended = p.ended;
+        few = let m : n * (at - from) ≤ n * (x - from) = mul-le-mul_left n (omega (arith, low)) in omega (arith, m, p.few);
+        reached = omega (arith, low, p.reached);
+        within = omega (arith, high);
+      }
+
+  pub passing_goes_on : (at x insertions : ℕ) (idle : Bool) (curr : ThreadList) (best : Option Ending) (found : List (Option ℕ)) →
+      IsPassing s n hi width from last at insertions curr best found → (IsTrue idle → (length curr.items ≡ 0) × (is_none best ≡ true)) →
+      GoesOn s hi idle at x → IsPassing s n hi width from last x insertions curr best found
+  passing_goes_on at x insertions idle curr best found p alone on =
+      ⊎_elim (λ e. subst (λ z. IsPassing s n hi width from last z insertions curr best found) (sym e) p)
+      (λ skips. passing_skips at x insertions curr best found p (alone skips.0).0 (alone skips.0).1 on.0 on.1 skips.1) on.2
+
+  -- the pass is idle, and no start is left that has a walk
+  pub passing_gives_up : (at insertions : ℕ) (curr : ThreadList) (best : Option Ending) (found : List (Option ℕ)) →
+      IsPassing s n hi width from last at insertions curr best found → length curr.items ≡ 0 → is_none best ≡ true → at ≤ hi → last ≤ hi →
+      ((y : ℕ) → at ≤ y → y ≤ hi → HasNoWalkFrom s y) → Gives s width from last None
+  passing_gives_up at insertions curr (Some r) found p none unmatched within high no_walk = absurd (true≢false (sym unmatched))
+  passing_gives_up at insertions curr None found p none unmatched within high no_walk =
+      p.carries None
+      (skips_carries at (hi + 1) curr None found None none unmatched (omega (arith, within)) (λ y a b. no_walk y a (omega (arith, b)))
+      (subst (λ ts. Carries s (hi + 1) [] [] (map pending ts ++ waiting_starts true width (hi + 1) last) None None)
+      (sym (no_threads curr.items none))
+      (subst (λ ws. Carries s (hi + 1) [] [] ws None None) (sym (waiting_over true width (hi + 1) last (omega (arith, high)))) (over (over refl)))))
 
   -- all positions are done
   pub passing_ends : (at insertions : ℕ) (curr : ThreadList) (best : Option Ending) (found : List (Option ℕ)) →

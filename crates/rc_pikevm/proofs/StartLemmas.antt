@@ -1,7 +1,7 @@
 -- The starts that are still to come.
-use Rattle.std.proofs.Common.{◌≡◌, ℕ, zero, suc, ◌+◌, ◌-◌, ◌<◌, ◌≤◌, [], ◌∷◌, inl, inr, ⊎_elim, subst, ap, refl, arith, Bool, true, false, Option, None}
+use Rattle.std.proofs.Common.{◌≡◌, ℕ, zero, suc, ◌+◌, ◌-◌, ◌<◌, ◌≤◌, [], ◌∷◌, inl, inr, ⊎_elim, subst, sym, ap, ◌∙◌, refl, arith, Bool, true, false, Option, None}
 use Rattle.std.proofs.lemmas.Bool.{cases_lt}
-use Rattle.rc_walks.specs.Threads.{IsFirstOf, AllPast}
+use Rattle.rc_walks.specs.Threads.{IsFirstOf, AllPast, passes}
 use Rattle.rc_walks.proofs.ThreadLemmas.{of_none, of_one}
 use Rattle.rc_program.specs.Answer.{Search, next_of, HasNoWalkFrom}
 use Rattle.rc_pikevm.specs.Trace.{Trace, note, starts, sets_out}
@@ -41,3 +41,24 @@ module _ (s : Search) (width from : ℕ) where
       (λ y l h. ⊎_elim (λ b. none y l b)
       (λ ge. let e : x ≡ y = omega arith in subst (λ z. HasNoWalkFrom s z) e f.0) (cases_lt y x)) f.1)
       (of_one (next_of s) (Ends s) Trace (note s.places) p)
+
+module _ (s : Search) (width last : ℕ) (best : Option Trace) where
+  -- starts without a walk decide nothing
+  pub starts_skipped : (count at : ℕ) (o : Option Trace) → ((y : ℕ) → at ≤ y → y < at + count → HasNoWalkFrom s y) →
+      IsFirstOf (next_of s) (Ends s) Trace (note s.places) [] (λ q. q ≡ best) (waiting_starts true width (at + count) last) o →
+      IsFirstOf (next_of s) (Ends s) Trace (note s.places) [] (λ q. q ≡ best) (waiting_starts true width at last) o
+  starts_skipped zero at o none p =
+      let e : at + 0 ≡ at = omega arith in
+      subst (λ x. IsFirstOf (next_of s) (Ends s) Trace (note s.places) [] (λ q. q ≡ best) (waiting_starts true width x last) o) e p
+  starts_skipped (suc count) at o none p =
+      let e : at + suc count ≡ at + 1 + count = omega arith in
+      let rest = starts_skipped count (at + 1) o (λ y a b. none y (omega (arith, a)) (omega (arith, b)))
+      (subst (λ x. IsFirstOf (next_of s) (Ends s) Trace (note s.places) [] (λ q. q ≡ best) (waiting_starts true width x last) o) e p) in
+      ⊎_elim
+      (λ past. let left : waiting_starts true width (at + 1) last ≡ waiting_starts true width at last =
+      waiting_over true width (at + 1) last (omega (arith, past)) ∙ sym (waiting_over true width at last past) in
+      subst (λ ts. IsFirstOf (next_of s) (Ends s) Trace (note s.places) [] (λ q. q ≡ best) ts o) left rest)
+      (λ le. subst (λ ts. IsFirstOf (next_of s) (Ends s) Trace (note s.places) [] (λ q. q ≡ best) ts o)
+      (sym (waiting_next true width at last refl le))
+      (passes (sets_out width at) (none at (omega arith) (omega arith)) rest))
+      (cases_lt last at)

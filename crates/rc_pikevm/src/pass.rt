@@ -1,7 +1,11 @@
 //! One ordered pass over a text.
 ghost use Rattle.std.specs.Prelude.{◌≡◌, ℕ, ◌+◌, ◌-◌, ◌*◌, ◌<◌, ◌≤◌, ◌⊎◌, ⊤, List, [], ◌∷◌, ◌++◌, length, map, min, vec_len, vec_capacity, Option, None, Some, MatchOption, Bool, true, false, replicate, ◌^◌, IsTrue, is_none};
 ghost use Rattle.rc_walks.specs.Walks.{Pair};
-ghost use Rattle.rc_text.specs.Text.{Searched, Keeps, low};
+ghost use Rattle.rc_text.specs.Text.{Searched, Keeps, low, high};
+ghost use Rattle.rc_program.specs.Answer.{HasNoWalkFrom};
+ghost use Rattle.rc_literal.specs.Guards.{Guards};
+ghost use Rattle.rc_literal.specs.Prefilters.{needles_of};
+ghost use Rattle.rc_thompson.specs.Places.{places_of};
 ghost use Rattle.rc_pikevm.specs.Near.{IsNear};
 ghost use Rattle.rc_pikevm.specs.Moves.{IsSetting, seen};
 ghost use Rattle.rc_pikevm.specs.Trace.{Trace, done};
@@ -11,6 +15,8 @@ use crate::closure::{Frame, close};
 use crate::sparse_set::SparseSet;
 use crate::threads::Threads;
 use crate::window::{open, reach};
+use rc_literal::literal::find_from;
+use rc_literal::prefilter::Prefilter;
 use rc_text::cursor::Cursor;
 use rc_text::input::Input;
 use rc_thompson::place::Place;
@@ -256,16 +262,57 @@ fn is_done(curr: &Threads, best: Option<Ending>, at: usize, last: usize) -> bool
     at >= last
 }
 
+/// Whether no thread is left to go on, and no walk has ended.
+fn is_idle(curr: &Threads, best: Option<Ending>) -> bool
+    ensures { IsTrue result → (length curr.now.items ≡ 0) × (is_none best ≡ true) }
+{
+    curr.len() == 0 && best.is_none()
+}
+
+/// Where a pass goes on that has come to `at`: there, or, where it is idle and `last` is not yet
+/// reached, at the next position where a needle stands. None where it is idle and no needle stands
+/// from `at` on.
+fn next_position<C: Cursor>(
+    input: &mut Input<C>,
+    prefilter: Option<&Prefilter>,
+    hi: usize,
+    at: usize,
+    last: usize,
+    idle: bool,
+) -> Option<usize>
+    requires inside { (at ≤ hi) × (hi ≡ high input.old) }
+    ensures keeps { Keeps input.old input.new }
+    ensures next { (program : List Place) (line : ℕ)
+        → MatchOption prefilter.entry ⊤ (λ p. Guards (places_of program) line (needles_of p.now))
+        → MatchOption result
+        (IsTrue idle × ((y : ℕ) → at ≤ y → y ≤ hi → HasNoWalkFrom (seen program line input.old) y))
+        (λ x. (at ≤ x) × (x ≤ hi) × ((x ≡ at)
+        ⊎ (IsTrue idle × ((y : ℕ) → at ≤ y → y < x → HasNoWalkFrom (seen program line input.old) y)))) }
+{
+    if !idle || at >= last {
+        return Some(at);
+    }
+    let Some(needles) = prefilter else {
+        return Some(at);
+    };
+    let Some(hit) = find_from(input, needles, at, hi) else {
+        return None;
+    };
+    Some(hit.start)
+}
+
 /// One pass over the positions `from..=hi`: of the starts `from..=last` the least that has a walk,
 /// and its first walk, with its slots in `found`. In each of the three lists of slots there are as
 /// many; without a match, `found` is left as it was.
 ///
 /// Where `pattern` is Some, that pattern's walks alone count. A place is entered once at a position,
-/// and `insertions` says how many were.
+/// and `insertions` says how many were. With a prefilter, starts at which no needle stands are left
+/// out, as far as no thread is alive there.
 pub fn pass<C: Cursor>(
     input: &mut Input<C>,
     places: &[Place],
     terminator: u8,
+    prefilter: Option<&Prefilter>,
     hi: usize,
     pattern: Option<usize>,
     from: usize,
@@ -281,6 +328,7 @@ pub fn pass<C: Cursor>(
     ghost text: { Searched }
     requires same { Keeps text input.old }
     requires setting { IsSetting places.now hi pattern text }
+    requires guarded { MatchOption prefilter ⊤ (λ p. Guards (places_of places.now) terminator (needles_of p.now)) }
     requires bounds { (low text ≤ from) × (from ≤ last) × (last ≤ hi) }
     requires below { hi + 1 < 2 ^ 64 }
     requires rooms { (curr.old.room ≡ 4 * length places.now) × (next.old.room ≡ 4 * length places.now) }
@@ -301,7 +349,13 @@ pub fn pass<C: Cursor>(
     *insertions = 0;
     curr.clear(slots.len());
     let mut window = open(input, from);
-    'positions: for at in from..hi + 1 {
+    let mut at = from;
+    'positions: while at <= hi {
+        let idle = is_idle(curr, best);
+        let Some(next_at) = next_position(input, prefilter, hi, at, last, idle) else {
+            return None;
+        };
+        at = next_at;
         reach(&mut window, input, at);
         let place = at - window.start;
         let before = &window.bytes[..place];
@@ -314,6 +368,7 @@ pub fn pass<C: Cursor>(
         if is_done(curr, best, at, last) {
             return best;
         }
+        at += 1;
     }
     best
 }

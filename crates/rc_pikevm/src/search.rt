@@ -5,6 +5,8 @@ ghost use Rattle.rc_text.specs.Found.{Found};
 ghost use Rattle.rc_text.specs.Text.{Keeps, low, high};
 ghost use Rattle.rc_program.specs.Answer.{only, is_anchored, answer, groups};
 ghost use Rattle.rc_program.specs.Sought.{anchoring_of, search_over, IsRunnable};
+ghost use Rattle.rc_literal.specs.Guards.{Guards};
+ghost use Rattle.rc_literal.specs.Prefilters.{needles_of};
 ghost use Rattle.rc_thompson.specs.Places.{places_of};
 ghost use Rattle.rc_pikevm.specs.Passing.{IsCounted};
 ghost use Rattle.rc_pikevm.specs.Found.{IsResult};
@@ -15,6 +17,7 @@ use crate::closure::Frame;
 use crate::pass::{Ending, pass};
 use crate::sparse_set::SparseSet;
 use crate::threads::Threads;
+use rc_literal::prefilter::Prefilter;
 use rc_text::cursor::Cursor;
 use rc_text::input::{Input, high, is_boundary_at, low, move_to};
 use rc_text::types::{Anchored, Match, PatternID, Span};
@@ -78,6 +81,7 @@ fn choose<C: Cursor>(
     places: &[Place],
     terminator: u8,
     passes_over: bool,
+    prefilter: Option<&Prefilter>,
     curr: &mut Threads,
     next: &mut Threads,
     entered: &mut SparseSet,
@@ -87,6 +91,7 @@ fn choose<C: Cursor>(
     insertions: &mut u128,
 ) -> Option<Ending>
     requires runnable { IsRunnable (places_of places.now) }
+    requires guarded { MatchOption prefilter ⊤ (λ p. Guards (places_of places.now) terminator (needles_of p.now)) }
     requires rooms { (curr.old.room ≡ 4 * length places.now) × (next.old.room ≡ 4 * length places.now) }
     requires most { (curr.old.most ≡ next.old.most) × (length slots.old ≤ curr.old.most) }
     requires capacity { entered.old.capacity ≡ length places.now }
@@ -111,7 +116,7 @@ fn choose<C: Cursor>(
     let mut from = lo;
     'starts: while from <= last {
         let Some(end) = pass(
-            input, places, terminator, hi, pattern, from, last, curr, next, entered, stack, slots,
+            input, places, terminator, prefilter, hi, pattern, from, last, curr, next, entered, stack, slots,
             found, insertions,
         ) else {
             return None;
@@ -134,9 +139,11 @@ fn choose_in<C: Cursor>(
     places: &[Place],
     terminator: u8,
     passes_over: bool,
+    prefilter: Option<&Prefilter>,
     slots: &mut [Option<usize>],
 ) -> Option<Ending>
     requires runnable { IsRunnable (places_of places.now) }
+    requires guarded { MatchOption prefilter ⊤ (λ p. Guards (places_of places.now) terminator (needles_of p.now)) }
     requires made { IsCacheFor (length places.now) (length slots.old) cache.old }
     ensures keeps { Keeps input.old input.new }
     ensures chosen { IsResult (search_over (places_of places.now) terminator passes_over input.old) result slots.new }
@@ -153,6 +160,7 @@ fn choose_in<C: Cursor>(
         places,
         terminator,
         passes_over,
+        prefilter,
         &mut cache.curr,
         &mut cache.next,
         &mut cache.entered,
@@ -169,7 +177,8 @@ fn choose_in<C: Cursor>(
 
 /// The pattern that a search of the input finds, with the first of its slots, as many as are handed
 /// in. Without a match the slots stay. The earliest flag is not read. `passes_over` says whether
-/// matches that end off a boundary are passed over.
+/// matches that end off a boundary are passed over. With a prefilter, the search goes from needle to
+/// needle where no walk is under way.
 ///
 /// The cache has to be made for programs of as many places, and searches with as many slots or
 /// more; it stays so. No memory is taken.
@@ -179,9 +188,11 @@ pub fn search_slots<C: Cursor>(
     places: &[Place],
     terminator: u8,
     passes_over: bool,
+    prefilter: Option<&Prefilter>,
     slots: &mut [Option<usize>],
 ) -> Option<PatternID>
     requires runnable { IsRunnable (places_of places.now) }
+    requires guarded { MatchOption prefilter ⊤ (λ p. Guards (places_of places.now) terminator (needles_of p.now)) }
     requires made { IsCacheFor (length places.now) (length slots.old) cache.old }
     ensures keeps { Keeps input.old input.new }
     ensures pattern { result ≡ option_map (λ (m : Found). m.pattern) (answer (search_over (places_of places.now) terminator passes_over input.old)) }
@@ -195,7 +206,7 @@ pub fn search_slots<C: Cursor>(
     ensures counted { (m : Found) → answer (search_over (places_of places.now) terminator passes_over input.old) ≡ Some m
         → m.end - m.start + 1 ≤ cache.new.insertions }
 {
-    let Some(end) = choose_in(cache, input, places, terminator, passes_over, slots) else {
+    let Some(end) = choose_in(cache, input, places, terminator, passes_over, prefilter, slots) else {
         return None;
     };
     put_match(end, slots);
@@ -206,7 +217,8 @@ pub fn search_slots<C: Cursor>(
 }
 
 /// The match that a search of the input finds. The earliest flag is not read. `passes_over` says
-/// whether matches that end off a boundary are passed over.
+/// whether matches that end off a boundary are passed over. With a prefilter, the search goes from
+/// needle to needle where no walk is under way.
 ///
 /// The cache has to be made for programs of as many places; it stays so. No memory is taken.
 pub fn find<C: Cursor>(
@@ -215,8 +227,10 @@ pub fn find<C: Cursor>(
     places: &[Place],
     terminator: u8,
     passes_over: bool,
+    prefilter: Option<&Prefilter>,
 ) -> Option<Match>
     requires runnable { IsRunnable (places_of places.now) }
+    requires guarded { MatchOption prefilter ⊤ (λ p. Guards (places_of places.now) terminator (needles_of p.now)) }
     requires made { IsCacheFor (length places.now) 0 cache.old }
     ensures keeps { Keeps input.old input.new }
     ensures found { result ≡ answer (search_over (places_of places.now) terminator passes_over input.old) }
@@ -226,7 +240,7 @@ pub fn find<C: Cursor>(
     ensures few { cache.new.insertions ≤ length places.now * (high input.old - low input.old + 2) }
     ensures counted { MatchOption result ⊤ (λ m. m.end - m.start + 1 ≤ cache.new.insertions) }
 {
-    let Some(end) = choose_in(cache, input, places, terminator, passes_over, &mut []) else {
+    let Some(end) = choose_in(cache, input, places, terminator, passes_over, prefilter, &mut []) else {
         return None;
     };
     let Some(pattern) = PatternID::new(end.pattern) else {

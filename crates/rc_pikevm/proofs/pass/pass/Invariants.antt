@@ -1,4 +1,4 @@
-use Rattle.std.proofs.Common.{◌≡◌, ◌+◌, ◌*◌, ◌≤◌, length, vec_len, vec_capacity}
+use Rattle.std.proofs.Common.{◌≡◌, ◌+◌, ◌*◌, ◌-◌, ◌≤◌, length, vec_len, vec_capacity}
 use Rattle.rc_text.specs.Text.{Keeps}
 use Rattle.rc_pikevm.specs.Moves.{seen}
 use Rattle.rc_pikevm.specs.Passing.{IsPassing}
@@ -17,6 +17,9 @@ invariant-positions g l = record {
   stack : (vec_len l.stack ≡ 0) × (length l.places + 1 ≤ vec_capacity l.stack);
   widths : (length l.slots ≡ length l.fn.slots) × (length l.found ≡ length l.fn.slots);
 }
+
+abbrev pub decreases-positions : goal.decreases-positions
+decreases-positions g l = l.hi + 1 - l.at
 
 abbrev pub ghost-turn : goal.ghost-turn
 ghost-turn g a = g.text

@@ -1,25 +1,14 @@
-use Rattle.std.proofs.Common.{arith, ◌≡◌, ◌+◌, ◌<◌, ◌≤◌, ◌∙◌, refl, sym, ap, length, slice_range, Some, None}
-use Rattle.rc_text.specs.Text.{low, high}
+use Rattle.std.proofs.Common.{arith, ◌≡◌, ◌+◌, ◌<◌, ◌∙◌, refl, sym, ap, length, slice_range, Some, None}
 use Rattle.rc_literal.specs.Needles.{needle_at}
 use Rattle.rc_literal.specs.Prefilters.{needles_of}
-use Rattle.rc_literal.proofs.FindLemmas.{same_low, more_passed, one_more_start, first_found, none_found, needle_within, keeps_on, same_at}
-use Rattle.rc_literal.proofs.literal.find.Goals as goal
-
-pub loop-at-init : goal.loop-at-init
-loop-at-init g c =
-    let e : c.low-at.result ≡ low c.args.input.now = c.low-at.ensures ∙ same_low c.args.input.now c.high-end.new.input c.high-end.ensures.keeps in
-    record {
-      keeps = c.high-end.ensures.keeps;
-      from = omega (arith, e);
-      none_before = λ i a b. absurd (omega (arith, e, a, b));
-    }
+use Rattle.rc_literal.proofs.FindLemmas.{more_passed, one_more_start, first_found, none_found, needle_within, keeps_on, same_at}
+use Rattle.rc_literal.proofs.literal.find_from.Goals as goal
 
 pub needle_at-requires-clause-high : goal.needle_at-requires-clause-high
 needle_at-requires-clause-high g c =
-    let e = c.high-end.ensures.value in
     let same = ap length c.loop-at.invariant.keeps.content in
     let more = ap length c.piece_from-piece.follows.holds-at-none.content in
-    omega (arith, e, same, more)
+    omega (arith, c.requires, same, more)
 
 pub returns-in-Some-clause-keeps : goal.returns-in-Some-clause-keeps
 returns-in-Some-clause-keeps g c =
@@ -30,40 +19,40 @@ pub returns-in-Some-clause-value : goal.returns-in-Some-clause-value
 returns-in-Some-clause-value g c =
     let needles = needles_of c.args.prefilter.now in
     let content = c.args.input.now.content in
-    let lo = low c.args.input.now in
-    let hi = high c.args.input.now in
+    let lo = c.args.from in
+    let hi = c.args.end in
     let piece = c.piece_from-piece.result.now in
     let same : c.loop-at.input.content ≡ content = c.loop-at.invariant.keeps.content in
     let is : piece ≡ slice_range content c.loop-at.at (c.loop-at.at + length piece) = rw (← same) c.piece_from-piece.ensures.bytes in
     let x = c.loop-at.at + c.candidate-passed.result in
     let text : c.piece_from-piece.follows.lender-at-none.content ≡ content = c.piece_from-piece.follows.holds-at-none.content ∙ same in
     let here : Some c.in-Some.hit ≡ needle_at needles content hi x = sym c.in-Some.is ∙ c.needle_at.ensures.value
-    ∙ same_at needles c.piece_from-piece.follows.lender-at-none.content content c.high-end.result hi x x text c.high-end.ensures.value refl in
+    ∙ same_at needles c.piece_from-piece.follows.lender-at-none.content content hi hi x x text refl refl in
     first_found needles content lo hi x c.in-Some.hit (omega (arith, c.loop-at.invariant.from))
-    (omega (arith, c.if-passed-len.true, c.piece_from-piece.ensures.within, c.high-end.ensures.value, c.loop-at-test.true))
+    (omega (arith, c.if-passed-len.true, c.piece_from-piece.ensures.within, c.loop-at-test.true))
     (more_passed needles content piece lo hi c.loop-at.at c.candidate-passed.result c.loop-at.invariant.none_before is c.candidate-passed.ensures.passed)
     here
 
 pub returns-in-Some-clause-within : goal.returns-in-Some-clause-within
 returns-in-Some-clause-within g c =
     let needles = needles_of c.args.prefilter.now in
-    let r = needle_within needles c.piece_from-piece.follows.lender-at-none.content c.high-end.result (c.loop-at.at + c.candidate-passed.result) c.in-Some.hit
+    let r = needle_within needles c.piece_from-piece.follows.lender-at-none.content c.args.end (c.loop-at.at + c.candidate-passed.result) c.in-Some.hit
     c.args.prefilter.now.searcher.table.some (sym c.in-Some.is ∙ c.needle_at.ensures.value) in
-    (omega (arith, r.0, c.loop-at.invariant.from), omega (arith, r.0, r.1), omega (arith, r.2, c.high-end.ensures.value))
+    (omega (arith, r.0, c.loop-at.invariant.from), omega (arith, r.0, r.1), r.2)
 
 pub loop-at-preserved-then-passed-len : goal.loop-at-preserved-then-passed-len
 loop-at-preserved-then-passed-len g c =
     let needles = needles_of c.args.prefilter.now in
     let content = c.args.input.now.content in
-    let lo = low c.args.input.now in
-    let hi = high c.args.input.now in
+    let lo = c.args.from in
+    let hi = c.args.end in
     let piece = c.piece_from-piece.result.now in
     let same : c.loop-at.input.content ≡ content = c.loop-at.invariant.keeps.content in
     let is : piece ≡ slice_range content c.loop-at.at (c.loop-at.at + length piece) = rw (← same) c.piece_from-piece.ensures.bytes in
     let x = c.loop-at.at + c.candidate-passed.result in
     let text : c.piece_from-piece.follows.lender-at-none.content ≡ content = c.piece_from-piece.follows.holds-at-none.content ∙ same in
     let here : None ≡ needle_at needles content hi x = sym c.in_default.is ∙ c.needle_at.ensures.value
-    ∙ same_at needles c.piece_from-piece.follows.lender-at-none.content content c.high-end.result hi x x text c.high-end.ensures.value refl in
+    ∙ same_at needles c.piece_from-piece.follows.lender-at-none.content content hi hi x x text refl refl in
     let a = keeps_on c.args.input.now c.loop-at.input c.piece_from-piece.follows.lender-at-none c.loop-at.invariant.keeps c.piece_from-piece.follows.holds-at-none in
     record {
       keeps = keeps_on c.args.input.now c.piece_from-piece.follows.lender-at-none c.needle_at.new.input a c.needle_at.ensures.keeps;
@@ -76,9 +65,8 @@ loop-at-preserved-then-passed-len g c =
 pub loop-at-smaller : goal.loop-at-smaller
 loop-at-smaller g c =
     let same = ap length c.loop-at.invariant.keeps.content in
-    let e : c.high-end.result ≤ length c.args.input.now.content = omega (arith, c.high-end.ensures.value) in
     let some : 0 < length c.piece_from-piece.result.now =
-    c.piece_from-piece.ensures.some c.loop-at-test.true (omega (arith, e, same, c.loop-at-test.true)) in
+    c.piece_from-piece.ensures.some c.loop-at-test.true (omega (arith, c.requires, same, c.loop-at-test.true)) in
     omega (arith, some, c.if-passed-len.false, c.candidate-passed.ensures.within, c.loop-at-test.true)
 
 pub loop-at-preserved : goal.loop-at-preserved
@@ -90,7 +78,7 @@ loop-at-preserved g c =
     record {
       keeps = keeps_on c.args.input.now c.loop-at.input c.piece_from-piece.follows.lender-at-none c.loop-at.invariant.keeps c.piece_from-piece.follows.holds-at-none;
       from = omega (arith, c.loop-at.invariant.from);
-      none_before = more_passed (needles_of c.args.prefilter.now) content piece (low c.args.input.now) (high c.args.input.now) c.loop-at.at c.candidate-passed.result
+      none_before = more_passed (needles_of c.args.prefilter.now) content piece c.args.from c.args.end c.loop-at.at c.candidate-passed.result
           c.loop-at.invariant.none_before is c.candidate-passed.ensures.passed;
     }
 
@@ -99,5 +87,5 @@ returns-clause-keeps g c = c.loop-at.invariant.keeps
 
 pub returns-clause-value : goal.returns-clause-value
 returns-clause-value g c =
-    none_found (needles_of c.args.prefilter.now) c.args.input.now.content (low c.args.input.now) (high c.args.input.now) c.loop-at.at
-    c.args.prefilter.now.searcher.table.some (omega (arith, c.high-end.ensures.value, c.loop-at-test.false)) c.loop-at.invariant.none_before
+    none_found (needles_of c.args.prefilter.now) c.args.input.now.content c.args.from c.args.end c.loop-at.at
+    c.args.prefilter.now.searcher.table.some (omega (arith, c.loop-at-test.false)) c.loop-at.invariant.none_before
