@@ -10,3 +10,4 @@ pub mod StartLemmas
 pub mod ExactLemmas
 pub mod AnswerLemmas
 pub mod KindLemmas
+pub mod CoverLemmas

@@ -1,5 +1,7 @@
+pub mod Guards
 pub mod Literals
 pub mod Needles
 pub mod Prefilters
+pub mod Prefixes
 pub mod Scans
 pub mod Tables
