@@ -44,10 +44,10 @@ covers_guard hs grouped terminator needles bounded covers over s x le none v wal
 
 -- Its members' beginnings cover too.
 
-all_get : (P : List ℕ → Type 0) (ws : List (List ℕ)) (k : ℕ) (w : List ℕ) → All P ws → slice_get ws k ≡ Some w → P w
+pub all_get : (P : List ℕ → Type 0) (ws : List (List ℕ)) (k : ℕ) (w : List ℕ) → All P ws → slice_get ws k ≡ Some w → P w
 all_get P ws k w all e = subst P (get_or_from_slice_get ws k w [] e) (all k [] (slice_get_within ws k w e))
 
-stands_first : (content needle rest : List ℕ) (i j : ℕ) → Stands content (needle ++ rest) i j → Stands content needle i (i + length needle)
+pub stands_first : (content needle rest : List ℕ) (i j : ℕ) → Stands content (needle ++ rest) i j → Stands content needle i (i + length needle)
 stands_first content [] rest i j s = omega arith
 stands_first content (b ∷ bs) rest i j s =
     let e : i + 1 + length bs ≡ i + length (b ∷ bs) = omega arith in
@@ -59,10 +59,13 @@ covers_by_beginnings t hs prefixes needles each covers p i j s =
     let c = covers p i j s in
     let b = all_get (BeginsWithOne needles) prefixes c.0 c.1 each c.2 in
     let is : c.1 ≡ b.1 ++ b.3.0 = b.3.1 in
-    let long : length c.1 ≡ length b.1 + length b.3.0 = ap length is ∙ length-append b.1 b.3.0 in
-    (b.0, b.1, b.2,
+    let long : length c.1 ≡ length b.1 + length b.3.0 = ap length is ∙ length-append b.1 b.3.0 in (
+      b.0,
+      b.1,
+      b.2,
       stands_first t.content b.1 b.3.0 i (i + length c.1) (subst (λ w. Stands t.content w i (i + length c.1)) is c.3),
-      omega (arith, long, c.4))
+      omega (arith, long, c.4),
+    )
 
 pub cover_law : CoverLaw
 cover_law = record {

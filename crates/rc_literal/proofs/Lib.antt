@@ -11,3 +11,5 @@ pub mod ExactLemmas
 pub mod AnswerLemmas
 pub mod KindLemmas
 pub mod CoverLemmas
+pub mod ExtractionLemmas
+pub mod BeginLemmas

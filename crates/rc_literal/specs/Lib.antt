@@ -1,3 +1,4 @@
+pub mod Extraction
 pub mod Guards
 pub mod Literals
 pub mod Needles
