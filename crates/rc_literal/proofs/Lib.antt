@@ -10,3 +10,6 @@ pub mod StartLemmas
 pub mod ExactLemmas
 pub mod AnswerLemmas
 pub mod KindLemmas
+pub mod CoverLemmas
+pub mod ExtractionLemmas
+pub mod BeginLemmas

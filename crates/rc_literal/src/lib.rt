@@ -10,6 +10,7 @@ pub mod hit;
 pub mod laws;
 pub mod literal;
 pub mod prefilter;
+pub mod prefixes;
 mod scan;
 mod table;
 #[cfg(test)]

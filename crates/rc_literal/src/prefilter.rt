@@ -81,7 +81,7 @@ pub fn from_needles(alloc: Global, needles: Vec<Vec<u8>>) -> Result<Option<Prefi
 }
 
 /// There is a needle, and none is empty.
-fn is_usable(needles: &Vec<Vec<u8>>) -> bool
+pub fn is_usable(needles: &Vec<Vec<u8>>) -> bool
     ensures { Decides result (IsUsable (needles_in needles.now.items)) }
 {
     for needle in needles {

@@ -1,4 +1,6 @@
 //! Worked rows.
+mod prefixes;
+
 use crate::exact::exact_literals;
 use crate::literal::{find, find_from, prefix, search};
 use crate::prefilter::{Prefilter, copy_of, from_needles};
