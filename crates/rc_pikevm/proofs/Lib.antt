@@ -14,3 +14,4 @@ pub mod NotedLemmas
 pub mod SearchLemmas
 pub mod NearLemmas
 pub mod RunnableLemmas
+pub mod GuardLemmas
