@@ -1,27 +1,37 @@
 //! A program that can be searched for.
 
-ghost use Rattle.std.specs.Prelude.{◌≡◌};
+ghost use Rattle.std.specs.Prelude.{◌≡◌, MatchOption, ⊤};
+ghost use Rattle.rc_literal.specs.Guards.{Guards};
+ghost use Rattle.rc_literal.specs.Prefilters.{needles_of};
 ghost use Rattle.rc_program.specs.Matches.{begin_of, end_of, is_again};
 ghost use Rattle.rc_program.specs.Sought.{IsRunnable};
 ghost use Rattle.rc_thompson.specs.Places.{places_of};
+ghost use Rattle.rc_matches.specs.Strategies.{IsSound};
 
 use rc_captures::captures;
 use rc_captures::captures::Captures;
+use crate::strategy::Strategy;
+use rc_literal::literal;
+use rc_literal::prefilter::Prefilter;
 use rc_pikevm::cache::Cache;
-use rc_pikevm::search;
+use rc_pikevm::kinds::{find_by_kind, search_slots_by_kind};
 use rc_text::cursor::Cursor;
 use rc_text::input::Input;
-use rc_text::types::{Match, PatternID};
+use rc_text::types::{Match, MatchKind, PatternID};
 use rc_thompson::place::Place;
 use std::alloc::{AllocError, Global};
 
-/// The places of a program, the byte at which lines end, and whether passing over is in play.
+/// The places of a program, the byte at which lines end, whether passing over is in play, which kind of match is sought, and what a
+/// search may go by.
 #[derive(Drop)]
 pub struct Engine {
     pub places: Vec<Place>,
     pub terminator: u8,
     pub passes_over: bool,
+    pub kind: MatchKind,
+    pub strategy: Strategy,
     ghost runnable: { IsRunnable (places_of places.items) },
+    ghost sound: { IsSound (places_of places.items) terminator passes_over strategy },
 }
 
 impl Engine {
@@ -48,16 +58,21 @@ impl Engine {
     pub fn find<C: Cursor>(&self, cache: &mut Cache, input: &mut Input<C>) -> Option<Match>
         requires made { IsEngineCache self.now 0 cache.old }
         ensures keeps { Keeps input.old input.new }
-        ensures found { result ≡ answer (engine_search self.now input.old) }
+        ensures found { result ≡ answer_by self.now.kind (engine_search self.now input.old) }
         ensures within { IfSome result (λ m. (low input.old ≤ m.start) × (m.start ≤ m.end) × (m.end ≤ high input.old)) }
         ensures cache { IsSameCache cache.old cache.new }
     {
-        search::find(
+        if let Some(needles) = literal_of(&self.strategy, self.kind) {
+            return literal::search(input, needles);
+        }
+        find_by_kind(
             cache,
             input,
             &self.places,
             self.terminator,
             self.passes_over,
+            self.strategy.needles(),
+            self.kind,
         )
     }
 
@@ -70,19 +85,21 @@ impl Engine {
     ) -> Option<PatternID>
         requires made { IsEngineCache self.now (length slots.old) cache.old }
         ensures keeps { Keeps input.old input.new }
-        ensures pattern { result ≡ option_map (λ (m : Found). m.pattern) (answer (engine_search self.now input.old)) }
+        ensures pattern { result ≡ option_map (λ (m : Found). m.pattern) (answer_by self.now.kind (engine_search self.now input.old)) }
         ensures long { length slots.new ≡ length slots.old }
         ensures slots { MatchOption result
             (slots.new ≡ slots.old)
-            (λ _. Some slots.new ≡ groups (engine_search self.now input.old) (length slots.old)) }
+            (λ _. Some slots.new ≡ slots_by self.now.kind (engine_search self.now input.old) (length slots.old)) }
         ensures cache { IsSameCache cache.old cache.new }
     {
-        search::search_slots(
+        search_slots_by_kind(
             cache,
             input,
             &self.places,
             self.terminator,
             self.passes_over,
+            self.strategy.needles(),
+            self.kind,
             slots,
         )
     }
@@ -98,10 +115,10 @@ impl Engine {
         requires made { IsEngineCache self.now 0 cache.old }
         ensures moves { IsMoved input.old input.new }
         ensures found { result
-            ≡ next_match begin_of end_of (answer_from (engine_search self.now input.old)) input.old.span.start last }
+            ≡ next_match begin_of end_of (answer_by_from self.now.kind (engine_search self.now input.old)) input.old.span.start last }
         ensures start { input.new.span.start
-            ≡ next_start (engine_search self.now input.old) input.old.span.start last }
-        ensures there { result ≡ answer (engine_search self.now input.new) }
+            ≡ next_start self.now.kind (engine_search self.now input.old) input.old.span.start last }
+        ensures there { result ≡ answer_by self.now.kind (engine_search self.now input.new) }
         ensures within { IfSome result (λ m. (low input.new ≤ m.start) × (m.start ≤ m.end) × (m.end ≤ high input.new)) }
         ensures cache { IsSameCache cache.old cache.new }
     {
@@ -127,7 +144,8 @@ impl Engine {
         ensures keeps { Keeps input.old input.new }
         ensures names { captures_names caps.new ≡ captures_names caps.old }
         ensures long { length (captures_slots caps.new) ≡ length (captures_slots caps.old) }
-        ensures found { Tells (engine_search self.now input.old) caps.new }
+        ensures found { self.now.kind ≡ LeftmostFirst → Tells (engine_search self.now input.old) caps.new }
+        ensures matched { IsMatchOf (answer_by self.now.kind (engine_search self.now input.old)) caps.new }
         ensures cache { IsSameCache cache.old cache.new }
     {
         captures::clear(caps);

@@ -7,12 +7,15 @@ ghost use Rattle.rc_program.specs.Greatest.{greatest};
 ghost use Rattle.rc_program.specs.Kinds.{answer_by};
 ghost use Rattle.rc_program.specs.Sought.{search_over, IsRunnable};
 ghost use Rattle.rc_thompson.specs.Places.{places_of};
+ghost use Rattle.rc_literal.specs.Guards.{Guards};
+ghost use Rattle.rc_literal.specs.Prefilters.{needles_of};
 ghost use Rattle.rc_pikevm.specs.Caches.{IsCacheFor};
 ghost use Rattle.rc_pikevm.specs.KindSlots.{span_slots, slots_by};
 
 use crate::cache::Cache;
 use crate::greatest::find_greatest;
 use crate::search::{find, search_slots};
+use rc_literal::prefilter::Prefilter;
 use rc_text::cursor::Cursor;
 use rc_text::input::Input;
 use rc_text::types::{Match, MatchKind, PatternID};
@@ -20,7 +23,7 @@ use rc_thompson::place::Place;
 
 /// The match of the kind that a search of the input finds. The earliest flag is not read.
 /// `passes_over` says whether matches that end off a boundary are passed over; a search for the
-/// greatest match passes none over.
+/// greatest match passes none over, and doesn't go by the prefilter.
 ///
 /// The cache has to be made for programs of as many places; it stays so. No memory is taken.
 pub fn find_by_kind<C: Cursor>(
@@ -29,9 +32,11 @@ pub fn find_by_kind<C: Cursor>(
     places: &[Place],
     terminator: u8,
     passes_over: bool,
+    prefilter: Option<&Prefilter>,
     kind: MatchKind,
 ) -> Option<Match>
     requires runnable { IsRunnable (places_of places.now) }
+    requires guarded { MatchOption prefilter ⊤ (λ p. Guards (places_of places.now) terminator (needles_of p.now)) }
     requires made { IsCacheFor (length places.now) 0 cache.old }
     ensures keeps { Keeps input.old input.new }
     ensures found { result ≡ answer_by kind (search_over (places_of places.now) terminator passes_over input.old) }
@@ -43,7 +48,9 @@ pub fn find_by_kind<C: Cursor>(
 {
     match kind {
         MatchKind::All => find_greatest(cache, input, places, terminator),
-        MatchKind::LeftmostFirst => find(cache, input, places, terminator, passes_over),
+        MatchKind::LeftmostFirst => {
+            find(cache, input, places, terminator, passes_over, prefilter)
+        }
     }
 }
 
@@ -99,10 +106,12 @@ pub fn search_slots_by_kind<C: Cursor>(
     places: &[Place],
     terminator: u8,
     passes_over: bool,
+    prefilter: Option<&Prefilter>,
     kind: MatchKind,
     slots: &mut [Option<usize>],
 ) -> Option<PatternID>
     requires runnable { IsRunnable (places_of places.now) }
+    requires guarded { MatchOption prefilter ⊤ (λ p. Guards (places_of places.now) terminator (needles_of p.now)) }
     requires made { IsCacheFor (length places.now) (length slots.old) cache.old }
     ensures keeps { Keeps input.old input.new }
     ensures pattern { result ≡ option_map (λ (m : Found). m.pattern) (answer_by kind (search_over (places_of places.now) terminator passes_over input.old)) }
@@ -122,7 +131,9 @@ pub fn search_slots_by_kind<C: Cursor>(
             Some(found.pattern())
         }
         MatchKind::LeftmostFirst => {
-            search_slots(cache, input, places, terminator, passes_over, slots)
+            search_slots(
+            cache, input, places, terminator, passes_over, prefilter, slots,
+        )
         }
     }
 }

@@ -116,8 +116,8 @@ fn choose<C: Cursor>(
     let mut from = lo;
     'starts: while from <= last {
         let Some(end) = pass(
-            input, places, terminator, prefilter, hi, pattern, from, last, curr, next, entered, stack, slots,
-            found, insertions,
+            input, places, terminator, prefilter, hi, pattern, from, last, curr, next, entered,
+            stack, slots, found, insertions,
         ) else {
             return None;
         };
@@ -206,7 +206,15 @@ pub fn search_slots<C: Cursor>(
     ensures counted { (m : Found) → answer (search_over (places_of places.now) terminator passes_over input.old) ≡ Some m
         → m.end - m.start + 1 ≤ cache.new.insertions }
 {
-    let Some(end) = choose_in(cache, input, places, terminator, passes_over, prefilter, slots) else {
+    let Some(end) = choose_in(
+        cache,
+        input,
+        places,
+        terminator,
+        passes_over,
+        prefilter,
+        slots,
+    ) else {
         return None;
     };
     put_match(end, slots);
@@ -240,7 +248,15 @@ pub fn find<C: Cursor>(
     ensures few { cache.new.insertions ≤ length places.now * (high input.old - low input.old + 2) }
     ensures counted { MatchOption result ⊤ (λ m. m.end - m.start + 1 ≤ cache.new.insertions) }
 {
-    let Some(end) = choose_in(cache, input, places, terminator, passes_over, prefilter, &mut []) else {
+    let Some(end) = choose_in(
+        cache,
+        input,
+        places,
+        terminator,
+        passes_over,
+        prefilter,
+        &mut [],
+    ) else {
         return None;
     };
     let Some(pattern) = PatternID::new(end.pattern) else {

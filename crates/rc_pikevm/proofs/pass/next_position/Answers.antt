@@ -24,8 +24,7 @@ returns-clause-next g c program line h =
     let e : find_needle needles content c.args.at (high c.args.input.now) ≡ Some hit =
     ap (find_needle needles content c.args.at) (sym c.requires.inside.1) ∙ sym c.find_from.ensures.value ∙ c.in-Some-find_from.is in
     let first = (needle_law.found needles content c.args.at (high c.args.input.now) hit).0 e in
-    let within = c.in-Some-find_from.ensures.within in
-    (
+    let within = c.in-Some-find_from.ensures.within in (
       within.0,
       omega (arith, within.1, within.2),
       inr (
