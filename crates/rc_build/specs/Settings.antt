@@ -1,8 +1,9 @@
 -- The settings of a build: what was set, else the default.
-use Rattle.std.specs.Prelude.{ℕ, Bool, true, Option, Some, None, unwrap_or}
+use Rattle.std.specs.Prelude.{ℕ, Bool, true, List, Option, Some, None, option_map, unwrap_or}
 use Rattle.std.specs.Option.{option_or}
 use Rattle.rc_text.specs.declared.types.MatchKind.{MatchKind}
 use Rattle.rc_text.specs.declared.types.MatchKind.TheVariants.{LeftmostFirst}
+use Rattle.rc_literal.specs.Prefilters.{needles_of}
 use Rattle.rc_build.specs.declared.which.WhichCaptures.{WhichCaptures}
 use Rattle.rc_build.specs.declared.which.WhichCaptures.TheVariants.{All}
 use Rattle.rc_build.specs.declared.config.Config.{Config}
@@ -12,6 +13,8 @@ pub record Settings : Type 0 where
   pub match_kind : Option MatchKind
   pub utf8_empty : Option Bool
   pub auto_prefilter : Option Bool
+  -- the needles of a prefilter
+  pub prefilter : Option (Option (List (List ℕ)))
   pub which_captures : Option WhichCaptures
   pub nfa_size_limit : Option (Option ℕ)
   pub onepass_size_limit : Option (Option ℕ)
@@ -29,6 +32,7 @@ settings_of c = record {
   match_kind = c.match_kind;
   utf8_empty = c.utf8_empty;
   auto_prefilter = c.auto_prefilter;
+  prefilter = option_map (λ p. option_map needles_of p) c.prefilter;
   which_captures = c.which_captures;
   nfa_size_limit = c.nfa_size_limit;
   onepass_size_limit = c.onepass_size_limit;
@@ -48,6 +52,7 @@ unset = record {
   match_kind = None;
   utf8_empty = None;
   auto_prefilter = None;
+  prefilter = None;
   which_captures = None;
   nfa_size_limit = None;
   onepass_size_limit = None;
@@ -67,6 +72,7 @@ overwritten old new = record {
   match_kind = option_or new.match_kind old.match_kind;
   utf8_empty = option_or new.utf8_empty old.utf8_empty;
   auto_prefilter = option_or new.auto_prefilter old.auto_prefilter;
+  prefilter = option_or new.prefilter old.prefilter;
   which_captures = option_or new.which_captures old.which_captures;
   nfa_size_limit = option_or new.nfa_size_limit old.nfa_size_limit;
   onepass_size_limit = option_or new.onepass_size_limit old.onepass_size_limit;
@@ -88,6 +94,9 @@ utf8_empty_of s = unwrap_or s.utf8_empty true
 
 abbrev pub auto_prefilter_of : Settings → Bool
 auto_prefilter_of s = unwrap_or s.auto_prefilter true
+
+abbrev pub prefilter_of : Settings → Option (List (List ℕ))
+prefilter_of s = unwrap_or s.prefilter None
 
 abbrev pub which_captures_of : Settings → WhichCaptures
 which_captures_of s = unwrap_or s.which_captures All

@@ -1,16 +1,20 @@
 //! The settings of a build.
-ghost use Rattle.std.specs.Prelude.{◌≡◌, Some};
-ghost use Rattle.rc_build.specs.Settings.{settings_of, unset, overwritten, match_kind_of, utf8_empty_of, auto_prefilter_of, which_captures_of, nfa_size_limit_of, hybrid_cache_capacity_of, hybrid_of, dfa_of, dfa_size_limit_of, dfa_state_limit_of, byte_classes_of, line_terminator_of};
+ghost use Rattle.std.specs.Prelude.{◌≡◌, IfOk, Some, option_map};
+ghost use Rattle.rc_build.specs.Settings.{settings_of, unset, overwritten, match_kind_of, utf8_empty_of, auto_prefilter_of, prefilter_of, which_captures_of, nfa_size_limit_of, hybrid_cache_capacity_of, hybrid_of, dfa_of, dfa_size_limit_of, dfa_state_limit_of, byte_classes_of, line_terminator_of};
+ghost use Rattle.rc_literal.specs.Prefilters.{needles_of};
 
 use crate::which::WhichCaptures;
+use rc_literal::prefilter::{Prefilter, copy_of};
 use rc_text::types::MatchKind;
+use std::alloc::{AllocError, Global};
 
 /// The settings of a build. One that isn't set has its default.
-#[derive(Clone, Copy, Debug)]
+#[derive(Debug, Drop)]
 pub struct Config {
     match_kind: Option<MatchKind>,
     utf8_empty: Option<bool>,
     auto_prefilter: Option<bool>,
+    prefilter: Option<Option<Prefilter>>,
     which_captures: Option<WhichCaptures>,
     nfa_size_limit: Option<Option<usize>>,
     onepass_size_limit: Option<Option<usize>>,
@@ -33,6 +37,7 @@ impl Config {
             match_kind: None,
             utf8_empty: None,
             auto_prefilter: None,
+            prefilter: None,
             which_captures: None,
             nfa_size_limit: None,
             onepass_size_limit: None,
@@ -68,6 +73,15 @@ impl Config {
         ensures { settings_of result ≡ record (settings_of self) { auto_prefilter = Some yes } }
     {
         self.auto_prefilter = Some(yes);
+        self
+    }
+
+    /// The needles that a search may look for first; `None` for none of the caller's. No answer depends
+    /// on it: they are used only where each prefix of the patterns begins with one of them.
+    pub fn prefilter(mut self, value: Option<Prefilter>) -> Config
+        ensures { settings_of result ≡ record (settings_of self) { prefilter = Some (option_map needles_of value) } }
+    {
+        self.prefilter = Some(value);
         self
     }
 
@@ -180,6 +194,16 @@ impl Config {
         self.auto_prefilter.unwrap_or(true)
     }
 
+    /// The needles that a search may look for first; `None` where they aren't set.
+    pub fn get_prefilter(&self) -> Option<&Prefilter>
+        ensures { option_map (λ p. needles_of p.now) result ≡ prefilter_of (settings_of self.now) }
+    {
+        match &self.prefilter {
+            Some(Some(prefilter)) => Some(prefilter),
+            Some(None) | None => None,
+        }
+    }
+
     /// Which groups the regex keeps; `All` where it isn't set.
     pub fn get_which_captures(&self) -> WhichCaptures
         ensures { result ≡ which_captures_of (settings_of self.now) }
@@ -244,8 +268,8 @@ impl Config {
     }
 
     /// Takes over what `new` sets, and keeps what it doesn't.
-    pub fn overwrite(&mut self, new: &Config)
-        ensures { settings_of self.new ≡ overwritten (settings_of self.old) (settings_of new.now) }
+    pub fn overwrite(&mut self, new: Config)
+        ensures { settings_of self.new ≡ overwritten (settings_of self.old) (settings_of new) }
     {
         self.match_kind = new.match_kind.or(self.match_kind);
         self.utf8_empty = new.utf8_empty.or(self.utf8_empty);
@@ -261,5 +285,36 @@ impl Config {
         self.byte_classes = new.byte_classes.or(self.byte_classes);
         self.backtrack = new.backtrack.or(self.backtrack);
         self.line_terminator = new.line_terminator.or(self.line_terminator);
+        if let Some(prefilter) = new.prefilter {
+            self.prefilter = Some(prefilter);
+        }
+    }
+
+    /// The same settings. An `Err` is want of memory, which a prefilter takes.
+    pub fn try_clone(&self, alloc: Global) -> Result<Config, AllocError>
+        ensures { IfOk result (λ c. settings_of c ≡ settings_of self.now) }
+    {
+        let prefilter = match &self.prefilter {
+            Some(Some(prefilter)) => Some(Some(copy_of(alloc, prefilter)?)),
+            Some(None) => Some(None),
+            None => None,
+        };
+        Ok(Config {
+            match_kind: self.match_kind,
+            utf8_empty: self.utf8_empty,
+            auto_prefilter: self.auto_prefilter,
+            prefilter,
+            which_captures: self.which_captures,
+            nfa_size_limit: self.nfa_size_limit,
+            onepass_size_limit: self.onepass_size_limit,
+            hybrid_cache_capacity: self.hybrid_cache_capacity,
+            hybrid: self.hybrid,
+            dfa: self.dfa,
+            dfa_size_limit: self.dfa_size_limit,
+            dfa_state_limit: self.dfa_state_limit,
+            byte_classes: self.byte_classes,
+            backtrack: self.backtrack,
+            line_terminator: self.line_terminator,
+        })
     }
 }

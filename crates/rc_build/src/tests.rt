@@ -3,6 +3,7 @@ use crate::check::check;
 use crate::config::Config;
 use crate::error::BuildError;
 use crate::which::WhichCaptures;
+use rc_literal::prefilter::Prefilter;
 use rc_pattern::hir::{Capture, Class, ClassUnicodeRange, Hir, Repetition};
 use rc_pattern::syntax;
 use rc_text::types::{MatchKind, PatternID};
@@ -313,6 +314,7 @@ fn settings_that_are_not_set(rt: HostRuntime) {
     assert_eq!(rt; config.get_line_terminator(), 10);
     assert!(rt; config.get_utf8_empty());
     assert!(rt; config.get_auto_prefilter());
+    assert!(rt; config.get_prefilter().is_none());
     assert!(rt; config.get_byte_classes());
     assert!(rt; config.get_hybrid());
     assert!(rt; config.get_dfa());
@@ -352,11 +354,28 @@ fn settings_that_are_set(rt: HostRuntime) {
 #[test]
 fn settings_one_after_the_other(rt: HostRuntime) {
     let mut config = Config::new();
-    config.overwrite(&Config::new().dfa(false).line_terminator(0));
-    config.overwrite(&Config::new().hybrid(false).line_terminator(1));
-    config.overwrite(&Config::new());
+    config.overwrite(Config::new().dfa(false).line_terminator(0));
+    config.overwrite(Config::new().hybrid(false).line_terminator(1));
+    config.overwrite(Config::new());
     assert!(rt; !config.get_dfa());
     assert!(rt; !config.get_hybrid());
     assert!(rt; config.get_utf8_empty());
     assert_eq!(rt; config.get_line_terminator(), 1);
+}
+
+#[test]
+fn a_prefilter_that_is_set(rt: HostRuntime) -> Result<(), Fail> {
+    let alloc = rt.alloc();
+    let needles = [b"ab".as_slice(), b"abc"];
+    let prefilter = Prefilter::new(alloc, MatchKind::LeftmostFirst, &needles)?;
+    let mut config = Config::new().prefilter(prefilter);
+    config.overwrite(Config::new().dfa(false));
+    assert_eq!(rt; config.get_prefilter().map(|p| p.max_needle_len()), Some(3));
+    let copy = config.try_clone(alloc)?;
+    assert_eq!(rt; copy.get_prefilter().map(|p| p.max_needle_len()), Some(3));
+    assert!(rt; !copy.get_dfa());
+    config.overwrite(Config::new().prefilter(None));
+    assert!(rt; config.get_prefilter().is_none());
+    assert!(rt; config.try_clone(alloc)?.get_prefilter().is_none());
+    Ok(())
 }

@@ -8,6 +8,7 @@ ghost use Rattle.rc_literal.specs.Prefilters.{needles_of};
 use crate::scan::{Scan, Searcher, searcher_of};
 use rc_text::types::MatchKind;
 use std::alloc::{AllocError, Global};
+use std::fmt;
 
 /// A list of needles, none of them empty, made ready for searches.
 ///
@@ -65,6 +66,14 @@ impl Prefilter {
             bytes = bytes.saturating_add(needle.len()).saturating_add(32);
         }
         bytes
+    }
+}
+
+impl fmt::Debug for Prefilter {
+    fn fmt<W: fmt::Write>(&self, f: &mut fmt::Formatter<W>) -> fmt::Result {
+        f.debug_struct("Prefilter")
+            .field("needles", &self.searcher.table.needles)
+            .finish()
     }
 }
 

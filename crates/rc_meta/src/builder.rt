@@ -47,7 +47,7 @@ impl Builder {
         ensures value { builder_settings result.now ≡ overwritten (builder_settings self.entry.now) (settings_of config) }
         ensures syntax_kept { builder_syntax result.now ≡ builder_syntax self.entry.now }
     {
-        self.config.overwrite(&config);
+        self.config.overwrite(config);
         self
     }
 
@@ -108,17 +108,17 @@ impl Builder {
         ensures buildable { IfOk result (λ _. IsBuildable (nfa_size_limit_of (builder_settings self.now)) (map meaning hirs.now)) }
         ensures refused { IfErr result (λ e. IsRefusal (nfa_size_limit_of (builder_settings self.now)) (map meaning hirs.now) e) }
     {
-        build(alloc, self.config, hirs)
+        build(alloc, &self.config, hirs)
     }
 }
 
 /// The regex of these patterns under these settings.
-pub(crate) fn build(alloc: Global, config: Config, hirs: &[Hir]) -> Result<Regex, BuildError>
+pub(crate) fn build(alloc: Global, config: &Config, hirs: &[Hir]) -> Result<Regex, BuildError>
     requires { length hirs.now ≤ 2147483647 }
     ensures patterns { IfOk result (λ r. regex_patterns r ≡ map meaning hirs.now) }
-    ensures settings { IfOk result (λ r. regex_settings r ≡ settings_of config) }
-    ensures buildable { IfOk result (λ _. IsBuildable (nfa_size_limit_of (settings_of config)) (map meaning hirs.now)) }
-    ensures refused { IfErr result (λ e. IsRefusal (nfa_size_limit_of (settings_of config)) (map meaning hirs.now) e) }
+    ensures settings { IfOk result (λ r. regex_settings r ≡ settings_of config.now) }
+    ensures buildable { IfOk result (λ _. IsBuildable (nfa_size_limit_of (settings_of config.now)) (map meaning hirs.now)) }
+    ensures refused { IfErr result (λ e. IsRefusal (nfa_size_limit_of (settings_of config.now)) (map meaning hirs.now) e) }
 {
     let compiled = compile_all(
         alloc,
@@ -128,15 +128,16 @@ pub(crate) fn build(alloc: Global, config: Config, hirs: &[Hir]) -> Result<Regex
     )?;
     let engine = engine_of(config, hirs, compiled.places);
     let hirs = copies_of(alloc, hirs)?;
+    let config = config.try_clone(alloc)?;
     Ok(assembled(hirs, config, engine, compiled.info))
 }
 
 /// The engine of these patterns, whose program this is.
-fn engine_of(config: Config, hirs: &[Hir], places: Vec<Place>) -> Engine
+fn engine_of(config: &Config, hirs: &[Hir], places: Vec<Place>) -> Engine
     requires { IsRunnable (places_of places.items) }
     ensures places { result.places ≡ places }
-    ensures terminator { result.terminator ≡ line_terminator_of (settings_of config) }
-    ensures passes_over { result.passes_over ≡ passes_over (sought_by (settings_of config) (map meaning hirs.now)) }
+    ensures terminator { result.terminator ≡ line_terminator_of (settings_of config.now) }
+    ensures passes_over { result.passes_over ≡ passes_over (sought_by (settings_of config.now) (map meaning hirs.now)) }
 {
     let passes_over = config.get_utf8_empty() && may_be_empty(hirs);
     Engine {

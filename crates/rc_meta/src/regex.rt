@@ -236,7 +236,7 @@ impl Regex {
         ensures patterns { IfOk result (λ r. regex_patterns r ≡ regex_patterns self.now) }
         ensures settings { IfOk result (λ r. regex_settings r ≡ regex_settings self.now) }
     {
-        match build(alloc, self.config, &self.hirs) {
+        match build(alloc, &self.config, &self.hirs) {
             Ok(regex) => Ok(regex),
             // The patterns were built before, so nothing else refuses them.
             Err(_) => Err(AllocError),
