@@ -1,24 +1,19 @@
 -- What a runner's entering of a pair does to the greatest match on offer.
-use Rattle.std.proofs.Common.{◌≡◌, ◌≢◌, ℕ, zero, suc, ◌+◌, ◌<◌, ◌≤◌, ◌⊎◌, List, [], ◌∷◌, ◌++◌, length, map, inl, inr, ⊎_elim, sym, subst, ap, ap₂, ◌∙◌, refl, arith, true, false, true≢false, IsTrue, Option, Some, None, option_map}
+use Rattle.std.proofs.Common.{◌≡◌, ℕ, ◌<◌, ◌≤◌, ◌⊎◌, List, [], ◌∷◌, ◌++◌, map, inl, inr, ⊎_elim, sym, subst, ap, ap₂, ◌∙◌, refl, arith, false, true≢false, IsTrue, Option, Some, None, option_map}
 use Rattle.std.proofs.lemmas.Bool.{cases_lt}
-use Rattle.std.proofs.lemmas.List.{map-append}
 use Rattle.std.proofs.lemmas.Option.{none-some, same_Some}
 use Rattle.rc_text.specs.Found.{Found}
 use Rattle.rc_walks.specs.Walks.{Pair, IsIn, IsWalk, stops, goes}
 use Rattle.rc_walks.proofs.CutLemmas.{avoids, loosen, from_other, is_in_or_not}
-use Rattle.rc_walks.proofs.StackLemmas.{dead_if_passed, no_ways}
+use Rattle.rc_walks.proofs.StackLemmas.{dead_if_passed}
 use Rattle.rc_walks.proofs.ThreadLemmas.{AllUpTo, Alike, past_alike, fewer_passed}
 use Rattle.rc_program.specs.Program.{accept, place_at}
 use Rattle.rc_program.specs.Answer.{Search, ends, next_of, last_of, pattern_at}
 use Rattle.rc_program.specs.Greatest.{IsNoGreater}
 use Rattle.rc_program.proofs.WayLemmas.{same_pair, ways_onward}
 use Rattle.rc_program.proofs.AnswerLemmas.{last_pair, last_of_more}
-use Rattle.rc_pikevm.specs.Sparse.{Has}
-use Rattle.rc_pikevm.specs.Threads.{Thread}
-use Rattle.rc_pikevm.specs.Passing.{pairs}
-use Rattle.rc_pikevm.specs.Spread.{Runner, running, Spells, SomeSpells, span_of, Offers, IsTop, Seeks, BeginFrom, IsGreater}
+use Rattle.rc_pikevm.specs.Spread.{Runner, Spells, SomeSpells, span_of, IsTop, BeginFrom, IsGreater}
 use Rattle.rc_pikevm.specs.declared.pass.Ending.{Ending}
-use Rattle.rc_pikevm.proofs.EnteredLemmas.{has_pairs, pairs_has, pairs_at, pairs_push}
 
 pub no_greater_self : (m : Found) → IsNoGreater m m
 no_greater_self m = inr (refl, inr (refl, omega arith))

@@ -1,5 +1,5 @@
 -- What a thread's entering of a place does to the greatest match on offer.
-use Rattle.std.proofs.Common.{◌≡◌, ◌≢◌, ℕ, zero, suc, ◌+◌, ◌<◌, ◌≤◌, List, [], ◌∷◌, ◌++◌, length, map, inl, inr, ⊎_elim, sym, subst, ap, ◌∙◌, refl, arith, false, IsTrue, Option, Some, None, option_map, ◌⊎◌}
+use Rattle.std.proofs.Common.{◌≡◌, ◌≢◌, ℕ, ◌+◌, ◌<◌, ◌≤◌, List, [], ◌∷◌, ◌++◌, map, sym, subst, ap, ◌∙◌, refl, arith, false, IsTrue, Option, Some, option_map, ◌⊎◌}
 use Rattle.std.proofs.lemmas.Bool.{le-ltb}
 use Rattle.std.proofs.lemmas.List.{map-append, append-nil}
 use Rattle.rc_text.specs.Found.{Found}
@@ -10,8 +10,8 @@ use Rattle.rc_program.specs.Answer.{Search, only, ends, next_of}
 use Rattle.rc_pikevm.specs.Sparse.{Has}
 use Rattle.rc_pikevm.specs.Threads.{Thread}
 use Rattle.rc_pikevm.specs.Moves.{IsMove}
-use Rattle.rc_pikevm.specs.Passing.{pairs, resting_of, frames_of, AllFrom, IsCounted}
-use Rattle.rc_pikevm.specs.Spread.{Runner, running, SomeSpells, span_of, Offers, IsTop, Seeks, BeginFrom, IsGreater, IsOrdered, AllBefore, IsRising, StaysCounted, runners_of}
+use Rattle.rc_pikevm.specs.Passing.{pairs, resting_of, frames_of}
+use Rattle.rc_pikevm.specs.Spread.{Runner, running, SomeSpells, span_of, Offers, IsTop, Seeks, BeginFrom, IsGreater, IsOrdered, AllBefore, IsRising, runners_of}
 use Rattle.rc_pikevm.specs.declared.moves.Move.{Move}
 use Rattle.rc_pikevm.specs.declared.moves.Move.TheVariants.{Fork, Save, Matches, Stays, Reads, Stops}
 use Rattle.rc_pikevm.specs.declared.closure.Frame.{Frame}

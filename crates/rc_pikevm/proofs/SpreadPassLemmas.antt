@@ -1,5 +1,5 @@
 -- The pass for the greatest span over all positions.
-use Rattle.std.proofs.Common.{◌≡◌, ℕ, zero, suc, ◌+◌, ◌-◌, ◌*◌, ◌<◌, ◌≤◌, ◌⊎◌, List, [], ◌∷◌, ◌++◌, length, map, min, inl, inr, ⊎_elim, sym, subst, ap, ◌∙◌, refl, arith, Option, Some, None, option_map, IsTrue}
+use Rattle.std.proofs.Common.{◌≡◌, ℕ, zero, suc, ◌+◌, ◌-◌, ◌*◌, ◌<◌, ◌≤◌, List, [], ◌∷◌, ◌++◌, length, map, min, inl, inr, ⊎_elim, sym, subst, ap, refl, arith, Option, Some, None, option_map, IsTrue}
 use Rattle.std.proofs.Math.Nat.{mul-le-mul_right}
 use Rattle.std.proofs.lemmas.Bool.{cases_lt}
 use Rattle.std.proofs.lemmas.Option.{none-some, same_Some}
@@ -7,12 +7,12 @@ use Rattle.rc_text.specs.Found.{Found}
 use Rattle.rc_walks.specs.Walks.{IsWalk}
 use Rattle.rc_program.specs.Program.{accept, place_at}
 use Rattle.rc_program.specs.Answer.{Search, IsStart, next_of, ends}
-use Rattle.rc_program.specs.Greatest.{greatest, IsSpelledIn, IsGreatest, HasNoSpan, IsNoGreater}
+use Rattle.rc_program.specs.Greatest.{greatest, IsSpelledIn, IsNoGreater}
 use Rattle.rc_program.proofs.AnswerLemmas.{last_start_of, start_within_last, start_to_last}
 use Rattle.rc_program.proofs.GreatestLemmas.{greatest_some, greatest_none, spelled_within}
 use Rattle.rc_pikevm.specs.Threads.{Thread, ThreadList}
 use Rattle.rc_pikevm.specs.Passing.{AllIn, AllFrom, IsLined, IsCounted}
-use Rattle.rc_pikevm.specs.Spread.{Runner, running, Spells, SomeSpells, IsTop, Seeks, Offers, span_of, setting_out, starting, IsOrdered, IsCovering}
+use Rattle.rc_pikevm.specs.Spread.{running, SomeSpells, IsTop, Seeks, Offers, span_of, setting_out, starting, IsOrdered, IsCovering}
 use Rattle.rc_pikevm.specs.declared.pass.Ending.{Ending}
 use Rattle.rc_pikevm.proofs.SpreadLemmas.{top_back, no_greater_self}
 use Rattle.rc_pikevm.proofs.SpreadStepLemmas.{starting_over}

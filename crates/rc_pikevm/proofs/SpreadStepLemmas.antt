@@ -1,5 +1,5 @@
 -- The threads of one position, of which no match cuts off another.
-use Rattle.std.proofs.Common.{◌≡◌, ℕ, zero, suc, ◌+◌, ◌-◌, ◌<◌, ◌≤◌, List, [], ◌∷◌, ◌++◌, length, map, drop, min, inl, inr, ⊎_elim, sym, subst, ap, ◌∙◌, refl, arith, Option, Some, None, if◌then◌else◌, nat_le, slice_get, add-one}
+use Rattle.std.proofs.Common.{◌≡◌, ℕ, zero, suc, ◌+◌, ◌-◌, ◌<◌, ◌≤◌, List, [], ◌∷◌, ◌++◌, length, map, drop, min, inl, inr, sym, subst, ap, ◌∙◌, refl, arith, Option, Some, if◌then◌else◌, nat_le, slice_get, add-one}
 use Rattle.std.proofs.lemmas.Bool.{le-leb}
 use Rattle.std.proofs.lemmas.List.{length_push}
 use Rattle.rc_text.specs.Found.{Found}

@@ -1,4 +1,4 @@
-use Rattle.std.proofs.Common.{◌∙◌, sym, ap, arith, Some, ◌≤◌}
+use Rattle.std.proofs.Common.{◌∙◌, sym, ap, Some, ◌≤◌}
 use Rattle.rc_text.specs.Found.{Found}
 use Rattle.rc_program.proofs.GreatestLemmas.{greatest_regardless}
 use Rattle.rc_pikevm.specs.Moves.{seen}

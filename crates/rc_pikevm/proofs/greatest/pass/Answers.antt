@@ -1,4 +1,4 @@
-use Rattle.std.proofs.Common.{◌≡◌, ℕ, ◌+◌, length, sym, ap, subst, ◌∙◌, arith, rules, ◌-◌, ◌≤◌}
+use Rattle.std.proofs.Common.{ℕ, ◌+◌, length, sym, subst, arith, rules, ◌-◌, ◌≤◌}
 use Rattle.rc_text.specs.Text.{high}
 use Rattle.rc_program.specs.Answer.{Search}
 use Rattle.rc_pikevm.specs.Threads.{ThreadList}

@@ -1,4 +1,4 @@
-use Rattle.std.proofs.Common.{ℕ, ◌+◌, ◌<◌, length, map, ◌++◌, sym, arith, length-drop, inl, inr, ⊎_elim, min, drop, [], subst}
+use Rattle.std.proofs.Common.{◌+◌, ◌<◌, length, map, ◌++◌, sym, arith, length-drop, inl, inr, ⊎_elim, min, subst}
 use Rattle.rc_program.specs.Answer.{Search}
 use Rattle.rc_pikevm.specs.Moves.{seen}
 use Rattle.rc_pikevm.specs.Threads.{thread_of}

@@ -1,8 +1,8 @@
-use Rattle.std.proofs.Common.{ℕ, ◌+◌, ◌-◌, [], length, min, sym, ap, subst, ◌∙◌, arith, ⊎_elim}
+use Rattle.std.proofs.Common.{ℕ, ◌+◌, ◌-◌, length, min, sym, ap, subst, ◌∙◌, arith, ⊎_elim}
 use Rattle.std.proofs.lemmas.Bool.{cases_lt}
 use Rattle.rc_pikevm.specs.Threads.{ThreadList}
 use Rattle.rc_pikevm.specs.Moves.{seen}
-use Rattle.rc_pikevm.specs.Passing.{AllIn, AllFrom}
+use Rattle.rc_pikevm.specs.Passing.{AllIn}
 use Rattle.rc_pikevm.specs.Spread.{starting}
 use Rattle.rc_pikevm.proofs.TurnLemmas.{lined_next, from_earlier}
 use Rattle.rc_pikevm.proofs.SpreadMoveLemmas.{turned_over, ordered_wider}

@@ -1,4 +1,4 @@
-use Rattle.std.proofs.Common.{◌≡◌, ℕ, List, [], ◌∷◌, ◌++◌, length, reverse, sym, ap, subst, ◌∙◌, arith, rules}
+use Rattle.std.proofs.Common.{◌≡◌, ℕ, List, [], ◌∷◌, ◌++◌, length, reverse, sym, ap, subst, ◌∙◌, rules}
 use Rattle.rc_pikevm.specs.Moves.{seen}
 use Rattle.rc_pikevm.specs.Spread.{Seeks, runners_of}
 use Rattle.rc_pikevm.proofs.GrownLemmas.{grown_then}
