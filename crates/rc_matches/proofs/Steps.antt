@@ -6,11 +6,14 @@ use Rattle.rc_text.specs.declared.types.Span.{Span}
 use Rattle.rc_text.specs.Found.{Found}
 use Rattle.rc_text.specs.Text.{Searched, Keeps}
 use Rattle.rc_program.specs.Program.{Place}
-use Rattle.rc_program.specs.Answer.{Search, answer}
+use Rattle.rc_text.specs.declared.types.MatchKind.{MatchKind}
+use Rattle.rc_program.specs.Answer.{Search}
 use Rattle.rc_program.specs.Sought.{search_over}
-use Rattle.rc_program.specs.Matches.{from_on, answer_from, begin_of, end_of, next_match, matches_left}
-use Rattle.rc_program.proofs.AnswerLemmas.{answer_within}
-use Rattle.rc_program.proofs.MatchLemmas.{answers_lie_within, left_within}
+use Rattle.rc_program.specs.Kinds.{answer_by, answer_by_from, matches_by_kind}
+use Rattle.rc_program.specs.Matches.{from_on, begin_of, end_of, next_match}
+use Rattle.rc_program.proofs.GreatestLemmas.{spelled_within}
+use Rattle.rc_program.proofs.KindLemmas.{kind_spelled, kinds_are, kinds_lie_within}
+use Rattle.rc_program.proofs.MatchLemmas.{all_lie}
 use Rattle.rc_matches.specs.Moved.{IsMoved}
 use Rattle.rc_matches.proofs.Anywhere.{by_some, by_none, by_few}
 
@@ -54,30 +57,35 @@ kept_is_moved s u k = record {
   earliest = k.earliest;
 }
 
--- the answer lies within the bounds
-pub answer_lies : (s : Search) (o : Option Found) → o ≡ answer s → IfSome o (λ m. (s.lo ≤ m.start) × (m.start ≤ m.end) × (m.end ≤ s.hi))
-answer_lies s None e = tt
-answer_lies s (Some m) e = answer_within s m (sym e)
+-- the match of a kind lies within the bounds
+pub answer_lies : (kind : MatchKind) (s : Search) (o : Option Found) → o ≡ answer_by kind s →
+    IfSome o (λ m. (s.lo ≤ m.start) × (m.start ≤ m.end) × (m.end ≤ s.hi))
+answer_lies kind s None e = tt
+answer_lies kind s (Some m) e = spelled_within s m (kind_spelled kind s m (sym e))
 
 -- where the search starts doesn't matter to a list from elsewhere on
-pub left_from : (s : Search) (j k : ℕ) (last : Option ℕ) → matches_left (from_on s j) k last ≡ matches_left s k last
-unfolding matches_left
-left_from s j k last = refl
+pub left_from : (kind : MatchKind) (s : Search) (j k : ℕ) (last : Option ℕ) → matches_by_kind kind (from_on s j) k last ≡ matches_by_kind kind s k last
+unfolding matches_by_kind
+left_from kind s j k last = refl
 
 -- the next match, and those after it
-pub step_some : (s : Search) (k : ℕ) (last : Option ℕ) (m : Found) → Some m ≡ next_match begin_of end_of (answer_from s) k last →
-    matches_left s k last ≡ m ∷ matches_left s m.end (Some m.end)
-unfolding matches_left
-step_some s k last m f = by_some begin_of end_of (answer_from s) s.text.slice_start s.hi (answers_lie_within s) k last m (sym f)
+pub step_some : (kind : MatchKind) (s : Search) (k : ℕ) (last : Option ℕ) (m : Found) →
+    Some m ≡ next_match begin_of end_of (answer_by_from kind s) k last →
+    matches_by_kind kind s k last ≡ m ∷ matches_by_kind kind s m.end (Some m.end)
+unfolding matches_by_kind
+step_some kind s k last m f = by_some begin_of end_of (answer_by_from kind s) s.text.slice_start s.hi (kinds_lie_within kind s) k last m (sym f)
 
-pub step_none : (s : Search) (k : ℕ) (last : Option ℕ) → None ≡ next_match begin_of end_of (answer_from s) k last → matches_left s k last ≡ []
-unfolding matches_left
-step_none s k last f = by_none begin_of end_of (answer_from s) s.text.slice_start s.hi (answers_lie_within s) (s.hi + 1 - k) k last (sym f)
+pub step_none : (kind : MatchKind) (s : Search) (k : ℕ) (last : Option ℕ) →
+    None ≡ next_match begin_of end_of (answer_by_from kind s) k last → matches_by_kind kind s k last ≡ []
+unfolding matches_by_kind
+step_none kind s k last f =
+    by_none begin_of end_of (answer_by_from kind s) s.text.slice_start s.hi (kinds_lie_within kind s) (s.hi + 1 - k) k last (sym f)
 
 -- no more are left than positions
-pub left_short : (s : Search) (k : ℕ) (last : Option ℕ) → length (matches_left s k last) ≤ s.hi + 1 - k
-unfolding matches_left
-left_short s k last = by_few begin_of end_of (answer_from s) s.text.slice_start s.hi (answers_lie_within s) (s.hi + 1 - k) k last
+pub left_short : (kind : MatchKind) (s : Search) (k : ℕ) (last : Option ℕ) → length (matches_by_kind kind s k last) ≤ s.hi + 1 - k
+unfolding matches_by_kind
+left_short kind s k last =
+    by_few begin_of end_of (answer_by_from kind s) s.text.slice_start s.hi (kinds_lie_within kind s) (s.hi + 1 - k) k last
 
 -- each match of the list lies within the bounds
 all_within : (s : Search) (k : ℕ) (ms : List Found) →
@@ -87,6 +95,8 @@ all_within s k [] all i d l = absurd (omega (arith, l))
 all_within s k (m ∷ ms) all zero d l = let h = all.0 in (omega (arith, h.0, h.1), h.2, h.3)
 all_within s k (m ∷ ms) all (suc i) d l = all_within s k ms all.1 i d (omega (arith, l))
 
-pub list_within : (s : Search) (k : ℕ) →
-    All (λ (m : Found). (max k s.text.slice_start ≤ m.start) × (m.start ≤ m.end) × (m.end ≤ s.hi)) (matches_left s k None)
-list_within s k = all_within s k (matches_left s k None) (left_within s k None tt)
+pub list_within : (kind : MatchKind) (s : Search) (k : ℕ) →
+    All (λ (m : Found). (max k s.text.slice_start ≤ m.start) × (m.start ≤ m.end) × (m.end ≤ s.hi)) (matches_by_kind kind s k None)
+list_within kind s k =
+    all_within s k (matches_by_kind kind s k None)
+    (all_lie begin_of end_of (answer_by_from kind s) s.text.slice_start s.hi (kinds_lie_within kind s) k None (kinds_are kind s k None tt) tt)

@@ -3,6 +3,7 @@ use Rattle.std.proofs.Common.{◌≡◌, ◌∙◌, ◌+◌, ◌-◌, ℕ, zero,
 use Rattle.std.specs.Option.{option_map}
 use Rattle.std.proofs.lemmas.Option.{same_Some, none-some}
 use Rattle.rc_text.specs.Found.{Found}
+use Rattle.rc_text.specs.declared.types.MatchKind.TheVariants.{LeftmostFirst as leftmost_first}
 use Rattle.rc_captures.specs.declared.captures.Captures.{Captures}
 use Rattle.rc_program.specs.Answer.{Search, Chosen, chosen, answer, found}
 use Rattle.rc_program.specs.Matches
@@ -45,7 +46,7 @@ start_same s k (Some l) (Some c) e = if_start (is_again walk_start walk_end (Som
     if_start false = sym e
 
 pub next_started : (s : Search) (k : ℕ) (last : Option ℕ) →
-    next_match walk_start walk_end (chosen_from s) k last ≡ chosen_from s (next_start s k last)
+    next_match walk_start walk_end (chosen_from s) k last ≡ chosen_from s (next_start leftmost_first s k last)
 unfolding answer
 next_started s k last = start_same s k last (chosen_from s k) refl
 
@@ -73,7 +74,7 @@ pub record Step (s u : Search) (k : ℕ) (last : Option ℕ) (m : Found) : Type 
   pub is_found : m ≡ found s walk
   pub left : walks_left s k last ≡ walk ∷ walks_left s (walk_end walk) (Some (walk_end walk))
 
-step_of : (s u : Search) (k : ℕ) (last : Option ℕ) (m : Found) (x : ℕ) (o : Option Chosen) → u ≡ from_on s x → x ≡ next_start s k last →
+step_of : (s u : Search) (k : ℕ) (last : Option ℕ) (m : Found) (x : ℕ) (o : Option Chosen) → u ≡ from_on s x → x ≡ next_start leftmost_first s k last →
     next_match walk_start walk_end (chosen_from s) k last ≡ o → Some m ≡ option_map (found s) o → Step s u k last m
 step_of s u k last m x None there at e f = absurd (none-some m (sym f))
 step_of s u k last m x (Some c) there at e f = record {
@@ -83,7 +84,7 @@ step_of s u k last m x (Some c) there at e f = record {
   left = walks_some s k last c e;
 }
 
-pub walk_step : (s u : Search) (k : ℕ) (last : Option ℕ) (m : Found) (x : ℕ) → u ≡ from_on s x → x ≡ next_start s k last →
+pub walk_step : (s u : Search) (k : ℕ) (last : Option ℕ) (m : Found) (x : ℕ) → u ≡ from_on s x → x ≡ next_start leftmost_first s k last →
     Some m ≡ next_match begin_of end_of (answer_from s) k last → Step s u k last m
 walk_step s u k last m x there at f =
     step_of s u k last m x (next_match walk_start walk_end (chosen_from s) k last) there at refl (f ∙ next_same s k last)

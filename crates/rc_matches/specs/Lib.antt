@@ -1,4 +1,5 @@
 pub mod Engine
 pub mod Moved
+pub mod Strategies
 pub mod Tells
 pub mod Walks

@@ -1,8 +1,12 @@
 -- What captures hold after a search.
-use Rattle.std.specs.Prelude.{◌≡◌, List, [], ◌∷◌, length, Option, Some, None}
+use Rattle.std.specs.Prelude.{◌≡◌, ℕ, ◌+◌, ◌*◌, List, [], ◌∷◌, length, Option, Some, None, nat_eq, if◌then◌else◌}
+use Rattle.rc_text.specs.Found.{Found}
+use Rattle.rc_text.specs.declared.types.MatchKind.{MatchKind}
+use Rattle.rc_text.specs.declared.types.MatchKind.TheVariants.{All as all_matches, LeftmostFirst as leftmost_first}
 use Rattle.rc_captures.specs.Captures.{captures_names, captures_pattern, captures_slots, HasMatch}
 use Rattle.rc_captures.specs.Names.{Names, slot_len}
 use Rattle.rc_captures.specs.declared.captures.Captures.{Captures}
+use Rattle.rc_program.specs.Greatest.{greatest}
 use Rattle.rc_program.specs.Answer.{Search, Chosen, chosen, pattern_of, slot_of}
 
 -- The captures are of patterns with these names, and keep all their groups.
@@ -18,6 +22,20 @@ TellsOf s (Some c) caps = HasMatch caps (pattern_of s c) (slot_of s c)
 -- the match of a search, with its groups; no match where the search has no answer
 abbrev pub Tells : Search → Captures → Type 0
 Tells s caps = TellsOf s (chosen s) caps
+
+-- slot k of a match of which the whole alone is told
+abbrev pub span_slot : Found → ℕ → Option ℕ
+span_slot m k = if nat_eq k (2 * m.pattern) then Some m.start else if nat_eq k (2 * m.pattern + 1) then Some m.end else None
+
+-- the match, and no group of it
+abbrev pub TellsSpan : Option Found → Captures → Type 0
+TellsSpan None caps = captures_pattern caps ≡ None
+TellsSpan (Some m) caps = HasMatch caps m.pattern (span_slot m)
+
+-- the match of a kind; its groups where it is a first walk
+abbrev pub TellsBy : MatchKind → Search → Captures → Type 0
+TellsBy all_matches s caps = TellsSpan (greatest s) caps
+TellsBy leftmost_first s caps = Tells s caps
 
 -- each of the captures holds the match of one of the walks, in order
 abbrev pub AllTell : Search → List Chosen → List Captures → Type 0

@@ -2,7 +2,9 @@
 use Rattle.std.specs.Prelude.{◌≡◌, ℕ, ◌+◌, ◌-◌, Bool, false, List, Option, Some, None, map, if◌then◌else◌}
 use Rattle.rc_text.specs.Found.{Found}
 use Rattle.rc_program.specs.Answer.{Search, Chosen, chosen, found, last_of}
-use Rattle.rc_program.specs.Matches.{begin_of, end_of, from_on, answer_from, is_again, matches_by, matches_left}
+use Rattle.rc_text.specs.declared.types.MatchKind.{MatchKind}
+use Rattle.rc_program.specs.Kinds.{answer_by_from}
+use Rattle.rc_program.specs.Matches.{begin_of, end_of, from_on, is_again, matches_by, matches_left}
 
 abbrev pub walk_start : Chosen → ℕ
 walk_start c = c.start
@@ -24,8 +26,8 @@ again last None = false
 again last (Some m) = is_again begin_of end_of last m
 
 -- where the next match is looked for
-abbrev pub next_start : Search → ℕ → Option ℕ → ℕ
-next_start s k last = if again last (answer_from s k) then k + 1 else k
+abbrev pub next_start : MatchKind → Search → ℕ → Option ℕ → ℕ
+next_start kind s k last = if again last (answer_by_from kind s k) then k + 1 else k
 
 -- these walks are those of the list of matches
 abbrev pub WalksLaw : Type 0

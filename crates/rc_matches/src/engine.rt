@@ -1,8 +1,6 @@
 //! A program that can be searched for.
 
-ghost use Rattle.std.specs.Prelude.{◌≡◌, MatchOption, ⊤};
-ghost use Rattle.rc_literal.specs.Guards.{Guards};
-ghost use Rattle.rc_literal.specs.Prefilters.{needles_of};
+ghost use Rattle.std.specs.Prelude.{◌≡◌};
 ghost use Rattle.rc_program.specs.Matches.{begin_of, end_of, is_again};
 ghost use Rattle.rc_program.specs.Sought.{IsRunnable};
 ghost use Rattle.rc_thompson.specs.Places.{places_of};
@@ -10,9 +8,8 @@ ghost use Rattle.rc_matches.specs.Strategies.{IsSound};
 
 use rc_captures::captures;
 use rc_captures::captures::Captures;
-use crate::strategy::Strategy;
+use crate::strategy::{Strategy, guards_of, literals_of};
 use rc_literal::literal;
-use rc_literal::prefilter::Prefilter;
 use rc_pikevm::cache::Cache;
 use rc_pikevm::kinds::{find_by_kind, search_slots_by_kind};
 use rc_text::cursor::Cursor;
@@ -40,10 +37,11 @@ impl Engine {
     ghost use Rattle.rc_text.specs.Found.{Found};
     ghost use Rattle.rc_matches.specs.Walks.{next_start};
     ghost use Rattle.rc_captures.specs.Captures.{captures_names, captures_pattern, captures_slots};
-    ghost use Rattle.rc_matches.specs.Tells.{Tells};
+    ghost use Rattle.rc_matches.specs.Tells.{TellsBy};
+    ghost use Rattle.rc_pikevm.specs.KindSlots.{slots_by};
+    ghost use Rattle.rc_program.specs.Kinds.{answer_by, answer_by_from};
     ghost use Rattle.rc_text.specs.Text.{Keeps, low, high};
-    ghost use Rattle.rc_program.specs.Answer.{answer, groups};
-    ghost use Rattle.rc_program.specs.Matches.{answer_from, begin_of, end_of, next_match};
+    ghost use Rattle.rc_program.specs.Matches.{begin_of, end_of, next_match};
     ghost use Rattle.rc_matches.specs.Engine.{engine_search, IsEngineCache, IsSameCache};
     ghost use Rattle.rc_matches.specs.Moved.{IsMoved};
 
@@ -62,7 +60,7 @@ impl Engine {
         ensures within { IfSome result (λ m. (low input.old ≤ m.start) × (m.start ≤ m.end) × (m.end ≤ high input.old)) }
         ensures cache { IsSameCache cache.old cache.new }
     {
-        if let Some(needles) = literal_of(&self.strategy, self.kind) {
+        if let Some(needles) = literals_of(&self.strategy, self.kind) {
             return literal::search(input, needles);
         }
         find_by_kind(
@@ -71,7 +69,7 @@ impl Engine {
             &self.places,
             self.terminator,
             self.passes_over,
-            self.strategy.needles(),
+            guards_of(&self.strategy),
             self.kind,
         )
     }
@@ -98,14 +96,14 @@ impl Engine {
             &self.places,
             self.terminator,
             self.passes_over,
-            self.strategy.needles(),
+            guards_of(&self.strategy),
             self.kind,
             slots,
         )
     }
 
-    /// The next match of a list: the answer from where the span starts, and where that is empty and ends at `last`, the answer from
-    /// a byte later. The span then starts where the answer was looked for. It takes no memory.
+    /// The next match of a list: the match from where the span starts, and where that is empty and ends at `last`, the match from
+    /// a byte later. The span then starts where the match was looked for. It takes no memory.
     pub fn next_match<C: Cursor>(
         &self,
         cache: &mut Cache,
@@ -144,8 +142,7 @@ impl Engine {
         ensures keeps { Keeps input.old input.new }
         ensures names { captures_names caps.new ≡ captures_names caps.old }
         ensures long { length (captures_slots caps.new) ≡ length (captures_slots caps.old) }
-        ensures found { self.now.kind ≡ LeftmostFirst → Tells (engine_search self.now input.old) caps.new }
-        ensures matched { IsMatchOf (answer_by self.now.kind (engine_search self.now input.old)) caps.new }
+        ensures found { TellsBy self.now.kind (engine_search self.now input.old) caps.new }
         ensures cache { IsSameCache cache.old cache.new }
     {
         captures::clear(caps);

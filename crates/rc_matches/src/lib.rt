@@ -3,3 +3,4 @@
 
 pub mod engine;
 pub mod laws;
+pub mod strategy;
