@@ -61,6 +61,7 @@ impl Engine {
             &self.places,
             self.terminator,
             self.passes_over,
+            None,
         )
     }
 
@@ -86,6 +87,7 @@ impl Engine {
             &self.places,
             self.terminator,
             self.passes_over,
+            None,
             slots,
         )
     }

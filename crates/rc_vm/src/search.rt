@@ -40,6 +40,7 @@ pub fn is_match<C: Cursor>(vm: &PikeVM, cache: &mut Cache, input: &mut Input<C>)
         &vm.engine.places,
         vm.engine.terminator,
         vm.engine.passes_over,
+        None,
     )
     .is_some()
 }
@@ -69,6 +70,7 @@ pub fn search<C: Cursor>(vm: &PikeVM, cache: &mut Cache, input: &mut Input<C>, c
         &vm.engine.places,
         vm.engine.terminator,
         vm.engine.passes_over,
+        None,
         caps.slots_mut(),
     );
     captures::set_pattern(caps, pattern);
@@ -103,6 +105,7 @@ pub fn search_slots<C: Cursor>(
         &vm.engine.places,
         vm.engine.terminator,
         vm.engine.passes_over,
+        None,
         slots,
     )
 }
