@@ -1,8 +1,7 @@
 -- Needles of programs that begin with bytes.
-use Rattle.std.proofs.Common.{◌≡◌, ℕ, ◌+◌, ◌<◌, ◌≤◌, List, [], ◌∷◌, map, Bool, true, false, true≢false, IsTrue, Option, Some, None, sym, ap, subst, ◌∙◌, refl, arith, inl, inr, nat_eq, nat_le, ◌&&◌, ◌||◌, slice_get, if◌then◌else◌}
+use Rattle.std.proofs.Common.{◌≡◌, ℕ, ◌+◌, ◌<◌, List, [], ◌∷◌, map, Bool, true, false, true≢false, Option, Some, None, sym, ap, subst, ◌∙◌, refl, arith, inl, inr, slice_get, if◌then◌else◌}
 use Rattle.std.proofs.lemmas.Bool.{cases_lt, cases_eq}
 use Rattle.std.proofs.lemmas.Bool.Decides.{nat_tests}
-use Rattle.rc_text.specs.Text.{Searched, high}
 use Rattle.rc_walks.specs.Walks.{Pair, HasNoWalk}
 use Rattle.rc_walks.proofs.StackLemmas.{dead_if_tried, no_ways}
 use Rattle.rc_program.specs.Text.{ahead, holds}

@@ -43,6 +43,7 @@ pub fn is_match<C: Cursor>(vm: &PikeVM, cache: &mut Cache, input: &mut Input<C>)
         &vm.engine.places,
         vm.engine.terminator,
         vm.engine.passes_over,
+        None,
     )
     .is_some()
 }
@@ -72,6 +73,7 @@ pub fn search<C: Cursor>(vm: &PikeVM, cache: &mut Cache, input: &mut Input<C>, c
         &vm.engine.places,
         vm.engine.terminator,
         vm.engine.passes_over,
+        None,
         caps.slots_mut(),
     );
     captures::set_pattern(caps, pattern);
@@ -106,6 +108,7 @@ pub fn search_slots<C: Cursor>(
         &vm.engine.places,
         vm.engine.terminator,
         vm.engine.passes_over,
+        None,
         slots,
     )
 }

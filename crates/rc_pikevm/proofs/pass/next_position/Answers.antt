@@ -1,4 +1,4 @@
-use Rattle.std.proofs.Common.{◌≡◌, ℕ, ◌<◌, ◌≤◌, ◌∙◌, sym, ap, inr, arith, length, Some, None, false}
+use Rattle.std.proofs.Common.{◌≡◌, ◌∙◌, sym, ap, inr, arith, Some, None, false}
 use Rattle.rc_text.specs.Text.{high}
 use Rattle.rc_literal.specs.Needles.{find_needle}
 use Rattle.rc_literal.specs.Prefilters.{needles_of}

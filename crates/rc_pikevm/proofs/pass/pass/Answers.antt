@@ -1,4 +1,4 @@
-use Rattle.std.proofs.Common.{◌≡◌, ℕ, ◌+◌, ◌<◌, length, refl, sym, ap, subst, ◌∙◌, arith, ◌-◌, ◌≤◌, rules}
+use Rattle.std.proofs.Common.{◌≡◌, ℕ, ◌+◌, length, refl, sym, ap, subst, ◌∙◌, arith, ◌-◌, ◌≤◌, rules}
 use Rattle.rc_program.specs.Answer.{HasNoWalkFrom}
 use Rattle.rc_text.specs.Text.{Keeps, high}
 use Rattle.rc_pikevm.specs.Threads.{ThreadList}
