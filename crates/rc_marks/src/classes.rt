@@ -90,8 +90,9 @@ fn joined(
     Ok(all)
 }
 
-/// The ranges in order, and joined where they touch, for ranges of any numbers: one at a time, which takes as
-/// many steps as the square of their count.
+/// The ranges in order, and joined where they touch: put in one by one, in steps as many as the square of their
+/// count. Where a range ends before it begins, or at a surrogate, the order in which they are given matters, so that
+/// they can't be sorted first. No list has such a range.
 #[tactic(auto, using(crate::proofs::ClassSteps::canonical_start, crate::proofs::ClassSteps::canonical_step))]
 fn inserted(
     alloc: Global,
