@@ -83,7 +83,7 @@ folded_codes u (r ∷ rs) h = (
 
 -- ---- in order
 
-either : (P : ℕ → Type 0) (a b c : ℕ) → (c ≡ a) ⊎ (c ≡ b) → P a → P b → P c
+pub either : (P : ℕ → Type 0) (a b c : ℕ) → (c ≡ a) ⊎ (c ≡ b) → P a → P b → P c
 either P a b c h x y = ⊎_elim (λ e. subst P (sym e) x) (λ e. subst P (sym e) y) h
 
 min_one : (a b : ℕ) → (min a b ≡ a) ⊎ (min a b ≡ b)
@@ -93,7 +93,7 @@ min_one a b = go (nat_lt a b) refl
     go true e = let l = ltb-true a b e in inl (omega (arith, l))
     go false e = let l = ltb-false a b e in inr (omega (arith, l))
 
-max_one : (a b : ℕ) → (max a b ≡ a) ⊎ (max a b ≡ b)
+pub max_one : (a b : ℕ) → (max a b ≡ a) ⊎ (max a b ≡ b)
 max_one a b = go (nat_lt a b) refl
   where
     go : (t : Bool) → nat_lt a b ≡ t → (max a b ≡ a) ⊎ (max a b ≡ b)
@@ -117,16 +117,16 @@ joins_codes u r (q ∷ qs) h g =
     ordered : min r.0 q.0 ≤ max r.1 q.1
     ordered = let a = h.2 in omega (arith, a)
 
-canonical_codes : (u : Bool) (rs : List Range) → AreCodes u rs → AreCodes u (canonical u rs)
+pub canonical_codes : (u : Bool) (rs : List Range) → AreCodes u rs → AreCodes u (canonical u rs)
 canonical_codes u [] h = tt
 canonical_codes u (r ∷ rs) h = joins_codes u r (canonical u rs) (h.0, h.1, h.2, tt) (canonical_codes u rs h.3)
 
 -- in order, none below n, and a code left out between neighbours
-abbrev InOrder : Bool → ℕ → List Range → Type 0
+abbrev pub InOrder : Bool → ℕ → List Range → Type 0
 InOrder u n [] = Unit {0}
 InOrder u n (r ∷ rs) = (n ≤ r.0) × (r.0 ≤ r.1) × InOrder u (suc (next u r.1)) rs
 
-next_above : (u : Bool) (c : ℕ) → c < next u c
+pub next_above : (u : Bool) (c : ℕ) → c < next u c
 next_above u c = if_elim (λ x. c < x) (u && c == 0xD7FF) 0xE000 (c + 1) (λ e. let (_, b) = and_parts u (c == 0xD7FF) e in let h = eqb-true c 0xD7FF b in omega (arith, h)) (λ _. omega arith)
 
 lower_floor : (u : Bool) (m n : ℕ) (rs : List Range) → m ≤ n → InOrder u n rs → InOrder u m rs
@@ -152,7 +152,7 @@ joins_in_order u n r (q ∷ qs) a b h =
     floor : n ≤ suc (next u q.1)
     floor = let x = h.0 in let y = h.1 in let z = next_above u q.1 in omega (arith, x, y, z)
 
-canonical_in_order : (u : Bool) (rs : List Range) → AreCodes u rs → InOrder u 0 (canonical u rs)
+pub canonical_in_order : (u : Bool) (rs : List Range) → AreCodes u rs → InOrder u 0 (canonical u rs)
 canonical_in_order u [] h = tt
 canonical_in_order u (r ∷ rs) h = joins_in_order u 0 r (canonical u rs) (omega arith) h.2 (canonical_in_order u rs h.3)
 
@@ -170,7 +170,7 @@ last_is false = omega arith
 abbrev IsStart : Bool → ℕ → Type 0
 IsStart u c = IsCode u c ⊎ (last_code u < c)
 
-next_start : (u : Bool) (c : ℕ) → IsCode u c → IsStart u (next u c)
+pub next_start : (u : Bool) (c : ℕ) → IsCode u c → IsStart u (next u c)
 next_start true c h = if_elim (IsStart true) (c == 0xD7FF) 0xE000 (c + 1) (λ _. inl (inr (omega arith, omega arith)))
     (λ e. let n = eqb-false c 0xD7FF e in ⊎_elim (λ l. inl (inl (omega (arith, l, n)))) (λ (a, b). go (nat_lt c 0x10FFFF) refl a b) h)
   where
@@ -183,11 +183,11 @@ next_start false c h = go (nat_lt c 255) refl
     go true e = let l = ltb-true c 255 e in inl (omega (arith, l))
     go false e = let l = ltb-false c 255 e in inr (omega (arith, l))
 
-code_most : (u : Bool) (c : ℕ) → IsCode u c → c ≤ last_code u
+pub code_most : (u : Bool) (c : ℕ) → IsCode u c → c ≤ last_code u
 code_most true c h = ⊎_elim (λ l. omega (arith, l)) (λ (a, b). omega (arith, b)) h
 code_most false c h = omega (arith, h)
 
-start_code : (u : Bool) (c d : ℕ) → IsStart u c → d ≤ last_code u → c ≤ d → IsCode u c
+pub start_code : (u : Bool) (c d : ℕ) → IsStart u c → d ≤ last_code u → c ≤ d → IsCode u c
 start_code u c d h l g = ⊎_elim (λ x. x) (λ x. absurd (omega (arith, x, l, g))) h
 
 -- the code before one that isn't the first, and no start stands between them

@@ -3,6 +3,7 @@ use Rattle.std.proofs.Common.{◌≡◌, ℕ, ◌+◌, ◌<◌, ◌≤◌, Bool,
 use Rattle.std.proofs.lemmas.List.{drop_more, drop_all}
 use Rattle.rc_marks.specs.ClassView.{pair, pairs}
 use Rattle.rc_marks.specs.Classes.{next, before, joins, canonical, shared, lower, upper, folded, gaps, last_code}
+use Rattle.rc_marks.specs.Merged.{merges}
 use Rattle.rc_marks.specs.declared.classes.CodeRange.{CodeRange}
 
 none : CodeRange
@@ -50,3 +51,14 @@ folded_step rs i q h e = ap folded (from_at rs i q h e)
 
 pub folded_end : (rs : List CodeRange) (i : ℕ) → length rs ≤ i → folded (pairs (drop i rs)) ≡ []
 folded_end rs i h = ap (λ x. folded (pairs x)) (drop_all i rs h)
+
+pub merges_apart : (u : Bool) (c : CodeRange) (rs : List CodeRange) (i : ℕ) (q : CodeRange) → i < length rs → q ≡ get_or rs i q →
+    nat_lt (next u c.end) q.start ≡ true → merges u (pair c) (pairs (drop i rs)) ≡ pair c ∷ merges u (pair q) (pairs (drop (i + 1) rs))
+merges_apart u c rs i q h e t = ap (merges u (pair c)) (from_at rs i q h e) ∙ rw t refl
+
+pub merges_touch : (u : Bool) (c : CodeRange) (rs : List CodeRange) (i : ℕ) (q : CodeRange) → i < length rs → q ≡ get_or rs i q →
+    nat_lt (next u c.end) q.start ≡ false → merges u (pair c) (pairs (drop i rs)) ≡ merges u (c.start, max c.end q.end) (pairs (drop (i + 1) rs))
+merges_touch u c rs i q h e t = ap (merges u (pair c)) (from_at rs i q h e) ∙ rw t refl
+
+pub merges_end : (u : Bool) (c : CodeRange) (rs : List CodeRange) (i : ℕ) → length rs ≤ i → merges u (pair c) (pairs (drop i rs)) ≡ pair c ∷ []
+merges_end u c rs i h = ap (λ x. merges u (pair c) (pairs x)) (drop_all i rs h)

@@ -12,4 +12,5 @@ pub mod ClassSteps
 pub mod ItemLemmas
 pub mod LeadLemmas
 pub mod ClassLemmas
+pub mod MergedLemmas
 mod Examples

@@ -7,3 +7,4 @@ pub mod View
 pub mod ClassView
 pub mod Items
 pub mod Laws
+pub mod Merged

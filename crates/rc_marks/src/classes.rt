@@ -3,7 +3,9 @@
 ghost use Rattle.std.specs.Prelude.{◌≡◌, ◌+◌, ◌-◌, ◌<◌, ◌≤◌, ◌++◌, ◌∷◌, [], List, ℕ, Some, None, map, max, min, true, false, nat_lt, IfOk, OnOk, option_map};
 ghost use Rattle.rc_pattern.specs.Re.{Range};
 ghost use Rattle.rc_marks.specs.ClassView.{pair, pairs};
-ghost use Rattle.rc_marks.specs.Classes.{next, before, joins, canonical, shared, lower, upper, folded, gaps, folded_if, negated_if, class_of, last_code, has_high};
+ghost use Rattle.rc_marks.specs.Classes.{next, before, joins, canonical, shared, lower, upper, folded, gaps, folded_if, negated_if, class_of, last_code, is_code, has_high};
+ghost use Rattle.rc_marks.specs.Merged.{is_range, are_ranges, merged};
+ghost use Rattle.std.specs.List.Sorted.{IsPermutation, IsNonDecreasingBy};
 
 use std::alloc::{AllocError, Global};
 
@@ -88,9 +90,11 @@ fn joined(
     Ok(all)
 }
 
-/// The ranges in order, and joined where they touch.
+/// The ranges in order, and joined where they touch: put in one by one, in steps as many as the square of their
+/// count. Where a range ends before it begins, or at a surrogate, the order in which they are given matters, so that
+/// they can't be sorted first. No list has such a range.
 #[tactic(auto, using(crate::proofs::ClassSteps::canonical_start, crate::proofs::ClassSteps::canonical_step))]
-fn canonical(
+fn inserted(
     alloc: Global,
     unicode: bool,
     ranges: &[CodeRange],
@@ -104,6 +108,85 @@ fn canonical(
         all = joined(alloc, unicode, ranges[left], &all)?;
     }
     Ok(all)
+}
+
+/// Whether the number is the code of a character, or of a byte.
+fn is_code(unicode: bool, code: u32) -> bool
+    ensures { result ≡ is_code unicode code }
+{
+    if unicode {
+        return code < 0xD800 || (0xE000 <= code && code < 0x11_0000);
+    }
+    code < 256
+}
+
+/// Whether both ends are codes, and it ends where it begins or later.
+fn is_range(unicode: bool, range: CodeRange) -> bool
+    ensures { result ≡ is_range unicode (pair range) }
+{
+    is_code(unicode, range.start) && is_code(unicode, range.end) && range.start <= range.end
+}
+
+/// Whether each is a range of codes.
+fn are_ranges(unicode: bool, ranges: &[CodeRange]) -> bool
+    ensures { result ≡ are_ranges unicode (pairs ranges.now) }
+{
+    for range in ranges {
+        if !is_range(unicode, *range) {
+            return false;
+        }
+    }
+    true
+}
+
+/// The ranges in the order of where they begin.
+fn sorted(alloc: Global, ranges: &[CodeRange]) -> Result<Vec<CodeRange>, AllocError>
+    ensures moved { IfOk result (λ v. IsPermutation ranges.now v.items) }
+    ensures order { IfOk result (λ v. IsNonDecreasingBy (λ (r : CodeRange). r.start) v.items) }
+{
+    let mut all = Vec::from_slice(alloc, ranges)?;
+    all.sort_unstable_by_key(|range| range.start);
+    Ok(all)
+}
+
+/// Joins ranges that stand in the order of where they begin.
+#[tactic(auto, using(crate::proofs::ClassSteps::merges_apart, crate::proofs::ClassSteps::merges_touch, crate::proofs::ClassSteps::merges_end))]
+fn merged(alloc: Global, unicode: bool, ranges: &[CodeRange]) -> Result<Vec<CodeRange>, AllocError>
+    ensures { IfOk result (λ v. pairs v.items ≡ merged unicode (pairs ranges.now)) }
+{
+    let mut all = Vec::new(alloc);
+    if ranges.is_empty() {
+        return Ok(all);
+    }
+    let mut current = ranges[0];
+    for i in 1..ranges.len() {
+        let other = ranges[i];
+        if is_apart(unicode, current.end, other.start) {
+            push(&mut all, current.start, current.end)?;
+            current = other;
+        } else {
+            current.end = current.end.max(other.end);
+        }
+    }
+    push(&mut all, current.start, current.end)?;
+    Ok(all)
+}
+
+/// The ranges in order, and joined where they touch. Ranges of codes, as every list has, are sorted and then
+/// joined in one pass.
+#[tactic(auto, using(crate::proofs::MergedLemmas::merged_sorted))]
+fn canonical(
+    alloc: Global,
+    unicode: bool,
+    ranges: &[CodeRange],
+) -> Result<Vec<CodeRange>, AllocError>
+    ensures { IfOk result (λ v. pairs v.items ≡ canonical unicode (pairs ranges.now)) }
+{
+    if !are_ranges(unicode, ranges) {
+        return inserted(alloc, unicode, ranges);
+    }
+    let in_order = sorted(alloc, ranges)?;
+    merged(alloc, unicode, &in_order)
 }
 
 /// What the ranges in order leave out.

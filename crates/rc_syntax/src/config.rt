@@ -196,6 +196,8 @@ impl Config {
 }
 
 impl Default for Config {
+    ghost is_default = { λ c. settings_of c ≡ default_settings };
+
     fn default() -> Config {
         Config::new()
     }

@@ -1,7 +1,7 @@
 use Rattle.std.proofs.Common.{◌≡◌, ◌≤◌, length, drop}
 use Rattle.rc_marks.specs.ClassView.{pairs}
 use Rattle.rc_marks.specs.Classes.{canonical}
-use Rattle.rc_marks.proofs.classes.canonical.Given as goal
+use Rattle.rc_marks.proofs.classes.inserted.Given as goal
 
 abbrev pub invariant-loop-left : goal.invariant-loop-left
 invariant-loop-left l = (l.left ≤ length l.fn.ranges) × (pairs l.all.items ≡ canonical l.fn.unicode (pairs (drop l.left l.fn.ranges)))
