@@ -1,12 +1,12 @@
 -- One step of a finder, from what the engine finds.
-use Rattle.std.proofs.Common.{◌≡◌, ◌∙◌, ◌+◌, ◌-◌, ◌≤◌, ◌<◌, ℕ, Bool, true, false, List, [], ◌∷◌, length, map, Option, Some, None, ap, sym, subst, refl, arith}
+use Rattle.std.proofs.Common.{◌≡◌, ◌∙◌, ◌+◌, ◌-◌, ◌≤◌, ◌<◌, ℕ, Bool, true, false, [], ◌∷◌, length, Option, Some, None, ap, sym, subst, refl, arith}
 use Rattle.std.proofs.lemmas.List.{length-map}
 use Rattle.rc_pattern.specs.WellFormed.{group_names}
 use Rattle.rc_text.specs.Found.{Found}
 use Rattle.rc_text.specs.Text.{Searched, high}
 use Rattle.rc_captures.specs.Captures.{match_of}
 use Rattle.rc_captures.specs.declared.captures.Captures.{Captures}
-use Rattle.rc_program.specs.Answer.{Search, Chosen, answer, found}
+use Rattle.rc_program.specs.Answer.{Chosen, answer}
 use Rattle.rc_program.specs.Matches.{answer_from, begin_of, end_of, from_on, matches_left, next_match}
 use Rattle.rc_program.specs.Program.{program, shown}
 use Rattle.rc_program.specs.Sought.{passes_over, search_for}

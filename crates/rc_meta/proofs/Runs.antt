@@ -1,7 +1,7 @@
 -- What calls of `next` give of a list of matches with their groups.
-use Rattle.std.proofs.Common.{◌≡◌, ◌∙◌, ◌<◌, ℕ, zero, suc, All, List, [], ◌∷◌, ◌++◌, length, map, get_or, Option, Some, None, Result, Ok, ap, sym, subst, arith}
+use Rattle.std.proofs.Common.{◌≡◌, ◌∙◌, ℕ, zero, suc, All, List, [], ◌∷◌, ◌++◌, map, Some, None, Ok, ap, sym, subst, arith}
 use Rattle.std.proofs.lemmas.List.{append-nil}
-use Rattle.std.specs.Iterator.{Yields, YieldsThen}
+use Rattle.std.specs.Iterator.{Yields}
 use Rattle.rc_captures.specs.Captures.{match_of}
 use Rattle.rc_captures.specs.Names.{Names}
 use Rattle.rc_captures.specs.declared.captures.Captures.{Captures}
@@ -9,7 +9,7 @@ use Rattle.rc_program.specs.Answer.{Search, Chosen}
 use Rattle.rc_program.specs.Matches.{from_on, matches_left}
 use Rattle.rc_matches.specs.Tells.{TellsOf, AllTell, KeepsAll}
 use Rattle.rc_matches.specs.Walks.{walks_left}
-use Rattle.rc_meta.specs.Left.{captures_input, captures_left, captures_regex, captures_walks, CapturesLaw, CapturesNext, HoldsNext}
+use Rattle.rc_meta.specs.Left.{captures_input, captures_left, captures_regex, captures_walks, CapturesLaw, CapturesNext}
 use Rattle.rc_meta.specs.Views.{regex_names, sought}
 use Rattle.rc_meta.specs.declared.iterators.CapturesMatches.{CapturesMatches}
 use Rattle.rc_program.specs.Sought.{search_for}

@@ -76,7 +76,9 @@ impl<'r> Finder<'r> {
             self.is_done = true;
             return Some(Err(AllocError));
         };
-        regex.engine.find_captures(&mut self.cache, input, &mut caps);
+        regex
+            .engine
+            .find_captures(&mut self.cache, input, &mut caps);
         input.set_start(found.end());
         self.last = Some(found.end());
         Some(Ok(caps))

@@ -9,8 +9,7 @@ use Rattle.rc_meta.proofs.finder.Finder.next_captures.Goals as goal
 
 pub returns-in_default-clause-steps : goal.returns-in_default-clause-steps
 returns-in_default-clause-steps g c =
-    let f = c.args.self.now in
-    (
+    let f = c.args.self.now in (
       none_left f.regex.now c.args.input.now f.last f.is_done (sym c.in_default.is ∙ c.next_match.ensures.found),
       no_walks f.regex.now c.args.input.now f.last f.is_done (sym c.in_default.is ∙ c.next_match.ensures.found),
       refl {a = []},

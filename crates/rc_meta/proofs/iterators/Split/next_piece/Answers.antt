@@ -1,6 +1,5 @@
 use Rattle.std.proofs.Common.{ap}
 use Rattle.rc_text.specs.Text.{high}
-use Rattle.rc_text.specs.declared.types.Span.{Span}
 use Rattle.rc_meta.specs.Left.{left_in}
 use Rattle.rc_meta.proofs.Cuts.{cut, same_high}
 use Rattle.rc_meta.proofs.iterators.Split.next_piece.Goals as goal
