@@ -4,11 +4,11 @@ ghost use Rattle.std.specs.Prelude.{◌≡◌};
 ghost use Rattle.rc_program.specs.Matches.{begin_of, end_of, is_again};
 ghost use Rattle.rc_program.specs.Sought.{IsRunnable};
 ghost use Rattle.rc_thompson.specs.Places.{places_of};
-ghost use Rattle.rc_matches.specs.Strategies.{IsSound};
+ghost use Rattle.rc_matches.specs.Strategies.{IsSound, IsSound-is_fact};
 
+use crate::strategy::{Strategy, guards_of, literals_of};
 use rc_captures::captures;
 use rc_captures::captures::Captures;
-use crate::strategy::{Strategy, guards_of, literals_of};
 use rc_literal::literal;
 use rc_pikevm::cache::Cache;
 use rc_pikevm::kinds::{find_by_kind, search_slots_by_kind};
@@ -28,7 +28,7 @@ pub struct Engine {
     pub kind: MatchKind,
     pub strategy: Strategy,
     ghost runnable: { IsRunnable (places_of places.items) },
-    ghost sound: { IsSound (places_of places.items) terminator passes_over strategy },
+    ghost sound: { IsSound (places_of places.items) terminator passes_over strategy } by { IsSound-is_fact (places_of places.items) terminator passes_over strategy },
 }
 
 impl Engine {
