@@ -9,7 +9,8 @@ mod kind_tests;
 pub mod kinds;
 mod moves;
 mod pass;
-pub mod runnable;
+#[cfg(test)]
+mod runnable;
 pub mod search;
 pub mod sparse_set;
 mod spread;
