@@ -2,15 +2,18 @@
 use Rattle.std.proofs.Common.{◌≡◌, ◌∙◌, ℕ, zero, suc, All, List, [], ◌∷◌, ◌++◌, map, Some, None, Ok, ap, sym, subst, arith}
 use Rattle.std.proofs.lemmas.List.{append-nil}
 use Rattle.std.specs.Iterator.{Yields}
+use Rattle.rc_text.specs.declared.types.MatchKind.{MatchKind}
+use Rattle.rc_text.specs.declared.types.MatchKind.TheVariants.{All as all_matches, LeftmostFirst as leftmost_first}
 use Rattle.rc_captures.specs.Captures.{match_of}
 use Rattle.rc_captures.specs.Names.{Names}
 use Rattle.rc_captures.specs.declared.captures.Captures.{Captures}
 use Rattle.rc_program.specs.Answer.{Search, Chosen}
+use Rattle.rc_program.specs.Kinds.{matches_by_kind}
 use Rattle.rc_program.specs.Matches.{from_on, matches_left}
-use Rattle.rc_matches.specs.Tells.{TellsOf, AllTell, KeepsAll}
+use Rattle.rc_matches.specs.Tells.{TellsOf, TellsSpan, AllTell, KeepsAll}
 use Rattle.rc_matches.specs.Walks.{walks_left}
-use Rattle.rc_meta.specs.Left.{captures_input, captures_left, captures_regex, captures_walks, CapturesLaw, CapturesNext}
-use Rattle.rc_meta.specs.Views.{regex_names, sought}
+use Rattle.rc_meta.specs.Left.{captures_input, captures_left, captures_regex, captures_walks, CapturesLaw, CapturesNext, MatchedLaw}
+use Rattle.rc_meta.specs.Views.{regex_kind, regex_names, sought}
 use Rattle.rc_meta.specs.declared.iterators.CapturesMatches.{CapturesMatches}
 use Rattle.rc_program.specs.Sought.{search_for}
 
@@ -26,45 +29,78 @@ module _ {X : Type 0} (P : X → Type 0) where
 abbrev pub searched : {C : Type 0} → CapturesMatches C → Search
 searched s = search_for (sought (captures_regex s)) (captures_input s)
 
--- Captures that came between two states, and what is left of the lists.
-record Came {C : Type 0} (names : Names) (search : Search) (s : CapturesMatches C) (items : List Captures) (t : CapturesMatches C) : Type 0 where
+-- Captures that came between two states, and what is left of the list.
+record Came {C : Type 0} (kind : MatchKind) (names : Names) (s : CapturesMatches C) (items : List Captures) (t : CapturesMatches C) : Type 0 where
   pub kept : All (KeepsAll names) items
+  pub matched : map Some (captures_left s) ≡ map match_of items ++ map Some (captures_left t)
+  pub spans : kind ≡ all_matches → All (λ caps. TellsSpan (match_of caps) caps) items
+
+came : {C : Type 0} (kind : MatchKind) (names : Names) (items : List Captures) (s t : CapturesMatches C) → regex_kind (captures_regex s) ≡ kind →
+    regex_names (captures_regex s) ≡ names → Yields CapturesNext s (map Ok items) t → Came kind names s items t
+came kind names [] s t kinded named e = record {
+  kept = none_all (KeepsAll names);
+  matched = ap (λ u. map Some (captures_left u)) e;
+  spans = λ all. none_all (λ caps. TellsSpan (match_of caps) caps);
+}
+came kind names (caps ∷ items) s t kinded named (j, step, ys) =
+    let rest = came kind names items j t (ap regex_kind step.regex ∙ kinded) (ap regex_names step.regex ∙ named) ys in
+    record {
+      kept = one_more (KeepsAll names) caps items (subst (λ n. KeepsAll n caps) named step.kept) rest.kept;
+      matched = ap (map Some) step.left ∙ ap (λ o. o ∷ map Some (captures_left j)) (sym step.matched) ∙ ap (λ xs. match_of caps ∷ xs) rest.matched;
+      spans = λ all.
+          one_more (λ x. TellsSpan (match_of x) x) caps items
+          (subst (λ o. TellsSpan o caps) (sym step.matched) (step.spans (kinded ∙ all))) (rest.spans all);
+    }
+
+-- The walks that they tell, and what is left of theirs.
+record Walked {C : Type 0} (search : Search) (s : CapturesMatches C) (items : List Captures) (t : CapturesMatches C) : Type 0 where
   pub walks : List Chosen
   pub told : AllTell search walks items
   pub others : captures_walks s ≡ walks ++ captures_walks t
-  pub matched : map Some (captures_left s) ≡ map match_of items ++ map Some (captures_left t)
+  pub kinded : regex_kind (captures_regex t) ≡ leftmost_first
 
-came : {C : Type 0} (names : Names) (search : Search) (x : ℕ) (items : List Captures) (s t : CapturesMatches C) → regex_names (captures_regex s) ≡ names →
-    searched s ≡ from_on search x → Yields CapturesNext s (map Ok items) t → Came names search s items t
-came names search x [] s t named same e = record {
-  kept = none_all (KeepsAll names);
+walked : {C : Type 0} (search : Search) (x : ℕ) (items : List Captures) (s t : CapturesMatches C) → regex_kind (captures_regex s) ≡ leftmost_first →
+    searched s ≡ from_on search x → Yields CapturesNext s (map Ok items) t → Walked search s items t
+walked search x [] s t kinded same e = record {
   walks = [];
   told = tt;
   others = ap captures_walks e;
-  matched = ap (λ u. map Some (captures_left u)) e;
+  kinded = ap (λ u. regex_kind (captures_regex u)) (sym e) ∙ kinded;
 }
-came names search x (caps ∷ items) s t named same (j, step, ys) =
-    let rest = came names search step.start items j t (ap regex_names step.regex ∙ named) (step.search ∙ ap (λ y. from_on y step.start) same) ys in
+walked search x (caps ∷ items) s t kinded same (j, step, ys) =
+    let next = step.tells kinded in
+    let rest = walked search step.start items j t (ap regex_kind step.regex ∙ kinded) (step.search ∙ ap (λ y. from_on y step.start) same) ys in
     record {
-      kept = one_more (KeepsAll names) caps items (subst (λ n. KeepsAll n caps) named step.kept) rest.kept;
-      walks = step.walk ∷ rest.walks;
-      told = (subst (λ y. TellsOf y (Some step.walk) caps) same step.told, rest.told);
-      others = step.walks ∙ ap (λ ws. step.walk ∷ ws) rest.others;
-      matched = ap (map Some) step.left ∙ ap (λ o. o ∷ map Some (captures_left j)) (sym step.matched) ∙ ap (λ xs. match_of caps ∷ xs) rest.matched;
+      walks = next.walk ∷ rest.walks;
+      told = (subst (λ y. TellsOf y (Some next.walk) caps) same next.told, rest.told);
+      others = next.walks ∙ ap (λ ws. next.walk ∷ ws) rest.others;
+      kinded = rest.kinded;
     }
 
-pub captures_law : {C : Type 0} (names : Names) (search : Search) (start : ℕ) (s : CapturesMatches C) → regex_names (captures_regex s) ≡ names →
-    searched s ≡ from_on search start → captures_walks s ≡ walks_left search start None → captures_left s ≡ matches_left search start None →
-    CapturesLaw names search start s
-captures_law names search start s named same walks left = record {
-  kept = λ items t ys. let c = came names search start items s t named same ys in c.kept;
-  told = λ items t ys. let c = came names search start items s t named same ys in (c.walks, c.told, sym walks ∙ c.others);
-  matched = λ items t ys. let c = came names search start items s t named same ys in ap (map Some) (sym left) ∙ c.matched;
-  all_told = λ items t ys.
-      let c = came names search start items s ys.0 named same ys.1 in
-      subst (λ ws. AllTell search ws items)
-      (sym (sym walks ∙ c.others ∙ ap (λ ws. c.walks ++ ws) ys.2.1 ∙ append-nil c.walks)) c.told;
+pub matched_law : {C : Type 0} (kind : MatchKind) (names : Names) (search : Search) (start : ℕ) (s : CapturesMatches C) →
+    regex_kind (captures_regex s) ≡ kind → regex_names (captures_regex s) ≡ names → captures_left s ≡ matches_by_kind kind search start None →
+    MatchedLaw kind names search start s
+matched_law kind names search start s kinded named left = record {
+  kept = λ items t ys. let c = came kind names items s t kinded named ys in c.kept;
+  matched = λ items t ys. let c = came kind names items s t kinded named ys in ap (map Some) (sym left) ∙ c.matched;
+  spans = λ all items t ys. let c = came kind names items s t kinded named ys in c.spans all;
   all_matched = λ items t ys.
-      let c = came names search start items s ys.0 named same ys.1 in
+      let c = came kind names items s ys.0 kinded named ys.1 in
+      sym (ap (map Some) (sym left) ∙ c.matched ∙ ap (λ ms. map match_of items ++ map Some ms) ys.2.0 ∙ append-nil (map match_of items));
+}
+
+pub captures_law : {C : Type 0} (names : Names) (search : Search) (start : ℕ) (s : CapturesMatches C) → regex_kind (captures_regex s) ≡ leftmost_first →
+    regex_names (captures_regex s) ≡ names → searched s ≡ from_on search start → captures_walks s ≡ walks_left search start None →
+    captures_left s ≡ matches_left search start None → CapturesLaw names search start s
+captures_law names search start s kinded named same walks left = record {
+  kept = λ items t ys. let c = came leftmost_first names items s t kinded named ys in c.kept;
+  told = λ items t ys. let w = walked search start items s t kinded same ys in (w.walks, w.told, sym walks ∙ w.others);
+  matched = λ items t ys. let c = came leftmost_first names items s t kinded named ys in ap (map Some) (sym left) ∙ c.matched;
+  all_told = λ items t ys.
+      let w = walked search start items s ys.0 kinded same ys.1 in
+      subst (λ ws. AllTell search ws items)
+      (sym (sym walks ∙ w.others ∙ ap (λ ws. w.walks ++ ws) (ys.2.1 w.kinded) ∙ append-nil w.walks)) w.told;
+  all_matched = λ items t ys.
+      let c = came leftmost_first names items s ys.0 kinded named ys.1 in
       sym (ap (map Some) (sym left) ∙ c.matched ∙ ap (λ ms. map match_of items ++ map Some ms) ys.2.0 ∙ append-nil (map match_of items));
 }

@@ -10,7 +10,7 @@ use Rattle.rc_thompson.specs.Places.{places_of}
 use Rattle.rc_matches.specs.declared.engine.Engine.{Engine}
 use Rattle.rc_build.specs.Names.{is_grouped, names_shown}
 use Rattle.rc_build.specs.Refusals.{greatest_weight}
-use Rattle.rc_build.specs.Settings.{Settings, utf8_empty_of, which_captures_of, line_terminator_of}
+use Rattle.rc_build.specs.Settings.{Settings, match_kind_of, utf8_empty_of, which_captures_of, line_terminator_of}
 
 -- what is sought by patterns under settings
 abbrev pub sought_by : Settings → List Re → Sought
@@ -27,4 +27,5 @@ pub record Fits (s : Settings) (hs : List Re) (e : Engine) (info : GroupInfo) : 
   pub placed : places_of e.places.items ≡ program (shown (is_grouped (which_captures_of s)) hs)
   pub ended : e.terminator ≡ line_terminator_of s
   pub passing : e.passes_over ≡ passes_over (sought_by s hs)
+  pub kinded : e.kind ≡ match_kind_of s
   pub named : names_of info ≡ names_shown (is_grouped (which_captures_of s)) hs

@@ -5,16 +5,19 @@ use Rattle.std.specs.declared.alloc.AllocError.{AllocError}
 use Rattle.std.specs.Iterator.{Yields, YieldsThen}
 use Rattle.rc_text.specs.Found.{Found}
 use Rattle.rc_text.specs.Text.{Searched, high}
+use Rattle.rc_text.specs.declared.types.MatchKind.{MatchKind}
+use Rattle.rc_text.specs.declared.types.MatchKind.TheVariants.{All as all_matches, LeftmostFirst as leftmost_first}
 use Rattle.rc_text.specs.declared.types.Span.{Span}
 use Rattle.rc_captures.specs.Captures.{match_of}
 use Rattle.rc_captures.specs.Names.{Names}
 use Rattle.rc_captures.specs.declared.captures.Captures.{Captures}
 use Rattle.rc_program.specs.Answer.{Search, Chosen}
+use Rattle.rc_program.specs.Kinds.{matches_by_kind}
 use Rattle.rc_program.specs.Matches.{from_on, matches_left, pieces_from, pieces_left}
 use Rattle.rc_program.specs.Sought.{search_for}
-use Rattle.rc_matches.specs.Tells.{TellsOf, AllTell, KeepsAll}
+use Rattle.rc_matches.specs.Tells.{TellsOf, TellsSpan, AllTell, KeepsAll}
 use Rattle.rc_matches.specs.Walks.{walks_left}
-use Rattle.rc_meta.specs.Views.{regex_names, sought}
+use Rattle.rc_meta.specs.Views.{regex_kind, regex_names, sought}
 use Rattle.rc_meta.specs.declared.regex.Regex.{Regex}
 use Rattle.rc_meta.specs.declared.finder.Finder.{Finder}
 use Rattle.rc_meta.specs.declared.iterators.FindMatches.{FindMatches}
@@ -30,11 +33,15 @@ search_by f i = search_for (sought f.regex.now) i
 abbrev pub unless_done : {X : Type 0} → Bool → List X → List X
 unless_done done xs = if done then [] else xs
 
+-- the kind of match that a finder finds
+abbrev pub kind_by : Finder → MatchKind
+kind_by f = regex_kind f.regex.now
+
 -- the matches that a finder has left in an input
 abbrev pub left_in : Finder → Searched → List Found
-left_in f i = unless_done f.is_done (matches_left (search_by f i) i.span.start f.last)
+left_in f i = unless_done f.is_done (matches_by_kind (kind_by f) (search_by f i) i.span.start f.last)
 
--- and their walks
+-- and their walks, where they are leftmost-first
 abbrev pub walks_in : Finder → Searched → List Chosen
 walks_in f i = unless_done f.is_done (walks_left (search_by f i) i.span.start f.last)
 
@@ -45,15 +52,21 @@ GivesNext f i r g j = MatchOption r
     ((left_in f i ≡ []) × (left_in g j ≡ []))
     (λ m. left_in f i ≡ m ∷ left_in g j)
 
--- The captures hold the first of the matches that are left, with all its groups, and the others stay left.
+-- The captures tell the first of the walks that are left, with all its groups, and the others stay left.
+pub record TellsWalk (f : Finder) (i : Searched) (caps : Captures) (g : Finder) (j : Searched) : Type 0 where
+  pub walk : Chosen
+  pub told : TellsOf (search_by f i) (Some walk) caps
+  pub walks : walks_in f i ≡ walk ∷ walks_in g j
+
+-- The captures hold the first of the matches that are left, and the others stay left.
 pub record HoldsNext (f : Finder) (i : Searched) (caps : Captures) (g : Finder) (j : Searched) : Type 0 where
   pub kept : KeepsAll (regex_names f.regex.now) caps
   pub found : Found
   pub matched : match_of caps ≡ Some found
   pub left : left_in f i ≡ found ∷ left_in g j
-  pub walk : Chosen
-  pub told : TellsOf (search_by f i) (Some walk) caps
-  pub walks : walks_in f i ≡ walk ∷ walks_in g j
+  -- they hold all groups of a leftmost-first match, and none of a greatest one
+  pub tells : kind_by f ≡ leftmost_first → TellsWalk f i caps g j
+  pub spans : kind_by f ≡ all_matches → TellsSpan (Some found) caps
   -- the same is sought in the same, from elsewhere on
   pub regex : g.regex.now ≡ f.regex.now
   pub start : ℕ
@@ -63,7 +76,7 @@ pub record HoldsNext (f : Finder) (i : Searched) (caps : Captures) (g : Finder) 
 -- which none is left; or nothing where none is left, and then none is left.
 abbrev pub GivesCaptures : Finder → Searched → Option (Result Captures AllocError) → Finder → Searched → Type 0
 GivesCaptures f i r g j = MatchOption r
-    ((left_in f i ≡ []) × (walks_in f i ≡ []) × (left_in g j ≡ []))
+    ((left_in f i ≡ []) × (kind_by f ≡ leftmost_first → walks_in f i ≡ []) × (left_in g j ≡ []))
     (λ item. MatchResult item (λ caps. HoldsNext f i caps g j) (λ _. (0 < length (left_in f i)) × (left_in g j ≡ [])))
 
 -- whose matches they are
@@ -110,6 +123,20 @@ pub record CapturesLaw {C : Type 0} (names : Names) (search : Search) (start : �
       AllTell search (walks_left search start None) items
   pub all_matched : (items : List Captures) (t : CapturesMatches C) → YieldsThen CapturesNext s (map Ok items) None t →
       map match_of items ≡ map Some (matches_left search start None)
+
+-- What calls of `next` give of the list of matches of a kind, from the span's start `start` on.
+pub record MatchedLaw {C : Type 0} (kind : MatchKind) (names : Names) (search : Search) (start : ℕ) (s : CapturesMatches C) : Type 0 where
+  -- captures that came keep all groups,
+  pub kept : (items : List Captures) (t : CapturesMatches C) → Yields CapturesNext s (map Ok items) t → All (KeepsAll names) items
+  -- are of the first matches of the list,
+  pub matched : (items : List Captures) (t : CapturesMatches C) → Yields CapturesNext s (map Ok items) t →
+      map Some (matches_by_kind kind search start None) ≡ map match_of items ++ map Some (captures_left t)
+  -- tell no group of greatest matches;
+  pub spans : kind ≡ all_matches → (items : List Captures) (t : CapturesMatches C) → Yields CapturesNext s (map Ok items) t →
+      All (λ caps. TellsSpan (match_of caps) caps) items
+  -- and once nothing comes after them, are of all.
+  pub all_matched : (items : List Captures) (t : CapturesMatches C) → YieldsThen CapturesNext s (map Ok items) None t →
+      map match_of items ≡ map Some (matches_by_kind kind search start None)
 
 -- the pieces that are left: the next begins at `start`
 abbrev pub split_left : {C : Type 0} → Split C → List Span

@@ -2,10 +2,11 @@
 use Rattle.std.specs.Prelude.{List, map}
 use Rattle.rc_pattern.specs.Re.{Re}
 use Rattle.rc_pattern.specs.Meaning.{meaning}
+use Rattle.rc_text.specs.declared.types.MatchKind.{MatchKind}
 use Rattle.rc_captures.specs.Names.{Names}
 use Rattle.rc_program.specs.Sought.{Sought}
 use Rattle.rc_build.specs.Names.{is_grouped, names_shown}
-use Rattle.rc_build.specs.Settings.{Settings, settings_of, which_captures_of}
+use Rattle.rc_build.specs.Settings.{Settings, match_kind_of, settings_of, which_captures_of}
 use Rattle.rc_syntax.specs.Settings.{Settings as SyntaxSettings, settings_of as syntax_of}
 use Rattle.rc_meta.specs.Fits.{sought_by}
 use Rattle.rc_meta.specs.declared.regex.Regex.{Regex}
@@ -17,6 +18,10 @@ regex_patterns r = map meaning r.hirs.items
 
 abbrev pub regex_settings : Regex → Settings
 regex_settings r = settings_of r.config
+
+-- the kind of match that its searches find
+abbrev pub regex_kind : Regex → MatchKind
+regex_kind r = match_kind_of (regex_settings r)
 
 -- what it seeks
 abbrev pub sought : Regex → Sought

@@ -5,7 +5,7 @@ ghost use Rattle.rc_pattern.specs.Meaning.{meaning};
 ghost use Rattle.rc_program.specs.Sought.{IsRunnable, may_be_empty, passes_over};
 ghost use Rattle.rc_thompson.specs.Places.{places_of};
 ghost use Rattle.rc_build.specs.Refusals.{IsBuildable, IsRefusal};
-ghost use Rattle.rc_build.specs.Settings.{settings_of, unset, overwritten, nfa_size_limit_of, line_terminator_of};
+ghost use Rattle.rc_build.specs.Settings.{settings_of, unset, overwritten, match_kind_of, nfa_size_limit_of, line_terminator_of};
 ghost use Rattle.rc_build.specs.TextRefusals.{AllRead, IsTextRefusal, texts_of};
 ghost use Rattle.rc_meta.specs.Fits.{sought_by};
 ghost use Rattle.rc_meta.specs.Views.{builder_settings, builder_syntax, regex_patterns, regex_settings};
@@ -17,6 +17,7 @@ use rc_build::config::Config;
 use rc_build::error::BuildError;
 use rc_build::texts::parse_all;
 use rc_matches::engine::Engine;
+use rc_matches::strategy::Strategy;
 use rc_pattern::check::copies_of;
 use rc_pattern::hir::Hir;
 use rc_thompson::place::Place;
@@ -138,12 +139,15 @@ fn engine_of(config: &Config, hirs: &[Hir], places: Vec<Place>) -> Engine
     ensures places { result.places ≡ places }
     ensures terminator { result.terminator ≡ line_terminator_of (settings_of config.now) }
     ensures passes_over { result.passes_over ≡ passes_over (sought_by (settings_of config.now) (map meaning hirs.now)) }
+    ensures kind { result.kind ≡ match_kind_of (settings_of config.now) }
 {
     let passes_over = config.get_utf8_empty() && may_be_empty(hirs);
     Engine {
         places,
         terminator: config.get_line_terminator(),
         passes_over,
+        kind: config.get_match_kind(),
+        strategy: Strategy::Pass,
     }
 }
 

@@ -45,16 +45,18 @@ impl Regex {
     ghost use Rattle.rc_captures.specs.Captures.{IsCapturesFor, captures_pattern, captures_slots, match_of};
     ghost use Rattle.rc_captures.specs.Groups.{names_of};
     ghost use Rattle.rc_captures.specs.Names.{slot_len};
-    ghost use Rattle.rc_matches.specs.Tells.{Tells, KeepsAll};
+    ghost use Rattle.rc_matches.specs.Tells.{Tells, TellsBy, KeepsAll};
     ghost use Rattle.rc_matches.specs.Walks.{walks_left};
     ghost use Rattle.rc_program.specs.Matches.{matches_left, pieces_of, pieces_at_most};
-    ghost use Rattle.rc_meta.specs.Left.{captures_input, captures_left, captures_regex, captures_walks, CapturesLaw, find_input, find_left, find_regex, split_left, splitn_left, splitn_limit};
+    ghost use Rattle.rc_meta.specs.Left.{captures_input, captures_left, captures_regex, captures_walks, CapturesLaw, MatchedLaw, find_input, find_left, find_regex, split_left, splitn_left, splitn_limit};
     ghost use Rattle.rc_text.specs.Found.{Found};
     ghost use Rattle.rc_program.specs.Laws.{all_groups};
     ghost use Rattle.rc_meta.specs.Counts.{half_of, static_captures_len};
     ghost use Rattle.rc_text.specs.Text.{Keeps, low, high};
     ghost use Rattle.rc_text.specs.declared.types.MatchKind.TheVariants.{LeftmostFirst};
     ghost use Rattle.rc_program.specs.Answer.{answer, groups};
+    ghost use Rattle.rc_program.specs.Kinds.{IsAnswerBy, answer_by, matches_by_kind};
+    ghost use Rattle.rc_pikevm.specs.KindSlots.{slots_by};
     ghost use Rattle.rc_program.specs.Sought.{search_for};
     ghost use Rattle.rc_build.specs.Settings.{unset, match_kind_of, nfa_size_limit_of};
     ghost use Rattle.rc_build.specs.Refusals.{IsBuildable};
@@ -62,7 +64,7 @@ impl Regex {
     ghost use Rattle.rc_syntax.specs.Settings.{default_settings};
     ghost use Rattle.rc_matches.specs.Engine.{IsEngineCache};
     ghost use Rattle.rc_meta.specs.Caches.{IsCacheFor};
-    ghost use Rattle.rc_meta.specs.Views.{builder_settings, builder_syntax, regex_patterns, regex_settings, regex_names, sought};
+    ghost use Rattle.rc_meta.specs.Views.{builder_settings, builder_syntax, regex_kind, regex_patterns, regex_settings, regex_names, sought};
 
     /// The regex of the pattern as which this text is read by the default settings. Nothing else is set. The `Err`s are those of
     /// `new_many`.
@@ -115,6 +117,8 @@ impl Regex {
     ) -> Result<Option<Match>, AllocError>
         ensures found { match_kind_of (regex_settings self.now) ≡ LeftmostFirst
             → IfOk result (λ m. m ≡ answer (search_for (sought self.now) input)) }
+        ensures found_by { IfOk result (λ m. m ≡ answer_by (regex_kind self.now) (search_for (sought self.now) input)) }
+        ensures may { IfOk result (IsAnswerBy (regex_kind self.now) input.earliest (search_for (sought self.now) input)) }
         ensures within { IfOk result (λ o. IfSome o (λ m. (low input ≤ m.start) × (m.start ≤ m.end) × (m.end ≤ high input))) }
     {
         let mut cache = self.engine.create_cache(alloc, 0)?;
@@ -129,6 +133,7 @@ impl Regex {
     ) -> Result<Option<Match>, AllocError>
         ensures found { match_kind_of (regex_settings self.now) ≡ LeftmostFirst
             → IfOk result (λ m. m ≡ answer (search_for (sought self.now) input)) }
+        ensures found_by { IfOk result (λ m. m ≡ answer_by (regex_kind self.now) (search_for (sought self.now) input)) }
         ensures within { IfOk result (λ o. IfSome o (λ m. (low input ≤ m.start) × (m.start ≤ m.end) × (m.end ≤ high input))) }
     {
         let found = self.find(alloc, input)?;
@@ -142,6 +147,8 @@ impl Regex {
         ensures keeps { Keeps input.old input.new }
         ensures found { match_kind_of (regex_settings self.now) ≡ LeftmostFirst
             → result ≡ answer (search_for (sought self.now) input.old) }
+        ensures found_by { result ≡ answer_by (regex_kind self.now) (search_for (sought self.now) input.old) }
+        ensures may { IsAnswerBy (regex_kind self.now) input.old.earliest (search_for (sought self.now) input.old) result }
         ensures within { IfSome result (λ m. (low input.old ≤ m.start) × (m.start ≤ m.end) × (m.end ≤ high input.old)) }
     {
         self.engine.find(&mut cache.inner, input)
@@ -155,6 +162,7 @@ impl Regex {
     ) -> Result<Option<HalfMatch>, AllocError>
         ensures found { match_kind_of (regex_settings self.now) ≡ LeftmostFirst
             → IfOk result (λ m. m ≡ option_map half_of (answer (search_for (sought self.now) input))) }
+        ensures found_by { IfOk result (λ m. m ≡ option_map half_of (answer_by (regex_kind self.now) (search_for (sought self.now) input))) }
         ensures within { IfOk result (λ o. IfSome o (λ m. (low input ≤ m.offset) × (m.offset ≤ high input))) }
     {
         match self.find(alloc, input)? {
@@ -174,6 +182,7 @@ impl Regex {
         ensures keeps { Keeps input.old input.new }
         ensures found { match_kind_of (regex_settings self.now) ≡ LeftmostFirst
             → result ≡ option_map half_of (answer (search_for (sought self.now) input.old)) }
+        ensures found_by { result ≡ option_map half_of (answer_by (regex_kind self.now) (search_for (sought self.now) input.old)) }
         ensures within { IfSome result (λ m. (low input.old ≤ m.offset) × (m.offset ≤ high input.old)) }
     {
         match self.search_with(cache, input) {
@@ -188,8 +197,9 @@ impl Regex {
         alloc: Global,
         input: Input<C>,
     ) -> Result<bool, AllocError>
-        ensures { match_kind_of (regex_settings self.now) ≡ LeftmostFirst
+        ensures found { match_kind_of (regex_settings self.now) ≡ LeftmostFirst
             → IfOk result (λ b. IsTrue b ↔ IsSome (answer (search_for (sought self.now) input))) }
+        ensures found_by { IfOk result (λ b. IsTrue b ↔ IsSome (answer_by (regex_kind self.now) (search_for (sought self.now) input))) }
     {
         Ok(self.find(alloc, input)?.is_some())
     }
@@ -289,6 +299,8 @@ impl Regex {
             → IfOk result (Tells (search_for (sought self.now) input)) }
         ensures matched { match_kind_of (regex_settings self.now) ≡ LeftmostFirst
             → IfOk result (λ c. match_of c ≡ answer (search_for (sought self.now) input)) }
+        ensures told_by { IfOk result (TellsBy (regex_kind self.now) (search_for (sought self.now) input)) }
+        ensures matched_by { IfOk result (λ c. match_of c ≡ answer_by (regex_kind self.now) (search_for (sought self.now) input)) }
         ensures within { IfOk result (λ c. IfSome (match_of c) (λ m. (low input ≤ m.start) × (m.start ≤ m.end) × (m.end ≤ high input))) }
     {
         let mut caps = self.create_captures(alloc)?;
@@ -312,6 +324,8 @@ impl Regex {
             → OnOk result (Tells (search_for (sought self.now) input) caps.new) }
         ensures matched { match_kind_of (regex_settings self.now) ≡ LeftmostFirst
             → OnOk result (match_of caps.new ≡ answer (search_for (sought self.now) input)) }
+        ensures told_by { OnOk result (TellsBy (regex_kind self.now) (search_for (sought self.now) input) caps.new) }
+        ensures matched_by { OnOk result (match_of caps.new ≡ answer_by (regex_kind self.now) (search_for (sought self.now) input)) }
         ensures within { OnOk result (IfSome (match_of caps.new)
             (λ m. (low input ≤ m.start) × (m.start ≤ m.end) × (m.end ≤ high input))) }
     {
@@ -338,6 +352,8 @@ impl Regex {
             → Tells (search_for (sought self.now) input.old) caps.new }
         ensures matched { match_kind_of (regex_settings self.now) ≡ LeftmostFirst
             → match_of caps.new ≡ answer (search_for (sought self.now) input.old) }
+        ensures told_by { TellsBy (regex_kind self.now) (search_for (sought self.now) input.old) caps.new }
+        ensures matched_by { match_of caps.new ≡ answer_by (regex_kind self.now) (search_for (sought self.now) input.old) }
         ensures within { IfSome (match_of caps.new)
             (λ m. (low input.old ≤ m.start) × (m.start ≤ m.end) × (m.end ≤ high input.old)) }
     {
@@ -359,6 +375,11 @@ impl Regex {
             → IfOk result (λ p. MatchOption p
             (slots.new ≡ slots.old)
             (λ _. Some slots.new ≡ groups (search_for (sought self.now) input) (length slots.old))) }
+        ensures pattern_by {
+            IfOk result (λ p. p ≡ option_map (λ (m : Found). m.pattern) (answer_by (regex_kind self.now) (search_for (sought self.now) input))) }
+        ensures slots_by { IfOk result (λ p. MatchOption p
+            (slots.new ≡ slots.old)
+            (λ _. Some slots.new ≡ slots_by (regex_kind self.now) (search_for (sought self.now) input) (length slots.old))) }
     {
         let mut cache = self.engine.create_cache(alloc, slots.len())?;
         Ok(self.engine.find_slots(&mut cache, &mut input, slots))
@@ -381,6 +402,11 @@ impl Regex {
             → MatchOption result
             (slots.new ≡ slots.old)
             (λ _. Some slots.new ≡ groups (search_for (sought self.now) input.old) (length slots.old)) }
+        ensures pattern_by {
+            result ≡ option_map (λ (m : Found). m.pattern) (answer_by (regex_kind self.now) (search_for (sought self.now) input.old)) }
+        ensures slots_by { MatchOption result
+            (slots.new ≡ slots.old)
+            (λ _. Some slots.new ≡ slots_by (regex_kind self.now) (search_for (sought self.now) input.old) (length slots.old)) }
     {
         self.engine.find_slots(&mut cache.inner, input, slots)
     }
@@ -396,6 +422,8 @@ impl Regex {
     ) -> Result<FindMatches<'r, C>, AllocError>
         ensures left { match_kind_of (regex_settings self.now) ≡ LeftmostFirst
             → IfOk result (λ s. find_left s ≡ matches_left (search_for (sought self.now) input) input.span.start None) }
+        ensures left_by {
+            IfOk result (λ s. find_left s ≡ matches_by_kind (regex_kind self.now) (search_for (sought self.now) input) input.span.start None) }
         ensures within { IfOk result (λ s. All (λ m. (low input ≤ m.start) × (m.start ≤ m.end) × (m.end ≤ high input)) (find_left s)) }
         ensures short { IfOk result (λ s. length (find_left s) < 2 ^ 64) }
         ensures regex { IfOk result (λ s. find_regex s ≡ self.now) }
@@ -422,10 +450,14 @@ impl Regex {
     ) -> Result<CapturesMatches<'r, C>, AllocError>
         ensures left { match_kind_of (regex_settings self.now) ≡ LeftmostFirst
             → IfOk result (λ s. captures_left s ≡ matches_left (search_for (sought self.now) input) input.span.start None) }
+        ensures left_by {
+            IfOk result (λ s. captures_left s ≡ matches_by_kind (regex_kind self.now) (search_for (sought self.now) input) input.span.start None) }
         ensures walks { match_kind_of (regex_settings self.now) ≡ LeftmostFirst
             → IfOk result (λ s. captures_walks s ≡ walks_left (search_for (sought self.now) input) input.span.start None) }
         ensures law { match_kind_of (regex_settings self.now) ≡ LeftmostFirst
             → IfOk result (CapturesLaw (regex_names self.now) (search_for (sought self.now) input) input.span.start) }
+        ensures law_by {
+            IfOk result (MatchedLaw (regex_kind self.now) (regex_names self.now) (search_for (sought self.now) input) input.span.start) }
         ensures short { IfOk result (λ s. length (captures_left s) < 2 ^ 64) }
         ensures regex { IfOk result (λ s. captures_regex s ≡ self.now) }
         ensures input { IfOk result (λ s. captures_input s ≡ input) }
@@ -453,6 +485,8 @@ impl Regex {
         ensures left { match_kind_of (regex_settings self.now) ≡ LeftmostFirst
             → IfOk result (λ s. split_left s
             ≡ pieces_of (high input) (matches_left (search_for (sought self.now) input) input.span.start None)) }
+        ensures left_by { IfOk result (λ s. split_left s
+            ≡ pieces_of (high input) (matches_by_kind (regex_kind self.now) (search_for (sought self.now) input) input.span.start None)) }
         ensures few { IfOk result (λ s. length (split_left s) ≤ high input + 2) }
         ensures short { high input + 2 < 2 ^ 64 → IfOk result (λ s. length (split_left s) < 2 ^ 64) }
     {
@@ -475,6 +509,8 @@ impl Regex {
         ensures left { match_kind_of (regex_settings self.now) ≡ LeftmostFirst
             → IfOk result (λ s. splitn_left s
             ≡ pieces_at_most limit (high input) (matches_left (search_for (sought self.now) input) input.span.start None)) }
+        ensures left_by { IfOk result (λ s. splitn_left s
+            ≡ pieces_at_most limit (high input) (matches_by_kind (regex_kind self.now) (search_for (sought self.now) input) input.span.start None)) }
         ensures limit { IfOk result (λ s. splitn_limit s ≡ limit) }
     {
         let matches = self.find_iter(alloc, input)?;

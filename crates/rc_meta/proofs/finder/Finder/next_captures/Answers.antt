@@ -1,17 +1,18 @@
-use Rattle.std.proofs.Common.{◌∙◌, [], ap, refl, rules, sym}
+use Rattle.std.proofs.Common.{◌∙◌, [], ap, refl, rules, subst, sym}
 use Rattle.rc_matches.specs.Moved.{IsMoved}
-use Rattle.rc_matches.specs.Tells.{KeepsAll}
-use Rattle.rc_meta.specs.Views.{regex_names}
-use Rattle.rc_meta.proofs.Fitted.{fits_search}
-use Rattle.rc_meta.proofs.Going.{none_left, no_walks, next_left, some_left, same_match, moved, tells_next}
-use Rattle.rc_program.specs.Answer.{answer}
+use Rattle.rc_matches.specs.Tells.{KeepsAll, TellsSpan}
+use Rattle.rc_meta.specs.Views.{regex_names, sought}
+use Rattle.rc_meta.proofs.Going.{answer_same, none_left, no_walks, next_left, some_left, same_match, moved, tells_next, told_as}
+use Rattle.rc_program.specs.Kinds.{answer_by}
+use Rattle.rc_program.specs.Sought.{search_for}
+use Rattle.rc_text.specs.declared.types.MatchKind.TheVariants.{All as all_matches}
 use Rattle.rc_meta.proofs.finder.Finder.next_captures.Goals as goal
 
 pub returns-in_default-clause-steps : goal.returns-in_default-clause-steps
 returns-in_default-clause-steps g c =
     let f = c.args.self.now in (
       none_left f.regex.now c.args.input.now f.last f.is_done (sym c.in_default.is ∙ c.next_match.ensures.found),
-      no_walks f.regex.now c.args.input.now f.last f.is_done (sym c.in_default.is ∙ c.next_match.ensures.found),
+      λ kind. no_walks f.regex.now c.args.input.now f.last f.is_done (sym c.in_default.is ∙ c.next_match.ensures.found) kind,
       refl {a = []},
     )
 
@@ -35,16 +36,22 @@ returns-clause-steps g c =
       named = c.find_captures.ensures.names ∙ c.in-Ok.ensures.whole.named;
       sized = c.find_captures.ensures.long ∙ c.in-Ok.ensures.whole.sized;
     } in
-    let next = tells_next r i j k f.last f.is_done c.in-Some.found c.end-2.result caps c.if-self.false finds c.next_match.ensures.moves
-    c.next_match.ensures.start c.find_captures.ensures.found moves at c.end-2.ensures.value in
+    let matched =
+    same_match r j caps kept c.find_captures.ensures.found
+    ∙ sym (answer_same r j) ∙ sym c.next_match.ensures.there ∙ c.in-Some.is in
     record {
       kept = kept;
       found = c.in-Some.found;
-      matched = same_match r j caps kept c.find_captures.ensures.found ∙ sym (ap answer (fits_search r.fits j)) ∙ sym c.next_match.ensures.there ∙ c.in-Some.is;
+      matched = matched;
       left = next_left r i k f.last f.is_done c.in-Some.found c.end-2.result c.if-self.false finds moves at c.end-2.ensures.value;
-      walk = next.walk;
-      told = next.told;
-      walks = next.walks;
+      tells = λ kind.
+          let next = tells_next r i j k f.last f.is_done c.in-Some.found c.end-2.result caps c.if-self.false finds c.next_match.ensures.moves
+          c.next_match.ensures.start c.find_captures.ensures.found moves at c.end-2.ensures.value kind in
+          record { walk = next.walk; told = next.told; walks = next.walks };
+      spans = λ kind.
+          subst (λ o. TellsSpan o caps)
+          (sym (ap (λ x. answer_by x (search_for (sought r) j)) kind) ∙ sym (same_match r j caps kept c.find_captures.ensures.found) ∙ matched)
+          (told_as r j caps all_matches kind c.find_captures.ensures.found);
       regex = refl;
       start = k.span.start;
       search = moved r i k moves;

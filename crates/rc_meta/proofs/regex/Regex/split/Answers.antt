@@ -9,7 +9,14 @@ use Rattle.rc_meta.proofs.regex.Regex.split.Goals as goal
 pub returns-clause-left : goal.returns-clause-left
 returns-clause-left g c = λ kind.
     let m = c.in_ok-matches.matches in
-    ap (λ i. pieces_from 0 (high i) (find_left m)) c.in_ok-matches.ensures.input ∙ ap (pieces_from 0 (high c.args.input)) (c.in_ok-matches.ensures.left kind)
+    ap (λ i. pieces_from 0 (high i) (find_left m)) c.in_ok-matches.ensures.input
+    ∙ ap (pieces_from 0 (high c.args.input)) (c.in_ok-matches.ensures.left kind)
+
+pub returns-clause-left_by : goal.returns-clause-left_by
+returns-clause-left_by g c =
+    let m = c.in_ok-matches.matches in
+    ap (λ i. pieces_from 0 (high i) (find_left m)) c.in_ok-matches.ensures.input
+    ∙ ap (pieces_from 0 (high c.args.input)) c.in_ok-matches.ensures.left_by
 
 pub returns-clause-few : goal.returns-clause-few
 returns-clause-few g c =

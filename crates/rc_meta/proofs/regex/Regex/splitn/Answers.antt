@@ -9,3 +9,9 @@ returns-clause-left g c = λ kind.
     let m = c.in_ok-matches.matches in
     ap (λ i. pieces_left c.args.limit 0 (high i) (find_left m)) c.in_ok-matches.ensures.input
     ∙ ap (pieces_left c.args.limit 0 (high c.args.input)) (c.in_ok-matches.ensures.left kind)
+
+pub returns-clause-left_by : goal.returns-clause-left_by
+returns-clause-left_by g c =
+    let m = c.in_ok-matches.matches in
+    ap (λ i. pieces_left c.args.limit 0 (high i) (find_left m)) c.in_ok-matches.ensures.input
+    ∙ ap (pieces_left c.args.limit 0 (high c.args.input)) c.in_ok-matches.ensures.left_by
