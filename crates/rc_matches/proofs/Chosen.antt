@@ -1,6 +1,8 @@
 -- Which strategies a search of patterns may go by.
-use Rattle.std.proofs.Common.{◌≡◌, ◌∙◌, ◌<◌, ◌≤◌, ℕ, List, [], ◌∷◌, length, map, Bool, Option, Some, None, MatchOption, All, Result, IfOk, IfSome, ap, sym, subst, arith, get_or, option_map}
+use Rattle.std.proofs.Common.{◌≡◌, ◌∙◌, ◌+◌, ◌<◌, ◌≤◌, ℕ, List, [], ◌∷◌, length, map, take, Bool, Option, Some, None, MatchOption, All, Result, IfOk, IfSome, ap, sym, subst, arith, get_or, option_map}
 use Rattle.std.proofs.lemmas.Result.{IfOk-weaker}
+use Rattle.std.proofs.lemmas.List.{take_all}
+use Rattle.std.proofs.lemmas.List.Elements.{All-more, All-map}
 use Rattle.std.proofs.lemmas.Option.{none-some}
 use Rattle.rc_pattern.specs.Re.{Re}
 use Rattle.rc_pattern.specs.Meaning.{meaning}
@@ -33,9 +35,10 @@ pub exact_sound : (hs : List Re) (needles : List (List ℕ)) (q : Sought) → Al
     q.patterns ≡ hs → Guards (program (shown q.grouped q.patterns)) q.terminator needles
     × AreAnswers (program (shown q.grouped q.patterns)) q.terminator (passes_over q) needles
 exact_sound [] needles q bounded exact e = absurd (none-some needles exact)
-exact_sound (h ∷ []) needles q bounded exact e =
-    (covering_sound (h ∷ []) needles q bounded (λ t. literal_law.covers h needles t exact) e,
-    λ s. literal_law.answers h needles q s exact e)
+exact_sound (h ∷ []) needles q bounded exact e = (
+  covering_sound (h ∷ []) needles q bounded (λ t. literal_law.covers h needles t exact) e,
+  λ s. literal_law.answers h needles q s exact e,
+)
 exact_sound (h ∷ g ∷ hs) needles q bounded exact e = absurd (none-some needles exact)
 
 -- A prefilter that is made of needles.
@@ -78,3 +81,15 @@ pub beginnings_cover : (hs : List Re) (prefixes needles copied : List (List ℕ)
     EachBegins prefixes needles → copied ≡ needles → (t : Text) → Covers t hs copied
 beginnings_cover hs prefixes needles copied covers each e t =
     subst (λ z. Covers t hs z) (sym e) (cover_law.by_beginnings t hs prefixes needles each (covers t))
+
+-- Patterns whose bounds are looked at one after another.
+
+abbrev pub IsBounded : Hir → Type 0
+IsBounded h = HasBounds (meaning h)
+
+pub bounded_more : (xs : List Hir) (i : ℕ) (x : Hir) → i < length xs → x ≡ get_or xs i x → All IsBounded (take i xs) → IsBounded x →
+    All IsBounded (take (i + 1) xs)
+bounded_more xs i x inside is before here = All-more IsBounded xs i x inside before (rw (sym is) here)
+
+pub all_bounded : (xs : List Hir) (n : ℕ) → length xs ≤ n → All IsBounded (take n xs) → All HasBounds (map meaning xs)
+all_bounded xs n done ok = All-map HasBounds meaning xs (rw (take_all n xs done) at ok)

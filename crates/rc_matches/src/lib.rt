@@ -5,3 +5,5 @@ pub mod choice;
 pub mod engine;
 pub mod laws;
 pub mod strategy;
+#[cfg(test)]
+mod tests;
