@@ -15,7 +15,8 @@ use Rattle.rc_program.proofs.PartLemmas.{Stand, Stand-first, Stand-second}
 use Rattle.rc_program.proofs.WholeLemmas.{stand_all, pattern_stands, pattern_ends}
 use Rattle.rc_literal.specs.declared.hit.Hit.{Hit}
 use Rattle.rc_literal.specs.Needles.{StandsAt, stands_within, first_from, needle_at}
-use Rattle.rc_literal.specs.Literals.{Covers, IsExact, member_literals, literals_of}
+use Rattle.rc_literal.specs.Literals.{Covers, IsExact, before, literal_bytes, member_literals, literals_of}
+use Rattle.rc_literal.specs.Tables.{AreSome, IsUsable}
 use Rattle.rc_literal.proofs.ReadLemmas.{reads, reads_is}
 use Rattle.rc_literal.proofs.WayLemmas.{alternation, reads_any, AllSome, Gives, AreBefore, literal_gives, alternation_gives, either_gives, dead_gives}
 use Rattle.rc_literal.proofs.RelationLemmas.{range_of, first_of, none_of}
@@ -77,6 +78,40 @@ literals_are (repeat m n g a) ws e = absurd (none-some ws e)
 literals_are (capture n m a) ws e = absurd (none-some ws e)
 literals_are (cat a b) ws e = absurd (none-some ws e)
 literals_are none ws e = absurd (none-some ws e)
+
+-- There is one, and none is empty.
+
+before_some : (o : Option (List ℕ)) (p : Option (List (List ℕ))) (ws : List (List ℕ)) → before o p ≡ Some ws → 0 < length ws
+before_some None p ws e = absurd (none-some ws e)
+before_some (Some w) None ws e = absurd (none-some ws e)
+before_some (Some w) (Some vs) ws e =
+    let s : w ∷ vs ≡ ws = same_Some _ ws e in subst (λ z. 0 < length z) s (omega arith)
+
+all_are_some : (ws : List (List ℕ)) → AllSome ws → AreSome ws
+all_are_some [] all k below = absurd (omega (arith, below))
+all_are_some (w ∷ ws) all zero below = all.0
+all_are_some (w ∷ ws) all (suc k) below = all_are_some ws all.1 k (omega (arith, below))
+
+list_is_some : (h : Re) (ws : List (List ℕ)) → IsList h ws → AreSome ws
+list_is_some _ _ (one {w} long) = all_are_some (w ∷ []) (long, tt)
+list_is_some _ _ (many {ws} some) = all_are_some ws some
+
+at_least_one : (h : Re) (ws : List (List ℕ)) → literals_of h ≡ Some ws → 0 < length ws
+at_least_one (literal (b ∷ bs)) ws e =
+    let s : (b ∷ bs) ∷ [] ≡ ws = same_Some _ ws e in subst (λ z. 0 < length z) s (omega arith)
+at_least_one (alt a rest) ws e = before_some (literal_bytes a) (member_literals rest) ws e
+at_least_one (literal []) ws e = absurd (none-some ws e)
+at_least_one empty ws e = absurd (none-some ws e)
+at_least_one (byte_in rs) ws e = absurd (none-some ws e)
+at_least_one (char_in rs) ws e = absurd (none-some ws e)
+at_least_one (look l) ws e = absurd (none-some ws e)
+at_least_one (repeat m n g a) ws e = absurd (none-some ws e)
+at_least_one (capture n m a) ws e = absurd (none-some ws e)
+at_least_one (cat a b) ws e = absurd (none-some ws e)
+at_least_one none ws e = absurd (none-some ws e)
+
+pub literals_usable : (h : Re) (ws : List (List ℕ)) → literals_of h ≡ Some ws → IsUsable ws
+literals_usable h ws e = (at_least_one h ws e, list_is_some h ws (literals_are h ws e))
 
 or_none : (o : Option ℕ) → option_or o None ≡ o
 or_none None = refl

@@ -1,3 +1,4 @@
+pub mod Choices
 pub mod Engine
 pub mod Moved
 pub mod Strategies

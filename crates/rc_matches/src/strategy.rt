@@ -1,9 +1,10 @@
 //! What a search may go by, beside its places.
-ghost use Rattle.std.specs.Prelude.{MatchOption, ◌≡◌, ℕ, Bool, List, ⊤};
+ghost use Rattle.std.specs.Prelude.{MatchOption, ◌≡◌, ℕ, Bool, List, ⊤, false, None};
 ghost use Rattle.rc_text.specs.declared.types.MatchKind.TheVariants.{LeftmostFirst};
 ghost use Rattle.rc_program.specs.Program.{Place as PlaceOf};
 ghost use Rattle.rc_literal.specs.Guards.{Guards};
 ghost use Rattle.rc_literal.specs.Prefilters.{needles_of};
+ghost use Rattle.rc_matches.specs.Choices.{guarding};
 ghost use Rattle.rc_matches.specs.Strategies.{AreAnswers, IsSound};
 
 use rc_literal::prefilter::Prefilter;
@@ -18,6 +19,30 @@ pub enum Strategy {
     Guarded(Prefilter),
     /// By needles that are the pattern's texts, each before those that are less preferred.
     Literal(Prefilter),
+}
+
+impl Strategy {
+    /// Whether searches go by needles, and one for these goes by a needle or by at most three bytes.
+    pub fn is_fast(&self) -> bool
+        ensures { guarding self.now ≡ None → result ≡ false }
+    {
+        match self {
+            Strategy::Pass => false,
+            Strategy::Guarded(needles) => needles.is_fast(),
+            Strategy::Literal(needles) => needles.is_fast(),
+        }
+    }
+
+    /// About how many bytes of memory the needles take, beyond the strategy's own.
+    pub fn memory_usage(&self) -> usize
+        ensures { guarding self.now ≡ None → result ≡ 0 }
+    {
+        match self {
+            Strategy::Pass => 0,
+            Strategy::Guarded(needles) => needles.memory_usage(),
+            Strategy::Literal(needles) => needles.memory_usage(),
+        }
+    }
 }
 
 /// The needles where walks begin.
