@@ -3,5 +3,6 @@
 pub use rc_vm::builder::Builder;
 pub use rc_vm::cache::Cache;
 pub use rc_vm::config::Config;
-pub use rc_vm::search::{is_match, search, search_slots};
+pub use rc_vm::iterators::FindMatches;
+pub use rc_vm::search::{find_iter, is_match, search, search_slots};
 pub use rc_vm::vm::PikeVM;
