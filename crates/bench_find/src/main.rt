@@ -114,8 +114,8 @@ fn round(rt: &HostRuntime, regex: &Regex, chunks: &[&[u8]]) -> Result<Duration, 
     let start = Instant::now(rt)?;
     let count = count_in(rt.alloc(), regex, chunks)?;
     let time = start.elapsed(rt)?;
-    let millis = time.as_millis();
-    writeln!(rt.stdout(), "{count} matches, {millis} ms")?;
+    let micros = time.as_micros();
+    writeln!(rt.stdout(), "{count} matches, {micros} us")?;
     Ok(time)
 }
 
@@ -126,8 +126,8 @@ fn rounds(rt: &HostRuntime, regex: &Regex, chunks: &[&[u8]], n: u32) -> Result<(
         let time = round(rt, regex, chunks)?;
         least = least.min(time);
     }
-    let millis = least.as_millis();
-    writeln!(rt.stdout(), "least: {millis} ms")?;
+    let micros = least.as_micros();
+    writeln!(rt.stdout(), "least: {micros} us")?;
     Ok(())
 }
 

@@ -7,6 +7,7 @@ ghost use Rattle.rc_thompson.specs.Places.{places_of};
 ghost use Rattle.rc_build.specs.Refusals.{IsBuildable, IsRefusal};
 ghost use Rattle.rc_build.specs.Settings.{settings_of, unset, overwritten, match_kind_of, nfa_size_limit_of, line_terminator_of};
 ghost use Rattle.rc_build.specs.TextRefusals.{AllRead, IsTextRefusal, texts_of};
+ghost use Rattle.rc_matches.specs.Strategies.{IsSound};
 ghost use Rattle.rc_meta.specs.Fits.{sought_by};
 ghost use Rattle.rc_meta.specs.Views.{builder_settings, builder_syntax, regex_patterns, regex_settings};
 ghost use Rattle.rc_syntax.specs.Settings.{default_settings, settings_of as syntax_of};
@@ -16,6 +17,7 @@ use rc_build::compile::compile_all;
 use rc_build::config::Config;
 use rc_build::error::BuildError;
 use rc_build::texts::parse_all;
+use rc_matches::choice::choose;
 use rc_matches::engine::Engine;
 use rc_matches::strategy::Strategy;
 use rc_pattern::check::copies_of;
@@ -127,19 +129,28 @@ pub(crate) fn build(alloc: Global, config: &Config, hirs: &[Hir]) -> Result<Rege
         config.get_nfa_size_limit(),
         config.get_which_captures(),
     )?;
-    let engine = engine_of(config, hirs, compiled.places);
+    let strategy = choose(
+        alloc,
+        hirs,
+        config.get_prefilter(),
+        config.get_auto_prefilter(),
+    )?;
+    let engine = engine_of(config, hirs, compiled.places, strategy);
     let hirs = copies_of(alloc, hirs)?;
     let config = config.try_clone(alloc)?;
     Ok(assembled(hirs, config, engine, compiled.info))
 }
 
-/// The engine of these patterns, whose program this is.
-fn engine_of(config: &Config, hirs: &[Hir], places: Vec<Place>) -> Engine
-    requires { IsRunnable (places_of places.items) }
+/// The engine of these patterns, whose program this is, and whose searches may go by the strategy.
+fn engine_of(config: &Config, hirs: &[Hir], places: Vec<Place>, strategy: Strategy) -> Engine
+    requires runnable { IsRunnable (places_of places.items) }
+    requires sound { IsSound (places_of places.items) (line_terminator_of (settings_of config.now))
+        (passes_over (sought_by (settings_of config.now) (map meaning hirs.now))) strategy }
     ensures places { result.places ≡ places }
     ensures terminator { result.terminator ≡ line_terminator_of (settings_of config.now) }
     ensures passes_over { result.passes_over ≡ passes_over (sought_by (settings_of config.now) (map meaning hirs.now)) }
     ensures kind { result.kind ≡ match_kind_of (settings_of config.now) }
+    ensures strategy { result.strategy ≡ strategy }
 {
     let passes_over = config.get_utf8_empty() && may_be_empty(hirs);
     Engine {
@@ -147,7 +158,7 @@ fn engine_of(config: &Config, hirs: &[Hir], places: Vec<Place>) -> Engine
         terminator: config.get_line_terminator(),
         passes_over,
         kind: config.get_match_kind(),
-        strategy: Strategy::Pass,
+        strategy,
     }
 }
 

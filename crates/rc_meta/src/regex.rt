@@ -253,14 +253,21 @@ impl Regex {
         }
     }
 
-    /// About how many bytes the program and the groups take.
+    /// Whether searches go by needles, and one for these goes by a needle or by at most three bytes.
+    pub fn is_accelerated(&self) -> bool {
+        self.engine.strategy.is_fast()
+    }
+
+    /// About how many bytes the program, the groups and the needles of searches take.
     pub fn memory_usage(&self) -> usize {
         let places = self.engine.places.len().saturating_mul(size_of::<Place>());
         let slots = self
             .info
             .slot_len()
             .saturating_mul(size_of::<Option<usize>>());
-        places.saturating_add(slots)
+        places
+            .saturating_add(slots)
+            .saturating_add(self.engine.strategy.memory_usage())
     }
 
     /// A cache for searches by this regex. An `Err` is want of memory.

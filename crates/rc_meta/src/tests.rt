@@ -2,6 +2,7 @@
 
 mod caches;
 mod lists;
+mod needles;
 mod texts;
 
 use crate::regex::Regex;
