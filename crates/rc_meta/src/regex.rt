@@ -109,6 +109,9 @@ impl Regex {
 
     /// The match that a search of the input finds. An `Err` is want of memory.
     ///
+    /// Under `MatchKind::All` it is the match with the greatest end, of these the one with the least start, and of these the one of
+    /// the least pattern. Empty matches inside a character aren't passed over then.
+    ///
     /// The match depends on the uncut bytes of the content alone, however the cursor cuts them.
     pub fn find<C: Cursor + Drop>(
         &self,
@@ -154,7 +157,7 @@ impl Regex {
         self.engine.find(&mut cache.inner, input)
     }
 
-    /// The pattern and the end of the match that a search of the input finds. An `Err` is want of memory.
+    /// The pattern and the end of the match that `find` finds. An `Err` is want of memory.
     pub fn search_half<C: Cursor + Drop>(
         &self,
         alloc: Global,
@@ -192,6 +195,8 @@ impl Regex {
     }
 
     /// Whether a search of the input finds a match. An `Err` is want of memory.
+    ///
+    /// Under `MatchKind::All` empty matches inside a character aren't passed over.
     pub fn is_match<C: Cursor + Drop>(
         &self,
         alloc: Global,
@@ -293,8 +298,9 @@ impl Regex {
         Captures::all(alloc, &self.info)
     }
 
-    /// The match that a search of the input finds, with its groups. Without a match the captures hold none. An `Err` is want of
-    /// memory.
+    /// The match that `find` finds, with its groups. Without a match the captures hold none. An `Err` is want of memory.
+    ///
+    /// Under `MatchKind::All` explicit groups hold nothing.
     pub fn captures<C: Cursor + Drop>(
         &self,
         alloc: Global,
@@ -367,8 +373,10 @@ impl Regex {
         self.engine.find_captures(&mut cache.inner, input, caps);
     }
 
-    /// The pattern of the match that a search of the input finds, and its slots in `slots`, which may be fewer than the regex has.
-    /// Without a match the slots stay. An `Err` is want of memory.
+    /// The pattern of the match that `find` finds, and its slots in `slots`, which may be fewer than the regex has. Without a match
+    /// the slots stay. An `Err` is want of memory.
+    ///
+    /// Under `MatchKind::All` the slots of explicit groups hold nothing.
     pub fn search_slots<C: Cursor + Drop>(
         &self,
         alloc: Global,
@@ -422,6 +430,8 @@ impl Regex {
     ///
     /// Each search starts where the match before ended. A match that is empty and ends there gives way to the answer from a byte
     /// later. An `Err` is want of memory for the cache; the items take none.
+    ///
+    /// Under `MatchKind::All` each search finds the match with the greatest end, as `find` does.
     pub fn find_iter<'r, C: Cursor + Drop>(
         &'r self,
         alloc: Global,
@@ -450,6 +460,8 @@ impl Regex {
 
     /// The matches of `find_iter`, each with its groups. An `Err` is want of memory for the cache; an item takes the memory of its
     /// captures alone, and is an `Err` where that is refused.
+    ///
+    /// Under `MatchKind::All` explicit groups hold nothing.
     pub fn captures_iter<'r, C: Cursor + Drop>(
         &'r self,
         alloc: Global,

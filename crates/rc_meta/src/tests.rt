@@ -1,6 +1,7 @@
 //! Worked rows.
 
 mod caches;
+mod kinds;
 mod lists;
 mod needles;
 mod texts;
