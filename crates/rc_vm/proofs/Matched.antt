@@ -1,16 +1,24 @@
 -- The match that captures tell is that of the search.
-use Rattle.std.proofs.Common.{◌≡◌, ◌∙◌, ◌+◌, ◌*◌, List, inl, inr, ⊎_elim, length, Option, Some, None, ap, refl, arith, eq-eqb}
+use Rattle.std.proofs.Common.{◌≡◌, ◌∙◌, ◌+◌, ◌*◌, ◌<◌, List, inl, inr, ⊎_elim, length, Option, Some, None, ap, refl, subst, arith, eq-eqb}
 use Rattle.std.proofs.lemmas.Bool.{ne_eqb}
 use Rattle.std.specs.Option.{option_and_then, option_map}
+use Rattle.rc_text.specs.Found.{Found}
+use Rattle.rc_text.specs.declared.types.MatchKind.{MatchKind}
+use Rattle.rc_text.specs.declared.types.MatchKind.TheVariants.{All as all_matches, LeftmostFirst as leftmost_first}
 use Rattle.rc_pattern.specs.Re.{Re}
 use Rattle.rc_captures.specs.Names.{Names}
 use Rattle.rc_captures.specs.Captures.{IsCapturesFor, captures_names, captures_slots, group_span, match_at, match_of}
 use Rattle.rc_captures.specs.declared.captures.Captures.{Captures}
 use Rattle.rc_captures.proofs.CapturesLaws.{match-whole}
-use Rattle.rc_program.specs.Program.{program}
+use Rattle.rc_program.specs.Program.{accept, place_at, program}
+use Rattle.rc_program.specs.Greatest.{IsSpelledIn, greatest}
+use Rattle.rc_program.specs.Kinds.{answer_by}
+use Rattle.rc_program.proofs.PlaceLemmas.{accept_below}
+use Rattle.rc_program.proofs.GreatestLemmas.{spelled_within}
+use Rattle.rc_program.proofs.KindLemmas.{kind_spelled}
 use Rattle.rc_program.specs.Answer.{Search, Chosen, chosen, answer, found, last_of, pattern_of, slot_of}
 use Rattle.rc_program.proofs.AnswerLemmas.{chosen_law, chosen_within, chosen_pattern}
-use Rattle.rc_matches.specs.Tells.{Tells, TellsOf}
+use Rattle.rc_matches.specs.Tells.{Tells, TellsOf, TellsSpan, TellsBy, span_slot}
 
 start_slot : (s : Search) (c : Chosen) → slot_of s c (2 * pattern_of s c) ≡ Some c.start
 start_slot s c = rw (eq-eqb (2 * pattern_of s c) (2 * pattern_of s c) refl) refl
@@ -28,10 +36,37 @@ match_told hs s names caps (Some c) placed named made e told =
     let w = chosen_within s c a in
     match-whole names caps (pattern_of s c) (slot_of s c) c.start (last_of c.walk).1 made told (omega (arith, p, named)) (start_slot s c) (end_slot s c) w.1
 
-pub tells_match : (hs : List Re) (s : Search) (names : Names) (caps : Captures) → s.places ≡ program hs → length names ≡ length hs →
+tells_match : (hs : List Re) (s : Search) (names : Names) (caps : Captures) → s.places ≡ program hs → length names ≡ length hs →
     IsCapturesFor names caps → Tells s caps → match_of caps ≡ answer s
 unfolding answer
 tells_match hs s names caps placed named made told = match_told hs s names caps (chosen s) placed named made refl told
+
+-- a match that is spelled is of one of the patterns
+spelled_pattern : (hs : List Re) (s : Search) (m : Found) → s.places ≡ program hs → IsSpelledIn s m → m.pattern < length hs
+spelled_pattern hs s m placed h =
+    accept_below hs (last_of h.walk).0 m.pattern (subst (λ places. place_at places (last_of h.walk).0 ≡ accept m.pattern) placed h.pattern)
+
+span_start : (m : Found) → span_slot m (2 * m.pattern) ≡ Some m.start
+span_start m = rw (eq-eqb (2 * m.pattern) (2 * m.pattern) refl) refl
+
+span_end : (m : Found) → span_slot m (2 * m.pattern + 1) ≡ Some m.end
+span_end m =
+    rw (ne_eqb (2 * m.pattern + 1) (2 * m.pattern) (λ x. omega (arith, x))) (rw (eq-eqb (2 * m.pattern + 1) (2 * m.pattern + 1) refl) refl)
+
+greatest_told : (hs : List Re) (s : Search) (names : Names) (caps : Captures) (o : Option Found) → s.places ≡ program hs → length names ≡ length hs →
+    IsCapturesFor names caps → greatest s ≡ o → TellsSpan o caps → match_of caps ≡ o
+greatest_told hs s names caps None placed named made e told = ap (λ p. option_and_then (λ q. option_and_then (match_at q) (group_span caps 0)) p) told
+greatest_told hs s names caps (Some m) placed named made e told =
+    let h = kind_spelled all_matches s m e in
+    let p = spelled_pattern hs s m placed h in
+    let w = spelled_within s m h in
+    match-whole names caps m.pattern (span_slot m) m.start m.end made told (omega (arith, p, named)) (span_start m) (span_end m) w.1
+
+-- the match that captures tell is that of the kind
+pub tells_match_by : (kind : MatchKind) (hs : List Re) (s : Search) (names : Names) (caps : Captures) → s.places ≡ program hs →
+    length names ≡ length hs → IsCapturesFor names caps → TellsBy kind s caps → match_of caps ≡ answer_by kind s
+tells_match_by leftmost_first hs s names caps placed named made told = tells_match hs s names caps placed named made told
+tells_match_by all_matches hs s names caps placed named made told = greatest_told hs s names caps (greatest s) placed named made refl told
 
 -- captures with as many slots of the same patterns are captures of the patterns
 pub still_for : (names : Names) (old new : Captures) → IsCapturesFor names old → captures_names new ≡ captures_names old →

@@ -1,6 +1,7 @@
 -- There are no more places than the weight of the patterns.
 use Rattle.std.proofs.Common.{◌≡◌, ◌≤◌, List, length, Bool, Option, ℕ, ap, arith, subst, sym}
 use Rattle.std.proofs.lemmas.List.{length-map}
+use Rattle.rc_text.specs.declared.types.MatchKind.{MatchKind}
 use Rattle.rc_pattern.specs.Re.{Re}
 use Rattle.rc_pattern.specs.Weight.{list_weight}
 use Rattle.rc_program.specs.Program.{program, shown}
@@ -35,13 +36,14 @@ places_light ps limit grouped hs e ok =
     let long = as_long ps grouped hs e in let light = program_light limit grouped hs ok in omega (arith, long, light)
 
 -- what fits the patterns fits the same patterns
-pub fitted : {s : Settings} {hs ks : List Re} {e : Engine} {info : GroupInfo} (limit : Option ℕ) → ks ≡ hs → IsBuildable limit hs →
+pub fitted : {s : Settings} {kind : MatchKind} {hs ks : List Re} {e : Engine} {info : GroupInfo} (limit : Option ℕ) → ks ≡ hs → IsBuildable limit hs →
     places_of e.places.items ≡ program (shown (is_grouped (which_captures_of s)) hs) → e.terminator ≡ line_terminator_of s →
-    e.passes_over ≡ passes_over (sought_by s hs) → names_of info ≡ names_shown (is_grouped (which_captures_of s)) hs → Fits s ks e info
-fitted {s} {hs} {ks} {e} {info} limit same ok placed ended passing named = subst (λ x. Fits s x e info) (sym same) (record {
+    e.passes_over ≡ passes_over (sought_by s hs) → e.kind ≡ kind → names_of info ≡ names_shown (is_grouped (which_captures_of s)) hs → Fits s kind ks e info
+fitted {s} {kind} {hs} {ks} {e} {info} limit same ok placed ended passing kinded named = subst (λ x. Fits s kind x e info) (sym same) (record {
   small = places_light e.places.items limit (is_grouped (which_captures_of s)) hs placed ok;
   placed = placed;
   ended = ended;
   passing = passing;
+  kinded = kinded;
   named = named;
 })

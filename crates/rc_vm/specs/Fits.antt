@@ -1,5 +1,6 @@
 -- What is built from patterns under the settings of a program.
 use Rattle.std.specs.Prelude.{◌≡◌, ◌≤◌, List, length}
+use Rattle.rc_text.specs.declared.types.MatchKind.{MatchKind}
 use Rattle.rc_pattern.specs.Re.{Re}
 use Rattle.rc_pattern.specs.Weight.{list_weight}
 use Rattle.rc_captures.specs.Groups.{names_of}
@@ -20,10 +21,12 @@ sought_by s hs = record {
   utf8_empty = utf8_of s;
 }
 
--- The engine and the groups are those of the patterns under the settings, and there are no more places than the patterns' weight.
-pub record Fits (s : Settings) (hs : List Re) (e : Engine) (info : GroupInfo) : Type 0 where
+-- The engine and the groups are those of the patterns under the settings, for this kind of match, and there are no more places than
+-- the patterns' weight.
+pub record Fits (s : Settings) (kind : MatchKind) (hs : List Re) (e : Engine) (info : GroupInfo) : Type 0 where
   pub small : length e.places.items ≤ list_weight hs
   pub placed : places_of e.places.items ≡ program (shown (is_grouped (which_captures_of s)) hs)
   pub ended : e.terminator ≡ line_terminator_of s
   pub passing : e.passes_over ≡ passes_over (sought_by s hs)
+  pub kinded : e.kind ≡ kind
   pub named : names_of info ≡ names_shown (is_grouped (which_captures_of s)) hs

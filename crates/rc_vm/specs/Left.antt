@@ -5,15 +5,16 @@ use Rattle.std.specs.Iterator.{Yields, YieldsFirst}
 use Rattle.rc_text.specs.Found.{Found}
 use Rattle.rc_text.specs.Text.{Searched}
 use Rattle.rc_text.specs.declared.cursor.Cursor.{Ghosts}
-use Rattle.rc_program.specs.Matches.{matches_left}
+use Rattle.rc_program.specs.Kinds.{matches_by_kind}
 use Rattle.rc_program.specs.Sought.{search_for}
-use Rattle.rc_vm.specs.Views.{sought}
+use Rattle.rc_vm.specs.Configs.{match_kind_of}
+use Rattle.rc_vm.specs.Views.{sought, vm_settings}
 use Rattle.rc_vm.specs.declared.vm.PikeVM.{PikeVM}
 use Rattle.rc_vm.specs.declared.iterators.FindMatches.{FindMatches}
 
--- the matches in an input from its span's start on, where the match before ended at `last`
+-- the matches of the kind in an input from its span's start on, where the match before ended at `last`
 abbrev pub matches_in : PikeVM → Searched → Option ℕ → List Found
-matches_in vm i last = matches_left (search_for (sought vm) i) i.span.start last
+matches_in vm i last = matches_by_kind (match_kind_of (vm_settings vm)) (search_for (sought vm) i) i.span.start last
 
 module _ {C : Type 0} {cursor : Ghosts C} where
   -- the matches that are left

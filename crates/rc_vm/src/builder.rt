@@ -7,7 +7,7 @@ ghost use Rattle.rc_thompson.specs.Places.{places_of};
 ghost use Rattle.rc_build.specs.Refusals.{IsBuildable, IsRefusal};
 ghost use Rattle.rc_build.specs.TextRefusals.{AllRead, IsTextRefusal, texts_of};
 ghost use Rattle.rc_syntax.specs.Settings.{default_settings, settings_of as syntax_of};
-ghost use Rattle.rc_vm.specs.Configs.{search_settings_of, none_set, set_over};
+ghost use Rattle.rc_vm.specs.Configs.{match_kind_of, search_settings_of, none_set, set_over};
 ghost use Rattle.rc_vm.specs.Thompson.{settings_of, unset, overwritten, nfa_size_limit_of, line_terminator_of};
 ghost use Rattle.rc_vm.specs.Fits.{sought_by};
 ghost use Rattle.rc_vm.specs.Views.{builder_settings, builder_program, builder_syntax, vm_patterns, vm_program, vm_settings};
@@ -19,6 +19,7 @@ use rc_build::compile::compile_all;
 use rc_build::error::BuildError;
 use rc_build::texts::parse_all;
 use rc_matches::engine::Engine;
+use rc_matches::strategy::Strategy;
 use rc_pattern::check::copies_of;
 use rc_pattern::hir::Hir;
 use rc_thompson::place::Place;
@@ -53,7 +54,7 @@ impl Builder {
         ensures program_kept { builder_program result.now ≡ builder_program self.entry.now }
         ensures syntax_kept { builder_syntax result.now ≡ builder_syntax self.entry.now }
     {
-        self.config.overwrite(&config);
+        self.config.overwrite(config);
         self
     }
 
@@ -126,17 +127,24 @@ impl Builder {
             thompson.get_nfa_size_limit(),
             thompson.get_which_captures(),
         )?;
-        let engine = engine_of(thompson, hirs, compiled.places);
+        let config = self.config.try_clone(alloc)?;
+        let engine = engine_of(&config, thompson, hirs, compiled.places);
         let hirs = copies_of(alloc, hirs)?;
-        Ok(assembled(hirs, self.config, thompson, engine, compiled.info))
+        Ok(assembled(hirs, config, thompson, engine, compiled.info))
     }
 }
 
 /// The engine of these patterns, whose program this is.
-fn engine_of(thompson: thompson::Config, hirs: &[Hir], places: Vec<Place>) -> Engine
+fn engine_of(
+    config: &Config,
+    thompson: thompson::Config,
+    hirs: &[Hir],
+    places: Vec<Place>,
+) -> Engine
     requires { IsRunnable (places_of places.items) }
     ensures places { result.places ≡ places }
     ensures terminator { result.terminator ≡ line_terminator_of (settings_of thompson) }
+    ensures kind { result.kind ≡ match_kind_of (search_settings_of config.now) }
     ensures passes_over { result.passes_over ≡ passes_over (sought_by (settings_of thompson) (map meaning hirs.now)) }
 {
     let passes_over = thompson.get_utf8() && may_be_empty(hirs);
@@ -144,6 +152,8 @@ fn engine_of(thompson: thompson::Config, hirs: &[Hir], places: Vec<Place>) -> En
         places,
         terminator: thompson.get_line_terminator(),
         passes_over,
+        kind: config.get_match_kind(),
+        strategy: Strategy::Pass,
     }
 }
 

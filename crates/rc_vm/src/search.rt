@@ -8,7 +8,10 @@ ghost use Rattle.rc_captures.specs.Captures.{IsCapturesFor, captures_slots, matc
 ghost use Rattle.rc_captures.specs.Names.{slot_len};
 ghost use Rattle.rc_program.specs.Answer.{answer, groups};
 ghost use Rattle.rc_program.specs.Sought.{search_for};
-ghost use Rattle.rc_matches.specs.Tells.{Tells};
+ghost use Rattle.rc_program.specs.Kinds.{answer_by};
+ghost use Rattle.rc_program.specs.Matches.{matches_left};
+ghost use Rattle.rc_pikevm.specs.KindSlots.{slots_by};
+ghost use Rattle.rc_matches.specs.Tells.{Tells, TellsBy};
 ghost use Rattle.rc_vm.specs.Caches.{IsCacheFor, insertions_of};
 ghost use Rattle.rc_vm.specs.Configs.{match_kind_of};
 ghost use Rattle.rc_vm.specs.Views.{sought, states_of, vm_names, vm_settings};
@@ -20,36 +23,45 @@ use crate::iterators::FindMatches;
 use crate::vm::PikeVM;
 use rc_captures::captures;
 use rc_captures::captures::Captures;
-use rc_pikevm::search;
+use rc_matches::strategy::guards_of;
+use rc_pikevm::kinds::{find_by_kind, search_slots_by_kind};
 use rc_text::cursor::Cursor;
 use rc_text::input::Input;
 use rc_text::types::{Match, PatternID};
 
 /// Whether a search of the input finds a match, in a cache that was made for this `PikeVM`. The cache stays so.
+///
+/// Under `MatchKind::LeftmostFirst` the match is the one that is preferred of the least start. Under `MatchKind::All` it is the one
+/// with the greatest end, then the least start, then the least pattern, and no match is passed over.
 pub fn is_match<C: Cursor>(vm: &PikeVM, cache: &mut Cache, input: &mut Input<C>) -> bool
     requires made { IsCacheFor (sought vm.now) cache.old }
     ensures cache { IsCacheFor (sought vm.now) cache.new }
     ensures keeps { Keeps input.old input.new }
     ensures found { match_kind_of (vm_settings vm.now) ≡ LeftmostFirst
         → IsTrue result ↔ IsSome (answer (search_for (sought vm.now) input.old)) }
+    ensures found_by { IsTrue result ↔ IsSome (answer_by (match_kind_of (vm_settings vm.now)) (search_for (sought vm.now) input.old)) }
     ensures none { high input.old < low input.old → insertions_of cache.new ≡ 0 }
     ensures few { insertions_of cache.new ≤ states_of (sought vm.now) * (high input.old - low input.old + 2) }
-    ensures counted { match_kind_of (vm_settings vm.now) ≡ LeftmostFirst
-        → IfSome (answer (search_for (sought vm.now) input.old)) (λ m. m.end - m.start + 1 ≤ insertions_of cache.new) }
+    ensures counted { IfSome (answer_by (match_kind_of (vm_settings vm.now)) (search_for (sought vm.now) input.old))
+        (λ m. m.end - m.start + 1 ≤ insertions_of cache.new) }
 {
-    search::find(
+    find_by_kind(
         &mut cache.inner,
         input,
         &vm.engine.places,
         vm.engine.terminator,
         vm.engine.passes_over,
-        None,
+        guards_of(&vm.engine.strategy),
+        vm.engine.kind,
     )
     .is_some()
 }
 
 /// Writes the match that a search of the input finds, with its groups, into captures that were made of the groups of this `PikeVM`.
 /// Without a match they hold none. The cache has to be made for this `PikeVM`; it stays so.
+///
+/// Under `MatchKind::LeftmostFirst` the match is the one that is preferred of the least start. Under `MatchKind::All` it is the one
+/// with the greatest end, then the least start, then the least pattern; no match is passed over, and explicit groups hold nothing.
 pub fn search<C: Cursor>(vm: &PikeVM, cache: &mut Cache, input: &mut Input<C>, caps: &mut Captures)
     requires made { IsCacheFor (sought vm.now) cache.old }
     requires for_vm { IsCapturesFor (vm_names vm.now) caps.old }
@@ -61,19 +73,22 @@ pub fn search<C: Cursor>(vm: &PikeVM, cache: &mut Cache, input: &mut Input<C>, c
         → Tells (search_for (sought vm.now) input.old) caps.new }
     ensures matched { match_kind_of (vm_settings vm.now) ≡ LeftmostFirst
         → match_of caps.new ≡ answer (search_for (sought vm.now) input.old) }
+    ensures found_by { TellsBy (match_kind_of (vm_settings vm.now)) (search_for (sought vm.now) input.old) caps.new }
+    ensures matched_by { match_of caps.new ≡ answer_by (match_kind_of (vm_settings vm.now)) (search_for (sought vm.now) input.old) }
     ensures none { high input.old < low input.old → insertions_of cache.new ≡ 0 }
     ensures few { insertions_of cache.new ≤ states_of (sought vm.now) * (high input.old - low input.old + 2) }
-    ensures counted { match_kind_of (vm_settings vm.now) ≡ LeftmostFirst
-        → IfSome (answer (search_for (sought vm.now) input.old)) (λ m. m.end - m.start + 1 ≤ insertions_of cache.new) }
+    ensures counted { IfSome (answer_by (match_kind_of (vm_settings vm.now)) (search_for (sought vm.now) input.old))
+        (λ m. m.end - m.start + 1 ≤ insertions_of cache.new) }
 {
     captures::clear(caps);
-    let pattern = search::search_slots(
+    let pattern = search_slots_by_kind(
         &mut cache.inner,
         input,
         &vm.engine.places,
         vm.engine.terminator,
         vm.engine.passes_over,
-        None,
+        guards_of(&vm.engine.strategy),
+        vm.engine.kind,
         caps.slots_mut(),
     );
     captures::set_pattern(caps, pattern);
@@ -81,6 +96,10 @@ pub fn search<C: Cursor>(vm: &PikeVM, cache: &mut Cache, input: &mut Input<C>, c
 
 /// The pattern of the match that a search of the input finds, and its slots in `slots`, which may be fewer than there are. Without
 /// a match the slots stay. The cache has to be made for this `PikeVM`; it stays so.
+///
+/// Under `MatchKind::LeftmostFirst` the match is the one that is preferred of the least start. Under `MatchKind::All` it is the one
+/// with the greatest end, then the least start, then the least pattern; no match is passed over, and all slots but the two of the
+/// whole match are `None`.
 pub fn search_slots<C: Cursor>(
     vm: &PikeVM,
     cache: &mut Cache,
@@ -97,32 +116,42 @@ pub fn search_slots<C: Cursor>(
         → MatchOption result
         (slots.new ≡ slots.old)
         (λ _. Some slots.new ≡ groups (search_for (sought vm.now) input.old) (length slots.old)) }
+    ensures pattern_by { result
+        ≡ option_map (λ (m : Found). m.pattern) (answer_by (match_kind_of (vm_settings vm.now)) (search_for (sought vm.now) input.old)) }
+    ensures slots_by { MatchOption result
+        (slots.new ≡ slots.old)
+        (λ _. Some slots.new ≡ slots_by (match_kind_of (vm_settings vm.now)) (search_for (sought vm.now) input.old) (length slots.old)) }
     ensures none { high input.old < low input.old → insertions_of cache.new ≡ 0 }
     ensures few { insertions_of cache.new ≤ states_of (sought vm.now) * (high input.old - low input.old + 2) }
-    ensures counted { match_kind_of (vm_settings vm.now) ≡ LeftmostFirst
-        → IfSome (answer (search_for (sought vm.now) input.old)) (λ m. m.end - m.start + 1 ≤ insertions_of cache.new) }
+    ensures counted { IfSome (answer_by (match_kind_of (vm_settings vm.now)) (search_for (sought vm.now) input.old))
+        (λ m. m.end - m.start + 1 ≤ insertions_of cache.new) }
 {
-    search::search_slots(
+    search_slots_by_kind(
         &mut cache.inner,
         input,
         &vm.engine.places,
         vm.engine.terminator,
         vm.engine.passes_over,
-        None,
+        guards_of(&vm.engine.strategy),
+        vm.engine.kind,
         slots,
     )
 }
 
 /// The matches in the input, from left to right. None is searched for before it is asked for, and neither this call nor an item takes
 /// memory. The cache has to be made for this `PikeVM`; it stays so, also where the iterator is dropped before its end.
+///
+/// Each is the match that `search` finds from where the one before ended, or from a byte later where that would be an empty one
+/// that ends there again. So under `MatchKind::All` the first is the one with the greatest end of all.
 pub fn find_iter<'v, 'c, C: Cursor + Drop>(
     vm: &'v PikeVM,
     cache: &'c mut Cache,
     input: Input<C>,
 ) -> FindMatches<'v, 'c, C>
     requires made { IsCacheFor (sought vm.now) cache.old }
-    ensures left { match_kind_of (vm_settings vm.now) ≡ LeftmostFirst
-        → find_left result ≡ matches_in vm.now input None }
+    ensures left { find_left result ≡ matches_in vm.now input None }
+    ensures leftmost { match_kind_of (vm_settings vm.now) ≡ LeftmostFirst
+        → find_left result ≡ matches_left (search_for (sought vm.now) input) input.span.start None }
     ensures vm { find_vm result ≡ vm.now }
     ensures runs { YieldsInOrder (FindSteps {cursor = C.Cursor}) find_left }
     ensures same_reference { find_lender result ≡ cache.entry.ghost_name }

@@ -11,6 +11,7 @@ use crate::vm::PikeVM;
 use rc_build::error::BuildError;
 use rc_build::which::WhichCaptures;
 use rc_captures::captures::Captures;
+use rc_literal::prefilter::Prefilter;
 use rc_text::chunks::ChunkCursor;
 use rc_text::cursor::Cursor;
 use rc_text::input::Input;
@@ -45,7 +46,6 @@ fn all<C: Cursor + Drop>(
     input: Input<C>,
 ) -> Result<Vec<(usize, usize)>, AllocError>
     requires { IsCacheFor (sought vm.now) cache.old }
-    ensures { IsCacheFor (sought vm.now) cache.new }
 {
     let mut spans = Vec::new(alloc);
     for found in find_iter(vm, cache, input) {
@@ -219,6 +219,7 @@ fn lends_the_cache_while_it_lists(rt: HostRuntime) -> Result<(), Fail> {
     let mut found = find_iter(&vm, &mut cache, Input::new("ab"));
     assert_eq!(rt; parts(found.next()), Some((0, 1)));
     drop(found);
+    cache.reset(&vm)?;
     let mut slots = [None, None];
     let last = search_slots(&vm, &mut cache, &mut Input::new("xxb"), &mut slots);
     assert!(rt; last.is_some());
@@ -237,5 +238,96 @@ fn gives_nothing_after_the_end(rt: HostRuntime) -> Result<(), Fail> {
     assert!(rt; found.next().is_none());
     assert!(rt; found.next().is_none());
     assert_eq!(rt; found.input().end(), 1);
+    Ok(())
+}
+
+#[test]
+fn greatest_match(rt: HostRuntime) -> Result<(), Fail> {
+    let alloc = rt.alloc();
+    let mut builder = PikeVM::builder();
+    builder.configure(Config::new().match_kind(MatchKind::All));
+    let vm = builder.build(alloc, "(a)|ab")?;
+    let mut cache = vm.create_cache(alloc)?;
+    let mut caps = Captures::all(alloc, vm.get_group_info())?;
+    let mut input = Input::new("ab");
+    assert!(rt; is_match(&vm, &mut cache, &mut input));
+    search(&vm, &mut cache, &mut input, &mut caps);
+    assert_eq!(rt; parts(caps.get_match()), Some((0, 2)));
+    assert!(rt; caps.get_group(1).is_none());
+    assert!(rt; cache.insertions() >= 3);
+    let mut slots = [None, None];
+    let found = search_slots(&vm, &mut cache, &mut input, &mut slots);
+    assert_eq!(rt; found, Some(PatternID::ZERO));
+    assert_eq!(rt; slots, [Some(0), Some(2)]);
+    let leftmost = Config::new().match_kind(MatchKind::LeftmostFirst);
+    let vm = builder.configure(leftmost).build(alloc, "(a)|ab")?;
+    cache.reset(&vm)?;
+    let found = search_slots(&vm, &mut cache, &mut input, &mut slots);
+    assert_eq!(rt; found, Some(PatternID::ZERO));
+    assert_eq!(rt; slots, [Some(0), Some(1)]);
+    Ok(())
+}
+
+#[test]
+fn lists_the_greatest_matches(rt: HostRuntime) -> Result<(), Fail> {
+    let alloc = rt.alloc();
+    let mut builder = PikeVM::builder();
+    builder.configure(Config::new().match_kind(MatchKind::All));
+    let vm = builder.build(alloc, "a")?;
+    let mut cache = vm.create_cache(alloc)?;
+    let found = all(alloc, &vm, &mut cache, Input::new("aba"))?;
+    assert!(rt; found.as_slice() == [(2, 3)].as_slice());
+    cache.reset(&vm)?;
+    let mut slots = [Some(9), Some(9)];
+    let mut input = Input::new("bb");
+    assert!(rt; !is_match(&vm, &mut cache, &mut input));
+    let found = search_slots(&vm, &mut cache, &mut input, &mut slots);
+    assert!(rt; found.is_none());
+    assert_eq!(rt; slots, [Some(9), Some(9)]);
+    let vm = builder.build_many(alloc, &["b", "ab", "a?b"])?;
+    cache.reset(&vm)?;
+    let mut slots = [None, None, None, None];
+    let found = search_slots(&vm, &mut cache, &mut Input::new("xab"), &mut slots);
+    assert_eq!(rt; found, PatternID::new(1));
+    assert_eq!(rt; slots, [None, None, Some(1), Some(3)]);
+    Ok(())
+}
+
+#[test]
+fn passes_no_greatest_match_over(rt: HostRuntime) -> Result<(), Fail> {
+    let alloc = rt.alloc();
+    let chunks = cut(alloc, b"\xC3\xA9")?;
+    let mut input = Input::new(ChunkCursor::new(&chunks)?);
+    input.set_span(Span { start: 1, end: 1 });
+    let mut builder = PikeVM::builder();
+    let vm = builder.build(alloc, "")?;
+    let mut cache = vm.create_cache(alloc)?;
+    assert!(rt; !is_match(&vm, &mut cache, &mut input));
+    builder.configure(Config::new().match_kind(MatchKind::All));
+    let vm = builder.build(alloc, "")?;
+    cache.reset(&vm)?;
+    assert!(rt; is_match(&vm, &mut cache, &mut input));
+    Ok(())
+}
+
+#[test]
+fn settings_of_searches(rt: HostRuntime) -> Result<(), Fail> {
+    let alloc = rt.alloc();
+    let needles = Prefilter::new(alloc, MatchKind::LeftmostFirst, &[b"q".as_slice()])?;
+    assert!(rt; needles.is_some());
+    let config = Config::new().prefilter(needles);
+    let copy = config.try_clone(alloc)?;
+    let mut builder = PikeVM::builder();
+    let vm = builder.configure(copy).build(alloc, "ab|a")?;
+    let mut cache = vm.create_cache(alloc)?;
+    let found = all(alloc, &vm, &mut cache, Input::new("ab a"))?;
+    assert!(rt; found.as_slice() == [(0, 2), (3, 4)].as_slice());
+    let greatest = config.match_kind(MatchKind::All).prefilter(None);
+    let vm = builder
+        .configure(greatest.try_clone(alloc)?)
+        .build(alloc, "ab|a")?;
+    cache.reset(&vm)?;
+    let found = all(alloc, &vm, &mut cache, Input::new("ab a"))?;
+    assert!(rt; found.as_slice() == [(3, 4)].as_slice());
     Ok(())
 }

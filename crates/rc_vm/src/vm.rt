@@ -2,6 +2,7 @@
 
 ghost use Rattle.std.specs.Prelude.{◌≡◌, map};
 ghost use Rattle.rc_pattern.specs.Meaning.{meaning};
+ghost use Rattle.rc_vm.specs.Configs.{match_kind_of, search_settings_of};
 ghost use Rattle.rc_vm.specs.Fits.{Fits};
 ghost use Rattle.rc_vm.specs.Thompson.{settings_of};
 
@@ -24,7 +25,7 @@ pub struct PikeVM {
     thompson: thompson::Config,
     pub(crate) engine: Engine,
     info: GroupInfo,
-    ghost fits: { Fits (settings_of thompson) (map meaning hirs.items) engine info },
+    ghost fits: { Fits (settings_of thompson) (match_kind_of (search_settings_of config)) (map meaning hirs.items) engine info },
 }
 
 impl PikeVM {
@@ -119,7 +120,7 @@ pub(crate) fn assembled(
     engine: Engine,
     info: GroupInfo,
 ) -> PikeVM
-    requires { Fits (settings_of thompson) (map meaning hirs.items) engine info }
+    requires { Fits (settings_of thompson) (match_kind_of (search_settings_of config)) (map meaning hirs.items) engine info }
     ensures hirs { result.hirs ≡ hirs }
     ensures config { result.config ≡ config }
     ensures thompson { result.thompson ≡ thompson }

@@ -12,4 +12,4 @@ pub assembled-requires : goal.assembled-requires
 assembled-requires c =
     fitted _ c.in_ok-hirs.ensures c.in_ok-compiled.ensures.buildable
     (ap (λ ps. places_of ps.items) c.engine_of-engine.ensures.places ∙ c.in_ok-compiled.ensures.places ∙ search rules)
-    c.engine_of-engine.ensures.terminator c.engine_of-engine.ensures.passes_over (search rules)
+    c.engine_of-engine.ensures.terminator c.engine_of-engine.ensures.passes_over (search rules) (search rules)
