@@ -1,5 +1,5 @@
 -- Searches of an input whose span starts elsewhere.
-use Rattle.std.proofs.Common.{◌≡◌, ◌∙◌, ◌+◌, ◌≤◌, ◌<◌, ◌++◌, ℕ, zero, suc, max, Bool, false, All, List, [], ◌∷◌, length, Option, Some, None, IfSome, ap, sym, arith, append_assoc}
+use Rattle.std.proofs.Common.{◌≡◌, ◌∙◌, ◌+◌, ◌-◌, ◌≤◌, ℕ, zero, suc, max, Bool, false, All, List, [], ◌∷◌, length, Option, Some, None, IfSome, ap, sym, refl, arith}
 use Rattle.std.specs.List.{AllByRecursion}
 use Rattle.rc_text.specs.declared.types.Anchored.{Anchored}
 use Rattle.rc_text.specs.declared.types.Span.{Span}
@@ -8,11 +8,11 @@ use Rattle.rc_text.specs.Text.{Searched, Keeps}
 use Rattle.rc_program.specs.Program.{Place}
 use Rattle.rc_program.specs.Answer.{Search, answer}
 use Rattle.rc_program.specs.Sought.{search_over}
-use Rattle.rc_program.specs.Matches.{from_on, answer_from, begin_of, end_of, next_match, matches_left, pieces_of}
+use Rattle.rc_program.specs.Matches.{from_on, answer_from, begin_of, end_of, next_match, matches_left}
 use Rattle.rc_program.proofs.AnswerLemmas.{answer_within}
-use Rattle.rc_program.proofs.PieceLemmas.{length-pieces_from}
-use Rattle.rc_program.proofs.MatchLemmas.{IsAfterLast, left_some, left_none, left_within}
+use Rattle.rc_program.proofs.MatchLemmas.{answers_lie_within, left_within}
 use Rattle.rc_matches.specs.Moved.{IsMoved}
+use Rattle.rc_matches.proofs.Anywhere.{by_some, by_none, by_few}
 
 -- the search of a content, from `start` to `end`, with this slice and anchoring
 abbrev over : List Place → ℕ → Bool → List ℕ → ℕ → ℕ → Span → Anchored → Search
@@ -59,30 +59,25 @@ pub answer_lies : (s : Search) (o : Option Found) → o ≡ answer s → IfSome 
 answer_lies s None e = tt
 answer_lies s (Some m) e = answer_within s m (sym e)
 
--- one match of the list, by a search that starts anywhere
-pub step_some : (s t : Search) (j k : ℕ) (last : Option ℕ) (m : Found) → t ≡ from_on s j → IsAfterLast k last →
-    Some m ≡ next_match begin_of end_of (answer_from t) k last → matches_left s k last ≡ m ∷ matches_left s m.end (Some m.end)
-step_some s t j k last m e after f = left_some s k last m after (sym (f ∙ ap (λ x. next_match begin_of end_of (answer_from x) k last) e))
+-- where the search starts doesn't matter to a list from elsewhere on
+pub left_from : (s : Search) (j k : ℕ) (last : Option ℕ) → matches_left (from_on s j) k last ≡ matches_left s k last
+unfolding matches_left
+left_from s j k last = refl
 
-pub step_none : (s t : Search) (j k : ℕ) (last : Option ℕ) → t ≡ from_on s j → IsAfterLast k last →
-    None ≡ next_match begin_of end_of (answer_from t) k last → matches_left s k last ≡ []
-step_none s t j k last e after f = left_none s k last after (sym (f ∙ ap (λ x. next_match begin_of end_of (answer_from x) k last) e))
+-- the next match, and those after it
+pub step_some : (s : Search) (k : ℕ) (last : Option ℕ) (m : Found) → Some m ≡ next_match begin_of end_of (answer_from s) k last →
+    matches_left s k last ≡ m ∷ matches_left s m.end (Some m.end)
+unfolding matches_left
+step_some s k last m f = by_some begin_of end_of (answer_from s) s.text.slice_start s.hi (answers_lie_within s) k last m (sym f)
 
--- fewer are left behind a match
-pub fewer_left : (s : Search) (k : ℕ) (last : Option ℕ) (m : Found) (at end : ℕ) → matches_left s k last ≡ m ∷ matches_left s m.end (Some m.end) →
-    at ≡ m.end → end ≡ m.end → length (matches_left s at (Some end)) < length (matches_left s k last)
-fewer_left s k last m at end step a e = rw a (rw e (omega (arith, ap length step)))
+pub step_none : (s : Search) (k : ℕ) (last : Option ℕ) → None ≡ next_match begin_of end_of (answer_from s) k last → matches_left s k last ≡ []
+unfolding matches_left
+step_none s k last f = by_none begin_of end_of (answer_from s) s.text.slice_start s.hi (answers_lie_within s) (s.hi + 1 - k) k last (sym f)
 
--- the matches so far and one more
-pub one_more : (s : Search) (k : ℕ) (last : Option ℕ) (m : Found) (at end : ℕ) (whole all more : List Found) →
-    matches_left s k last ≡ m ∷ matches_left s m.end (Some m.end) → at ≡ m.end → end ≡ m.end → whole ≡ all ++ matches_left s k last →
-    more ≡ all ++ m ∷ [] → whole ≡ more ++ matches_left s at (Some end)
-one_more s k last m at end whole all more step a e w n =
-    rw a (rw e (rw n (w ∙ ap (λ x. all ++ x) step ∙ sym (append_assoc all (m ∷ []) (matches_left s m.end (Some m.end))))))
-
--- there is one piece more than matches
-pub all_counted : (hi : ℕ) (ms : List Found) → length (pieces_of hi ms) ≡ length ms + 1
-all_counted hi ms = length-pieces_from 0 hi ms
+-- no more are left than positions
+pub left_short : (s : Search) (k : ℕ) (last : Option ℕ) → length (matches_left s k last) ≤ s.hi + 1 - k
+unfolding matches_left
+left_short s k last = by_few begin_of end_of (answer_from s) s.text.slice_start s.hi (answers_lie_within s) (s.hi + 1 - k) k last
 
 -- each match of the list lies within the bounds
 all_within : (s : Search) (k : ℕ) (ms : List Found) →

@@ -1,5 +1,5 @@
 -- The walks of a list of matches, match by match.
-use Rattle.std.proofs.Common.{◌≡◌, ◌∙◌, ◌+◌, ◌-◌, ℕ, zero, suc, Bool, true, false, List, [], ◌∷◌, ◌++◌, map, Option, Some, None, if◌then◌else◌, ap, sym, subst, refl, arith, append_assoc}
+use Rattle.std.proofs.Common.{◌≡◌, ◌∙◌, ◌+◌, ◌-◌, ℕ, zero, suc, Bool, true, false, List, [], ◌∷◌, map, Option, Some, None, if◌then◌else◌, ap, sym, subst, refl, arith}
 use Rattle.std.specs.Option.{option_map}
 use Rattle.std.proofs.lemmas.Option.{same_Some, none-some}
 use Rattle.rc_text.specs.Found.{Found}
@@ -8,9 +8,9 @@ use Rattle.rc_program.specs.Answer.{Search, Chosen, chosen, answer, found}
 use Rattle.rc_program.specs.Matches
 use Rattle.rc_program.specs.Matches.{begin_of, end_of, from_on, answer_from, is_again, unless_again, next_match, matches_by, matches_left, LiesWithin}
 use Rattle.rc_program.proofs.AnswerLemmas.{chosen_law, chosen_within}
-use Rattle.rc_program.proofs.MatchLemmas.{IsAfterLast, matches_by_some, matches_by_none, room_left}
-use Rattle.rc_matches.specs.Tells.{Tells, TellsOf, AllTell}
+use Rattle.rc_matches.specs.Tells.{Tells, TellsOf}
 use Rattle.rc_matches.specs.Walks.{walk_start, walk_end, chosen_from, walks_left, again, next_start, WalksLaw}
+use Rattle.rc_matches.proofs.Anywhere.{by_some, by_none}
 
 found_again : (s : Search) (last : Option ℕ) (c : Chosen) → is_again begin_of end_of last (found s c) ≡ is_again walk_start walk_end last c
 found_again s None c = refl
@@ -52,19 +52,19 @@ next_started s k last = start_same s k last (chosen_from s k) refl
 walks_lie : (s : Search) → LiesWithin walk_start walk_end (chosen_from s) s.text.slice_start s.hi
 walks_lie s k c e = let h = chosen_within (from_on s k) c ((chosen_law (from_on s k) c).0 e) in (omega (arith, h.0), omega (arith, h.0), h.1, h.2)
 
-walks_some : (s : Search) (k : ℕ) (last : Option ℕ) (c : Chosen) → IsAfterLast k last → next_match walk_start walk_end (chosen_from s) k last ≡ Some c →
+-- where the search starts doesn't matter to a list from elsewhere on
+pub walks_from : (s : Search) (j k : ℕ) (last : Option ℕ) → walks_left (from_on s j) k last ≡ walks_left s k last
+unfolding walks_left
+walks_from s j k last = refl
+
+walks_some : (s : Search) (k : ℕ) (last : Option ℕ) (c : Chosen) → next_match walk_start walk_end (chosen_from s) k last ≡ Some c →
     walks_left s k last ≡ c ∷ walks_left s (walk_end c) (Some (walk_end c))
 unfolding walks_left
-walks_some s k last c after e =
-    matches_by_some walk_start walk_end (chosen_from s) s.text.slice_start s.hi (walks_lie s) (s.hi + 1 - k) k last c after
-    (room_left walk_start walk_end (chosen_from s) s.text.slice_start s.hi (walks_lie s) k last) e
+walks_some s k last c e = by_some walk_start walk_end (chosen_from s) s.text.slice_start s.hi (walks_lie s) k last c e
 
-no_walks : (s : Search) (k : ℕ) (last : Option ℕ) → IsAfterLast k last → next_match walk_start walk_end (chosen_from s) k last ≡ None →
-    walks_left s k last ≡ []
+no_walks : (s : Search) (k : ℕ) (last : Option ℕ) → next_match walk_start walk_end (chosen_from s) k last ≡ None → walks_left s k last ≡ []
 unfolding walks_left
-no_walks s k last after e =
-    matches_by_none walk_start walk_end (chosen_from s) s.text.slice_start s.hi (walks_lie s) (s.hi + 1 - k) k last after
-    (room_left walk_start walk_end (chosen_from s) s.text.slice_start s.hi (walks_lie s) k last) e
+no_walks s k last e = by_none walk_start walk_end (chosen_from s) s.text.slice_start s.hi (walks_lie s) (s.hi + 1 - k) k last e
 
 -- One walk of the list, which the search u chooses.
 pub record Step (s u : Search) (k : ℕ) (last : Option ℕ) (m : Found) : Type 0 where
@@ -73,48 +73,27 @@ pub record Step (s u : Search) (k : ℕ) (last : Option ℕ) (m : Found) : Type 
   pub is_found : m ≡ found s walk
   pub left : walks_left s k last ≡ walk ∷ walks_left s (walk_end walk) (Some (walk_end walk))
 
-step_of : (s u : Search) (k : ℕ) (last : Option ℕ) (m : Found) (x : ℕ) (o : Option Chosen) → u ≡ from_on s x → x ≡ next_start s k last → IsAfterLast k last →
+step_of : (s u : Search) (k : ℕ) (last : Option ℕ) (m : Found) (x : ℕ) (o : Option Chosen) → u ≡ from_on s x → x ≡ next_start s k last →
     next_match walk_start walk_end (chosen_from s) k last ≡ o → Some m ≡ option_map (found s) o → Step s u k last m
-step_of s u k last m x None there at after e f = absurd (none-some m (sym f))
-step_of s u k last m x (Some c) there at after e f = record {
+step_of s u k last m x None there at e f = absurd (none-some m (sym f))
+step_of s u k last m x (Some c) there at e f = record {
   walk = c;
   is_chosen = ap chosen there ∙ ap (λ y. chosen (from_on s y)) at ∙ sym (next_started s k last) ∙ e;
   is_found = same_Some m (found s c) f;
-  left = walks_some s k last c after e;
+  left = walks_some s k last c e;
 }
 
-pub walk_step : (s t u : Search) (j k : ℕ) (last : Option ℕ) (m : Found) (x : ℕ) → t ≡ from_on s j → u ≡ from_on t x → x ≡ next_start t k last →
-    IsAfterLast k last → Some m ≡ next_match begin_of end_of (answer_from t) k last → Step s u k last m
-walk_step s t u j k last m x moved there at after f =
-    step_of s u k last m x (next_match walk_start walk_end (chosen_from s) k last) (there ∙ ap (λ y. from_on y x) moved)
-    (at ∙ ap (λ y. next_start y k last) moved) after refl
-    (f ∙ ap (λ y. next_match begin_of end_of (answer_from y) k last) moved ∙ next_same s k last)
+pub walk_step : (s u : Search) (k : ℕ) (last : Option ℕ) (m : Found) (x : ℕ) → u ≡ from_on s x → x ≡ next_start s k last →
+    Some m ≡ next_match begin_of end_of (answer_from s) k last → Step s u k last m
+walk_step s u k last m x there at f =
+    step_of s u k last m x (next_match walk_start walk_end (chosen_from s) k last) there at refl (f ∙ next_same s k last)
 
 none_of : (s : Search) (o : Option Chosen) → None ≡ option_map (found s) o → o ≡ None
 none_of s None e = refl
 none_of s (Some c) e = absurd (none-some (found s c) e)
 
-pub last_step : (s t : Search) (j k : ℕ) (last : Option ℕ) → t ≡ from_on s j → IsAfterLast k last →
-    None ≡ next_match begin_of end_of (answer_from t) k last → walks_left s k last ≡ []
-last_step s t j k last moved after f =
-    no_walks s k last after
-    (none_of s (next_match walk_start walk_end (chosen_from s) k last)
-    (f ∙ ap (λ y. next_match begin_of end_of (answer_from y) k last) moved ∙ next_same s k last))
-
--- the walks so far and one more
-pub one_more_walk : (s : Search) (k : ℕ) (last : Option ℕ) (c : Chosen) (at end : ℕ) (whole done : List Chosen) →
-    walks_left s k last ≡ c ∷ walks_left s (walk_end c) (Some (walk_end c)) → at ≡ walk_end c → end ≡ walk_end c → whole ≡ done ++ walks_left s k last →
-    whole ≡ (done ++ c ∷ []) ++ walks_left s at (Some end)
-one_more_walk s k last c at end whole done step a e w =
-    rw a (rw e (w ∙ ap (λ x. done ++ x) step ∙ sym (append_assoc done (c ∷ []) (walks_left s (walk_end c) (Some (walk_end c))))))
-
--- the captures of one more walk
-pub all_tell_more : (s : Search) (done : List Chosen) (xs : List Captures) (c : Chosen) (x : Captures) → AllTell s done xs → TellsOf s (Some c) x →
-    AllTell s (done ++ c ∷ []) (xs ++ x ∷ [])
-all_tell_more s [] [] c x all one = (one, tt)
-all_tell_more s [] (y ∷ ys) c x all one = absurd all
-all_tell_more s (d ∷ ds) [] c x all one = absurd all
-all_tell_more s (d ∷ ds) (y ∷ ys) c x all one = (all.0, all_tell_more s ds ys c x all.1 one)
+pub last_step : (s : Search) (k : ℕ) (last : Option ℕ) → None ≡ next_match begin_of end_of (answer_from s) k last → walks_left s k last ≡ []
+last_step s k last f = no_walks s k last (none_of s (next_match walk_start walk_end (chosen_from s) k last) (f ∙ next_same s k last))
 
 -- captures of a search from elsewhere
 pub tells_there : (s u : Search) (x : ℕ) (caps : Captures) (c : Chosen) → u ≡ from_on s x → chosen u ≡ Some c → Tells u caps → TellsOf s (Some c) caps

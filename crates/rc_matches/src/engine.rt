@@ -7,7 +7,6 @@ ghost use Rattle.rc_thompson.specs.Places.{places_of};
 
 use rc_captures::captures;
 use rc_captures::captures::Captures;
-use rc_captures::groups::GroupInfo;
 use rc_pikevm::cache::Cache;
 use rc_pikevm::search;
 use rc_text::cursor::Cursor;
@@ -26,18 +25,16 @@ pub struct Engine {
 }
 
 impl Engine {
-    ghost use Rattle.std.specs.Prelude.{◌≡◌, ◌≤◌, All, IfOk, OnOk, OnErr, IfSome, MatchOption, Option, Some, None, length};
+    ghost use Rattle.std.specs.Prelude.{◌≡◌, ◌≤◌, IfOk, IfSome, MatchOption, Option, Some, None, length};
     ghost use Rattle.std.specs.Option.{option_map};
     ghost use Rattle.rc_text.specs.Found.{Found};
-    ghost use Rattle.rc_captures.specs.Groups.{names_of};
-    ghost use Rattle.rc_matches.specs.Walks.{next_start, walks_left};
+    ghost use Rattle.rc_matches.specs.Walks.{next_start};
     ghost use Rattle.rc_captures.specs.Captures.{captures_names, captures_pattern, captures_slots};
-    ghost use Rattle.rc_matches.specs.Tells.{Tells, AllTell, KeepsAll};
+    ghost use Rattle.rc_matches.specs.Tells.{Tells};
     ghost use Rattle.rc_text.specs.Text.{Keeps, low, high};
     ghost use Rattle.rc_program.specs.Answer.{answer, groups};
-    ghost use Rattle.rc_program.specs.Matches.{answer_from, begin_of, end_of, next_match, matches_left};
+    ghost use Rattle.rc_program.specs.Matches.{answer_from, begin_of, end_of, next_match};
     ghost use Rattle.rc_matches.specs.Engine.{engine_search, IsEngineCache, IsSameCache};
-    ghost use Rattle.rc_captures.specs.Names.{slot_len};
     ghost use Rattle.rc_matches.specs.Moved.{IsMoved};
 
     /// A cache for searches by this engine, with at most so many slots. An `Err` is want of memory.
@@ -118,30 +115,6 @@ impl Engine {
         self.find(cache, input)
     }
 
-    /// All matches, from left to right. The start of the input's span may then be another. An `Err` is want of memory.
-    pub fn all_matches<C: Cursor>(
-        &self,
-        alloc: Global,
-        cache: &mut Cache,
-        input: &mut Input<C>,
-    ) -> Result<Vec<Match>, AllocError>
-        requires made { IsEngineCache self.now 0 cache.old }
-        ensures moves { IsMoved input.old input.new }
-        ensures listed { IfOk result (λ v. v.items ≡ matches_left (engine_search self.now input.old) input.old.span.start None) }
-        ensures within { IfOk result (λ v. All (λ m. (low input.old ≤ m.start)
-            × (m.start ≤ m.end) × (m.end ≤ high input.old)) v.items) }
-        ensures cache { IsSameCache cache.old cache.new }
-    {
-        let mut all = Vec::new(alloc);
-        let mut last = None;
-        while let Some(found) = self.next_match(cache, input, last) {
-            input.set_start(found.end());
-            last = Some(found.end());
-            all.push(found)?;
-        }
-        Ok(all)
-    }
-
     /// Writes the match that a search finds, with its groups, into captures of the patterns of these names. Without a match they
     /// hold none. It takes no memory.
     pub fn find_captures<C: Cursor>(
@@ -160,34 +133,6 @@ impl Engine {
         captures::clear(caps);
         let pattern = self.find_slots(cache, input, caps.slots_mut());
         captures::set_pattern(caps, pattern);
-    }
-
-    /// The captures of all matches, from left to right, with all groups of `info`. The start of the input's span may then be
-    /// another. An `Err` is want of memory.
-    pub fn all_captures<C: Cursor>(
-        &self,
-        alloc: Global,
-        cache: &mut Cache,
-        input: &mut Input<C>,
-        info: &GroupInfo,
-    ) -> Result<Vec<Captures>, AllocError>
-        requires made { IsEngineCache self.now (slot_len (names_of info.now)) cache.old }
-        ensures moves { IsMoved input.old input.new }
-        ensures made { IfOk result (λ v. All (KeepsAll (names_of info.now)) v.items) }
-        ensures told { IfOk result (λ v. AllTell (engine_search self.now input.old)
-            (walks_left (engine_search self.now input.old) input.old.span.start None) v.items) }
-        ensures cache { IsSameCache cache.old cache.new }
-    {
-        let mut all = Vec::new(alloc);
-        let mut last = None;
-        while let Some(found) = self.next_match(cache, input, last) {
-            let mut caps = Captures::all(alloc, info)?;
-            self.find_captures(cache, input, &mut caps);
-            input.set_start(found.end());
-            last = Some(found.end());
-            all.push(caps)?;
-        }
-        Ok(all)
     }
 }
 

@@ -1,6 +1,5 @@
-//! Searches over a program: one match, and the lists of matches, of their groups and of the pieces between them.
+//! Searches over a program: one match, with its groups, and the next match of a list.
 #![tactic(auto)]
 
 pub mod engine;
 pub mod laws;
-pub mod pieces;

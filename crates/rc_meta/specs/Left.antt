@@ -1,49 +1,127 @@
--- What the iterators have still to give.
-use Rattle.std.specs.Prelude.{◌≡◌, ℕ, List, [], ◌∷◌, Option, Result, MatchOption, MatchResult}
+-- What the iterators have still to give, from what they stand at.
+use Rattle.std.specs.Prelude.{◌≡◌, ◌<◌, ℕ, List, [], ◌∷◌, ◌++◌, All, length, map, Bool, Option, Some, None, Result, MatchOption, MatchResult, if◌then◌else◌}
+use Rattle.std.specs.declared.result.Result.TheVariants.{Ok}
 use Rattle.std.specs.declared.alloc.AllocError.{AllocError}
-use Rattle.std.specs.Vec.Iter.{into_iter_items}
+use Rattle.std.specs.Iterator.{Yields, YieldsThen}
 use Rattle.rc_text.specs.Found.{Found}
+use Rattle.rc_text.specs.Text.{Searched, high}
 use Rattle.rc_text.specs.declared.types.Span.{Span}
+use Rattle.rc_captures.specs.Captures.{match_of}
+use Rattle.rc_captures.specs.Names.{Names}
 use Rattle.rc_captures.specs.declared.captures.Captures.{Captures}
+use Rattle.rc_program.specs.Answer.{Search, Chosen}
+use Rattle.rc_program.specs.Matches.{from_on, matches_left, pieces_from, pieces_left}
+use Rattle.rc_program.specs.Sought.{search_for}
+use Rattle.rc_matches.specs.Tells.{TellsOf, AllTell, KeepsAll}
+use Rattle.rc_matches.specs.Walks.{walks_left}
+use Rattle.rc_meta.specs.Views.{regex_names, sought}
 use Rattle.rc_meta.specs.declared.regex.Regex.{Regex}
+use Rattle.rc_meta.specs.declared.finder.Finder.{Finder}
 use Rattle.rc_meta.specs.declared.iterators.FindMatches.{FindMatches}
 use Rattle.rc_meta.specs.declared.iterators.CapturesMatches.{CapturesMatches}
 use Rattle.rc_meta.specs.declared.iterators.Split.{Split}
 use Rattle.rc_meta.specs.declared.iterators.SplitN.{SplitN}
-use Rattle.rc_meta.specs.declared.iterators.Limited.{Limited}
 
--- the matches that are left
-abbrev pub find_left : {C : Type 0} → FindMatches C → List Found
-find_left s = into_iter_items s.found
+-- the search of an input by a regex
+abbrev pub search_by : Finder → Searched → Search
+search_by f i = search_for (sought f.regex.now) i
 
--- the captures of the matches that are left
-abbrev pub captures_left : {C : Type 0} → CapturesMatches C → List Captures
-captures_left s = into_iter_items s.found
+-- nothing once it has ended
+abbrev pub unless_done : {X : Type 0} → Bool → List X → List X
+unless_done done xs = if done then [] else xs
 
--- What `next` gives: the first of the captures that are left, or want of memory, after which none are left; and nothing where none
--- are left.
-abbrev pub GivesCaptures : {C : Type 0} → CapturesMatches C → Option (Result Captures AllocError) → CapturesMatches C → Type 0
-GivesCaptures s r t = MatchOption r
-    ((captures_left s ≡ []) × (captures_left t ≡ []))
-    (λ item. MatchResult item (λ caps. captures_left s ≡ caps ∷ captures_left t) (λ _. captures_left t ≡ []))
+-- the matches that a finder has left in an input
+abbrev pub left_in : Finder → Searched → List Found
+left_in f i = unless_done f.is_done (matches_left (search_by f i) i.span.start f.last)
 
--- the pieces that are left
-abbrev pub split_left : {C : Type 0} → Split C → List Span
-split_left s = into_iter_items s.pieces
+-- and their walks
+abbrev pub walks_in : Finder → Searched → List Chosen
+walks_in f i = unless_done f.is_done (walks_left (search_by f i) i.span.start f.last)
 
-abbrev pub limited_left : Limited → List Span
-limited_left s = into_iter_items s.rest
+-- What a search gives: the first of the matches that are left, and the others stay left; or nothing where none is left, and then none
+-- is left.
+abbrev pub GivesNext : Finder → Searched → Option Found → Finder → Searched → Type 0
+GivesNext f i r g j = MatchOption r
+    ((left_in f i ≡ []) × (left_in g j ≡ []))
+    (λ m. left_in f i ≡ m ∷ left_in g j)
 
-abbrev pub splitn_left : {C : Type 0} → SplitN C → List Span
-splitn_left s = limited_left s.limited
+-- The captures hold the first of the matches that are left, with all its groups, and the others stay left.
+pub record HoldsNext (f : Finder) (i : Searched) (caps : Captures) (g : Finder) (j : Searched) : Type 0 where
+  pub kept : KeepsAll (regex_names f.regex.now) caps
+  pub found : Found
+  pub matched : match_of caps ≡ Some found
+  pub left : left_in f i ≡ found ∷ left_in g j
+  pub walk : Chosen
+  pub told : TellsOf (search_by f i) (Some walk) caps
+  pub walks : walks_in f i ≡ walk ∷ walks_in g j
+  -- the same is sought in the same, from elsewhere on
+  pub regex : g.regex.now ≡ f.regex.now
+  pub start : ℕ
+  pub search : search_by g j ≡ from_on (search_by f i) start
 
--- how many more calls of `next` may give a piece
-abbrev pub splitn_limit : {C : Type 0} → SplitN C → ℕ
-splitn_limit s = s.limited.limit
+-- What a search with groups gives: captures of the next match; or want of memory, which comes only where a match is left, and after
+-- which none is left; or nothing where none is left, and then none is left.
+abbrev pub GivesCaptures : Finder → Searched → Option (Result Captures AllocError) → Finder → Searched → Type 0
+GivesCaptures f i r g j = MatchOption r
+    ((left_in f i ≡ []) × (walks_in f i ≡ []) × (left_in g j ≡ []))
+    (λ item. MatchResult item (λ caps. HoldsNext f i caps g j) (λ _. (0 < length (left_in f i)) × (left_in g j ≡ [])))
 
 -- whose matches they are
 abbrev pub find_regex : {C : Type 0} → FindMatches C → Regex
-find_regex s = s.regex.now
+find_regex s = s.finder.regex.now
+
+-- the input that is kept
+abbrev pub find_input : {C : Type 0} → FindMatches C → Searched
+find_input s = s.input
+
+-- the matches that are left
+abbrev pub find_left : {C : Type 0} → FindMatches C → List Found
+find_left s = left_in s.finder s.input
 
 abbrev pub captures_regex : {C : Type 0} → CapturesMatches C → Regex
-captures_regex s = s.regex.now
+captures_regex s = s.finder.finder.regex.now
+
+abbrev pub captures_input : {C : Type 0} → CapturesMatches C → Searched
+captures_input s = s.input
+
+-- the matches whose captures are left, and their walks
+abbrev pub captures_left : {C : Type 0} → CapturesMatches C → List Found
+captures_left s = left_in s.finder.finder s.input
+
+abbrev pub captures_walks : {C : Type 0} → CapturesMatches C → List Chosen
+captures_walks s = walks_in s.finder.finder s.input
+
+-- what `next` gives
+abbrev pub CapturesNext : {C : Type 0} → CapturesMatches C → Option (Result Captures AllocError) → CapturesMatches C → Type 0
+CapturesNext s r t = GivesCaptures s.finder.finder s.input r t.finder.finder t.input
+
+-- What calls of `next` give of a search's list of matches, from the span's start `start` on.
+pub record CapturesLaw {C : Type 0} (names : Names) (search : Search) (start : ℕ) (s : CapturesMatches C) : Type 0 where
+  -- captures that came keep all groups,
+  pub kept : (items : List Captures) (t : CapturesMatches C) → Yields CapturesNext s (map Ok items) t → All (KeepsAll names) items
+  -- tell the first walks of the list,
+  pub told : (items : List Captures) (t : CapturesMatches C) → Yields CapturesNext s (map Ok items) t →
+      (walks : List Chosen) × AllTell search walks items × (walks_left search start None ≡ walks ++ captures_walks t)
+  -- and are of its first matches;
+  pub matched : (items : List Captures) (t : CapturesMatches C) → Yields CapturesNext s (map Ok items) t →
+      map Some (matches_left search start None) ≡ map match_of items ++ map Some (captures_left t)
+  -- and once nothing comes after them, of all.
+  pub all_told : (items : List Captures) (t : CapturesMatches C) → YieldsThen CapturesNext s (map Ok items) None t →
+      AllTell search (walks_left search start None) items
+  pub all_matched : (items : List Captures) (t : CapturesMatches C) → YieldsThen CapturesNext s (map Ok items) None t →
+      map match_of items ≡ map Some (matches_left search start None)
+
+-- the pieces that are left: the next begins at `start`
+abbrev pub split_left : {C : Type 0} → Split C → List Span
+split_left s = unless_done s.is_done (pieces_from s.start (high s.matches.input) (find_left s.matches))
+
+-- at most so many of them
+abbrev pub few_left : {C : Type 0} → ℕ → Split C → List Span
+few_left n s = unless_done s.is_done (pieces_left n s.start (high s.matches.input) (find_left s.matches))
+
+-- how many more calls of `next` may give a piece
+abbrev pub splitn_limit : {C : Type 0} → SplitN C → ℕ
+splitn_limit s = s.limit
+
+abbrev pub splitn_left : {C : Type 0} → SplitN C → List Span
+splitn_left s = few_left (splitn_limit s) s.pieces

@@ -1,55 +1,53 @@
 //! What goes over the matches of a regex, with their groups, and over the pieces between them.
 //!
-//! What they give is found when they are made, so `next` takes no memory.
+//! Each keeps the input and a cache that is made with it, and searches when `next` is called: nothing is found ahead. The searches
+//! take no memory.
 
-ghost use Rattle.std.specs.Prelude.{◌≤◌, length};
-ghost use Rattle.std.specs.Vec.Iter.{into_iter_items};
-
+use crate::finder::{Finder, GroupFinder};
 use crate::regex::Regex;
 use rc_captures::captures::Captures;
 use rc_text::cursor::Cursor;
-use rc_text::input::Input;
+use rc_text::input::{Input, high};
 use rc_text::types::{Match, Span};
 use std::alloc::AllocError;
 use std::iter::FusedIterator;
-use std::vec::IntoIter;
 
 /// The matches of a regex in an input, from left to right.
+///
+/// Each call of `next` searches, and takes no memory. After the last match it gives None.
 #[derive(Drop)]
 pub struct FindMatches<'r, C: Cursor> {
-    pub(crate) regex: &'r Regex,
+    pub(crate) finder: Finder<'r>,
     pub(crate) input: Input<C>,
-    pub(crate) found: IntoIter<Match>,
 }
 
 /// The matches of a regex in an input, from left to right, each with its groups.
+///
+/// Each call of `next` searches, and takes the memory of the captures that it gives, and no other. Want of it is an item, after
+/// which None comes; so it does after the last match.
 #[derive(Drop)]
 pub struct CapturesMatches<'r, C: Cursor> {
-    pub(crate) regex: &'r Regex,
+    pub(crate) finder: GroupFinder<'r>,
     pub(crate) input: Input<C>,
-    pub(crate) found: IntoIter<Captures>,
 }
 
 /// The pieces of a content between the matches of a regex, from left to right.
+///
+/// Each call of `next` searches, and takes no memory. After the last piece it gives None.
 #[derive(Drop)]
-pub struct Split<C: Cursor> {
-    pub(crate) input: Input<C>,
-    pub(crate) pieces: IntoIter<Span>,
+pub struct Split<'r, C: Cursor> {
+    pub(crate) matches: FindMatches<'r, C>,
+    /// Where the next piece begins.
+    pub(crate) start: usize,
+    pub(crate) is_done: bool,
 }
 
 /// The same, of which there are at most so many.
 #[derive(Drop)]
-pub struct SplitN<C: Cursor> {
-    pub(crate) input: Input<C>,
-    pub(crate) limited: Limited,
-}
-
-/// Pieces, and how many more calls of `next` may give one.
-#[derive(Drop)]
-pub(crate) struct Limited {
-    pub(crate) rest: IntoIter<Span>,
+pub struct SplitN<'r, C: Cursor> {
+    pub(crate) pieces: Split<'r, C>,
+    /// How many more calls of `next` may give a piece.
     pub(crate) limit: usize,
-    ghost few: { length (into_iter_items rest) ≤ limit },
 }
 
 impl<'r, C: Cursor> FindMatches<'r, C> {
@@ -60,12 +58,26 @@ impl<'r, C: Cursor> FindMatches<'r, C> {
     pub fn regex(&self) -> &'r Regex
         ensures { result.now ≡ find_regex self.now }
     {
-        self.regex
+        self.finder.regex
     }
 
-    /// The input. What is done to it changes no item.
+    /// The input. It may be changed: `next` then goes on in what it is.
     pub fn input(&mut self) -> &mut Input<C> {
         &mut self.input
+    }
+}
+
+impl<'r, C: Cursor + Drop> FindMatches<'r, C> {
+    ghost use Rattle.std.specs.Prelude.{◌≡◌, length};
+    ghost use Rattle.rc_meta.specs.Left.{find_left};
+
+    /// How many matches are left. It takes no memory.
+    pub fn count(self) -> usize
+        ensures { result ≡ length (find_left self.entry) }
+    {
+        // The content is shorter than the greatest number.
+        let _offset = self.input.chunk_offset();
+        Iterator::count(self)
     }
 }
 
@@ -80,24 +92,24 @@ impl<'r, C: Cursor + Drop> Iterator for FindMatches<'r, C> {
     ghost remaining = { item_count find_left };
 
     fn next(&mut self) -> Option<Match> {
-        self.found.next()
+        self.finder.next_match(&mut self.input)
     }
 }
 
 impl<'r, C: Cursor + Drop> FusedIterator for FindMatches<'r, C> {}
 
 impl<'r, C: Cursor> CapturesMatches<'r, C> {
-    ghost use Rattle.std.specs.Prelude.{◌≡◌, length};
-    ghost use Rattle.rc_meta.specs.Left.{captures_left, captures_regex};
+    ghost use Rattle.std.specs.Prelude.{◌≡◌};
+    ghost use Rattle.rc_meta.specs.Left.{captures_regex};
 
     /// The regex.
     pub fn regex(&self) -> &'r Regex
         ensures { result.now ≡ captures_regex self.now }
     {
-        self.regex
+        self.finder.finder.regex
     }
 
-    /// The input. What is done to it changes no item.
+    /// The input. It may be changed: `next` then goes on in what it is.
     pub fn input(&mut self) -> &mut Input<C> {
         &mut self.input
     }
@@ -107,43 +119,84 @@ impl<'r, C: Cursor + Drop> CapturesMatches<'r, C> {
     ghost use Rattle.std.specs.Prelude.{◌≡◌, length};
     ghost use Rattle.rc_meta.specs.Left.{captures_left};
 
-    /// How many matches are left.
+    /// How many matches are left: as many items as `next` would give with no memory refused. It makes no captures, and takes no
+    /// memory.
     pub fn count(self) -> usize
         ensures { result ≡ length (captures_left self.entry) }
     {
-        self.found.len()
+        let matches = FindMatches {
+            finder: self.finder.finder,
+            input: self.input,
+        };
+        matches.count()
     }
 }
 
 impl<'r, C: Cursor + Drop> Iterator for CapturesMatches<'r, C> {
     ghost use Rattle.std.specs.Iterator.{item_count};
-    ghost use Rattle.rc_meta.specs.Left.{captures_left, GivesCaptures};
+    ghost use Rattle.rc_meta.specs.Left.{captures_left, CapturesNext};
 
     type Item = Result<Captures, AllocError>;
 
-    ghost next_gives = { GivesCaptures };
+    ghost next_gives = { CapturesNext };
 
     ghost remaining = { item_count captures_left };
 
-    /// The next match, with its groups. After an `Err`, which is want of memory, no item comes.
+    /// The next match, with its groups. An `Err` is want of memory for them, and after it no item comes.
     fn next(&mut self) -> Option<Result<Captures, AllocError>> {
-        match self.found.next() {
-            Some(caps) => Some(Ok(caps)),
-            None => None,
-        }
+        self.finder.next(&mut self.input)
     }
 }
 
 impl<'r, C: Cursor + Drop> FusedIterator for CapturesMatches<'r, C> {}
 
-impl<C: Cursor> Split<C> {
-    /// The input. What is done to it changes no item.
+impl<'r, C: Cursor> Split<'r, C> {
+    ghost use Rattle.std.specs.Prelude.{◌≡◌, ◌∷◌, ℕ, suc, [], MatchOption, true};
+    ghost use Rattle.std.specs.Iterator.{YieldsFirst};
+    ghost use Rattle.rc_text.specs.Text.{high};
+    ghost use Rattle.rc_meta.specs.Left.{few_left, split_left};
+
+    /// The input. It may be changed: `next` then goes on in what it is.
     pub fn input(&mut self) -> &mut Input<C> {
-        &mut self.input
+        &mut self.matches.input
+    }
+
+    /// The next piece.
+    pub(crate) fn next_piece(&mut self) -> Option<Span>
+        ensures steps { YieldsFirst split_left self.old result self.new }
+        ensures limited { (n : ℕ) → MatchOption result
+            ((few_left n self.old ≡ []) × (few_left n self.new ≡ []))
+            (λ piece. few_left (suc (suc n)) self.old ≡ piece ∷ few_left (suc n) self.new) }
+    {
+        if self.is_done {
+            return None;
+        }
+        let start = self.start;
+        let matches = &mut self.matches;
+        let Some(found) = matches.finder.next_match(&mut matches.input) else {
+            return Some(self.rest());
+        };
+        self.start = found.end();
+        Some(Span {
+            start,
+            end: found.start(),
+        })
+    }
+
+    /// All from the start of the next piece on, as the last piece.
+    pub(crate) fn rest(&mut self) -> Span
+        ensures value { result ≡ record { start = self.old.start; end = high self.old.matches.input } }
+        ensures done { self.new.is_done ≡ true }
+    {
+        self.is_done = true;
+        Span {
+            start: self.start,
+            end: high(&mut self.matches.input),
+        }
     }
 }
 
-impl<C: Cursor + Drop> Iterator for Split<C> {
+impl<'r, C: Cursor + Drop> Iterator for Split<'r, C> {
     ghost use Rattle.std.specs.Iterator.{YieldsFirst, item_count};
     ghost use Rattle.rc_meta.specs.Left.{split_left};
 
@@ -154,20 +207,20 @@ impl<C: Cursor + Drop> Iterator for Split<C> {
     ghost remaining = { item_count split_left };
 
     fn next(&mut self) -> Option<Span> {
-        self.pieces.next()
+        self.next_piece()
     }
 }
 
-impl<C: Cursor + Drop> FusedIterator for Split<C> {}
+impl<'r, C: Cursor + Drop> FusedIterator for Split<'r, C> {}
 
-impl<C: Cursor> SplitN<C> {
+impl<'r, C: Cursor> SplitN<'r, C> {
     ghost use Rattle.std.specs.Prelude.{◌≡◌, ◌-◌};
     ghost use Rattle.std.specs.Iterator.{YieldsFirst};
     ghost use Rattle.rc_meta.specs.Left.{splitn_left, splitn_limit};
 
-    /// The input. What is done to it changes no item.
+    /// The input. It may be changed: `next` then goes on in what it is.
     pub fn input(&mut self) -> &mut Input<C> {
-        &mut self.input
+        &mut self.pieces.matches.input
     }
 
     /// The next piece. Each call lowers the limit.
@@ -175,11 +228,19 @@ impl<C: Cursor> SplitN<C> {
         ensures steps { YieldsFirst splitn_left self.old result self.new }
         ensures limit { splitn_limit self.new ≡ splitn_limit self.old - 1 }
     {
-        self.limited.next()
+        let limit = self.limit;
+        self.limit = limit.saturating_sub(1);
+        if limit == 0 || self.pieces.is_done {
+            return None;
+        }
+        if limit == 1 {
+            return Some(self.pieces.rest());
+        }
+        self.pieces.next_piece()
     }
 }
 
-impl<C: Cursor + Drop> Iterator for SplitN<C> {
+impl<'r, C: Cursor + Drop> Iterator for SplitN<'r, C> {
     ghost use Rattle.std.specs.Prelude.{◌≡◌, Some, IfSome};
     ghost use Rattle.std.specs.Iterator.{YieldsFirst, UpTo, at_most};
     ghost use Rattle.std.specs.Iterator.SizeHint.{IsWithinCount};
@@ -201,23 +262,8 @@ impl<C: Cursor + Drop> Iterator for SplitN<C> {
         ensures upper { IfSome result.1 (UpTo (at_most (splitn_limit self.now))) }
         ensures value { result ≡ (0, Some (splitn_limit self.now)) }
     {
-        (0, Some(self.limited.limit))
+        (0, Some(self.limit))
     }
 }
 
-impl<C: Cursor + Drop> FusedIterator for SplitN<C> {}
-
-impl Limited {
-    ghost use Rattle.std.specs.Prelude.{◌≡◌, ◌-◌};
-    ghost use Rattle.std.specs.Iterator.{YieldsFirst};
-    ghost use Rattle.rc_meta.specs.Left.{limited_left};
-
-    fn next(&mut self) -> Option<Span>
-        ensures steps { YieldsFirst limited_left self.old result self.new }
-        ensures limit { self.new.limit ≡ self.old.limit - 1 }
-    {
-        let piece = self.rest.next();
-        self.limit = self.limit.saturating_sub(1);
-        piece
-    }
-}
+impl<'r, C: Cursor + Drop> FusedIterator for SplitN<'r, C> {}

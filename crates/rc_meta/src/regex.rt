@@ -12,19 +12,19 @@ ghost use Rattle.rc_meta.specs.Fits.{Fits};
 
 use crate::builder::{Builder, build};
 use crate::cache::Cache;
-use crate::iterators::{CapturesMatches, FindMatches, Limited, Split, SplitN};
+use crate::finder::{Finder, GroupFinder};
+use crate::iterators::{CapturesMatches, FindMatches, Split, SplitN};
 use rc_build::config::Config;
 use rc_build::error::BuildError;
 use rc_captures::captures;
 use rc_captures::captures::Captures;
 use rc_captures::groups::GroupInfo;
 use rc_matches::engine::Engine;
-use rc_matches::pieces::{all_pieces, pieces_at_most};
 use rc_pattern::check::group_count;
 use rc_pattern::hir::Hir;
 use rc_pikevm::cache;
 use rc_text::cursor::Cursor;
-use rc_text::input::{Input, high};
+use rc_text::input::Input;
 use rc_text::types::{HalfMatch, Match, PatternID};
 use rc_thompson::place::Place;
 use std::alloc::{AllocError, Global};
@@ -35,7 +35,7 @@ use std::mem::size_of;
 pub struct Regex {
     hirs: Vec<Hir>,
     config: Config,
-    engine: Engine,
+    pub(crate) engine: Engine,
     info: GroupInfo,
     ghost fits: { Fits (settings_of config) (map meaning hirs.items) engine info },
 }
@@ -45,10 +45,10 @@ impl Regex {
     ghost use Rattle.rc_captures.specs.Captures.{IsCapturesFor, captures_pattern, captures_slots, match_of};
     ghost use Rattle.rc_captures.specs.Groups.{names_of};
     ghost use Rattle.rc_captures.specs.Names.{slot_len};
-    ghost use Rattle.rc_matches.specs.Tells.{Tells, AllTell, KeepsAll};
+    ghost use Rattle.rc_matches.specs.Tells.{Tells, KeepsAll};
     ghost use Rattle.rc_matches.specs.Walks.{walks_left};
     ghost use Rattle.rc_program.specs.Matches.{matches_left, pieces_of, pieces_at_most};
-    ghost use Rattle.rc_meta.specs.Left.{captures_left, captures_regex, find_left, find_regex, split_left, splitn_left, splitn_limit};
+    ghost use Rattle.rc_meta.specs.Left.{captures_input, captures_left, captures_regex, captures_walks, CapturesLaw, find_input, find_left, find_regex, split_left, splitn_left, splitn_limit};
     ghost use Rattle.rc_text.specs.Found.{Found};
     ghost use Rattle.rc_program.specs.Laws.{all_groups};
     ghost use Rattle.rc_meta.specs.Counts.{half_of, static_captures_len};
@@ -388,96 +388,102 @@ impl Regex {
     /// All matches in the input, from left to right.
     ///
     /// Each search starts where the match before ended. A match that is empty and ends there gives way to the answer from a byte
-    /// later. An `Err` is want of memory; the items take none.
+    /// later. An `Err` is want of memory for the cache; the items take none.
     pub fn find_iter<'r, C: Cursor + Drop>(
         &'r self,
         alloc: Global,
-        mut input: Input<C>,
+        input: Input<C>,
     ) -> Result<FindMatches<'r, C>, AllocError>
         ensures left { match_kind_of (regex_settings self.now) ≡ LeftmostFirst
             → IfOk result (λ s. find_left s ≡ matches_left (search_for (sought self.now) input) input.span.start None) }
         ensures within { IfOk result (λ s. All (λ m. (low input ≤ m.start) × (m.start ≤ m.end) × (m.end ≤ high input)) (find_left s)) }
         ensures short { IfOk result (λ s. length (find_left s) < 2 ^ 64) }
         ensures regex { IfOk result (λ s. find_regex s ≡ self.now) }
+        ensures input { IfOk result (λ s. find_input s ≡ input) }
     {
-        let mut cache = self.engine.create_cache(alloc, 0)?;
-        let found = self
-            .engine
-            .all_matches(alloc, &mut cache, &mut input)?
-            .into_iter();
-        Ok(FindMatches {
+        // The content is shorter than the greatest number.
+        let _offset = input.chunk_offset();
+        let cache = self.engine.create_cache(alloc, 0)?;
+        let finder = Finder {
             regex: self,
-            input,
-            found,
-        })
+            cache,
+            last: None,
+            is_done: false,
+        };
+        Ok(FindMatches { finder, input })
     }
 
-    /// The matches of `find_iter`, each with its groups. An `Err` is want of memory.
+    /// The matches of `find_iter`, each with its groups. An `Err` is want of memory for the cache; an item takes the memory of its
+    /// captures alone, and is an `Err` where that is refused.
     pub fn captures_iter<'r, C: Cursor + Drop>(
         &'r self,
         alloc: Global,
-        mut input: Input<C>,
+        input: Input<C>,
     ) -> Result<CapturesMatches<'r, C>, AllocError>
-        ensures made { IfOk result (λ s. All (KeepsAll (regex_names self.now)) (captures_left s)) }
-        ensures told { match_kind_of (regex_settings self.now) ≡ LeftmostFirst
-            → IfOk result (λ s. AllTell (search_for (sought self.now) input)
-            (walks_left (search_for (sought self.now) input) input.span.start None) (captures_left s)) }
-        ensures matched { match_kind_of (regex_settings self.now) ≡ LeftmostFirst
-            → IfOk result (λ s. map match_of (captures_left s)
-            ≡ map Some (matches_left (search_for (sought self.now) input) input.span.start None)) }
+        ensures left { match_kind_of (regex_settings self.now) ≡ LeftmostFirst
+            → IfOk result (λ s. captures_left s ≡ matches_left (search_for (sought self.now) input) input.span.start None) }
+        ensures walks { match_kind_of (regex_settings self.now) ≡ LeftmostFirst
+            → IfOk result (λ s. captures_walks s ≡ walks_left (search_for (sought self.now) input) input.span.start None) }
+        ensures law { match_kind_of (regex_settings self.now) ≡ LeftmostFirst
+            → IfOk result (CapturesLaw (regex_names self.now) (search_for (sought self.now) input) input.span.start) }
         ensures short { IfOk result (λ s. length (captures_left s) < 2 ^ 64) }
         ensures regex { IfOk result (λ s. captures_regex s ≡ self.now) }
+        ensures input { IfOk result (λ s. captures_input s ≡ input) }
     {
-        let mut cache = self.engine_cache(alloc)?;
-        let found = self
-            .engine
-            .all_captures(alloc, &mut cache, &mut input, &self.info)?
-            .into_iter();
-        Ok(CapturesMatches {
+        // The content is shorter than the greatest number.
+        let _offset = input.chunk_offset();
+        let cache = self.engine_cache(alloc)?;
+        let finder = Finder {
             regex: self,
-            input,
-            found,
-        })
+            cache,
+            last: None,
+            is_done: false,
+        };
+        let finder = GroupFinder { finder, alloc };
+        Ok(CapturesMatches { finder, input })
     }
 
     /// The pieces of the content between the matches of `find_iter`, from left to right: the first begins at 0, and the last ends
-    /// where the search does. An `Err` is want of memory; the items take none.
-    pub fn split<C: Cursor + Drop>(
-        &self,
+    /// where the search does. An `Err` is want of memory for the cache; the items take none.
+    pub fn split<'r, C: Cursor + Drop>(
+        &'r self,
         alloc: Global,
-        mut input: Input<C>,
-    ) -> Result<Split<C>, AllocError>
+        input: Input<C>,
+    ) -> Result<Split<'r, C>, AllocError>
         ensures left { match_kind_of (regex_settings self.now) ≡ LeftmostFirst
             → IfOk result (λ s. split_left s
             ≡ pieces_of (high input) (matches_left (search_for (sought self.now) input) input.span.start None)) }
-        ensures short { IfOk result (λ s. length (split_left s) < 2 ^ 64) }
+        ensures few { IfOk result (λ s. length (split_left s) ≤ high input + 2) }
+        ensures short { high input + 2 < 2 ^ 64 → IfOk result (λ s. length (split_left s) < 2 ^ 64) }
     {
-        let mut cache = self.engine.create_cache(alloc, 0)?;
-        let found = self.engine.all_matches(alloc, &mut cache, &mut input)?;
-        let end = high(&mut input);
-        let pieces = all_pieces(alloc, &found, end)?.into_iter();
-        Ok(Split { input, pieces })
+        let matches = self.find_iter(alloc, input)?;
+        Ok(Split {
+            matches,
+            start: 0,
+            is_done: false,
+        })
     }
 
     /// The pieces of `split`, but no more than `limit`: the last one then goes on to where the search ends. An `Err` is want of
-    /// memory; the items take none.
-    pub fn splitn<C: Cursor + Drop>(
-        &self,
+    /// memory for the cache; the items take none.
+    pub fn splitn<'r, C: Cursor + Drop>(
+        &'r self,
         alloc: Global,
-        mut input: Input<C>,
+        input: Input<C>,
         limit: usize,
-    ) -> Result<SplitN<C>, AllocError>
+    ) -> Result<SplitN<'r, C>, AllocError>
         ensures left { match_kind_of (regex_settings self.now) ≡ LeftmostFirst
             → IfOk result (λ s. splitn_left s
             ≡ pieces_at_most limit (high input) (matches_left (search_for (sought self.now) input) input.span.start None)) }
         ensures limit { IfOk result (λ s. splitn_limit s ≡ limit) }
     {
-        let mut cache = self.engine.create_cache(alloc, 0)?;
-        let found = self.engine.all_matches(alloc, &mut cache, &mut input)?;
-        let end = high(&mut input);
-        let rest = pieces_at_most(alloc, &found, end, limit)?.into_iter();
-        let limited = Limited { rest, limit };
-        Ok(SplitN { input, limited })
+        let matches = self.find_iter(alloc, input)?;
+        let pieces = Split {
+            matches,
+            start: 0,
+            is_done: false,
+        };
+        Ok(SplitN { pieces, limit })
     }
 }
 

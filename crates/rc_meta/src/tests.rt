@@ -35,6 +35,16 @@ fn group(alloc: Global, index: usize, sub: Hir) -> Result<Hir, AllocError> {
     }))
 }
 
+/// `sub` any number of times.
+fn any(alloc: Global, sub: Hir) -> Result<Hir, AllocError> {
+    Ok(Hir::repetition(Repetition {
+        min: 0,
+        max: None,
+        greedy: true,
+        sub: Box::new(alloc, sub)?,
+    }))
+}
+
 /// `sub` once or more.
 fn some(alloc: Global, sub: Hir) -> Result<Hir, AllocError> {
     Ok(Hir::repetition(Repetition {

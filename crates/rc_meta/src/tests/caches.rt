@@ -1,21 +1,11 @@
 //! Searches in a cache.
 
-use super::{either, ends, group, literal, parts, regex, two};
-use rc_pattern::hir::{Hir, Repetition};
+use super::{any, either, ends, group, literal, parts, regex, two};
+use rc_pattern::hir::Hir;
 use rc_text::input::Input;
 use rc_text::types::PatternID;
 use std::alloc::{AllocError, Global};
 use std::test::Fail;
-
-/// `sub` any number of times.
-fn any(alloc: Global, sub: Hir) -> Result<Hir, AllocError> {
-    Ok(Hir::repetition(Repetition {
-        min: 0,
-        max: None,
-        greedy: true,
-        sub: Box::new(alloc, sub)?,
-    }))
-}
 
 /// Any number of groups of any number of `a`, and then a `b`.
 fn nested(alloc: Global) -> Result<Hir, AllocError> {

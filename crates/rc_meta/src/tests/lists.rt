@@ -1,7 +1,8 @@
 //! Lists of matches, of captures and of pieces.
 
-use super::{either, group, literal, parts, regex, some};
+use super::{any, either, ends, group, literal, parts, regex, some};
 use rc_pattern::hir::Hir;
+use rc_text::chunks::ChunkCursor;
 use rc_text::input::Input;
 use std::alloc::Global;
 use std::test::Fail;
@@ -34,6 +35,66 @@ fn lists_matches(rt: HostRuntime) -> Result<(), Fail> {
     assert_eq!(&rt; found.regex().pattern_len(), 1);
     assert!(&rt; found.input().end() == 3);
     assert_eq!(&rt; parts(found.next()), Some((0, 0, 1)));
+    assert_eq!(&rt; found.count(), 1);
+    Ok(())
+}
+
+#[test]
+fn begins_a_long_list(rt: HostRuntime) -> Result<(), Fail> {
+    let alloc = rt.alloc();
+    let mut long = Vec::new(alloc);
+    for _ in 0..100_000 {
+        long.push(b'a')?;
+    }
+    let re = regex(alloc, &literal(alloc, "a")?)?;
+    let mut found = re.find_iter(alloc, Input::new(long.as_slice()))?;
+    assert_eq!(&rt; parts(found.next()), Some((0, 0, 1)));
+    let mut found = re.captures_iter(alloc, Input::new(long.as_slice()))?;
+    assert!(&rt; found.next().is_some());
+    let mut pieces = re.split(alloc, Input::new(long.as_slice()))?;
+    assert_eq!(&rt; ends(pieces.next()), Some((0, 0)));
+    assert_eq!(&rt; ends(pieces.next()), Some((1, 1)));
+    Ok(())
+}
+
+#[test]
+fn lists_across_chunks(rt: HostRuntime) -> Result<(), Fail> {
+    let alloc = rt.alloc();
+    // `x*`
+    let re = regex(alloc, &any(alloc, literal(alloc, "x")?)?)?;
+    let chunks: [&[u8]; 2] = [b"x\xC3", b"\xA9x"];
+    let Ok(cursor) = ChunkCursor::new(&chunks) else {
+        return Err("the content is short".into());
+    };
+    let mut found = re.find_iter(alloc, Input::new(cursor))?;
+    assert_eq!(&rt; parts(found.next()), Some((0, 0, 1)));
+    assert_eq!(&rt; parts(found.next()), Some((0, 3, 4)));
+    assert_eq!(&rt; parts(found.next()), None);
+    assert_eq!(&rt; parts(found.next()), None);
+    let Ok(cursor) = ChunkCursor::new(&chunks) else {
+        return Err("the content is short".into());
+    };
+    assert_eq!(&rt; re.find_iter(alloc, Input::new(cursor))?.count(), 2);
+    let Ok(cursor) = ChunkCursor::new(&chunks) else {
+        return Err("the content is short".into());
+    };
+    let mut pieces = re.split(alloc, Input::new(cursor))?;
+    assert_eq!(&rt; ends(pieces.next()), Some((0, 0)));
+    assert_eq!(&rt; ends(pieces.next()), Some((1, 3)));
+    assert_eq!(&rt; ends(pieces.next()), Some((4, 4)));
+    assert_eq!(&rt; ends(pieces.next()), None);
+    assert_eq!(&rt; ends(pieces.next()), None);
+    Ok(())
+}
+
+#[test]
+fn goes_on_in_a_changed_input(rt: HostRuntime) -> Result<(), Fail> {
+    let alloc = rt.alloc();
+    let re = regex(alloc, &literal(alloc, "a")?)?;
+    let mut found = re.find_iter(alloc, Input::new("aaaa"))?;
+    assert_eq!(&rt; parts(found.next()), Some((0, 0, 1)));
+    *found.input() = Input::new("baa");
+    assert_eq!(&rt; parts(found.next()), Some((0, 1, 2)));
     assert_eq!(&rt; found.count(), 1);
     Ok(())
 }

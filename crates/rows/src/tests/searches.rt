@@ -202,7 +202,7 @@ pub fn lists(
 }
 
 /// What is left of the pieces is this.
-fn piece_spans<C: Cursor + Drop>(rt: &impl Abort, pieces: Split<C>, want: Pairs) {
+fn piece_spans<'r, C: Cursor + Drop>(rt: &impl Abort, pieces: Split<'r, C>, want: Pairs) {
     let mut seen = 0;
     for piece in pieces {
         let span = (piece.start, piece.end);
@@ -213,7 +213,7 @@ fn piece_spans<C: Cursor + Drop>(rt: &impl Abort, pieces: Split<C>, want: Pairs)
 }
 
 /// What is left of the pieces that a limit leaves is this.
-fn limited_spans<C: Cursor + Drop>(rt: &impl Abort, mut pieces: SplitN<C>, want: Pairs) {
+fn limited_spans<'r, C: Cursor + Drop>(rt: &impl Abort, mut pieces: SplitN<'r, C>, want: Pairs) {
     for span in want {
         let piece = pieces.next().map(|s| (s.start, s.end));
         assert_eq!(rt; piece, Some(*span));

@@ -1,16 +1,13 @@
-use Rattle.std.proofs.Common.{◌≡◌, [], ◌∷◌, ◌++◌, List, ap, sym, ◌∙◌, arith, append_assoc}
-use Rattle.std.proofs.lemmas.Grind.{common_steps}
-use Rattle.rc_text.specs.Found.{Found}
-use Rattle.regex_cursor.proofs.Grown.{Appends-line}
+use Rattle.std.proofs.Common.{◌≡◌, ◌∙◌, ◌++◌, ap, rules, subst, sym}
+use Rattle.std.proofs.lemmas.List.{append-nil}
+use Rattle.rc_meta.specs.Left.{find_left}
+use Rattle.regex_cursor.specs.Output.{IsPut}
 use Rattle.regex_cursor.proofs.run.engine.put_lines.Goals as goal
 
-moved : (all ys old new : List Found) (m : Found) → all ≡ ys ++ old → old ≡ m ∷ new → all ≡ (ys ++ m ∷ []) ++ new
-moved all ys old new m e f = e ∙ ap (λ l. ys ++ l) f ∙ sym (append_assoc ys (m ∷ []) new)
-
-pub loop-found-preserved : goal.loop-found-preserved
-loop-found-preserved g c = record {
-  left = moved _ _ _ _ _ c.loop-found.invariant.left c.in-Some.ensures.steps;
-  put = Appends-line _ _ _ _ _ c.loop-found.invariant.put c.in-Ok.ensures.appended;
-  sound = c.in-Ok.ensures.ok ∙ c.loop-found.invariant.sound;
-  told = grind (arith, common_steps);
-}
+-- none is left, so the lines of all were put
+pub returns-clause-put : goal.returns-clause-put
+returns-clause-put g c =
+    let begun : find_left c.args.matches ≡ find_left c.into_iter-found-iterator.result = search rules in
+    let all = begun ∙ c.loop-found.invariant.left ∙ ap (λ ms. c.loop-found.yielded ++ ms) c.in-None.ensures.steps.0 ∙ append-nil c.loop-found.yielded in
+    subst (λ ms. IsPut ms (g.W.Sink.taken c.args.out.now) (g.W.Sink.taken c.loop-found.out) c.loop-found.is_found) (sym all)
+    (record { lines = c.loop-found.invariant.put; told = c.loop-found.invariant.told })

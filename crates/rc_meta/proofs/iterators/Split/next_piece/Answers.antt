@@ -1,0 +1,13 @@
+use Rattle.std.proofs.Common.{ap}
+use Rattle.rc_text.specs.Text.{high}
+use Rattle.rc_meta.specs.Left.{left_in}
+use Rattle.rc_meta.proofs.Cuts.{cut, same_high}
+use Rattle.rc_meta.proofs.iterators.Split.next_piece.Goals as goal
+
+pub returns-clause-limited : goal.returns-clause-limited
+returns-clause-limited g c = λ n.
+    let s = c.args.self.now in
+    cut n s.is_done s.start (high s.matches.input) (high c.next_match.new.input) c.in-Some.found (left_in s.matches.finder s.matches.input)
+    (left_in c.next_match.new.self c.next_match.new.input) c.end-self.result (record { start = s.start; end = c.start.result }) c.if-self.false c.in-Some.ensures.steps
+    (same_high s.matches.input c.next_match.new.input c.next_match.ensures.moves) c.end-self.ensures.value
+    (ap (λ end. record { start = s.start; end = end }) c.start.ensures.value)

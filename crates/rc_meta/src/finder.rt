@@ -1,0 +1,100 @@
+//! What finds the matches of a list, one after another, in an input that is lent to it.
+
+ghost use Rattle.rc_captures.specs.Groups.{names_of};
+ghost use Rattle.rc_captures.specs.Names.{slot_len};
+ghost use Rattle.rc_matches.specs.Engine.{IsEngineCache};
+
+use crate::regex::Regex;
+use rc_captures::captures::Captures;
+use rc_pikevm::cache::Cache;
+use rc_text::cursor::Cursor;
+use rc_text::input::Input;
+use rc_text::types::Match;
+use std::alloc::{AllocError, Global};
+
+/// A regex with a cache for its searches, where the last match ended, and whether none comes any more.
+#[derive(Drop)]
+pub(crate) struct Finder<'r> {
+    pub(crate) regex: &'r Regex,
+    pub(crate) cache: Cache,
+    pub(crate) last: Option<usize>,
+    pub(crate) is_done: bool,
+    ghost made: { IsEngineCache regex.now.engine 0 cache },
+}
+
+/// The same, with a cache for searches with all groups, and what gives the memory of captures.
+#[derive(Drop)]
+pub(crate) struct GroupFinder<'r> {
+    pub(crate) finder: Finder<'r>,
+    pub(crate) alloc: Global,
+    ghost roomy: { IsEngineCache finder.regex.now.engine (slot_len (names_of finder.regex.now.info)) finder.cache },
+}
+
+impl<'r> Finder<'r> {
+    ghost use Rattle.std.specs.Prelude.{◌≡◌, IfOk};
+    ghost use Rattle.rc_matches.specs.Engine.{IsSameCache};
+    ghost use Rattle.rc_matches.specs.Moved.{IsMoved};
+    ghost use Rattle.rc_meta.specs.Left.{GivesNext, GivesCaptures};
+
+    /// The next match in the input. Its span then starts where that ends. It takes no memory.
+    pub(crate) fn next_match<C: Cursor>(&mut self, input: &mut Input<C>) -> Option<Match>
+        ensures steps { GivesNext self.old input.old result self.new input.new }
+        ensures moves { IsMoved input.old input.new }
+    {
+        if self.is_done {
+            return None;
+        }
+        let regex = self.regex;
+        let Some(found) = regex.engine.next_match(&mut self.cache, input, self.last) else {
+            self.is_done = true;
+            return None;
+        };
+        input.set_start(found.end());
+        self.last = Some(found.end());
+        Some(found)
+    }
+
+    /// The captures of the next match in the input. It takes their memory alone, and ends where that is refused.
+    pub(crate) fn next_captures<C: Cursor>(
+        &mut self,
+        alloc: Global,
+        input: &mut Input<C>,
+    ) -> Option<Result<Captures, AllocError>>
+        requires made { IsEngineCache self.old.regex.now.engine (slot_len (names_of self.old.regex.now.info)) self.old.cache }
+        ensures still_made { IsEngineCache self.new.regex.now.engine (slot_len (names_of self.new.regex.now.info)) self.new.cache }
+        ensures steps { GivesCaptures self.old input.old result self.new input.new }
+    {
+        if self.is_done {
+            return None;
+        }
+        let regex = self.regex;
+        let Some(found) = regex.engine.next_match(&mut self.cache, input, self.last) else {
+            self.is_done = true;
+            return None;
+        };
+        let Ok(mut caps) = regex.create_captures(alloc) else {
+            self.is_done = true;
+            return Some(Err(AllocError));
+        };
+        regex
+            .engine
+            .find_captures(&mut self.cache, input, &mut caps);
+        input.set_start(found.end());
+        self.last = Some(found.end());
+        Some(Ok(caps))
+    }
+}
+
+impl<'r> GroupFinder<'r> {
+    ghost use Rattle.rc_meta.specs.Left.{GivesCaptures};
+
+    /// The captures of the next match in the input.
+    pub(crate) fn next<C: Cursor>(
+        &mut self,
+        input: &mut Input<C>,
+    ) -> Option<Result<Captures, AllocError>>
+        ensures steps { GivesCaptures self.old.finder input.old result self.new.finder input.new }
+    {
+        self.finder.next_captures(self.alloc, input)
+    }
+}
