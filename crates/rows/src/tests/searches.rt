@@ -222,7 +222,7 @@ fn captured_spans<'r, C: Cursor + Drop>(
     for captures in matches {
         let span = span_of(captures?.get_match());
         assert_eq!(rt; want.get(seen).copied(), span, "captures {seen}");
-        seen += 1;
+        seen = seen.saturating_add(1);
     }
     assert_eq!(rt; seen, want.len());
     Ok(())
