@@ -4,6 +4,7 @@
 
 mod assertions;
 mod cursors;
+mod engines;
 mod groups;
 mod lists;
 mod patterns;

@@ -1,5 +1,6 @@
 //! Rows of assertions, classes and dots, in whole and in broken UTF-8.
 
+use crate::tests::engines::Engines;
 use crate::tests::patterns::{bytes_in, chars_in, literal, look, or, then, turns};
 use crate::tests::searches::{Asked, finds, lists};
 use rc_build::config::Config;
@@ -19,10 +20,16 @@ fn row(
     text: &[u8],
     want: &[(usize, usize)],
 ) -> Result<(), BuildError> {
-    let mut builder = Regex::builder();
-    let regex = builder.configure(config).build_from_hir(alloc, hir)?;
-    lists(rt, alloc, &regex, text, Asked::all(), want)?;
-    finds(rt, alloc, &regex, text, Asked::all(), want.first().copied())?;
+    let engines = Engines::of_many(alloc, std::slice::from_ref(hir), config)?;
+    lists(rt, alloc, &engines, text, Asked::all(), want)?;
+    finds(
+        rt,
+        alloc,
+        &engines,
+        text,
+        Asked::all(),
+        want.first().copied(),
+    )?;
     Ok(())
 }
 
@@ -108,9 +115,9 @@ fn words_of_unicode(rt: HostRuntime) -> Result<(), Fail> {
         &[(0, 4), (5, 9)],
     )?;
     // `\b{end}`, in a span inside U+1D6C3
-    let regex = Regex::builder().build_from_hir(alloc, &look(Look::WordEndUnicode))?;
+    let engines = Engines::of(alloc, &look(Look::WordEndUnicode))?;
     let asked = Asked::all().span(2, 3);
-    finds(&rt, alloc, &regex, b"\xF0\x9D\x9B\x83", asked, None)?;
+    finds(&rt, alloc, &engines, b"\xF0\x9D\x9B\x83", asked, None)?;
     // `\b`
     let hir = look(Look::WordUnicode);
     row(&rt, alloc, config, &hir, "é".as_bytes(), &[(0, 0), (2, 2)])?;

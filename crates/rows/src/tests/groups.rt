@@ -2,8 +2,10 @@
 ghost use Rattle.std.specs.Prelude.{◌≤◌, length};
 
 use crate::tests::cursors::Recut;
+use crate::tests::engines::Engines;
 use crate::tests::patterns::{bytes_in, group, literal, named, or, then, turns};
 use crate::tests::searches::{Asked, Groups, finds, groups};
+use rc_build::config::Config;
 use rc_build::error::BuildError;
 use rc_build::which::WhichCaptures;
 use rc_meta::regex::Regex;
@@ -27,8 +29,8 @@ fn row(
 ) -> Result<(), BuildError>
     requires { length hirs.now ≤ 2147483647 }
 {
-    let regex = Regex::builder().build_many_from_hir(alloc, hirs)?;
-    groups(rt, alloc, &regex, text, Asked::all(), Some(want))?;
+    let engines = Engines::of_many(alloc, hirs, Config::new())?;
+    groups(rt, alloc, &engines, text, Asked::all(), Some(want))?;
     Ok(())
 }
 
@@ -188,31 +190,39 @@ fn one_of_two_patterns(rt: HostRuntime) -> Result<(), Fail> {
     let alloc = rt.alloc();
     // `a` and `ab`
     let hirs = [literal(alloc, "a")?, literal(alloc, "ab")?];
-    let regex = Regex::builder().build_many_from_hir(alloc, &hirs)?;
+    let engines = Engines::of_many(alloc, &hirs, Config::new())?;
     groups(
         &rt,
         alloc,
-        &regex,
+        &engines,
         b"ab",
         Asked::all(),
         Some((0, &[Some((0, 1))])),
     )?;
     let asked = Asked::all().anchored(Anchored::Pattern(pattern(1)?));
-    groups(&rt, alloc, &regex, b"ab", asked, Some((1, &[Some((0, 2))])))?;
+    groups(
+        &rt,
+        alloc,
+        &engines,
+        b"ab",
+        asked,
+        Some((1, &[Some((0, 2))])),
+    )?;
     let asked = Asked::all().anchored(Anchored::Pattern(pattern(7)?));
-    groups(&rt, alloc, &regex, b"ab", asked, None)?;
+    groups(&rt, alloc, &engines, b"ab", asked, None)?;
     Ok(())
 }
 
 #[test]
 fn no_patterns(rt: HostRuntime) -> Result<(), Fail> {
     let alloc = rt.alloc();
-    let regex = Regex::builder().build_many_from_hir(alloc, &[])?;
+    let engines = Engines::of_many(alloc, &[], Config::new())?;
+    let regex = &engines.regex;
     assert_eq!(rt; regex.pattern_len(), 0);
     assert_eq!(rt; regex.captures_len(), 0);
     assert_eq!(rt; regex.static_captures_len(), None);
-    finds(&rt, alloc, &regex, b"ab", Asked::all(), None)?;
-    finds(&rt, alloc, &regex, b"", Asked::all(), None)?;
+    finds(&rt, alloc, &engines, b"ab", Asked::all(), None)?;
+    finds(&rt, alloc, &engines, b"", Asked::all(), None)?;
     Ok(())
 }
 
@@ -253,16 +263,16 @@ fn groups_left_out(rt: HostRuntime) -> Result<(), Fail> {
     // `(a)(b)`
     let hir = then(alloc, letter(alloc, 1, "a")?, letter(alloc, 2, "b")?)?;
     for which in [WhichCaptures::Implicit, WhichCaptures::None] {
-        let mut builder = Regex::builder();
-        let config = Regex::config().which_captures(which);
-        let regex = builder.configure(config).build_from_hir(alloc, &hir)?;
+        let config = Config::new().which_captures(which);
+        let engines = Engines::of_many(alloc, std::slice::from_ref(&hir), config)?;
+        let regex = &engines.regex;
         assert_eq!(rt; regex.group_info().slot_len(), 2);
         assert_eq!(rt; regex.captures_len(), 3);
         assert_eq!(rt; regex.static_captures_len(), Some(3));
         groups(
             &rt,
             alloc,
-            &regex,
+            &engines,
             b"ab",
             Asked::all(),
             Some((0, &[Some((0, 2))])),

@@ -1,5 +1,6 @@
 //! Rows of repetitions, also of bodies that can be empty.
 
+use crate::tests::engines::Engines;
 use crate::tests::patterns::{few_turns, literal, look, or, turns};
 use crate::tests::searches::{Asked, finds};
 use rc_build::error::BuildError;
@@ -21,8 +22,8 @@ fn row(
     text: &[u8],
     want: Option<(usize, usize)>,
 ) -> Result<(), BuildError> {
-    let regex = Regex::builder().build_from_hir(alloc, hir)?;
-    finds(rt, alloc, &regex, text, Asked::all(), want)?;
+    let engines = Engines::of(alloc, hir)?;
+    finds(rt, alloc, &engines, text, Asked::all(), want)?;
     Ok(())
 }
 

@@ -1,8 +1,9 @@
 //! Rows of literals, alternations, and the two ends.
 
+use crate::tests::engines::Engines;
 use crate::tests::patterns::{literal, look, or, then};
 use crate::tests::searches::{Asked, finds};
-use rc_meta::regex::Regex;
+use rc_build::config::Config;
 use rc_pattern::hir::{Hir, Look};
 use rc_text::types::{Anchored, PatternID};
 use std::alloc::{AllocError, Global};
@@ -19,9 +20,9 @@ fn earlier_alternative_is_taken(rt: HostRuntime) -> Result<(), Fail> {
     let alloc = rt.alloc();
     // `a|ab`
     let hir = or(alloc, literal(alloc, "a")?, literal(alloc, "ab")?)?;
-    let regex = Regex::builder().build_from_hir(alloc, &hir)?;
-    finds(&rt, alloc, &regex, b"ab", Asked::all(), Some((0, 1)))?;
-    finds(&rt, alloc, &regex, b"xxb", Asked::all(), None)?;
+    let engines = Engines::of(alloc, &hir)?;
+    finds(&rt, alloc, &engines, b"ab", Asked::all(), Some((0, 1)))?;
+    finds(&rt, alloc, &engines, b"xxb", Asked::all(), None)?;
     Ok(())
 }
 
@@ -29,14 +30,21 @@ fn earlier_alternative_is_taken(rt: HostRuntime) -> Result<(), Fail> {
 fn words_stand_across_chunks(rt: HostRuntime) -> Result<(), Fail> {
     let alloc = rt.alloc();
     // `abcd`
-    let regex = Regex::builder().build_from_hir(alloc, &literal(alloc, "abcd")?)?;
-    finds(&rt, alloc, &regex, b"xxabcdx", Asked::all(), Some((2, 6)))?;
-    finds(&rt, alloc, &regex, b"xxabc", Asked::all(), None)?;
-    finds(&rt, alloc, &regex, b"abcdabcd", Asked::all(), Some((0, 4)))?;
-    finds(&rt, alloc, &regex, b"", Asked::all(), None)?;
+    let engines = Engines::of(alloc, &literal(alloc, "abcd")?)?;
+    finds(&rt, alloc, &engines, b"xxabcdx", Asked::all(), Some((2, 6)))?;
+    finds(&rt, alloc, &engines, b"xxabc", Asked::all(), None)?;
+    finds(
+        &rt,
+        alloc,
+        &engines,
+        b"abcdabcd",
+        Asked::all(),
+        Some((0, 4)),
+    )?;
+    finds(&rt, alloc, &engines, b"", Asked::all(), None)?;
     // `aaab`
-    let regex = Regex::builder().build_from_hir(alloc, &literal(alloc, "aaab")?)?;
-    finds(&rt, alloc, &regex, b"aaaab", Asked::all(), Some((1, 5)))?;
+    let engines = Engines::of(alloc, &literal(alloc, "aaab")?)?;
+    finds(&rt, alloc, &engines, b"aaaab", Asked::all(), Some((1, 5)))?;
     Ok(())
 }
 
@@ -44,23 +52,30 @@ fn words_stand_across_chunks(rt: HostRuntime) -> Result<(), Fail> {
 fn ends_are_those_of_the_slice(rt: HostRuntime) -> Result<(), Fail> {
     let alloc = rt.alloc();
     // `^foo$`
-    let regex = Regex::builder().build_from_hir(alloc, &whole(alloc, literal(alloc, "foo")?)?)?;
+    let engines = Engines::of(alloc, &whole(alloc, literal(alloc, "foo")?)?)?;
     let asked = Asked::all().slice(1, 4);
-    finds(&rt, alloc, &regex, b"xfoox", asked, Some((1, 4)))?;
-    finds(&rt, alloc, &regex, b"xfoox", Asked::all(), None)?;
-    finds(&rt, alloc, &regex, b"xfoox", Asked::all().span(1, 4), None)?;
-    finds(&rt, alloc, &regex, b"foo", Asked::all(), Some((0, 3)))?;
-    finds(&rt, alloc, &regex, b"xfoo", Asked::all().span(1, 4), None)?;
+    finds(&rt, alloc, &engines, b"xfoox", asked, Some((1, 4)))?;
+    finds(&rt, alloc, &engines, b"xfoox", Asked::all(), None)?;
+    finds(
+        &rt,
+        alloc,
+        &engines,
+        b"xfoox",
+        Asked::all().span(1, 4),
+        None,
+    )?;
+    finds(&rt, alloc, &engines, b"foo", Asked::all(), Some((0, 3)))?;
+    finds(&rt, alloc, &engines, b"xfoo", Asked::all().span(1, 4), None)?;
     // `^a`
     let hir = then(alloc, look(Look::Start), literal(alloc, "a")?)?;
-    let regex = Regex::builder().build_from_hir(alloc, &hir)?;
+    let engines = Engines::of(alloc, &hir)?;
     let asked = Asked::all().slice(1, 2).span(0, 2);
-    finds(&rt, alloc, &regex, b"aa", asked, Some((1, 2)))?;
+    finds(&rt, alloc, &engines, b"aa", asked, Some((1, 2)))?;
     // `^bar` and `foo$`
     let bar = then(alloc, look(Look::Start), literal(alloc, "bar")?)?;
     let foo = then(alloc, literal(alloc, "foo")?, look(Look::End))?;
-    let regex = Regex::builder().build_many_from_hir(alloc, &[bar, foo])?;
-    finds(&rt, alloc, &regex, b"foobar", Asked::all(), None)?;
+    let engines = Engines::of_many(alloc, &[bar, foo], Config::new())?;
+    finds(&rt, alloc, &engines, b"foobar", Asked::all(), None)?;
     Ok(())
 }
 
@@ -68,7 +83,7 @@ fn ends_are_those_of_the_slice(rt: HostRuntime) -> Result<(), Fail> {
 fn spans_past_the_content(rt: HostRuntime) -> Result<(), Fail> {
     let alloc = rt.alloc();
     // `a`
-    let regex = Regex::builder().build_from_hir(alloc, &literal(alloc, "a")?)?;
+    let engines = Engines::of(alloc, &literal(alloc, "a")?)?;
     let rows = [
         (Asked::all().span(5, 9), None),
         (Asked::all().span(1, 100), Some((1, 2))),
@@ -79,7 +94,7 @@ fn spans_past_the_content(rt: HostRuntime) -> Result<(), Fail> {
         (Asked::all().slice(1, 2), Some((1, 2))),
     ];
     for (asked, want) in rows {
-        finds(&rt, alloc, &regex, b"aa", asked, want)?;
+        finds(&rt, alloc, &engines, b"aa", asked, want)?;
     }
     Ok(())
 }
@@ -89,7 +104,7 @@ fn anchored_searches(rt: HostRuntime) -> Result<(), Fail> {
     let alloc = rt.alloc();
     let (first, second) = (PatternID::ZERO, PatternID::new(1).ok_or("no number")?);
     // `b`
-    let regex = Regex::builder().build_from_hir(alloc, &literal(alloc, "b")?)?;
+    let engines = Engines::of(alloc, &literal(alloc, "b")?)?;
     let rows = [
         (Anchored::No, Some((1, 2))),
         (Anchored::Yes, None),
@@ -99,7 +114,7 @@ fn anchored_searches(rt: HostRuntime) -> Result<(), Fail> {
         finds(
             &rt,
             alloc,
-            &regex,
+            &engines,
             b"ab",
             Asked::all().anchored(anchored),
             want,
@@ -112,7 +127,7 @@ fn anchored_searches(rt: HostRuntime) -> Result<(), Fail> {
     ];
     for (anchored, want) in rows {
         let asked = Asked::all().span(1, 2).anchored(anchored);
-        finds(&rt, alloc, &regex, b"ab", asked, want)?;
+        finds(&rt, alloc, &engines, b"ab", asked, want)?;
     }
     Ok(())
 }
