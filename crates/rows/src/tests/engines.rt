@@ -147,7 +147,9 @@ fn read(
     patterns: &[&str],
     syntax: Syntax,
     config: Config,
-) -> Result<Option<Program>, BuildError> {
+) -> Result<Option<Program>, BuildError>
+    requires { length patterns.now ≤ 2147483647 }
+{
     let hirs = parse_all(alloc, patterns, &syntax)?;
     compiled(alloc, &hirs, config)
 }
