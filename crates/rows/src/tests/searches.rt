@@ -3,7 +3,7 @@
 use crate::tests::cursors::Recut;
 use crate::tests::engines::{Engines, half_of};
 use rc_captures::captures::Captures;
-use rc_meta::iterators::{CapturesMatches, FindMatches, Split, SplitN};
+use rc_meta::iterators::{CapturesMatches, FindMatches};
 use rc_text::cursor::Cursor;
 use rc_text::input::Input;
 use rc_text::types::{Anchored, Match, Span};
@@ -126,7 +126,7 @@ fn hold(rt: &impl Abort, found: &Captures, want: Option<Groups>) {
     assert_eq!(rt; found.group_len(), groups.len());
     for (index, group) in groups.iter().enumerate() {
         let span = found.get_group(index).map(|s| (s.start, s.end));
-        assert_eq!(rt; span, *group, "group {index}");
+        assert_eq!(rt; span, *group);
     }
 }
 
@@ -205,11 +205,11 @@ fn list_over<C: Cursor + Copy + Drop>(
 fn match_spans<'r, C: Cursor + Drop>(rt: &impl Abort, matches: FindMatches<'r, C>, want: Pairs) {
     let mut seen = 0;
     for found in matches {
-        let span = (found.start(), found.end());
-        assert_eq!(rt; want.get(seen).copied(), Some(span), "match {seen}");
-        seen += 1;
+        let span = span_of(Some(found));
+        assert!(rt; want.get(seen).copied() == span, "a match");
+        seen = seen.saturating_add(1);
     }
-    assert_eq!(rt; seen, want.len());
+    assert!(rt; seen == want.len(), "how many matches");
 }
 
 /// What is left of the matches with their groups has these spans.
@@ -221,10 +221,10 @@ fn captured_spans<'r, C: Cursor + Drop>(
     let mut seen = 0;
     for captures in matches {
         let span = span_of(captures?.get_match());
-        assert_eq!(rt; want.get(seen).copied(), span, "captures {seen}");
+        assert!(rt; want.get(seen).copied() == span, "captures");
         seen = seen.saturating_add(1);
     }
-    assert_eq!(rt; seen, want.len());
+    assert!(rt; seen == want.len(), "how many captures");
     Ok(())
 }
 
@@ -246,7 +246,7 @@ fn spans_in_turn<C: Cursor>(
                 span = span_of(engines.found(rt, alloc, input)?);
             }
         }
-        assert_eq!(rt; span, want.get(seen).copied(), "in turn, match {seen}");
+        assert!(rt; want.get(seen).copied() == span, "a match in turn");
         if let Some((_, end)) = span {
             start_at(input, end);
             last = Some(end);
@@ -262,26 +262,6 @@ fn start_at<C: Cursor>(input: &mut Input<C>, start: usize) {
     }
 }
 
-/// What is left of the pieces is this.
-fn piece_spans<'r, C: Cursor + Drop>(rt: &impl Abort, pieces: Split<'r, C>, want: Pairs) {
-    let mut seen = 0;
-    for piece in pieces {
-        let span = (piece.start, piece.end);
-        assert_eq!(rt; want.get(seen).copied(), Some(span), "piece {seen}");
-        seen += 1;
-    }
-    assert_eq!(rt; seen, want.len());
-}
-
-/// What is left of the pieces that a limit leaves is this.
-fn limited_spans<'r, C: Cursor + Drop>(rt: &impl Abort, mut pieces: SplitN<'r, C>, want: Pairs) {
-    for span in want {
-        let piece = pieces.next().map(|s| (s.start, s.end));
-        assert_eq!(rt; piece, Some(*span));
-    }
-    assert!(rt; pieces.next().is_none());
-}
-
 /// The pieces between the matches in the text are these, over every cutting.
 pub fn splits(
     rt: &impl Abort,
@@ -291,28 +271,29 @@ pub fn splits(
     asked: Asked,
     want: Pairs,
 ) -> Result<(), AllocError> {
-    piece_spans(rt, engines.regex.split(alloc, asked.input(text))?, want);
-    piece_spans(
-        rt,
-        engines
-            .regex
-            .split(alloc, asked.input(Recut::by_bytes(text)))?,
-        want,
-    );
-    piece_spans(
-        rt,
-        engines
-            .regex
-            .split(alloc, asked.input(Recut::in_ring(text)))?,
-        want,
-    );
-    piece_spans(
-        rt,
-        engines
-            .regex
-            .split(alloc, asked.input(Recut::without_total(text)))?,
-        want,
-    );
+    split_over(rt, alloc, engines, text, &asked, want)?;
+    split_over(rt, alloc, engines, Recut::by_bytes(text), &asked, want)?;
+    split_over(rt, alloc, engines, Recut::in_ring(text), &asked, want)?;
+    split_over(rt, alloc, engines, Recut::without_total(text), &asked, want)
+}
+
+/// The pieces between the matches are these.
+fn split_over<C: Cursor + Copy + Drop>(
+    rt: &impl Abort,
+    alloc: Global,
+    engines: &Engines,
+    cursor: C,
+    asked: &Asked,
+    want: Pairs,
+) -> Result<(), AllocError> {
+    let pieces = engines.regex.split(alloc, asked.input(cursor))?;
+    let mut seen = 0;
+    for piece in pieces {
+        let span = Some((piece.start, piece.end));
+        assert!(rt; want.get(seen).copied() == span, "a piece");
+        seen = seen.saturating_add(1);
+    }
+    assert!(rt; seen == want.len(), "how many pieces");
     Ok(())
 }
 
@@ -325,32 +306,27 @@ pub fn splits_at_most(
     limit: usize,
     want: Pairs,
 ) -> Result<(), AllocError> {
-    let asked = Asked::all();
-    limited_spans(
-        rt,
-        engines.regex.splitn(alloc, asked.input(text), limit)?,
-        want,
-    );
-    limited_spans(
-        rt,
-        engines
-            .regex
-            .splitn(alloc, asked.input(Recut::by_bytes(text)), limit)?,
-        want,
-    );
-    limited_spans(
-        rt,
-        engines
-            .regex
-            .splitn(alloc, asked.input(Recut::in_ring(text)), limit)?,
-        want,
-    );
-    limited_spans(
-        rt,
-        engines
-            .regex
-            .splitn(alloc, asked.input(Recut::without_total(text)), limit)?,
-        want,
-    );
+    limited_over(rt, alloc, engines, text, limit, want)?;
+    limited_over(rt, alloc, engines, Recut::by_bytes(text), limit, want)?;
+    limited_over(rt, alloc, engines, Recut::in_ring(text), limit, want)?;
+    limited_over(rt, alloc, engines, Recut::without_total(text), limit, want)
+}
+
+/// The pieces that a limit leaves are these.
+fn limited_over<C: Cursor + Copy + Drop>(
+    rt: &impl Abort,
+    alloc: Global,
+    engines: &Engines,
+    cursor: C,
+    limit: usize,
+    want: Pairs,
+) -> Result<(), AllocError> {
+    let input = Asked::all().input(cursor);
+    let mut pieces = engines.regex.splitn(alloc, input, limit)?;
+    for span in want {
+        let piece = pieces.next().map(|s| (s.start, s.end));
+        assert!(rt; piece == Some(*span), "a piece");
+    }
+    assert!(rt; pieces.next().is_none(), "how many pieces");
     Ok(())
 }
