@@ -1,9 +1,17 @@
 ghost use Rattle.std.specs.Prelude.{◌≡◌, ◌≤◌, false};
 
+use crate::cursor::ChunkCursor;
+use crate::engines::meta::{Captures, Regex};
+use crate::engines::pikevm;
+use crate::engines::pikevm::PikeVM;
+use crate::input::Input;
 use crate::run::{RunError, Sink, Written, program, run};
+use crate::types::{HalfMatch, Match, PatternID};
 use rc_build::error::BuildError;
+use std::alloc::Global;
 use std::io;
 use std::io::Read;
+use std::process::Abort;
 
 const USAGE: &str = "usage: rcfind PATTERN CHUNK\n";
 
@@ -230,4 +238,82 @@ fn a_full_writer_fails(rt: HostRuntime) {
     assert_eq!(rt; out.failed(), false);
     assert_eq!(rt; out.put(b"c").is_err(), true);
     assert_eq!(rt; out.failed(), true);
+}
+
+/// The start and the end of a match.
+fn ends(found: Option<Match>) -> Option<(usize, usize)> {
+    let found = found?;
+    Some((found.start(), found.end()))
+}
+
+/// `abcdabcd` in chunks of one byte.
+const BYTES: [&[u8]; 8] = [b"a", b"b", b"c", b"d", b"a", b"b", b"c", b"d"];
+
+/// Searches `BYTES` for `abcd` in a cache that is made once; false where memory was refused before that cache was there. From then on
+/// no refusal changes an answer.
+fn searches_in_a_cache(rt: &impl Abort, alloc: Global, regex: &Regex) -> bool {
+    let Ok(cursor) = ChunkCursor::new(&BYTES) else {
+        return false;
+    };
+    let Ok(mut captures) = regex.create_captures(alloc) else {
+        return false;
+    };
+    let Ok(mut cache) = regex.create_cache(alloc) else {
+        return false;
+    };
+    let mut input = Input::new(cursor);
+    let found = regex.search_with(&mut cache, &mut input);
+    assert_eq!(rt; ends(found), Some((0, 4)));
+    let half = regex.search_half_with(&mut cache, &mut input);
+    assert!(rt; half == Some(HalfMatch::new(PatternID::ZERO, 4)));
+    regex.search_captures_with(&mut cache, &mut input, &mut captures);
+    assert_eq!(rt; ends(captures.get_match()), Some((0, 4)));
+    let mut slots = [None, None];
+    if slots.len() <= regex.group_info().slot_len() {
+        regex.search_slots_with(&mut cache, &mut input, &mut slots);
+    }
+    assert_eq!(rt; slots, [Some(0), Some(4)]);
+    input.set_range(1, 8);
+    let found = regex.search_with(&mut cache, &mut input);
+    assert_eq!(rt; ends(found), Some((4, 8)));
+    true
+}
+
+/// The same by a `PikeVM`.
+fn searches_by_a_vm(rt: &impl Abort, alloc: Global, vm: &PikeVM) -> bool {
+    let Ok(cursor) = ChunkCursor::new(&BYTES) else {
+        return false;
+    };
+    let Ok(mut captures) = Captures::all(alloc, vm.get_group_info()) else {
+        return false;
+    };
+    let Ok(mut cache) = vm.create_cache(alloc) else {
+        return false;
+    };
+    let mut input = Input::new(cursor);
+    assert!(rt; pikevm::is_match(vm, &mut cache, &mut input));
+    pikevm::search(vm, &mut cache, &mut input, &mut captures);
+    assert_eq!(rt; ends(captures.get_match()), Some((0, 4)));
+    true
+}
+
+/// Both searches, of what is built first; false where memory was refused before a cache was there.
+fn searches_after_the_cache(rt: &impl Abort, alloc: Global) -> bool {
+    let Ok(regex) = Regex::new(alloc, "abcd") else {
+        return false;
+    };
+    let Ok(vm) = PikeVM::new(alloc, "abcd") else {
+        return false;
+    };
+    searches_in_a_cache(rt, alloc, &regex) && searches_by_a_vm(rt, alloc, &vm)
+}
+
+#[test]
+fn a_cache_has_all_memory(rt: HostRuntime) {
+    if !searches_after_the_cache(&rt, rt.alloc()) {
+        assert!(rt;
+            searches_after_the_cache(&rt, rt.alloc()),
+            "nothing is refused any more"
+        );
+    }
 }

@@ -1,13 +1,12 @@
 //! Worked rows.
-//!
-//! A comment before a row shows its pattern as text.
 
-mod assertions;
 mod cursors;
+mod engines;
 mod groups;
+mod hirs;
 mod lists;
 mod patterns;
-mod repetitions;
 mod searches;
+mod settings;
+mod tables;
 mod texts;
-mod words;

@@ -1,140 +1,71 @@
 //! Rows of many patterns, groups and slots.
-ghost use Rattle.std.specs.Prelude.{◌≤◌, length};
 
 use crate::tests::cursors::Recut;
-use crate::tests::patterns::{bytes_in, group, literal, named, or, then, turns};
-use crate::tests::searches::{Asked, Groups, finds, groups};
-use rc_build::error::BuildError;
+use crate::tests::engines::Engines;
+use crate::tests::searches::{Asked, groups};
+use crate::tests::tables::{rows_of_groups, rows_of_patterns};
+use rc_build::config::Config;
 use rc_build::which::WhichCaptures;
 use rc_meta::regex::Regex;
-use rc_pattern::hir::{Capture, Hir};
+use rc_syntax::Config as Syntax;
 use rc_text::types::{Anchored, PatternID, Span};
-use std::alloc::{AllocError, Global};
-use std::process::Abort;
 use std::test::Fail;
 
 fn pattern(index: usize) -> Result<PatternID, &'static str> {
     PatternID::new(index).ok_or("no such pattern")
 }
 
-/// The match in the text is of this pattern, and its groups have these spans, over every cutting.
-fn row(
-    rt: &impl Abort,
-    alloc: Global,
-    hirs: &[Hir],
-    text: &[u8],
-    want: Groups,
-) -> Result<(), BuildError>
-    requires { length hirs.now ≤ 2147483647 }
-{
-    let regex = Regex::builder().build_many_from_hir(alloc, hirs)?;
-    groups(rt, alloc, &regex, text, Asked::all(), Some(want))?;
-    Ok(())
-}
-
-/// The number of the pattern that isn't well-formed, where that is the refusal.
-fn ill_formed(refusal: &BuildError) -> Option<usize> {
-    match refusal {
-        BuildError::IllFormed { pattern } => Some(pattern.as_usize()),
-        BuildError::Syntax { .. }
-        | BuildError::SizeLimit { .. }
-        | BuildError::PlaceLimit
-        | BuildError::Memory
-        | BuildError::DfaSizeLimit { .. }
-        | BuildError::CacheTooSmall { .. } => None,
-    }
-}
-
-/// A letter in a group.
-fn letter(alloc: Global, index: usize, text: &str) -> Result<Hir, AllocError> {
-    group(alloc, index, literal(alloc, text)?)
-}
-
-/// `(?P<y>\d+)-(\d+)`
-fn numbers(alloc: Global) -> Result<Hir, AllocError> {
-    let year = turns(alloc, 1, None, bytes_in(alloc, &[(b'0', b'9')])?)?;
-    let rest = turns(alloc, 1, None, bytes_in(alloc, &[(b'0', b'9')])?)?;
-    let hir = then(alloc, named(alloc, 1, "y", year)?, literal(alloc, "-")?)?;
-    then(alloc, hir, group(alloc, 2, rest)?)
+/// A search anchored to the pattern of this number.
+fn by(index: usize) -> Result<Asked, &'static str> {
+    Ok(Asked::all().anchored(Anchored::Pattern(pattern(index)?)))
 }
 
 #[test]
-fn groups_are_last_visits(rt: HostRuntime) -> Result<(), Fail> {
-    let alloc = rt.alloc();
-    // `(|a)+`
-    let hir = turns(
-        alloc,
-        1,
-        None,
-        group(alloc, 1, or(alloc, Hir::empty(), literal(alloc, "a")?)?)?,
-    )?;
-    row(
+fn groups_of_one_pattern(rt: HostRuntime) -> Result<(), Fail> {
+    let log = b"10:01 INFO up\n10:02 ERROR disk full\n";
+    rows_of_groups(
         &rt,
-        alloc,
-        &[hir],
-        b"aaa",
-        (0, &[Some((0, 0)), Some((0, 0))]),
+        rt.alloc(),
+        &[
+            (
+                r"(?P<y>\d+)-(\d+)",
+                b"12-345",
+                &[Some((0, 6)), Some((0, 2)), Some((3, 6))],
+            ),
+            ("(|a)+", b"aaa", &[Some((0, 0)), Some((0, 0))]),
+            ("(a)|(b)", b"b", &[Some((0, 1)), None, Some((0, 1))]),
+            ("(a|b){2}", b"ab", &[Some((0, 2)), Some((1, 2))]),
+            ("(?:(a)|b)*", b"ab", &[Some((0, 2)), Some((0, 1))]),
+            ("(a){0}b", b"ab", &[Some((1, 2)), None]),
+            (
+                r"(?m)^(\S+) ERROR (.+)$",
+                log,
+                &[Some((14, 35)), Some((14, 19)), Some((26, 35))],
+            ),
+        ],
     )?;
-    // `(a)|(b)`
-    let hir = or(alloc, letter(alloc, 1, "a")?, letter(alloc, 2, "b")?)?;
-    row(
-        &rt,
-        alloc,
-        &[hir],
-        b"b",
-        (0, &[Some((0, 1)), None, Some((0, 1))]),
-    )?;
-    // `(a|b){2}`
-    let hir = group(
-        alloc,
-        1,
-        or(alloc, literal(alloc, "a")?, literal(alloc, "b")?)?,
-    )?;
-    let hir = turns(alloc, 2, Some(2), hir)?;
-    row(
-        &rt,
-        alloc,
-        &[hir],
-        b"ab",
-        (0, &[Some((0, 2)), Some((1, 2))]),
-    )?;
-    // `(?:(a)|b)*`
-    let hir = turns(
-        alloc,
-        0,
-        None,
-        or(alloc, letter(alloc, 1, "a")?, literal(alloc, "b")?)?,
-    )?;
-    row(
-        &rt,
-        alloc,
-        &[hir],
-        b"ab",
-        (0, &[Some((0, 2)), Some((0, 1))]),
-    )?;
-    // `(a){0}b`
-    let hir = then(
-        alloc,
-        turns(alloc, 0, Some(0), letter(alloc, 1, "a")?)?,
-        literal(alloc, "b")?,
-    )?;
-    row(&rt, alloc, &[hir], b"ab", (0, &[Some((1, 2)), None]))?;
     Ok(())
 }
 
 #[test]
-fn named_groups(rt: HostRuntime) -> Result<(), Fail> {
+fn named_group(rt: HostRuntime) -> Result<(), Fail> {
     let alloc = rt.alloc();
-    let hirs = [numbers(alloc)?];
-    let want = [Some((0, 6)), Some((0, 2)), Some((3, 6))];
-    row(&rt, alloc, &hirs, b"12-345", (0, &want))?;
-    let regex = Regex::builder().build_many_from_hir(alloc, &hirs)?;
+    let regex = Regex::new(alloc, r"(?P<y>\d+)-(\d+)")?;
     let found = regex.captures(alloc, Asked::all().input(Recut::by_bytes(b"12-345")))?;
     assert_eq!(rt;
         found.get_group_by_name("y"),
         Some(Span { start: 0, end: 2 })
     );
     assert_eq!(rt; found.get_group_by_name("z"), None);
+    assert_eq!(rt; regex.captures_len(), 3);
+    assert_eq!(rt; regex.static_captures_len(), Some(3));
+    Ok(())
+}
+
+#[test]
+fn slots_of_a_match(rt: HostRuntime) -> Result<(), Fail> {
+    let alloc = rt.alloc();
+    let regex = Regex::new(alloc, r"(?P<y>\d+)-(\d+)")?;
     let mut slots = [None; 6];
     if regex.group_info().slot_len() < slots.len() {
         return Err("too few slots".into());
@@ -146,33 +77,47 @@ fn named_groups(rt: HostRuntime) -> Result<(), Fail> {
         slots,
         [Some(0), Some(6), Some(0), Some(2), Some(3), Some(6)]
     );
-    assert_eq!(rt; regex.captures_len(), 3);
-    assert_eq!(rt; regex.static_captures_len(), Some(3));
     Ok(())
 }
 
 #[test]
 fn groups_of_two_patterns(rt: HostRuntime) -> Result<(), Fail> {
-    let alloc = rt.alloc();
-    // `a(b)` and `(c)(d)`
-    let first = then(alloc, literal(alloc, "a")?, letter(alloc, 1, "b")?)?;
-    let second = then(alloc, letter(alloc, 1, "c")?, letter(alloc, 2, "d")?)?;
-    let hirs = [first, second];
-    row(
+    rows_of_patterns(
         &rt,
-        alloc,
-        &hirs,
-        b"cd",
-        (1, &[Some((0, 2)), Some((0, 1)), Some((1, 2))]),
+        rt.alloc(),
+        &["a(b)", "(c)(d)"],
+        &[
+            (
+                b"cd",
+                Asked::all(),
+                Some((1, &[Some((0, 2)), Some((0, 1)), Some((1, 2))])),
+            ),
+            (
+                b"ab",
+                Asked::all(),
+                Some((0, &[Some((0, 2)), Some((1, 2))])),
+            ),
+            (
+                b"xab",
+                Asked::all(),
+                Some((0, &[Some((1, 3)), Some((2, 3))])),
+            ),
+            (b"ab", by(1)?, None),
+        ],
     )?;
-    row(
+    // the same name in two patterns
+    rows_of_patterns(
         &rt,
-        alloc,
-        &hirs,
-        b"xab",
-        (0, &[Some((1, 3)), Some((2, 3))]),
+        rt.alloc(),
+        &["(?P<n>a)", "(?P<n>b)"],
+        &[(b"b", Asked::all(), Some((1, &[Some((0, 1)), Some((0, 1))])))],
     )?;
-    let regex = Regex::builder().build_many_from_hir(alloc, &hirs)?;
+    Ok(())
+}
+
+#[test]
+fn slots_of_two_patterns(rt: HostRuntime) -> Result<(), Fail> {
+    let regex = Regex::new_many(rt.alloc(), &["a(b)", "(c)(d)"])?;
     let info = regex.group_info();
     assert_eq!(rt; info.slot_len(), 10);
     assert_eq!(rt; info.slots(pattern(1)?, 2), Some((8, 9)));
@@ -185,88 +130,87 @@ fn groups_of_two_patterns(rt: HostRuntime) -> Result<(), Fail> {
 
 #[test]
 fn one_of_two_patterns(rt: HostRuntime) -> Result<(), Fail> {
-    let alloc = rt.alloc();
-    // `a` and `ab`
-    let hirs = [literal(alloc, "a")?, literal(alloc, "ab")?];
-    let regex = Regex::builder().build_many_from_hir(alloc, &hirs)?;
-    groups(
+    rows_of_patterns(
         &rt,
-        alloc,
-        &regex,
-        b"ab",
-        Asked::all(),
-        Some((0, &[Some((0, 1))])),
+        rt.alloc(),
+        &["a", "ab"],
+        &[
+            (b"ab", Asked::all(), Some((0, &[Some((0, 1))]))),
+            (
+                b"ab",
+                Asked::all().anchored(Anchored::Yes),
+                Some((0, &[Some((0, 1))])),
+            ),
+            (b"ab", by(1)?, Some((1, &[Some((0, 2))]))),
+            (b"ab", by(7)?, None),
+            (b"xab", by(1)?, None),
+        ],
     )?;
-    let asked = Asked::all().anchored(Anchored::Pattern(pattern(1)?));
-    groups(&rt, alloc, &regex, b"ab", asked, Some((1, &[Some((0, 2))])))?;
-    let asked = Asked::all().anchored(Anchored::Pattern(pattern(7)?));
-    groups(&rt, alloc, &regex, b"ab", asked, None)?;
+    rows_of_patterns(
+        &rt,
+        rt.alloc(),
+        &["ab", "a"],
+        &[
+            (b"ab", Asked::all(), Some((0, &[Some((0, 2))]))),
+            (b"ab", by(1)?, Some((1, &[Some((0, 1))]))),
+        ],
+    )?;
+    Ok(())
+}
+
+#[test]
+fn patterns_at_the_ends(rt: HostRuntime) -> Result<(), Fail> {
+    rows_of_patterns(
+        &rt,
+        rt.alloc(),
+        &["b$", "ab$"],
+        &[(b"ab", Asked::all(), Some((1, &[Some((0, 2))])))],
+    )?;
+    rows_of_patterns(
+        &rt,
+        rt.alloc(),
+        &["^bar", "foo$"],
+        &[(b"foobar", Asked::all(), None)],
+    )?;
+    rows_of_patterns(
+        &rt,
+        rt.alloc(),
+        &["ab|abcd|bc"],
+        &[
+            (b"xabcd", by(0)?.span(1, 5), Some((0, &[Some((1, 3))]))),
+            (b"xabcd", by(1)?.span(1, 5), None),
+        ],
+    )?;
     Ok(())
 }
 
 #[test]
 fn no_patterns(rt: HostRuntime) -> Result<(), Fail> {
-    let alloc = rt.alloc();
-    let regex = Regex::builder().build_many_from_hir(alloc, &[])?;
+    rows_of_patterns(
+        &rt,
+        rt.alloc(),
+        &[],
+        &[(b"ab", Asked::all(), None), (b"", Asked::all(), None)],
+    )?;
+    let regex = Regex::new_many(rt.alloc(), &[])?;
     assert_eq!(rt; regex.pattern_len(), 0);
     assert_eq!(rt; regex.captures_len(), 0);
     assert_eq!(rt; regex.static_captures_len(), None);
-    finds(&rt, alloc, &regex, b"ab", Asked::all(), None)?;
-    finds(&rt, alloc, &regex, b"", Asked::all(), None)?;
-    Ok(())
-}
-
-#[test]
-fn ill_numbered_groups(rt: HostRuntime) -> Result<(), Fail> {
-    let alloc = rt.alloc();
-    // a group numbered 2 alone
-    let hirs = [literal(alloc, "a")?, letter(alloc, 2, "a")?];
-    let refusal = Regex::builder()
-        .build_many_from_hir(alloc, &hirs)
-        .err()
-        .ok_or("built")?;
-    assert_eq!(rt; ill_formed(&refusal), Some(1));
-    assert_eq!(rt; refusal.pattern(), None);
-    // `(?P<n>a)(?P<n>b)`
-    let twice = then(
-        alloc,
-        named(alloc, 1, "n", literal(alloc, "a")?)?,
-        named(alloc, 2, "n", literal(alloc, "b")?)?,
-    )?;
-    let refusal = Regex::builder()
-        .build_from_hir(alloc, &twice)
-        .err()
-        .ok_or("built")?;
-    assert_eq!(rt; ill_formed(&refusal), Some(0));
-    // the same name in two patterns
-    let hirs = [
-        named(alloc, 1, "n", literal(alloc, "a")?)?,
-        named(alloc, 1, "n", literal(alloc, "b")?)?,
-    ];
-    row(&rt, alloc, &hirs, b"b", (1, &[Some((0, 1)), Some((0, 1))]))?;
     Ok(())
 }
 
 #[test]
 fn groups_left_out(rt: HostRuntime) -> Result<(), Fail> {
     let alloc = rt.alloc();
-    // `(a)(b)`
-    let hir = then(alloc, letter(alloc, 1, "a")?, letter(alloc, 2, "b")?)?;
     for which in [WhichCaptures::Implicit, WhichCaptures::None] {
-        let mut builder = Regex::builder();
-        let config = Regex::config().which_captures(which);
-        let regex = builder.configure(config).build_from_hir(alloc, &hir)?;
+        let config = Config::new().which_captures(which);
+        let engines = Engines::build(alloc, "(a)(b)", Syntax::new(), config)?;
+        let want = Some((0, &[Some((0, 2))][..]));
+        groups(&rt, alloc, &engines, b"ab", Asked::all(), want)?;
+        let regex = &engines.regex;
         assert_eq!(rt; regex.group_info().slot_len(), 2);
         assert_eq!(rt; regex.captures_len(), 3);
         assert_eq!(rt; regex.static_captures_len(), Some(3));
-        groups(
-            &rt,
-            alloc,
-            &regex,
-            b"ab",
-            Asked::all(),
-            Some((0, &[Some((0, 2))])),
-        )?;
     }
     Ok(())
 }

@@ -1,200 +1,72 @@
-//! Rows of lists of matches, and of pieces.
+//! Rows of pieces, and of lists of matches in spans.
 
-use crate::tests::patterns::{bytes_in, group, literal, or, then, turns};
-use crate::tests::searches::{Asked, finds, lists, splits, splits_at_most};
-use rc_build::error::BuildError;
+use crate::tests::engines::Engines;
+use crate::tests::searches::{Asked, lists, splits, splits_at_most};
+use crate::tests::tables::{Pairs, rows_of_pieces};
 use rc_meta::regex::Regex;
-use rc_pattern::hir::{Hir, Look};
-use rc_text::types::{Anchored, PatternID};
-use std::alloc::{AllocError, Global};
 use std::test::Fail;
 
-fn built(alloc: Global, hir: &Hir) -> Result<Regex, BuildError> {
-    Regex::builder().build_from_hir(alloc, hir)
-}
-
-/// Empty matches stand at every byte.
-fn built_for_bytes(alloc: Global, hir: &Hir) -> Result<Regex, BuildError> {
-    let mut builder = Regex::builder();
-    let builder = builder.configure(Regex::config().utf8_empty(false));
-    builder.build_from_hir(alloc, hir)
-}
-
-/// A literal of one byte.
-fn byte(alloc: Global, byte: u8) -> Result<Hir, AllocError> {
-    Hir::literal(alloc, &[byte])
-}
-
 #[test]
-fn matches_follow_each_other(rt: HostRuntime) -> Result<(), Fail> {
-    let alloc = rt.alloc();
-    // `abcd`
-    let regex = built(alloc, &literal(alloc, "abcd")?)?;
-    lists(
+fn pieces(rt: HostRuntime) -> Result<(), Fail> {
+    rows_of_pieces(
         &rt,
-        alloc,
-        &regex,
-        b"abcdabcd",
-        Asked::all(),
-        &[(0, 4), (4, 8)],
+        rt.alloc(),
+        &[
+            (",", b"a,b", &[(0, 1), (2, 3)]),
+            (",", b"", &[(0, 0)]),
+            ("x*", "xéx".as_bytes(), &[(0, 0), (1, 3), (4, 4)]),
+        ],
     )?;
-    // `(|a)+`
-    let hir = group(alloc, 1, or(alloc, Hir::empty(), literal(alloc, "a")?)?)?;
-    let regex = built(alloc, &turns(alloc, 1, None, hir)?)?;
-    lists(
-        &rt,
-        alloc,
-        &regex,
-        b"aaa",
-        Asked::all(),
-        &[(0, 0), (1, 1), (2, 2), (3, 3)],
-    )?;
-    // `a{2,3}?`
-    let regex = built(
-        alloc,
-        &crate::tests::patterns::few_turns(alloc, 2, Some(3), literal(alloc, "a")?)?,
-    )?;
-    lists(&rt, alloc, &regex, b"aaaa", Asked::all(), &[(0, 2), (2, 4)])?;
-    // `b+`
-    let regex = built(alloc, &turns(alloc, 1, None, literal(alloc, "b")?)?)?;
-    lists(
-        &rt,
-        alloc,
-        &regex,
-        b"abbab",
-        Asked::all(),
-        &[(1, 3), (4, 5)],
-    )?;
-    lists(&rt, alloc, &regex, b"", Asked::all(), &[])?;
     Ok(())
 }
 
 #[test]
-fn empty_matches_stand_on_boundaries(rt: HostRuntime) -> Result<(), Fail> {
-    let alloc = rt.alloc();
-    let regex = built(alloc, &Hir::empty())?;
-    lists(
-        &rt,
-        alloc,
-        &regex,
-        "é".as_bytes(),
-        Asked::all(),
-        &[(0, 0), (2, 2)],
-    )?;
-    let regex = built_for_bytes(alloc, &Hir::empty())?;
-    lists(
-        &rt,
-        alloc,
-        &regex,
-        "é".as_bytes(),
-        Asked::all(),
-        &[(0, 0), (1, 1), (2, 2)],
-    )?;
-    // `x*`
-    let regex = built(alloc, &turns(alloc, 0, None, literal(alloc, "x")?)?)?;
-    lists(
-        &rt,
-        alloc,
-        &regex,
-        "xéx".as_bytes(),
-        Asked::all(),
-        &[(0, 1), (3, 4)],
-    )?;
-    let want = [(0, 0), (1, 3), (4, 4)];
-    splits(&rt, alloc, &regex, "xéx".as_bytes(), Asked::all(), &want)?;
+fn pieces_that_a_limit_leaves(rt: HostRuntime) -> Result<(), Fail> {
+    let engines = Engines::new(rt.alloc(), ",")?;
+    let rows: [(usize, Pairs); 5] = [
+        (9, &[(0, 1), (2, 3), (4, 5)]),
+        (3, &[(0, 1), (2, 3), (4, 5)]),
+        (2, &[(0, 1), (2, 5)]),
+        (1, &[(0, 5)]),
+        (0, &[]),
+    ];
+    for (limit, want) in rows {
+        splits_at_most(&rt, rt.alloc(), &engines, b"a,b,c", limit, want)?;
+    }
     Ok(())
 }
 
 #[test]
-fn starts_are_passed_over(rt: HostRuntime) -> Result<(), Fail> {
+fn lists_in_spans(rt: HostRuntime) -> Result<(), Fail> {
     let alloc = rt.alloc();
-    // `(?-u:\xC3|\xC3\xA9x|x)?`
-    let long = Hir::literal(alloc, b"\xC3\xA9x")?;
-    let hir = or(
-        alloc,
-        byte(alloc, 0xC3)?,
-        or(alloc, long, literal(alloc, "x")?)?,
-    )?;
-    let regex = built(alloc, &turns(alloc, 0, Some(1), hir)?)?;
-    finds(
-        &rt,
-        alloc,
-        &regex,
-        "éx".as_bytes(),
-        Asked::all(),
-        Some((2, 3)),
-    )?;
-    let asked = Asked::all().anchored(Anchored::Yes);
-    finds(&rt, alloc, &regex, "éx".as_bytes(), asked, None)?;
-    // `(?-u:\xC3)?`
-    let regex = built(alloc, &turns(alloc, 0, Some(1), byte(alloc, 0xC3)?)?)?;
-    finds(
-        &rt,
-        alloc,
-        &regex,
-        "é".as_bytes(),
-        Asked::all(),
-        Some((2, 2)),
-    )?;
-    // `(?-u:\xC3)` and the empty pattern
-    let hirs = [byte(alloc, 0xC3)?, Hir::empty()];
-    let regex = Regex::builder().build_many_from_hir(alloc, &hirs)?;
-    let second = PatternID::new(1).ok_or("no number")?;
-    let asked = Asked::all().anchored(Anchored::Pattern(second));
-    finds(&rt, alloc, &regex, "é".as_bytes(), asked, Some((0, 0)))?;
-    let asked = Asked::all().anchored(Anchored::Pattern(PatternID::ZERO));
-    finds(&rt, alloc, &regex, "é".as_bytes(), asked, None)?;
-    Ok(())
-}
-
-#[test]
-fn pieces_between_matches(rt: HostRuntime) -> Result<(), Fail> {
-    let alloc = rt.alloc();
-    // `,`
-    let regex = built(alloc, &literal(alloc, ",")?)?;
-    splits(&rt, alloc, &regex, b"a,b", Asked::all(), &[(0, 1), (2, 3)])?;
-    splits(&rt, alloc, &regex, b"", Asked::all(), &[(0, 0)])?;
-    splits_at_most(&rt, alloc, &regex, b"a,b,c", 2, &[(0, 1), (2, 5)])?;
-    splits_at_most(&rt, alloc, &regex, b"a,b,c", 1, &[(0, 5)])?;
-    splits_at_most(&rt, alloc, &regex, b"a,b,c", 0, &[])?;
-    splits_at_most(&rt, alloc, &regex, b"a,b,c", 9, &[(0, 1), (2, 3), (4, 5)])?;
-    // `a`
-    let regex = built(alloc, &literal(alloc, "a")?)?;
-    lists(&rt, alloc, &regex, b"aa", Asked::all().span(5, 9), &[])?;
-    splits(
-        &rt,
-        alloc,
-        &regex,
-        b"aa",
-        Asked::all().span(5, 9),
-        &[(0, 2)],
-    )?;
-    splits(
-        &rt,
-        alloc,
-        &regex,
-        b"ba",
-        Asked::all().span(0, 100),
-        &[(0, 1), (2, 2)],
-    )?;
-    // a span that starts below the slice
-    let asked = Asked::all().slice(1, 3).span(0, 3);
-    lists(&rt, alloc, &regex, b"aaaa", asked, &[(1, 2), (2, 3)])?;
-    splits(
-        &rt,
-        alloc,
-        &regex,
-        b"aaaa",
-        asked,
-        &[(0, 1), (2, 2), (3, 3)],
-    )?;
+    let engines = Engines::new(alloc, "a")?;
+    // the last span starts below the slice
+    let rows: [(&[u8], Asked, Pairs, Pairs); 3] = [
+        (b"aa", Asked::all().span(5, 9), &[], &[(0, 2)]),
+        (
+            b"ba",
+            Asked::all().span(0, 100),
+            &[(1, 2)],
+            &[(0, 1), (2, 2)],
+        ),
+        (
+            b"aaaa",
+            Asked::all().slice(1, 3).span(0, 3),
+            &[(1, 2), (2, 3)],
+            &[(0, 1), (2, 2), (3, 3)],
+        ),
+    ];
+    for (text, asked, matches, pieces) in &rows {
+        lists(&rt, alloc, &engines, text, *asked, matches)?;
+        splits(&rt, alloc, &engines, text, *asked, pieces)?;
+    }
     Ok(())
 }
 
 #[test]
 fn limit_tells_how_many_are_left(rt: HostRuntime) -> Result<(), Fail> {
     let alloc = rt.alloc();
-    let regex = built(alloc, &literal(alloc, ",")?)?;
+    let regex = Regex::new(alloc, ",")?;
     let mut pieces = regex.splitn(alloc, Asked::all().input(b"a,b,c".as_slice()), 2)?;
     assert_eq!(rt; pieces.size_hint(), (0, Some(2)));
     pieces.next();
