@@ -9,6 +9,7 @@ ghost use Rattle.rc_build.specs.TextRefusals.{AllRead, IsTextRefusal, texts_of};
 ghost use Rattle.rc_syntax.specs.Settings.{default_settings, settings_of as syntax_of};
 ghost use Rattle.rc_vm.specs.Configs.{match_kind_of, search_settings_of, none_set, set_over};
 ghost use Rattle.rc_vm.specs.Thompson.{settings_of, unset, overwritten, nfa_size_limit_of, line_terminator_of};
+ghost use Rattle.rc_matches.specs.Strategies.{IsSound};
 ghost use Rattle.rc_vm.specs.Fits.{sought_by};
 ghost use Rattle.rc_vm.specs.Views.{builder_settings, builder_program, builder_syntax, vm_patterns, vm_program, vm_settings};
 
@@ -18,6 +19,7 @@ use crate::vm::{PikeVM, assembled};
 use rc_build::compile::compile_all;
 use rc_build::error::BuildError;
 use rc_build::texts::parse_all;
+use rc_matches::choice::choose;
 use rc_matches::engine::Engine;
 use rc_matches::strategy::Strategy;
 use rc_pattern::check::copies_of;
@@ -127,21 +129,25 @@ impl Builder {
             thompson.get_nfa_size_limit(),
             thompson.get_which_captures(),
         )?;
+        let strategy = choose(alloc, hirs, self.config.asked(), false)?;
         let config = self.config.try_clone(alloc)?;
-        let engine = engine_of(&config, thompson, hirs, compiled.places);
+        let engine = engine_of(&config, thompson, hirs, compiled.places, strategy);
         let hirs = copies_of(alloc, hirs)?;
         Ok(assembled(hirs, config, thompson, engine, compiled.info))
     }
 }
 
-/// The engine of these patterns, whose program this is.
+/// The engine of these patterns, whose program this is, and whose searches may go by the strategy.
 fn engine_of(
     config: &Config,
     thompson: thompson::Config,
     hirs: &[Hir],
     places: Vec<Place>,
+    strategy: Strategy,
 ) -> Engine
-    requires { IsRunnable (places_of places.items) }
+    requires runnable { IsRunnable (places_of places.items) }
+    requires sound { IsSound (places_of places.items) (line_terminator_of (settings_of thompson))
+        (passes_over (sought_by (settings_of thompson) (map meaning hirs.now))) strategy }
     ensures places { result.places ≡ places }
     ensures terminator { result.terminator ≡ line_terminator_of (settings_of thompson) }
     ensures kind { result.kind ≡ match_kind_of (search_settings_of config.now) }
@@ -153,7 +159,7 @@ fn engine_of(
         terminator: thompson.get_line_terminator(),
         passes_over,
         kind: config.get_match_kind(),
-        strategy: Strategy::Pass,
+        strategy,
     }
 }
 

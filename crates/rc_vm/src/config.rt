@@ -61,6 +61,15 @@ impl Config {
         }
     }
 
+    /// The prefilter that was set.
+    pub(crate) fn asked(&self) -> Option<&Prefilter> {
+        match &self.prefilter {
+            Some(Some(prefilter)) => Some(prefilter),
+            Some(None) => None,
+            None => None,
+        }
+    }
+
     /// The same settings. An `Err` is want of memory, which a prefilter takes.
     pub fn try_clone(&self, alloc: Global) -> Result<Config, AllocError>
         ensures { IfOk result (λ c. search_settings_of c ≡ search_settings_of self.now) }
