@@ -1,5 +1,5 @@
 -- Which strategies a search of patterns may go by.
-use Rattle.std.proofs.Common.{◌≡◌, ◌∙◌, ◌+◌, ◌<◌, ◌≤◌, ℕ, List, [], ◌∷◌, length, map, take, Bool, Option, Some, None, MatchOption, All, Result, IfOk, IfSome, ap, sym, subst, arith, get_or, option_map}
+use Rattle.std.proofs.Common.{◌≡◌, ◌∙◌, ◌+◌, ◌<◌, ◌≤◌, ℕ, List, [], ◌∷◌, length, map, take, Option, Some, None, MatchOption, All, Result, IfOk, IfSome, ap, sym, subst, arith, get_or, option_map}
 use Rattle.std.proofs.lemmas.Result.{IfOk-weaker}
 use Rattle.std.proofs.lemmas.List.{take_all}
 use Rattle.std.proofs.lemmas.List.Elements.{All-more, All-map}

@@ -1,5 +1,5 @@
 -- What a search may go by.
-use Rattle.std.specs.Prelude.{◌≡◌, ℕ, Bool, List, Option, Some, None}
+use Rattle.std.specs.Prelude.{◌≡◌, ℕ, Bool, List}
 use denote.Struct.Props.{props}
 use Rattle.rc_text.specs.Text.{Searched}
 use Rattle.rc_program.specs.Program.{Place}
@@ -8,7 +8,6 @@ use Rattle.rc_program.specs.Sought.{search_over}
 use Rattle.rc_literal.specs.Guards.{Guards}
 use Rattle.rc_literal.specs.Literals.{literal_answer}
 use Rattle.rc_literal.specs.Prefilters.{needles_of}
-use Rattle.rc_literal.specs.declared.prefilter.Prefilter.{Prefilter}
 use Rattle.rc_matches.specs.declared.strategy.Strategy.{Strategy}
 use Rattle.rc_matches.specs.declared.strategy.Strategy.TheVariants.{Pass, Guarded, Literal}
 
