@@ -390,8 +390,7 @@ impl Regex {
             → IfOk result (λ p. MatchOption p
             (slots.new ≡ slots.old)
             (λ _. Some slots.new ≡ groups (search_for (sought self.now) input) (length slots.old))) }
-        ensures pattern_by {
-            IfOk result (λ p. p ≡ option_map (λ (m : Found). m.pattern) (answer_by (regex_kind self.now) (search_for (sought self.now) input))) }
+        ensures pattern_by { IfOk result (λ p. p ≡ option_map (λ (m : Found). m.pattern) (answer_by (regex_kind self.now) (search_for (sought self.now) input))) }
         ensures slots_by { IfOk result (λ p. MatchOption p
             (slots.new ≡ slots.old)
             (λ _. Some slots.new ≡ slots_by (regex_kind self.now) (search_for (sought self.now) input) (length slots.old))) }
@@ -417,8 +416,7 @@ impl Regex {
             → MatchOption result
             (slots.new ≡ slots.old)
             (λ _. Some slots.new ≡ groups (search_for (sought self.now) input.old) (length slots.old)) }
-        ensures pattern_by {
-            result ≡ option_map (λ (m : Found). m.pattern) (answer_by (regex_kind self.now) (search_for (sought self.now) input.old)) }
+        ensures pattern_by { result ≡ option_map (λ (m : Found). m.pattern) (answer_by (regex_kind self.now) (search_for (sought self.now) input.old)) }
         ensures slots_by { MatchOption result
             (slots.new ≡ slots.old)
             (λ _. Some slots.new ≡ slots_by (regex_kind self.now) (search_for (sought self.now) input.old) (length slots.old)) }
@@ -439,8 +437,7 @@ impl Regex {
     ) -> Result<FindMatches<'r, C>, AllocError>
         ensures left { match_kind_of (regex_settings self.now) ≡ LeftmostFirst
             → IfOk result (λ s. find_left s ≡ matches_left (search_for (sought self.now) input) input.span.start None) }
-        ensures left_by {
-            IfOk result (λ s. find_left s ≡ matches_by_kind (regex_kind self.now) (search_for (sought self.now) input) input.span.start None) }
+        ensures left_by { IfOk result (λ s. find_left s ≡ matches_by_kind (regex_kind self.now) (search_for (sought self.now) input) input.span.start None) }
         ensures within { IfOk result (λ s. All (λ m. (low input ≤ m.start) × (m.start ≤ m.end) × (m.end ≤ high input)) (find_left s)) }
         ensures short { IfOk result (λ s. length (find_left s) < 2 ^ 64) }
         ensures regex { IfOk result (λ s. find_regex s ≡ self.now) }
@@ -469,14 +466,12 @@ impl Regex {
     ) -> Result<CapturesMatches<'r, C>, AllocError>
         ensures left { match_kind_of (regex_settings self.now) ≡ LeftmostFirst
             → IfOk result (λ s. captures_left s ≡ matches_left (search_for (sought self.now) input) input.span.start None) }
-        ensures left_by {
-            IfOk result (λ s. captures_left s ≡ matches_by_kind (regex_kind self.now) (search_for (sought self.now) input) input.span.start None) }
+        ensures left_by { IfOk result (λ s. captures_left s ≡ matches_by_kind (regex_kind self.now) (search_for (sought self.now) input) input.span.start None) }
         ensures walks { match_kind_of (regex_settings self.now) ≡ LeftmostFirst
             → IfOk result (λ s. captures_walks s ≡ walks_left (search_for (sought self.now) input) input.span.start None) }
         ensures law { match_kind_of (regex_settings self.now) ≡ LeftmostFirst
             → IfOk result (CapturesLaw (regex_names self.now) (search_for (sought self.now) input) input.span.start) }
-        ensures law_by {
-            IfOk result (MatchedLaw (regex_kind self.now) (regex_names self.now) (search_for (sought self.now) input) input.span.start) }
+        ensures law_by { IfOk result (MatchedLaw (regex_kind self.now) (regex_names self.now) (search_for (sought self.now) input) input.span.start) }
         ensures short { IfOk result (λ s. length (captures_left s) < 2 ^ 64) }
         ensures regex { IfOk result (λ s. captures_regex s ≡ self.now) }
         ensures input { IfOk result (λ s. captures_input s ≡ input) }
