@@ -6,7 +6,6 @@ use Rattle.rc_text.specs.Found.{Found}
 use Rattle.rc_text.specs.Text.{Searched}
 use Rattle.rc_text.specs.declared.types.MatchKind.{MatchKind}
 use Rattle.rc_text.specs.declared.cursor.Cursor.{Ghosts}
-use Rattle.rc_program.specs.Answer.{Search}
 use Rattle.rc_program.specs.Kinds.{answer_by_from, matches_by_kind}
 use Rattle.rc_program.specs.Matches.{begin_of, end_of, from_on, next_match}
 use Rattle.rc_program.specs.Sought.{search_for}

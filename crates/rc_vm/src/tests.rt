@@ -255,16 +255,22 @@ fn greatest_match(rt: HostRuntime) -> Result<(), Fail> {
     assert_eq!(rt; parts(caps.get_match()), Some((0, 2)));
     assert!(rt; caps.get_group(1).is_none());
     assert!(rt; cache.insertions() >= 3);
+    Ok(())
+}
+
+#[test]
+fn slots_of_the_greatest_match(rt: HostRuntime) -> Result<(), Fail> {
+    let alloc = rt.alloc();
+    let greatest = Config::new().match_kind(MatchKind::All);
+    let vm = Builder::new().configure(greatest).build(alloc, "(a)|ab")?;
+    let mut cache = vm.create_cache(alloc)?;
     let mut slots = [None, None];
-    let found = search_slots(&vm, &mut cache, &mut input, &mut slots);
-    assert_eq!(rt; found, Some(PatternID::ZERO));
+    let found = search_slots(&vm, &mut cache, &mut Input::new("ab"), &mut slots);
+    assert!(rt; found.is_some());
     assert_eq!(rt; slots, [Some(0), Some(2)]);
-    let leftmost = Config::new().match_kind(MatchKind::LeftmostFirst);
-    let vm = builder.configure(leftmost).build(alloc, "(a)|ab")?;
-    cache.reset(&vm)?;
-    let found = search_slots(&vm, &mut cache, &mut input, &mut slots);
-    assert_eq!(rt; found, Some(PatternID::ZERO));
-    assert_eq!(rt; slots, [Some(0), Some(1)]);
+    let found = search_slots(&vm, &mut cache, &mut Input::new("b"), &mut slots);
+    assert!(rt; found.is_none());
+    assert_eq!(rt; slots, [Some(0), Some(2)]);
     Ok(())
 }
 
@@ -278,12 +284,7 @@ fn lists_the_greatest_matches(rt: HostRuntime) -> Result<(), Fail> {
     let found = all(alloc, &vm, &mut cache, Input::new("aba"))?;
     assert!(rt; found.as_slice() == [(2, 3)].as_slice());
     cache.reset(&vm)?;
-    let mut slots = [Some(9), Some(9)];
-    let mut input = Input::new("bb");
-    assert!(rt; !is_match(&vm, &mut cache, &mut input));
-    let found = search_slots(&vm, &mut cache, &mut input, &mut slots);
-    assert!(rt; found.is_none());
-    assert_eq!(rt; slots, [Some(9), Some(9)]);
+    assert!(rt; !is_match(&vm, &mut cache, &mut Input::new("bb")));
     let vm = builder.build_many(alloc, &["b", "ab", "a?b"])?;
     cache.reset(&vm)?;
     let mut slots = [None, None, None, None];

@@ -1,4 +1,4 @@
-use Rattle.std.proofs.Common.{◌≡◌, ◌∙◌, MatchOption, ap, length, None, refl, subst, sym}
+use Rattle.std.proofs.Common.{◌∙◌, MatchOption, ap, length, None, refl, subst, sym}
 use Rattle.std.specs.Bool.{⊤}
 use Rattle.std.proofs.lemmas.List.{length-map, length-replicate}
 use Rattle.rc_pattern.specs.WellFormed.{group_names}

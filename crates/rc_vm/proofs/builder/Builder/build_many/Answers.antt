@@ -1,4 +1,4 @@
-use Rattle.std.proofs.Common.{◌≤◌, arith, ap, length}
+use Rattle.std.proofs.Common.{arith, ap, length}
 use Rattle.rc_build.proofs.TextLemmas.{as_many}
 use Rattle.rc_syntax.specs.Settings.{settings_of as syntax_of}
 use Rattle.rc_vm.proofs.builder.Builder.build_many.Goals as goal
