@@ -4,6 +4,7 @@ mod cursors;
 mod engines;
 mod groups;
 mod hirs;
+mod kinds;
 mod lists;
 mod patterns;
 mod searches;

@@ -9,14 +9,16 @@ use rc_build::config::Config;
 use rc_build::error::BuildError;
 use rc_build::texts::parse_all;
 use rc_captures::captures::{Captures, slots_of};
+use rc_meta::builder as meta;
 use rc_meta::regex::Regex;
 use rc_pattern::hir::Hir;
 use rc_syntax::Config as Syntax;
 use rc_text::cursor::Cursor;
 use rc_text::input::Input;
-use rc_text::types::{HalfMatch, Match, PatternID};
+use rc_text::types::{HalfMatch, Match, MatchKind, PatternID};
 use rc_thompson::place::Place;
 use rc_vm::builder::Builder;
+use rc_vm::config::Config as Searches;
 use rc_vm::vm::PikeVM;
 use rc_vm::{search, thompson};
 use rc_walker::walker;
@@ -31,6 +33,8 @@ const MOST_PATTERNS: usize = 2147483647;
 pub struct Engines {
     /// The regex.
     pub regex: Regex,
+    /// The regex that looks for no needles of its own.
+    pub unfiltered: Regex,
     vm: PikeVM,
     program: Option<Program>,
 }
@@ -54,10 +58,12 @@ struct Told {
 impl Engines {
     /// The pattern that this text is read as.
     pub fn new(alloc: Global, pattern: &str) -> Result<Engines, BuildError> {
+        let mut builder = unfiltered_builder(alloc, &Config::new())?;
         Ok(Engines {
             regex: Regex::new(alloc, pattern)?,
+            unfiltered: builder.build(alloc, pattern)?,
             vm: PikeVM::new(alloc, pattern)?,
-            program: read(alloc, &[pattern], Syntax::new(), Config::new())?,
+            program: read(alloc, &[pattern], Syntax::new(), &Config::new())?,
         })
     }
 
@@ -65,10 +71,12 @@ impl Engines {
     pub fn new_many(alloc: Global, patterns: &[&str]) -> Result<Engines, BuildError>
         requires { length patterns.now ≤ 2147483647 }
     {
+        let mut builder = unfiltered_builder(alloc, &Config::new())?;
         Ok(Engines {
             regex: Regex::new_many(alloc, patterns)?,
+            unfiltered: builder.build_many(alloc, patterns)?,
             vm: PikeVM::new_many(alloc, patterns)?,
-            program: read(alloc, patterns, Syntax::new(), Config::new())?,
+            program: read(alloc, patterns, Syntax::new(), &Config::new())?,
         })
     }
 
@@ -79,13 +87,20 @@ impl Engines {
         syntax: Syntax,
         config: Config,
     ) -> Result<Engines, BuildError> {
+        let mut builder = unfiltered_builder(alloc, &config)?;
+        let unfiltered = builder.syntax(syntax).build(alloc, pattern)?;
+        let mut builder = vm_builder(&config);
+        let vm = builder.syntax(syntax).build(alloc, pattern)?;
+        let program = read(alloc, &[pattern], syntax, &config)?;
         let mut builder = Regex::builder();
         builder.configure(config).syntax(syntax);
         let regex = builder.build(alloc, pattern)?;
-        let mut builder = vm_builder(config);
-        let vm = builder.syntax(syntax).build(alloc, pattern)?;
-        let program = read(alloc, &[pattern], syntax, config)?;
-        Ok(Engines { regex, vm, program })
+        Ok(Engines {
+            regex,
+            unfiltered,
+            vm,
+            program,
+        })
     }
 
     /// This pattern.
@@ -97,12 +112,19 @@ impl Engines {
     pub fn of_many(alloc: Global, hirs: &[Hir], config: Config) -> Result<Engines, BuildError>
         requires { length hirs.now ≤ 2147483647 }
     {
+        let mut builder = unfiltered_builder(alloc, &config)?;
+        let unfiltered = builder.build_many_from_hir(alloc, hirs)?;
+        let vm = vm_builder(&config).build_many_from_hir(alloc, hirs)?;
+        let program = compiled(alloc, hirs, &config)?;
         let mut builder = Regex::builder();
         let builder = builder.configure(config);
         let regex = builder.build_many_from_hir(alloc, hirs)?;
-        let vm = vm_builder(config).build_many_from_hir(alloc, hirs)?;
-        let program = compiled(alloc, hirs, config)?;
-        Ok(Engines { regex, vm, program })
+        Ok(Engines {
+            regex,
+            unfiltered,
+            vm,
+            program,
+        })
     }
 
     /// Without the walker, where it would take too long.
@@ -129,15 +151,24 @@ impl Engines {
     }
 }
 
+/// A builder under the same settings, but that looks for no needles of the patterns' own.
+fn unfiltered_builder(alloc: Global, config: &Config) -> Result<meta::Builder, AllocError> {
+    let config = config.try_clone(alloc)?.auto_prefilter(false);
+    let mut builder = Regex::builder();
+    builder.configure(config);
+    Ok(builder)
+}
+
 /// A builder under the same settings.
-fn vm_builder(config: Config) -> Builder {
+fn vm_builder(config: &Config) -> Builder {
     let program = thompson::Config::new()
         .utf8(config.get_utf8_empty())
         .nfa_size_limit(config.get_nfa_size_limit())
         .which_captures(config.get_which_captures())
         .line_terminator(config.get_line_terminator());
+    let searches = Searches::new().match_kind(config.get_match_kind());
     let mut builder = PikeVM::builder();
-    builder.thompson(program);
+    builder.thompson(program).configure(searches);
     builder
 }
 
@@ -146,7 +177,7 @@ fn read(
     alloc: Global,
     patterns: &[&str],
     syntax: Syntax,
-    config: Config,
+    config: &Config,
 ) -> Result<Option<Program>, BuildError>
     requires { length patterns.now ≤ 2147483647 }
 {
@@ -154,9 +185,9 @@ fn read(
     compiled(alloc, &hirs, config)
 }
 
-/// The program of these patterns.
-fn compiled(alloc: Global, hirs: &[Hir], config: Config) -> Result<Option<Program>, BuildError> {
-    if hirs.len() > MOST_PATTERNS {
+/// The program of these patterns, where the walker may go through it: it finds no greatest matches.
+fn compiled(alloc: Global, hirs: &[Hir], config: &Config) -> Result<Option<Program>, BuildError> {
+    if hirs.len() > MOST_PATTERNS || config.get_match_kind() == MatchKind::All {
         return Ok(None);
     }
     let compiled = compile_all(

@@ -52,11 +52,8 @@ fn named_group(rt: HostRuntime) -> Result<(), Fail> {
     let alloc = rt.alloc();
     let regex = Regex::new(alloc, r"(?P<y>\d+)-(\d+)")?;
     let found = regex.captures(alloc, Asked::all().input(Recut::by_bytes(b"12-345")))?;
-    assert_eq!(rt;
-        found.get_group_by_name("y"),
-        Some(Span { start: 0, end: 2 })
-    );
-    assert_eq!(rt; found.get_group_by_name("z"), None);
+    assert!(rt; found.get_group_by_name("y") == Some(Span { start: 0, end: 2 }));
+    assert!(rt; found.get_group_by_name("z").is_none());
     assert_eq!(rt; regex.captures_len(), 3);
     assert_eq!(rt; regex.static_captures_len(), Some(3));
     Ok(())
@@ -73,10 +70,8 @@ fn slots_of_a_match(rt: HostRuntime) -> Result<(), Fail> {
     let input = Asked::all().input(b"12-345".as_slice());
     let pattern = regex.search_slots(alloc, input, &mut slots)?;
     assert_eq!(rt; pattern, Some(PatternID::ZERO));
-    assert_eq!(rt;
-        slots,
-        [Some(0), Some(6), Some(0), Some(2), Some(3), Some(6)]
-    );
+    let want = [Some(0), Some(6), Some(0), Some(2), Some(3), Some(6)];
+    assert!(rt; slots == want, "the slots");
     Ok(())
 }
 

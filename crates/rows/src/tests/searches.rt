@@ -98,6 +98,8 @@ fn find_over<C: Cursor + Copy + Drop>(
     let mut input = asked.input(cursor);
     let found = engines.found(rt, alloc, &mut input)?;
     assert_eq!(rt; span_of(found), want, "in a cache");
+    let other = engines.unfiltered.find(alloc, asked.input(cursor))?;
+    assert!(rt; other == found, "find, without prefilters");
     let regex = &engines.regex;
     let other = regex.find(alloc, asked.input(cursor))?;
     assert!(rt; other == found, "find");
@@ -183,7 +185,7 @@ pub fn lists(
     list_over(rt, alloc, engines, Recut::without_total(text), &asked, want)
 }
 
-/// The matches have these spans: those of `find_iter`, those of `captures_iter`, and those that each engine finds one after
+/// The matches have these spans: those of `find_iter`, with and without prefilters, those of `captures_iter`, and those that each engine finds one after
 /// another.
 fn list_over<C: Cursor + Copy + Drop>(
     rt: &impl Abort,
@@ -194,6 +196,8 @@ fn list_over<C: Cursor + Copy + Drop>(
     want: Pairs,
 ) -> Result<(), AllocError> {
     let matches = engines.regex.find_iter(alloc, asked.input(cursor))?;
+    match_spans(rt, matches, want);
+    let matches = engines.unfiltered.find_iter(alloc, asked.input(cursor))?;
     match_spans(rt, matches, want);
     let matches = engines.regex.captures_iter(alloc, asked.input(cursor))?;
     captured_spans(rt, matches, want)?;

@@ -110,10 +110,15 @@ fn thue_morse(alloc: Global) -> Result<Vec<u8>, AllocError> {
 }
 
 #[test]
+fn nested_repetitions(rt: HostRuntime) -> Result<(), Fail> {
+    let nested = Engines::new(rt.alloc(), "(a*)*b")?.unwalked();
+    row(&rt, rt.alloc(), &nested, &[b'a'; 40], &[])?;
+    Ok(())
+}
+
+#[test]
 fn long_searches_end(rt: HostRuntime) -> Result<(), Fail> {
     let alloc = rt.alloc();
-    let nested = Engines::new(alloc, "(a*)*b")?.unwalked();
-    row(&rt, alloc, &nested, &[b'a'; 40], &[])?;
     let text = thue_morse(alloc)?;
     for (pattern, want) in [
         ("[ab]*a[ab]{12}c", Some((0, 65537))),

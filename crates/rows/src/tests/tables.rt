@@ -43,8 +43,9 @@ pub fn rows_of_bytes(
     alloc: Global,
     rows: &[(&str, &[u8], Pairs)],
 ) -> Result<(), BuildError> {
-    let (syntax, config) = (Syntax::new().utf8(false), Config::new().utf8_empty(false));
+    let syntax = Syntax::new().utf8(false);
     for (pattern, text, want) in rows {
+        let config = Config::new().utf8_empty(false);
         let engines = Engines::build(alloc, pattern, syntax, config)?;
         row(rt, alloc, &engines, text, want)?;
     }
