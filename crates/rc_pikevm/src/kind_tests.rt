@@ -168,7 +168,15 @@ fn by_kind(rt: HostRuntime) -> Result<(), Fail> {
         MatchKind::LeftmostFirst,
     );
     assert!(rt; parts(first) == Some((0, 0, 1)));
-    let all = find_by_kind(&mut cache, &mut input, &places, 10, false, None, MatchKind::All);
+    let all = find_by_kind(
+        &mut cache,
+        &mut input,
+        &places,
+        10,
+        false,
+        None,
+        MatchKind::All,
+    );
     assert!(rt; parts(all) == Some((1, 0, 2)));
     assert!(rt; cache.insertions() <= 24);
     let mut slots = [Some(7), Some(7), None, None];

@@ -132,8 +132,14 @@ pub fn search_slots_by_kind<C: Cursor>(
         }
         MatchKind::LeftmostFirst => {
             search_slots(
-            cache, input, places, terminator, passes_over, prefilter, slots,
-        )
+                cache,
+                input,
+                places,
+                terminator,
+                passes_over,
+                prefilter,
+                slots,
+            )
         }
     }
 }
