@@ -3,7 +3,7 @@
 use crate::tests::cursors::Recut;
 use crate::tests::engines::{Engines, half_of};
 use rc_captures::captures::Captures;
-use rc_meta::iterators::{CapturesMatches, FindMatches};
+use rc_meta::iterators::{CapturesMatches, FindMatches, Split};
 use rc_text::cursor::Cursor;
 use rc_text::input::Input;
 use rc_text::types::{Anchored, Match, Span};
@@ -164,6 +164,8 @@ fn groups_over<C: Cursor + Copy + Drop>(
     let input = asked.input(cursor);
     engines.regex.search_captures(alloc, input, &mut captures)?;
     hold(rt, &captures, want);
+    let captures = engines.unfiltered.captures(alloc, asked.input(cursor))?;
+    hold(rt, &captures, want);
     Ok(())
 }
 
@@ -281,7 +283,7 @@ pub fn splits(
     split_over(rt, alloc, engines, Recut::without_total(text), &asked, want)
 }
 
-/// The pieces between the matches are these.
+/// The pieces between the matches are these, with and without prefilters.
 fn split_over<C: Cursor + Copy + Drop>(
     rt: &impl Abort,
     alloc: Global,
@@ -290,7 +292,14 @@ fn split_over<C: Cursor + Copy + Drop>(
     asked: &Asked,
     want: Pairs,
 ) -> Result<(), AllocError> {
-    let pieces = engines.regex.split(alloc, asked.input(cursor))?;
+    piece_spans(rt, engines.regex.split(alloc, asked.input(cursor))?, want);
+    let pieces = engines.unfiltered.split(alloc, asked.input(cursor))?;
+    piece_spans(rt, pieces, want);
+    Ok(())
+}
+
+/// What is left of the pieces is these.
+fn piece_spans<'r, C: Cursor + Drop>(rt: &impl Abort, pieces: Split<'r, C>, want: Pairs) {
     let mut seen = 0;
     for piece in pieces {
         let span = Some((piece.start, piece.end));
@@ -298,7 +307,6 @@ fn split_over<C: Cursor + Copy + Drop>(
         seen = seen.saturating_add(1);
     }
     assert!(rt; seen == want.len(), "how many pieces");
-    Ok(())
 }
 
 /// Of all of the text, the pieces that a limit leaves are these, over every cutting.
