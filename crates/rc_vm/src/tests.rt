@@ -132,11 +132,10 @@ fn settings_of_the_program(rt: HostRuntime) -> Result<(), Fail> {
     let leftmost = Config::new().match_kind(MatchKind::LeftmostFirst);
     let vm = builder.configure(leftmost).build_many(alloc, &["ab", "b"])?;
     cache.reset(&vm)?;
-    let mut slots = [None, None, None, None];
-    let mut input = Input::new("cb");
-    let found = search_slots(&vm, &mut cache, &mut input, &mut slots);
-    assert_eq!(rt; found, PatternID::new(1));
-    assert_eq!(rt; slots, [None, None, Some(1), Some(2)]);
+    let mut caps = Captures::all(alloc, vm.get_group_info())?;
+    search(&vm, &mut cache, &mut Input::new("cb"), &mut caps);
+    assert!(rt; caps.pattern() == PatternID::new(1));
+    assert!(rt; parts(caps.get_match()) == Some((1, 2)));
     Ok(())
 }
 
@@ -285,12 +284,20 @@ fn lists_the_greatest_matches(rt: HostRuntime) -> Result<(), Fail> {
     assert!(rt; found.as_slice() == [(2, 3)].as_slice());
     cache.reset(&vm)?;
     assert!(rt; !is_match(&vm, &mut cache, &mut Input::new("bb")));
+    Ok(())
+}
+
+#[test]
+fn finds_the_least_of_greatest_patterns(rt: HostRuntime) -> Result<(), Fail> {
+    let alloc = rt.alloc();
+    let mut builder = PikeVM::builder();
+    builder.configure(Config::new().match_kind(MatchKind::All));
     let vm = builder.build_many(alloc, &["b", "ab", "a?b"])?;
-    cache.reset(&vm)?;
-    let mut slots = [None, None, None, None];
-    let found = search_slots(&vm, &mut cache, &mut Input::new("xab"), &mut slots);
-    assert_eq!(rt; found, PatternID::new(1));
-    assert_eq!(rt; slots, [None, None, Some(1), Some(3)]);
+    let mut cache = vm.create_cache(alloc)?;
+    let mut caps = Captures::all(alloc, vm.get_group_info())?;
+    search(&vm, &mut cache, &mut Input::new("xab"), &mut caps);
+    assert!(rt; caps.pattern() == PatternID::new(1));
+    assert!(rt; parts(caps.get_match()) == Some((1, 3)));
     Ok(())
 }
 
