@@ -1,40 +1,59 @@
 -- A search over rising starts.
-use Rattle.std.proofs.Common.{◌≡◌, ℕ, zero, suc, ◌+◌, ◌-◌, ◌<◌, ◌≤◌, List, [], ◌∷◌, length, true, Option, Some, None, IfSome, sym, ap, subst, ◌∙◌, refl, arith, inl, inr, slice_range, slice_index}
+use Rattle.std.proofs.Common.{◌≡◌, ℕ, zero, suc, ◌+◌, ◌-◌, ◌<◌, ◌≤◌, List, [], ◌∷◌, length, true, Option, Some, None, IfSome, sym, ap, subst, ◌∙◌, refl, arith, inl, inr, slice_range, slice_index, drop, length-drop}
 use Rattle.std.proofs.lemmas.Bool.{cases_lt, cases_Bool}
+use Rattle.std.proofs.lemmas.List.{get_or-drop}
 use Rattle.std.proofs.lemmas.Option.{none-some, same_Some}
 use Rattle.rc_text.proofs.Ranges.{get_or-slice_range}
 use Rattle.rc_text.specs.Text.{Searched, Keeps, low}
 use Rattle.rc_literal.specs.declared.hit.Hit.{Hit}
 use Rattle.rc_literal.specs.Needles.{stands_within, first_from, needle_at, by_starts, find_needle, prefix_needle}
+use Rattle.rc_literal.specs.declared.scan.Scan.{Scan}
+use Rattle.rc_literal.specs.declared.scan.Scan.TheVariants.{Needle, One, Two, Three, Many}
+use Rattle.rc_literal.specs.Scans.{IsScanOf}
 use Rattle.rc_literal.specs.Tables.{numbered, Agrees, IsRuledOut, AreSome}
 use Rattle.rc_literal.proofs.StandLemmas.{stands_parts, false_if_not, none_from}
 
--- a needle that stands agrees with the piece there
-stands_agrees : (content piece needle : List ℕ) (hi p k : ℕ) → piece ≡ slice_range content p (p + length piece) →
-    stands_within content hi (p + k) needle ≡ true → Agrees piece needle k
-stands_agrees content piece needle hi p k is e j l m =
+-- a needle that stands agrees, from the offset on, with the piece there
+stands_agrees : (content piece needle : List ℕ) (hi offset p k : ℕ) → piece ≡ slice_range content (p + offset) (p + offset + length piece) →
+    stands_within content hi (p + k) needle ≡ true → Agrees piece (drop offset needle) k
+stands_agrees content piece needle hi offset p k is e j l m =
     let same = (stands_parts content hi (p + k) needle e).1 in
-    let n : p + (k + j) ≡ p + k + j = omega arith in
-    let left : slice_index piece (k + j) ≡ slice_index content (p + (k + j)) =
-    ap (λ xs. slice_index xs (k + j)) is ∙ get_or-slice_range content p (p + length piece) (k + j) 0 (omega (arith, m)) in
-    let right : slice_index (slice_range content (p + k) (p + k + length needle)) j ≡ slice_index content (p + k + j) =
-    get_or-slice_range content (p + k) (p + k + length needle) j 0 (omega (arith, l)) in
-    left ∙ ap (slice_index content) n ∙ sym right ∙ ap (λ xs. slice_index xs j) same
+    let long : offset + j < length needle = let d = length-drop offset needle in omega (arith, l, d) in
+    let n : p + offset + (k + j) ≡ p + k + (offset + j) = omega arith in
+    let left : slice_index piece (k + j) ≡ slice_index content (p + offset + (k + j)) =
+    ap (λ xs. slice_index xs (k + j)) is ∙ get_or-slice_range content (p + offset) (p + offset + length piece) (k + j) 0 (omega (arith, m)) in
+    let right : slice_index (slice_range content (p + k) (p + k + length needle)) (offset + j) ≡ slice_index content (p + k + (offset + j)) =
+    get_or-slice_range content (p + k) (p + k + length needle) (offset + j) 0 (omega (arith, long)) in
+    left ∙ ap (slice_index content) n ∙ sym right ∙ ap (λ xs. slice_index xs (offset + j)) same ∙ sym (get_or-drop offset needle j 0)
 
--- where it can't stand in a piece, it doesn't stand in the content
-pub none_ruled_out : (needles : List (List ℕ)) (content piece : List ℕ) (hi p k : ℕ) → piece ≡ slice_range content p (p + length piece) →
-    IsRuledOut needles piece k → needle_at needles content hi (p + k) ≡ None
-none_ruled_out needles content piece hi p k is out =
+-- where it can't stand by a piece, it doesn't stand in the content
+pub none_ruled_out : (needles : List (List ℕ)) (content piece : List ℕ) (hi offset p k : ℕ) →
+    piece ≡ slice_range content (p + offset) (p + offset + length piece) →
+    IsRuledOut needles offset piece k → needle_at needles content hi (p + k) ≡ None
+none_ruled_out needles content piece hi offset p k is out =
     none_from needles content hi (p + k) 0
     (λ n l. false_if_not (stands_within content hi (p + k) (numbered needles n))
-    (λ e. out n l (stands_agrees content piece (numbered needles n) hi p k is e)))
+    (λ e. out n l (stands_agrees content piece (numbered needles n) hi offset p k is e)))
 
--- no needle stands at the end
-pub none_past : (needles : List (List ℕ)) (content : List ℕ) (hi i : ℕ) → AreSome needles → hi ≤ i → needle_at needles content hi i ≡ None
-none_past needles content hi i some past =
+-- each needle goes on behind the offset
+abbrev pub ArePast : List (List ℕ) → ℕ → Type 0
+ArePast needles offset = (k : ℕ) → k < length needles → offset < length (numbered needles k)
+
+pub are_past : (needles : List (List ℕ)) (offset : ℕ) (scan : Scan) → AreSome needles → IsScanOf needles offset scan → ArePast needles offset
+are_past needles offset (Needle whole pair) some is k l =
+    let zero : 0 ≡ k = let one = is.0 in omega (arith, l, one) in subst (λ n. offset < length (numbered needles n)) zero is.1
+are_past needles offset (One a) some is k l = let long = some k l in let zero = is.0 in omega (arith, long, zero)
+are_past needles offset (Two a b) some is k l = let long = some k l in let zero = is.0 in omega (arith, long, zero)
+are_past needles offset (Three a b c) some is k l = let long = some k l in let zero = is.0 in omega (arith, long, zero)
+are_past needles offset Many some is k l = let long = some k l in omega (arith, long, is)
+
+-- no needle stands whose offset is at the end
+pub none_past : (needles : List (List ℕ)) (content : List ℕ) (hi offset i : ℕ) → ArePast needles offset → hi ≤ i + offset →
+    needle_at needles content hi i ≡ None
+none_past needles content hi offset i longer past =
     none_from needles content hi i 0
     (λ n l. false_if_not (stands_within content hi i (numbered needles n))
-    (λ e. let le = (stands_parts content hi i (numbered needles n) e).0 in let long = some n l in omega (arith, le, long, past)))
+    (λ e. let le = (stands_parts content hi i (numbered needles n) e).0 in let long = longer n l in omega (arith, le, long, past)))
 
 -- no start gives one
 pub by_none : (gives : ℕ → Option Hit) (n i : ℕ) → ((y : ℕ) → i ≤ y → y < i + n → gives y ≡ None) → by_starts gives n i ≡ None
@@ -64,12 +83,12 @@ unfolding find_needle
 first_found needles content lo hi x hit low high h e =
     sym (by_first (needle_at needles content hi) (hi + 1 - lo) lo x hit low (omega (arith, low, high)) h (sym e))
 
-pub none_found : (needles : List (List ℕ)) (content : List ℕ) (lo hi x : ℕ) → AreSome needles → hi ≤ x →
+pub none_found : (needles : List (List ℕ)) (content : List ℕ) (lo hi offset x : ℕ) → ArePast needles offset → hi ≤ x + offset →
     ((y : ℕ) → lo ≤ y → y < x → needle_at needles content hi y ≡ None) → None ≡ find_needle needles content lo hi
 unfolding find_needle
-none_found needles content lo hi x some past h =
+none_found needles content lo hi offset x longer past h =
     sym (by_none (needle_at needles content hi) (hi + 1 - lo) lo
-    (λ y a b. elim (cases_lt y x) [ inl l ↦ h y a l | inr g ↦ none_past needles content hi y some (omega (arith, g, past)) ]))
+    (λ y a b. elim (cases_lt y x) [ inl l ↦ h y a l | inr g ↦ none_past needles content hi offset y longer (omega (arith, g, past)) ]))
 
 pub prefix_is : (needles : List (List ℕ)) (content : List ℕ) (lo hi : ℕ) → needle_at needles content hi lo ≡ prefix_needle needles content lo hi
 unfolding prefix_needle
@@ -106,15 +125,16 @@ abbrev pub NoneBefore : List (List ℕ) → List ℕ → ℕ → ℕ → ℕ →
 NoneBefore needles content hi lo x = (i : ℕ) → lo ≤ i → i < x → needle_at needles content hi i ≡ None
 
 -- the places of a piece that are ruled out
-pub more_passed : (needles : List (List ℕ)) (content piece : List ℕ) (lo hi at passed : ℕ) → NoneBefore needles content hi lo at →
-    piece ≡ slice_range content at (at + length piece) → ((k : ℕ) → k < passed → IsRuledOut needles piece k) →
-    NoneBefore needles content hi lo (at + passed)
-more_passed needles content piece lo hi at passed before is out i low high =
+pub more_passed : (needles : List (List ℕ)) (content piece : List ℕ) (lo hi offset at passed : ℕ) → NoneBefore needles content hi lo at →
+    piece ≡ slice_range content (at + offset) (at + offset + length piece) →
+    ((k : ℕ) → k < passed → IsRuledOut needles offset piece k) → NoneBefore needles content hi lo (at + passed)
+more_passed needles content piece lo hi offset at passed before is out i low high =
     elim (cases_lt i at) [
       | inl l ↦ before i low l
       | inr g ↦
           let e : at + (i - at) ≡ i = omega (arith, g) in
-          subst (λ j. needle_at needles content hi j ≡ None) e (none_ruled_out needles content piece hi at (i - at) is (out (i - at) (omega (arith, g, high))))
+          subst (λ j. needle_at needles content hi j ≡ None) e
+          (none_ruled_out needles content piece hi offset at (i - at) is (out (i - at) (omega (arith, g, high))))
     ]
 
 -- and one more

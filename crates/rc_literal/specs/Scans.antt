@@ -1,5 +1,5 @@
 -- What a piece of a chunk is searched for.
-use Rattle.std.specs.Prelude.{◌≡◌, ℕ, ◌<◌, Bool, true, List, length}
+use Rattle.std.specs.Prelude.{◌≡◌, ℕ, ◌<◌, Bool, true, List, length, take, drop}
 use denote.Struct.Props.{props}
 use Rattle.memchr.specs.Find.{is_byte, is_byte2, is_byte3}
 use Rattle.rc_literal.specs.Tables.{numbered, Begins}
@@ -10,18 +10,24 @@ use Rattle.rc_literal.specs.declared.scan.Scan.TheVariants.{Needle, One, Two, Th
 abbrev pub AllBegin : List (List ℕ) → (ℕ → Bool) → Type 0
 AllBegin needles test = (k b : ℕ) → k < length needles → b < 256 → Begins (numbered needles k) b → test b ≡ true
 
--- the search misses none of the needles
-abbrev pub IsScanOf : List (List ℕ) → Scan → Type 0
-IsScanOf needles (Needle finder) = (length needles ≡ 1) × (finder ≡ numbered needles 0)
-IsScanOf needles (One a) = AllBegin needles (is_byte a)
-IsScanOf needles (Two a b) = AllBegin needles (is_byte2 a b)
-IsScanOf needles (Three a b c) = AllBegin needles (is_byte3 a b c)
-IsScanOf needles Many = Unit {0}
+-- the finders seek these bytes, and a beginning of them
+abbrev pub IsPartScan : List ℕ → Scan → Type 0
+IsPartScan rest (Needle whole pair) = (whole ≡ rest) × (0 < length pair) × (pair ≡ take (length pair) whole)
+IsPartScan rest _ = ⊥
+
+-- the search misses none of the needles, each of which starts the offset before what it finds
+abbrev pub IsScanOf : List (List ℕ) → ℕ → Scan → Type 0
+IsScanOf needles offset (Needle whole pair) =
+    (length needles ≡ 1) × (offset < length (numbered needles 0)) × IsPartScan (drop offset (numbered needles 0)) (Needle whole pair)
+IsScanOf needles offset (One a) = (offset ≡ 0) × AllBegin needles (is_byte a)
+IsScanOf needles offset (Two a b) = (offset ≡ 0) × AllBegin needles (is_byte2 a b)
+IsScanOf needles offset (Three a b c) = (offset ≡ 0) × AllBegin needles (is_byte3 a b c)
+IsScanOf needles offset Many = offset ≡ 0
 
 -- it is a fact
-pub IsScanOf-is_fact : (needles : List (List ℕ)) (scan : Scan) → IsProp (IsScanOf needles scan)
-IsScanOf-is_fact needles (Needle finder) = hlevel props
-IsScanOf-is_fact needles (One a) = hlevel props
-IsScanOf-is_fact needles (Two a b) = hlevel props
-IsScanOf-is_fact needles (Three a b c) = hlevel props
-IsScanOf-is_fact needles Many = hlevel props
+pub IsScanOf-is_fact : (needles : List (List ℕ)) (offset : ℕ) (scan : Scan) → IsProp (IsScanOf needles offset scan)
+IsScanOf-is_fact needles offset (Needle whole pair) = hlevel props
+IsScanOf-is_fact needles offset (One a) = hlevel props
+IsScanOf-is_fact needles offset (Two a b) = hlevel props
+IsScanOf-is_fact needles offset (Three a b c) = hlevel props
+IsScanOf-is_fact needles offset Many = hlevel props

@@ -1,5 +1,5 @@
 -- What a prefilter keeps of its needles.
-use Rattle.std.specs.Prelude.{◌≡◌, ℕ, ◌+◌, ◌<◌, ◌≤◌, List, [], length, map, Some, slice_get, slice_index, slice_index_or, Vec}
+use Rattle.std.specs.Prelude.{◌≡◌, ℕ, ◌+◌, ◌<◌, ◌≤◌, List, [], length, drop, map, Some, slice_get, slice_index, slice_index_or, Vec}
 
 -- the needles as lists
 abbrev pub needles_in : {Y : Type 0} → List (Vec ℕ Y) → List (List ℕ)
@@ -37,9 +37,9 @@ AreNexts needles from nexts =
 abbrev pub Agrees : List ℕ → List ℕ → ℕ → Type 0
 Agrees piece needle k = (i : ℕ) → i < length needle → k + i < length piece → slice_index piece (k + i) ≡ slice_index needle i
 
--- no needle can stand at the place k of a piece, however the content goes on
-abbrev pub IsRuledOut : List (List ℕ) → List ℕ → ℕ → Type 0
-IsRuledOut needles piece k = (n : ℕ) → n < length needles → ¬ Agrees piece (numbered needles n) k
+-- the place k of a piece belongs to no needle that starts the offset before it, however the content goes on
+abbrev pub IsRuledOut : List (List ℕ) → ℕ → List ℕ → ℕ → Type 0
+IsRuledOut needles offset piece k = (n : ℕ) → n < length needles → ¬ Agrees piece (drop offset (numbered needles n)) k
 
 -- there are needles, and none is empty
 abbrev pub IsUsable : List (List ℕ) → Type 0

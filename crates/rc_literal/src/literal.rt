@@ -76,9 +76,11 @@ pub fn find_from<C: Cursor>(
     ensures value { result ≡ find_needle (needles_of prefilter.now) input.old.content from end }
     ensures within { IfSome result (λ hit. (from ≤ hit.start) × (hit.start < hit.end) × (hit.end ≤ end)) }
 {
+    let offset = prefilter.searcher.offset;
+    let last = end.saturating_sub(offset);
     let mut at = from;
-    while at < end {
-        let piece = piece_from(input, at, end);
+    while at < last {
+        let piece = piece_from(input, at + offset, end);
         let len = piece.len();
         let passed = candidate(&prefilter.searcher, piece);
         at += passed;

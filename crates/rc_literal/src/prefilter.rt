@@ -54,7 +54,7 @@ impl Prefilter {
     /// Whether a search goes by a needle or by at most three bytes, and not by a table.
     pub fn is_fast(&self) -> bool {
         match &self.searcher.scan {
-            Scan::Needle(_) | Scan::One(_) | Scan::Two(_, _) | Scan::Three(_, _, _) => true,
+            Scan::Needle(_, _) | Scan::One(_) | Scan::Two(_, _) | Scan::Three(_, _, _) => true,
             Scan::Many => false,
         }
     }

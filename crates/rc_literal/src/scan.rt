@@ -1,19 +1,24 @@
 //! Where in a piece of a chunk a needle may stand.
-ghost use Rattle.std.specs.Prelude.{◌≡◌, ◌<◌, ◌≤◌, ℕ, IfOk, length, slice_index};
+ghost use Rattle.std.specs.Prelude.{◌≡◌, ◌+◌, ◌<◌, ◌≤◌, ℕ, IfOk, IsTrue, length, slice_index, take};
 ghost use Rattle.memchr.specs.Find.{IsFirst};
 ghost use Rattle.rc_literal.specs.Tables.{Agrees, AreSome, IsRuledOut, needles_in};
-ghost use Rattle.rc_literal.specs.Scans.{IsScanOf, IsScanOf-is_fact};
+ghost use Rattle.rc_literal.specs.Scans.{IsPartScan, IsScanOf, IsScanOf-is_fact};
 
 use crate::table::{Table, table_of};
+use memchr::arch::all::packedpair::Pair;
 use memchr::memmem::Finder;
 use memchr::{memchr, memchr2, memchr3};
 use std::alloc::{AllocError, Global};
 
+/// A piece of fewer bytes is searched for two bytes of a needle, and a longer one for all that
+/// follow them too.
+const LONG_PIECE: usize = 512;
+
 /// What a piece is searched for.
 #[derive(Drop)]
 pub enum Scan {
-    /// The only needle, and what of it may stand at the piece's end.
-    Needle(Finder<'static>),
+    /// The only needle from the offset on, and its first two bytes there.
+    Needle(Finder<'static>, Finder<'static>),
     /// The byte with which each needle begins.
     One(u8),
     /// The bytes with which needles begin.
@@ -24,12 +29,14 @@ pub enum Scan {
     Many,
 }
 
-/// A table of needles, and how a piece is searched for them.
+/// A table of needles, how a piece is searched for them, and how many bytes behind a needle's start
+/// that stands which a piece is searched for.
 #[derive(Drop)]
 pub struct Searcher {
     pub table: Table,
     pub scan: Scan,
-    ghost is_scan: { IsScanOf (needles_in table.needles.items) scan } by { IsScanOf-is_fact (needles_in table.needles.items) scan },
+    pub offset: usize,
+    ghost is_scan: { IsScanOf (needles_in table.needles.items) offset scan } by { IsScanOf-is_fact (needles_in table.needles.items) offset scan },
 }
 
 /// A searcher of these needles.
@@ -38,24 +45,49 @@ pub fn searcher_of(alloc: Global, needles: Vec<Vec<u8>>) -> Result<Searcher, All
     ensures { IfOk result (λ s. s.table.needles ≡ needles) }
 {
     let table = table_of(alloc, needles)?;
-    let scan = scan_of(alloc, &table)?;
-    Ok(Searcher { table, scan })
+    if table.needles.len() == 1 {
+        let needle = table.needles[0].as_slice();
+        let offset = rare_offset(needle);
+        let scan = scan_for(alloc, &needle[offset..])?;
+        return Ok(Searcher {
+            table,
+            scan,
+            offset,
+        });
+    }
+    let scan = scan_by_bytes(&table);
+    Ok(Searcher {
+        table,
+        scan,
+        offset: 0,
+    })
 }
 
-/// The search for these needles.
-fn scan_of(alloc: Global, table: &Table) -> Result<Scan, AllocError>
-    ensures { IfOk result (IsScanOf (needles_in table.now.needles.items)) }
+/// Where in the needle its rarest byte stands, or the byte before it where that one is the last.
+fn rare_offset(needle: &[u8]) -> usize
+    requires { 0 < length needle.now }
+    ensures { result < length needle.now }
 {
-    if table.needles.len() == 1 {
-        let finder = Finder::new(table.needles[0].as_slice()).into_owned(alloc)?;
-        return Ok(Scan::Needle(finder));
+    let last = needle.len().saturating_sub(2);
+    match Pair::new(needle) {
+        Some(pair) => (pair.index1() as usize).min(last),
+        None => 0,
     }
-    Ok(scan_by_bytes(table))
+}
+
+/// The search for a needle from its offset on.
+fn scan_for(alloc: Global, rest: &[u8]) -> Result<Scan, AllocError>
+    requires { 0 < length rest.now }
+    ensures { IfOk result (IsPartScan rest.now) }
+{
+    let pair = Finder::new(&rest[..rest.len().min(2)]).into_owned(alloc)?;
+    let rest = Finder::new(rest).into_owned(alloc)?;
+    Ok(Scan::Needle(rest, pair))
 }
 
 /// The search for the bytes with which needles begin.
 fn scan_by_bytes(table: &Table) -> Scan
-    ensures { IsScanOf (needles_in table.now.needles.items) result }
+    ensures { IsScanOf (needles_in table.now.needles.items) 0 result }
 {
     let Some(one) = first_byte_from(table, 0) else {
         return Scan::Many;
@@ -85,36 +117,74 @@ fn first_byte_from(table: &Table, from: usize) -> Option<u8>
     None
 }
 
-/// The first place of the piece at which a needle may stand, or its length.
+/// The first place of the piece to which a needle may belong that starts the offset before it, or the
+/// piece's length.
 pub fn candidate(searcher: &Searcher, piece: &[u8]) -> usize
     ensures within { result ≤ length piece.now }
-    ensures passed { (k : ℕ) → k < result → IsRuledOut (needles_in searcher.now.table.needles.items) piece.now k }
+    ensures passed { (k : ℕ) → k < result
+        → IsRuledOut (needles_in searcher.now.table.needles.items) searcher.now.offset piece.now k }
 {
-    let table = &searcher.table;
     match &searcher.scan {
-        Scan::Needle(finder) => needle_candidate(finder, table.needles[0].as_slice(), piece),
+        Scan::Needle(rest, pair) => needle_candidate(rest, pair, piece),
         Scan::One(one) => memchr(*one, piece).unwrap_or(piece.len()),
         Scan::Two(one, two) => memchr2(*one, *two, piece).unwrap_or(piece.len()),
         Scan::Three(one, two, three) => memchr3(*one, *two, *three, piece).unwrap_or(piece.len()),
-        Scan::Many => head_candidate(table, piece),
+        Scan::Many => head_candidate(&searcher.table, piece),
     }
 }
 
-/// Where the needle stands in the piece, else where it may begin at its end.
-fn needle_candidate(finder: &Finder, needle: &[u8], piece: &[u8]) -> usize
-    requires is { finder.now ≡ needle.now }
-    requires some { 0 < length needle.now }
+/// Where the bytes stand in the piece, or may stand at its end.
+fn needle_candidate(rest: &Finder, pair: &Finder, piece: &[u8]) -> usize
+    requires some { 0 < length pair.now }
+    requires begins { pair.now ≡ take (length pair.now) rest.now }
     ensures within { result ≤ length piece.now }
-    ensures passed { (k : ℕ) → k < result → ¬ Agrees piece.now needle.now k }
+    ensures passed { (k : ℕ) → k < result → ¬ Agrees piece.now rest.now k }
+{
+    if piece.len() < LONG_PIECE {
+        return part_candidate(pair, piece);
+    }
+    part_candidate(rest, piece)
+}
+
+/// Where the finder's bytes stand in the piece, else where they may begin at its end.
+#[inline]
+fn part_candidate(finder: &Finder, piece: &[u8]) -> usize
+    requires some { 0 < length finder.now }
+    ensures within { result ≤ length piece.now }
+    ensures passed { (k : ℕ) → k < result → ¬ Agrees piece.now finder.now k }
 {
     if let Some(at) = finder.find(piece) {
         return at;
     }
-    let from = piece.len().saturating_sub(needle.len() - 1);
-    match memchr(needle[0], &piece[from..]) {
-        Some(at) => from + at,
-        None => piece.len(),
+    let part = finder.needle();
+    tail_candidate(part, piece, piece.len().saturating_sub(part.len() - 1))
+}
+
+/// The first place from `from` on from which the piece goes on as the part begins, or the piece's
+/// length.
+#[inline]
+fn tail_candidate(part: &[u8], piece: &[u8], from: usize) -> usize
+    requires within { from ≤ length piece.now }
+    requires short { length piece.now ≤ from + length part.now }
+    ensures within { result ≤ length piece.now }
+    ensures passed { (k : ℕ) → from ≤ k → k < result → ¬ Agrees piece.now part.now k }
+{
+    for at in from..piece.len() {
+        if goes_on(part, piece, at) {
+            return at;
+        }
     }
+    piece.len()
+}
+
+/// Whether the piece goes on from `at` to its end as the part begins.
+#[inline]
+fn goes_on(part: &[u8], piece: &[u8], at: usize) -> bool
+    requires within { at < length piece.now }
+    requires short { length piece.now ≤ at + length part.now }
+    ensures { Agrees piece.now part.now at → IsTrue result }
+{
+    piece[at] == part[0] && piece[at..] == part[..piece.len() - at]
 }
 
 /// The first place with a byte with which a needle begins.

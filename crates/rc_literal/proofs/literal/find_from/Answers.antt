@@ -1,7 +1,7 @@
 use Rattle.std.proofs.Common.{arith, ◌≡◌, ◌+◌, ◌<◌, ◌∙◌, refl, sym, ap, length, slice_range, Some, None}
 use Rattle.rc_literal.specs.Needles.{needle_at}
 use Rattle.rc_literal.specs.Prefilters.{needles_of}
-use Rattle.rc_literal.proofs.FindLemmas.{more_passed, one_more_start, first_found, none_found, needle_within, keeps_on, same_at}
+use Rattle.rc_literal.proofs.FindLemmas.{more_passed, one_more_start, first_found, none_found, are_past, needle_within, keeps_on, same_at}
 use Rattle.rc_literal.proofs.literal.find_from.Goals as goal
 
 pub needle_at-requires-clause-high : goal.needle_at-requires-clause-high
@@ -22,15 +22,16 @@ returns-in-Some-clause-value g c =
     let lo = c.args.from in
     let hi = c.args.end in
     let piece = c.piece_from-piece.result.now in
+    let offset = c.args.prefilter.now.searcher.offset in
     let same : c.loop-at.input.content ≡ content = c.loop-at.invariant.keeps.content in
-    let is : piece ≡ slice_range content c.loop-at.at (c.loop-at.at + length piece) = rw (← same) c.piece_from-piece.ensures.bytes in
+    let is : piece ≡ slice_range content (c.loop-at.at + offset) (c.loop-at.at + offset + length piece) = rw (← same) c.piece_from-piece.ensures.bytes in
     let x = c.loop-at.at + c.candidate-passed.result in
     let text : c.piece_from-piece.follows.lender-at-none.content ≡ content = c.piece_from-piece.follows.holds-at-none.content ∙ same in
     let here : Some c.in-Some.hit ≡ needle_at needles content hi x = sym c.in-Some.is ∙ c.needle_at.ensures.value
     ∙ same_at needles c.piece_from-piece.follows.lender-at-none.content content hi hi x x text refl refl in
     first_found needles content lo hi x c.in-Some.hit (omega (arith, c.loop-at.invariant.from))
     (omega (arith, c.if-passed-len.true, c.piece_from-piece.ensures.within, c.loop-at-test.true))
-    (more_passed needles content piece lo hi c.loop-at.at c.candidate-passed.result c.loop-at.invariant.none_before is c.candidate-passed.ensures.passed)
+    (more_passed needles content piece lo hi offset c.loop-at.at c.candidate-passed.result c.loop-at.invariant.none_before is c.candidate-passed.ensures.passed)
     here
 
 pub returns-in-Some-clause-within : goal.returns-in-Some-clause-within
@@ -47,8 +48,9 @@ loop-at-preserved-then-passed-len g c =
     let lo = c.args.from in
     let hi = c.args.end in
     let piece = c.piece_from-piece.result.now in
+    let offset = c.args.prefilter.now.searcher.offset in
     let same : c.loop-at.input.content ≡ content = c.loop-at.invariant.keeps.content in
-    let is : piece ≡ slice_range content c.loop-at.at (c.loop-at.at + length piece) = rw (← same) c.piece_from-piece.ensures.bytes in
+    let is : piece ≡ slice_range content (c.loop-at.at + offset) (c.loop-at.at + offset + length piece) = rw (← same) c.piece_from-piece.ensures.bytes in
     let x = c.loop-at.at + c.candidate-passed.result in
     let text : c.piece_from-piece.follows.lender-at-none.content ≡ content = c.piece_from-piece.follows.holds-at-none.content ∙ same in
     let here : None ≡ needle_at needles content hi x = sym c.in_default.is ∙ c.needle_at.ensures.value
@@ -58,27 +60,29 @@ loop-at-preserved-then-passed-len g c =
       keeps = keeps_on c.args.input.now c.piece_from-piece.follows.lender-at-none c.needle_at.new.input a c.needle_at.ensures.keeps;
       from = omega (arith, c.loop-at.invariant.from);
       none_before = one_more_start needles content lo hi x
-          (more_passed needles content piece lo hi c.loop-at.at c.candidate-passed.result c.loop-at.invariant.none_before is c.candidate-passed.ensures.passed)
+          (more_passed needles content piece lo hi offset c.loop-at.at c.candidate-passed.result c.loop-at.invariant.none_before is c.candidate-passed.ensures.passed)
           (sym here);
     }
 
 pub loop-at-smaller : goal.loop-at-smaller
 loop-at-smaller g c =
     let same = ap length c.loop-at.invariant.keeps.content in
+    let ahead : c.loop-at.at + c.args.prefilter.now.searcher.offset < c.args.end = omega (arith, c.loop-at-test.true) in
     let some : 0 < length c.piece_from-piece.result.now =
-    c.piece_from-piece.ensures.some c.loop-at-test.true (omega (arith, c.requires, same, c.loop-at-test.true)) in
+    c.piece_from-piece.ensures.some ahead (omega (arith, c.requires, same, ahead)) in
     omega (arith, some, c.if-passed-len.false, c.candidate-passed.ensures.within, c.loop-at-test.true)
 
 pub loop-at-preserved : goal.loop-at-preserved
 loop-at-preserved g c =
     let content = c.args.input.now.content in
     let piece = c.piece_from-piece.result.now in
+    let offset = c.args.prefilter.now.searcher.offset in
     let same : c.loop-at.input.content ≡ content = c.loop-at.invariant.keeps.content in
-    let is : piece ≡ slice_range content c.loop-at.at (c.loop-at.at + length piece) = rw (← same) c.piece_from-piece.ensures.bytes in
+    let is : piece ≡ slice_range content (c.loop-at.at + offset) (c.loop-at.at + offset + length piece) = rw (← same) c.piece_from-piece.ensures.bytes in
     record {
       keeps = keeps_on c.args.input.now c.loop-at.input c.piece_from-piece.follows.lender-at-none c.loop-at.invariant.keeps c.piece_from-piece.follows.holds-at-none;
       from = omega (arith, c.loop-at.invariant.from);
-      none_before = more_passed (needles_of c.args.prefilter.now) content piece c.args.from c.args.end c.loop-at.at c.candidate-passed.result
+      none_before = more_passed (needles_of c.args.prefilter.now) content piece c.args.from c.args.end offset c.loop-at.at c.candidate-passed.result
           c.loop-at.invariant.none_before is c.candidate-passed.ensures.passed;
     }
 
@@ -87,5 +91,8 @@ returns-clause-keeps g c = c.loop-at.invariant.keeps
 
 pub returns-clause-value : goal.returns-clause-value
 returns-clause-value g c =
-    none_found (needles_of c.args.prefilter.now) c.args.input.now.content c.args.from c.args.end c.loop-at.at
-    c.args.prefilter.now.searcher.table.some (omega (arith, c.loop-at-test.false)) c.loop-at.invariant.none_before
+    let searcher = c.args.prefilter.now.searcher in
+    let needles = needles_of c.args.prefilter.now in
+    none_found needles c.args.input.now.content c.args.from c.args.end searcher.offset c.loop-at.at
+    (are_past needles searcher.offset searcher.scan searcher.table.some searcher.is_scan) (omega (arith, c.loop-at-test.false))
+    c.loop-at.invariant.none_before

@@ -30,6 +30,6 @@ pub returns-clause-value : goal.returns-clause-value
 returns-clause-value g c =
     let needles = needles_of c.args.prefilter.now in
     let lo : c.low-at.result ≡ low c.args.input.now = c.low-at.ensures ∙ same_low c.args.input.now c.high-end.new.input c.high-end.ensures.keeps in
-    sym (none_past needles c.args.input.now.content (high c.args.input.now) (low c.args.input.now) c.args.prefilter.now.searcher.table.some
+    sym (none_past needles c.args.input.now.content (high c.args.input.now) 0 (low c.args.input.now) c.args.prefilter.now.searcher.table.some
     (omega (arith, lo, c.high-end.ensures.value)))
     ∙ prefix_is needles c.args.input.now.content (low c.args.input.now) (high c.args.input.now)
