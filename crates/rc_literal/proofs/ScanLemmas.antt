@@ -1,12 +1,13 @@
 -- Places of a piece where no needle can stand.
-use Rattle.std.proofs.Common.{◌≡◌, ℕ, ◌+◌, ◌-◌, ◌<◌, ◌≤◌, ◌⊎◌, List, length, take, drop, Bool, Option, Some, None, sym, ap, ◌∙◌, arith, inl, inr, slice_index, zero-le, length-drop, subst}
+use Rattle.std.proofs.Common.{◌≡◌, ℕ, ◌+◌, ◌-◌, ◌<◌, ◌≤◌, ◌⊎◌, List, length, take, drop, Bool, Option, Some, None, sym, ap, ◌∙◌, arith, inl, inr, slice_index, zero-le, length-take, length-drop, subst}
 use Rattle.std.proofs.lemmas.Bool.{cases_lt}
 use Rattle.std.proofs.lemmas.Bool.Decides.{nat_tests}
-use Rattle.std.proofs.lemmas.Grind.{same_number_lists}
-use Rattle.std.proofs.lemmas.List.{get_or-drop, get_or-take, length-take, length-take-le}
+use Rattle.std.proofs.lemmas.List.{get_or-drop, get_or-take}
 use Rattle.std.proofs.lemmas.Option.{slice_get-get_or}
 use Rattle.std.specs.Option.{unwrap_or}
 use Rattle.memchr.specs.Find.{Nowhere, Passes, OccursAt, IsFirstByte, is_byte, is_byte2, is_byte3}
+use Rattle.memchr.specs.declared.arch.all.packedpair.Finder.{Finder}
+use Rattle.rc_literal.specs.Pairs.{IsPairAhead, HasBegun}
 use Rattle.rc_literal.specs.Tables.{numbered, Begins, Agrees, IsRuledOut, AreSome, AreHeads}
 use Rattle.rc_literal.specs.Scans.{AllBegin}
 
@@ -56,15 +57,36 @@ ruled_out_by_part needles offset rest piece k one is never n l agrees =
     let zero : n ≡ 0 = omega (arith, l, one) in
     never (subst (λ w. Agrees piece w k) (sym is) (subst (λ m. Agrees piece (drop offset (numbered needles m)) k) zero agrees))
 
--- what agrees with all bytes agrees with a beginning of them
-pub agrees_begin : (piece whole part : List ℕ) (k : ℕ) → part ≡ take (length part) whole → Agrees piece whole k → Agrees piece part k
-agrees_begin piece whole part k is agrees i l m =
-    let long : length part ≤ length whole = let e = ap length is ∙ length-take (length part) whole in omega (arith, e) in
-    agrees i (omega (arith, l, long)) m ∙ sym (ap (λ xs. slice_index xs i) is ∙ get_or-take (length part) whole i 0 l)
+-- where all bytes agree, the first two of them have begun
+pub begun : (f : Finder) (piece rest : List ℕ) (k : ℕ) → 2 ≤ length rest → IsPairAhead f rest → k < length piece → Agrees piece rest k →
+    HasBegun f piece k
+begun f piece rest k long ahead within agrees =
+    let z : k + 0 ≡ k = omega arith in
+    record {
+      first = ap (slice_index piece) (sym z) ∙ agrees 0 (omega (arith, long)) (omega (arith, within))
+          ∙ sym (ahead.finder.byte1 ∙ ap (slice_index rest) ahead.side_by_side.first);
+      second = λ l. agrees 1 (omega (arith, long)) l ∙ sym (ahead.finder.byte2 ∙ ap (slice_index rest) ahead.side_by_side.second);
+    }
+
+-- a pair ahead is one of two bytes at least
+pub ahead_long : (f : Finder) (rest : List ℕ) → IsPairAhead f rest → 2 ≤ length rest
+ahead_long f rest ahead = let a = ahead.side_by_side.second in let b = ahead.finder.pair.second in omega (arith, a, b)
 
 -- where the needle would stand in the piece
 pub no_whole : (piece needle : List ℕ) (k : ℕ) → ¬ OccursAt piece needle k → k + length needle ≤ length piece → ¬ Agrees piece needle k
 no_whole piece needle k never fits agrees = never (record { fits = fits; reads = λ j l. agrees j l (omega (arith, l, fits)) })
+
+-- where its first byte doesn't stand at the piece's end
+pub no_tail : (piece needle : List ℕ) (from to k : ℕ) → 0 < length needle →
+    Nowhere (Passes (is_byte (slice_index needle 0)) (take (length piece - from) (drop from piece))) 0 to →
+    from ≤ k → k < from + to → k < length piece → ¬ Agrees piece needle k
+no_tail piece needle from to k some none low high within agrees =
+    let z : k + 0 ≡ k = omega arith in
+    let e : slice_index piece k ≡ slice_index needle 0 = ap (slice_index piece) (sym z) ∙ agrees 0 some (omega (arith, within)) in
+    let at : from + (k - from) ≡ k = omega arith in
+    let read : slice_index (take (length piece - from) (drop from piece)) (k - from) ≡ slice_index piece k =
+    get_or-take (length piece - from) (drop from piece) (k - from) 0 (omega (arith, within, low)) ∙ get_or-drop from piece (k - from) 0 ∙ ap (slice_index piece) at in
+    none (k - from) zero-le (omega (arith, low, high)) (let same : slice_index (take (length piece - from) (drop from piece)) (k - from) ≡ slice_index needle 0 = read ∙ e in grind (arith, nat_tests))
 
 -- a byte with which a needle begins has a head
 pub head_of : (needles : List (List ℕ)) (heads : List ℕ) (k b : ℕ) → AreHeads needles 0 heads → k < length needles → b < 256 →
@@ -74,6 +96,9 @@ head_of needles heads k b headed l small begins =
       | inl h ↦ absurd ((headed b small).none_between k zero-le h begins)
       | inr h ↦ omega (arith, l, h)
     ]
+
+pub tail_length : (piece : List ℕ) (from : ℕ) → length (take (length piece - from) (drop from piece)) ≡ length piece - from
+tail_length piece from = simp (length-take, length-drop) (omega arith)
 
 -- what holds at b, and at no place from one on up to another, holds at that or later
 pub not_skipped : (P : ℕ → Type 0) (from at b : ℕ) → Nowhere P from at → P b → from ≤ b → (b ≡ at) ⊎ (at + 1 ≤ b)
@@ -123,16 +148,3 @@ three_begin needles heads count a c d same headed none second third last k b l s
         ]
       ]
     ]
-
--- where the needle agrees, the piece goes on to its end as the needle begins
-pub same_tail : (piece needle : List ℕ) (at : ℕ) → at < length piece → length piece ≤ at + length needle → Agrees piece needle at →
-    take (length piece - at) (drop at piece) ≡ take (length piece - at) needle
-same_tail piece needle at within short agrees =
-    let n = length piece - at in
-    let d : length (drop at piece) ≡ n = length-drop at piece in
-    let a : length (take n (drop at piece)) ≡ n = length-take-le n (drop at piece) (omega (arith, d)) in
-    let b : length (take n needle) ≡ n = length-take-le n needle (omega (arith, short)) in
-    same_number_lists (take n (drop at piece)) (take n needle) (a ∙ sym b)
-    (λ k l. let low : k < n = omega (arith, l, a) in
-      get_or-take n (drop at piece) k 0 low ∙ get_or-drop at piece k 0
-      ∙ agrees k (omega (arith, short, low)) (omega (arith, low)) ∙ sym (get_or-take n needle k 0 low))

@@ -1,7 +1,8 @@
 -- What a piece of a chunk is searched for.
-use Rattle.std.specs.Prelude.{◌≡◌, ℕ, ◌<◌, Bool, true, List, length, take, drop}
+use Rattle.std.specs.Prelude.{◌≡◌, ℕ, ◌<◌, Bool, true, List, length, drop}
 use denote.Struct.Props.{props}
 use Rattle.memchr.specs.Find.{is_byte, is_byte2, is_byte3}
+use Rattle.rc_literal.specs.Pairs.{IsPairAhead}
 use Rattle.rc_literal.specs.Tables.{numbered, Begins}
 use Rattle.rc_literal.specs.declared.scan.Scan.{Scan}
 use Rattle.rc_literal.specs.declared.scan.Scan.TheVariants.{Needle, One, Two, Three, Many}
@@ -10,9 +11,9 @@ use Rattle.rc_literal.specs.declared.scan.Scan.TheVariants.{Needle, One, Two, Th
 abbrev pub AllBegin : List (List ℕ) → (ℕ → Bool) → Type 0
 AllBegin needles test = (k b : ℕ) → k < length needles → b < 256 → Begins (numbered needles k) b → test b ≡ true
 
--- the finders seek these bytes, and a beginning of them
+-- the finders seek these bytes, and the first two of them
 abbrev pub IsPartScan : List ℕ → Scan → Type 0
-IsPartScan rest (Needle whole pair) = (whole ≡ rest) × (0 < length pair) × (pair ≡ take (length pair) whole)
+IsPartScan rest (Needle whole pair) = (whole ≡ rest) × IsPairAhead pair whole
 IsPartScan rest _ = ⊥
 
 -- the search misses none of the needles, each of which starts the offset before what it finds

@@ -1,16 +1,18 @@
 //! Where in a piece of a chunk a needle may stand.
-ghost use Rattle.std.specs.Prelude.{◌≡◌, ◌+◌, ◌<◌, ◌≤◌, ℕ, IfOk, IsTrue, length, slice_index, take};
+ghost use Rattle.std.specs.Prelude.{◌≡◌, ◌+◌, ◌<◌, ◌≤◌, ℕ, IfOk, length, slice_index};
 ghost use Rattle.memchr.specs.Find.{IsFirst};
+ghost use Rattle.rc_literal.specs.Pairs.{HasBegun, IsPairAhead, IsSideBySide};
 ghost use Rattle.rc_literal.specs.Tables.{Agrees, AreSome, IsRuledOut, needles_in};
 ghost use Rattle.rc_literal.specs.Scans.{IsPartScan, IsScanOf, IsScanOf-is_fact};
 
 use crate::table::{Table, table_of};
+use memchr::arch::all::packedpair;
 use memchr::arch::all::packedpair::Pair;
 use memchr::memmem::Finder;
 use memchr::{memchr, memchr2, memchr3};
 use std::alloc::{AllocError, Global};
 
-/// A piece of fewer bytes is searched for two bytes of a needle, and a longer one for all that
+/// A piece of fewer bytes is searched for two bytes of the only needle, and a longer one for all that
 /// follow them too.
 const LONG_PIECE: usize = 512;
 
@@ -18,7 +20,7 @@ const LONG_PIECE: usize = 512;
 #[derive(Drop)]
 pub enum Scan {
     /// The only needle from the offset on, and its first two bytes there.
-    Needle(Finder<'static>, Finder<'static>),
+    Needle(Finder<'static>, packedpair::Finder),
     /// The byte with which each needle begins.
     One(u8),
     /// The bytes with which needles begin.
@@ -45,7 +47,7 @@ pub fn searcher_of(alloc: Global, needles: Vec<Vec<u8>>) -> Result<Searcher, All
     ensures { IfOk result (λ s. s.table.needles ≡ needles) }
 {
     let table = table_of(alloc, needles)?;
-    if table.needles.len() == 1 {
+    if table.needles.len() == 1 && table.needles[0].len() > 1 {
         let needle = table.needles[0].as_slice();
         let offset = rare_offset(needle);
         let scan = scan_for(alloc, &needle[offset..])?;
@@ -65,24 +67,24 @@ pub fn searcher_of(alloc: Global, needles: Vec<Vec<u8>>) -> Result<Searcher, All
 
 /// Where in the needle its rarest byte stands, or the byte before it where that one is the last.
 fn rare_offset(needle: &[u8]) -> usize
-    requires { 0 < length needle.now }
-    ensures { result < length needle.now }
+    requires { 2 ≤ length needle.now }
+    ensures { result + 2 ≤ length needle.now }
 {
-    let last = needle.len().saturating_sub(2);
     match Pair::new(needle) {
-        Some(pair) => (pair.index1() as usize).min(last),
+        Some(pair) => (pair.index1() as usize).min(needle.len() - 2),
         None => 0,
     }
 }
 
 /// The search for a needle from its offset on.
 fn scan_for(alloc: Global, rest: &[u8]) -> Result<Scan, AllocError>
-    requires { 0 < length rest.now }
+    requires { 2 ≤ length rest.now }
     ensures { IfOk result (IsPartScan rest.now) }
 {
-    let pair = Finder::new(&rest[..rest.len().min(2)]).into_owned(alloc)?;
+    let pair = Pair::with_indices(rest, 0, 1).unwrap();
+    let finder = packedpair::Finder::with_pair(rest, pair);
     let rest = Finder::new(rest).into_owned(alloc)?;
-    Ok(Scan::Needle(rest, pair))
+    Ok(Scan::Needle(rest, finder))
 }
 
 /// The search for the bytes with which needles begin.
@@ -134,21 +136,38 @@ pub fn candidate(searcher: &Searcher, piece: &[u8]) -> usize
 }
 
 /// Where the bytes stand in the piece, or may stand at its end.
-fn needle_candidate(rest: &Finder, pair: &Finder, piece: &[u8]) -> usize
-    requires some { 0 < length pair.now }
-    requires begins { pair.now ≡ take (length pair.now) rest.now }
+fn needle_candidate(rest: &Finder, pair: &packedpair::Finder, piece: &[u8]) -> usize
+    requires { IsPairAhead pair.now rest.now }
     ensures within { result ≤ length piece.now }
     ensures passed { (k : ℕ) → k < result → ¬ Agrees piece.now rest.now k }
 {
     if piece.len() < LONG_PIECE {
-        return part_candidate(pair, piece);
+        return pair_candidate(rest.needle()[0], pair, piece);
     }
-    part_candidate(rest, piece)
+    rest_candidate(rest, piece)
+}
+
+/// Where the finder's two bytes stand in the piece, else its last byte where that is the first of
+/// them.
+#[inline]
+fn pair_candidate(first: u8, pair: &packedpair::Finder, piece: &[u8]) -> usize
+    requires side_by_side { IsSideBySide pair.now }
+    requires first { pair.now.byte1 ≡ first }
+    ensures within { result ≤ length piece.now }
+    ensures passed { (k : ℕ) → k < result → ¬ HasBegun pair.now piece.now k }
+{
+    if let Some(at) = pair.find_prefilter(piece) {
+        return at;
+    }
+    let len = piece.len();
+    if len > 0 && piece[len - 1] == first {
+        return len - 1;
+    }
+    len
 }
 
 /// Where the finder's bytes stand in the piece, else where they may begin at its end.
-#[inline]
-fn part_candidate(finder: &Finder, piece: &[u8]) -> usize
+fn rest_candidate(finder: &Finder, piece: &[u8]) -> usize
     requires some { 0 < length finder.now }
     ensures within { result ≤ length piece.now }
     ensures passed { (k : ℕ) → k < result → ¬ Agrees piece.now finder.now k }
@@ -156,35 +175,12 @@ fn part_candidate(finder: &Finder, piece: &[u8]) -> usize
     if let Some(at) = finder.find(piece) {
         return at;
     }
-    let part = finder.needle();
-    tail_candidate(part, piece, piece.len().saturating_sub(part.len() - 1))
-}
-
-/// The first place from `from` on from which the piece goes on as the part begins, or the piece's
-/// length.
-#[inline]
-fn tail_candidate(part: &[u8], piece: &[u8], from: usize) -> usize
-    requires within { from ≤ length piece.now }
-    requires short { length piece.now ≤ from + length part.now }
-    ensures within { result ≤ length piece.now }
-    ensures passed { (k : ℕ) → from ≤ k → k < result → ¬ Agrees piece.now part.now k }
-{
-    for at in from..piece.len() {
-        if goes_on(part, piece, at) {
-            return at;
-        }
+    let rest = finder.needle();
+    let from = piece.len().saturating_sub(rest.len() - 1);
+    match memchr(rest[0], &piece[from..]) {
+        Some(at) => from + at,
+        None => piece.len(),
     }
-    piece.len()
-}
-
-/// Whether the piece goes on from `at` to its end as the part begins.
-#[inline]
-fn goes_on(part: &[u8], piece: &[u8], at: usize) -> bool
-    requires within { at < length piece.now }
-    requires short { length piece.now ≤ at + length part.now }
-    ensures { Agrees piece.now part.now at → IsTrue result }
-{
-    piece[at] == part[0] && piece[at..] == part[..piece.len() - at]
 }
 
 /// The first place with a byte with which a needle begins.

@@ -88,6 +88,34 @@ fn a_false_start_before_a_border(rt: HostRuntime) -> Result<(), Fail> {
 }
 
 #[test]
+fn a_word_at_the_border_of_long_chunks(rt: HostRuntime) -> Result<(), Fail> {
+    let prefilter = of(rt.alloc(), &[b"terminator".as_slice()])?;
+    let mut text = vec![in rt.alloc(); b'm'; 700]?;
+    for byte in b"terminator" {
+        text.push(*byte)?;
+    }
+    for _ in 0..600 {
+        text.push(b't')?;
+    }
+    for cut in 699..712 {
+        if cut > text.len() {
+            return Err("there are 1,310 bytes".into());
+        }
+        let chunks: [&[u8]; 2] = [&text[..cut], &text[cut..]];
+        assert_eq!(rt;
+            found(&mut Input::new(ChunkCursor::new(&chunks)?), &prefilter),
+            Some((700, 710, 0))
+        );
+    }
+    let chunks = bytewise(rt.alloc(), &text)?;
+    assert_eq!(rt;
+        found(&mut Input::new(ChunkCursor::new(&chunks)?), &prefilter),
+        Some((700, 710, 0))
+    );
+    Ok(())
+}
+
+#[test]
 fn letters_cut_in_two(rt: HostRuntime) -> Result<(), Fail> {
     let prefilter = of(rt.alloc(), &[b"/".as_slice()])?;
     let chunks: [&[u8]; 3] = [b"\xCE", b"\xA3/\xE2\xB6", b"\xA0/"];

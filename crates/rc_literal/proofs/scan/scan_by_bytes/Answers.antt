@@ -6,20 +6,26 @@ use Rattle.rc_literal.proofs.scan.scan_by_bytes.Goals as goal
 
 pub returns-in_default-first_byte_from : goal.returns-in_default-first_byte_from
 returns-in_default-first_byte_from c =
-    let table = c.args.table.now in
-    (refl, one_begins (needles_in table.needles.items) table.heads.items (length table.needles.items) c.in-Some.one (sym (needle_count table.needles.items))
-    table.headed c.in-Some.ensures.0.before c.in_default-first_byte_from.ensures)
+    let table = c.args.table.now in (
+      refl,
+      one_begins (needles_in table.needles.items) table.heads.items (length table.needles.items) c.in-Some.one (sym (needle_count table.needles.items))
+          table.headed c.in-Some.ensures.0.before c.in_default-first_byte_from.ensures,
+    )
 
 pub returns-in_default-first_byte_from-2 : goal.returns-in_default-first_byte_from-2
 returns-in_default-first_byte_from-2 c =
-    let table = c.args.table.now in
-    (refl, two_begin (needles_in table.needles.items) table.heads.items (length table.needles.items) c.in-Some.one c.in-Some-first_byte_from.two
-    (sym (needle_count table.needles.items)) table.headed c.in-Some.ensures.0.before c.in-Some-first_byte_from.ensures.0.before
-    c.in_default-first_byte_from-2.ensures)
+    let table = c.args.table.now in (
+      refl,
+      two_begin (needles_in table.needles.items) table.heads.items (length table.needles.items) c.in-Some.one c.in-Some-first_byte_from.two
+          (sym (needle_count table.needles.items)) table.headed c.in-Some.ensures.0.before c.in-Some-first_byte_from.ensures.0.before
+          c.in_default-first_byte_from-2.ensures,
+    )
 
 pub returns-in-None : goal.returns-in-None
 returns-in-None c =
-    let table = c.args.table.now in
-    (refl, three_begin (needles_in table.needles.items) table.heads.items (length table.needles.items) c.in-Some.one c.in-Some-first_byte_from.two
-    c.in-Some-first_byte_from-2.three (sym (needle_count table.needles.items)) table.headed c.in-Some.ensures.0.before
-    c.in-Some-first_byte_from.ensures.0.before c.in-Some-first_byte_from-2.ensures.0.before c.in-None.ensures)
+    let table = c.args.table.now in (
+      refl,
+      three_begin (needles_in table.needles.items) table.heads.items (length table.needles.items) c.in-Some.one c.in-Some-first_byte_from.two
+          c.in-Some-first_byte_from-2.three (sym (needle_count table.needles.items)) table.headed c.in-Some.ensures.0.before
+          c.in-Some-first_byte_from.ensures.0.before c.in-Some-first_byte_from-2.ensures.0.before c.in-None.ensures,
+    )
