@@ -12,10 +12,11 @@ use std::fmt;
 
 /// A list of needles, none of them empty, made ready for searches.
 ///
-/// A search for one needle goes by the needle, and one for needles that begin with at most three
-/// bytes goes by these bytes. Where they begin with more, each byte of the content is looked up in a
-/// table. Where a needle may stand, those alone are compared that begin with the byte there: so the
-/// work for each byte grows with how many share a first byte, and not with how many there are.
+/// A search for one needle goes by two of its bytes that stand side by side, and in long chunks by
+/// those behind them too; one for needles that begin with at most three bytes goes by these bytes.
+/// Where they begin with more, each byte of the content is looked up in a table. Where a needle may
+/// stand, those alone are compared that begin with the byte there: so the work for each byte grows
+/// with how many share a first byte, and not with how many there are.
 #[derive(Drop)]
 pub struct Prefilter {
     pub searcher: Searcher,
