@@ -1,0 +1,2 @@
+//! The byte program of a program: each edge of it reads one byte.
+#![tactic(auto)]
