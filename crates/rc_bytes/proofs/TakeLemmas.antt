@@ -44,15 +44,15 @@ inside_parts a b d h = let p = and_parts (nat_le a d) (nat_le d b) h in (leb-tru
 pub inside_from : (a b d : ℕ) → a ≤ d → d ≤ b → inside a b d ≡ true
 inside_from a b d h k = and_from (nat_le a d) (nat_le d b) (le-leb a d h) (le-leb d b k)
 
-or_none : (x : Bool) → (x || false) ≡ true → x ≡ true
+pub or_none : (x : Bool) → (x || false) ≡ true → x ≡ true
 or_none x h = ⊎_elim (λ e. e) (λ e. absurd (true≢false (sym e))) (or_cases x false h)
 
-any_parts : (n d : ℕ) (ds : List ℕ) → takes_any (suc n) (d ∷ ds) ≡ true → (128 ≤ d) × (d ≤ 191) × (takes_any n ds ≡ true)
+pub any_parts : (n d : ℕ) (ds : List ℕ) → takes_any (suc n) (d ∷ ds) ≡ true → (128 ≤ d) × (d ≤ 191) × (takes_any n ds ≡ true)
 any_parts n d ds h =
     let p = and_parts (inside 128 191 d) (takes_any n ds) (or_none _ h) in
     let q = inside_parts 128 191 d p.0 in (q.0, q.1, p.1)
 
-any_from : (n d : ℕ) (ds : List ℕ) → 128 ≤ d → d ≤ 191 → takes_any n ds ≡ true → takes_any (suc n) (d ∷ ds) ≡ true
+pub any_from : (n d : ℕ) (ds : List ℕ) → 128 ≤ d → d ≤ 191 → takes_any n ds ≡ true → takes_any (suc n) (d ∷ ds) ≡ true
 any_from n d ds a b h = or_left _ false (and_from _ _ (inside_from 128 191 d a b) h)
 
 -- the number that n continuation bytes go on with

@@ -9,7 +9,8 @@ between a b r = if nat_le (max r.0 a) (min r.1 b) then (max r.0 a, min r.1 b) �
 
 -- the range in pieces: the scalars of one byte, of two, of three below the surrogates and above, of four
 abbrev pub pieces : Range → List Range
-pieces r = between 0 0x7F r ++ between 0x80 0x7FF r ++ between 0x800 0xD7FF r ++ between 0xE000 0xFFFF r ++ between 0x1_0000 0x10_FFFF r
+pieces r =
+    between 0 0x7F r ++ (between 0x80 0x7FF r ++ (between 0x800 0xD7FF r ++ (between 0xE000 0xFFFF r ++ between 0x1_0000 0x10_FFFF r)))
 
 abbrev pub all_pieces : List Range → List Range
 all_pieces [] = []
