@@ -1,2 +1,4 @@
 pub mod TakeLemmas
 pub mod ScalarLemmas
+pub mod AppendLemmas
+pub mod BlockLemmas

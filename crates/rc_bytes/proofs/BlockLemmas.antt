@@ -1,0 +1,170 @@
+-- The walks that lead through a block: those over its bytes, and to its next place.
+use Rattle.std.proofs.Common.{◌≡◌, ◌≢◌, ℕ, zero, suc, ◌+◌, ◌-◌, ◌<◌, ◌≤◌, ◌⊎◌, List, [], ◌∷◌, ◌++◌, length, map, take, drop, inl, inr, ⊎_elim, sym, subst, ap, ap₂, ◌∙◌, refl, arith, Bool, true, false, true≢false, IsTrue, Option, Some, None, ◌&&◌, ◌||◌, nat_le, nat_eq, if◌then◌else◌, append_assoc}
+use Rattle.std.specs.List.{AllByRecursion}
+use Rattle.std.proofs.lemmas.Bool.{cases_Bool, cases_eq, or_cases, or_parts, or_left, or_right, and_parts, and_cases, eq-eqb, ne_eqb}
+use Rattle.rc_walks.specs.Walks.{Pair, IsIn, IsWalk, stops, goes, IsFirstWalk, HasNoWalk}
+use Rattle.rc_walks.proofs.WalkLemmas.{drop_way, first_after, first_goes}
+use Rattle.rc_walks.proofs.CutLemmas.{loosen}
+use Rattle.rc_walks.proofs.StackLemmas.{no_ways, dead_if_tried}
+use Rattle.rc_walks.proofs.TryLemmas.{Finds, first_way}
+use Rattle.rc_walks.proofs.ThreadLemmas.{all_onward, Alike, first_alike, none_alike}
+use Rattle.rc_pattern.specs.Re.{Range}
+use Rattle.rc_program.specs.Text.{Text, holds, ahead}
+use Rattle.rc_program.specs.Program.{Place, choice, branch, place_at, ways, ways_out, over_byte, branch_ways, Way, reads, pair_at, is_match_place}
+use Rattle.rc_program.proofs.WayLemmas.{same_pair, no_way_from, ways_onward}
+use Rattle.rc_program.proofs.PartLemmas.{Stand, Stand-left, Stand-right}
+use Rattle.rc_bytes.specs.Bytes.{Ways, rest_of, tails, ways_from, block_from, ways_to, block_to, ways_within, block_within}
+use Rattle.rc_bytes.proofs.TakeLemmas.{inside, takes_any, takes_from, takes_to, takes_within}
+use Rattle.rc_bytes.proofs.AppendLemmas.{none_append, first_append, first_after_none}
+
+take_cons : (n : ℕ) (xs : List ℕ) (d : ℕ) (ds : List ℕ) → take n xs ≡ d ∷ ds →
+    (k : ℕ) × (x : ℕ) × (r : List ℕ) × (n ≡ suc k) × (xs ≡ x ∷ r) × (take k r ≡ ds)
+take_cons zero xs d ds e = absurd (cc)
+take_cons (suc n) [] d ds e = absurd (cc)
+take_cons (suc n) (x ∷ xs) d ds e = (n, x, xs, refl, refl, cc)
+
+drop_next : (xs : List ℕ) (y x : ℕ) (r : List ℕ) → drop y xs ≡ x ∷ r → drop (y + 1) xs ≡ r
+drop_next xs y x r e = let n : y + 1 ≡ suc y = omega arith in ap (λ k. drop k xs) n ∙ more xs y e
+  where
+    more : (xs : List ℕ) (y : ℕ) → drop y xs ≡ x ∷ r → drop (suc y) xs ≡ r
+    more [] zero e = absurd (cc)
+    more [] (suc y) e = absurd (cc)
+    more (z ∷ xs) zero e = cc
+    more (z ∷ xs) (suc y) e = more xs y e
+
+-- one byte further
+pub ahead_next : (t : Text) (hi y d : ℕ) (ds : List ℕ) → ahead t hi y ≡ d ∷ ds → ahead t hi (y + 1) ≡ ds
+ahead_next t hi y d ds e =
+    let r = take_cons (hi - y) (drop y t.content) d ds e in
+    let k : hi - (y + 1) ≡ r.0 = let h = r.3 in omega (arith, h) in
+    ap₂ (λ n (xs : List ℕ). take n xs) k (drop_next t.content y r.1 r.2 r.4) ∙ r.5
+
+no_branch : (only : Option ℕ) (ts : Ways) → is_match_place only (branch ts) ≡ false
+no_branch None ts = refl
+no_branch (Some p) ts = refl
+
+-- what the ways of a list over one byte lead to
+abbrev pub over : List ℕ → ℕ → Ways → List Pair
+over bs y ts = map (pair_at y) (over_byte (λ b. branch_ways b ts) bs)
+
+over_append : (d y : ℕ) (ts us : Ways) → map (pair_at y) (branch_ways d (ts ++ us)) ≡ map (pair_at y) (branch_ways d ts) ++ map (pair_at y) (branch_ways d us)
+over_append d y [] us = refl
+over_append d y (t ∷ ts) us = ⊎_elim (λ e. rw e (ap (λ f. (t.1, y + 1) ∷ f) (over_append d y ts us))) (λ e. rw e (over_append d y ts us))
+    (cases_Bool (inside t.0.0 t.0.1 d))
+
+module _ (prog : List Place) (t : Text) (hi : ℕ) (only : Option ℕ) (next z : ℕ) (o : Option (List Pair)) where
+  abbrev pub W : Pair → List Pair
+  W = ways prog t hi
+
+  abbrev pub E : Pair → Type 0
+  E n = IsTrue (is_match_place only (place_at prog n.0))
+
+  abbrev pub IsBranch : Pair → Type 0
+  IsBranch n = (ts : Ways) × (place_at prog n.0 ≡ branch ts)
+
+  abbrev pub AllBefore : ℕ → List Pair → Type 0
+  AllBefore y p = (k : Pair) → IsIn k p → k.1 < y
+
+  -- what is found by way of branches, where `o` is found from (next, z)
+  abbrev pub Via : Option (List Pair) → List Pair → List Pair → Type 0
+  Via None p f = HasNoWalk W E p f
+  Via (Some v) p f = (u : List Pair) × AllByRecursion IsBranch u × IsFirstWalk W E p f (u ++ v)
+
+  -- what the test `ok` tells of the walks that set out by f at position y: they lead to (next, z), if G, or nowhere
+  pub record Tells (G : Type 0) (f : List Pair) (y : ℕ) (ok : Bool) : Type 0 where
+    pub yes : ok ≡ true → G → (p : List Pair) → AllBefore y p → Via o p f
+    pub none : ok ≡ false → (p : List Pair) → AllBefore y p → HasNoWalk W E p f
+
+  last_pair : (n m : Pair) → E n → ¬ IsIn m (W n)
+  last_pair n m e = no_way_from only (λ l. holds t l n.1) (ahead t hi n.1) (place_at prog n.0) n.1 m e
+
+  pub tells_nothing : (G : Type 0) (y : ℕ) → Tells G [] y false
+  tells_nothing G y = record { yes = λ e. absurd (true≢false (sym e)); none = λ e p b v walk. no_ways W E walk }
+
+  pub tells_append : (G : Type 0) (f g : List Pair) (y : ℕ) (a b : Bool) → Tells G f y a → Tells G g y b → Tells G (f ++ g) y (a || b)
+  tells_append G f g y a b x w = record {
+    yes = λ e k p low. from o (cases_Bool a) (cases_Bool b) e k p low (λ h. x.yes h k p low) (λ h. x.none h p low) (λ h. w.yes h k p low) (λ h. w.none h p low);
+    none = λ e p low. let q = or_parts a b e in none_append W E p f g (x.none q.0 p low) (w.none q.1 p low);
+  }
+    where
+      from : (o : Option (List Pair)) → (a ≡ true) ⊎ (a ≡ false) → (b ≡ true) ⊎ (b ≡ false) → (a || b) ≡ true → G → (p : List Pair) → AllBefore y p →
+          (a ≡ true → Via o p f) → (a ≡ false → HasNoWalk W E p f) → (b ≡ true → Via o p g) → (b ≡ false → HasNoWalk W E p g) → Via o p (f ++ g)
+      from None ca cb e k p low fy fn gy gn = none_append W E p f g (⊎_elim fy fn ca) (⊎_elim gy gn cb)
+      from (Some v) ca cb e k p low fy fn gy gn =
+          ⊎_elim (λ h. let r = fy h in (r.0, r.1, first_append W E same_pair p f g (r.0 ++ v) r.2))
+          (λ h. let i : b ≡ true = ⊎_elim (λ q. absurd (true≢false (sym q ∙ h))) (λ q. q) (or_cases a b e) in
+          let r = gy i in (r.0, r.1, first_after_none W E p f g (r.0 ++ v) (fn h) r.2)) ca
+
+  -- one way of a branch, and the others
+  pub tells_way : (G : Type 0) (d y a b n : ℕ) (ts : Ways) (x w : Bool) → Tells G ((n, y + 1) ∷ []) (y + 1) x →
+      Tells G (over (d ∷ []) y ts) (y + 1) w → Tells G (over (d ∷ []) y (((a, b), n) ∷ ts)) (y + 1) ((inside a b d && x) || w)
+  tells_way G d y a b n ts x w one rest =
+      ⊎_elim (λ e. rw e (tells_append G ((n, y + 1) ∷ []) (over (d ∷ []) y ts) (y + 1) x w one rest)) (λ e. rw e rest)
+      (cases_Bool (inside a b d))
+
+  -- a place that branches
+  pub tells_place : (G : Type 0) (n y : ℕ) (bs : List ℕ) (ts : Ways) (ok : Bool) → place_at prog n ≡ branch ts → ahead t hi y ≡ bs →
+      Tells G (over bs y ts) (y + 1) ok → Tells G ((n, y) ∷ []) y ok
+  tells_place G n y bs ts ok is e x = record {
+    yes = λ h k p low. from o p low (x.yes h k ((n, y) ∷ p) (lower p low));
+    none = λ h p low v walk. dead_if_tried W E on (subst (λ f. HasNoWalk W E ((n, y) ∷ p) f) (sym out) (x.none h ((n, y) ∷ p) (lower p low))) walk;
+  }
+    where
+      out : W (n, y) ≡ over bs y ts
+      out = ap₂ (λ q xs. map (pair_at y) (ways_out (λ l. holds t l y) xs q)) is e
+
+      on : ¬ E (n, y)
+      on h = true≢false (sym h ∙ ap (is_match_place only) is ∙ no_branch only ts)
+
+      lower : (p : List Pair) → AllBefore y p → AllBefore (y + 1) ((n, y) ∷ p)
+      lower p low k i =
+          ⊎_elim (λ e. let f : y ≡ k.1 = ap (λ (q : Pair). q.1) e in omega (arith, f)) (λ j. let l = low k j in omega (arith, l)) i
+
+      from : (o : Option (List Pair)) → (p : List Pair) → AllBefore y p → Via o ((n, y) ∷ p) (over bs y ts) → Via o p ((n, y) ∷ [])
+      from None p low none = λ v walk. dead_if_tried W E on (subst (λ f. HasNoWalk W E ((n, y) ∷ p) f) (sym out) none) walk
+      from (Some v) p low r = (
+        (n, y) ∷ r.0,
+        ((ts, is), r.1),
+        first_goes W E same_pair last_pair (n, y) p [] (r.0 ++ v) (λ i. let l : y < y = low (n, y) i in omega (arith, l)) on
+            (subst (λ f. IsFirstWalk W E ((n, y) ∷ p) f (r.0 ++ v)) (sym out) r.2),
+      )
+
+  module _ (found : Finds W E [] ((next, z) ∷ []) o) where
+    -- the end of a block
+    pub tells_next : (e y : ℕ) → y ≡ e → Tells (e ≡ z) ((next, y) ∷ []) y true
+    tells_next e y is = record {
+      yes = λ h k p low. subst (λ x. Via o p ((next, x) ∷ [])) (sym (is ∙ k)) (from o found p (λ m i. let l = low m i in omega (arith, l, is, k)));
+      none = λ h. absurd (true≢false h);
+    }
+      where
+        alike : (p : List Pair) → AllBefore z p → Alike W E [] p ((next, z) ∷ [])
+        alike p low = record {
+          there = λ w b. loosen W E b p (λ k i j.
+              let x : z ≤ k.1 = all_onward W E (ways_onward prog t hi) z
+              (λ m q. ⊎_elim (λ e. let f : z ≡ m.1 = ap (λ (n : Pair). n.1) e in omega (arith, f)) (λ never. absurd never) q) b k i in
+              let l = low k j in omega (arith, x, l));
+          back = λ w b. loosen W E b [] (λ k i j. j);
+        }
+
+        from : (o : Option (List Pair)) → Finds W E [] ((next, z) ∷ []) o → (p : List Pair) → AllBefore z p → Via o p ((next, z) ∷ [])
+        from None none p low = none_alike W E [] p ((next, z) ∷ []) (alike p low) none
+        from (Some v) first p low = ([], tt, first_alike W E [] p ((next, z) ∷ []) v (alike p low) first)
+
+    module _ (tail : ℕ) (stands : Stand prog tail (tails tail next)) where
+      tail_at : (n : ℕ) → n < 3 → place_at prog (tail + (2 - n)) ≡ branch (((128, 191), rest_of tail next n) ∷ [])
+      tail_at zero h = let e : suc (suc tail) ≡ tail + 2 = omega arith in subst (λ k. place_at prog k ≡ branch (((128, 191), next) ∷ [])) e stands.1.1.0
+      tail_at (suc zero) h =
+          let e : suc tail ≡ tail + 1 = omega arith in subst (λ k. place_at prog k ≡ branch (((128, 191), tail + 2) ∷ [])) e stands.1.0
+      tail_at (suc (suc zero)) h =
+          let e : tail ≡ tail + 0 = omega arith in subst (λ k. place_at prog k ≡ branch (((128, 191), tail + 1) ∷ [])) e stands.0
+      tail_at (suc (suc (suc n))) h = absurd (omega arith)
+
+      pub tells_any : (e n y : ℕ) (bs : List ℕ) → n ≤ 3 → ahead t hi y ≡ bs → y + n ≡ e → Tells (e ≡ z) ((rest_of tail next n, y) ∷ []) y (takes_any n bs)
+      tells_any e zero y bs h at end = tells_next e y (omega (arith, end))
+      tells_any e (suc n) y [] h at end =
+          tells_place (e ≡ z) (tail + (2 - n)) y [] (((128, 191), rest_of tail next n) ∷ []) false (tail_at n (omega arith)) at (tells_nothing (e ≡ z) (y + 1))
+      tells_any e (suc n) y (d ∷ ds) h at end =
+          tells_place (e ≡ z) (tail + (2 - n)) y (d ∷ ds) (((128, 191), rest_of tail next n) ∷ []) _ (tail_at n (omega arith)) at
+          (tells_way (e ≡ z) d y 128 191 (rest_of tail next n) [] (takes_any n ds) false
+          (tells_any e n (y + 1) ds (omega arith) (ahead_next t hi y d ds at) (omega (arith, end)))
+          (tells_nothing (e ≡ z) (y + 1)))
