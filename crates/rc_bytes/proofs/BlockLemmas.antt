@@ -13,8 +13,10 @@ use Rattle.rc_program.specs.Text.{Text, holds, ahead}
 use Rattle.rc_program.specs.Program.{Place, choice, branch, place_at, ways, ways_out, over_byte, branch_ways, Way, reads, pair_at, is_match_place}
 use Rattle.rc_program.proofs.WayLemmas.{same_pair, no_way_from, ways_onward}
 use Rattle.rc_program.proofs.PartLemmas.{Stand, Stand-left, Stand-right}
-use Rattle.rc_bytes.specs.Bytes.{Ways, rest_of, tails, ways_from, block_from, ways_to, block_to, ways_within, block_within}
+use Rattle.rc_bytes.specs.Bytes.{Ways, rest_of, tails, ways_from, block_from, ways_to, block_to, ways_within, block_within, piece_ways, piece_block, class_ways, class_block}
 use Rattle.rc_bytes.proofs.TakeLemmas.{inside, takes_any, takes_from, takes_to, takes_within}
+use Rattle.std.specs.Char.{encode_utf8}
+use Rattle.rc_bytes.proofs.ScalarLemmas.{IsPiece, takes_piece, EachPiece}
 use Rattle.rc_bytes.proofs.AppendLemmas.{none_append, first_append, first_after_none}
 
 take_cons : (n : ℕ) (xs : List ℕ) (d : ℕ) (ds : List ℕ) → take n xs ≡ d ∷ ds →
@@ -51,6 +53,18 @@ over_append : (d y : ℕ) (ts us : Ways) → map (pair_at y) (branch_ways d (ts 
 over_append d y [] us = refl
 over_append d y (t ∷ ts) us = ⊎_elim (λ e. rw e (ap (λ f. (t.1, y + 1) ∷ f) (over_append d y ts us))) (λ e. rw e (over_append d y ts us))
     (cases_Bool (inside t.0.0 t.0.1 d))
+
+pub length-block_from : (tail next : ℕ) (xs : List ℕ) (start : ℕ) → length (block_from tail next xs start) ≡ length xs
+length-block_from tail next [] start = refl
+length-block_from tail next (a ∷ xs) start = ap suc (length-block_from tail next xs (start + 1))
+
+pub length-block_to : (tail next : ℕ) (xs : List ℕ) (start : ℕ) → length (block_to tail next xs start) ≡ length xs
+length-block_to tail next [] start = refl
+length-block_to tail next (a ∷ xs) start = ap suc (length-block_to tail next xs (start + 1))
+
+-- behind the first place
+stand_behind : (prog : List Place) (start : ℕ) (qs : List Place) → Stand prog (suc start) qs → Stand prog (start + 1) qs
+stand_behind prog start qs st = let e : suc start ≡ start + 1 = omega arith in subst (λ k. Stand prog k qs) e st
 
 module _ (prog : List Place) (t : Text) (hi : ℕ) (only : Option ℕ) (next z : ℕ) (o : Option (List Pair)) where
   abbrev pub W : Pair → List Pair
@@ -168,3 +182,86 @@ module _ (prog : List Place) (t : Text) (hi : ℕ) (only : Option ℕ) (next z :
           (tells_way (e ≡ z) d y 128 191 (rest_of tail next n) [] (takes_any n ds) false
           (tells_any e n (y + 1) ds (omega arith) (ahead_next t hi y d ds at) (omega (arith, end)))
           (tells_nothing (e ≡ z) (y + 1)))
+
+      tells_from : (e a : ℕ) (xs : List ℕ) (y start : ℕ) (bs : List ℕ) → length xs ≤ 3 → Stand prog start (block_from tail next xs start) →
+          ahead t hi y ≡ bs → y + suc (length xs) ≡ e → Tells (e ≡ z) (over bs y (ways_from tail next (a ∷ xs) start)) (y + 1) (takes_from (a ∷ xs) bs)
+      tells_from e a xs y start [] h st at end = tells_nothing (e ≡ z) (y + 1)
+      tells_from e a [] y start (d ∷ ds) h st at end =
+          tells_way (e ≡ z) d y a 191 next [] true false (tells_next e (y + 1) (omega (arith, end))) (tells_nothing (e ≡ z) (y + 1))
+      tells_from e a (c ∷ xs) y start (d ∷ ds) h st at end =
+          let on = ahead_next t hi y d ds at in
+          tells_way (e ≡ z) d y a a start (((a + 1, 191), rest_of tail next (length (c ∷ xs))) ∷ []) (takes_from (c ∷ xs) ds)
+          ((inside (a + 1) 191 d && takes_any (length (c ∷ xs)) ds) || false)
+          (tells_place (e ≡ z) start (y + 1) ds (ways_from tail next (c ∷ xs) (start + 1)) (takes_from (c ∷ xs) ds) st.0 on
+          (tells_from e c xs (y + 1) (start + 1) ds (omega (arith, h)) (stand_behind prog start (block_from tail next xs (start + 1)) st.1) on (omega (arith, end))))
+          (tells_way (e ≡ z) d y (a + 1) 191 (rest_of tail next (length (c ∷ xs))) [] (takes_any (length (c ∷ xs)) ds) false
+          (tells_any e (length (c ∷ xs)) (y + 1) ds h on (omega (arith, end))) (tells_nothing (e ≡ z) (y + 1)))
+
+      tells_to : (e b : ℕ) (xs : List ℕ) (y start : ℕ) (bs : List ℕ) → length xs ≤ 3 → Stand prog start (block_to tail next xs start) →
+          ahead t hi y ≡ bs → y + suc (length xs) ≡ e → Tells (e ≡ z) (over bs y (ways_to tail next (b ∷ xs) start)) (y + 1) (takes_to (b ∷ xs) bs)
+      tells_to e b xs y start [] h st at end = tells_nothing (e ≡ z) (y + 1)
+      tells_to e b [] y start (d ∷ ds) h st at end =
+          tells_way (e ≡ z) d y 128 b next [] true false (tells_next e (y + 1) (omega (arith, end))) (tells_nothing (e ≡ z) (y + 1))
+      tells_to e b (c ∷ xs) y start (d ∷ ds) h st at end =
+          let on = ahead_next t hi y d ds at in
+          tells_way (e ≡ z) d y 128 (b - 1) (rest_of tail next (length (c ∷ xs))) (((b, b), start) ∷ []) (takes_any (length (c ∷ xs)) ds)
+          ((inside b b d && takes_to (c ∷ xs) ds) || false)
+          (tells_any e (length (c ∷ xs)) (y + 1) ds h on (omega (arith, end)))
+          (tells_way (e ≡ z) d y b b start [] (takes_to (c ∷ xs) ds) false
+          (tells_place (e ≡ z) start (y + 1) ds (ways_to tail next (c ∷ xs) (start + 1)) (takes_to (c ∷ xs) ds) st.0 on
+          (tells_to e c xs (y + 1) (start + 1) ds (omega (arith, h)) (stand_behind prog start (block_to tail next xs (start + 1)) st.1) on (omega (arith, end))))
+          (tells_nothing (e ≡ z) (y + 1)))
+
+      pub tells_within : (e a : ℕ) (xs : List ℕ) (b : ℕ) (ys : List ℕ) (y start : ℕ) (bs : List ℕ) → length ys ≡ length xs → length xs ≤ 3 →
+          Stand prog start (block_within tail next (a ∷ xs) (b ∷ ys) start) → ahead t hi y ≡ bs → y + suc (length xs) ≡ e →
+          Tells (e ≡ z) (over bs y (ways_within tail next (a ∷ xs) (b ∷ ys) start)) (y + 1) (takes_within (a ∷ xs) (b ∷ ys) bs)
+      tells_within e a xs b ys y start [] len h st at end = tells_nothing (e ≡ z) (y + 1)
+      tells_within e a [] b ys y start (d ∷ ds) len h st at end =
+          tells_way (e ≡ z) d y a b next [] true false (tells_next e (y + 1) (omega (arith, end))) (tells_nothing (e ≡ z) (y + 1))
+      tells_within e a (c ∷ xs) b [] y start (d ∷ ds) len h st at end = absurd (omega (arith, len))
+      tells_within e a (c ∷ xs) b (f ∷ ys) y start (d ∷ ds) len h st at end =
+          let on = ahead_next t hi y d ds at in
+          ⊎_elim
+          (λ i. let both = eq-eqb a b i in
+          let here : Stand prog start (branch (ways_within tail next (c ∷ xs) (f ∷ ys) (start + 1)) ∷ block_within tail next (c ∷ xs) (f ∷ ys) (start + 1)) =
+          rw both at st in
+          rw both
+          (tells_way (e ≡ z) d y a a start [] (takes_within (c ∷ xs) (f ∷ ys) ds) false
+          (tells_place (e ≡ z) start (y + 1) ds (ways_within tail next (c ∷ xs) (f ∷ ys) (start + 1)) (takes_within (c ∷ xs) (f ∷ ys) ds) here.0 on
+          (tells_within e c xs f ys (y + 1) (start + 1) ds (omega (arith, len)) (omega (arith, h))
+          (stand_behind prog start (block_within tail next (c ∷ xs) (f ∷ ys) (start + 1)) here.1) on (omega (arith, end))))
+          (tells_nothing (e ≡ z) (y + 1))))
+          (λ i. let apart = ne_eqb a b i in
+          let here : Stand prog start (block_from tail next (c ∷ xs) start ++ block_to tail next (f ∷ ys) (start + length (c ∷ xs))) = rw apart at st in
+          let left = Stand-left prog start (block_from tail next (c ∷ xs) start) (block_to tail next (f ∷ ys) (start + length (c ∷ xs))) here in
+          let right = subst (λ k. Stand prog (start + k) (block_to tail next (f ∷ ys) (start + length (c ∷ xs))))
+          (length-block_from tail next (c ∷ xs) start)
+          (Stand-right prog start (block_from tail next (c ∷ xs) start) (block_to tail next (f ∷ ys) (start + length (c ∷ xs))) here) in
+          rw apart
+          (tells_way (e ≡ z) d y a a start
+          (((a + 1, b - 1), rest_of tail next (length (c ∷ xs))) ∷ ((b, b), start + length (c ∷ xs)) ∷ []) (takes_from (c ∷ xs) ds)
+          ((inside (a + 1) (b - 1) d && takes_any (length (c ∷ xs)) ds) || ((inside b b d && takes_to (f ∷ ys) ds) || false))
+          (tells_place (e ≡ z) start (y + 1) ds (ways_from tail next (c ∷ xs) (start + 1)) (takes_from (c ∷ xs) ds) left.0 on
+          (tells_from e c xs (y + 1) (start + 1) ds (omega (arith, h)) (stand_behind prog start (block_from tail next xs (start + 1)) left.1) on (omega (arith, end))))
+          (tells_way (e ≡ z) d y (a + 1) (b - 1) (rest_of tail next (length (c ∷ xs))) (((b, b), start + length (c ∷ xs)) ∷ [])
+          (takes_any (length (c ∷ xs)) ds) ((inside b b d && takes_to (f ∷ ys) ds) || false)
+          (tells_any e (length (c ∷ xs)) (y + 1) ds h on (omega (arith, end)))
+          (tells_way (e ≡ z) d y b b (start + length (c ∷ xs)) [] (takes_to (f ∷ ys) ds) false
+          (tells_place (e ≡ z) (start + length (c ∷ xs)) (y + 1) ds (ways_to tail next (f ∷ ys) (start + length (c ∷ xs) + 1)) (takes_to (f ∷ ys) ds) right.0 on
+          (tells_to e f ys (y + 1) (start + length (c ∷ xs) + 1) ds (omega (arith, len, h))
+          (stand_behind prog (start + length (c ∷ xs)) (block_to tail next ys (start + length (c ∷ xs) + 1)) right.1) on (omega (arith, end, len))))
+          (tells_nothing (e ≡ z) (y + 1))))))
+          (cases_eq a b)
+
+      -- the walks over a piece
+      tells_piece : (p : Range) (n : ℕ) → IsPiece p n → (y start : ℕ) (bs : List ℕ) → Stand prog start (piece_block tail next p start) →
+          ahead t hi y ≡ bs → Tells (y + n ≡ z) (over bs y (piece_ways tail next p start)) (y + 1) (takes_piece p bs)
+      tells_piece p n q y start bs st at = from (encode_utf8 p.0) (encode_utf8 p.1) q.first q.last st
+        where
+          from : (xs ys : List ℕ) → length xs ≡ n → length ys ≡ n → Stand prog start (block_within tail next xs ys start) →
+              Tells (y + n ≡ z) (over bs y (ways_within tail next xs ys start)) (y + 1) (takes_within xs ys bs)
+          from [] ys a b st = let some = q.some in absurd (omega (arith, a, some))
+          from (x ∷ xs) [] a b st = absurd (omega (arith, a, b))
+          from (x ∷ xs) (w ∷ ys) a b st =
+              let short = q.short in
+              tells_within (y + n) x xs w ys y start bs (omega (arith, a, b)) (omega (arith, a, short)) st at (omega (arith, a))

@@ -59,6 +59,7 @@ Begins p n bs = (c : ℕ) × (scalar_at bs ≡ Some (c, n)) × (p.0 ≤ c) × (c
 pub record IsPiece (p : Range) (n : ℕ) : Type 0 where
   pub first : length (encode_utf8 p.0) ≡ n
   pub last : length (encode_utf8 p.1) ≡ n
+  pub some : 0 < n
   pub short : n ≤ 4
   pub from : (bs : List ℕ) → takes_piece p bs ≡ true → Begins p n bs
   pub to : (bs : List ℕ) (c k : ℕ) → scalar_at bs ≡ Some (c, k) → p.0 ≤ c → c ≤ p.1 → takes_piece p bs ≡ true
@@ -80,7 +81,7 @@ spelled : (bs : List ℕ) (c k : ℕ) → scalar_at bs ≡ Some (c, k) → IsSca
 spelled bs c k e = let r = (scalar_law.begins bs c k).0 e in (r.0, r.2)
 
 pub piece_one : (l h : ℕ) → h < 128 → l ≤ h → IsPiece (l, h) 1
-piece_one l h top le = record { first = ap length (encode_one l (omega arith)); last = ap length (encode_one h top); short = omega arith; from = from; to = to }
+piece_one l h top le = record { first = ap length (encode_one l (omega arith)); last = ap length (encode_one h top); some = omega arith; short = omega arith; from = from; to = to }
   where
     ends : (bs : List ℕ) → takes_piece (l, h) bs ≡ takes_within (l ∷ []) (h ∷ []) bs
     ends bs = ap₂ (λ x y. takes_within x y bs) (encode_one l (omega arith)) (encode_one h top)
@@ -97,7 +98,7 @@ piece_one l h top le = record { first = ap length (encode_one l (omega arith)); 
         ∙ within_takes_is 0 0 l [] h [] c r.1.0 refl (omega arith) (omega arith) (omega arith) refl refl refl (omega arith) (omega arith)
 
 pub piece_two : (l h : ℕ) → 128 ≤ l → l ≤ h → h < 2048 → IsPiece (l, h) 2
-piece_two l h low le top = record { first = ap length (encode_two l low (omega arith)); last = ap length (encode_two h (omega arith) top); short = omega arith; from = from; to = to }
+piece_two l h low le top = record { first = ap length (encode_two l low (omega arith)); last = ap length (encode_two h (omega arith) top); some = omega arith; short = omega arith; from = from; to = to }
   where
     ends : (bs : List ℕ) → takes_piece (l, h) bs
         ≡ takes_within ((192 + l / 64) ∷ (128 + l % 64) ∷ []) ((192 + h / 64) ∷ (128 + h % 64) ∷ []) bs
@@ -164,7 +165,7 @@ abbrev four : ℕ → List ℕ
 four c = (240 + c / 262144) ∷ (128 + c / 4096 % 64) ∷ (128 + c / 64 % 64) ∷ (128 + c % 64) ∷ []
 
 pub piece_three : (l h : ℕ) → 2048 ≤ l → l ≤ h → h < 65536 → ((c : ℕ) → l ≤ c → c ≤ h → IsScalar c) → IsPiece (l, h) 3
-piece_three l h low le top ok = record { first = ap length (encode_three l low (omega arith)); last = ap length (encode_three h (omega arith) top); short = omega arith; from = from; to = to }
+piece_three l h low le top ok = record { first = ap length (encode_three l low (omega arith)); last = ap length (encode_three h (omega arith) top); some = omega arith; short = omega arith; from = from; to = to }
   where
     ends : (bs : List ℕ) → takes_piece (l, h) bs ≡ takes_within (three l) (three h) bs
     ends bs = ap₂ (λ x y. takes_within x y bs) (encode_three l low (omega arith)) (encode_three h (omega arith) top)
@@ -209,7 +210,7 @@ piece_three l h low le top ok = record { first = ap length (encode_three l low (
         (omega arith) (omega arith) (omega arith) (any_of l []) (any_of h []) (any_of c r.1.0) (three_grows l c a) (three_grows c h b)
 
 pub piece_four : (l h : ℕ) → 65536 ≤ l → l ≤ h → h < 1114112 → ((c : ℕ) → l ≤ c → c ≤ h → IsScalar c) → IsPiece (l, h) 4
-piece_four l h low le top ok = record { first = ap length (encode_four l low); last = ap length (encode_four h (omega arith)); short = omega arith; from = from; to = to }
+piece_four l h low le top ok = record { first = ap length (encode_four l low); last = ap length (encode_four h (omega arith)); some = omega arith; short = omega arith; from = from; to = to }
   where
     ends : (bs : List ℕ) → takes_piece (l, h) bs ≡ takes_within (four l) (four h) bs
     ends bs = ap₂ (λ x y. takes_within x y bs) (encode_four l low) (encode_four h (omega arith))
