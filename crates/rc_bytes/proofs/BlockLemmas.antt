@@ -1,7 +1,9 @@
 -- The walks that lead through a block: those over its bytes, and to its next place.
 use Rattle.std.proofs.Common.{◌≡◌, ◌≢◌, ℕ, zero, suc, ◌+◌, ◌-◌, ◌<◌, ◌≤◌, ◌⊎◌, List, [], ◌∷◌, ◌++◌, length, map, take, drop, inl, inr, ⊎_elim, sym, subst, ap, ap₂, ◌∙◌, refl, arith, Bool, true, false, true≢false, IsTrue, Option, Some, None, ◌&&◌, ◌||◌, nat_le, nat_eq, if◌then◌else◌, append_assoc}
 use Rattle.std.specs.List.{AllByRecursion}
-use Rattle.std.proofs.lemmas.Bool.{cases_Bool, cases_eq, or_cases, or_parts, or_left, or_right, and_parts, and_cases, eq-eqb, ne_eqb}
+use Rattle.std.proofs.lemmas.Bool.{cases_Bool, cases_eq, or_cases, or_parts, or_left, or_right, and_parts, and_cases, eq-eqb, ne_eqb, or_from, false_from_ne_true}
+use Rattle.std.proofs.lemmas.Option.{none-some, same_Some}
+use Rattle.rc_program.specs.Scalars.{scalar_at}
 use Rattle.rc_walks.specs.Walks.{Pair, IsIn, IsWalk, stops, goes, IsFirstWalk, HasNoWalk}
 use Rattle.rc_walks.proofs.WalkLemmas.{drop_way, first_after, first_goes}
 use Rattle.rc_walks.proofs.CutLemmas.{loosen}
@@ -10,13 +12,13 @@ use Rattle.rc_walks.proofs.TryLemmas.{Finds, first_way}
 use Rattle.rc_walks.proofs.ThreadLemmas.{all_onward, Alike, first_alike, none_alike}
 use Rattle.rc_pattern.specs.Re.{Range}
 use Rattle.rc_program.specs.Text.{Text, holds, ahead}
-use Rattle.rc_program.specs.Program.{Place, choice, branch, place_at, ways, ways_out, over_byte, branch_ways, Way, reads, pair_at, is_match_place}
+use Rattle.rc_program.specs.Program.{Place, choice, branch, place_at, ways, ways_out, over_byte, branch_ways, in_ranges, Way, reads, pair_at, is_match_place}
 use Rattle.rc_program.proofs.WayLemmas.{same_pair, no_way_from, ways_onward}
 use Rattle.rc_program.proofs.PartLemmas.{Stand, Stand-left, Stand-right}
 use Rattle.rc_bytes.specs.Bytes.{Ways, rest_of, tails, ways_from, block_from, ways_to, block_to, ways_within, block_within, piece_ways, piece_block, class_ways, class_block}
-use Rattle.rc_bytes.proofs.TakeLemmas.{inside, takes_any, takes_from, takes_to, takes_within}
+use Rattle.rc_bytes.proofs.TakeLemmas.{inside, inside_parts, inside_from, takes_any, takes_from, takes_to, takes_within}
 use Rattle.std.specs.Char.{encode_utf8}
-use Rattle.rc_bytes.proofs.ScalarLemmas.{IsPiece, takes_piece, EachPiece}
+use Rattle.rc_bytes.proofs.ScalarLemmas.{IsPiece, takes_piece, EachPiece, same_test}
 use Rattle.rc_bytes.proofs.AppendLemmas.{none_append, first_append, first_after_none}
 
 take_cons : (n : ℕ) (xs : List ℕ) (d : ℕ) (ds : List ℕ) → take n xs ≡ d ∷ ds →
@@ -65,6 +67,32 @@ length-block_to tail next (a ∷ xs) start = ap suc (length-block_to tail next x
 -- behind the first place
 stand_behind : (prog : List Place) (start : ℕ) (qs : List Place) → Stand prog (suc start) qs → Stand prog (start + 1) qs
 stand_behind prog start qs st = let e : suc start ≡ start + 1 = omega arith in subst (λ k. Stand prog k qs) e st
+
+over_both : (bs : List ℕ) (y : ℕ) (ts us : Ways) → over bs y (ts ++ us) ≡ over bs y ts ++ over bs y us
+over_both [] y ts us = refl
+over_both (d ∷ ds) y ts us = over_append d y ts us
+
+-- the bytes of the scalars of some pieces
+abbrev pub takes_class : List Range → List ℕ → Bool
+takes_class [] bs = false
+takes_class (p ∷ ps) bs = takes_piece p bs || takes_class ps bs
+
+piece_test : (p : Range) (n : ℕ) → IsPiece p n → (bs : List ℕ) (c k : ℕ) → scalar_at bs ≡ Some (c, k) → takes_piece p bs ≡ (nat_le p.0 c && nat_le c p.1)
+piece_test p n q bs c k e =
+    same_test _ _
+    (λ h. let b = q.from bs h in
+    let i : b.0 ≡ c = ap (λ (x : ℕ × ℕ). x.0) (same_Some (b.0, n) (c, k) (sym b.1 ∙ e)) in
+    subst (λ x. inside p.0 p.1 x ≡ true) i (inside_from p.0 p.1 b.0 b.2 b.3))
+    (λ h. let i = inside_parts p.0 p.1 c h in q.to bs c k e i.0 i.1)
+
+pub class_test : (ps : List Range) → EachPiece ps → (bs : List ℕ) (c k : ℕ) → scalar_at bs ≡ Some (c, k) → takes_class ps bs ≡ in_ranges ps c
+class_test [] each bs c k e = refl
+class_test (p ∷ ps) each bs c k e = ap₂ ◌||◌ (piece_test p each.0.0 each.0.1 bs c k e) (class_test ps each.1 bs c k e)
+
+pub class_none : (ps : List Range) → EachPiece ps → (bs : List ℕ) → scalar_at bs ≡ None → takes_class ps bs ≡ false
+class_none [] each bs e = refl
+class_none (p ∷ ps) each bs e =
+    or_from _ _ (false_from_ne_true _ (λ h. let b = each.0.1.from bs h in none-some _ (sym e ∙ b.1))) (class_none ps each.1 bs e)
 
 module _ (prog : List Place) (t : Text) (hi : ℕ) (only : Option ℕ) (next z : ℕ) (o : Option (List Pair)) where
   abbrev pub W : Pair → List Pair
@@ -265,3 +293,29 @@ module _ (prog : List Place) (t : Text) (hi : ℕ) (only : Option ℕ) (next z :
           from (x ∷ xs) (w ∷ ys) a b st =
               let short = q.short in
               tells_within (y + n) x xs w ys y start bs (omega (arith, a, b)) (omega (arith, a, short)) st at (omega (arith, a))
+
+      piece_freely : (p : Range) (n : ℕ) → IsPiece p n → (y start : ℕ) (bs : List ℕ) → Stand prog start (piece_block tail next p start) →
+          ahead t hi y ≡ bs → ((c k : ℕ) → scalar_at bs ≡ Some (c, k) → (nat_le p.0 c && nat_le c p.1) ≡ true → y + k ≡ z) →
+          Tells (Unit {0}) (over bs y (piece_ways tail next p start)) (y + 1) (takes_piece p bs)
+      piece_freely p n q y start bs st at right =
+          let x = tells_piece p n q y start bs st at in
+          record {
+            yes = λ h k r low. let b = q.from bs h in
+                let e = right b.0 n b.1 (inside_from p.0 p.1 b.0 b.2 b.3) in x.yes h e r low;
+            none = λ h r low. x.none h r low;
+          }
+
+      -- the walks over the scalars of some pieces
+      pub tells_class : (ps : List Range) → EachPiece ps → (y start : ℕ) (bs : List ℕ) → Stand prog start (class_block tail next ps start) →
+          ahead t hi y ≡ bs → ((c k : ℕ) → scalar_at bs ≡ Some (c, k) → in_ranges ps c ≡ true → y + k ≡ z) →
+          Tells (Unit {0}) (over bs y (class_ways tail next ps start)) (y + 1) (takes_class ps bs)
+      tells_class [] each y start [] st at right = tells_nothing (Unit {0}) (y + 1)
+      tells_class [] each y start (d ∷ ds) st at right = tells_nothing (Unit {0}) (y + 1)
+      tells_class (p ∷ ps) each y start bs st at right =
+          let here = piece_block tail next p start in
+          let behind = start + length here in
+          let later = class_block tail next ps behind in
+          subst (λ f. Tells (Unit {0}) f (y + 1) (takes_class (p ∷ ps) bs)) (sym (over_both bs y (piece_ways tail next p start) (class_ways tail next ps behind)))
+          (tells_append (Unit {0}) (over bs y (piece_ways tail next p start)) (over bs y (class_ways tail next ps behind)) (y + 1) (takes_piece p bs) (takes_class ps bs)
+          (piece_freely p each.0.0 each.0.1 y start bs (Stand-left prog start here later st) at (λ c k e i. right c k e (or_left _ _ i)))
+          (tells_class ps each.1 y behind bs (Stand-right prog start here later st) at (λ c k e i. right c k e (or_right _ _ i))))

@@ -298,7 +298,7 @@ in_append (x ∷ xs) ys c = ap (λ b. (nat_le x.0 c && nat_le c x.1) || b) (in_a
     or_or true b d = refl
     or_or false b d = refl
 
-same_test : (x y : Bool) → (x ≡ true → y ≡ true) → (y ≡ true → x ≡ true) → x ≡ y
+pub same_test : (x y : Bool) → (x ≡ true → y ≡ true) → (y ≡ true → x ≡ true) → x ≡ y
 same_test true y f g = sym (f refl)
 same_test false true f g = g refl
 same_test false false f g = refl
