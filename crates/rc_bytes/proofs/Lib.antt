@@ -2,3 +2,5 @@ pub mod TakeLemmas
 pub mod ScalarLemmas
 pub mod AppendLemmas
 pub mod BlockLemmas
+pub mod LayoutLemmas
+pub mod SameLemmas
