@@ -4,3 +4,5 @@ pub mod AppendLemmas
 pub mod BlockLemmas
 pub mod LayoutLemmas
 pub mod SameLemmas
+pub mod AnswerLemmas
+pub mod SizeLemmas

@@ -1,2 +1,4 @@
 //! The byte program of a program: each edge of it reads one byte.
 #![tactic(auto)]
+
+pub mod laws;
