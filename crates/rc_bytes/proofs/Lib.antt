@@ -6,3 +6,5 @@ pub mod LayoutLemmas
 pub mod SameLemmas
 pub mod AnswerLemmas
 pub mod SizeLemmas
+pub mod CodeLemmas
+pub mod AddLemmas
