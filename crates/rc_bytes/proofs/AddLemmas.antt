@@ -1,5 +1,5 @@
 -- What the code adds for classes and places.
-use Rattle.std.proofs.Common.{◌≡◌, ℕ, zero, suc, ◌+◌, ◌-◌, ◌*◌, ◌/◌, ◌%◌, ◌<◌, ◌≤◌, ◌⊎◌, List, [], ◌∷◌, ◌++◌, length, map, drop, take, inl, inr, ⊎_elim, sym, subst, ap, ap₂, ◌∙◌, refl, arith, drop-cons, length-append, get_or, append_assoc, max, min, Vec, Global, vec_len, nat_le, if◌then◌else◌}
+use Rattle.std.proofs.Common.{◌≡◌, ℕ, zero, suc, ◌+◌, ◌-◌, ◌*◌, ◌/◌, ◌%◌, ◌<◌, ◌≤◌, ◌⊎◌, List, [], ◌∷◌, ◌++◌, length, map, drop, take, inl, inr, ⊎_elim, sym, subst, ap, ap₂, ◌∙◌, refl, arith, drop-cons, length-append, get_or, append_assoc, max, min, Vec, Global, vec_len, nat_le, false, true≢false, ◌==◌, if◌then◌else◌}
 use Rattle.std.specs.Prelude.{All}
 use Rattle.std.specs.Char.{encode_utf8}
 use Rattle.std.specs.List.{AllByRecursion}
@@ -151,24 +151,22 @@ pub record Whole (start next : ℕ) (rs : List ClassUnicodeRange) (w : List Byte
   pub place : branch (ways_of w) ≡ byte_place start (scalar (map char_range rs) next)
   pub behind : places_of v2.items ≡ places_of v0.items ++ block start (scalar (map char_range rs) next)
 
-pub whole_class : (first next : ℕ) (rs : List ClassUnicodeRange) (w0 w : List ByteWay) (v0 v1 v2 : Vec code.BytePlace Global) → (rs ≡ [] → ⊥) → w0 ≡ [] →
-    places_of v1.items ≡ places_of v0.items ++ tails (first + vec_len v0) next → vec_len v1 ≡ vec_len v0 + 3 →
-    Adds (first + vec_len v1) (first + vec_len v0) next (all_pieces (map char_range rs)) w0 w v1.items v2.items →
+pub whole_class : (first tail next : ℕ) (rs : List ClassUnicodeRange) (w0 w : List ByteWay) (v0 v1 v2 : Vec code.BytePlace Global) →
+    false ≡ (length rs == 0) → tail ≡ first + vec_len v0 → w0 ≡ [] →
+    places_of v1.items ≡ places_of v0.items ++ tails tail next → vec_len v1 ≡ vec_len v0 + 3 →
+    Adds (first + vec_len v1) tail next (all_pieces (map char_range rs)) w0 w v1.items v2.items →
     Whole (first + vec_len v0) next rs w v0 v2
-whole_class first next [] w0 w v0 v1 v2 some none e l a = absurd (some refl)
-whole_class first next (r ∷ rs) w0 w v0 v1 v2 some none e l a =
+whole_class first tail next [] w0 w v0 v1 v2 some stands none e l a = absurd (true≢false (sym some))
+whole_class first tail next (r ∷ rs) w0 w v0 v1 v2 some stands none e l a =
     let start = first + vec_len v0 in
-    let at : first + vec_len v1 ≡ start + 3 = omega (arith, l) in
+    let at : first + vec_len v1 ≡ tail + 3 = omega (arith, l, stands) in
     let ps = all_pieces (map char_range (r ∷ rs)) in
-    record {
-      place = ap branch (a.ways_added ∙ ap₂ (λ ws k. ways_of ws ++ class_ways start next ps k) none at);
-      behind = a.blocks_added ∙ ap₂ (λ qs k. qs ++ class_block start next ps k) e at
-          ∙ append_assoc (places_of v0.items) (tails start next) (class_block start next ps (start + 3));
-    }
-
-pub whole_none : (start next : ℕ) (rs : List ClassUnicodeRange) (w : List ByteWay) (v : Vec code.BytePlace Global) → rs ≡ [] → w ≡ [] → Whole start next rs w v v
-whole_none start next [] w v e none = record { place = ap (λ ws. branch (ways_of ws)) none; behind = sym (append-nil (places_of v.items)) }
-whole_none start next (r ∷ rs) w v e none = absurd (cc)
+    let whole : Whole tail next (r ∷ rs) w v0 v2 = record {
+      place = ap branch (a.ways_added ∙ ap₂ (λ ws k. ways_of ws ++ class_ways tail next ps k) none at);
+      behind = a.blocks_added ∙ ap₂ (λ qs k. qs ++ class_block tail next ps k) e at
+          ∙ append_assoc (places_of v0.items) (tails tail next) (class_block tail next ps (tail + 3));
+    } in
+    subst (λ k. Whole k next (r ∷ rs) w v0 v2) stands whole
 
 -- one more place
 pub record Turns (n i : ℕ) (program : List source.Place) (q : source.Place) (places new_places : List code.BytePlace) (v0 v1 : Vec code.BytePlace Global) : Type 0 where
