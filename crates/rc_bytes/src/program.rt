@@ -92,3 +92,6 @@ pub fn byte_program(alloc: Global, program: &[Place]) -> Result<Vec<BytePlace>, 
     places.append(&mut blocks)?;
     Ok(places)
 }
+
+#[cfg(test)]
+mod tests;
