@@ -31,16 +31,36 @@ class_length : (least most : ℕ) → IsLengthClass least most →
     (n : ℕ) × (0 < n) × (n ≤ 4) × ((c : ℕ) → least ≤ c → c ≤ most → (length (encode_utf8 c) ≡ n) × AllByRecursion (λ b. b < 255) (encode_utf8 c))
 class_length least most h =
     ⊎_elim
-    (λ a. (1, omega arith, omega arith, λ c low high. let e = encode_one c (omega (arith, a.1)) in
-    rw e (refl, (omega (arith, a.1), tt))))
+    (λ a. (
+      1,
+      omega arith,
+      omega arith,
+      λ c low high. let e = encode_one c (omega (arith, a.1)) in
+          rw e (refl, (omega (arith, a.1), tt)),
+    ))
     (λ r. ⊎_elim
-    (λ a. (2, omega arith, omega arith, λ c low high. let e = encode_two c (omega (arith, a.0)) (omega (arith, a.1)) in
-    rw e (refl, (omega (arith, a.1), (omega arith, tt)))))
+    (λ a. (
+      2,
+      omega arith,
+      omega arith,
+      λ c low high. let e = encode_two c (omega (arith, a.0)) (omega (arith, a.1)) in
+          rw e (refl, (omega (arith, a.1), (omega arith, tt))),
+    ))
     (λ r. ⊎_elim
-    (λ a. (3, omega arith, omega arith, λ c low high. let e = encode_three c (omega (arith, a.0)) (omega (arith, a.1)) in
-    rw e (refl, (omega (arith, a.1), (omega arith, (omega arith, tt))))))
-    (λ a. (4, omega arith, omega arith, λ c low high. let e = encode_four c (omega (arith, a.0)) in
-    rw e (refl, (omega (arith, a.1), (omega arith, (omega arith, (omega arith, tt))))))) r) r) h
+    (λ a. (
+      3,
+      omega arith,
+      omega arith,
+      λ c low high. let e = encode_three c (omega (arith, a.0)) (omega (arith, a.1)) in
+          rw e (refl, (omega (arith, a.1), (omega arith, (omega arith, tt)))),
+    ))
+    (λ a. (
+      4,
+      omega arith,
+      omega arith,
+      λ c low high. let e = encode_four c (omega (arith, a.0)) in
+          rw e (refl, (omega (arith, a.1), (omega arith, (omega arith, (omega arith, tt))))),
+    )) r) r) h
 
 pub sized : (least most from to : ℕ) → IsLengthClass least most → least ≤ from → from ≤ to → to ≤ most → (xs ys : List ℕ) →
     xs ≡ encode_utf8 from → ys ≡ encode_utf8 to → IsSized xs ys

@@ -8,3 +8,4 @@ pub mod AnswerLemmas
 pub mod SizeLemmas
 pub mod CodeLemmas
 pub mod AddLemmas
+mod Examples

@@ -277,13 +277,22 @@ pieces_each r =
     (each_append _ (between 0x80 0x7FF r) _
     (piece_if 0x80 0x7FF r (λ l. (2, piece_two (max r.0 0x80) (min r.1 0x7FF) (omega arith) l (omega arith))))
     (each_append _ (between 0x800 0xD7FF r) _
-    (piece_if 0x800 0xD7FF r (λ l. (3, piece_three (max r.0 0x800) (min r.1 0xD7FF) (omega arith) l (omega arith)
-    (λ c a b. low_scalar c (omega (arith, b))))))
+    (piece_if 0x800 0xD7FF r (λ l. (
+      3,
+      piece_three (max r.0 0x800) (min r.1 0xD7FF) (omega arith) l (omega arith)
+          (λ c a b. low_scalar c (omega (arith, b))),
+    )))
     (each_append _ (between 0xE000 0xFFFF r) _
-    (piece_if 0xE000 0xFFFF r (λ l. (3, piece_three (max r.0 0xE000) (min r.1 0xFFFF) (omega arith) l (omega arith)
-    (λ c a b. high_scalar c (omega (arith, a)) (omega (arith, b))))))
-    (piece_if 0x1_0000 0x10_FFFF r (λ l. (4, piece_four (max r.0 0x1_0000) (min r.1 0x10_FFFF) (omega arith) l (omega arith)
-    (λ c a b. high_scalar c (omega (arith, a)) (omega (arith, b)))))))))
+    (piece_if 0xE000 0xFFFF r (λ l. (
+      3,
+      piece_three (max r.0 0xE000) (min r.1 0xFFFF) (omega arith) l (omega arith)
+          (λ c a b. high_scalar c (omega (arith, a)) (omega (arith, b))),
+    )))
+    (piece_if 0x1_0000 0x10_FFFF r (λ l. (
+      4,
+      piece_four (max r.0 0x1_0000) (min r.1 0x10_FFFF) (omega arith) l (omega arith)
+          (λ c a b. high_scalar c (omega (arith, a)) (omega (arith, b))),
+    ))))))
 
 pub all_pieces_each : (rs : List Range) → EachPiece (all_pieces rs)
 all_pieces_each [] = tt

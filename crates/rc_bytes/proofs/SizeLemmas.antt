@@ -8,14 +8,15 @@ use Rattle.std.proofs.lemmas.List.Elements.{All-from_recursion, recursion_from_A
 use Rattle.rc_pattern.specs.Re.{Range}
 use Rattle.rc_pattern.specs.declared.hir.Look.{Look}
 use Rattle.rc_program.specs.Scalars.{scalar_at}
-use Rattle.rc_program.specs.Program.{Place, choice, byte, branch, scalar, guard, slot, accept, Way, stays, reads, in_ranges, branch_ways, ways_out}
+use Rattle.rc_program.specs.Program.{Place, choice, byte, branch, scalar, guard, slot, accept, Way, stays, reads, in_ranges, branch_ways, ways_out, place_at}
 use Rattle.rc_program.specs.Laws.{targets, IsClosed, place_weight, heaviness}
+use Rattle.rc_program.specs.Sought.{IsRunnable}
 use Rattle.rc_program.proofs.PlaceLemmas.{each_append, each_weaker}
 use Rattle.rc_bytes.specs.Bytes.{Ways, between, pieces, all_pieces, rest_of, tails, ways_from, block_from, ways_to, block_to, ways_within, block_within, piece_ways, piece_block, class_ways, class_block, byte_place, block, byte_places, blocks, bytes_of}
 use Rattle.rc_bytes.specs.Laws.{IsOfOneByte}
 use Rattle.rc_bytes.proofs.ScalarLemmas.{EachPiece, all_pieces_each, encode_one, encode_two, encode_three, encode_four}
 use Rattle.rc_bytes.proofs.BlockLemmas.{length-block_from, length-block_to}
-use Rattle.rc_bytes.proofs.LayoutLemmas.{length-byte_places}
+use Rattle.rc_bytes.proofs.LayoutLemmas.{length-byte_places, stands_at}
 
 -- The sizes.
 
@@ -258,9 +259,10 @@ module _ (m tail next : ℕ) (tails_in : tail + 3 ≤ m) (next_in : next < m) wh
   within_in (a ∷ c ∷ xs) (b ∷ ys) start len h =
       ⊎_elim
       (λ e. let k : start + suc (length (block_within tail next (c ∷ xs) ys (start + 1))) ≤ m = rw (eq-eqb a b e) at h in
-      rw (eq-eqb a b e)
-      (ways_within_in (c ∷ xs) ys (start + 1) (omega (arith, len)) (omega (arith, k)),
-      within_in (c ∷ xs) ys (start + 1) (omega (arith, len)) (omega (arith, k))))
+      rw (eq-eqb a b e) (
+        ways_within_in (c ∷ xs) ys (start + 1) (omega (arith, len)) (omega (arith, k)),
+        within_in (c ∷ xs) ys (start + 1) (omega (arith, len)) (omega (arith, k)),
+      ))
       (λ e. let k : start + length (block_from tail next (c ∷ xs) start ++ block_to tail next ys (start + length (c ∷ xs))) ≤ m =
       rw (ne_eqb a b e) at h in
       let l = length-append (block_from tail next (c ∷ xs) start) (block_to tail next ys (start + length (c ∷ xs))) in
@@ -350,3 +352,100 @@ bytes_closed places closed =
     (each_weaker (Inside m) (λ q. All (λ k. k < m) (targets q)) (λ q h. All-from_recursion (λ k. k < m) (targets q) h) (bytes_of places)
     (each_append (Inside m) (byte_places n places) (blocks n places)
     (places_in n m n places (omega (arith, e)) (omega (arith, e)) each) (blocks_in n m n places (omega (arith, e)) (omega (arith, e)) each)))
+
+-- The patterns' numbers.
+
+abbrev Numbered : Place → Type 0
+Numbered q = (p : ℕ) → q ≡ accept p → p ≤ 2147483646
+
+abbrev IsBranching : Place → Type 0
+IsBranching q = (ts : Ways) × (q ≡ branch ts)
+
+branch_apart : (ts : Ways) (p : ℕ) → branch ts ≡ accept p → ⊥
+branch_apart ts p e = cc
+
+byte_numbered : (start : ℕ) (q : Place) → Numbered q → Numbered (byte_place start q)
+byte_numbered start (choice ns) h = h
+byte_numbered start (byte rs n) h = h
+byte_numbered start (branch ts) h = h
+byte_numbered start (scalar rs n) h = λ p e. absurd (branch_apart (class_ways start n (all_pieces rs) (start + 3)) p e)
+byte_numbered start (guard l n) h = h
+byte_numbered start (slot k n) h = h
+byte_numbered start (accept p) h = h
+
+from_branching : (tail next : ℕ) (xs : List ℕ) (start : ℕ) → AllByRecursion IsBranching (block_from tail next xs start)
+from_branching tail next [] start = tt
+from_branching tail next (a ∷ xs) start = ((ways_from tail next (a ∷ xs) (start + 1), refl), from_branching tail next xs (start + 1))
+
+to_branching : (tail next : ℕ) (xs : List ℕ) (start : ℕ) → AllByRecursion IsBranching (block_to tail next xs start)
+to_branching tail next [] start = tt
+to_branching tail next (a ∷ xs) start = ((ways_to tail next (a ∷ xs) (start + 1), refl), to_branching tail next xs (start + 1))
+
+within_branching : (tail next : ℕ) (xs ys : List ℕ) (start : ℕ) → AllByRecursion IsBranching (block_within tail next xs ys start)
+within_branching tail next [] ys start = tt
+within_branching tail next (a ∷ []) ys start = tt
+within_branching tail next (a ∷ c ∷ xs) [] start = tt
+within_branching tail next (a ∷ c ∷ xs) (b ∷ ys) start =
+    ⊎_elim
+    (λ e. rw (eq-eqb a b e) ((ways_within tail next (c ∷ xs) ys (start + 1), refl), within_branching tail next (c ∷ xs) ys (start + 1)))
+    (λ e. rw (ne_eqb a b e) (each_append IsBranching (block_from tail next (c ∷ xs) start) (block_to tail next ys (start + length (c ∷ xs)))
+    (from_branching tail next (c ∷ xs) start) (to_branching tail next ys (start + length (c ∷ xs)))))
+    (cases_eq a b)
+
+class_branching : (tail next : ℕ) (ps : List Range) (start : ℕ) → AllByRecursion IsBranching (class_block tail next ps start)
+class_branching tail next [] start = tt
+class_branching tail next (p ∷ ps) start =
+    let behind = start + length (piece_block tail next p start) in
+    each_append IsBranching (piece_block tail next p start) (class_block tail next ps behind)
+    (within_branching tail next (encode_utf8 p.0) (encode_utf8 p.1) start) (class_branching tail next ps behind)
+
+block_branching : (start : ℕ) (q : Place) → AllByRecursion IsBranching (block start q)
+block_branching start (choice ns) = tt
+block_branching start (byte rs n) = tt
+block_branching start (branch ts) = tt
+block_branching start (scalar [] n) = tt
+block_branching start (scalar (r ∷ rs) n) =
+    each_append IsBranching (tails start n) (class_block start n (all_pieces (r ∷ rs)) (start + 3))
+    ((((128, 191), start + 1) ∷ [], refl), ((((128, 191), start + 2) ∷ [], refl), ((((128, 191), n) ∷ [], refl), tt)))
+    (class_branching start n (all_pieces (r ∷ rs)) (start + 3))
+block_branching start (guard l n) = tt
+block_branching start (slot k n) = tt
+block_branching start (accept p) = tt
+
+blocks_branching : (start : ℕ) (qs : List Place) → AllByRecursion IsBranching (blocks start qs)
+blocks_branching start [] = tt
+blocks_branching start (q ∷ qs) =
+    let behind = start + length (block start q) in
+    each_append IsBranching (block start q) (blocks behind qs) (block_branching start q) (blocks_branching behind qs)
+
+at_right : (xs ys : List Place) (n : ℕ) → length xs ≤ n → place_at (xs ++ ys) n ≡ place_at ys (n - length xs)
+at_right [] ys n h = let e : n ≡ n - 0 = omega arith in ap (place_at ys) e
+at_right (x ∷ xs) ys zero h = absurd (omega arith)
+at_right (x ∷ xs) ys (suc n) h =
+    let e : n - length xs ≡ suc n - suc (length xs) = omega arith in at_right xs ys n (omega arith) ∙ ap (place_at ys) e
+
+branching_at : (qs : List Place) → AllByRecursion IsBranching qs → (n : ℕ) → Numbered (place_at qs n)
+branching_at [] each n p e = absurd (none_there n p e)
+  where
+    none_there : (n p : ℕ) → place_at [] n ≡ accept p → ⊥
+    none_there zero p e = cc
+    none_there (suc n) p e = cc
+branching_at (q ∷ qs) each zero p e = absurd (branch_apart each.0.0 p (sym each.0.1 ∙ e))
+branching_at (q ∷ qs) each (suc n) p e = branching_at qs each.1 n p e
+
+pub bytes_runnable : (places : List Place) → IsRunnable places → IsRunnable (bytes_of places)
+bytes_runnable places h = record {
+  rooted = let a = bytes_longer places in let b = h.rooted in omega (arith, a, b);
+  closed = bytes_closed places h.closed;
+  numbered = λ n. numbered n;
+}
+  where
+    numbered : (n : ℕ) → Numbered (place_at (bytes_of places) n)
+    numbered n =
+        ⊎_elim
+        (λ l. let r = stands_at places n l in
+        subst Numbered (sym r.1) (byte_numbered r.0 (place_at places n) (h.numbered n)))
+        (λ ge. let k = length places in
+        subst Numbered (sym (at_right (byte_places k places) (blocks k places) n (let e = length-byte_places k places in omega (arith, e, ge))))
+        (branching_at (blocks k places) (blocks_branching k places) (n - length (byte_places k places))))
+        (cases_lt n (length places))

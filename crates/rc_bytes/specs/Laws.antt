@@ -6,6 +6,7 @@ use Rattle.rc_pattern.specs.Weight.{list_weight}
 use Rattle.rc_pattern.specs.declared.hir.Look.{Look}
 use Rattle.rc_program.specs.Program.{Place, Way, stays, reads, ways_out, program}
 use Rattle.rc_program.specs.Laws.{IsClosed, heaviness}
+use Rattle.rc_program.specs.Sought.{IsRunnable}
 use Rattle.rc_program.specs.Answer.{Search, answer, groups}
 use Rattle.rc_bytes.specs.Bytes.{bytes_of}
 
@@ -28,6 +29,8 @@ pub record ByteProgramLaw : Type 0 where
   pub by_one : (places : List Place) (test : Look → Bool) (bytes : List ℕ) →
       All (λ q. All IsOfOneByte (ways_out test bytes q)) (bytes_of places)
   pub closed : (places : List Place) → IsClosed places → IsClosed (bytes_of places)
+  -- an engine may run over it where one may run over the program: it is entered at place 0 too
+  pub runnable : (places : List Place) → IsRunnable places → IsRunnable (bytes_of places)
   -- no place is lost
   pub longer : (places : List Place) → length places ≤ length (bytes_of places)
   -- it is no longer than the program is heavy

@@ -37,7 +37,10 @@ fn add_scalars(
     if ranges.is_empty() {
         return append(places, BytePlace::Branch(Vec::new(alloc)));
     }
-    let exits = Exits { tail: first + blocks.len(), next };
+    let exits = Exits {
+        tail: first + blocks.len(),
+        next,
+    };
     add_tails(alloc, blocks, exits)?;
     let mut ways = Vec::new(alloc);
     add_class(alloc, &mut ways, blocks, first, exits, ranges)?;
@@ -68,9 +71,7 @@ fn add_place(
             let ranges = ranges.clone()?;
             append(places, BytePlace::Bytes(ranges, *next))
         }
-        Place::Scalar(ranges, next) => {
-            add_scalars(alloc, places, blocks, first, ranges, *next)
-        }
+        Place::Scalar(ranges, next) => { add_scalars(alloc, places, blocks, first, ranges, *next) }
         Place::Guard(look, next) => append(places, BytePlace::Guard(*look, *next)),
         Place::Slot(slot, next) => append(places, BytePlace::Slot(*slot, *next)),
         Place::Accept(pattern) => append(places, BytePlace::Accept(*pattern)),

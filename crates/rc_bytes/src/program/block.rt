@@ -25,7 +25,12 @@ pub(super) fn append(places: &mut Vec<BytePlace>, place: BytePlace) -> Result<()
 }
 
 /// Appends one way.
-pub(super) fn add_way(ways: &mut Vec<ByteWay>, first: u8, last: u8, next: usize) -> Result<(), AllocError>
+pub(super) fn add_way(
+    ways: &mut Vec<ByteWay>,
+    first: u8,
+    last: u8,
+    next: usize,
+) -> Result<(), AllocError>
     ensures { IfOk result (λ _. ways_of ways.new.items ≡ ways_of ways.old.items ++ ((first, last), next) ∷ []) }
 {
     ways.push(ByteWay { first, last, next })?;
@@ -72,7 +77,13 @@ pub(super) fn encoded(alloc: Global, scalar: u32) -> Result<Vec<u8>, AllocError>
 }
 
 /// The ways over continuation bytes from those of `low` from `at` on, where the block behind the first stands at `start`.
-fn ways_from(alloc: Global, exits: Exits, low: &[u8], at: usize, start: usize) -> Result<Vec<ByteWay>, AllocError>
+fn ways_from(
+    alloc: Global,
+    exits: Exits,
+    low: &[u8],
+    at: usize,
+    start: usize,
+) -> Result<Vec<ByteWay>, AllocError>
     requires inside { at < length low.now }
     requires few { length low.now ≤ 4 + at }
     requires room { exits.tail < 2 ^ 62 }
@@ -92,7 +103,13 @@ fn ways_from(alloc: Global, exits: Exits, low: &[u8], at: usize, start: usize) -
 }
 
 /// The ways over continuation bytes to those of `high` from `at` on.
-fn ways_to(alloc: Global, exits: Exits, high: &[u8], at: usize, start: usize) -> Result<Vec<ByteWay>, AllocError>
+fn ways_to(
+    alloc: Global,
+    exits: Exits,
+    high: &[u8],
+    at: usize,
+    start: usize,
+) -> Result<Vec<ByteWay>, AllocError>
     requires inside { at < length high.now }
     requires few { length high.now ≤ 4 + at }
     requires room { exits.tail < 2 ^ 62 }
@@ -185,7 +202,12 @@ pub(super) fn add_ways(
     if first == last {
         return Ok(());
     }
-    add_way(ways, first + 1, last.saturating_sub(1), rest_of(exits, left))?;
+    add_way(
+        ways,
+        first + 1,
+        last.saturating_sub(1),
+        rest_of(exits, left),
+    )?;
     add_way(ways, last, last, start + left)
 }
 

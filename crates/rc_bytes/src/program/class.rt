@@ -22,7 +22,11 @@ fn add_tail(alloc: Global, blocks: &mut Vec<BytePlace>, next: usize) -> Result<(
 }
 
 /// Appends the places that read any three, two and one continuation bytes, where the first has the number `exits.tail`.
-pub(super) fn add_tails(alloc: Global, blocks: &mut Vec<BytePlace>, exits: Exits) -> Result<(), AllocError>
+pub(super) fn add_tails(
+    alloc: Global,
+    blocks: &mut Vec<BytePlace>,
+    exits: Exits,
+) -> Result<(), AllocError>
     requires { exits.tail < 2 ^ 62 }
     ensures long { IfOk result (λ _. vec_len blocks.new ≡ vec_len blocks.old + 3) }
     ensures more { IfOk result (λ _. places_of blocks.new.items ≡ places_of blocks.old.items ++ tails exits.tail exits.next) }
@@ -79,7 +83,9 @@ fn add_range(
     add_between(alloc, ways, blocks, first, exits, range, 0x80, 0x7FF)?;
     add_between(alloc, ways, blocks, first, exits, range, 0x800, 0xD7FF)?;
     add_between(alloc, ways, blocks, first, exits, range, 0xE000, 0xFFFF)?;
-    add_between(alloc, ways, blocks, first, exits, range, 0x1_0000, 0x10_FFFF)
+    add_between(
+        alloc, ways, blocks, first, exits, range, 0x1_0000, 0x10_FFFF,
+    )
 }
 
 /// Adds the scalars of the ranges.

@@ -31,8 +31,8 @@ loop-i-preserved c =
           (block_within tail next (drop (c.loop-i.i - 1) c.args.low.now) (drop (c.loop-i.i - 1) c.args.high.now) (c.args.first + vec_len c.loop-i.blocks))
           (branch (ways_of c.add_ways.new.ways.items)) c.in_ok-append.ensures.more
           (block_same tail next c.args.low.now c.args.high.now c.loop-i.i (c.args.first + vec_len c.loop-i.blocks)
-              (omega (arith, c.loop-i.auto.i)) c.loop-i-test.true c.requires.same c.if-low-i.false
-              ∙ rw (c.in_ok-add_ways.ensures, c.new-ways.ensures.items, c.len.ensures, behind, on) refl)
+          (omega (arith, c.loop-i.auto.i)) c.loop-i-test.true c.requires.same c.if-low-i.false
+          ∙ rw (c.in_ok-add_ways.ensures, c.new-ways.ensures.items, c.len.ensures, behind, on) refl)
           c.loop-i.invariant.more;
     }
 

@@ -18,6 +18,6 @@ loop-i-preserved c =
           (block_from tail next (drop c.loop-i.i c.args.low.now) (c.args.first + vec_len c.loop-i.blocks))
           (branch (ways_of c.in_ok-ways.ways.items)) c.in_ok-append.ensures.more
           (block_from_next tail next c.args.low.now c.loop-i.i (c.args.first + vec_len c.loop-i.blocks) c.loop-i-test.true
-              ∙ rw (c.in_ok-ways.ensures, c.len.ensures, behind) refl)
+          ∙ rw (c.in_ok-ways.ensures, c.len.ensures, behind) refl)
           c.loop-i.invariant.more;
     }

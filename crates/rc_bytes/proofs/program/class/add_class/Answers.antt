@@ -11,5 +11,5 @@ loop-i-preserved c = record {
       c.add_range.new.ways.items c.args.blocks.now.items c.add_range.new.blocks.items)
       (pieces_more c.args.ranges.now c.loop-i.i _ c.loop-i-test.true)
       (adds_both c.args.first c.args.exits.tail c.args.exits.next _ _ _ _ _ c.args.blocks.now c.loop-i.blocks c.add_range.new.blocks
-          c.loop-i.invariant.more c.in_ok-add_range.ensures.more);
+      c.loop-i.invariant.more c.in_ok-add_range.ensures.more);
 }
