@@ -23,10 +23,10 @@ const GREATEST_LENGTH: usize = 32;
 
 /// Prefixes with one of which each text begins that one of the patterns spells, none of them empty.
 ///
-/// There are at most 64, of at most 32 bytes each. None where some pattern may spell the empty text,
-/// begins with a class of more members, or has a prefix too many, and where there is no prefix. An
-/// `Err` is want of memory. It takes time linear in the patterns' size, and calls itself as deep as a
-/// pattern is.
+/// They are what may be read first: a literal, of which at most 32 bytes are taken, or each byte or
+/// character of a class. None where in some pattern a body that may be left out, or nothing but
+/// assertions, is read first, where there are more than 64, and where there is none. An `Err` is want
+/// of memory. It takes time linear in the patterns' size, and calls itself as deep as a pattern is.
 pub fn prefixes(alloc: Global, hirs: &[Hir]) -> Result<Option<Vec<Vec<u8>>>, AllocError>
     ensures usable { IfOk result (λ found. IfSome found (λ v. IsUsable (needles_in v.items))) }
     ensures exact { IfOk result (λ found. MatchOption found ((ws : List (List ℕ)) → ¬ ArePrefixes (map meaning hirs.now) ws)
