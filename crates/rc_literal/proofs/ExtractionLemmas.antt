@@ -1,49 +1,62 @@
--- How a list of prefixes grows.
-use Rattle.std.proofs.Common.{◌≡◌, ℕ, zero, suc, ◌+◌, ◌<◌, ◌≤◌, List, [], ◌∷◌, ◌++◌, length, map, take, drop, Bool, true, false, get_or, Result, Ok, Err, IfOk, Vec, Global, min, option_map, take-append-drop, ◌&&◌, ◌||◌, nat_le, IsTrue, Option, Some, None, All, sym, ap, subst, ◌∙◌, refl, arith, inl, inr, ⊎_elim, slice_get}
-use Rattle.std.specs.Prelude.{encode_utf8}
+-- The prefixes of patterns: the loops that gather them, and what they are good for.
+use Rattle.std.proofs.Common.{◌≡◌, ℕ, zero, suc, ◌+◌, ◌-◌, ◌<◌, ◌≤◌, List, [], ◌∷◌, ◌++◌, length, map, min, take, drop, Bool, true, false, get_or, Vec, Global, option_map, take-append-drop, ◌&&◌, ◌||◌, nat_le, nat_lt, IsTrue, Option, Some, None, All, sym, ap, subst, ◌∙◌, refl, arith, inl, inr, ⊎_elim, slice_get}
+use Rattle.std.specs.Prelude.{encode_utf8, if◌then◌else◌}
+use Rattle.std.specs.List.{filter, flat_map, range_with_len}
+use Rattle.std.specs.Option.{option_and_then}
 use Rattle.std.specs.Char.{IsScalar}
+use lib.Utf8.{scalar}
 use Rattle.std.proofs.lemmas.Bool.{cases_Bool, cases_lt, and_parts, false≢true}
 use Rattle.std.proofs.lemmas.Bool.Decides.{nat_tests}
 use Rattle.std.proofs.lemmas.Option.{none-some, same_Some, slice_get-map, slice_get-get_or}
-use Rattle.std.proofs.lemmas.List.{length-append, take_all, get_or-map, length-map}
-use Rattle.std.proofs.lemmas.List.Elements.{All-more, All-weaker, All-map}
+use Rattle.std.proofs.lemmas.List.{length-append, length-map, get_or-map, take_all, take_min, drop_all, at_drop_more}
+use Rattle.std.proofs.Math.Nat.{min_comm}
+use Rattle.std.proofs.lemmas.List.Elements.{All-more, All-weaker}
 use Rattle.rc_pattern.specs.Re.{Re, Range, empty, literal, byte_in, char_in, look, repeat, capture, cat, alt, none}
-use Rattle.rc_pattern.specs.Meaning.{meaning, kind_meaning, alt_all, cat_all, byte_range, char_range}
+use Rattle.rc_pattern.specs.Meaning.{meaning, kind_meaning, alt_all, cat_all}
 use Rattle.rc_pattern.specs.declared.hir.Hir.{Hir}
 use Rattle.rc_pattern.specs.declared.hir.HirKind.{HirKind}
 use Rattle.rc_pattern.specs.declared.hir.HirKind.TheVariants as HirKind
-use Rattle.rc_pattern.specs.declared.hir.Repetition.{Repetition, out-Repetition}
-use Rattle.rc_pattern.proofs.FoldLemmas.{kind_Repetition, kind_Concat, meaning_of_repetition}
-use Rattle.rc_pattern.specs.declared.hir.ClassBytesRange.{ClassBytesRange}
-use Rattle.rc_pattern.specs.declared.hir.ClassUnicodeRange.{ClassUnicodeRange}
+use Rattle.rc_pattern.proofs.FoldLemmas.{kind_Concat}
 use Rattle.rc_program.specs.Text.{Text}
 use Rattle.rc_program.specs.Program.{in_ranges}
 use Rattle.rc_program.specs.Spells.{Stands, Turns, Spells, SpelledBy}
 use Rattle.rc_literal.specs.Literals.{Covers}
-use Rattle.rc_literal.specs.Extraction.{IsAmong, Keeps, IsBegun, Holds, Adds, HasBytes, HasChars, IsStill}
+use Rattle.rc_literal.specs.Needles.{StandsAt}
+use Rattle.rc_literal.specs.Extraction.{greatest_count, greatest_length, range_bytes, range_chars, is_still, both, first_bytes, filled, grown, Adds}
+use Rattle.rc_literal.specs.Prefixes.{ArePrefixes}
+use Rattle.rc_literal.specs.Tables.{IsUsable}
 use Rattle.rc_literal.proofs.RelationLemmas.{range_of}
 use Rattle.rc_literal.proofs.CoverLemmas.{stands_first}
 
--- One more needle.
+-- the needle is one of the list
+abbrev pub IsAmong : List (List ℕ) → List ℕ → Type 0
+IsAmong needles needle = (k : ℕ) × (slice_get needles k ≡ Some needle)
 
-get_more : (xs ys : List (List ℕ)) (k : ℕ) (w : List ℕ) → slice_get xs k ≡ Some w → slice_get (xs ++ ys) k ≡ Some w
-get_more [] ys k w e = absurd (none-some w e)
-get_more (x ∷ xs) ys zero w e = e
-get_more (x ∷ xs) ys (suc k) w e = get_more xs ys k w e
+-- the content from i to j begins with a needle
+abbrev pub IsBegun : List (List ℕ) → List ℕ → ℕ → ℕ → Type 0
+IsBegun needles content i j =
+    (k : ℕ) × (needle : List ℕ) × (slice_get needles k ≡ Some needle) × StandsAt content needle i × (i + length needle ≤ j)
 
-get_last : (xs : List (List ℕ)) (w : List ℕ) → slice_get (xs ++ w ∷ []) (length xs) ≡ Some w
-get_last [] w = refl
-get_last (x ∷ xs) w = get_last xs w
+-- each text that the pattern spells begins with a needle
+abbrev pub Holds : List (List ℕ) → Re → Type 0
+Holds needles h = (t : Text) (i j : ℕ) → Spells t h i j → IsBegun needles t.content i j
 
-pub keeps_more : (old new : List (List ℕ)) (w : List ℕ) → new ≡ old ++ w ∷ [] → Keeps old new
-keeps_more old new w e n a = (a.0, ap (λ ws. slice_get ws a.0) e ∙ get_more old (w ∷ []) a.0 n a.1)
+-- Two lists of needles.
 
-pub among_last : (old new : List (List ℕ)) (w : List ℕ) → new ≡ old ++ w ∷ [] → IsAmong new w
-among_last old new w e = (length old, ap (λ ws. slice_get ws (length old)) e ∙ get_last old w)
+among_left : (ws vs : List (List ℕ)) (w : List ℕ) → IsAmong ws w → IsAmong (ws ++ vs) w
+among_left ws vs w a = (a.0, get_more ws a.0 a.1)
+  where
+    get_more : (xs : List (List ℕ)) (k : ℕ) → slice_get xs k ≡ Some w → slice_get (xs ++ vs) k ≡ Some w
+    get_more [] k e = absurd (none-some w e)
+    get_more (x ∷ xs) zero e = e
+    get_more (x ∷ xs) (suc k) e = get_more xs k e
 
--- what held holds of a list that keeps the needles
-pub holds_kept : (old new : List (List ℕ)) (h : Re) → Keeps old new → Holds old h → Holds new h
-holds_kept old new h keeps holds t i j s = let b = holds t i j s in let a = keeps b.1 (b.0, b.2) in (a.0, b.1, a.1, b.3, b.4)
+among_right : (ws vs : List (List ℕ)) (w : List ℕ) → IsAmong vs w → IsAmong (ws ++ vs) w
+among_right [] vs w a = a
+among_right (x ∷ ws) vs w a = let b = among_right ws vs w a in (suc b.0, b.1)
+
+holds_among : (ws vs : List (List ℕ)) (h : Re) → ((w : List ℕ) → IsAmong ws w → IsAmong vs w) → Holds ws h → Holds vs h
+holds_among ws vs h keeps holds t i j s = let b = holds t i j s in let a = keeps b.1 (b.0, b.2) in (a.0, b.1, a.1, b.3, b.4)
 
 -- What is spelled goes forward.
 
@@ -75,37 +88,66 @@ holds_literal ws bs w rest is among t i j s =
     let long : length bs ≡ length w + length rest = ap length is ∙ length-append w rest in
     (among.0, w, among.1, stands_first t.content w rest i j (subst (λ z. Stands t.content z i j) is s), omega (arith, r, long))
 
-byte_among : (ws : List (List ℕ)) (rs : List ClassBytesRange) (b : ℕ) → IsTrue (in_ranges (map byte_range rs) b) →
-    All (λ (r : ClassBytesRange). HasBytes ws r.start r.end) rs → IsAmong ws (b ∷ [])
-byte_among ws [] b is all = absurd (false≢true is)
-byte_among ws (r ∷ rs) b is all =
-    elim (cases_Bool (nat_le r.start b && nat_le b r.end)) [
-      | inl y ↦
-          let p = and_parts (nat_le r.start b) (nat_le b r.end) y in
-          all 0 r (omega arith) b (let e = p.0 in grind (arith, nat_tests)) (let e = p.1 in grind (arith, nat_tests))
-      | inr f ↦ byte_among ws rs b (subst (λ z. IsTrue (z || in_ranges (map byte_range rs) b)) f is) (λ k d l. all (suc k) d (omega (arith, l)))
+among_numbers : (f : ℕ → List ℕ) (a n b : ℕ) → a ≤ b → b < a + n → IsAmong (map f (range_with_len a n)) (f b)
+among_numbers f a zero b low high = absurd (omega (arith, low, high))
+among_numbers f a (suc n) b low high =
+    elim (cases_lt a b) [
+      | inl l ↦ let r = among_numbers f (a + 1) n b (omega (arith, l)) (omega (arith, high)) in (suc r.0, r.1)
+      | inr l ↦ let e : a ≡ b = omega (arith, l, low) in (0, ap (λ z. Some (f z)) e)
     ]
 
-pub holds_bytes : (ws : List (List ℕ)) (rs : List ClassBytesRange) → All (λ (r : ClassBytesRange). HasBytes ws r.start r.end) rs →
-    Holds ws (byte_in (map byte_range rs))
-holds_bytes ws rs all t i j s =
-    let a = byte_among ws rs s.0 s.2 all in let e = s.3 in (a.0, s.0 ∷ [], a.1, (s.1, omega arith), omega (arith, e))
-
-char_among : (ws : List (List ℕ)) (rs : List ClassUnicodeRange) (c : ℕ) → IsScalar c → IsTrue (in_ranges (map char_range rs) c) →
-    All (λ (r : ClassUnicodeRange). HasChars ws r.start r.end) rs → IsAmong ws (encode_utf8 c)
-char_among ws [] c scalar is all = absurd (false≢true is)
-char_among ws (r ∷ rs) c scalar is all =
-    elim (cases_Bool (nat_le r.start c && nat_le c r.end)) [
-      | inl y ↦
-          let p = and_parts (nat_le r.start c) (nat_le c r.end) y in
-          all 0 r (omega arith) c scalar (let e = p.0 in grind (arith, nat_tests)) (let e = p.1 in grind (arith, nat_tests))
-      | inr f ↦ char_among ws rs c scalar (subst (λ z. IsTrue (z || in_ranges (map char_range rs) c)) f is) (λ k d l. all (suc k) d (omega (arith, l)))
+among_scalars : (a n c : ℕ) → IsScalar c → a ≤ c → c < a + n → IsAmong (map encode_utf8 (filter scalar (range_with_len a n))) (encode_utf8 c)
+among_scalars a zero c is low high = absurd (omega (arith, low, high))
+among_scalars a (suc n) c is low high =
+    elim (cases_lt a c) [
+      | inl l ↦
+          let r = among_scalars (a + 1) n c is (omega (arith, l)) (omega (arith, high)) in
+          elim (cases_Bool (scalar a)) [
+            | inl t ↦ rw t (suc r.0, r.1)
+            | inr f ↦ rw f r
+          ]
+      | inr l ↦
+          let e : c ≡ a = omega (arith, l, low) in
+          let t : scalar a ≡ true = subst IsScalar e is in
+          rw t (0, ap (λ z. Some (encode_utf8 z)) (sym e))
     ]
 
-pub holds_chars : (ws : List (List ℕ)) (rs : List ClassUnicodeRange) → All (λ (r : ClassUnicodeRange). HasChars ws r.start r.end) rs →
-    Holds ws (char_in (map char_range rs))
-holds_chars ws rs all t i j s =
-    let a = char_among ws rs s.0 s.1 s.2 all in
+byte_among : (rs : List Range) (b : ℕ) → IsTrue (in_ranges rs b) → IsAmong (flat_map range_bytes rs) (b ∷ [])
+byte_among [] b is = absurd (false≢true is)
+byte_among (r ∷ rs) b is =
+    elim (cases_Bool (nat_le r.0 b && nat_le b r.1)) [
+      | inl y ↦
+          let p = and_parts (nat_le r.0 b) (nat_le b r.1) y in
+          let low : r.0 ≤ b = let e = p.0 in grind (arith, nat_tests) in
+          let high : b ≤ r.1 = let e = p.1 in grind (arith, nat_tests) in
+          among_left (range_bytes r) (flat_map range_bytes rs) (b ∷ [])
+          (among_numbers (λ x. x ∷ []) r.0 (r.1 + 1 - r.0) b low (omega (arith, low, high)))
+      | inr f ↦
+          among_right (range_bytes r) (flat_map range_bytes rs) (b ∷ []) (byte_among rs b (subst (λ z. IsTrue (z || in_ranges rs b)) f is))
+    ]
+
+char_among : (rs : List Range) (c : ℕ) → IsScalar c → IsTrue (in_ranges rs c) → IsAmong (flat_map range_chars rs) (encode_utf8 c)
+char_among [] c scalar is = absurd (false≢true is)
+char_among (r ∷ rs) c scalar is =
+    elim (cases_Bool (nat_le r.0 c && nat_le c r.1)) [
+      | inl y ↦
+          let p = and_parts (nat_le r.0 c) (nat_le c r.1) y in
+          let low : r.0 ≤ c = let e = p.0 in grind (arith, nat_tests) in
+          let high : c ≤ r.1 = let e = p.1 in grind (arith, nat_tests) in
+          among_left (range_chars r) (flat_map range_chars rs) (encode_utf8 c)
+          (among_scalars r.0 (r.1 + 1 - r.0) c scalar low (omega (arith, low, high)))
+      | inr f ↦
+          among_right (range_chars r) (flat_map range_chars rs) (encode_utf8 c)
+          (char_among rs c scalar (subst (λ z. IsTrue (z || in_ranges rs c)) f is))
+    ]
+
+holds_bytes : (rs : List Range) → Holds (flat_map range_bytes rs) (byte_in rs)
+holds_bytes rs t i j s =
+    let a = byte_among rs s.0 s.2 in let e = s.3 in (a.0, s.0 ∷ [], a.1, (s.1, omega arith), omega (arith, e))
+
+holds_chars : (rs : List Range) → Holds (flat_map range_chars rs) (char_in rs)
+holds_chars rs t i j s =
+    let a = char_among rs s.0 s.1 s.2 in
     let r = (range_of t.content (encode_utf8 s.0) i j s.3).0 in
     (a.0, encode_utf8 s.0, a.1, subst (Stands t.content (encode_utf8 s.0) i) r s.3, omega (arith, r))
 
@@ -117,20 +159,53 @@ holds_repeat ws min max greedy a some holds t i j s = by_turns s.0 s.1 s.3
     by_turns (suc n) le turns =
         begun_later ws t.content i turns.0 j (turns_on (Spells t a) (λ x y r. spells_on t a x y r) n turns.0 j turns.2) (holds t i turns.0 turns.1)
 
-pub holds_alt : (ws : List (List ℕ)) (hs : List Re) → All (Holds ws) hs → Holds ws (alt_all hs)
-holds_alt ws [] all t i j never = absurd never
-holds_alt ws (h ∷ hs) all t i j (inl s) = all 0 h (omega arith) t i j s
-holds_alt ws (h ∷ hs) all t i j (inr s) = holds_alt ws hs (λ k d l. all (suc k) d (omega (arith, l))) t i j s
+still_spells : (a : Re) → is_still a ≡ true → (t : Text) (i j : ℕ) → Spells t a i j → i ≡ j
+still_spells empty is t i j s = s
+still_spells (look l) is t i j s = s.1
+still_spells (literal bs) is t i j s = absurd (false≢true is)
+still_spells (byte_in rs) is t i j s = absurd (false≢true is)
+still_spells (char_in rs) is t i j s = absurd (false≢true is)
+still_spells (repeat min max greedy a) is t i j s = absurd (false≢true is)
+still_spells (capture n name a) is t i j s = absurd (false≢true is)
+still_spells (cat a rest) is t i j s = absurd (false≢true is)
+still_spells (alt a rest) is t i j s = absurd (false≢true is)
+still_spells none is t i j s = absurd (false≢true is)
 
-pub holds_cat : (ws : List (List ℕ)) (hs : List Re) (n : ℕ) (h : Re) → All IsStill (take n hs) → slice_get hs n ≡ Some h → Holds ws h → Holds ws (cat_all hs)
-holds_cat ws [] n h still is holds t i j s = absurd (none-some h is)
-holds_cat ws (g ∷ hs) zero h still is holds t i j s =
-    begun_later ws t.content i s.0 j (spells_on t (cat_all hs) s.0 j s.2)
-    (holds t i s.0 (subst (λ z. Spells t z i s.0) (same_Some g h is) s.1))
-holds_cat ws (g ∷ hs) (suc n) h still is holds t i j s =
-    let e : i ≡ s.0 = still 0 g (omega arith) t i s.0 s.1 in
-    subst (λ z. IsBegun ws t.content z j) (sym e)
-    (holds_cat ws hs n h (λ k d l. still (suc k) d (omega (arith, l))) is holds t s.0 j s.2)
+holds_either : (ws : List (List ℕ)) (a rest : Re) → Holds ws a → Holds ws rest → Holds ws (alt a rest)
+holds_either ws a rest one other t i j (inl s) = one t i j s
+holds_either ws a rest one other t i j (inr s) = other t i j s
+
+-- the prefixes of a pattern are what each text begins with that it spells
+pub first_hold : (h : Re) (ws : List (List ℕ)) → first_bytes h ≡ Some ws → Holds ws h
+first_hold empty ws e = absurd (none-some ws e)
+first_hold (literal bs) ws e =
+    subst (λ z. Holds z (literal bs)) (same_Some (take greatest_length bs ∷ []) ws e)
+    (holds_literal (take greatest_length bs ∷ []) bs (take greatest_length bs) (drop greatest_length bs) (sym (take-append-drop greatest_length bs)) (0, refl))
+first_hold (byte_in rs) ws e = subst (λ z. Holds z (byte_in rs)) (same_Some (flat_map range_bytes rs) ws e) (holds_bytes rs)
+first_hold (char_in rs) ws e = subst (λ z. Holds z (char_in rs)) (same_Some (flat_map range_chars rs) ws e) (holds_chars rs)
+first_hold (look l) ws e = absurd (none-some ws e)
+first_hold (repeat zero max greedy a) ws e = absurd (none-some ws e)
+first_hold (repeat (suc min) max greedy a) ws e = holds_repeat ws (suc min) max greedy a (omega arith) (first_hold a ws e)
+first_hold (capture n name a) ws e = first_hold a ws e
+first_hold (cat a rest) ws e =
+    ⊎_elim
+    (λ y t i j s.
+    let same : i ≡ s.0 = still_spells a y t i s.0 s.1 in
+    subst (λ z. IsBegun ws t.content z j) (sym same) (first_hold rest ws (rw y at e) t s.0 j s.2))
+    (λ f t i j s. begun_later ws t.content i s.0 j (spells_on t rest s.0 j s.2) (first_hold a ws (rw f at e) t i s.0 s.1))
+    (cases_Bool (is_still a))
+first_hold (alt a rest) ws e =
+    by_both (first_bytes a) (first_bytes rest) (λ vs. first_hold a vs) (λ vs. first_hold rest vs) e
+  where
+    by_both : (o p : Option (List (List ℕ))) → ((vs : List (List ℕ)) → o ≡ Some vs → Holds vs a) →
+        ((vs : List (List ℕ)) → p ≡ Some vs → Holds vs rest) → both o p ≡ Some ws → Holds ws (alt a rest)
+    by_both None p one other is = absurd (none-some ws is)
+    by_both (Some us) None one other is = absurd (none-some ws is)
+    by_both (Some us) (Some vs) one other is =
+        subst (λ z. Holds z (alt a rest)) (same_Some (us ++ vs) ws is)
+        (holds_either (us ++ vs) a rest (holds_among us (us ++ vs) a (λ w. among_left us vs w) (one us refl))
+        (holds_among vs (us ++ vs) rest (λ w. among_right us vs w) (other vs refl)))
+first_hold none ws e = λ t i j never. absurd never
 
 spelled_alt : (t : Text) (n : ℕ) (hs : List Re) (p i j : ℕ) → SpelledBy t n hs p i j → Spells t (alt_all hs) i j
 spelled_alt t n [] p i j never = absurd never
@@ -141,8 +216,6 @@ spelled_alt t n (h ∷ hs) p i j (inr s) = inr (spelled_alt t (n + 1) hs p i j s
 pub covers_alt : (ws : List (List ℕ)) (hs : List Re) → Holds ws (alt_all hs) → (t : Text) → Covers t hs ws
 covers_alt ws hs holds t p i j s = holds t i j (spelled_alt t 0 hs p i j s)
 
--- One more turn of a loop.
-
 pub one_more_held : {X : Type 0} (P Q : X → Type 0) (xs : List X) (i : ℕ) (d : X) → i < length xs → ((y : X) → P y → Q y) →
     All P (take i xs) → Q (get_or xs i d) → All Q (take (i + 1) xs)
 one_more_held P Q xs i d inside weaker before here = All-more Q xs i d inside (All-weaker P Q weaker (take i xs) before) here
@@ -150,79 +223,251 @@ one_more_held P Q xs i d inside weaker before here = All-more Q xs i d inside (A
 pub all_held : {X : Type 0} (P : X → Type 0) (xs : List X) (n : ℕ) → length xs ≤ n → All P (take n xs) → All P xs
 all_held P xs n le all = subst (All P) (take_all n xs le) all
 
-pub one_more_still : {X : Type 0} (f : X → Re) (xs : List X) (i : ℕ) (x : X) → i < length xs → x ≡ get_or xs i x →
-    All IsStill (take i (map f xs)) → IsStill (f x) → All IsStill (take (i + 1) (map f xs))
-one_more_still f xs i x inside is before here =
-    let long = length-map xs f in
-    All-more IsStill (map f xs) i (f x) (omega (arith, inside, long)) before
-    (subst IsStill (ap f is ∙ sym (get_or-map f xs i x (f x) inside)) here)
+-- A list that grows.
 
-pub one_more_byte : (begun old new : List (List ℕ)) (start byte : ℕ) (w : List ℕ) → w ≡ byte ∷ [] →
-    Keeps begun old × ((b : ℕ) → start ≤ b → b < byte → IsAmong old (b ∷ [])) → new ≡ old ++ w ∷ [] →
-    Keeps begun new × ((b : ℕ) → start ≤ b → b < byte + 1 → IsAmong new (b ∷ []))
-one_more_byte begun old new start byte w is inv e = (
-  (λ n a. keeps_more old new w e n (inv.0 n a)),
-  (λ b low high. elim (cases_lt b byte) [
-    | inl h ↦ keeps_more old new w e (b ∷ []) (inv.1 b low h)
-    | inr h ↦ let q : byte ≡ b = omega arith in subst (IsAmong new) (is ∙ ap (λ z. z ∷ []) q) (among_last old new w e)
-  ]),
-)
+abbrev then_grown : Option (List (List ℕ)) → Option (List (List ℕ)) → Option (List (List ℕ))
+then_grown None ws = None
+then_grown (Some list) ws = grown list ws
 
-pub one_more_char : (begun old new : List (List ℕ)) (start code : ℕ) (w : List ℕ) → w ≡ encode_utf8 code →
-    Keeps begun old × ((c : ℕ) → IsScalar c → start ≤ c → c < code → IsAmong old (encode_utf8 c)) → new ≡ old ++ w ∷ [] →
-    Keeps begun new × ((c : ℕ) → IsScalar c → start ≤ c → c < code + 1 → IsAmong new (encode_utf8 c))
-one_more_char begun old new start code w is inv e = (
-  (λ n a. keeps_more old new w e n (inv.0 n a)),
-  (λ c scalar low high. elim (cases_lt c code) [
-    | inl h ↦ keeps_more old new w e (encode_utf8 c) (inv.1 c scalar low h)
-    | inr h ↦ let q : code ≡ c = omega arith in subst (IsAmong new) (is ∙ ap encode_utf8 q) (among_last old new w e)
-  ]),
-)
+then_none : (o : Option (List (List ℕ))) → None ≡ then_grown o None
+then_none None = refl
+then_none (Some list) = refl
 
-pub no_more_char : (begun old : List (List ℕ)) (start code : ℕ) → ¬ IsScalar code →
-    Keeps begun old × ((c : ℕ) → IsScalar c → start ≤ c → c < code → IsAmong old (encode_utf8 c)) →
-    Keeps begun old × ((c : ℕ) → IsScalar c → start ≤ c → c < code + 1 → IsAmong old (encode_utf8 c))
-no_more_char begun old start code never inv = (
-  inv.0,
-  (λ c scalar low high. elim (cases_lt c code) [
-    | inl h ↦ inv.1 c scalar low h
-    | inr h ↦ let q : c ≡ code = omega arith in absurd (never (subst IsScalar q scalar))
-  ]),
-)
+filled_append : (list ws vs : List (List ℕ)) → filled list (ws ++ vs) ≡ then_grown (filled list ws) (Some vs)
+filled_append list [] vs = refl
+filled_append list (w ∷ ws) vs =
+    ⊎_elim (λ t. rw t (filled_append (list ++ w ∷ []) ws vs)) (λ f. rw f refl) (cases_Bool (nat_lt (length list) greatest_count))
 
--- What a call added.
+grown_both : (list : List (List ℕ)) (o p : Option (List (List ℕ))) → grown list (both o p) ≡ then_grown (grown list o) p
+grown_both list None p = refl
+grown_both list (Some ws) None = then_none (filled list ws)
+grown_both list (Some ws) (Some vs) = filled_append list ws vs
 
-pub ok_to : {E : Type 0} (r : Result Bool E) (P Q : Type 0) → IfOk r (λ done. IsTrue done → P) → (P → Q) → IfOk r (λ done. IsTrue done → Q)
-ok_to (Ok done) P Q h f = λ t. f (h t)
-ok_to (Err e) P Q h f = h
+append-nil-more : (xs : List (List ℕ)) (w : List ℕ) (ws : List (List ℕ)) → (xs ++ w ∷ []) ++ ws ≡ xs ++ w ∷ ws
+append-nil-more [] w ws = refl
+append-nil-more (x ∷ xs) w ws = ap (λ zs. x ∷ zs) (append-nil-more xs w ws)
 
-pub adds_literal : (old new : List (List ℕ)) (bs : List ℕ) (n : ℕ) → new ≡ old ++ take n bs ∷ [] → Adds old new (literal bs)
-adds_literal old new bs n e = record {
-  keeps = keeps_more old new (take n bs) e;
-  holds = holds_literal new bs (take n bs) (drop n bs) (sym (take-append-drop n bs)) (among_last old new (take n bs) e);
-}
+no_more : (xs : List (List ℕ)) → xs ≡ xs ++ []
+no_more [] = refl
+no_more (x ∷ xs) = ap (λ zs. x ∷ zs) (no_more xs)
 
-pub adds_repetition : (old new : List (List ℕ)) (h : Hir) (k : HirKind) (r : Repetition) (sub : Hir) → kind_meaning k ≡ meaning h →
-    k ≡ HirKind.Repetition r → sub ≡ (out-Repetition r).sub.value → ¬ ((out-Repetition r).min ≡ 0) → Adds old new (meaning sub) → Adds old new (meaning h)
-adds_repetition old new h k r sub value is body some added =
-    let o = out-Repetition r in
-    let e = sym value ∙ ap kind_meaning is ∙ kind_Repetition r ∙ meaning_of_repetition r in
-    let positive : 0 < o.min = omega (arith, some) in
-    subst (Adds old new) (sym e) (record {
-      keeps = added.keeps;
-      holds = holds_repeat new o.min o.max o.greedy (meaning o.sub.value) positive (subst (λ x. Holds new (meaning x)) body added.holds);
-    })
+-- where there was room, they were added, and there are no more than are kept
+pub filled_some : (list ws new : List (List ℕ)) → length list ≤ greatest_count → filled list ws ≡ Some new →
+    (new ≡ list ++ ws) × (length new ≤ greatest_count)
+filled_some list [] new le e =
+    let same : list ≡ new = same_Some list new e in (sym same ∙ no_more list, subst (λ z. length z ≤ greatest_count) same le)
+filled_some list (w ∷ ws) new le e =
+    ⊎_elim
+    (λ t.
+    let room : length list < greatest_count = let r = t in grind (arith, nat_tests) in
+    let long = length-append list (w ∷ []) in
+    let h = filled_some (list ++ w ∷ []) ws new (omega (arith, room, long)) (rw t at e) in
+    (h.0 ∙ append-nil-more list w ws, h.1))
+    (λ f. absurd (none-some new (rw f at e)))
+    (cases_Bool (nat_lt (length list) greatest_count))
 
-pub adds_concat : (old new : List (List ℕ)) (h : Hir) (k : HirKind) (subs : Vec Hir Global) (xs ys : List Hir) (n : ℕ) (sub d : Hir) →
-    kind_meaning k ≡ meaning h → k ≡ HirKind.Concat subs → xs ≡ subs.items → ys ≡ subs.items → All IsStill (take n (map meaning xs)) →
-    n < length ys → sub ≡ get_or ys n d → Adds old new (meaning sub) → Adds old new (meaning h)
-adds_concat old new h k subs xs ys n sub d value is first second still inside at added =
-    let e = sym value ∙ ap kind_meaning is ∙ kind_Concat subs in
-    let got : slice_get (map meaning subs.items) n ≡ Some (meaning sub) =
-    ap (λ zs. slice_get (map meaning zs) n) (sym second) ∙ slice_get-map meaning ys n
-    ∙ ap (option_map meaning) (slice_get-get_or ys n d inside ∙ ap Some (sym at)) in
-    subst (Adds old new) (sym e) (record {
-      keeps = added.keeps;
-      holds = holds_cat new (map meaning subs.items) n (meaning sub)
-          (subst (λ zs. All IsStill (take n (map meaning zs))) first still) got added.holds;
-    })
+-- where there was none, they are too many
+pub filled_none : (list ws : List (List ℕ)) → filled list ws ≡ None → greatest_count < length list + length ws
+filled_none list [] e = absurd (none-some list (sym e))
+filled_none list (w ∷ ws) e =
+    ⊎_elim
+    (λ t.
+    let long = length-append list (w ∷ []) in
+    let h = filled_none (list ++ w ∷ []) ws (rw t at e) in
+    omega (arith, h, long))
+    (λ f. let full : greatest_count ≤ length list = let r = f in grind (arith, nat_tests) in omega (arith, full))
+    (cases_Bool (nat_lt (length list) greatest_count))
+
+-- The loops.
+
+module _ {X : Type 0} (f : X → Option (List (List ℕ))) where
+  -- the prefixes of each
+  abbrev pub each : List X → Option (List (List ℕ))
+  each [] = Some []
+  each (x ∷ xs) = both (f x) (each xs)
+
+  -- so many are added, and these are left
+  abbrev pub IsLeft : List (List ℕ) → List (List ℕ) → List X → ℕ → Type 0
+  IsLeft begun list xs i = grown begun (each xs) ≡ grown list (each (drop i xs))
+
+  turned : (begun list new : List (List ℕ)) (xs : List X) (i : ℕ) (x d : X) (done : Bool) → i < length xs → x ≡ get_or xs i d →
+      IsLeft begun list xs i → Adds done list new (f x) →
+      grown begun (each xs) ≡ then_grown (if done then Some new else None) (each (drop (i + 1) xs))
+  turned begun list new xs i x d done inside is inv adds =
+      inv ∙ ap (grown list) (at_drop_more each xs i d inside ∙ ap (λ y. both (f y) (each (drop (i + 1) xs))) (sym is))
+      ∙ grown_both list (f x) (each (drop (i + 1) xs)) ∙ ap (λ o. then_grown o (each (drop (i + 1) xs))) adds
+
+  pub turn_taken : (begun list new : List (List ℕ)) (xs : List X) (i : ℕ) (x d : X) (done : Bool) → i < length xs → x ≡ get_or xs i d →
+      IsLeft begun list xs i → Adds done list new (f x) → done ≡ true → IsLeft begun new xs (i + 1)
+  turn_taken begun list new xs i x d done inside is inv adds e =
+      turned begun list new xs i x d done inside is inv adds
+      ∙ ap (λ b. then_grown (if b then Some new else None) (each (drop (i + 1) xs))) e
+
+  pub turn_failed : (begun list new : List (List ℕ)) (xs : List X) (i : ℕ) (x d : X) (done : Bool) → i < length xs → x ≡ get_or xs i d →
+      IsLeft begun list xs i → Adds done list new (f x) → done ≡ false → grown begun (each xs) ≡ None
+  turn_failed begun list new xs i x d done inside is inv adds e =
+      turned begun list new xs i x d done inside is inv adds
+      ∙ ap (λ b. then_grown (if b then Some new else None) (each (drop (i + 1) xs))) e
+
+  pub turns_done : (begun list : List (List ℕ)) (xs : List X) (i : ℕ) → length xs ≤ i → IsLeft begun list xs i → grown begun (each xs) ≡ Some list
+  turns_done begun list xs i le inv = inv ∙ ap (λ ys. grown list (each ys)) (drop_all i xs le)
+
+pub each_alt : (hs : List Hir) → each (λ h. first_bytes (meaning h)) hs ≡ first_bytes (alt_all (map meaning hs))
+each_alt [] = refl
+each_alt (h ∷ hs) = ap (both (first_bytes (meaning h))) (each_alt hs)
+
+pub each_some : {X : Type 0} (r : X → Range) (g : Range → List (List ℕ)) (xs : List X) →
+    each (λ x. Some (g (r x))) xs ≡ Some (flat_map g (map r xs))
+each_some r g [] = refl
+each_some r g (x ∷ xs) = ap (both (Some (g (r x)))) (each_some r g xs)
+
+-- one number more of a range
+pub number_taken : (begun list new : List (List ℕ)) (whole : Option (List (List ℕ))) (f : ℕ → List ℕ) (number end : ℕ) → number < end →
+    grown begun whole ≡ filled list (map f (range_with_len number (end - number))) → Adds true list new (Some (f number ∷ [])) →
+    grown begun whole ≡ filled new (map f (range_with_len (number + 1) (end - (number + 1))))
+number_taken begun list new whole f number end inside inv e =
+    let n : end - number ≡ suc (end - (number + 1)) = omega (arith, inside) in
+    let rest = map f (range_with_len (number + 1) (end - (number + 1))) in
+    inv ∙ ap (λ m. filled list (map f (range_with_len number m))) n ∙ filled_append list (f number ∷ []) rest
+    ∙ ap (λ o. then_grown o (Some rest)) e
+
+pub number_failed : (begun list new : List (List ℕ)) (whole : Option (List (List ℕ))) (f : ℕ → List ℕ) (number end : ℕ) → number < end →
+    grown begun whole ≡ filled list (map f (range_with_len number (end - number))) → Adds false list new (Some (f number ∷ [])) →
+    grown begun whole ≡ None
+number_failed begun list new whole f number end inside inv e =
+    let n : end - number ≡ suc (end - (number + 1)) = omega (arith, inside) in
+    let rest = map f (range_with_len (number + 1) (end - (number + 1))) in
+    inv ∙ ap (λ m. filled list (map f (range_with_len number m))) n ∙ filled_append list (f number ∷ []) rest
+    ∙ ap (λ o. then_grown o (Some rest)) e
+
+-- the scalars from a number up to an end, as UTF-8
+abbrev pub scalars_left : ℕ → ℕ → List (List ℕ)
+scalars_left number end = map encode_utf8 (filter scalar (range_with_len number (end - number)))
+
+scalars_one : (number end : ℕ) → number < end → scalar number ≡ true → scalars_left number end ≡ encode_utf8 number ∷ scalars_left (number + 1) end
+scalars_one number end inside is =
+    let n : end - number ≡ suc (end - (number + 1)) = omega (arith, inside) in
+    ap (λ m. map encode_utf8 (filter scalar (range_with_len number m))) n ∙ rw is refl
+
+scalar_turned : (begun list new : List (List ℕ)) (whole : Option (List (List ℕ))) (w : List ℕ) (number end : ℕ) (done : Bool) → number < end →
+    IsScalar number → w ≡ encode_utf8 number → grown begun whole ≡ filled list (scalars_left number end) → Adds done list new (Some (w ∷ [])) →
+    grown begun whole ≡ then_grown (if done then Some new else None) (Some (scalars_left (number + 1) end))
+scalar_turned begun list new whole w number end done inside is same inv adds =
+    let rest = scalars_left (number + 1) end in
+    inv ∙ ap (filled list) (scalars_one number end inside is ∙ ap (λ z. z ∷ rest) (sym same)) ∙ filled_append list (w ∷ []) rest
+    ∙ ap (λ o. then_grown o (Some rest)) adds
+
+pub scalar_taken : (begun list new : List (List ℕ)) (whole : Option (List (List ℕ))) (w : List ℕ) (number end : ℕ) (done : Bool) → number < end →
+    IsScalar number → w ≡ encode_utf8 number → grown begun whole ≡ filled list (scalars_left number end) → Adds done list new (Some (w ∷ [])) →
+    done ≡ true → grown begun whole ≡ filled new (scalars_left (number + 1) end)
+scalar_taken begun list new whole w number end done inside is same inv adds e =
+    scalar_turned begun list new whole w number end done inside is same inv adds
+    ∙ ap (λ b. then_grown (if b then Some new else None) (Some (scalars_left (number + 1) end))) e
+
+pub scalar_failed : (begun list new : List (List ℕ)) (whole : Option (List (List ℕ))) (w : List ℕ) (number end : ℕ) (done : Bool) → number < end →
+    IsScalar number → w ≡ encode_utf8 number → grown begun whole ≡ filled list (scalars_left number end) → Adds done list new (Some (w ∷ [])) →
+    done ≡ false → grown begun whole ≡ None
+scalar_failed begun list new whole w number end done inside is same inv adds e =
+    scalar_turned begun list new whole w number end done inside is same inv adds
+    ∙ ap (λ b. then_grown (if b then Some new else None) (Some (scalars_left (number + 1) end))) e
+
+pub scalar_passed : (number end : ℕ) → number < end → ¬ IsScalar number → scalars_left number end ≡ scalars_left (number + 1) end
+scalar_passed number end inside never =
+    let n : end - number ≡ suc (end - (number + 1)) = omega (arith, inside) in
+    ⊎_elim (λ t. absurd (never t))
+    (λ f. ap (λ m. map encode_utf8 (filter scalar (range_with_len number m))) n ∙ rw f refl)
+    (cases_Bool (scalar number))
+
+-- The first member of a concatenation that may read.
+
+module _ (f : Hir → Re) where
+  one_on : (xs : List Hir) (i : ℕ) (x : Hir) → i < length xs → x ≡ get_or xs i x →
+      first_bytes (cat_all (drop i (map f xs))) ≡ first_bytes (cat (f x) (cat_all (drop (i + 1) (map f xs))))
+  one_on xs i x inside is =
+      let long = length-map xs f in
+      at_drop_more (λ ys. first_bytes (cat_all ys)) (map f xs) i (f x) (omega (arith, inside, long))
+      ∙ ap (λ y. first_bytes (cat y (cat_all (drop (i + 1) (map f xs))))) (get_or-map f xs i x (f x) inside ∙ ap f (sym is))
+
+  pub still_passed : (xs : List Hir) (i : ℕ) (x : Hir) → i < length xs → x ≡ get_or xs i x →
+      first_bytes (cat_all (map f xs)) ≡ first_bytes (cat_all (drop i (map f xs))) → is_still (f x) ≡ true →
+      first_bytes (cat_all (map f xs)) ≡ first_bytes (cat_all (drop (i + 1) (map f xs)))
+  still_passed xs i x inside is inv here =
+      inv ∙ one_on xs i x inside is ∙ rw here refl
+
+  pub still_ends : (xs : List Hir) (i : ℕ) (x : Hir) → i < length xs → x ≡ get_or xs i x →
+      first_bytes (cat_all (map f xs)) ≡ first_bytes (cat_all (drop i (map f xs))) → is_still (f x) ≡ false →
+      first_bytes (cat_all (map f xs)) ≡ option_and_then first_bytes (slice_get (map f xs) i)
+  still_ends xs i x inside is inv here =
+      inv ∙ one_on xs i x inside is ∙ rw here refl
+      ∙ sym (ap (option_and_then first_bytes) (slice_get-map f xs i ∙ ap (option_map f) (slice_get-get_or xs i x inside ∙ ap Some (sym is))))
+
+nothing_past : (xs : List Re) (k : ℕ) → length xs ≤ k → slice_get xs k ≡ None
+nothing_past [] k l = refl
+nothing_past (x ∷ xs) zero l = absurd (omega (arith, l))
+nothing_past (x ∷ xs) (suc k) l = nothing_past xs k (omega (arith, l))
+
+pub still_all : (xs : List Hir) (i : ℕ) → length xs ≤ i → first_bytes (cat_all (map meaning xs)) ≡ first_bytes (cat_all (drop i (map meaning xs))) →
+    first_bytes (cat_all (map meaning xs)) ≡ option_and_then first_bytes (slice_get (map meaning xs) (length xs))
+still_all xs i le inv =
+    let long = length-map xs meaning in
+    inv ∙ ap (λ ys. first_bytes (cat_all ys)) (drop_all i (map meaning xs) (omega (arith, le, long)))
+    ∙ sym (ap (option_and_then first_bytes) (nothing_past (map meaning xs) (length xs) (omega (arith, long))))
+
+-- The prefixes of a concatenation are those of the member at its place.
+
+module _ (h : Hir) (k : HirKind) (subs : Vec Hir Global) (value : kind_meaning k ≡ meaning h) (is : k ≡ HirKind.Concat subs) where
+  whole : (xs : List Hir) → xs ≡ subs.items → first_bytes (meaning h) ≡ first_bytes (cat_all (map meaning xs))
+  whole xs same =
+      ap first_bytes (sym value ∙ ap kind_meaning is ∙ kind_Concat subs) ∙ ap (λ (ys : List Hir). first_bytes (cat_all (map meaning ys))) (sym same)
+
+  pub concat_first : (xs ys : List Hir) (n : ℕ) (sub d : Hir) → xs ≡ subs.items → ys ≡ subs.items →
+      first_bytes (cat_all (map meaning xs)) ≡ option_and_then first_bytes (slice_get (map meaning xs) n) → n < length ys → sub ≡ get_or ys n d →
+      first_bytes (meaning sub) ≡ first_bytes (meaning h)
+  concat_first xs ys n sub d first second still inside at =
+      let got : slice_get (map meaning xs) n ≡ Some (meaning sub) =
+      ap (λ zs. slice_get (map meaning zs) n) (first ∙ sym second) ∙ slice_get-map meaning ys n
+      ∙ ap (option_map meaning) (slice_get-get_or ys n d inside ∙ ap Some (sym at)) in
+      sym (whole xs first ∙ still ∙ ap (option_and_then first_bytes) got)
+
+  pub concat_none : (xs ys : List Hir) (n : ℕ) → xs ≡ subs.items → ys ≡ subs.items →
+      first_bytes (cat_all (map meaning xs)) ≡ option_and_then first_bytes (slice_get (map meaning xs) n) → length ys ≤ n →
+      first_bytes (meaning h) ≡ None
+  concat_none xs ys n first second still past =
+      let long = ap length first in
+      let longer = ap length second in
+      let more = length-map xs meaning in
+      whole xs first ∙ still ∙ ap (option_and_then first_bytes) (nothing_past (map meaning xs) n (omega (arith, past, long, longer, more)))
+
+-- The prefixes of patterns.
+
+pub literal_prefix : (bs : List ℕ) (n : ℕ) → n ≡ min (length bs) greatest_length → take n bs ≡ take greatest_length bs
+literal_prefix bs n e = ap (λ m. take m bs) (e ∙ min_comm (length bs) greatest_length) ∙ take_min greatest_length bs
+
+module _ (hs : List Re) (begun new : List (List ℕ)) (done : Bool) (empty : begun ≡ []) (adds : Adds done begun new (first_bytes (alt_all hs))) where
+  whole_list : (found : Option (List (List ℕ))) → grown begun found ≡ Some new → found ≡ Some new × (length new ≤ greatest_count)
+  whole_list None e = absurd (none-some new e)
+  whole_list (Some ws) e =
+      let none : length begun ≡ 0 = ap length empty in
+      let h = filled_some begun ws new (omega (arith, none)) e in
+      (ap Some (sym (h.0 ∙ ap (λ z. z ++ ws) empty)), h.1)
+
+  pub are_prefixes : done ≡ true → IsUsable new → ArePrefixes hs new
+  are_prefixes t usable =
+      let h = whole_list (first_bytes (alt_all hs)) (adds ∙ ap (λ b. if b then Some new else None) t) in record {
+        are = h.0;
+        usable = usable;
+        few = h.1;
+      }
+
+  pub no_room : done ≡ false → (ws : List (List ℕ)) → ¬ ArePrefixes hs ws
+  no_room f ws p =
+      let e : filled begun ws ≡ None = ap (grown begun) (sym p.are) ∙ adds ∙ ap (λ b. if b then Some new else None) f in
+      let none : length begun ≡ 0 = ap length empty in
+      let many = filled_none begun ws e in
+      let few = p.few in
+      absurd (omega (arith, many, few, none))
+
+  pub not_usable : done ≡ true → ¬ IsUsable new → (ws : List (List ℕ)) → ¬ ArePrefixes hs ws
+  not_usable t never ws p =
+      let h = whole_list (first_bytes (alt_all hs)) (adds ∙ ap (λ b. if b then Some new else None) t) in
+      absurd (never (subst IsUsable (same_Some ws new (sym p.are ∙ h.0)) p.usable))

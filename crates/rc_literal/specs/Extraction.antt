@@ -1,41 +1,65 @@
--- How a list of prefixes grows.
-use Rattle.std.specs.Prelude.{◌≡◌, ℕ, ◌+◌, ◌≤◌, List, [], ◌∷◌, length, Some, slice_get, encode_utf8}
-use Rattle.std.specs.Char.{IsScalar}
-use Rattle.rc_pattern.specs.Re.{Re}
-use Rattle.rc_program.specs.Text.{Text}
-use Rattle.rc_program.specs.Spells.{Spells}
-use Rattle.rc_literal.specs.Needles.{StandsAt}
+-- The prefixes that are taken from a pattern.
+use Rattle.std.specs.Prelude.{◌≡◌, ℕ, zero, suc, ◌+◌, ◌-◌, Bool, true, false, List, [], ◌∷◌, ◌++◌, length, map, take, Option, Some, None, nat_lt, encode_utf8, if◌then◌else◌}
+use Rattle.std.specs.List.{filter, flat_map, range_with_len}
+use lib.Utf8.{scalar}
+use Rattle.rc_pattern.specs.Re.{Re, Range, empty, literal, byte_in, char_in, look, repeat, capture, cat, alt, none}
 
--- the needle is one of the list
-abbrev pub IsAmong : List (List ℕ) → List ℕ → Type 0
-IsAmong needles needle = (k : ℕ) × (slice_get needles k ≡ Some needle)
+-- how many prefixes are kept at most
+abbrev pub greatest_count : ℕ
+greatest_count = 64
 
--- none is lost
-abbrev pub Keeps : List (List ℕ) → List (List ℕ) → Type 0
-Keeps old new = (needle : List ℕ) → IsAmong old needle → IsAmong new needle
+-- how many bytes of a literal are kept at most
+abbrev pub greatest_length : ℕ
+greatest_length = 32
 
--- the content from i to j begins with a needle
-abbrev pub IsBegun : List (List ℕ) → List ℕ → ℕ → ℕ → Type 0
-IsBegun needles content i j =
-    (k : ℕ) × (needle : List ℕ) × (slice_get needles k ≡ Some needle) × StandsAt content needle i × (i + length needle ≤ j)
+-- the numbers from the range's one end to the other
+abbrev pub numbers_of : Range → List ℕ
+numbers_of r = range_with_len r.0 (r.1 + 1 - r.0)
 
--- each text that the pattern spells begins with a needle
-abbrev pub Holds : List (List ℕ) → Re → Type 0
-Holds needles h = (t : Text) (i j : ℕ) → Spells t h i j → IsBegun needles t.content i j
+-- each byte of a range
+abbrev pub range_bytes : Range → List (List ℕ)
+range_bytes r = map (λ b. b ∷ []) (numbers_of r)
 
--- Needles were added with one of which each text begins that the pattern spells.
-pub record Adds (old new : List (List ℕ)) (h : Re) : Type 0 where
-  pub keeps : Keeps old new
-  pub holds : Holds new h
+-- each scalar of a range, as UTF-8
+abbrev pub range_chars : Range → List (List ℕ)
+range_chars r = map encode_utf8 (filter scalar (numbers_of r))
 
--- each byte from the one to the other is a needle
-abbrev pub HasBytes : List (List ℕ) → ℕ → ℕ → Type 0
-HasBytes needles from to = (b : ℕ) → from ≤ b → b ≤ to → IsAmong needles (b ∷ [])
+-- an assertion or empty
+abbrev pub is_still : Re → Bool
+is_still empty = true
+is_still (look l) = true
+is_still _ = false
 
--- each scalar from the one to the other, as UTF-8, is a needle
-abbrev pub HasChars : List (List ℕ) → ℕ → ℕ → Type 0
-HasChars needles from to = (c : ℕ) → IsScalar c → from ≤ c → c ≤ to → IsAmong needles (encode_utf8 c)
+-- the prefixes of the one and of the other, where both have some
+abbrev pub both : Option (List (List ℕ)) → Option (List (List ℕ)) → Option (List (List ℕ))
+both None ws = None
+both (Some vs) None = None
+both (Some vs) (Some ws) = Some (vs ++ ws)
 
--- the pattern spells nothing but the empty text
-abbrev pub IsStill : Re → Type 0
-IsStill h = (t : Text) (i j : ℕ) → Spells t h i j → i ≡ j
+-- what each text begins with that the pattern spells: the literals and classes that may be read first. None where a body that may be
+-- left out, or nothing but assertions, may be read first.
+abbrev pub first_bytes : Re → Option (List (List ℕ))
+first_bytes empty = None
+first_bytes (literal bs) = Some (take greatest_length bs ∷ [])
+first_bytes (byte_in rs) = Some (flat_map range_bytes rs)
+first_bytes (char_in rs) = Some (flat_map range_chars rs)
+first_bytes (look l) = None
+first_bytes (repeat zero max greedy a) = None
+first_bytes (repeat (suc min) max greedy a) = first_bytes a
+first_bytes (capture n name a) = first_bytes a
+first_bytes (cat a rest) = if is_still a then first_bytes rest else first_bytes a
+first_bytes (alt a rest) = both (first_bytes a) (first_bytes rest)
+first_bytes none = Some []
+
+-- the list with these at its end, one after another, where there is room for each
+abbrev pub filled : List (List ℕ) → List (List ℕ) → Option (List (List ℕ))
+filled list [] = Some list
+filled list (w ∷ ws) = if nat_lt (length list) greatest_count then filled (list ++ w ∷ []) ws else None
+
+abbrev pub grown : List (List ℕ) → Option (List (List ℕ)) → Option (List (List ℕ))
+grown list None = None
+grown list (Some ws) = filled list ws
+
+-- Where it is done, the old list with these prefixes is the new one; where it isn't, there are none or there is no room for them.
+abbrev pub Adds : Bool → List (List ℕ) → List (List ℕ) → Option (List (List ℕ)) → Type 0
+Adds done old new found = grown old found ≡ (if done then Some new else None)

@@ -1,11 +1,20 @@
 -- Lists of prefixes that cover patterns, and how one list stands for another.
-use Rattle.std.specs.Prelude.{◌≡◌, ℕ, List, ◌++◌, All, Bool, Some, slice_get}
+use Rattle.std.specs.Prelude.{◌≡◌, ◌≤◌, ℕ, List, ◌++◌, All, Bool, Some, length, slice_get}
 use Rattle.rc_pattern.specs.Re.{Re}
+use Rattle.rc_pattern.specs.Meaning.{alt_all}
 use Rattle.rc_pattern.specs.WellFormed.{HasBounds}
 use Rattle.rc_program.specs.Text.{Text}
 use Rattle.rc_program.specs.Program.{program, shown}
 use Rattle.rc_literal.specs.Literals.{Covers}
 use Rattle.rc_literal.specs.Guards.{Guards}
+use Rattle.rc_literal.specs.Extraction.{first_bytes, greatest_count}
+use Rattle.rc_literal.specs.Tables.{IsUsable}
+
+-- These are the prefixes of the patterns: what may be read first in them, none of it empty, and no more than are kept.
+pub record ArePrefixes (hs : List Re) (ws : List (List ℕ)) : Type 0 where
+  pub are : first_bytes (alt_all hs) ≡ Some ws
+  pub usable : IsUsable ws
+  pub few : length ws ≤ greatest_count
 
 -- the bytes begin with the needle
 abbrev pub BeginsWith : List ℕ → List ℕ → Type 0

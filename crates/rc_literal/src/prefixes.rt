@@ -1,13 +1,14 @@
 //! Prefixes with which each text that patterns spell begins.
-ghost use Rattle.std.specs.Prelude.{◌≡◌, ◌<◌, ◌++◌, ◌∷◌, [], All, IfOk, IfSome, IsTrue, length, map, slice_index, take};
+ghost use Rattle.std.specs.Prelude.{◌≡◌, ℕ, ◌∷◌, [], List, Some, IfOk, IfSome, MatchOption, map, slice_get};
 ghost use Rattle.std.specs.Bool.{Decides};
-ghost use Rattle.rc_pattern.specs.Meaning.{alt_all, byte_range, char_range, class_meaning, meaning};
+ghost use Rattle.std.specs.Option.{option_and_then};
+ghost use Rattle.rc_pattern.specs.Meaning.{alt_all, byte_range, cat_all, char_range, class_meaning, meaning};
 ghost use Rattle.rc_pattern.specs.Re.{byte_in, char_in, literal};
 ghost use Rattle.rc_program.specs.Text.{Text};
-ghost use Rattle.rc_literal.specs.Extraction.{Adds, HasBytes, HasChars, IsStill, Keeps};
+ghost use Rattle.rc_literal.specs.Extraction.{Adds, first_bytes, is_still, range_bytes, range_chars};
 ghost use Rattle.rc_literal.specs.Literals.{Covers};
 ghost use Rattle.rc_literal.specs.Prefilters.{needles_of};
-ghost use Rattle.rc_literal.specs.Prefixes.{BeginsWithOne, EachBegins};
+ghost use Rattle.rc_literal.specs.Prefixes.{ArePrefixes, BeginsWithOne, EachBegins};
 ghost use Rattle.rc_literal.specs.Tables.{IsUsable, needles_in};
 
 use crate::prefilter::{Prefilter, is_usable};
@@ -22,12 +23,14 @@ const GREATEST_LENGTH: usize = 32;
 
 /// Prefixes with one of which each text begins that one of the patterns spells, none of them empty.
 ///
-/// There are at most 64, of at most 32 bytes each. None where some pattern may spell the empty text,
-/// begins with a class of more members, or has a prefix too many, and where there is no prefix. An
-/// `Err` is want of memory. It takes time linear in the patterns' size, and calls itself as deep as a
-/// pattern is.
+/// They are what may be read first: a literal, of which at most 32 bytes are taken, or each byte or
+/// character of a class. None where in some pattern a body that may be left out, or nothing but
+/// assertions, is read first, where there are more than 64, and where there is none. An `Err` is want
+/// of memory. It takes time linear in the patterns' size, and calls itself as deep as a pattern is.
 pub fn prefixes(alloc: Global, hirs: &[Hir]) -> Result<Option<Vec<Vec<u8>>>, AllocError>
     ensures usable { IfOk result (λ found. IfSome found (λ v. IsUsable (needles_in v.items))) }
+    ensures exact { IfOk result (λ found. MatchOption found ((ws : List (List ℕ)) → ¬ ArePrefixes (map meaning hirs.now) ws)
+        (λ v. ArePrefixes (map meaning hirs.now) (needles_in v.items))) }
     ensures covers { IfOk result (λ found. IfSome found (λ v. (t : Text) → Covers t (map meaning hirs.now) (needles_in v.items))) }
 {
     let mut list = Vec::new(alloc);
@@ -40,7 +43,7 @@ pub fn prefixes(alloc: Global, hirs: &[Hir]) -> Result<Option<Vec<Vec<u8>>>, All
 /// Adds the prefixes of a pattern; false where it has none of use.
 #[cycle(add)]
 fn add(alloc: Global, hir: &Hir, list: &mut Vec<Vec<u8>>) -> Result<bool, AllocError>
-    ensures { IfOk result (λ done. IsTrue done → Adds (needles_in list.old.items) (needles_in list.new.items) (meaning hir.now)) }
+    ensures { IfOk result (λ done. Adds done (needles_in list.old.items) (needles_in list.new.items) (first_bytes (meaning hir.now))) }
 {
     match hir.kind() {
         HirKind::Empty | HirKind::Look(_) => Ok(false),
@@ -64,8 +67,7 @@ fn add(alloc: Global, hir: &Hir, list: &mut Vec<Vec<u8>>) -> Result<bool, AllocE
 /// Adds the prefixes of each pattern; false where one has none of use.
 #[cycle(add)]
 fn add_alternation(alloc: Global, subs: &[Hir], list: &mut Vec<Vec<u8>>) -> Result<bool, AllocError>
-    ensures { IfOk result (λ done. IsTrue done
-        → Adds (needles_in list.old.items) (needles_in list.new.items) (alt_all (map meaning subs.now))) }
+    ensures { IfOk result (λ done. Adds done (needles_in list.old.items) (needles_in list.new.items) (first_bytes (alt_all (map meaning subs.now)))) }
 {
     for sub in subs {
         if !add(alloc, sub, list)? {
@@ -77,7 +79,7 @@ fn add_alternation(alloc: Global, subs: &[Hir], list: &mut Vec<Vec<u8>>) -> Resu
 
 /// How many members stand before the first that may read.
 fn still_count(subs: &[Hir]) -> usize
-    ensures { All IsStill (take result (map meaning subs.now)) }
+    ensures { first_bytes (cat_all (map meaning subs.now)) ≡ option_and_then first_bytes (slice_get (map meaning subs.now) result) }
 {
     for (i, sub) in subs.iter().enumerate() {
         if !is_still(sub) {
@@ -89,29 +91,29 @@ fn still_count(subs: &[Hir]) -> usize
 
 /// Whether it is an assertion or empty.
 fn is_still(hir: &Hir) -> bool
-    ensures { IsTrue result → IsStill (meaning hir.now) }
+    ensures { result ≡ is_still (meaning hir.now) }
 {
     match hir.kind() {
         HirKind::Empty | HirKind::Look(_) => true,
+        HirKind::Concat(subs) => subs.as_slice().is_empty(),
         HirKind::Literal(_)
         | HirKind::Class(_)
         | HirKind::Repetition(_)
         | HirKind::Capture(_)
-        | HirKind::Concat(_)
         | HirKind::Alternation(_) => false,
     }
 }
 
 /// Adds the first bytes of a literal.
 fn add_literal(alloc: Global, bytes: &[u8], list: &mut Vec<Vec<u8>>) -> Result<bool, AllocError>
-    ensures { IfOk result (λ done. IsTrue done → Adds (needles_in list.old.items) (needles_in list.new.items) (literal bytes.now)) }
+    ensures { IfOk result (λ done. Adds done (needles_in list.old.items) (needles_in list.new.items) (first_bytes (literal bytes.now))) }
 {
     add_needle(alloc, &bytes[..bytes.len().min(GREATEST_LENGTH)], list)
 }
 
 /// Adds each member of a class; false where there are too many.
 fn add_class(alloc: Global, class: &Class, list: &mut Vec<Vec<u8>>) -> Result<bool, AllocError>
-    ensures { IfOk result (λ done. IsTrue done → Adds (needles_in list.old.items) (needles_in list.new.items) (class_meaning class.now)) }
+    ensures { IfOk result (λ done. Adds done (needles_in list.old.items) (needles_in list.new.items) (first_bytes (class_meaning class.now))) }
 {
     match class {
         Class::Bytes(ranges) => add_byte_ranges(alloc, ranges, list),
@@ -125,8 +127,7 @@ fn add_byte_ranges(
     ranges: &[ClassBytesRange],
     list: &mut Vec<Vec<u8>>,
 ) -> Result<bool, AllocError>
-    ensures { IfOk result (λ done. IsTrue done
-        → Adds (needles_in list.old.items) (needles_in list.new.items) (byte_in (map byte_range ranges.now))) }
+    ensures { IfOk result (λ done. Adds done (needles_in list.old.items) (needles_in list.new.items) (first_bytes (byte_in (map byte_range ranges.now)))) }
 {
     for range in ranges {
         if !add_bytes(alloc, *range, list)? {
@@ -142,8 +143,7 @@ fn add_char_ranges(
     ranges: &[ClassUnicodeRange],
     list: &mut Vec<Vec<u8>>,
 ) -> Result<bool, AllocError>
-    ensures { IfOk result (λ done. IsTrue done
-        → Adds (needles_in list.old.items) (needles_in list.new.items) (char_in (map char_range ranges.now))) }
+    ensures { IfOk result (λ done. Adds done (needles_in list.old.items) (needles_in list.new.items) (first_bytes (char_in (map char_range ranges.now)))) }
 {
     for range in ranges {
         if !add_chars(alloc, *range, list)? {
@@ -159,8 +159,7 @@ fn add_bytes(
     range: ClassBytesRange,
     list: &mut Vec<Vec<u8>>,
 ) -> Result<bool, AllocError>
-    ensures keeps { IfOk result (λ done. IsTrue done → Keeps (needles_in list.old.items) (needles_in list.new.items)) }
-    ensures has { IfOk result (λ done. IsTrue done → HasBytes (needles_in list.new.items) range.start range.end) }
+    ensures { IfOk result (λ done. Adds done (needles_in list.old.items) (needles_in list.new.items) (Some (range_bytes (byte_range range)))) }
 {
     for byte in range.start as usize..range.end as usize + 1 {
         if !add_needle(alloc, &[byte as u8], list)? {
@@ -176,8 +175,7 @@ fn add_chars(
     range: ClassUnicodeRange,
     list: &mut Vec<Vec<u8>>,
 ) -> Result<bool, AllocError>
-    ensures keeps { IfOk result (λ done. IsTrue done → Keeps (needles_in list.old.items) (needles_in list.new.items)) }
-    ensures has { IfOk result (λ done. IsTrue done → HasChars (needles_in list.new.items) range.start range.end) }
+    ensures { IfOk result (λ done. Adds done (needles_in list.old.items) (needles_in list.new.items) (Some (range_chars (char_range range)))) }
 {
     for code in range.start as u32..range.end as u32 + 1 {
         if let Some(scalar) = char::from_u32(code) {
@@ -192,7 +190,7 @@ fn add_chars(
 
 /// Adds these bytes; false where the list is full.
 fn add_needle(alloc: Global, needle: &[u8], list: &mut Vec<Vec<u8>>) -> Result<bool, AllocError>
-    ensures { IfOk result (λ done. IsTrue done → needles_in list.new.items ≡ needles_in list.old.items ++ needle.now ∷ []) }
+    ensures { IfOk result (λ done. Adds done (needles_in list.old.items) (needles_in list.new.items) (Some (needle.now ∷ []))) }
 {
     if list.len() >= GREATEST_COUNT {
         return Ok(false);

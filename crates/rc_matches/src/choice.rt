@@ -7,7 +7,7 @@ ghost use Rattle.rc_program.specs.Sought.{Sought, passes_over};
 ghost use Rattle.rc_program.specs.Text.{Text};
 ghost use Rattle.rc_literal.specs.Literals.{Covers};
 ghost use Rattle.rc_literal.specs.Prefilters.{needles_of};
-ghost use Rattle.rc_matches.specs.Choices.{answering, exact_needles, guarding};
+ghost use Rattle.rc_matches.specs.Choices.{answering, exact_needles, guarding, IsGuard};
 ghost use Rattle.rc_matches.specs.Strategies.{IsSound};
 
 use crate::strategy::Strategy;
@@ -36,6 +36,8 @@ pub fn choose(
     ensures exact { IfOk result (λ s. answering s ≡ (if is_auto then exact_needles (map meaning hirs.now) else None)) }
     ensures asked { is_auto ≡ false
         → IfOk result (λ s. IfSome (guarding s) (λ needles. option_map (λ p. needles_of p.now) asked.entry ≡ Some needles)) }
+    ensures guards { IfOk result (λ s. answering s ≡ None
+        → IsGuard (map meaning hirs.now) (option_map (λ p. needles_of p.now) asked.entry) is_auto (guarding s)) }
 {
     if is_auto {
         if let Some(needles) = exact_prefilter(alloc, hirs)? {
@@ -70,6 +72,8 @@ fn guard(
     ensures covers { IfOk result (λ found. IfSome found (λ p. (t : Text) → Covers t (map meaning hirs.now) (needles_of p))) }
     ensures asked { is_auto ≡ false
         → IfOk result (λ found. IfSome found (λ p. option_map (λ a. needles_of a.now) asked.entry ≡ Some (needles_of p))) }
+    ensures guards { IfOk result (λ found. IsGuard (map meaning hirs.now) (option_map (λ a. needles_of a.now) asked.entry) is_auto
+        (option_map needles_of found)) }
 {
     let Some(prefixes) = prefixes(alloc, hirs)? else {
         return Ok(None);

@@ -1,10 +1,10 @@
 //! What a search may go by, beside its places.
-ghost use Rattle.std.specs.Prelude.{MatchOption, ◌≡◌, ℕ, Bool, List, ⊤, false, None};
+ghost use Rattle.std.specs.Prelude.{MatchOption, ◌≡◌, ℕ, Bool, List, ⊤, false, None, option_map};
 ghost use Rattle.rc_text.specs.declared.types.MatchKind.TheVariants.{LeftmostFirst};
 ghost use Rattle.rc_program.specs.Program.{Place as PlaceOf};
 ghost use Rattle.rc_literal.specs.Guards.{Guards};
 ghost use Rattle.rc_literal.specs.Prefilters.{needles_of};
-ghost use Rattle.rc_matches.specs.Choices.{guarding};
+ghost use Rattle.rc_matches.specs.Choices.{answering, guarding};
 ghost use Rattle.rc_matches.specs.Strategies.{AreAnswers, IsSound};
 
 use rc_literal::prefilter::Prefilter;
@@ -47,7 +47,8 @@ impl Strategy {
 
 /// The needles where walks begin.
 pub fn guards_of(strategy: &Strategy) -> Option<&Prefilter>
-    ensures { (places : List PlaceOf) (terminator : ℕ) (over : Bool) → IsSound places terminator over strategy.now
+    ensures value { option_map (λ p. needles_of p.now) result ≡ guarding strategy.now }
+    ensures sound { (places : List PlaceOf) (terminator : ℕ) (over : Bool) → IsSound places terminator over strategy.now
         → MatchOption result ⊤ (λ p. Guards places terminator (needles_of p.now)) }
 {
     match strategy {
@@ -59,7 +60,8 @@ pub fn guards_of(strategy: &Strategy) -> Option<&Prefilter>
 
 /// The needles that alone tell the answer to a search for this kind of match.
 pub fn literals_of(strategy: &Strategy, kind: MatchKind) -> Option<&Prefilter>
-    ensures { (places : List PlaceOf) (terminator : ℕ) (over : Bool) → IsSound places terminator over strategy.now
+    ensures value { kind ≡ LeftmostFirst → option_map (λ p. needles_of p.now) result ≡ answering strategy.now }
+    ensures sound { (places : List PlaceOf) (terminator : ℕ) (over : Bool) → IsSound places terminator over strategy.now
         → MatchOption result ⊤ (λ p. (kind ≡ LeftmostFirst) × AreAnswers places terminator over (needles_of p.now)) }
 {
     match (strategy, kind) {

@@ -1,9 +1,11 @@
-use Rattle.std.proofs.Common.{ℕ, ◌≤◌, ◌<◌, [], ◌∷◌}
-use Rattle.rc_literal.specs.Extraction.{IsAmong, Keeps}
+use Rattle.std.proofs.Common.{◌≡◌, ◌+◌, ◌-◌, ◌∷◌, [], map, Some}
+use Rattle.std.specs.List.{range_with_len}
+use Rattle.rc_pattern.specs.Meaning.{byte_range}
+use Rattle.rc_literal.specs.Extraction.{filled, grown, range_bytes}
 use Rattle.rc_literal.specs.Tables.{needles_in}
 use Rattle.rc_literal.proofs.prefixes.add_bytes.Given as goal
 
 abbrev pub invariant-loop-byte : goal.invariant-loop-byte
 invariant-loop-byte l =
-    Keeps (needles_in l.initial.list.items) (needles_in l.list.items)
-    × ((b : ℕ) → l.fn.range.start ≤ b → b < l.byte → IsAmong (needles_in l.list.items) (b ∷ []))
+    grown (needles_in l.initial.list.items) (Some (range_bytes (byte_range l.fn.range)))
+    ≡ filled (needles_in l.list.items) (map (λ b. b ∷ []) (range_with_len l.byte (l.fn.range.end + 1 - l.byte)))

@@ -1,22 +1,26 @@
-use Rattle.std.proofs.Common.{◌≡◌, ℕ, length, ap, sym, ◌∙◌, arith, refl}
-use Rattle.rc_literal.proofs.ExtractionLemmas.{one_more_held, all_held, one_more_still, one_more_byte, one_more_char, no_more_char, holds_kept, holds_bytes, holds_chars, holds_literal, holds_repeat, holds_alt, holds_cat, covers_alt}
-use Rattle.rc_literal.specs.Extraction.{HasBytes, HasChars, Holds}
+use Rattle.std.proofs.Common.{◌∙◌, ap, sym, refl, Some}
+use Rattle.rc_literal.specs.Extraction.{grown, range_chars}
 use Rattle.rc_literal.specs.Tables.{needles_in}
+use Rattle.rc_pattern.specs.Meaning.{char_range}
+use Rattle.rc_literal.proofs.ExtractionLemmas.{each_some, turn_failed, turn_taken, turns_done}
 use Rattle.rc_literal.proofs.prefixes.add_char_ranges.Goals as goal
+
+pub returns-then-not-branch : goal.returns-then-not-branch
+returns-then-not-branch c =
+    let begun = needles_in c.args.list.now.items in
+    ap (grown begun) (sym (each_some char_range range_chars c.args.ranges.now))
+    ∙ turn_failed (λ r. Some (range_chars (char_range r))) begun (needles_in c.loop-range.list.items) (needles_in c.add_chars.new.list.items) c.args.ranges.now
+    c.loop-range.range-index _ _ _ c.loop-range-test.true refl c.loop-range.invariant c.in_ok-add_chars.ensures c.if-not-branch.true
 
 pub loop-range-preserved : goal.loop-range-preserved
 loop-range-preserved c =
-    let keeps = c.in_ok-add_chars.ensures.keeps c.if-not-branch.false in (
-      (λ n a. keeps n (c.loop-range.invariant.0 n a)),
-      one_more_held (λ r. HasChars (needles_in c.loop-range.list.items) r.start r.end) (λ r. HasChars (needles_in c.add_chars.new.list.items) r.start r.end)
-          c.args.ranges.now c.loop-range.range-index _ c.loop-range-test.true
-          (λ r has b scalar low high. keeps _ (has b scalar low high)) c.loop-range.invariant.1 (c.in_ok-add_chars.ensures.has c.if-not-branch.false),
-    )
+    turn_taken (λ r. Some (range_chars (char_range r))) (needles_in c.args.list.now.items) (needles_in c.loop-range.list.items)
+    (needles_in c.add_chars.new.list.items) c.args.ranges.now c.loop-range.range-index _ _ _ c.loop-range-test.true refl c.loop-range.invariant
+    c.in_ok-add_chars.ensures c.if-not-branch.false
 
 pub returns : goal.returns
-returns c t = record {
-  keeps = c.loop-range.invariant.0;
-  holds = holds_chars (needles_in c.loop-range.list.items) c.args.ranges.now
-      (all_held (λ r. HasChars (needles_in c.loop-range.list.items) r.start r.end) c.args.ranges.now c.loop-range.range-index
-      c.loop-range-test.false c.loop-range.invariant.1);
-}
+returns c =
+    let begun = needles_in c.args.list.now.items in
+    ap (grown begun) (sym (each_some char_range range_chars c.args.ranges.now))
+    ∙ turns_done (λ r. Some (range_chars (char_range r))) begun (needles_in c.loop-range.list.items) c.args.ranges.now c.loop-range.range-index
+    c.loop-range-test.false c.loop-range.invariant

@@ -1,10 +1,10 @@
-use Rattle.std.proofs.Common.{take}
-use Rattle.std.specs.Prelude.{All}
-use Rattle.rc_literal.specs.Extraction.{HasChars, Keeps}
+use Rattle.std.proofs.Common.{Some}
+use Rattle.rc_pattern.specs.Meaning.{char_range}
+use Rattle.rc_literal.specs.Extraction.{range_chars}
 use Rattle.rc_literal.specs.Tables.{needles_in}
+use Rattle.rc_literal.proofs.ExtractionLemmas.{IsLeft}
 use Rattle.rc_literal.proofs.prefixes.add_char_ranges.Given as goal
 
 abbrev pub invariant-loop-range : goal.invariant-loop-range
 invariant-loop-range l =
-    Keeps (needles_in l.initial.list.items) (needles_in l.list.items)
-    × All (λ r. HasChars (needles_in l.list.items) r.start r.end) (take l.range-index l.ranges)
+    IsLeft (λ r. Some (range_chars (char_range r))) (needles_in l.initial.list.items) (needles_in l.list.items) l.ranges l.range-index

@@ -1,11 +1,11 @@
-use Rattle.std.proofs.Common.{ℕ, ◌≤◌, ◌<◌}
-use Rattle.std.specs.Prelude.{encode_utf8}
-use Rattle.std.specs.Char.{IsScalar}
-use Rattle.rc_literal.specs.Extraction.{IsAmong, Keeps}
+use Rattle.std.proofs.Common.{◌≡◌, ◌+◌, Some}
+use Rattle.rc_pattern.specs.Meaning.{char_range}
+use Rattle.rc_literal.specs.Extraction.{filled, grown, range_chars}
 use Rattle.rc_literal.specs.Tables.{needles_in}
+use Rattle.rc_literal.proofs.ExtractionLemmas.{scalars_left}
 use Rattle.rc_literal.proofs.prefixes.add_chars.Given as goal
 
 abbrev pub invariant-loop-code : goal.invariant-loop-code
 invariant-loop-code l =
-    Keeps (needles_in l.initial.list.items) (needles_in l.list.items)
-    × ((c : ℕ) → IsScalar c → l.fn.range.start ≤ c → c < l.code → IsAmong (needles_in l.list.items) (encode_utf8 c))
+    grown (needles_in l.initial.list.items) (Some (range_chars (char_range l.fn.range)))
+    ≡ filled (needles_in l.list.items) (scalars_left l.code (l.fn.range.end + 1))

@@ -1,12 +1,10 @@
-use Rattle.std.proofs.Common.{◌≡◌, ◌<◌, ℕ, length, ap, sym, subst, ◌∙◌, arith, refl, true, false, [], get_or}
+use Rattle.std.proofs.Common.{◌<◌, length, ap, subst, arith, refl}
 use Rattle.std.proofs.lemmas.Bool.{false≢true}
-use Rattle.std.proofs.lemmas.Option.{get_or_from_slice_get, slice_get_within}
+use Rattle.std.proofs.lemmas.Option.{slice_get_within}
 use Rattle.rc_literal.proofs.StandLemmas.{needle_count}
-use Rattle.rc_literal.proofs.CoverLemmas.{all_get}
-use Rattle.rc_literal.proofs.ExtractionLemmas.{one_more_held, all_held}
 use Rattle.rc_literal.proofs.BeginLemmas.{needle_got, begins_when, begins_not, one_more_not}
 use Rattle.rc_literal.specs.Prefilters.{needles_of}
-use Rattle.rc_literal.specs.Prefixes.{BeginsWith, BeginsWithOne}
+use Rattle.rc_literal.specs.Prefixes.{BeginsWith}
 use Rattle.rc_literal.specs.Tables.{needles_in}
 use Rattle.rc_literal.proofs.prefixes.begins_with_needle.Goals as goal
 

@@ -9,4 +9,4 @@ pub search_slots_by_kind-requires-clause-guarded : goal.search_slots_by_kind-req
 search_slots_by_kind-requires-clause-guarded g c =
     let e = c.args.vm.now.engine in
     subst (λ xs. MatchOption c.guards_of.result ⊤ (λ p. Guards (places_of xs) e.terminator (needles_of p.now))) (sym c.deref.ensures.value)
-    (c.guards_of.ensures (places_of e.places.items) e.terminator e.passes_over e.sound)
+    (c.guards_of.ensures.sound (places_of e.places.items) e.terminator e.passes_over e.sound)

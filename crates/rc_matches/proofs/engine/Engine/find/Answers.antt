@@ -12,7 +12,7 @@ use Rattle.rc_matches.proofs.engine.Engine.find.Goals as goal
 pub returns-in-Some-clause-found : goal.returns-in-Some-clause-found
 returns-in-Some-clause-found g c =
     let places = places_of c.args.self.now.places.items in
-    let all = c.literals_of.ensures places c.args.self.now.terminator c.args.self.now.passes_over c.args.self.now.sound in
+    let all = c.literals_of.ensures.sound places c.args.self.now.terminator c.args.self.now.passes_over c.args.self.now.sound in
     let some =
     subst
     (λ o. MatchOption o ⊤ (λ p. (c.args.self.now.kind ≡ LeftmostFirst) × AreAnswers places c.args.self.now.terminator c.args.self.now.passes_over (needles_of p.now)))
@@ -23,4 +23,4 @@ returns-in-Some-clause-found g c =
 pub find_by_kind-requires-clause-guarded : goal.find_by_kind-requires-clause-guarded
 find_by_kind-requires-clause-guarded g c =
     subst (λ xs. MatchOption c.guards_of.result ⊤ (λ p. Guards (places_of xs) c.args.self.now.terminator (needles_of p.now))) (sym c.deref.ensures.value)
-    (c.guards_of.ensures (places_of c.args.self.now.places.items) c.args.self.now.terminator c.args.self.now.passes_over c.args.self.now.sound)
+    (c.guards_of.ensures.sound (places_of c.args.self.now.places.items) c.args.self.now.terminator c.args.self.now.passes_over c.args.self.now.sound)
