@@ -47,15 +47,3 @@ fn fills_few_slots(rt: HostRuntime) -> Result<(), Fail> {
     assert!(&rt; fewer == [Some(1)]);
     Ok(())
 }
-
-#[test]
-fn clears_captures(rt: HostRuntime) -> Result<(), Fail> {
-    let alloc = rt.alloc();
-    let re = Regex::new(alloc, "(a)")?;
-    let mut caps = re.create_captures(alloc)?;
-    re.search_captures(alloc, Input::new("xa"), &mut caps)?;
-    assert_eq!(&rt; ends(caps.get_group(1)), Some((1, 2)));
-    re.search_captures(alloc, Input::new("x"), &mut caps)?;
-    assert!(&rt; !caps.is_match());
-    Ok(())
-}

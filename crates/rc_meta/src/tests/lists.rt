@@ -45,7 +45,6 @@ fn begins_a_long_list(rt: HostRuntime) -> Result<(), Fail> {
     assert!(&rt; found.next().is_some());
     let mut pieces = re.split(alloc, Input::new(long.as_slice()))?;
     assert_eq!(&rt; ends(pieces.next()), Some((0, 0)));
-    assert_eq!(&rt; ends(pieces.next()), Some((1, 1)));
     Ok(())
 }
 
@@ -53,17 +52,18 @@ fn begins_a_long_list(rt: HostRuntime) -> Result<(), Fail> {
 fn lists_captures(rt: HostRuntime) -> Result<(), Fail> {
     let alloc = rt.alloc();
     let re = Regex::new(alloc, "(a)|(b)")?;
-    let mut firsts = Vec::new(alloc);
-    for caps in re.captures_iter(alloc, Input::new("abxa"))? {
-        let caps = caps?;
-        firsts.push(caps.get_group(1).is_some())?;
-    }
-    assert!(&rt; firsts.as_slice() == [true, false, true].as_slice());
     let mut found = re.captures_iter(alloc, Input::new("abxa"))?;
     assert_eq!(&rt; found.regex().captures_len(), 3);
     assert_eq!(&rt; found.input().start(), 0);
-    assert!(&rt; found.next().is_some());
-    assert_eq!(&rt; found.count(), 2);
+    let Some(Ok(first)) = found.next() else {
+        return Err("there is a match".into());
+    };
+    assert_eq!(&rt; ends(first.get_group(1)), Some((0, 1)));
+    let Some(Ok(second)) = found.next() else {
+        return Err("there is a match".into());
+    };
+    assert_eq!(&rt; ends(second.get_group(1)), None);
+    assert_eq!(&rt; found.count(), 1);
     Ok(())
 }
 
