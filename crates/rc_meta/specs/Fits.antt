@@ -1,5 +1,5 @@
 -- What is built from patterns under settings.
-use Rattle.std.specs.Prelude.{◌≡◌, ◌≤◌, List}
+use Rattle.std.specs.Prelude.{◌≡◌, ◌≤◌, List, None, false}
 use Rattle.rc_pattern.specs.Re.{Re}
 use Rattle.rc_pattern.specs.Weight.{list_weight}
 use Rattle.rc_captures.specs.Groups.{names_of}
@@ -7,10 +7,11 @@ use Rattle.rc_captures.specs.declared.groups.GroupInfo.{GroupInfo}
 use Rattle.rc_program.specs.Program.{program, shown}
 use Rattle.rc_program.specs.Sought.{Sought, passes_over}
 use Rattle.rc_thompson.specs.Places.{places_of}
+use Rattle.rc_matches.specs.Choices.{guarding}
 use Rattle.rc_matches.specs.declared.engine.Engine.{Engine}
 use Rattle.rc_build.specs.Names.{is_grouped, names_shown}
 use Rattle.rc_build.specs.Refusals.{greatest_weight}
-use Rattle.rc_build.specs.Settings.{Settings, match_kind_of, utf8_empty_of, which_captures_of, line_terminator_of}
+use Rattle.rc_build.specs.Settings.{Settings, match_kind_of, utf8_empty_of, auto_prefilter_of, prefilter_of, which_captures_of, line_terminator_of}
 
 -- what is sought by patterns under settings
 abbrev pub sought_by : Settings → List Re → Sought
@@ -29,3 +30,5 @@ pub record Fits (s : Settings) (hs : List Re) (e : Engine) (info : GroupInfo) : 
   pub passing : e.passes_over ≡ passes_over (sought_by s hs)
   pub kinded : e.kind ≡ match_kind_of s
   pub named : names_of info ≡ names_shown (is_grouped (which_captures_of s)) hs
+  -- no needles, where none are asked for
+  pub unguarded : auto_prefilter_of s ≡ false → prefilter_of s ≡ None → guarding e.strategy ≡ None

@@ -142,6 +142,10 @@ pub record MatchedLaw {C : Type 0} (kind : MatchKind) (names : Names) (search : 
 abbrev pub split_left : {C : Type 0} → Split C → List Span
 split_left s = unless_done s.is_done (pieces_from s.start (high s.matches.input) (find_left s.matches))
 
+-- the input that is kept
+abbrev pub split_input : {C : Type 0} → Split C → Searched
+split_input s = find_input s.matches
+
 -- at most so many of them
 abbrev pub few_left : {C : Type 0} → ℕ → Split C → List Span
 few_left n s = unless_done s.is_done (pieces_left n s.start (high s.matches.input) (find_left s.matches))
@@ -152,3 +156,6 @@ splitn_limit s = s.limit
 
 abbrev pub splitn_left : {C : Type 0} → SplitN C → List Span
 splitn_left s = few_left (splitn_limit s) s.pieces
+
+abbrev pub splitn_input : {C : Type 0} → SplitN C → Searched
+splitn_input s = split_input s.pieces

@@ -52,7 +52,7 @@ pub struct SplitN<'r, C: Cursor> {
 
 impl<'r, C: Cursor> FindMatches<'r, C> {
     ghost use Rattle.std.specs.Prelude.{◌≡◌};
-    ghost use Rattle.rc_meta.specs.Left.{find_regex};
+    ghost use Rattle.rc_meta.specs.Left.{find_input, find_regex};
 
     /// The regex.
     pub fn regex(&self) -> &'r Regex
@@ -62,7 +62,9 @@ impl<'r, C: Cursor> FindMatches<'r, C> {
     }
 
     /// The input. It may be changed: `next` then goes on in what it is.
-    pub fn input(&mut self) -> &mut Input<C> {
+    pub fn input(&mut self) -> &mut Input<C>
+        ensures { result.now ≡ find_input self.old }
+    {
         &mut self.input
     }
 }
@@ -100,7 +102,7 @@ impl<'r, C: Cursor + Drop> FusedIterator for FindMatches<'r, C> {}
 
 impl<'r, C: Cursor> CapturesMatches<'r, C> {
     ghost use Rattle.std.specs.Prelude.{◌≡◌};
-    ghost use Rattle.rc_meta.specs.Left.{captures_regex};
+    ghost use Rattle.rc_meta.specs.Left.{captures_input, captures_regex};
 
     /// The regex.
     pub fn regex(&self) -> &'r Regex
@@ -110,7 +112,9 @@ impl<'r, C: Cursor> CapturesMatches<'r, C> {
     }
 
     /// The input. It may be changed: `next` then goes on in what it is.
-    pub fn input(&mut self) -> &mut Input<C> {
+    pub fn input(&mut self) -> &mut Input<C>
+        ensures { result.now ≡ captures_input self.old }
+    {
         &mut self.input
     }
 }
@@ -154,10 +158,12 @@ impl<'r, C: Cursor> Split<'r, C> {
     ghost use Rattle.std.specs.Prelude.{◌≡◌, ◌∷◌, ℕ, suc, [], MatchOption, true};
     ghost use Rattle.std.specs.Iterator.{YieldsFirst};
     ghost use Rattle.rc_text.specs.Text.{high};
-    ghost use Rattle.rc_meta.specs.Left.{few_left, split_left};
+    ghost use Rattle.rc_meta.specs.Left.{few_left, split_input, split_left};
 
     /// The input. It may be changed: `next` then goes on in what it is.
-    pub fn input(&mut self) -> &mut Input<C> {
+    pub fn input(&mut self) -> &mut Input<C>
+        ensures { result.now ≡ split_input self.old }
+    {
         &mut self.matches.input
     }
 
@@ -216,10 +222,12 @@ impl<'r, C: Cursor + Drop> FusedIterator for Split<'r, C> {}
 impl<'r, C: Cursor> SplitN<'r, C> {
     ghost use Rattle.std.specs.Prelude.{◌≡◌, ◌-◌};
     ghost use Rattle.std.specs.Iterator.{YieldsFirst};
-    ghost use Rattle.rc_meta.specs.Left.{splitn_left, splitn_limit};
+    ghost use Rattle.rc_meta.specs.Left.{splitn_input, splitn_left, splitn_limit};
 
     /// The input. It may be changed: `next` then goes on in what it is.
-    pub fn input(&mut self) -> &mut Input<C> {
+    pub fn input(&mut self) -> &mut Input<C>
+        ensures { result.now ≡ splitn_input self.old }
+    {
         &mut self.pieces.matches.input
     }
 

@@ -41,14 +41,14 @@ pub struct Regex {
 }
 
 impl Regex {
-    ghost use Rattle.std.specs.Prelude.{◌≡◌, ◌≤◌, ◌<◌, ◌+◌, ◌^◌, ◌↔◌, ◌∷◌, [], All, IfErr, IfOk, IfSome, OnOk, OnErr, IsSome, IsTrue, MatchOption, Some, None, length, map, option_map};
+    ghost use Rattle.std.specs.Prelude.{◌≡◌, ◌≤◌, ◌<◌, ◌+◌, ◌^◌, ◌↔◌, ◌∷◌, [], All, IfErr, IfOk, IfSome, OnOk, OnErr, IsSome, IsTrue, MatchOption, Some, None, false, length, map, option_map};
     ghost use Rattle.rc_captures.specs.Captures.{IsCapturesFor, captures_pattern, captures_slots, match_of};
     ghost use Rattle.rc_captures.specs.Groups.{names_of};
     ghost use Rattle.rc_captures.specs.Names.{slot_len};
     ghost use Rattle.rc_matches.specs.Tells.{Tells, TellsBy, KeepsAll};
     ghost use Rattle.rc_matches.specs.Walks.{walks_left};
     ghost use Rattle.rc_program.specs.Matches.{matches_left, pieces_of, pieces_at_most};
-    ghost use Rattle.rc_meta.specs.Left.{captures_input, captures_left, captures_regex, captures_walks, CapturesLaw, MatchedLaw, find_input, find_left, find_regex, split_left, splitn_left, splitn_limit};
+    ghost use Rattle.rc_meta.specs.Left.{captures_input, captures_left, captures_regex, captures_walks, CapturesLaw, MatchedLaw, find_input, find_left, find_regex, split_input, split_left, splitn_input, splitn_left, splitn_limit};
     ghost use Rattle.rc_text.specs.Found.{Found};
     ghost use Rattle.rc_program.specs.Laws.{all_groups};
     ghost use Rattle.rc_meta.specs.Counts.{half_of, static_captures_len};
@@ -58,7 +58,7 @@ impl Regex {
     ghost use Rattle.rc_program.specs.Kinds.{IsAnswerBy, answer_by, matches_by_kind};
     ghost use Rattle.rc_pikevm.specs.KindSlots.{slots_by};
     ghost use Rattle.rc_program.specs.Sought.{search_for};
-    ghost use Rattle.rc_build.specs.Settings.{unset, match_kind_of, nfa_size_limit_of};
+    ghost use Rattle.rc_build.specs.Settings.{unset, auto_prefilter_of, prefilter_of, match_kind_of, nfa_size_limit_of};
     ghost use Rattle.rc_build.specs.Refusals.{IsBuildable};
     ghost use Rattle.rc_build.specs.TextRefusals.{AllRead, IsTextRefusal, texts_of};
     ghost use Rattle.rc_syntax.specs.Settings.{default_settings};
@@ -259,7 +259,10 @@ impl Regex {
     }
 
     /// Whether searches go by needles, and one for these goes by a needle or by at most three bytes.
-    pub fn is_accelerated(&self) -> bool {
+    pub fn is_accelerated(&self) -> bool
+        ensures { auto_prefilter_of (regex_settings self.now) ≡ false → prefilter_of (regex_settings self.now) ≡ None
+            → result ≡ false }
+    {
         self.engine.strategy.is_fast()
     }
 
@@ -374,7 +377,7 @@ impl Regex {
     }
 
     /// The pattern of the match that `find` finds, and its slots in `slots`, which may be fewer than the regex has. Without a match
-    /// the slots stay. An `Err` is want of memory.
+    /// the slots stay. An `Err` is want of memory, and then the slots stay too.
     ///
     /// Under `MatchKind::All` the slots of explicit groups hold nothing.
     pub fn search_slots<C: Cursor + Drop>(
@@ -384,6 +387,7 @@ impl Regex {
         slots: &mut [Option<usize>],
     ) -> Result<Option<PatternID>, AllocError>
         requires few { length slots.old ≤ slot_len (regex_names self.now) }
+        ensures refused { OnErr result (slots.new ≡ slots.old) }
         ensures pattern { match_kind_of (regex_settings self.now) ≡ LeftmostFirst
             → IfOk result (λ p. p ≡ option_map (λ (m : Found). m.pattern) (answer (search_for (sought self.now) input))) }
         ensures slots { match_kind_of (regex_settings self.now) ≡ LeftmostFirst
@@ -501,6 +505,7 @@ impl Regex {
             ≡ pieces_of (high input) (matches_left (search_for (sought self.now) input) input.span.start None)) }
         ensures left_by { IfOk result (λ s. split_left s
             ≡ pieces_of (high input) (matches_by_kind (regex_kind self.now) (search_for (sought self.now) input) input.span.start None)) }
+        ensures input { IfOk result (λ s. split_input s ≡ input) }
         ensures few { IfOk result (λ s. length (split_left s) ≤ high input + 2) }
         ensures short { high input + 2 < 2 ^ 64 → IfOk result (λ s. length (split_left s) < 2 ^ 64) }
     {
@@ -526,6 +531,7 @@ impl Regex {
         ensures left_by { IfOk result (λ s. splitn_left s
             ≡ pieces_at_most limit (high input) (matches_by_kind (regex_kind self.now) (search_for (sought self.now) input) input.span.start None)) }
         ensures limit { IfOk result (λ s. splitn_limit s ≡ limit) }
+        ensures input { IfOk result (λ s. splitn_input s ≡ input) }
     {
         let matches = self.find_iter(alloc, input)?;
         let pieces = Split {

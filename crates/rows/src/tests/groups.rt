@@ -34,6 +34,8 @@ fn groups_of_one_pattern(rt: HostRuntime) -> Result<(), Fail> {
             ),
             ("(|a)+", b"aaa", &[Some((0, 0)), Some((0, 0))]),
             ("(a)|(b)", b"b", &[Some((0, 1)), None, Some((0, 1))]),
+            ("(a)|(b)", b"xa", &[Some((1, 2)), Some((1, 2)), None]),
+            ("(a*)*b", b"xaab", &[Some((1, 4)), Some((1, 3))]),
             ("(a|b){2}", b"ab", &[Some((0, 2)), Some((1, 2))]),
             ("(?:(a)|b)*", b"ab", &[Some((0, 2)), Some((0, 1))]),
             ("(a){0}b", b"ab", &[Some((1, 2)), None]),
@@ -149,6 +151,18 @@ fn one_of_two_patterns(rt: HostRuntime) -> Result<(), Fail> {
             (b"ab", Asked::all(), Some((0, &[Some((0, 2))]))),
             (b"ab", by(1)?, Some((1, &[Some((0, 1))]))),
         ],
+    )?;
+    rows_of_patterns(
+        &rt,
+        rt.alloc(),
+        &["a", "ba"],
+        &[(b"xba", Asked::all(), Some((1, &[Some((1, 3))])))],
+    )?;
+    rows_of_patterns(
+        &rt,
+        rt.alloc(),
+        &["x", "a+"],
+        &[(b"baac", Asked::all(), Some((1, &[Some((1, 3))])))],
     )?;
     Ok(())
 }

@@ -2,7 +2,7 @@
 
 use crate::tests::cursors::Recut;
 use crate::tests::engines::Engines;
-use crate::tests::searches::{Asked, splits};
+use crate::tests::searches::{Asked, Groups, groups, splits};
 use crate::tests::tables::{Pairs, row};
 use rc_build::config::Config;
 use rc_literal::prefilter::Prefilter;
@@ -25,6 +25,24 @@ fn greatest_matches(rt: HostRuntime) -> Result<(), Fail> {
         let engines = Engines::build(alloc, pattern, Syntax::new(), config)?;
         row(&rt, alloc, &engines, text, matches)?;
         splits(&rt, alloc, &engines, text, Asked::all(), pieces)?;
+    }
+    Ok(())
+}
+
+/// Its groups are the whole match alone, and an empty one may stand inside a character.
+#[test]
+fn groups_of_the_greatest_match(rt: HostRuntime) -> Result<(), Fail> {
+    let alloc = rt.alloc();
+    let rows: [(&str, &str, usize, Groups); 3] = [
+        ("(a)|ab", "ab", 2, (0, &[Some((0, 2)), None])),
+        ("(a)|ab", "a", 1, (0, &[Some((0, 1)), None])),
+        ("", "é", 1, (0, &[Some((1, 1))])),
+    ];
+    for (pattern, text, end, want) in rows {
+        let config = Config::new().match_kind(MatchKind::All);
+        let engines = Engines::build(alloc, pattern, Syntax::new(), config)?;
+        let asked = Asked::all().span(0, end);
+        groups(&rt, alloc, &engines, text.as_bytes(), asked, Some(want))?;
     }
     Ok(())
 }
@@ -54,12 +72,16 @@ fn earliest_match(rt: HostRuntime) -> Result<(), Fail> {
 #[test]
 fn prefilters_of_a_caller(rt: HostRuntime) -> Result<(), Fail> {
     let alloc = rt.alloc();
-    let needles: [&[u8]; 2] = [b"zz", b"ab"];
-    for needle in needles {
+    let rows: [(&str, &[u8], Pairs); 3] = [
+        ("abcd", b"zz", &[(1, 5)]),
+        ("abcd", b"ab", &[(1, 5)]),
+        ("abcd|y*", b"ab", &[(0, 0), (1, 5)]),
+    ];
+    for (pattern, needle, want) in rows {
         let prefilter = Prefilter::new(alloc, MatchKind::LeftmostFirst, &[needle])?;
         let config = Config::new().prefilter(prefilter);
-        let engines = Engines::build(alloc, "abcd", Syntax::new(), config)?;
-        row(&rt, alloc, &engines, b"xabcd", &[(1, 5)])?;
+        let engines = Engines::build(alloc, pattern, Syntax::new(), config)?;
+        row(&rt, alloc, &engines, b"xabcd", want)?;
     }
     Ok(())
 }

@@ -41,13 +41,19 @@ fn lists_in_spans(rt: HostRuntime) -> Result<(), Fail> {
     let alloc = rt.alloc();
     let engines = Engines::new(alloc, "a")?;
     // the last span starts below the slice
-    let rows: [(&[u8], Asked, Pairs, Pairs); 3] = [
+    let rows: [(&[u8], Asked, Pairs, Pairs); 4] = [
         (b"aa", Asked::all().span(5, 9), &[], &[(0, 2)]),
         (
             b"ba",
             Asked::all().span(0, 100),
             &[(1, 2)],
             &[(0, 1), (2, 2)],
+        ),
+        (
+            b"bab",
+            Asked::all().span(1, 3),
+            &[(1, 2)],
+            &[(0, 1), (2, 3)],
         ),
         (
             b"aaaa",

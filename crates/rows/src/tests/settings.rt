@@ -25,6 +25,8 @@ fn limits_on_the_size(rt: HostRuntime) -> Result<(), Fail> {
     for (text, limit, refused) in [
         ("a", Some(192), None),
         ("a", Some(191), Some(191)),
+        ("(a)", Some(256), None),
+        ("(a)", Some(255), Some(255)),
         (r"\d", Some(2880), None),
         (r"\d", Some(2879), Some(2879)),
         (".", Some(5568), None),
@@ -85,15 +87,20 @@ fn texts_that_are_not_read(rt: HostRuntime) -> Result<(), Fail> {
 
 #[test]
 fn first_of_the_refusals(rt: HostRuntime) -> Result<(), Fail> {
-    for texts in [["a", "("], ["(?:a{1000}){1000}", "("]] {
+    let large = "(?:a{1000}){1000}";
+    for (texts, want, limit) in [
+        (["a", "("], Some(1), None),
+        (["(", "*"], Some(0), None),
+        ([large, "("], Some(1), None),
+        ([large, "a"], None, Some(10485760)),
+    ] {
         let refusal = Regex::new_many(rt.alloc(), &texts)
             .err()
             .ok_or("it was read")?;
-        assert_eq!(rt; refusal.pattern().map(|p| p.as_usize()), Some(1));
+        assert_eq!(rt; refusal.pattern().map(|p| p.as_usize()), want);
+        assert_eq!(rt; refusal.size_limit(), limit);
     }
-    let refusal = Regex::new(rt.alloc(), "(?:a{1000}){1000}")
-        .err()
-        .ok_or("it was built")?;
+    let refusal = Regex::new(rt.alloc(), large).err().ok_or("it was built")?;
     assert_eq!(rt; refusal.size_limit(), Some(10485760));
     Ok(())
 }
