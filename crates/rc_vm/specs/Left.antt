@@ -25,6 +25,14 @@ module _ {C : Type 0} {cursor : Ghosts C} where
   abbrev pub find_vm : FindMatches C cursor → PikeVM
   find_vm s = s.vm.now
 
+  -- the input that is kept
+  abbrev pub find_input : FindMatches C cursor → Searched
+  find_input s = s.input
+
+  -- the same, but for the input that is kept
+  abbrev pub with_input : FindMatches C cursor → Searched → FindMatches C cursor
+  with_input s i = record s { input = i }
+
   -- the ghost name of the reference to the cache
   abbrev pub find_lender : FindMatches C cursor → GName
   find_lender s = s.cache.ghost_name
