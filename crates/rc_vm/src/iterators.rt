@@ -13,7 +13,7 @@ use std::iter::FusedIterator;
 
 /// The matches in an input, from left to right. Each is searched for when `next` is called, in the cache that is lent.
 ///
-/// The cache is always one that was made for the `PikeVM`.
+/// After the last it gives none, whatever its input becomes. The cache is always one that was made for the `PikeVM`.
 #[derive(Drop)]
 pub struct FindMatches<'v, 'c, C: Cursor> {
     pub(crate) vm: &'v PikeVM,
