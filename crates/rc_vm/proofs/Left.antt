@@ -64,6 +64,6 @@ module _ {C : Type 0} {cursor : Ghosts C} where
   pub find_keeps_along : (first : FindMatches C cursor) → FindKeepsAlong first
   find_keeps_along first [] later run = subst (FindKeeps first) run (refl, refl)
   find_keeps_along first (item ∷ items) later run =
-      let step = run.1.1 in
+      let step = run.1.1.0 in
       let rest = find_keeps_along run.0 items later run.2 in
       (rest.0 ∙ step.0, rest.1 ∙ step.1)

@@ -1,5 +1,5 @@
 -- What an iterator of matches has still to give, and what its calls keep.
-use Rattle.std.specs.Prelude.{◌≡◌, ℕ, List, [], Option, if◌then◌else◌}
+use Rattle.std.specs.Prelude.{◌≡◌, ℕ, List, [], Option, IsTrue, IfNone, if◌then◌else◌}
 use Rattle.std.specs.Borrow.{GName}
 use Rattle.std.specs.Iterator.{Yields, YieldsFirst}
 use Rattle.rc_text.specs.Found.{Found}
@@ -25,6 +25,14 @@ module _ {C : Type 0} {cursor : Ghosts C} where
   abbrev pub find_vm : FindMatches C cursor → PikeVM
   find_vm s = s.vm.now
 
+  -- the input that is kept
+  abbrev pub find_input : FindMatches C cursor → Searched
+  find_input s = s.input
+
+  -- the same, but for the input that is kept
+  abbrev pub with_input : FindMatches C cursor → Searched → FindMatches C cursor
+  with_input s i = record s { input = i }
+
   -- the ghost name of the reference to the cache
   abbrev pub find_lender : FindMatches C cursor → GName
   find_lender s = s.cache.ghost_name
@@ -33,9 +41,13 @@ module _ {C : Type 0} {cursor : Ghosts C} where
   abbrev pub FindKeeps : FindMatches C cursor → FindMatches C cursor → Type 0
   FindKeeps old new = (find_vm new ≡ find_vm old) × (find_lender new ≡ find_lender old)
 
-  -- `next` took old to new, and gave the first of the matches left
+  -- no match is left, whatever the input becomes
+  abbrev pub IsOver : FindMatches C cursor → Type 0
+  IsOver s = IsTrue s.is_done
+
+  -- `next` took old to new, and gave the first of the matches left; without one it is over
   abbrev pub FindSteps : FindMatches C cursor → Option Found → FindMatches C cursor → Type 0
-  FindSteps old item new = YieldsFirst find_left old item new × FindKeeps old new
+  FindSteps old item new = YieldsFirst find_left old item new × (FindKeeps old new × IfNone item (IsOver new))
 
   -- each state that calls of `next` lead to keeps what the first keeps
   abbrev pub FindKeepsAlong : FindMatches C cursor → Type 0

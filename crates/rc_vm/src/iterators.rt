@@ -13,7 +13,7 @@ use std::iter::FusedIterator;
 
 /// The matches in an input, from left to right. Each is searched for when `next` is called, in the cache that is lent.
 ///
-/// The cache is always one that was made for the `PikeVM`.
+/// After the last it gives none, whatever its input becomes. The cache is always one that was made for the `PikeVM`.
 #[derive(Drop)]
 pub struct FindMatches<'v, 'c, C: Cursor> {
     pub(crate) vm: &'v PikeVM,
@@ -25,8 +25,12 @@ pub struct FindMatches<'v, 'c, C: Cursor> {
 }
 
 impl<'v, 'c, C: Cursor> FindMatches<'v, 'c, C> {
-    ghost use Rattle.std.specs.Prelude.{◌≡◌};
-    ghost use Rattle.rc_vm.specs.Left.{find_vm};
+    ghost use Rattle.std.specs.Prelude.{◌≡◌, []};
+    ghost use Rattle.std.specs.Borrow.{Lends, sem};
+    ghost use mir.Syntax.{named};
+    ghost use Rattle.rc_text.specs.contracts.input.Input.{the_row as input_row};
+    ghost use Rattle.rc_vm.specs.contracts.iterators.FindMatches.{the_row};
+    ghost use Rattle.rc_vm.specs.Left.{find_input, find_vm, with_input};
 
     /// What it searches by.
     pub fn vm(&self) -> &'v PikeVM
@@ -35,8 +39,13 @@ impl<'v, 'c, C: Cursor> FindMatches<'v, 'c, C> {
         self.vm
     }
 
-    /// The input. The next search is over what it then is.
-    pub fn input(&mut self) -> &mut Input<C> {
+    /// The input. The next search is over what it then is; the iterator is otherwise as before.
+    pub fn input(&mut self) -> &mut Input<C>
+        ensures* kept { sem 𝓛 (Lends
+            (the_row (record { mir = named 0; lft = [] }) (record { mir = named 1; lft = [] }) C.row C.Cursor)
+            (input_row C.row C.Cursor) self.entry result (with_input self.old)) }
+        ensures input { result.now ≡ find_input self.old }
+    {
         &mut self.input
     }
 }

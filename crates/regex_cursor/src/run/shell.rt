@@ -1,5 +1,5 @@
 //! All that the program `rcfind` does.
-ghost use Rattle.std.specs.Prelude.{◌≡◌, ◌≢◌, ◌≤◌, false, true, nat_eq, IfOk, IfSome, List, ℕ, SomeIff};
+ghost use Rattle.std.specs.Prelude.{◌≡◌, ◌≢◌, ◌≤◌, false, true, nat_eq, IfOk, IfSome, List, ℕ, MatchOption, SomeIff};
 ghost use Rattle.std.specs.Str.Parse.{digits_value};
 ghost use Rattle.std.specs.Io.KnownBytes.{Keeps};
 ghost use Rattle.rc_text.specs.Joined.{joined};
@@ -41,9 +41,11 @@ fn chunk_len(word: &str) -> Option<usize>
     Some(n)
 }
 
-/// The pattern and the length of chunks, where these are the words.
+/// The pattern and the length of chunks, or `None` where these are not the words.
 fn arguments<'a>(words: &[&'a str]) -> Option<(&'a str, usize)>
-    ensures { IfSome result (λ r. AreWords words.now r.0.now × (1 ≤ r.1)) }
+    ensures { MatchOption result
+        (¬ ((text : List ℕ) × AreWords words.now text))
+        (λ r. AreWords words.now r.0.now × (1 ≤ r.1)) }
 {
     let [pattern, chunk] = words else {
         return None;
@@ -84,7 +86,7 @@ fn read_fault(fault: &io::Error) -> &'static str {
 /// are the pattern and the length of a chunk in bytes.
 ///
 /// The answer is 0 where there is a match, 1 where there is none, and 2 at a fault, of which one
-/// line goes to `err`. A fault of `err` is ignored.
+/// line goes to `err`. A fault of `err` is ignored. The words are checked before anything is read.
 pub fn program<R: Read, W: Sink, E: Write>(
     alloc: Global,
     words: &[&str],
@@ -96,6 +98,7 @@ pub fn program<R: Read, W: Sink, E: Write>(
     ensures status { result ≤ FAULT }
     ensures done { result ≢ FAULT → (text : List ℕ) × AreWords words.now text × IfSome (R.remaining input.old)
         (λ bytes. IsRun text bytes (W.taken out.old) (W.taken out.new) (nat_eq result MATCHED)) }
+    ensures unread { ¬ ((text : List ℕ) × AreWords words.now text) → Keeps (R.remaining input.old) (R.remaining input.new) }
     ensures nothing_put { result ≡ FAULT → W.has_failed out.new ≡ false → Keeps (W.taken out.old) (W.taken out.new) }
 {
     let Some((pattern, n)) = arguments(words) else {
