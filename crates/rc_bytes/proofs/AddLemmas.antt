@@ -1,9 +1,9 @@
 -- What the code adds for classes and places.
-use Rattle.std.proofs.Common.{◌≡◌, ℕ, zero, suc, ◌+◌, ◌-◌, ◌*◌, ◌/◌, ◌%◌, ◌<◌, ◌≤◌, ◌⊎◌, List, [], ◌∷◌, ◌++◌, length, map, drop, take, inl, inr, ⊎_elim, sym, subst, ap, ap₂, ◌∙◌, refl, arith, drop-cons, length-append, get_or, append_assoc, max, min, Vec, Global, vec_len, nat_le, false, true≢false, ◌==◌, if◌then◌else◌}
+use Rattle.std.proofs.Common.{◌≡◌, ℕ, zero, suc, ◌+◌, ◌<◌, ◌≤◌, List, [], ◌∷◌, ◌++◌, length, map, drop, take, ⊎_elim, sym, subst, ap, ap₂, ◌∙◌, refl, arith, drop-cons, length-append, get_or, append_assoc, max, min, Vec, Global, vec_len, false, true≢false, ◌==◌}
 use Rattle.std.specs.Prelude.{All}
 use Rattle.std.specs.Char.{encode_utf8}
 use Rattle.std.specs.List.{AllByRecursion}
-use Rattle.std.proofs.lemmas.Bool.{cases_lt, le-leb, lt-leb}
+use Rattle.std.proofs.lemmas.Bool.{le-leb, lt-leb}
 use Rattle.std.proofs.lemmas.List.{append-nil, length-map}
 use Rattle.std.proofs.lemmas.List.Elements.{All-from_recursion}
 use Rattle.rc_pattern.specs.Re.{Range}
@@ -13,7 +13,7 @@ use Rattle.rc_program.specs.Program.{Place, branch, scalar}
 use Rattle.rc_program.specs.Laws.{heaviness, place_weight}
 use Rattle.rc_thompson.specs.declared.place.Place as source
 use Rattle.rc_thompson.specs.Places.{place_of as source_of, places_of as sources_of}
-use Rattle.rc_bytes.specs.Bytes.{between, pieces, all_pieces, tails, ways_within, block_within, class_ways, class_block, piece_ways, piece_block, byte_place, block, byte_places, blocks, bytes_of}
+use Rattle.rc_bytes.specs.Bytes.{between, pieces, all_pieces, tails, ways_within, block_within, class_ways, class_block, piece_ways, piece_block, byte_place, block, byte_places, blocks}
 use Rattle.rc_bytes.specs.Places.{place_of, places_of, ways_of, Adds, IsLengthClass}
 use Rattle.rc_bytes.specs.declared.place.ByteWay.{ByteWay}
 use Rattle.rc_bytes.specs.declared.place.BytePlace as code

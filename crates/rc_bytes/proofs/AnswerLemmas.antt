@@ -1,17 +1,17 @@
 -- The answers of a search over a byte program are those of the search over the program.
-use Rattle.std.proofs.Common.{◌≡◌, ℕ, zero, suc, ◌+◌, ◌-◌, ◌*◌, ◌<◌, ◌≤◌, ◌⊎◌, List, [], ◌∷◌, length, map, inl, inr, ⊎_elim, sym, subst, ap, ap₂, ◌∙◌, refl, arith, Bool, true, false, true≢false, not, ◌||◌, Option, Some, None, nat_eq, if◌then◌else◌, min}
+use Rattle.std.proofs.Common.{◌≡◌, ℕ, zero, suc, ◌+◌, ◌*◌, ◌<◌, ◌≤◌, ◌⊎◌, List, [], ◌∷◌, length, map, inl, inr, ⊎_elim, sym, subst, ap, ap₂, ◌∙◌, refl, arith, Bool, true, false, true≢false, not, ◌||◌, Option, Some, None, nat_eq, if◌then◌else◌}
 use Rattle.std.specs.List.{range_with_len}
 use Rattle.std.specs.Option.{option_or, option_map, option_and_then}
 use Rattle.std.proofs.lemmas.Bool.{cases_Bool, cases_lt}
 use Rattle.rc_text.specs.Text.{is_boundary}
 use Rattle.rc_text.specs.Found.{Found}
-use Rattle.rc_walks.specs.Walks.{Pair, IsFirstWalk}
+use Rattle.rc_walks.specs.Walks.{Pair}
 use Rattle.rc_walks.specs.Tries.{walk_by}
 use Rattle.rc_walks.proofs.CutLemmas.{first_is_one}
 use Rattle.rc_walks.proofs.TryLemmas.{Finds, walk_by_finds}
-use Rattle.rc_program.specs.Program.{Place, place_at}
+use Rattle.rc_program.specs.Program.{Place, choice, byte, branch, scalar, guard, slot, accept, is_match_place}
 use Rattle.rc_program.specs.Laws.{IsClosed}
-use Rattle.rc_program.specs.Answer.{Search, is_anchored, ends, next_of, last_of, is_allowed, Chosen, found, slot_of, slots_of, last_visit, pattern_at, allowed_only, from_start, by_starts, start_count, chosen, answer, groups}
+use Rattle.rc_program.specs.Answer.{Search, only, is_anchored, ends, next_of, is_allowed, Chosen, found, slot_of, slots_of, allowed_only, from_start, by_starts, start_count, chosen, answer, groups}
 use Rattle.rc_program.proofs.WayLemmas.{same_pair}
 use Rattle.rc_program.proofs.AnswerLemmas.{last_pair, is_bounded}
 use Rattle.rc_bytes.specs.Bytes.{bytes_of}
@@ -21,6 +21,23 @@ use Rattle.rc_bytes.proofs.SameLemmas.{Same, Also, walk_also}
 map_alike : {X Y : Type 0} (f g : X → Y) → ((x : X) → f x ≡ g x) → (xs : List X) → map f xs ≡ map g xs
 map_alike f g h [] = refl
 map_alike f g h (x ∷ xs) = ap₂ (λ y ys. y ∷ ys) (h x) (map_alike f g h xs)
+
+pub any_match : (only : Option ℕ) (q : Place) → is_match_place only q ≡ true → is_match_place None q ≡ true
+any_match None q e = e
+any_match (Some p) (choice ns) e = absurd (true≢false (sym e))
+any_match (Some p) (byte rs n) e = absurd (true≢false (sym e))
+any_match (Some p) (branch ts) e = absurd (true≢false (sym e))
+any_match (Some p) (scalar rs n) e = absurd (true≢false (sym e))
+any_match (Some p) (guard l n) e = absurd (true≢false (sym e))
+any_match (Some p) (slot k n) e = absurd (true≢false (sym e))
+any_match (Some p) (accept k) e = refl
+
+-- a match place of an allowed pattern
+abbrev pub match_of : Search → Place → ℕ → Bool
+match_of s q y = is_match_place (only s.anchoring) q
+
+pub match_accepts : (s : Search) (q : Place) (y : ℕ) → match_of s q y ≡ true → is_match_place None q ≡ true
+match_accepts s q y e = any_match (only s.anchoring) q e
 
 module _ (s : Search) (closed : IsClosed s.places) where
   abbrev B : List Place
@@ -36,32 +53,32 @@ module _ (s : Search) (closed : IsClosed s.places) where
   Walks None None = Unit {0}
   Walks None (Some v) = ⊥
   Walks (Some w) None = ⊥
-  Walks (Some w) (Some v) = Same s closed w v
+  Walks (Some w) (Some v) = Same s closed (match_of s) (match_accepts s) w v
 
-  walks_alike : (p f : List Pair) (o q : Option (List Pair)) → Also s closed p f o → Finds T F p f q → Walks o q
+  walks_alike : (p f : List Pair) (o q : Option (List Pair)) → Also s closed (match_of s) (match_accepts s) p f o → Finds T F p f q → Walks o q
   walks_alike p f None None a b = tt
   walks_alike p f None (Some v) a b = absurd (a v b.is_walk)
   walks_alike p f (Some w) None a b = absurd (b a.0 a.1.is_walk)
-  walks_alike p f (Some w) (Some v) a b = subst (Same s closed w) (first_is_one T F p f a.0 v a.1 b) a.2
+  walks_alike p f (Some w) (Some v) a b = subst (Same s closed (match_of s) (match_accepts s) w) (first_is_one T F p f a.0 v a.1 b) a.2
 
   -- what two searches choose is the same but for the places along the walk
   abbrev Chosens : Option Chosen → Option Chosen → Type 0
   Chosens None None = Unit {0}
   Chosens None (Some d) = ⊥
   Chosens (Some c) None = ⊥
-  Chosens (Some c) (Some d) = (c.start ≡ d.start) × Same s closed c.walk d.walk
+  Chosens (Some c) (Some d) = (c.start ≡ d.start) × Same s closed (match_of s) (match_accepts s) c.walk d.walk
 
-  allowed_alike : (w v : List Pair) → Same s closed w v → is_allowed (by_bytes s) v ≡ is_allowed s w
+  allowed_alike : (w v : List Pair) → Same s closed (match_of s) (match_accepts s) w v → is_allowed (by_bytes s) v ≡ is_allowed s w
   allowed_alike w v x = ap (λ (n : Pair). not s.passes_over || is_boundary s.text.content n.1) x.last
 
-  both_or_none : (a b : Bool) → b ≡ a → (c d : Chosen) → (c.start ≡ d.start) × Same s closed c.walk d.walk →
+  both_or_none : (a b : Bool) → b ≡ a → (c d : Chosen) → (c.start ≡ d.start) × Same s closed (match_of s) (match_accepts s) c.walk d.walk →
       Chosens (if a then Some c else None) (if b then Some d else None)
   both_or_none true true e c d x = x
   both_or_none true false e c d x = absurd (true≢false (sym e))
   both_or_none false true e c d x = absurd (true≢false e)
   both_or_none false false e c d x = tt
 
-  allows : (x : ℕ) (w v : List Pair) → Same s closed w v → Chosens (allowed_only s x w) (allowed_only (by_bytes s) x v)
+  allows : (x : ℕ) (w v : List Pair) → Same s closed (match_of s) (match_accepts s) w v → Chosens (allowed_only s x w) (allowed_only (by_bytes s) x v)
   allows x w v a =
       both_or_none (is_allowed s w) (is_allowed (by_bytes s) v) (allowed_alike w v a) (record { start = x; walk = w }) (record { start = x; walk = v }) (refl, a)
 
@@ -78,7 +95,7 @@ module _ (s : Search) (closed : IsClosed s.places) where
       (walk_by T (ends (by_bytes s)) (length B * (s.hi + 1)) [] (0, x))
       (walks_alike [] ((0, x) ∷ []) (walk_by (next_of s) (ends s) (length s.places * (s.hi + 1)) [] (0, x))
       (walk_by T (ends (by_bytes s)) (length B * (s.hi + 1)) [] (0, x))
-      (walk_also s closed (length s.places * (s.hi + 1)) [] (0, x) (omega arith) tt tt (λ k i. absurd i) some (omega arith))
+      (walk_also s closed (match_of s) (match_accepts s) (length s.places * (s.hi + 1)) [] (0, x) (omega arith) tt tt (λ k i. absurd i) some (omega arith))
       (walk_by_finds T (ends (by_bytes s)) same_pair (last_pair (by_bytes s)) (length B) (s.hi + 1) (is_bounded (by_bytes s))
       (length B * (s.hi + 1)) [] (0, x) (omega arith) tt tt (omega arith)))
 
@@ -95,7 +112,7 @@ module _ (s : Search) (closed : IsClosed s.places) where
       or_alike (from_start s x) (from_start (by_bytes s) x) (by_starts (from_start s) n (x + 1)) (by_starts (from_start (by_bytes s)) n (x + 1))
       (start_alike some x (omega arith)) (starts_alike some n (x + 1) (omega arith))
 
-  count_in : (s.lo + start_count s ≤ s.hi + 1) ⊎ (start_count s ≡ 0)
+  pub count_in : (s.lo + start_count s ≤ s.hi + 1) ⊎ (start_count s ≡ 0)
   count_in =
       ⊎_elim (λ t. rw t (⊎_elim (λ l. inr (omega arith)) (λ ge. inl (omega arith)) (cases_lt s.hi s.lo)))
       (λ f. rw f (⊎_elim (λ l. inr (omega arith)) (λ ge. inl (omega arith)) (cases_lt s.hi s.lo)))
@@ -111,7 +128,7 @@ module _ (s : Search) (closed : IsClosed s.places) where
   nothing_left q e zero x = refl
   nothing_left q e (suc n) x = ap₂ option_or (none_of q e x) (nothing_left q e n (x + 1))
 
-  no_bytes : (qs : List Place) → length qs ≡ 0 → length (bytes_of qs) ≡ 0
+  pub no_bytes : (qs : List Place) → length qs ≡ 0 → length (bytes_of qs) ≡ 0
   no_bytes [] e = refl
   no_bytes (q ∷ qs) e = absurd (omega (arith, e))
 
@@ -126,12 +143,12 @@ module _ (s : Search) (closed : IsClosed s.places) where
       (subst (λ o. Chosens None o) (sym (nothing_left (by_bytes s) (no_bytes s.places e) (start_count s) s.lo)) tt))
       (cases_lt 0 (length s.places))
 
-  found_alike : (c d : Chosen) → c.start ≡ d.start → Same s closed c.walk d.walk → found (by_bytes s) d ≡ found s c
+  found_alike : (c d : Chosen) → c.start ≡ d.start → Same s closed (match_of s) (match_accepts s) c.walk d.walk → found (by_bytes s) d ≡ found s c
   found_alike c d e x =
       ap₂ (λ (p : ℕ) (q : ℕ × ℕ). let f : Found = record { pattern = p; start = q.0; end = q.1 } in f) x.pattern
       (ap₂ (λ (a : ℕ) (n : Pair). (a, n.1)) (sym e) x.last)
 
-  slot_alike : (c d : Chosen) → c.start ≡ d.start → Same s closed c.walk d.walk → (k : ℕ) → slot_of (by_bytes s) d k ≡ slot_of s c k
+  slot_alike : (c d : Chosen) → c.start ≡ d.start → Same s closed (match_of s) (match_accepts s) c.walk d.walk → (k : ℕ) → slot_of (by_bytes s) d k ≡ slot_of s c k
   slot_alike c d e x k =
       ap₂ (λ (p : ℕ) (q : ℕ × ℕ × Option ℕ). if nat_eq k (2 * p) then Some q.0 else if nat_eq k (2 * p + 1) then Some q.1 else q.2) x.pattern
       (ap₂ (λ (q : ℕ × ℕ) (v : Option ℕ). (q.0, q.1, v)) (ap₂ (λ (a : ℕ) (n : Pair). (a, n.1)) (sym e) x.last) (x.visits k))

@@ -1,18 +1,18 @@
 -- The walks that lead through a block: those over its bytes, and to its next place.
-use Rattle.std.proofs.Common.{◌≡◌, ◌≢◌, ℕ, zero, suc, ◌+◌, ◌-◌, ◌<◌, ◌≤◌, ◌⊎◌, List, [], ◌∷◌, ◌++◌, length, map, take, drop, inl, inr, ⊎_elim, sym, subst, ap, ap₂, ◌∙◌, refl, arith, Bool, true, false, true≢false, IsTrue, Option, Some, None, ◌&&◌, ◌||◌, nat_le, nat_eq, if◌then◌else◌, append_assoc}
+use Rattle.std.proofs.Common.{◌≡◌, ℕ, zero, suc, ◌+◌, ◌-◌, ◌<◌, ◌≤◌, ◌⊎◌, List, [], ◌∷◌, ◌++◌, length, map, take, drop, ⊎_elim, sym, subst, ap, ap₂, ◌∙◌, refl, arith, Bool, true, false, true≢false, IsTrue, Option, Some, None, ◌&&◌, ◌||◌, nat_le}
 use Rattle.std.specs.List.{AllByRecursion}
-use Rattle.std.proofs.lemmas.Bool.{cases_Bool, cases_eq, or_cases, or_parts, or_left, or_right, and_parts, and_cases, eq-eqb, ne_eqb, or_from, false_from_ne_true}
+use Rattle.std.proofs.lemmas.Bool.{cases_Bool, cases_eq, or_cases, or_parts, or_left, or_right, eq-eqb, ne_eqb, or_from, false_from_ne_true}
 use Rattle.std.proofs.lemmas.Option.{none-some, same_Some}
 use Rattle.rc_program.specs.Scalars.{scalar_at}
-use Rattle.rc_walks.specs.Walks.{Pair, IsIn, IsWalk, stops, goes, IsFirstWalk, HasNoWalk}
-use Rattle.rc_walks.proofs.WalkLemmas.{drop_way, first_after, first_goes}
+use Rattle.rc_walks.specs.Walks.{Pair, IsIn, IsFirstWalk, HasNoWalk}
+use Rattle.rc_walks.proofs.WalkLemmas.{first_goes}
 use Rattle.rc_walks.proofs.CutLemmas.{loosen}
 use Rattle.rc_walks.proofs.StackLemmas.{no_ways, dead_if_tried}
-use Rattle.rc_walks.proofs.TryLemmas.{Finds, first_way}
+use Rattle.rc_walks.proofs.TryLemmas.{Finds}
 use Rattle.rc_walks.proofs.ThreadLemmas.{all_onward, Alike, first_alike, none_alike}
 use Rattle.rc_pattern.specs.Re.{Range}
 use Rattle.rc_program.specs.Text.{Text, holds, ahead}
-use Rattle.rc_program.specs.Program.{Place, choice, branch, place_at, ways, ways_out, over_byte, branch_ways, in_ranges, Way, reads, pair_at, is_match_place}
+use Rattle.rc_program.specs.Program.{Place, branch, place_at, ways, ways_out, over_byte, branch_ways, in_ranges, pair_at, is_match_place}
 use Rattle.rc_program.proofs.WayLemmas.{same_pair, no_way_from, ways_onward}
 use Rattle.rc_program.proofs.PartLemmas.{Stand, Stand-left, Stand-right}
 use Rattle.rc_bytes.specs.Bytes.{Ways, rest_of, tails, ways_from, block_from, ways_to, block_to, ways_within, block_within, piece_ways, piece_block, class_ways, class_block}
@@ -42,10 +42,6 @@ ahead_next t hi y d ds e =
     let r = take_cons (hi - y) (drop y t.content) d ds e in
     let k : hi - (y + 1) ≡ r.0 = let h = r.3 in omega (arith, h) in
     ap₂ (λ n (xs : List ℕ). take n xs) k (drop_next t.content y r.1 r.2 r.4) ∙ r.5
-
-no_branch : (only : Option ℕ) (ts : Ways) → is_match_place only (branch ts) ≡ false
-no_branch None ts = refl
-no_branch (Some p) ts = refl
 
 -- what the ways of a list over one byte lead to
 abbrev pub over : List ℕ → ℕ → Ways → List Pair
@@ -94,12 +90,13 @@ class_none [] each bs e = refl
 class_none (p ∷ ps) each bs e =
     or_from _ _ (false_from_ne_true _ (λ h. let b = each.0.1.from bs h in none-some _ (sym e ∙ b.1))) (class_none ps each.1 bs e)
 
-module _ (prog : List Place) (t : Text) (hi : ℕ) (only : Option ℕ) (next z : ℕ) (o : Option (List Pair)) where
+module _ (prog : List Place) (t : Text) (hi : ℕ) (test : Place → ℕ → Bool)
+    (accepts : (q : Place) (y : ℕ) → test q y ≡ true → is_match_place None q ≡ true) (next z : ℕ) (o : Option (List Pair)) where
   abbrev pub W : Pair → List Pair
   W = ways prog t hi
 
   abbrev pub E : Pair → Type 0
-  E n = IsTrue (is_match_place only (place_at prog n.0))
+  E n = IsTrue (test (place_at prog n.0) n.1)
 
   abbrev pub IsBranch : Pair → Type 0
   IsBranch n = (ts : Ways) × (place_at prog n.0 ≡ branch ts)
@@ -118,7 +115,7 @@ module _ (prog : List Place) (t : Text) (hi : ℕ) (only : Option ℕ) (next z :
     pub none : ok ≡ false → (p : List Pair) → AllBefore y p → HasNoWalk W E p f
 
   last_pair : (n m : Pair) → E n → ¬ IsIn m (W n)
-  last_pair n m e = no_way_from only (λ l. holds t l n.1) (ahead t hi n.1) (place_at prog n.0) n.1 m e
+  last_pair n m e = no_way_from None (λ l. holds t l n.1) (ahead t hi n.1) (place_at prog n.0) n.1 m (accepts (place_at prog n.0) n.1 e)
 
   pub tells_nothing : (G : Type 0) (y : ℕ) → Tells G [] y false
   tells_nothing G y = record { yes = λ e. absurd (true≢false (sym e)); none = λ e p b v walk. no_ways W E walk }
@@ -156,7 +153,7 @@ module _ (prog : List Place) (t : Text) (hi : ℕ) (only : Option ℕ) (next z :
       out = ap₂ (λ q xs. map (pair_at y) (ways_out (λ l. holds t l y) xs q)) is e
 
       on : ¬ E (n, y)
-      on h = true≢false (sym h ∙ ap (is_match_place only) is ∙ no_branch only ts)
+      on h = true≢false (sym (accepts (place_at prog n) y h) ∙ ap (is_match_place None) is)
 
       lower : (p : List Pair) → AllBefore y p → AllBefore (y + 1) ((n, y) ∷ p)
       lower p low k i =

@@ -1,14 +1,8 @@
 -- What the loops of the code append.
-use Rattle.std.proofs.Common.{◌≡◌, ℕ, zero, suc, ◌+◌, ◌-◌, ◌*◌, ◌<◌, ◌≤◌, ◌⊎◌, List, [], ◌∷◌, ◌++◌, length, map, drop, take, inl, inr, ⊎_elim, sym, subst, ap, ap₂, ◌∙◌, refl, arith, drop-cons, length-drop, get_or, append_assoc, nat_eq, if◌then◌else◌}
+use Rattle.std.proofs.Common.{◌≡◌, ℕ, suc, ◌+◌, ◌-◌, ◌<◌, ◌≤◌, List, [], ◌∷◌, ◌++◌, length, drop, sym, ap, ap₂, ◌∙◌, refl, arith, drop-cons, length-drop, get_or, append_assoc}
 use Rattle.std.proofs.lemmas.Bool.{eq-eqb, ne_eqb}
-use Rattle.std.specs.List.{AllByRecursion}
-use Rattle.std.specs.Prelude.{All}
-use Rattle.std.specs.Char.{encode_utf8}
-use Rattle.std.proofs.lemmas.List.Elements.{All-from_recursion}
-use Rattle.rc_pattern.specs.Re.{Range}
 use Rattle.rc_program.specs.Program.{Place, branch}
-use Rattle.rc_bytes.specs.Bytes.{Ways, rest_of, ways_from, block_from, ways_to, block_to, ways_within, block_within, class_ways, class_block, piece_ways, piece_block}
-use Rattle.rc_bytes.proofs.ScalarLemmas.{encode_one, encode_two, encode_three, encode_four}
+use Rattle.rc_bytes.specs.Bytes.{rest_of, ways_from, block_from, ways_to, block_to, ways_within, block_within}
 
 -- the bytes from `at` on
 pub drop_at : (xs : List ℕ) (at : ℕ) → at < length xs → drop at xs ≡ get_or xs at 0 ∷ drop (at + 1) xs

@@ -1,6 +1,6 @@
 -- Where the places of a byte program stand.
-use Rattle.std.proofs.Common.{◌≡◌, ℕ, zero, suc, ◌+◌, ◌<◌, ◌≤◌, List, [], ◌∷◌, ◌++◌, length, sym, subst, ap, ◌∙◌, refl, arith, length-append}
-use Rattle.rc_program.specs.Program.{Place, choice, byte, branch, scalar, guard, slot, accept, place_at}
+use Rattle.std.proofs.Common.{◌≡◌, ℕ, zero, suc, ◌+◌, ◌<◌, List, [], ◌∷◌, length, subst, ap, refl, arith}
+use Rattle.rc_program.specs.Program.{Place, place_at}
 use Rattle.rc_program.proofs.PartLemmas.{Stand, Stand-left, Stand-right}
 use Rattle.rc_program.proofs.WholeLemmas.{stand_all}
 use Rattle.rc_bytes.specs.Bytes.{byte_place, block, byte_places, blocks, bytes_of}

@@ -6,6 +6,7 @@ pub mod LayoutLemmas
 pub mod SameLemmas
 pub mod AnswerLemmas
 pub mod SizeLemmas
+pub mod GreatestLemmas
 pub mod CodeLemmas
 pub mod AddLemmas
 mod Examples

@@ -1,43 +1,32 @@
 -- A search over a byte program finds the walks that the search over the program finds.
-use Rattle.std.proofs.Common.{◌≡◌, ◌≢◌, ℕ, zero, suc, ◌+◌, ◌-◌, ◌*◌, ◌<◌, ◌≤◌, ◌⊎◌, List, [], ◌∷◌, ◌++◌, length, map, inl, inr, ⊎_elim, sym, subst, ap, ap₂, ◌∙◌, refl, arith, Bool, true, false, true≢false, IsTrue, Option, Some, None, nat_eq, if◌then◌else◌}
+use Rattle.std.proofs.Common.{◌≡◌, ℕ, zero, suc, ◌+◌, ◌*◌, ◌<◌, ◌≤◌, ◌⊎◌, List, [], ◌∷◌, ◌++◌, length, map, inl, inr, ⊎_elim, sym, subst, ap, ap₂, ◌∙◌, refl, arith, Bool, true, false, true≢false, IsTrue, Option, Some, None, if◌then◌else◌}
 use Rattle.std.specs.List.{AllByRecursion}
 use Rattle.std.specs.Option.{option_or, option_map}
-use Rattle.std.proofs.lemmas.Bool.{cases_Bool}
+use Rattle.std.proofs.lemmas.Bool.{cases_Bool, cases_lt, false_from_ne_true}
 use Rattle.std.proofs.lemmas.Option.{none-some, same_Some}
 use Rattle.rc_pattern.specs.Re.{Range}
-use Rattle.rc_pattern.specs.declared.hir.Look.{Look}
-use Rattle.rc_walks.specs.Walks.{Pair, IsIn, IsWalk, stops, goes, IsFirstWalk, HasNoWalk}
+use Rattle.rc_walks.specs.Walks.{Pair, IsIn, IsFirstWalk, HasNoWalk}
 use Rattle.rc_walks.specs.Tries.{is_in, by_ways, walk_by}
 use Rattle.rc_walks.proofs.WalkLemmas.{drop_way, first_after, first_stops, first_goes}
 use Rattle.rc_walks.proofs.CutLemmas.{loosen}
 use Rattle.rc_walks.proofs.StackLemmas.{no_ways, dead_if_passed, dead_if_tried}
 use Rattle.rc_walks.proofs.CountLemmas.{AreApart, AreBelow, length_below}
-use Rattle.rc_walks.proofs.TryLemmas.{is_in-true, is_in-from, Finds, walk_by_finds, first_way}
+use Rattle.rc_walks.proofs.TryLemmas.{is_in-true, is_in-from, IsBounded, Finds, walk_by_finds, first_way}
 use Rattle.rc_walks.proofs.ThreadLemmas.{all_onward, Alike, first_alike, none_alike}
-use Rattle.rc_program.specs.Text.{Text, holds, ahead}
+use Rattle.rc_program.specs.Text.{holds, ahead}
 use Rattle.rc_program.specs.Scalars.{scalar_at}
-use Rattle.rc_program.specs.Program.{Place, choice, byte, branch, scalar, guard, slot, accept, place_at, ways, ways_out, pair_at, in_ranges, over_scalar, Way, reads, is_match_place}
+use Rattle.rc_program.specs.Program.{Place, choice, byte, branch, scalar, guard, slot, accept, place_at, ways_out, pair_at, in_ranges, over_scalar, is_match_place}
 use Rattle.rc_program.specs.Laws.{IsClosed}
-use Rattle.rc_program.specs.Answer.{Search, only, ends, next_of, last_of, names, last_visit, pattern_at}
-use Rattle.rc_program.proofs.WayLemmas.{same_pair, no_match, ways_onward, ways_within, scalar_at_short, length-ahead}
+use Rattle.rc_program.specs.Answer.{Search, next_of, last_of, names, last_visit, pattern_at}
+use Rattle.rc_program.proofs.WayLemmas.{same_pair, no_way_from, past_places, ways_onward, ways_within, scalar_at_short}
 use Rattle.rc_program.proofs.PlaceLemmas.{ways_closed}
 use Rattle.rc_program.proofs.PartLemmas.{Stand, Stand-left, Stand-right}
-use Rattle.rc_program.proofs.AnswerLemmas.{last_pair, is_bounded}
+use Rattle.rc_program.proofs.AnswerLemmas.{is_bounded}
 use Rattle.rc_bytes.specs.Bytes.{Ways, tails, class_ways, class_block, all_pieces, byte_place, block, bytes_of}
 use Rattle.rc_bytes.specs.Laws.{by_bytes}
 use Rattle.rc_bytes.proofs.ScalarLemmas.{all_pieces_each, in_all_pieces, scalar_of}
-use Rattle.rc_bytes.proofs.BlockLemmas.{over, takes_class, class_test, class_none, tells_class, tells_nothing, Tells, Via}
+use Rattle.rc_bytes.proofs.BlockLemmas.{over, takes_class, class_test, class_none, tells_class, tells_nothing, Tells}
 use Rattle.rc_bytes.proofs.LayoutLemmas.{stands_at}
-
-match_same : (only : Option ℕ) (b : ℕ) (q : Place) → is_match_place only (byte_place b q) ≡ is_match_place only q
-match_same only b (choice ns) = refl
-match_same only b (byte rs n) = refl
-match_same only b (branch ts) = refl
-match_same None b (scalar rs n) = refl
-match_same (Some p) b (scalar rs n) = refl
-match_same only b (guard l n) = refl
-match_same only b (slot k n) = refl
-match_same only b (accept p) = refl
 
 names_same : (k b : ℕ) (q : Place) → names (byte_place b q) k ≡ names q k
 names_same k b (choice ns) = refl
@@ -79,7 +68,8 @@ over_nothing : (bs : List ℕ) (y : ℕ) → over bs y [] ≡ []
 over_nothing [] y = refl
 over_nothing (d ∷ ds) y = refl
 
-module _ (s : Search) (closed : IsClosed s.places) where
+module _ (s : Search) (closed : IsClosed s.places) (test : Place → ℕ → Bool)
+    (accepts : (q : Place) (y : ℕ) → test q y ≡ true → is_match_place None q ≡ true) where
   abbrev B : List Place
   B = bytes_of s.places
 
@@ -89,8 +79,35 @@ module _ (s : Search) (closed : IsClosed s.places) where
   abbrev T : Pair → List Pair
   T = next_of (by_bytes s)
 
+  -- a walk may end at a match place that passes the test
+  abbrev pub may_end : List Place → Pair → Bool
+  may_end places n = test (place_at places n.0) n.1
+
   abbrev F : Pair → Type 0
-  F n = IsTrue (ends (by_bytes s) n)
+  F n = IsTrue (may_end B n)
+
+  pub last_of_bytes : (n m : Pair) → F n → ¬ IsIn m (T n)
+  last_of_bytes n m e =
+      no_way_from None (λ l. holds s.text l n.1) (ahead s.text s.hi n.1) (place_at B n.0) n.1 m (accepts (place_at B n.0) n.1 e)
+
+  pub bytes_bounded : IsBounded T (may_end B) (length B) (s.hi + 1)
+  bytes_bounded = record {
+    place_of_end = λ n e. ⊎_elim (λ l. l)
+        (λ ge. absurd (true≢false (sym (accepts (place_at B n.0) n.1 e) ∙ ap (is_match_place None) (past_places B n.0 ge))))
+        (cases_lt n.0 (length B));
+    place_of_way = (is_bounded (by_bytes s)).place_of_way;
+    position = (is_bounded (by_bytes s)).position;
+  }
+
+  test_off : (q : Place) (y : ℕ) → is_match_place None q ≡ false → test q y ≡ false
+  test_off q y off = false_from_ne_true (test q y) (λ on. true≢false (sym (accepts q y on) ∙ off))
+
+  test_same : (b : ℕ) (q : Place) (y : ℕ) → test (byte_place b q) y ≡ test q y
+  test_same b q y =
+      ⊎_elim
+      (λ c. ap (λ r. test (byte_place b r) y) c.2 ∙ test_off (byte_place b (scalar c.0 c.1)) y refl ∙ sym (ap (λ r. test r y) c.2 ∙ test_off (scalar c.0 c.1) y refl))
+      (λ same. ap (λ r. test r y) (same b))
+      (is_scalar q)
 
   -- the one walk shows what the other does
   pub record Same (w v : List Pair) : Type 0 where
@@ -105,8 +122,8 @@ module _ (s : Search) (closed : IsClosed s.places) where
   Also p f None = HasNoWalk T F p f
   Also p f (Some w) = (v : List Pair) × IsFirstWalk T F p f v × Same w v
 
-  ends_same : (n : Pair) → n.0 < length s.places → ends (by_bytes s) n ≡ ends s n
-  ends_same n h = let r = stands_at s.places n.0 h in ap (is_match_place (only s.anchoring)) r.1 ∙ match_same (only s.anchoring) r.0 (place_at s.places n.0)
+  ends_same : (n : Pair) → n.0 < length s.places → may_end B n ≡ may_end s.places n
+  ends_same n h = let r = stands_at s.places n.0 h in ap (λ q. test q n.1) r.1 ∙ test_same r.0 (place_at s.places n.0) n.1
 
   names_alike : (n k : ℕ) → n < length s.places → names (place_at B n) k ≡ names (place_at s.places n) k
   names_alike n k h = let r = stands_at s.places n h in ap (λ q. names q k) r.1 ∙ names_same k r.0 (place_at s.places n)
@@ -157,7 +174,7 @@ module _ (s : Search) (closed : IsClosed s.places) where
       Also (n ∷ p) (T n) o → Also p (n ∷ []) (option_map (λ w. n ∷ w) o)
   onward n p None h fresh on x = λ v b. dead_if_tried T F on x b
   onward n p (Some w) h fresh on x =
-      (n ∷ x.0, first_goes T F same_pair (last_pair (by_bytes s)) n p [] x.0 fresh on x.1, same_more n w x.0 h x.2)
+      (n ∷ x.0, first_goes T F same_pair last_of_bytes n p [] x.0 fresh on x.1, same_more n w x.0 h x.2)
 
   abbrev AllUpTo : ℕ → List Pair → Type 0
   AllUpTo y p = (k : Pair) → IsIn k p → k.1 ≤ y
@@ -179,21 +196,21 @@ module _ (s : Search) (closed : IsClosed s.places) where
   class_tells : (n : Pair) (rs : List Range) (next b z : ℕ) (o : Option (List Pair)) → Finds T F [] ((next, z) ∷ []) o →
       Stand B b (block b (scalar rs next)) →
       ((c k : ℕ) → scalar_at (bytes_at n) ≡ Some (c, k) → in_ranges (all_pieces rs) c ≡ true → n.1 + k ≡ z) →
-      Tells B s.text s.hi (only s.anchoring) next z o (Unit {0}) (over (bytes_at n) n.1 (class_ways b next (all_pieces rs) (b + 3))) (n.1 + 1)
+      Tells B s.text s.hi test accepts next z o (Unit {0}) (over (bytes_at n) n.1 (class_ways b next (all_pieces rs) (b + 3))) (n.1 + 1)
       (takes_class (all_pieces rs) (bytes_at n))
   class_tells n [] next b z o found st right =
-      subst (λ f. Tells B s.text s.hi (only s.anchoring) next z o (Unit {0}) f (n.1 + 1) false) (sym (over_nothing (bytes_at n) n.1))
-      (tells_nothing B s.text s.hi (only s.anchoring) next z o (Unit {0}) (n.1 + 1))
+      subst (λ f. Tells B s.text s.hi test accepts next z o (Unit {0}) f (n.1 + 1) false) (sym (over_nothing (bytes_at n) n.1))
+      (tells_nothing B s.text s.hi test accepts next z o (Unit {0}) (n.1 + 1))
   class_tells n (r ∷ rs) next b z o found st right =
-      tells_class B s.text s.hi (only s.anchoring) next z o found b
+      tells_class B s.text s.hi test accepts next z o found b
       (Stand-left B b (tails b next) (class_block b next (all_pieces (r ∷ rs)) (b + 3)) st)
       (all_pieces (r ∷ rs)) (all_pieces_each (r ∷ rs)) n.1 (b + 3) (bytes_at n)
       (Stand-right B b (tails b next) (class_block b next (all_pieces (r ∷ rs)) (b + 3)) st) refl right
 
   -- something is found from each pair
-  found_at : (next : ℕ) → Finds T F [] ((next, 0) ∷ []) (walk_by T (ends (by_bytes s)) (length B * (s.hi + 1)) [] (next, 0))
+  found_at : (next : ℕ) → Finds T F [] ((next, 0) ∷ []) (walk_by T (may_end B) (length B * (s.hi + 1)) [] (next, 0))
   found_at next =
-      walk_by_finds T (ends (by_bytes s)) same_pair (last_pair (by_bytes s)) (length B) (s.hi + 1) (is_bounded (by_bytes s))
+      walk_by_finds T (may_end B) same_pair last_of_bytes (length B) (s.hi + 1) bytes_bounded
       (length B * (s.hi + 1)) [] (next, 0) (omega arith) tt tt (omega arith)
 
   below : (n : Pair) (p : List Pair) → AllUpTo n.1 p → (k : Pair) → IsIn k (n ∷ p) → k.1 < n.1 + 1
@@ -297,7 +314,7 @@ module _ (s : Search) (closed : IsClosed s.places) where
   -- what a search by the places finds, the search by the bytes does
   pub walk_also : (most : ℕ) (p : List Pair) (n : Pair) → length s.places * (s.hi + 1) ≤ most + length p →
       AreBelow (length s.places) (s.hi + 1) p → AreApart p → AllUpTo n.1 p → n.0 < length s.places → n.1 < s.hi + 1 →
-      Also p (n ∷ []) (walk_by S (ends s) most p n)
+      Also p (n ∷ []) (walk_by S (may_end s.places) most p n)
   walk_also zero p n enough inside apart low h k = none_left p n (omega (arith, enough)) inside apart h k
   walk_also (suc most) p n enough inside apart low h k =
       ⊎_elim
@@ -306,14 +323,14 @@ module _ (s : Search) (closed : IsClosed s.places) where
       let fresh : ¬ IsIn n p = λ i. true≢false (sym (is_in-from n p i) ∙ new) in
       rw new
       (⊎_elim
-      (λ stop. rw stop (n ∷ [], first_stops T F same_pair (last_pair (by_bytes s)) n p [] fresh (ends_same n h ∙ stop), same_stop n h))
+      (λ stop. rw stop (n ∷ [], first_stops T F same_pair last_of_bytes n p [] fresh (ends_same n h ∙ stop), same_stop n h))
       (λ on. rw on
-      (onward n p (by_ways (walk_by S (ends s) most (n ∷ p)) (S n)) h fresh (λ stop. true≢false (sym stop ∙ ends_same n h ∙ on))
-      (ways_also n p h low (walk_by S (ends s) most (n ∷ p))
+      (onward n p (by_ways (walk_by S (may_end s.places) most (n ∷ p)) (S n)) h fresh (λ stop. true≢false (sym stop ∙ ends_same n h ∙ on))
+      (ways_also n p h low (walk_by S (may_end s.places) most (n ∷ p))
       (λ m i. walk_also most (n ∷ p) m (omega (arith, enough)) ((h, k), inside) (fresh, apart)
       (λ j q. let l : n.1 ≤ m.1 = ways_onward s.places s.text s.hi n m i in
       ⊎_elim (λ e. let f : n.1 ≡ j.1 = ap (λ (x : Pair). x.1) e in omega (arith, f, l)) (λ r. let g = low j r in omega (arith, g, l)) q)
       (ways_closed s.places closed s.text s.hi n m i)
       (let l : m.1 ≤ s.hi = ways_within s.places s.text s.hi n m (omega (arith, k)) i in omega (arith, l))))))
-      (cases_Bool (ends s n))))
+      (cases_Bool (may_end s.places n))))
       (cases_Bool (is_in n p))

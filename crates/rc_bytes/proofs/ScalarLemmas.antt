@@ -1,8 +1,7 @@
 -- The bytes that lie between the sequences of two scalars of one length are those of the scalars between them.
-use Rattle.std.proofs.Common.{◌≡◌, ℕ, zero, suc, ◌+◌, ◌-◌, ◌*◌, ◌/◌, ◌%◌, ◌<◌, ◌≤◌, ◌⊎◌, List, [], ◌∷◌, ◌++◌, length, inl, inr, ⊎_elim, sym, subst, ap, ap₂, ◌∙◌, refl, arith, Bool, true, false, true≢false, Option, Some, None, ◌&&◌, ◌||◌, max, min, nat_le, nat_lt, if◌then◌else◌}
+use Rattle.std.proofs.Common.{◌≡◌, ℕ, suc, ◌+◌, ◌-◌, ◌*◌, ◌/◌, ◌%◌, ◌<◌, ◌≤◌, ◌⊎◌, List, [], ◌∷◌, ◌++◌, length, ⊎_elim, sym, ap, ap₂, ◌∙◌, refl, arith, Bool, true, false, true≢false, Some, ◌&&◌, ◌||◌, max, min, nat_le, nat_lt}
 use Rattle.std.specs.Char.{IsScalar, encode_utf8}
 use Rattle.std.proofs.lemmas.Bool.{cases_lt, and_parts, and_from, lt-ltb, le-ltb, le-leb, lt-leb, or_left, or_right, or_cases}
-use Rattle.std.proofs.lemmas.Option.{none-some, same_Some}
 use lib.Utf8.{scalar as is_scalar, scalar_cases, low_scalar}
 use Rattle.rc_program.specs.Scalars.{continues, in_bytes, of_two, of_three, of_four, scalar_at}
 use Rattle.rc_program.proofs.SideLemmas.{scalar_law}
@@ -11,7 +10,7 @@ use Rattle.rc_pattern.specs.Re.{Range}
 use Rattle.rc_program.specs.Program.{in_ranges}
 use Rattle.rc_program.proofs.PlaceLemmas.{each_append}
 use Rattle.rc_bytes.specs.Bytes.{between, pieces, all_pieces}
-use Rattle.rc_bytes.proofs.TakeLemmas.{takes_any, takes_within, any_parts, any_from, inside, inside_parts, inside_from, or_none, Lies, within_takes, within_takes_is}
+use Rattle.rc_bytes.proofs.TakeLemmas.{takes_any, takes_within, any_parts, any_from, inside, inside_parts, inside_from, or_none, within_takes, within_takes_is}
 
 pub encode_one : (c : ℕ) → c < 128 → encode_utf8 c ≡ c ∷ []
 unfolding encode_utf8

@@ -1,5 +1,5 @@
 -- How many places a byte program has, and that each edge of it reads one byte.
-use Rattle.std.proofs.Common.{◌≡◌, ℕ, zero, suc, ◌+◌, ◌-◌, ◌*◌, ◌/◌, ◌%◌, ◌<◌, ◌≤◌, ◌⊎◌, List, [], ◌∷◌, ◌++◌, length, map, inl, inr, ⊎_elim, sym, subst, ap, ap₂, ◌∙◌, refl, arith, Bool, true, false, ◌&&◌, length-append, max, min, nat_le, nat_eq, if◌then◌else◌}
+use Rattle.std.proofs.Common.{◌≡◌, ℕ, zero, suc, ◌+◌, ◌-◌, ◌*◌, ◌<◌, ◌≤◌, List, [], ◌∷◌, ◌++◌, length, map, ⊎_elim, sym, subst, ap, ◌∙◌, refl, arith, Bool, true, false, ◌&&◌, length-append, max, min, nat_le, if◌then◌else◌}
 use Rattle.std.specs.Prelude.{All}
 use Rattle.std.specs.List.{AllByRecursion}
 use Rattle.std.specs.Char.{encode_utf8}
@@ -7,7 +7,6 @@ use Rattle.std.proofs.lemmas.Bool.{cases_Bool, cases_lt, cases_eq, eq-eqb, ne_eq
 use Rattle.std.proofs.lemmas.List.Elements.{All-from_recursion, recursion_from_All}
 use Rattle.rc_pattern.specs.Re.{Range}
 use Rattle.rc_pattern.specs.declared.hir.Look.{Look}
-use Rattle.rc_program.specs.Scalars.{scalar_at}
 use Rattle.rc_program.specs.Program.{Place, choice, byte, branch, scalar, guard, slot, accept, Way, stays, reads, in_ranges, branch_ways, ways_out, place_at}
 use Rattle.rc_program.specs.Laws.{targets, IsClosed, place_weight, heaviness}
 use Rattle.rc_program.specs.Sought.{IsRunnable}
@@ -358,7 +357,7 @@ bytes_closed places closed =
 abbrev Numbered : Place → Type 0
 Numbered q = (p : ℕ) → q ≡ accept p → p ≤ 2147483646
 
-abbrev IsBranching : Place → Type 0
+abbrev pub IsBranching : Place → Type 0
 IsBranching q = (ts : Ways) × (q ≡ branch ts)
 
 branch_apart : (ts : Ways) (p : ℕ) → branch ts ≡ accept p → ⊥
@@ -412,7 +411,7 @@ block_branching start (guard l n) = tt
 block_branching start (slot k n) = tt
 block_branching start (accept p) = tt
 
-blocks_branching : (start : ℕ) (qs : List Place) → AllByRecursion IsBranching (blocks start qs)
+pub blocks_branching : (start : ℕ) (qs : List Place) → AllByRecursion IsBranching (blocks start qs)
 blocks_branching start [] = tt
 blocks_branching start (q ∷ qs) =
     let behind = start + length (block start q) in

@@ -1,7 +1,7 @@
 -- The byte program of a program: each place of scalars is a branch over bytes, with a block of places of its own behind the program's.
 use Rattle.std.specs.Prelude.{ℕ, zero, suc, ◌+◌, ◌-◌, List, [], ◌∷◌, ◌++◌, length, max, min, nat_le, nat_eq, if◌then◌else◌, encode_utf8}
 use Rattle.rc_pattern.specs.Re.{Range}
-use Rattle.rc_program.specs.Program.{Place, choice, byte, branch, scalar, guard, slot, accept}
+use Rattle.rc_program.specs.Program.{Place, branch, scalar}
 
 -- the scalars of the range that lie between a and b
 abbrev pub between : ℕ → ℕ → Range → List Range

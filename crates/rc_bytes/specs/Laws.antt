@@ -1,5 +1,5 @@
 -- The law of byte programs: their walks are those of the programs that they stand for, and each edge of theirs reads one byte.
-use Rattle.std.specs.Prelude.{◌≡◌, ℕ, ◌+◌, ◌*◌, ◌<◌, ◌≤◌, List, length, Bool, All}
+use Rattle.std.specs.Prelude.{◌≡◌, ℕ, ◌≤◌, List, length, Bool, All}
 use Rattle.rc_pattern.specs.Re.{Re}
 use Rattle.rc_pattern.specs.WellFormed.{HasBounds}
 use Rattle.rc_pattern.specs.Weight.{list_weight}
@@ -8,6 +8,7 @@ use Rattle.rc_program.specs.Program.{Place, Way, stays, reads, ways_out, program
 use Rattle.rc_program.specs.Laws.{IsClosed, heaviness}
 use Rattle.rc_program.specs.Sought.{IsRunnable}
 use Rattle.rc_program.specs.Answer.{Search, answer, groups}
+use Rattle.rc_program.specs.Greatest.{greatest}
 use Rattle.rc_bytes.specs.Bytes.{bytes_of}
 
 -- the same search over the byte program
@@ -25,6 +26,8 @@ pub record ByteProgramLaw : Type 0 where
   pub same_answer : (s : Search) → IsClosed s.places → answer (by_bytes s) ≡ answer s
   -- with the same slots
   pub same_groups : (s : Search) (n : ℕ) → IsClosed s.places → groups (by_bytes s) n ≡ groups s n
+  -- and the same greatest span
+  pub same_greatest : (s : Search) → IsClosed s.places → greatest (by_bytes s) ≡ greatest s
   -- no way out of a place reads more than one byte
   pub by_one : (places : List Place) (test : Look → Bool) (bytes : List ℕ) →
       All (λ q. All IsOfOneByte (ways_out test bytes q)) (bytes_of places)

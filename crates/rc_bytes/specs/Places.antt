@@ -1,5 +1,5 @@
 -- The byte program that places in code are.
-use Rattle.std.specs.Prelude.{◌≡◌, ℕ, ◌+◌, List, [], ◌∷◌, ◌++◌, ◌≤◌, ◌⊎◌, map}
+use Rattle.std.specs.Prelude.{◌≡◌, ℕ, List, [], ◌∷◌, ◌++◌, ◌≤◌, ◌⊎◌, map}
 use Rattle.rc_pattern.specs.Re.{Range}
 use Rattle.rc_pattern.specs.Meaning.{byte_range}
 use Rattle.rc_program.specs.Program.{Place, choice, byte, branch, guard, slot, accept}

@@ -1,8 +1,8 @@
 use Rattle.std.proofs.Common.{arith}
-use Rattle.rc_pattern.specs.Weight.{list_weight}
 use Rattle.rc_program.specs.Program.{program}
 use Rattle.rc_program.proofs.WeightLemmas.{program_weighs}
 use Rattle.rc_bytes.proofs.AnswerLemmas.{same_answer, same_groups}
+use Rattle.rc_bytes.proofs.GreatestLemmas.{same_greatest}
 use Rattle.rc_bytes.proofs.SizeLemmas.{bytes_by_one, bytes_closed, bytes_runnable, bytes_longer, bytes_light}
 use Rattle.rc_bytes.proofs.laws.bytes_have_the_same_walks.Goals as goal
 
@@ -10,6 +10,7 @@ pub returns : goal.returns
 returns c = record {
   same_answer = same_answer;
   same_groups = λ s n closed. same_groups s closed n;
+  same_greatest = same_greatest;
   by_one = bytes_by_one;
   closed = bytes_closed;
   runnable = bytes_runnable;

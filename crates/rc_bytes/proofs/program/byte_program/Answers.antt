@@ -1,4 +1,4 @@
-use Rattle.std.proofs.Common.{◌≡◌, ◌+◌, ◌∙◌, arith, sym, length}
+use Rattle.std.proofs.Common.{◌∙◌, arith, length}
 use Rattle.rc_bytes.proofs.AddLemmas.{turns, weighs}
 use Rattle.rc_bytes.proofs.program.byte_program.Goals as goal
 

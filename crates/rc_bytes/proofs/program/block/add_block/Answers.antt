@@ -1,10 +1,10 @@
-use Rattle.std.proofs.Common.{◌≡◌, ◌+◌, ◌-◌, ◌++◌, [], arith, refl, ap, sym, ◌∙◌, drop, length, vec_len, append_assoc}
+use Rattle.std.proofs.Common.{◌≡◌, ◌+◌, ◌-◌, ◌++◌, arith, refl, ap, sym, ◌∙◌, drop, vec_len}
 use Rattle.std.proofs.lemmas.List.{append-nil}
 use Rattle.rc_program.specs.Program.{branch}
-use Rattle.rc_bytes.specs.Bytes.{block_from, block_to, block_within}
+use Rattle.rc_bytes.specs.Bytes.{block_within}
 use Rattle.rc_bytes.specs.Places.{places_of, ways_of}
 use Rattle.rc_thompson.proofs.EmitLemmas.{IfOk_to}
-use Rattle.rc_bytes.proofs.CodeLemmas.{block_same, block_apart, block_last, turn, parted}
+use Rattle.rc_bytes.proofs.CodeLemmas.{block_same, block_last, turn, parted}
 use Rattle.rc_bytes.proofs.program.block.add_block.Goals as goal
 
 pub returns-then-low-i-clause-more : goal.returns-then-low-i-clause-more

@@ -1,4 +1,4 @@
-use Rattle.std.proofs.Common.{refl, arith}
+use Rattle.std.proofs.Common.{refl}
 use Rattle.rc_bytes.proofs.ScalarLemmas.{encode_two, encode_three, encode_four}
 use Rattle.rc_bytes.proofs.program.block.encoded.Goals as goal
 

@@ -1,7 +1,5 @@
-use Rattle.std.proofs.Common.{◌≡◌, ◌∙◌, ◌≤◌, arith, List, ℕ, length}
-use Rattle.std.specs.Char.{encode_utf8}
-use Rattle.rc_thompson.proofs.EmitLemmas.{IfOk_to}
-use Rattle.rc_bytes.proofs.AddLemmas.{sized, adds_one}
+use Rattle.std.proofs.Common.{◌∙◌, arith}
+use Rattle.rc_bytes.proofs.AddLemmas.{sized}
 use Rattle.rc_bytes.proofs.program.class.add_between.Goals as goal
 
 pub add_ways-requires-clause-inside : goal.add_ways-requires-clause-inside

@@ -1,4 +1,4 @@
-use Rattle.std.proofs.Common.{◌≡◌, ◌≤◌, ◌*◌, ◌+◌, take, map, vec_len}
+use Rattle.std.proofs.Common.{◌≤◌, ◌*◌, ◌+◌, take, map, vec_len}
 use Rattle.rc_pattern.specs.Meaning.{char_range}
 use Rattle.rc_bytes.specs.Bytes.{all_pieces}
 use Rattle.rc_bytes.specs.Places.{Adds}

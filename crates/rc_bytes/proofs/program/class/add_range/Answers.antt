@@ -1,5 +1,4 @@
 use Rattle.rc_thompson.proofs.EmitLemmas.{IfOk_to}
-use Rattle.rc_pattern.specs.Meaning.{char_range}
 use Rattle.rc_bytes.proofs.AddLemmas.{adds_both}
 use Rattle.rc_bytes.proofs.program.class.add_range.Goals as goal
 
