@@ -1,6 +1,7 @@
 -- The match that captures tell is that of the search.
-use Rattle.std.proofs.Common.{◌≡◌, ◌∙◌, ◌+◌, ◌*◌, ◌<◌, List, inl, inr, ⊎_elim, length, Option, Some, None, ap, refl, subst, arith, eq-eqb}
+use Rattle.std.proofs.Common.{◌≡◌, ◌∙◌, ℕ, ◌+◌, ◌*◌, ◌<◌, List, inl, inr, ⊎_elim, length, MatchOption, Option, Some, None, ap, refl, replicate, subst, sym, arith, eq-eqb}
 use Rattle.std.proofs.lemmas.Bool.{ne_eqb}
+use Rattle.std.proofs.lemmas.List.{length-replicate}
 use Rattle.std.specs.Option.{option_and_then, option_map}
 use Rattle.rc_text.specs.Found.{Found}
 use Rattle.rc_text.specs.declared.types.MatchKind.{MatchKind}
@@ -10,6 +11,7 @@ use Rattle.rc_captures.specs.Names.{Names}
 use Rattle.rc_captures.specs.Captures.{IsCapturesFor, captures_names, captures_slots, group_span, match_at, match_of}
 use Rattle.rc_captures.specs.declared.captures.Captures.{Captures}
 use Rattle.rc_captures.proofs.CapturesLaws.{match-whole}
+use Rattle.rc_pikevm.specs.KindSlots.{slots_by}
 use Rattle.rc_program.specs.Program.{accept, place_at, program}
 use Rattle.rc_program.specs.Greatest.{IsSpelledIn, greatest}
 use Rattle.rc_program.specs.Kinds.{answer_by}
@@ -73,3 +75,13 @@ pub still_for : (names : Names) (old new : Captures) → IsCapturesFor names old
     length (captures_slots new) ≡ length (captures_slots old) → IsCapturesFor names new
 still_for names old new made same long =
     record { named = same ∙ made.named; sized = ⊎_elim (λ e. inl (long ∙ e)) (λ e. inr (long ∙ e)) made.sized }
+
+-- what captures keep, whose slots were empty before a search wrote them
+pub kept_slots : (kind : MatchKind) (s : Search) (n : ℕ) (p told : Option ℕ) (kept written before : List (Option ℕ)) → p ≡ told → kept ≡ written →
+    before ≡ replicate n None → MatchOption told (written ≡ before) (λ _. Some written ≡ slots_by kind s (length before)) →
+    MatchOption p (kept ≡ replicate n None) (λ _. Some kept ≡ slots_by kind s n)
+kept_slots kind s n p None kept written before is same empty h =
+    subst (λ o. MatchOption o (kept ≡ replicate n None) (λ _. Some kept ≡ slots_by kind s n)) (sym is) (same ∙ h ∙ empty)
+kept_slots kind s n p (Some _) kept written before is same empty h =
+    subst (λ o. MatchOption o (kept ≡ replicate n None) (λ _. Some kept ≡ slots_by kind s n)) (sym is)
+    (ap (λ xs. Some xs) same ∙ h ∙ ap (λ xs. slots_by kind s (length xs)) empty ∙ ap (slots_by kind s) (length-replicate n None))

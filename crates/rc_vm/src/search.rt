@@ -1,10 +1,10 @@
 //! Searches in a cache. They take no memory.
 
-ghost use Rattle.std.specs.Prelude.{◌≡◌, ◌≤◌, ◌<◌, ◌+◌, ◌-◌, ◌*◌, ◌↔◌, ◌∷◌, [], IsTrue, IsSome, IfSome, MatchOption, Some, None, length, option_map};
+ghost use Rattle.std.specs.Prelude.{◌≡◌, ◌≤◌, ◌<◌, ◌+◌, ◌-◌, ◌*◌, ◌↔◌, ◌∷◌, [], IsTrue, IsSome, IfSome, MatchOption, Some, None, length, option_map, replicate};
 ghost use Rattle.rc_text.specs.Found.{Found};
 ghost use Rattle.rc_text.specs.Text.{Keeps, low, high};
 ghost use Rattle.rc_text.specs.declared.types.MatchKind.TheVariants.{LeftmostFirst};
-ghost use Rattle.rc_captures.specs.Captures.{IsCapturesFor, captures_slots, match_of};
+ghost use Rattle.rc_captures.specs.Captures.{IsCapturesFor, captures_pattern, captures_slots, match_of};
 ghost use Rattle.rc_captures.specs.Names.{slot_len};
 ghost use Rattle.rc_program.specs.Answer.{answer, groups};
 ghost use Rattle.rc_program.specs.Sought.{search_for};
@@ -58,7 +58,8 @@ pub fn is_match<C: Cursor>(vm: &PikeVM, cache: &mut Cache, input: &mut Input<C>)
 }
 
 /// Writes the match that a search of the input finds, with its groups, into captures that were made of the groups of this `PikeVM`.
-/// Without a match they hold none. The cache has to be made for this `PikeVM`; it stays so.
+/// Without a match they hold none. All slots but the match's are empty afterwards. The cache has to be made for this `PikeVM`; it stays
+/// so.
 ///
 /// Under `MatchKind::LeftmostFirst` the match is the one that is preferred of the least start. Under `MatchKind::All` it is the one
 /// with the greatest end, then the least start, then the least pattern; no match is passed over, and explicit groups hold nothing.
@@ -75,6 +76,10 @@ pub fn search<C: Cursor>(vm: &PikeVM, cache: &mut Cache, input: &mut Input<C>, c
         → match_of caps.new ≡ answer (search_for (sought vm.now) input.old) }
     ensures found_by { TellsBy (match_kind_of (vm_settings vm.now)) (search_for (sought vm.now) input.old) caps.new }
     ensures matched_by { match_of caps.new ≡ answer_by (match_kind_of (vm_settings vm.now)) (search_for (sought vm.now) input.old) }
+    ensures slots { MatchOption (captures_pattern caps.new)
+        (captures_slots caps.new ≡ replicate (length (captures_slots caps.old)) None)
+        (λ _. Some (captures_slots caps.new)
+        ≡ slots_by (match_kind_of (vm_settings vm.now)) (search_for (sought vm.now) input.old) (length (captures_slots caps.old))) }
     ensures none { high input.old < low input.old → insertions_of cache.new ≡ 0 }
     ensures few { insertions_of cache.new ≤ states_of (sought vm.now) * (high input.old - low input.old + 2) }
     ensures counted { IfSome (answer_by (match_kind_of (vm_settings vm.now)) (search_for (sought vm.now) input.old))

@@ -1,11 +1,13 @@
-use Rattle.std.proofs.Common.{◌∙◌, MatchOption, ap, length, None, refl, subst, sym}
+use Rattle.std.proofs.Common.{◌≡◌, ◌∙◌, MatchOption, Some, ap, length, None, refl, replicate, subst, sym}
 use Rattle.std.specs.Bool.{⊤}
 use Rattle.std.proofs.lemmas.List.{length-map, length-replicate}
 use Rattle.rc_pattern.specs.WellFormed.{group_names}
-use Rattle.rc_captures.specs.Captures.{captures_slots}
+use Rattle.rc_captures.specs.Captures.{captures_pattern, captures_slots}
 use Rattle.rc_captures.proofs.CapturesLaws.{lent-written}
 use Rattle.rc_literal.specs.Guards.{Guards}
 use Rattle.rc_literal.specs.Prefilters.{needles_of}
+use Rattle.rc_pikevm.specs.KindSlots.{slots_by}
+use Rattle.rc_program.specs.Answer.{Search}
 use Rattle.rc_program.specs.Kinds.{answer_by}
 use Rattle.rc_program.specs.Program.{shown}
 use Rattle.rc_program.specs.Sought.{search_for, search_over}
@@ -17,7 +19,7 @@ use Rattle.rc_vm.specs.Configs.{match_kind_of}
 use Rattle.rc_vm.specs.Thompson.{which_captures_of}
 use Rattle.rc_vm.specs.Views.{sought, vm_names, vm_patterns, vm_program, vm_settings}
 use Rattle.rc_vm.proofs.Fitted.{fits_search}
-use Rattle.rc_vm.proofs.Matched.{still_for, tells_match_by}
+use Rattle.rc_vm.proofs.Matched.{kept_slots, still_for, tells_match_by}
 use Rattle.rc_vm.proofs.search.search.Goals as goal
 
 pub search_slots_by_kind-pattern-requires-clause-guarded : goal.search_slots_by_kind-pattern-requires-clause-guarded
@@ -65,3 +67,21 @@ returns-clause-matched_by g c =
 pub returns-clause-matched : goal.returns-clause-matched
 returns-clause-matched g c kind =
     returns-clause-matched_by g c ∙ ap (λ k. answer_by k (search_for (sought c.args.vm.now) c.args.input.now)) kind
+
+pub returns-clause-slots : goal.returns-clause-slots
+returns-clause-slots g c =
+    let vm = c.args.vm.now in
+    let e = vm.engine in
+    let kept = captures_slots c.set_pattern.new.caps in
+    let n = length (captures_slots c.args.caps.now) in
+    let p = captures_pattern c.set_pattern.new.caps in
+    subst (λ k. MatchOption p (kept ≡ replicate n None) (λ _. Some kept ≡ slots_by k (search_for (sought vm) c.args.input.now) n)) vm.fits.kinded
+    (subst (λ (s : Search). MatchOption p (kept ≡ replicate n None) (λ _. Some kept ≡ slots_by e.kind s n))
+    (ap (λ ps. search_over (places_of ps) e.terminator e.passes_over c.args.input.now) c.deref.ensures.value ∙ fits_search vm.fits c.args.input.now)
+    (kept_slots e.kind (search_over (places_of c.deref.result.now) e.terminator e.passes_over c.args.input.now) n p
+    c.search_slots_by_kind-pattern.result kept c.search_slots_by_kind-pattern.new.slots c.slots_mut.result.now
+    c.set_pattern.ensures.pattern
+    (c.set_pattern.ensures.slots
+    ∙ lent-written c.clear.new.caps c.search_slots_by_kind-pattern.new.slots (c.search_slots_by_kind-pattern.ensures.long ∙ ap length c.slots_mut.ensures.value))
+    (c.slots_mut.ensures.value ∙ c.clear.ensures.slots)
+    c.search_slots_by_kind-pattern.ensures.slots))
