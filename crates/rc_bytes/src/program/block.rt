@@ -1,6 +1,6 @@
 //! The ways over the bytes of the scalars from one to another of as many bytes, and the block of places behind them.
 
-ghost use Rattle.std.specs.Prelude.{◌≡◌, ◌+◌, ◌<◌, ◌≤◌, ◌^◌, [], ◌∷◌, ◌++◌, All, IfOk, drop, length, encode_utf8, vec_len};
+ghost use Rattle.std.specs.Prelude.{◌≡◌, ◌+◌, ◌<◌, ◌≤◌, ◌^◌, [], ◌∷◌, ◌++◌, All, IfOk, drop, length, vec_len};
 ghost use Rattle.rc_bytes.specs.Bytes.{rest_of, ways_from, block_from, ways_to, block_to, ways_within, block_within};
 ghost use Rattle.rc_bytes.specs.Places.{place_of, places_of, ways_of};
 
@@ -46,34 +46,6 @@ fn rest_of(exits: Exits, count: usize) -> usize
         return exits.next;
     }
     exits.tail + (3 - count)
-}
-
-/// The bytes of the scalar in UTF-8.
-pub(super) fn encoded(alloc: Global, scalar: u32) -> Result<Vec<u8>, AllocError>
-    requires { scalar < 0x11_0000 }
-    ensures { IfOk result (λ bytes. bytes.items ≡ encode_utf8 scalar) }
-{
-    let mut bytes = Vec::with_capacity(alloc, 4)?;
-    if scalar < 0x80 {
-        bytes.push(scalar as u8)?;
-        return Ok(bytes);
-    }
-    if scalar < 0x800 {
-        bytes.push((192 + scalar / 64) as u8)?;
-        bytes.push((128 + scalar % 64) as u8)?;
-        return Ok(bytes);
-    }
-    if scalar < 0x1_0000 {
-        bytes.push((224 + scalar / 4096) as u8)?;
-        bytes.push((128 + scalar / 64 % 64) as u8)?;
-        bytes.push((128 + scalar % 64) as u8)?;
-        return Ok(bytes);
-    }
-    bytes.push((240 + scalar / 262144) as u8)?;
-    bytes.push((128 + scalar / 4096 % 64) as u8)?;
-    bytes.push((128 + scalar / 64 % 64) as u8)?;
-    bytes.push((128 + scalar % 64) as u8)?;
-    Ok(bytes)
 }
 
 /// The ways over continuation bytes from those of `low` from `at` on, where the block behind the first stands at `start`.

@@ -1,12 +1,12 @@
 //! The ways and the blocks of a class of scalars.
 
-ghost use Rattle.std.specs.Prelude.{◌≡◌, ◌+◌, ◌*◌, ◌<◌, ◌≤◌, ◌^◌, [], ◌∷◌, ◌++◌, IfOk, length, map, vec_len};
+ghost use Rattle.std.specs.Prelude.{◌≡◌, ◌+◌, ◌*◌, ◌<◌, ◌≤◌, ◌^◌, [], ◌∷◌, ◌++◌, IfOk, length, map, max, min, vec_len};
 ghost use Rattle.rc_pattern.specs.Meaning.{char_range};
 ghost use Rattle.rc_program.specs.Program.{branch};
 ghost use Rattle.rc_bytes.specs.Bytes.{all_pieces, between, pieces, tails};
 ghost use Rattle.rc_bytes.specs.Places.{Adds, IsLengthClass, places_of};
 
-use super::block::{Exits, add_block, add_way, add_ways, append, encoded};
+use super::block::{Exits, add_block, add_way, add_ways, append};
 use crate::place::{BytePlace, ByteWay};
 use rc_pattern::hir::ClassUnicodeRange;
 use std::alloc::{AllocError, Global};
@@ -36,6 +36,26 @@ pub(super) fn add_tails(
     add_tail(alloc, blocks, exits.next)
 }
 
+/// The later of two scalars.
+fn later(one: char, other: char) -> char
+    ensures { result ≡ max one other }
+{
+    if one < other {
+        return other;
+    }
+    one
+}
+
+/// The earlier of two scalars.
+fn earlier(one: char, other: char) -> char
+    ensures { result ≡ min one other }
+{
+    if other < one {
+        return other;
+    }
+    one
+}
+
 /// Adds the scalars of a range that lie between `least` and `most`, which take as many bytes as each other.
 fn add_between(
     alloc: Global,
@@ -44,8 +64,8 @@ fn add_between(
     first: usize,
     exits: Exits,
     range: ClassUnicodeRange,
-    least: u32,
-    most: u32,
+    least: char,
+    most: char,
 ) -> Result<(), AllocError>
     requires room { (exits.tail < 2 ^ 62) × (first + vec_len blocks.old + 8 < 2 ^ 62) }
     requires alike { IsLengthClass least most }
@@ -53,16 +73,18 @@ fn add_between(
     ensures more { IfOk result (λ _. Adds (first + vec_len blocks.old) exits.tail exits.next (between least most (char_range range))
         ways.old.items ways.new.items blocks.old.items blocks.new.items) }
 {
-    let from = (range.start as u32).max(least);
-    let to = (range.end as u32).min(most);
+    let from = later(range.start, least);
+    let to = earlier(range.end, most);
     if from > to {
         return Ok(());
     }
-    let low = encoded(alloc, from)?;
-    let high = encoded(alloc, to)?;
+    let mut low = [0; 4];
+    let low = from.encode_utf8(&mut low).as_bytes();
+    let mut high = [0; 4];
+    let high = to.encode_utf8(&mut high).as_bytes();
     let start = first + blocks.len();
-    add_ways(ways, exits, &low, &high, 0, start)?;
-    add_block(alloc, blocks, first, exits, &low, &high)
+    add_ways(ways, exits, low, high, 0, start)?;
+    add_block(alloc, blocks, first, exits, low, high)
 }
 
 /// Adds the scalars of a range.
@@ -79,12 +101,25 @@ fn add_range(
     ensures more { IfOk result (λ _. Adds (first + vec_len blocks.old) exits.tail exits.next (pieces (char_range range))
         ways.old.items ways.new.items blocks.old.items blocks.new.items) }
 {
-    add_between(alloc, ways, blocks, first, exits, range, 0, 0x7F)?;
-    add_between(alloc, ways, blocks, first, exits, range, 0x80, 0x7FF)?;
-    add_between(alloc, ways, blocks, first, exits, range, 0x800, 0xD7FF)?;
-    add_between(alloc, ways, blocks, first, exits, range, 0xE000, 0xFFFF)?;
+    add_between(alloc, ways, blocks, first, exits, range, '\0', '\u{7F}')?;
     add_between(
-        alloc, ways, blocks, first, exits, range, 0x1_0000, 0x10_FFFF,
+        alloc, ways, blocks, first, exits, range, '\u{80}', '\u{7FF}',
+    )?;
+    add_between(
+        alloc, ways, blocks, first, exits, range, '\u{800}', '\u{D7FF}',
+    )?;
+    add_between(
+        alloc, ways, blocks, first, exits, range, '\u{E000}', '\u{FFFF}',
+    )?;
+    add_between(
+        alloc,
+        ways,
+        blocks,
+        first,
+        exits,
+        range,
+        '\u{10000}',
+        char::MAX,
     )
 }
 
