@@ -1,5 +1,5 @@
 -- Beginnings of bytes.
-use Rattle.std.proofs.Common.{◌≡◌, ℕ, ◌+◌, ◌<◌, ◌≤◌, List, [], ◌++◌, length, map, drop, Bool, true, false, get_or, Some, option_map, sym, ap, subst, ◌∙◌, refl, arith, inl, inr, slice_get, Vec}
+use Rattle.std.proofs.Common.{◌≡◌, ℕ, ◌+◌, ◌<◌, List, length, drop, Bool, true, false, get_or, Some, option_map, sym, ap, subst, ◌∙◌, refl, arith, inl, inr, slice_get, Vec}
 use Rattle.std.specs.List.{starts_with}
 use Rattle.std.specs.Prelude.{eqb}
 use Rattle.std.proofs.lemmas.Bool.{cases_lt, false≢true}

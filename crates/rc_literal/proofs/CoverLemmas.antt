@@ -1,15 +1,14 @@
 -- What a list that covers patterns is good for.
-use Rattle.std.proofs.Common.{◌≡◌, ℕ, zero, suc, ◌+◌, ◌<◌, ◌≤◌, List, [], ◌∷◌, ◌++◌, length, Bool, IsTrue, Some, None, All, sym, ap, subst, ◌∙◌, refl, arith, inl, inr, ⊎_elim, slice_get}
+use Rattle.std.proofs.Common.{◌≡◌, ℕ, ◌+◌, List, [], ◌∷◌, ◌++◌, length, Bool, IsTrue, Some, None, All, ap, subst, ◌∙◌, refl, arith, ⊎_elim, slice_get}
 use Rattle.std.proofs.lemmas.Option.{get_or_from_slice_get, slice_get_within}
 use Rattle.std.proofs.lemmas.List.{length-append}
-use Rattle.rc_walks.specs.Walks.{Pair, IsWalk}
-use Rattle.rc_text.specs.Text.{Searched, high}
+use Rattle.rc_walks.specs.Walks.{Pair}
 use Rattle.rc_pattern.specs.Re.{Re}
 use Rattle.rc_pattern.specs.WellFormed.{HasBounds}
 use Rattle.rc_program.specs.Text.{Text}
 use Rattle.rc_program.specs.Spells.{Stands}
-use Rattle.rc_program.specs.Program.{place_at, is_match_place, program, shown, ways}
-use Rattle.rc_program.specs.Answer.{Search, only, ends, next_of, last_of, pattern_at}
+use Rattle.rc_program.specs.Program.{place_at, is_match_place, program, shown}
+use Rattle.rc_program.specs.Answer.{only, ends, next_of, last_of, pattern_at}
 use Rattle.rc_program.specs.Sought.{search_over}
 use Rattle.rc_program.specs.Laws.{IsWalkOf}
 use Rattle.rc_program.proofs.AnswerLemmas.{walk_ends, walk_within, match_place_is}
@@ -18,7 +17,7 @@ use Rattle.rc_program.proofs.GroupLemmas.{group_law, shown_all}
 use Rattle.rc_program.proofs.WholeLemmas.{program_law}
 use Rattle.rc_literal.specs.Literals.{Covers}
 use Rattle.rc_literal.specs.Guards.{Guards}
-use Rattle.rc_literal.specs.Prefixes.{BeginsWith, BeginsWithOne, EachBegins, CoverLaw}
+use Rattle.rc_literal.specs.Prefixes.{BeginsWithOne, EachBegins, CoverLaw}
 
 -- It guards the program.
 

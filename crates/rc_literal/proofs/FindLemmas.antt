@@ -8,44 +8,43 @@ use Rattle.rc_text.specs.Text.{Searched, Keeps, low}
 use Rattle.rc_literal.specs.declared.hit.Hit.{Hit}
 use Rattle.rc_literal.specs.Needles.{stands_within, first_from, needle_at, by_starts, find_needle, prefix_needle}
 use Rattle.rc_literal.specs.declared.scan.Scan.{Scan}
-use Rattle.rc_literal.specs.declared.scan.Scan.TheVariants.{Needle, One, Two, Three, Many}
+use Rattle.rc_literal.specs.declared.scan.Scan.TheVariants.{Needle, Heads}
 use Rattle.rc_literal.specs.Scans.{IsScanOf}
 use Rattle.rc_literal.specs.Tables.{numbered, Agrees, IsRuledOut, AreSome}
 use Rattle.rc_literal.proofs.StandLemmas.{stands_parts, false_if_not, none_from}
 
--- a needle that stands agrees, from the offset on, with the piece there
-stands_agrees : (content piece needle : List ℕ) (hi offset p k : ℕ) → piece ≡ slice_range content (p + offset) (p + offset + length piece) →
-    stands_within content hi (p + k) needle ≡ true → Agrees piece (drop offset needle) k
-stands_agrees content piece needle hi offset p k is e j l m =
-    let same = (stands_parts content hi (p + k) needle e).1 in
+-- a needle that stands agrees, from the offset on, with a piece that its place there is the place k of
+stands_agrees : (content piece needle : List ℕ) (hi offset i from k : ℕ) → piece ≡ slice_range content from (from + length piece) →
+    i + offset ≡ from + k → stands_within content hi i needle ≡ true → Agrees piece (drop offset needle) k
+stands_agrees content piece needle hi offset i from k is at e j l m =
+    let same = (stands_parts content hi i needle e).1 in
     let long : offset + j < length needle = let d = length-drop offset needle in omega (arith, l, d) in
-    let n : p + offset + (k + j) ≡ p + k + (offset + j) = omega arith in
-    let left : slice_index piece (k + j) ≡ slice_index content (p + offset + (k + j)) =
-    ap (λ xs. slice_index xs (k + j)) is ∙ get_or-slice_range content (p + offset) (p + offset + length piece) (k + j) 0 (omega (arith, m)) in
-    let right : slice_index (slice_range content (p + k) (p + k + length needle)) (offset + j) ≡ slice_index content (p + k + (offset + j)) =
-    get_or-slice_range content (p + k) (p + k + length needle) (offset + j) 0 (omega (arith, long)) in
+    let n : from + (k + j) ≡ i + (offset + j) = omega (arith, at) in
+    let left : slice_index piece (k + j) ≡ slice_index content (from + (k + j)) =
+    ap (λ xs. slice_index xs (k + j)) is ∙ get_or-slice_range content from (from + length piece) (k + j) 0 (omega (arith, m)) in
+    let right : slice_index (slice_range content i (i + length needle)) (offset + j) ≡ slice_index content (i + (offset + j)) =
+    get_or-slice_range content i (i + length needle) (offset + j) 0 (omega (arith, long)) in
     left ∙ ap (slice_index content) n ∙ sym right ∙ ap (λ xs. slice_index xs (offset + j)) same ∙ sym (get_or-drop offset needle j 0)
 
 -- where it can't stand by a piece, it doesn't stand in the content
-pub none_ruled_out : (needles : List (List ℕ)) (content piece : List ℕ) (hi offset p k : ℕ) →
-    piece ≡ slice_range content (p + offset) (p + offset + length piece) →
-    IsRuledOut needles offset piece k → needle_at needles content hi (p + k) ≡ None
-none_ruled_out needles content piece hi offset p k is out =
-    none_from needles content hi (p + k) 0
-    (λ n l. false_if_not (stands_within content hi (p + k) (numbered needles n))
-    (λ e. out n l (stands_agrees content piece (numbered needles n) hi offset p k is e)))
+pub none_ruled_out : (needles : List (List ℕ)) (content piece : List ℕ) (hi offset i from k : ℕ) →
+    piece ≡ slice_range content from (from + length piece) → i + offset ≡ from + k →
+    IsRuledOut needles offset piece k → needle_at needles content hi i ≡ None
+none_ruled_out needles content piece hi offset i from k is at out =
+    none_from needles content hi i 0
+    (λ n l. false_if_not (stands_within content hi i (numbered needles n))
+    (λ e. out n l (stands_agrees content piece (numbered needles n) hi offset i from k is at e)))
 
 -- each needle goes on behind the offset
 abbrev pub ArePast : List (List ℕ) → ℕ → Type 0
 ArePast needles offset = (k : ℕ) → k < length needles → offset < length (numbered needles k)
 
 pub are_past : (needles : List (List ℕ)) (offset : ℕ) (scan : Scan) → AreSome needles → IsScanOf needles offset scan → ArePast needles offset
-are_past needles offset (Needle whole pair) some is k l =
-    let zero : 0 ≡ k = let one = is.0 in omega (arith, l, one) in subst (λ n. offset < length (numbered needles n)) zero is.1
-are_past needles offset (One a) some is k l = let long = some k l in let zero = is.0 in omega (arith, long, zero)
-are_past needles offset (Two a b) some is k l = let long = some k l in let zero = is.0 in omega (arith, long, zero)
-are_past needles offset (Three a b c) some is k l = let long = some k l in let zero = is.0 in omega (arith, long, zero)
-are_past needles offset Many some is k l = let long = some k l in omega (arith, long, is)
+are_past needles offset (Needle rest) some is k l =
+    let zero : 0 ≡ k = omega (arith, l, is.one) in
+    let past : offset < length (numbered needles 0) = omega (arith, is.long, ap length is.is, length-drop offset (numbered needles 0)) in
+    subst (λ n. offset < length (numbered needles n)) zero past
+are_past needles offset (Heads heads) some is k l = let long = some k l in let zero = is.0 in omega (arith, long, zero)
 
 -- no needle stands whose offset is at the end
 pub none_past : (needles : List (List ℕ)) (content : List ℕ) (hi offset i : ℕ) → ArePast needles offset → hi ≤ i + offset →
@@ -124,17 +123,30 @@ same_low s t k = rw (k.span, k.slice) refl
 abbrev pub NoneBefore : List (List ℕ) → List ℕ → ℕ → ℕ → ℕ → Type 0
 NoneBefore needles content hi lo x = (i : ℕ) → lo ≤ i → i < x → needle_at needles content hi i ≡ None
 
--- the places of a piece that are ruled out
-pub more_passed : (needles : List (List ℕ)) (content piece : List ℕ) (lo hi offset at passed : ℕ) → NoneBefore needles content hi lo at →
-    piece ≡ slice_range content (at + offset) (at + offset + length piece) →
-    ((k : ℕ) → k < passed → IsRuledOut needles offset piece k) → NoneBefore needles content hi lo (at + passed)
-more_passed needles content piece lo hi offset at passed before is out i low high =
-    elim (cases_lt i at) [
+-- no needle stands whose place, the offset behind its start, lies from `from` on, below `to`
+abbrev pub NonePlaced : List (List ℕ) → ℕ → List ℕ → ℕ → ℕ → ℕ → Type 0
+NonePlaced needles offset content hi from to =
+    (i : ℕ) → from ≤ i + offset → i + offset < to → needle_at needles content hi i ≡ None
+
+-- nor at the places of a piece that are ruled out
+pub more_placed : (needles : List (List ℕ)) (content piece : List ℕ) (hi offset from at passed : ℕ) →
+    NonePlaced needles offset content hi from at → piece ≡ slice_range content at (at + length piece) →
+    ((k : ℕ) → k < passed → IsRuledOut needles offset piece k) → NonePlaced needles offset content hi from (at + passed)
+more_placed needles content piece hi offset from at passed before is out i low high =
+    elim (cases_lt (i + offset) at) [
       | inl l ↦ before i low l
       | inr g ↦
-          let e : at + (i - at) ≡ i = omega (arith, g) in
-          subst (λ j. needle_at needles content hi j ≡ None) e
-          (none_ruled_out needles content piece hi offset at (i - at) is (out (i - at) (omega (arith, g, high))))
+          let k : ℕ = i + offset - at in
+          none_ruled_out needles content piece hi offset i at k is (omega (arith, g)) (out k (omega (arith, g, high)))
+    ]
+
+-- so none stands from the start on up to where the places end
+pub starts_passed : (needles : List (List ℕ)) (content : List ℕ) (lo hi offset at place : ℕ) → NoneBefore needles content hi lo at →
+    NonePlaced needles offset content hi (at + offset) place → NoneBefore needles content hi lo (place - offset)
+starts_passed needles content lo hi offset at place before none i low high =
+    elim (cases_lt i at) [
+      | inl l ↦ before i low l
+      | inr g ↦ none i (omega (arith, g)) (omega (arith, high))
     ]
 
 -- and one more

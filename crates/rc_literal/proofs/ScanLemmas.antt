@@ -6,8 +6,7 @@ use Rattle.std.proofs.lemmas.List.{get_or-drop, get_or-take}
 use Rattle.std.proofs.lemmas.Option.{slice_get-get_or}
 use Rattle.std.specs.Option.{unwrap_or}
 use Rattle.memchr.specs.Find.{Nowhere, Passes, OccursAt, IsFirstByte, is_byte, is_byte2, is_byte3}
-use Rattle.memchr.specs.declared.arch.all.packedpair.Finder.{Finder}
-use Rattle.rc_literal.specs.Pairs.{IsPairAhead, HasBegun}
+use Rattle.rc_literal.specs.Pairs.{HasBegun}
 use Rattle.rc_literal.specs.Tables.{numbered, Begins, Agrees, IsRuledOut, AreSome, AreHeads}
 use Rattle.rc_literal.specs.Scans.{AllBegin}
 
@@ -58,19 +57,14 @@ ruled_out_by_part needles offset rest piece k one is never n l agrees =
     never (subst (λ w. Agrees piece w k) (sym is) (subst (λ m. Agrees piece (drop offset (numbered needles m)) k) zero agrees))
 
 -- where all bytes agree, the first two of them have begun
-pub begun : (f : Finder) (piece rest : List ℕ) (k : ℕ) → 2 ≤ length rest → IsPairAhead f rest → k < length piece → Agrees piece rest k →
-    HasBegun f piece k
-begun f piece rest k long ahead within agrees =
+pub begun : (first second : ℕ) (piece rest : List ℕ) (k : ℕ) → 2 ≤ length rest → first ≡ slice_index rest 0 → second ≡ slice_index rest 1 →
+    k < length piece → Agrees piece rest k → HasBegun first second piece k
+begun first second piece rest k long one two within agrees =
     let z : k + 0 ≡ k = omega arith in
     record {
-      first = ap (slice_index piece) (sym z) ∙ agrees 0 (omega (arith, long)) (omega (arith, within))
-          ∙ sym (ahead.finder.byte1 ∙ ap (slice_index rest) ahead.side_by_side.first);
-      second = λ l. agrees 1 (omega (arith, long)) l ∙ sym (ahead.finder.byte2 ∙ ap (slice_index rest) ahead.side_by_side.second);
+      is_first = ap (slice_index piece) (sym z) ∙ agrees 0 (omega (arith, long)) (omega (arith, within)) ∙ sym one;
+      is_second = λ l. agrees 1 (omega (arith, long)) l ∙ sym two;
     }
-
--- a pair ahead is one of two bytes at least
-pub ahead_long : (f : Finder) (rest : List ℕ) → IsPairAhead f rest → 2 ≤ length rest
-ahead_long f rest ahead = let a = ahead.side_by_side.second in let b = ahead.finder.pair.second in omega (arith, a, b)
 
 -- where the needle would stand in the piece
 pub no_whole : (piece needle : List ℕ) (k : ℕ) → ¬ OccursAt piece needle k → k + length needle ≤ length piece → ¬ Agrees piece needle k

@@ -9,8 +9,10 @@ pub mod exact;
 pub mod hit;
 pub mod laws;
 pub mod literal;
+mod look;
 pub mod prefilter;
 pub mod prefixes;
+mod quiet;
 mod scan;
 mod table;
 #[cfg(test)]

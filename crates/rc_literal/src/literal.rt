@@ -7,8 +7,8 @@ ghost use Rattle.rc_literal.specs.Prefilters.{needles_of};
 ghost use Rattle.rc_literal.specs.Tables.{needles_in};
 
 use crate::hit::Hit;
+use crate::look::place_from;
 use crate::prefilter::Prefilter;
-use crate::scan::candidate;
 use crate::table::Table;
 use rc_text::cursor::Cursor;
 use rc_text::input::{Input, byte_at, high, low, piece_from};
@@ -76,16 +76,14 @@ pub fn find_from<C: Cursor>(
     ensures value { result ≡ find_needle (needles_of prefilter.now) input.old.content from end }
     ensures within { IfSome result (λ hit. (from ≤ hit.start) × (hit.start < hit.end) × (hit.end ≤ end)) }
 {
-    let offset = prefilter.searcher.offset;
+    let searcher = &prefilter.searcher;
+    let offset = searcher.offset;
     let last = end.saturating_sub(offset);
     let mut at = from;
     while at < last {
-        let piece = piece_from(input, at + offset, end);
-        let len = piece.len();
-        let passed = candidate(&prefilter.searcher, piece);
-        at += passed;
-        if passed < len {
-            if let Some(hit) = needle_at(input, &prefilter.searcher.table, at, end) {
+        at = place_from(input, searcher, at + offset, end) - offset;
+        if at < last {
+            if let Some(hit) = needle_at(input, &searcher.table, at, end) {
                 return Some(hit);
             }
             at += 1;

@@ -5,15 +5,15 @@ ghost use Rattle.rc_literal.specs.Tables.{IsUsable, needles_in};
 ghost use Rattle.std.specs.Bool.{Decides};
 ghost use Rattle.rc_literal.specs.Prefilters.{needles_of};
 
-use crate::scan::{Scan, Searcher, searcher_of};
+use crate::scan::{Heads, Scan, Searcher, searcher_of};
 use rc_text::types::MatchKind;
 use std::alloc::{AllocError, Global};
 use std::fmt;
 
 /// A list of needles, none of them empty, made ready for searches.
 ///
-/// A search for one needle goes by two of its bytes that stand side by side, and in long chunks by
-/// those behind them too; one for needles that begin with at most three bytes goes by these bytes.
+/// A search for one needle passes over short chunks by two of its bytes that stand side by side, and
+/// goes by those behind them too; one for needles that begin with at most three bytes goes by these.
 /// Where they begin with more, each byte of the content is looked up in a table. Where a needle may
 /// stand, those alone are compared that begin with the byte there: so the work for each byte grows
 /// with how many share a first byte, and not with how many there are.
@@ -55,8 +55,8 @@ impl Prefilter {
     /// Whether a search goes by a needle or by at most three bytes, and not by a table.
     pub fn is_fast(&self) -> bool {
         match &self.searcher.scan {
-            Scan::Needle(_, _) | Scan::One(_) | Scan::Two(_, _) | Scan::Three(_, _, _) => true,
-            Scan::Many => false,
+            Scan::Heads(Heads::Many) => false,
+            _ => true,
         }
     }
 

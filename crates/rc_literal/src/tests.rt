@@ -87,6 +87,37 @@ fn a_false_start_before_a_border(rt: HostRuntime) -> Result<(), Fail> {
     Ok(())
 }
 
+/// Finds the word at the place `at` of 200 bytes, in chunks of `n` bytes.
+fn found_in_chunks(
+    alloc: Global,
+    at: usize,
+    n: usize,
+) -> Result<Option<(usize, usize, usize)>, Fail> {
+    let prefilter = of(alloc, &[b"terminator".as_slice()])?;
+    let mut text = vec![in alloc; b'm'; at.min(190)]?;
+    for byte in b"terminator" {
+        text.push(*byte)?;
+    }
+    for _ in text.len()..200 {
+        text.push(b'i')?;
+    }
+    let mut chunks: Vec<&[u8]> = Vec::new(alloc);
+    for chunk in text.chunks(n.max(1)) {
+        chunks.push(chunk)?;
+    }
+    Ok(found(&mut Input::new(ChunkCursor::new(&chunks)?), &prefilter))
+}
+
+#[test]
+fn a_word_at_each_place_of_short_chunks(rt: HostRuntime) -> Result<(), Fail> {
+    for n in [15, 32, 33, 34, 63, 64, 65, 66, 130] {
+        for at in 0..191 {
+            assert_eq!(rt; found_in_chunks(rt.alloc(), at, n)?, Some((at, at + 10, 0)));
+        }
+    }
+    Ok(())
+}
+
 #[test]
 fn a_word_at_the_border_of_long_chunks(rt: HostRuntime) -> Result<(), Fail> {
     let prefilter = of(rt.alloc(), &[b"terminator".as_slice()])?;

@@ -22,6 +22,7 @@ use Rattle.rc_meta.specs.declared.regex.Regex.{Regex}
 use Rattle.rc_meta.specs.declared.finder.Finder.{Finder}
 use Rattle.rc_meta.specs.declared.iterators.FindMatches.{FindMatches}
 use Rattle.rc_meta.specs.declared.iterators.CapturesMatches.{CapturesMatches}
+use Rattle.rc_meta.specs.declared.iterators.Pieces.{Pieces}
 use Rattle.rc_meta.specs.declared.iterators.Split.{Split}
 use Rattle.rc_meta.specs.declared.iterators.SplitN.{SplitN}
 
@@ -87,6 +88,10 @@ find_regex s = s.finder.regex.now
 abbrev pub find_input : {C : Type 0} → FindMatches C → Searched
 find_input s = s.input
 
+-- the same, but for the input that is kept
+abbrev pub with_find_input : {C : Type 0} → FindMatches C → Searched → FindMatches C
+with_find_input s i = record s { input = i }
+
 -- the matches that are left
 abbrev pub find_left : {C : Type 0} → FindMatches C → List Found
 find_left s = left_in s.finder s.input
@@ -96,6 +101,10 @@ captures_regex s = s.finder.finder.regex.now
 
 abbrev pub captures_input : {C : Type 0} → CapturesMatches C → Searched
 captures_input s = s.input
+
+-- the same, but for the input that is kept
+abbrev pub with_captures_input : {C : Type 0} → CapturesMatches C → Searched → CapturesMatches C
+with_captures_input s i = record s { input = i }
 
 -- the matches whose captures are left, and their walks
 abbrev pub captures_left : {C : Type 0} → CapturesMatches C → List Found
@@ -138,24 +147,38 @@ pub record MatchedLaw {C : Type 0} (kind : MatchKind) (names : Names) (search : 
   pub all_matched : (items : List Captures) (t : CapturesMatches C) → YieldsThen CapturesNext s (map Ok items) None t →
       map match_of items ≡ map Some (matches_by_kind kind search start None)
 
--- the pieces that are left: the next begins at `start`
+-- the pieces that are left in an input: the next begins at `start`
+abbrev pub pieces_in : Pieces → Searched → List Span
+pieces_in p i = unless_done p.is_done (pieces_from p.start (high i) (left_in p.finder i))
+
+-- at most so many of them
+abbrev pub few_in : ℕ → Pieces → Searched → List Span
+few_in n p i = unless_done p.is_done (pieces_left n p.start (high i) (left_in p.finder i))
+
+-- the pieces that are left
 abbrev pub split_left : {C : Type 0} → Split C → List Span
-split_left s = unless_done s.is_done (pieces_from s.start (high s.matches.input) (find_left s.matches))
+split_left s = pieces_in s.pieces s.input
 
 -- the input that is kept
 abbrev pub split_input : {C : Type 0} → Split C → Searched
-split_input s = find_input s.matches
+split_input s = s.input
 
--- at most so many of them
-abbrev pub few_left : {C : Type 0} → ℕ → Split C → List Span
-few_left n s = unless_done s.is_done (pieces_left n s.start (high s.matches.input) (find_left s.matches))
+-- the same, but for the input that is kept
+abbrev pub with_split_input : {C : Type 0} → Split C → Searched → Split C
+with_split_input s i = record s { input = i }
 
 -- how many more calls of `next` may give a piece
 abbrev pub splitn_limit : {C : Type 0} → SplitN C → ℕ
 splitn_limit s = s.limit
 
+-- at most so many of the pieces
 abbrev pub splitn_left : {C : Type 0} → SplitN C → List Span
-splitn_left s = few_left (splitn_limit s) s.pieces
+splitn_left s = few_in (splitn_limit s) s.pieces s.input
 
+-- the input that is kept
 abbrev pub splitn_input : {C : Type 0} → SplitN C → Searched
-splitn_input s = split_input s.pieces
+splitn_input s = s.input
+
+-- the same, but for the input that is kept
+abbrev pub with_splitn_input : {C : Type 0} → SplitN C → Searched → SplitN C
+with_splitn_input s i = record s { input = i }

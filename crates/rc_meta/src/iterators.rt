@@ -36,23 +36,35 @@ pub struct CapturesMatches<'r, C: Cursor> {
 /// Each call of `next` searches, and takes no memory. After the last piece it gives None.
 #[derive(Drop)]
 pub struct Split<'r, C: Cursor> {
-    pub(crate) matches: FindMatches<'r, C>,
-    /// Where the next piece begins.
-    pub(crate) start: usize,
-    pub(crate) is_done: bool,
+    pub(crate) pieces: Pieces<'r>,
+    pub(crate) input: Input<C>,
 }
 
 /// The same, of which there are at most so many.
 #[derive(Drop)]
 pub struct SplitN<'r, C: Cursor> {
-    pub(crate) pieces: Split<'r, C>,
+    pub(crate) pieces: Pieces<'r>,
+    pub(crate) input: Input<C>,
     /// How many more calls of `next` may give a piece.
     pub(crate) limit: usize,
 }
 
+/// What finds the pieces between the matches, one after another, in an input that is lent to it.
+#[derive(Drop)]
+pub(crate) struct Pieces<'r> {
+    pub(crate) finder: Finder<'r>,
+    /// Where the next piece begins.
+    pub(crate) start: usize,
+    pub(crate) is_done: bool,
+}
+
 impl<'r, C: Cursor> FindMatches<'r, C> {
-    ghost use Rattle.std.specs.Prelude.{◌≡◌};
-    ghost use Rattle.rc_meta.specs.Left.{find_input, find_regex};
+    ghost use Rattle.std.specs.Prelude.{◌≡◌, []};
+    ghost use Rattle.std.specs.Borrow.{Lends, sem};
+    ghost use mir.Syntax.{named};
+    ghost use Rattle.rc_text.specs.contracts.input.Input.{the_row as input_row};
+    ghost use Rattle.rc_meta.specs.contracts.iterators.FindMatches.{the_row};
+    ghost use Rattle.rc_meta.specs.Left.{find_input, find_regex, with_find_input};
 
     /// The regex.
     pub fn regex(&self) -> &'r Regex
@@ -61,11 +73,14 @@ impl<'r, C: Cursor> FindMatches<'r, C> {
         self.finder.regex
     }
 
-    /// The input. It may be changed: `next` then goes on in what it is.
+    /// The input. It may be changed: `next` then goes on in what it is, and the iterator is otherwise as before.
     pub fn input(&mut self) -> &mut Input<C>
-        ensures { result.now ≡ find_input self.old }
+        ensures* kept { sem 𝓛 (Lends (the_row (record { mir = named 1; lft = [] }) C.row C.Cursor)
+            (input_row C.row C.Cursor) self.entry result (with_find_input self.old)) }
+        ensures input { result.now ≡ find_input self.old }
     {
-        &mut self.input
+        let FindMatches { input, .. } = self;
+        input
     }
 }
 
@@ -101,8 +116,12 @@ impl<'r, C: Cursor + Drop> Iterator for FindMatches<'r, C> {
 impl<'r, C: Cursor + Drop> FusedIterator for FindMatches<'r, C> {}
 
 impl<'r, C: Cursor> CapturesMatches<'r, C> {
-    ghost use Rattle.std.specs.Prelude.{◌≡◌};
-    ghost use Rattle.rc_meta.specs.Left.{captures_input, captures_regex};
+    ghost use Rattle.std.specs.Prelude.{◌≡◌, []};
+    ghost use Rattle.std.specs.Borrow.{Lends, sem};
+    ghost use mir.Syntax.{named};
+    ghost use Rattle.rc_text.specs.contracts.input.Input.{the_row as input_row};
+    ghost use Rattle.rc_meta.specs.contracts.iterators.CapturesMatches.{the_row};
+    ghost use Rattle.rc_meta.specs.Left.{captures_input, captures_regex, with_captures_input};
 
     /// The regex.
     pub fn regex(&self) -> &'r Regex
@@ -111,11 +130,14 @@ impl<'r, C: Cursor> CapturesMatches<'r, C> {
         self.finder.finder.regex
     }
 
-    /// The input. It may be changed: `next` then goes on in what it is.
+    /// The input. It may be changed: `next` then goes on in what it is, and the iterator is otherwise as before.
     pub fn input(&mut self) -> &mut Input<C>
-        ensures { result.now ≡ captures_input self.old }
+        ensures* kept { sem 𝓛 (Lends (the_row (record { mir = named 1; lft = [] }) C.row C.Cursor)
+            (input_row C.row C.Cursor) self.entry result (with_captures_input self.old)) }
+        ensures input { result.now ≡ captures_input self.old }
     {
-        &mut self.input
+        let CapturesMatches { input, .. } = self;
+        input
     }
 }
 
@@ -154,33 +176,26 @@ impl<'r, C: Cursor + Drop> Iterator for CapturesMatches<'r, C> {
 
 impl<'r, C: Cursor + Drop> FusedIterator for CapturesMatches<'r, C> {}
 
-impl<'r, C: Cursor> Split<'r, C> {
+impl<'r> Pieces<'r> {
     ghost use Rattle.std.specs.Prelude.{◌≡◌, ◌∷◌, ℕ, suc, [], MatchOption, true};
-    ghost use Rattle.std.specs.Iterator.{YieldsFirst};
     ghost use Rattle.rc_text.specs.Text.{high};
-    ghost use Rattle.rc_meta.specs.Left.{few_left, split_input, split_left};
-
-    /// The input. It may be changed: `next` then goes on in what it is.
-    pub fn input(&mut self) -> &mut Input<C>
-        ensures { result.now ≡ split_input self.old }
-    {
-        &mut self.matches.input
-    }
+    ghost use Rattle.rc_meta.specs.Left.{few_in, pieces_in};
 
     /// The next piece.
-    pub(crate) fn next_piece(&mut self) -> Option<Span>
-        ensures steps { YieldsFirst split_left self.old result self.new }
+    pub(crate) fn next_piece<C: Cursor>(&mut self, input: &mut Input<C>) -> Option<Span>
+        ensures steps { MatchOption result
+            ((pieces_in self.old input.old ≡ []) × (pieces_in self.new input.new ≡ []))
+            (λ piece. pieces_in self.old input.old ≡ piece ∷ pieces_in self.new input.new) }
         ensures limited { (n : ℕ) → MatchOption result
-            ((few_left n self.old ≡ []) × (few_left n self.new ≡ []))
-            (λ piece. few_left (suc (suc n)) self.old ≡ piece ∷ few_left (suc n) self.new) }
+            ((few_in n self.old input.old ≡ []) × (few_in n self.new input.new ≡ []))
+            (λ piece. few_in (suc (suc n)) self.old input.old ≡ piece ∷ few_in (suc n) self.new input.new) }
     {
         if self.is_done {
             return None;
         }
         let start = self.start;
-        let matches = &mut self.matches;
-        let Some(found) = matches.finder.next_match(&mut matches.input) else {
-            return Some(self.rest());
+        let Some(found) = self.finder.next_match(input) else {
+            return Some(self.rest(input));
         };
         self.start = found.end();
         Some(Span {
@@ -190,15 +205,34 @@ impl<'r, C: Cursor> Split<'r, C> {
     }
 
     /// All from the start of the next piece on, as the last piece.
-    pub(crate) fn rest(&mut self) -> Span
-        ensures value { result ≡ record { start = self.old.start; end = high self.old.matches.input } }
+    pub(crate) fn rest<C: Cursor>(&mut self, input: &mut Input<C>) -> Span
+        ensures value { result ≡ record { start = self.old.start; end = high input.old } }
         ensures done { self.new.is_done ≡ true }
     {
         self.is_done = true;
         Span {
             start: self.start,
-            end: high(&mut self.matches.input),
+            end: high(input),
         }
+    }
+}
+
+impl<'r, C: Cursor> Split<'r, C> {
+    ghost use Rattle.std.specs.Prelude.{◌≡◌, []};
+    ghost use Rattle.std.specs.Borrow.{Lends, sem};
+    ghost use mir.Syntax.{named};
+    ghost use Rattle.rc_text.specs.contracts.input.Input.{the_row as input_row};
+    ghost use Rattle.rc_meta.specs.contracts.iterators.Split.{the_row};
+    ghost use Rattle.rc_meta.specs.Left.{split_input, with_split_input};
+
+    /// The input. It may be changed: `next` then goes on in what it is, and the iterator is otherwise as before.
+    pub fn input(&mut self) -> &mut Input<C>
+        ensures* kept { sem 𝓛 (Lends (the_row (record { mir = named 1; lft = [] }) C.row C.Cursor)
+            (input_row C.row C.Cursor) self.entry result (with_split_input self.old)) }
+        ensures input { result.now ≡ split_input self.old }
+    {
+        let Split { input, .. } = self;
+        input
     }
 }
 
@@ -213,22 +247,29 @@ impl<'r, C: Cursor + Drop> Iterator for Split<'r, C> {
     ghost remaining = { item_count split_left };
 
     fn next(&mut self) -> Option<Span> {
-        self.next_piece()
+        self.pieces.next_piece(&mut self.input)
     }
 }
 
 impl<'r, C: Cursor + Drop> FusedIterator for Split<'r, C> {}
 
 impl<'r, C: Cursor> SplitN<'r, C> {
-    ghost use Rattle.std.specs.Prelude.{◌≡◌, ◌-◌};
+    ghost use Rattle.std.specs.Prelude.{◌≡◌, ◌-◌, []};
     ghost use Rattle.std.specs.Iterator.{YieldsFirst};
-    ghost use Rattle.rc_meta.specs.Left.{splitn_input, splitn_left, splitn_limit};
+    ghost use Rattle.std.specs.Borrow.{Lends, sem};
+    ghost use mir.Syntax.{named};
+    ghost use Rattle.rc_text.specs.contracts.input.Input.{the_row as input_row};
+    ghost use Rattle.rc_meta.specs.contracts.iterators.SplitN.{the_row};
+    ghost use Rattle.rc_meta.specs.Left.{splitn_input, splitn_left, splitn_limit, with_splitn_input};
 
-    /// The input. It may be changed: `next` then goes on in what it is.
+    /// The input. It may be changed: `next` then goes on in what it is, and the iterator is otherwise as before.
     pub fn input(&mut self) -> &mut Input<C>
-        ensures { result.now ≡ splitn_input self.old }
+        ensures* kept { sem 𝓛 (Lends (the_row (record { mir = named 1; lft = [] }) C.row C.Cursor)
+            (input_row C.row C.Cursor) self.entry result (with_splitn_input self.old)) }
+        ensures input { result.now ≡ splitn_input self.old }
     {
-        &mut self.pieces.matches.input
+        let SplitN { input, .. } = self;
+        input
     }
 
     /// The next piece. Each call lowers the limit.
@@ -241,10 +282,11 @@ impl<'r, C: Cursor> SplitN<'r, C> {
         if limit == 0 || self.pieces.is_done {
             return None;
         }
+        let input = &mut self.input;
         if limit == 1 {
-            return Some(self.pieces.rest());
+            return Some(self.pieces.rest(input));
         }
-        self.pieces.next_piece()
+        self.pieces.next_piece(input)
     }
 }
 

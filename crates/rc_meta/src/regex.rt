@@ -13,7 +13,7 @@ ghost use Rattle.rc_meta.specs.Fits.{Fits};
 use crate::builder::{Builder, build};
 use crate::cache::Cache;
 use crate::finder::{Finder, GroupFinder};
-use crate::iterators::{CapturesMatches, FindMatches, Split, SplitN};
+use crate::iterators::{CapturesMatches, FindMatches, Pieces, Split, SplitN};
 use rc_build::config::Config;
 use rc_build::error::BuildError;
 use rc_captures::captures;
@@ -510,11 +510,13 @@ impl Regex {
         ensures short { high input + 2 < 2 ^ 64 → IfOk result (λ s. length (split_left s) < 2 ^ 64) }
     {
         let matches = self.find_iter(alloc, input)?;
-        Ok(Split {
-            matches,
+        let pieces = Pieces {
+            finder: matches.finder,
             start: 0,
             is_done: false,
-        })
+        };
+        let input = matches.input;
+        Ok(Split { pieces, input })
     }
 
     /// The pieces of `split`, but no more than `limit`: the last one then goes on to where the search ends. An `Err` is want of
@@ -534,12 +536,17 @@ impl Regex {
         ensures input { IfOk result (λ s. splitn_input s ≡ input) }
     {
         let matches = self.find_iter(alloc, input)?;
-        let pieces = Split {
-            matches,
+        let pieces = Pieces {
+            finder: matches.finder,
             start: 0,
             is_done: false,
         };
-        Ok(SplitN { pieces, limit })
+        let input = matches.input;
+        Ok(SplitN {
+            pieces,
+            input,
+            limit,
+        })
     }
 }
 

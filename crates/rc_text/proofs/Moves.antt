@@ -14,9 +14,9 @@ no_bytes xs h = record {
 }
 
 -- the first chunk with a byte begins at 0
-pub first_filled : (xs : List (Bor (List ℕ))) (index : ℕ) (chunk : List ℕ) → IsNextFilled xs 0 index chunk → IsChunk xs index 0 chunk
-first_filled xs index chunk h = record {
-  is = h.is;
+pub first_filled : (xs : List (Bor (List ℕ))) (index : ℕ) → IsNextFilled xs 0 index → IsChunk xs index 0 (chunk_at xs index)
+first_filled xs index h = record {
+  is = refl;
   start = ap length (sym h.between);
   some = λ e. absurd (omega (arith, h.some, e));
 }
@@ -27,9 +27,9 @@ module _ (xs : List (Bor (List ℕ))) (i offset : ℕ) (chunk : List ℕ) (c : I
   some_after total e h = omega (arith, e, h, next_start xs i offset chunk c, simp length-append at (ap length (joined-parts xs (i + 1))))
 
   -- the next chunk with a byte begins where this one ends
-  pub next_is : (index : ℕ) (next : List ℕ) → IsNextFilled xs (i + 1) index next → IsChunk xs index (offset + length chunk) next
-  next_is index next h = record {
-    is = h.is;
+  pub next_is : (index : ℕ) → IsNextFilled xs (i + 1) index → IsChunk xs index (offset + length chunk) (chunk_at xs index)
+  next_is index h = record {
+    is = refl;
     start = next_start xs i offset chunk c ∙ ap length (sym h.between);
     some = λ e. absurd (omega (arith, h.some, e));
   }

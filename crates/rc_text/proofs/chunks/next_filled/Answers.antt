@@ -13,7 +13,6 @@ returns c =
     let within : i < length xs = elim (cases_lt i (length xs)) [ inl h ↦ h | inr h ↦ absurd (omega (arith, none h, c.requires)) ] in
     record {
       within = within;
-      is = chunk_at-read xs i within;
-      some = omega (arith, eqb-false (length (get_or xs i no_chunk).now) 0 (sym c.loop-index-test.ensures));
+      some = rw (← chunk_at-read xs i within) (omega (arith, eqb-false (length (get_or xs i no_chunk).now) 0 (sym c.loop-index-test.ensures)));
       between = c.loop-index.invariant.before;
     }

@@ -1,0 +1,178 @@
+//! Where a needle may stand, in a piece of a chunk and in the content.
+ghost use Rattle.std.specs.Prelude.{◌≡◌, ◌+◌, ◌<◌, ◌≤◌, ℕ, List, None, length, slice_index};
+ghost use Rattle.rc_text.specs.Text.{Keeps};
+ghost use Rattle.rc_literal.specs.Needles.{needle_at};
+ghost use Rattle.rc_literal.specs.Scans.{AreHeadsOf, AreHeadsOf-is_fact, IsRestOf};
+ghost use Rattle.rc_literal.specs.Tables.{Agrees, IsRuledOut, needles_in};
+
+use crate::quiet::is_quiet;
+use crate::scan::{Heads, Scan, Searcher};
+use crate::table::Table;
+use memchr::memmem::Finder;
+use memchr::{memchr, memchr2, memchr3};
+use rc_text::cursor::Cursor;
+use rc_text::input::{Input, piece_from};
+
+/// A piece of fewer bytes is passed over where two bytes of the only needle stand nowhere in it.
+const LONG_PIECE: usize = 512;
+
+/// A way to look for needles in a piece of a chunk.
+trait Look {
+    /// The needles.
+    ghost needles: { Self → List (List ℕ) };
+
+    /// How many bytes behind a needle's start that stands which is looked for.
+    ghost offset: { Self → ℕ };
+
+    /// The first place of the piece to which a needle may belong that starts the offset before it, or
+    /// the piece's length.
+    fn candidate(&self, piece: &[u8]) -> usize
+        ensures within { result ≤ length piece.now }
+        ensures passed { (k : ℕ) → k < result → IsRuledOut (needles self.now) (offset self.now) piece.now k };
+}
+
+/// Looks for the only needle from the offset on.
+#[derive(Drop)]
+struct ByRest<'a> {
+    searcher: &'a Searcher,
+    rest: &'a Finder<'static>,
+    first: u8,
+    second: u8,
+    ghost is: { IsRestOf (needles_in searcher.now.table.needles.items) searcher.now.offset rest.now },
+    ghost is_first: { first ≡ slice_index rest.now 0 },
+    ghost is_second: { second ≡ slice_index rest.now 1 },
+}
+
+impl Look for ByRest<'_> {
+    ghost needles = { λ s. needles_in s.searcher.now.table.needles.items };
+
+    ghost offset = { λ s. s.searcher.now.offset };
+
+    #[inline(always)]
+    fn candidate(&self, piece: &[u8]) -> usize {
+        if piece.len() < LONG_PIECE && is_quiet(piece, self.first, self.second) {
+            return piece.len();
+        }
+        rest_candidate(self.rest, piece)
+    }
+}
+
+/// Looks for a byte with which a needle begins.
+#[derive(Drop)]
+struct ByHead<'a> {
+    searcher: &'a Searcher,
+    heads: Heads,
+    ghost from_start: { searcher.now.offset ≡ 0 },
+    ghost are: { AreHeadsOf (needles_in searcher.now.table.needles.items) heads } by { AreHeadsOf-is_fact (needles_in searcher.now.table.needles.items) heads },
+}
+
+impl Look for ByHead<'_> {
+    ghost needles = { λ s. needles_in s.searcher.now.table.needles.items };
+
+    ghost offset = { λ s. s.searcher.now.offset };
+
+    #[inline(always)]
+    fn candidate(&self, piece: &[u8]) -> usize {
+        match self.heads {
+            Heads::One(one) => memchr(one, piece).unwrap_or(piece.len()),
+            Heads::Two(one, two) => memchr2(one, two, piece).unwrap_or(piece.len()),
+            Heads::Three(one, two, three) => {
+                memchr3(one, two, three, piece).unwrap_or(piece.len())
+            }
+            Heads::Many => head_candidate(&self.searcher.table, piece),
+        }
+    }
+}
+
+/// Where the finder's bytes stand in the piece, else where they may begin at its end.
+#[inline(never)]
+fn rest_candidate(finder: &Finder, piece: &[u8]) -> usize
+    requires some { 0 < length finder.now }
+    ensures within { result ≤ length piece.now }
+    ensures passed { (k : ℕ) → k < result → ¬ Agrees piece.now finder.now k }
+{
+    if let Some(at) = finder.find(piece) {
+        return at;
+    }
+    let rest = finder.needle();
+    let from = piece.len().saturating_sub(rest.len() - 1);
+    match memchr(rest[0], &piece[from..]) {
+        Some(at) => from + at,
+        None => piece.len(),
+    }
+}
+
+/// The first place with a byte with which a needle begins.
+fn head_candidate(table: &Table, piece: &[u8]) -> usize
+    ensures within { result ≤ length piece.now }
+    ensures passed { (k : ℕ) → k < result → length table.now.needles.items
+        ≤ slice_index table.now.heads.items (slice_index piece.now k) }
+{
+    for (i, byte) in piece.iter().enumerate() {
+        if table.heads[*byte as usize] < table.needles.len() {
+            return i;
+        }
+    }
+    piece.len()
+}
+
+/// The first place from one on to which a needle may belong that starts the offset before it. Where
+/// there is none below `end`, it is at least `end`.
+#[inline(always)]
+fn look_from<C: Cursor, L: Look>(input: &mut Input<C>, look: &L, from: usize, end: usize) -> usize
+    requires inside { end ≤ length input.old.content }
+    ensures keeps { Keeps input.old input.new }
+    ensures low { from ≤ result }
+    ensures passed { (i : ℕ) → from ≤ i + L.offset look.now → i + L.offset look.now < result
+        → needle_at (L.needles look.now) input.old.content end i ≡ None }
+{
+    let mut at = from;
+    while at < end {
+        let piece = piece_from(input, at, end);
+        let len = piece.len();
+        let passed = look.candidate(piece);
+        at += passed;
+        if passed < len {
+            return at;
+        }
+    }
+    at
+}
+
+/// The same, by the searcher's needles and offset.
+#[inline(never)]
+pub fn place_from<C: Cursor>(
+    input: &mut Input<C>,
+    searcher: &Searcher,
+    from: usize,
+    end: usize,
+) -> usize
+    requires inside { end ≤ length input.old.content }
+    ensures keeps { Keeps input.old input.new }
+    ensures low { from ≤ result }
+    ensures passed { (i : ℕ) → from ≤ i + searcher.now.offset → i + searcher.now.offset < result
+        → needle_at (needles_in searcher.now.table.needles.items) input.old.content end i ≡ None }
+{
+    match &searcher.scan {
+        Scan::Needle(rest) => look_from(input, &by_rest(searcher, rest), from, end),
+        Scan::Heads(heads) => {
+            let heads = *heads;
+            look_from(input, &ByHead { searcher, heads }, from, end)
+        }
+    }
+}
+
+/// The way to look for the only needle from the offset on.
+#[inline(always)]
+fn by_rest<'a>(searcher: &'a Searcher, rest: &'a Finder<'static>) -> ByRest<'a>
+    requires { IsRestOf (needles_in searcher.now.table.needles.items) searcher.now.offset rest.now }
+    ensures { result.searcher ≡ searcher.entry }
+{
+    let bytes = rest.needle();
+    ByRest {
+        searcher,
+        rest,
+        first: bytes[0],
+        second: bytes[1],
+    }
+}
