@@ -140,6 +140,15 @@ more_placed needles content piece hi offset from at passed before is out i low h
           none_ruled_out needles content piece hi offset i at k is (omega (arith, g)) (out k (omega (arith, g, high)))
     ]
 
+-- nor at the places that follow
+pub placed_on : (needles : List (List ℕ)) (content text : List ℕ) (hi offset from at to : ℕ) → text ≡ content →
+    NonePlaced needles offset content hi from at → NonePlaced needles offset text hi at to → NonePlaced needles offset content hi from to
+placed_on needles content text hi offset from at to same before after i low high =
+    elim (cases_lt (i + offset) at) [
+      | inl l ↦ before i low l
+      | inr g ↦ subst (λ t. needle_at needles t hi i ≡ None) same (after i g high)
+    ]
+
 -- so none stands from the start on up to where the places end
 pub starts_passed : (needles : List (List ℕ)) (content : List ℕ) (lo hi offset at place : ℕ) → NoneBefore needles content hi lo at →
     NonePlaced needles offset content hi (at + offset) place → NoneBefore needles content hi lo (place - offset)

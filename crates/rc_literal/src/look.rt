@@ -1,5 +1,5 @@
 //! Where a needle may stand, in a piece of a chunk and in the content.
-ghost use Rattle.std.specs.Prelude.{◌≡◌, ◌+◌, ◌<◌, ◌≤◌, ℕ, List, None, length, slice_index};
+ghost use Rattle.std.specs.Prelude.{◌≡◌, ◌+◌, ◌<◌, ◌≤◌, ℕ, IsTrue, List, None, length, slice_index};
 ghost use Rattle.rc_text.specs.Text.{Keeps};
 ghost use Rattle.rc_literal.specs.Needles.{needle_at};
 ghost use Rattle.rc_literal.specs.Scans.{AreHeadsOf, AreHeadsOf-is_fact, IsRestOf};
@@ -11,7 +11,7 @@ use crate::table::Table;
 use memchr::memmem::Finder;
 use memchr::{memchr, memchr2, memchr3};
 use rc_text::cursor::Cursor;
-use rc_text::input::{Input, piece_from};
+use rc_text::input::{Input, piece_from, takes_next};
 
 /// A piece of fewer bytes is passed over where two bytes of the only needle stand nowhere in it.
 const LONG_PIECE: usize = 512;
@@ -23,6 +23,10 @@ trait Look {
 
     /// How many bytes behind a needle's start that stands which is looked for.
     ghost offset: { Self → ℕ };
+
+    /// Whether it is seen at once that no needle belongs to a place of the piece.
+    fn passes(&self, piece: &[u8]) -> bool
+        ensures { IsTrue result → (k : ℕ) → k < length piece.now → IsRuledOut (needles self.now) (offset self.now) piece.now k };
 
     /// The first place of the piece to which a needle may belong that starts the offset before it, or
     /// the piece's length.
@@ -49,8 +53,13 @@ impl Look for ByRest<'_> {
     ghost offset = { λ s. s.searcher.now.offset };
 
     #[inline(always)]
+    fn passes(&self, piece: &[u8]) -> bool {
+        piece.len() < LONG_PIECE && is_quiet(piece, self.first, self.second)
+    }
+
+    #[inline(always)]
     fn candidate(&self, piece: &[u8]) -> usize {
-        if piece.len() < LONG_PIECE && is_quiet(piece, self.first, self.second) {
+        if self.passes(piece) {
             return piece.len();
         }
         rest_candidate(self.rest, piece)
@@ -70,6 +79,11 @@ impl Look for ByHead<'_> {
     ghost needles = { λ s. needles_in s.searcher.now.table.needles.items };
 
     ghost offset = { λ s. s.searcher.now.offset };
+
+    #[inline(always)]
+    fn passes(&self, _: &[u8]) -> bool {
+        false
+    }
 
     #[inline(always)]
     fn candidate(&self, piece: &[u8]) -> usize {
@@ -135,6 +149,29 @@ fn look_from<C: Cursor, L: Look>(input: &mut Input<C>, look: &L, from: usize, en
         if passed < len {
             return at;
         }
+        at = chunks_passed(input, look, at, end);
+    }
+    at
+}
+
+/// Where the chunks end that follow one another from `from` on and are passed over at once, at or
+/// below `end`.
+#[inline(always)]
+fn chunks_passed<C: Cursor, L: Look>(
+    input: &mut Input<C>,
+    look: &L,
+    from: usize,
+    end: usize,
+) -> usize
+    requires inside { end ≤ length input.old.content }
+    ensures keeps { Keeps input.old input.new }
+    ensures low { from ≤ result }
+    ensures passed { (i : ℕ) → from ≤ i + L.offset look.now → i + L.offset look.now < result
+        → needle_at (L.needles look.now) input.old.content end i ≡ None }
+{
+    let mut at = from;
+    while takes_next(input, at, end) && look.passes(input.chunk()) {
+        at += input.chunk().len();
     }
     at
 }

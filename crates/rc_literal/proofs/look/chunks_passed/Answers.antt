@@ -1,0 +1,18 @@
+use Rattle.std.proofs.Common.{arith, ◌≡◌, ◌+◌, length, refl, slice_range}
+use Rattle.rc_literal.proofs.FindLemmas.{more_placed, keeps_on}
+use Rattle.rc_literal.proofs.look.chunks_passed.Goals as goal
+
+pub loop-input-preserved : goal.loop-input-preserved
+loop-input-preserved g c =
+    let content = c.args.input.now.content in
+    let look = c.args.look.now in
+    let chunk = c.chunk.result.now in
+    let same : c.loop-input.input.content ≡ content = c.loop-input.invariant.keeps.content in
+    let is : chunk ≡ slice_range content c.loop-input.at (c.loop-input.at + length chunk) =
+    rw (c.chunk.ensures.value, ← same) (c.loop-input-test.ensures.bytes refl) in
+    record {
+      keeps = keeps_on c.args.input.now c.loop-input.input c.takes_next.new.input c.loop-input.invariant.keeps c.takes_next.ensures.keeps;
+      from = omega (arith, c.loop-input.invariant.from);
+      passed = rw (c.chunk-in-loop-input.ensures.value, ← c.chunk.ensures.value) (more_placed (g.L.Look.needles look) content chunk c.args.end (g.L.Look.offset look) c.args.from c.loop-input.at
+          (length chunk) c.loop-input.invariant.passed is (c.if-passes.ensures refl));
+    }
