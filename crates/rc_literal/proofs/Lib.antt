@@ -3,7 +3,7 @@ pub mod StandLemmas
 pub mod ScanLemmas
 pub mod TableLemmas
 pub mod FindLemmas
-pub mod QuietLemmas
+pub mod PairLemmas
 pub mod ReadLemmas
 pub mod WayLemmas
 pub mod RelationLemmas

@@ -56,6 +56,28 @@ ruled_out_by_part needles offset rest piece k one is never n l agrees =
     let zero : n ≡ 0 = omega (arith, l, one) in
     never (subst (λ w. Agrees piece w k) (sym is) (subst (λ m. Agrees piece (drop offset (numbered needles m)) k) zero agrees))
 
+pub tail_length : (piece : List ℕ) (from : ℕ) → length (take (length piece - from) (drop from piece)) ≡ length piece - from
+tail_length piece from = simp (length-take, length-drop) (omega arith)
+
+-- a needle that agrees with a piece agrees with its end
+agrees_in_tail : (piece needle : List ℕ) (from k : ℕ) → from ≤ k → Agrees piece needle k →
+    Agrees (take (length piece - from) (drop from piece)) needle (k - from)
+agrees_in_tail piece needle from k low agrees i l m =
+    let inside : k + i < length piece = omega (arith, m, tail_length piece from, low) in
+    let at : from + (k - from + i) ≡ k + i = omega (arith, low) in
+    get_or-take (length piece - from) (drop from piece) (k - from + i) 0 (omega (arith, inside, low)) ∙ get_or-drop from piece (k - from + i) 0
+    ∙ ap (slice_index piece) at ∙ agrees i l inside
+
+-- where places are ruled out up to one, and the needle's bytes don't stand at those from there on
+pub ruled_out_on : (needles : List (List ℕ)) (offset : ℕ) (rest piece : List ℕ) (from passed k : ℕ) → length needles ≡ 1 →
+    rest ≡ drop offset (numbered needles 0) → ((j : ℕ) → j < from → IsRuledOut needles offset piece j) →
+    ((j : ℕ) → j < passed → ¬ Agrees (take (length piece - from) (drop from piece)) rest j) → k < from + passed → IsRuledOut needles offset piece k
+ruled_out_on needles offset rest piece from passed k one is before never l =
+    elim (cases_lt k from) [
+      | inl h ↦ before k h
+      | inr g ↦ ruled_out_by_part needles offset rest piece k one is (λ agrees. never (k - from) (omega (arith, l, g)) (agrees_in_tail piece rest from k g agrees))
+    ]
+
 -- where all bytes agree, the first two of them have begun
 pub begun : (first second : ℕ) (piece rest : List ℕ) (k : ℕ) → 2 ≤ length rest → first ≡ slice_index rest 0 → second ≡ slice_index rest 1 →
     k < length piece → Agrees piece rest k → HasBegun first second piece k
@@ -90,9 +112,6 @@ head_of needles heads k b headed l small begins =
       | inl h ↦ absurd ((headed b small).none_between k zero-le h begins)
       | inr h ↦ omega (arith, l, h)
     ]
-
-pub tail_length : (piece : List ℕ) (from : ℕ) → length (take (length piece - from) (drop from piece)) ≡ length piece - from
-tail_length piece from = simp (length-take, length-drop) (omega arith)
 
 -- what holds at b, and at no place from one on up to another, holds at that or later
 pub not_skipped : (P : ℕ → Type 0) (from at b : ℕ) → Nowhere P from at → P b → from ≤ b → (b ≡ at) ⊎ (at + 1 ≤ b)

@@ -10,9 +10,9 @@ pub mod hit;
 pub mod laws;
 pub mod literal;
 mod look;
+mod pairs;
 pub mod prefilter;
 pub mod prefixes;
-mod quiet;
 mod scan;
 mod table;
 #[cfg(test)]

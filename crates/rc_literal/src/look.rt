@@ -5,7 +5,7 @@ ghost use Rattle.rc_literal.specs.Needles.{needle_at};
 ghost use Rattle.rc_literal.specs.Scans.{AreHeadsOf, AreHeadsOf-is_fact, IsRestOf};
 ghost use Rattle.rc_literal.specs.Tables.{Agrees, IsRuledOut, needles_in};
 
-use crate::quiet::is_quiet;
+use crate::pairs::{LANES, first_pair};
 use crate::scan::{Heads, Scan, Searcher};
 use crate::table::Table;
 use memchr::memmem::Finder;
@@ -13,8 +13,14 @@ use memchr::{memchr, memchr2, memchr3};
 use rc_text::cursor::Cursor;
 use rc_text::input::{Input, piece_from, takes_next};
 
-/// A piece of fewer bytes is passed over where two bytes of the only needle stand nowhere in it.
-const LONG_PIECE: usize = 512;
+/// A chunk of fewer bytes is passed over where two bytes of the only needle stand nowhere in it.
+const SHORT_PIECE: usize = 512;
+
+/// In a piece of fewer bytes these two bytes are sought before the needle is.
+const LONG_PIECE: usize = 8192;
+
+/// So many bytes at a piece's end are searched together, since fewer are searched one by one.
+const END: usize = 64;
 
 /// A way to look for needles in a piece of a chunk.
 trait Look {
@@ -54,15 +60,20 @@ impl Look for ByRest<'_> {
 
     #[inline(always)]
     fn passes(&self, piece: &[u8]) -> bool {
-        piece.len() < LONG_PIECE && is_quiet(piece, self.first, self.second)
+        is_between(piece, LANES, SHORT_PIECE)
+            && first_pair(piece, self.first, self.second).is_none()
     }
 
     #[inline(always)]
     fn candidate(&self, piece: &[u8]) -> usize {
-        if self.passes(piece) {
-            return piece.len();
+        if !is_between(piece, LANES, LONG_PIECE) {
+            return rest_candidate(self.rest, piece);
         }
-        rest_candidate(self.rest, piece)
+        let Some(at) = first_pair(piece, self.first, self.second) else {
+            return piece.len();
+        };
+        let from = at.min(piece.len().saturating_sub(END));
+        from + rest_candidate(self.rest, &piece[from..])
     }
 }
 
@@ -96,6 +107,13 @@ impl Look for ByHead<'_> {
             Heads::Many => head_candidate(&self.searcher.table, piece),
         }
     }
+}
+
+/// Whether the piece has more than `low` bytes and fewer than `high`.
+fn is_between(piece: &[u8], low: usize, high: usize) -> bool
+    ensures { IsTrue result → low < length piece.now }
+{
+    low < piece.len() && piece.len() < high
 }
 
 /// Where the finder's bytes stand in the piece, else where they may begin at its end.

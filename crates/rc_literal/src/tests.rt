@@ -118,31 +118,49 @@ fn a_word_at_each_place_of_short_chunks(rt: HostRuntime) -> Result<(), Fail> {
     Ok(())
 }
 
-#[test]
-fn a_word_at_the_border_of_long_chunks(rt: HostRuntime) -> Result<(), Fail> {
-    let prefilter = of(rt.alloc(), &[b"terminator".as_slice()])?;
-    let mut text = vec![in rt.alloc(); b'm'; 700]?;
+/// Where the word is found behind so many bytes, in a text that is cut at `cut` and then nowhere, or
+/// everywhere where `cut` is past it.
+fn found_behind(
+    alloc: Global,
+    before: usize,
+    cut: usize,
+) -> Result<Option<(usize, usize, usize)>, Fail> {
+    let prefilter = of(alloc, &[b"terminator".as_slice()])?;
+    let mut text = vec![in alloc; b'm'; before]?;
     for byte in b"terminator" {
         text.push(*byte)?;
     }
     for _ in 0..600 {
         text.push(b't')?;
     }
-    for cut in 699..712 {
-        if cut > text.len() {
-            return Err("there are 1,310 bytes".into());
+    if cut > text.len() {
+        let chunks = bytewise(alloc, &text)?;
+        return Ok(found(&mut Input::new(ChunkCursor::new(&chunks)?), &prefilter));
+    }
+    let chunks: [&[u8]; 2] = [&text[..cut], &text[cut..]];
+    Ok(found(&mut Input::new(ChunkCursor::new(&chunks)?), &prefilter))
+}
+
+#[test]
+fn a_word_at_the_border_of_long_chunks(rt: HostRuntime) -> Result<(), Fail> {
+    for before in 700..702 {
+        for cut in 699..714 {
+            assert_eq!(rt;
+                found_behind(rt.alloc(), before, cut)?,
+                Some((before, before + 10, 0))
+            );
         }
-        let chunks: [&[u8]; 2] = [&text[..cut], &text[cut..]];
         assert_eq!(rt;
-            found(&mut Input::new(ChunkCursor::new(&chunks)?), &prefilter),
-            Some((700, 710, 0))
+            found_behind(rt.alloc(), before, 2_000)?,
+            Some((before, before + 10, 0))
         );
     }
-    let chunks = bytewise(rt.alloc(), &text)?;
-    assert_eq!(rt;
-        found(&mut Input::new(ChunkCursor::new(&chunks)?), &prefilter),
-        Some((700, 710, 0))
-    );
+    for cut in 8_999..9_012 {
+        assert_eq!(rt;
+            found_behind(rt.alloc(), 9_000, cut)?,
+            Some((9_000, 9_010, 0))
+        );
+    }
     Ok(())
 }
 

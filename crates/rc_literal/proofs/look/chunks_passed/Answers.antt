@@ -1,4 +1,4 @@
-use Rattle.std.proofs.Common.{arith, ◌≡◌, ◌+◌, length, refl, slice_range}
+use Rattle.std.proofs.Common.{arith, refl, ◌≡◌, ◌+◌, length, slice_range}
 use Rattle.rc_literal.proofs.FindLemmas.{more_placed, keeps_on}
 use Rattle.rc_literal.proofs.look.chunks_passed.Goals as goal
 
@@ -13,6 +13,7 @@ loop-input-preserved g c =
     record {
       keeps = keeps_on c.args.input.now c.loop-input.input c.takes_next.new.input c.loop-input.invariant.keeps c.takes_next.ensures.keeps;
       from = omega (arith, c.loop-input.invariant.from);
-      passed = rw (c.chunk-in-loop-input.ensures.value, ← c.chunk.ensures.value) (more_placed (g.L.Look.needles look) content chunk c.args.end (g.L.Look.offset look) c.args.from c.loop-input.at
+      passed = rw (c.chunk-in-loop-input.ensures.value, ← c.chunk.ensures.value)
+          (more_placed (g.L.Look.needles look) content chunk c.args.end (g.L.Look.offset look) c.args.from c.loop-input.at
           (length chunk) c.loop-input.invariant.passed is (c.if-passes.ensures refl));
     }

@@ -1,0 +1,66 @@
+-- Bytes side by side, as bits.
+use Rattle.std.proofs.Common.{◌≡◌, ℕ, ◌+◌, ◌-◌, ◌%◌, ◌^◌, ◌<◌, ◌≤◌, List, map, length, eqb, get_or, replicate, cond, false, slice_index, bit_and, subst, inl, inr, ap, ◌∙◌, arith, w8}
+use Rattle.std.specs.Int.{bit_at}
+use Rattle.std.specs.Simd.Lanes.{chunk, mask_l, top, zip2}
+use Rattle.std.proofs.lemmas.Bool.{cases_lt, eq-eqb}
+use Rattle.std.proofs.lemmas.List.{get_or-map, length-map}
+use Rattle.std.proofs.lemmas.Nat.Bits.{bit_at_and, bit_at-zero}
+use Rattle.std.proofs.lemmas.Simd.{bitmask_splat, bit_mask_l, mask_l-lt, length-chunk, get_or-chunk}
+use Rattle.rc_literal.specs.Pairs.{HasPair, HasBegun}
+
+-- a lane that holds the byte sets its bit
+pub marked : (xs : List ℕ) (at byte k : ℕ) → at + 32 ≤ length xs → k < 32 → slice_index xs (at + k) ≡ byte →
+    bit_at (mask_l (map (top 7) (zip2 (λ a b. cond (eqb a b) 255 0) (chunk at 32 xs) (replicate 32 byte))) % 2 ^ 64) k ≡ 1
+marked xs at byte k fits small holds =
+    let lanes = chunk at 32 xs in
+    let long : length lanes ≡ 32 = length-chunk at 32 xs fits in
+    let lane : get_or lanes k 0 ≡ byte = get_or-chunk at 32 xs k 0 small ∙ holds in
+    ap (λ m. bit_at m k) (bitmask_splat w8 eqb lanes 32 byte long (omega arith))
+    ∙ bit_mask_l (map (λ x. eqb x byte) lanes) k
+    ∙ ap (λ b. cond b 1 0) (get_or-map (λ x. eqb x byte) lanes k 0 false (omega (arith, small, long)) ∙ eq-eqb (get_or lanes k 0) byte lane)
+
+-- all bits lie below the 32nd
+pub marks_fit : (xs : List ℕ) (at byte : ℕ) → at + 32 ≤ length xs →
+    mask_l (map (top 7) (zip2 (λ a b. cond (eqb a b) 255 0) (chunk at 32 xs) (replicate 32 byte))) % 2 ^ 64 < 2 ^ 32
+marks_fit xs at byte fits =
+    let lanes = chunk at 32 xs in
+    let long : length lanes ≡ 32 = length-chunk at 32 xs fits in
+    let all : length (map (λ x. eqb x byte) lanes) ≡ 32 = length-map lanes (λ x. eqb x byte) ∙ long in
+    let lt = mask_l-lt (map (λ x. eqb x byte) lanes) in
+    rw (bitmask_splat w8 eqb lanes 32 byte long (omega arith)) (rw all at lt)
+
+-- a pair sets a bit in both
+pub both_set : (first second : ℕ) (xs : List ℕ) (at firsts seconds k : ℕ) →
+    ((i : ℕ) → i < 32 → slice_index xs (at + i) ≡ first → bit_at firsts i ≡ 1) →
+    ((i : ℕ) → i < 32 → slice_index xs (at + 1 + i) ≡ second → bit_at seconds i ≡ 1) →
+    k < 32 → HasPair first second xs (at + k) → bit_at (bit_and firsts seconds) k ≡ 1
+both_set first second xs at firsts seconds k one two low pair =
+    let behind : at + 1 + k ≡ at + k + 1 = omega arith in
+    let a : bit_at firsts k ≡ 1 = one k low pair.is_first in
+    let b : bit_at seconds k ≡ 1 = two k low (ap (slice_index xs) behind ∙ pair.is_second) in
+    let both = bit_at_and firsts seconds k in
+    omega (arith, a, b, both)
+
+-- a pair at each of 32 places sets its bit
+abbrev pub SetsBits : ℕ → ℕ → List ℕ → ℕ → ℕ → Type 0
+SetsBits first second xs at bits = (i : ℕ) → i < 32 → HasPair first second xs (at + i) → bit_at bits i ≡ 1
+
+-- no pair stands where no bit is set
+pub no_pair_there : (first second : ℕ) (xs : List ℕ) (seen at bits to k : ℕ) → ((j : ℕ) → j < seen → ¬ HasPair first second xs j) → at ≤ seen →
+    SetsBits first second xs at bits → ((i : ℕ) → i < to → bit_at bits i ≡ 0) → to ≤ 32 → k < at + to → ¬ HasPair first second xs k
+no_pair_there first second xs seen at bits to k none near set zeros fits low pair =
+    elim (cases_lt k seen) [
+      | inl h ↦ none k h pair
+      | inr g ↦
+          let i : ℕ = k - at in
+          let here : k ≡ at + i = omega (arith, near, g) in
+          let one : bit_at bits i ≡ 1 = set i (omega (arith, near, g, low, fits)) (subst (λ j. HasPair first second xs j) here pair) in
+          let zero = zeros i (omega (arith, near, g, low)) in
+          omega (arith, one, zero)
+    ]
+
+pub none_begun : (first second : ℕ) (xs : List ℕ) (k : ℕ) → k + 1 < length xs → ¬ HasPair first second xs k → ¬ HasBegun first second xs k
+none_begun first second xs k within none begun = none (record { is_first = begun.is_first; is_second = begun.is_second within })
+
+pub zero_bits : (bits i : ℕ) → bits ≡ 0 → bit_at bits i ≡ 0
+zero_bits bits i e = ap (λ m. bit_at m i) e ∙ bit_at-zero i
