@@ -99,19 +99,20 @@ fn cut(alloc: Global, bytes: &[u8], n: usize) -> Result<Vec<&[u8]>, AllocError> 
     Ok(chunks)
 }
 
-/// The number of matches from where the cursor stands on.
-fn count_from(alloc: Global, regex: &Regex, cursor: ChunkCursor<'_>) -> Result<usize, BenchError> {
+/// The number of matches in the chunks.
+fn count_in(alloc: Global, regex: &Regex, chunks: &[&[u8]]) -> Result<usize, BenchError> {
+    let input = Input::new(ChunkCursor::new(chunks)?);
     let mut count: usize = 0;
-    for _ in regex.find_iter(alloc, Input::new(cursor))? {
+    for _ in regex.find_iter(alloc, input)? {
         count = count.saturating_add(1);
     }
     Ok(count)
 }
 
 /// Counts the matches once, and writes their number and the time. The answer is the time.
-fn round(rt: &HostRuntime, regex: &Regex, cursor: ChunkCursor<'_>) -> Result<Duration, BenchError> {
+fn round(rt: &HostRuntime, regex: &Regex, chunks: &[&[u8]]) -> Result<Duration, BenchError> {
     let start = Instant::now(rt)?;
-    let count = count_from(rt.alloc(), regex, cursor)?;
+    let count = count_in(rt.alloc(), regex, chunks)?;
     let time = start.elapsed(rt)?;
     let micros = time.as_micros();
     writeln!(rt.stdout(), "{count} matches, {micros} us")?;
@@ -119,13 +120,10 @@ fn round(rt: &HostRuntime, regex: &Regex, cursor: ChunkCursor<'_>) -> Result<Dur
 }
 
 /// Counts the matches in so many rounds, and writes the least time at the end.
-///
-/// The cursor is made before, as it is to be for a text that is searched more than once.
 fn rounds(rt: &HostRuntime, regex: &Regex, chunks: &[&[u8]], n: u32) -> Result<(), BenchError> {
-    let cursor = ChunkCursor::new(chunks)?;
     let mut least = Duration::MAX;
     for _ in 0..n {
-        let time = round(rt, regex, cursor)?;
+        let time = round(rt, regex, chunks)?;
         least = least.min(time);
     }
     let micros = least.as_micros();

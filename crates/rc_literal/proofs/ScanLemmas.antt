@@ -59,24 +59,13 @@ ruled_out_by_part needles offset rest piece k one is never n l agrees =
 pub tail_length : (piece : List ℕ) (from : ℕ) → length (take (length piece - from) (drop from piece)) ≡ length piece - from
 tail_length piece from = simp (length-take, length-drop) (omega arith)
 
--- a needle that agrees with a piece agrees with its end
-agrees_in_tail : (piece needle : List ℕ) (from k : ℕ) → from ≤ k → Agrees piece needle k →
-    Agrees (take (length piece - from) (drop from piece)) needle (k - from)
-agrees_in_tail piece needle from k low agrees i l m =
-    let inside : k + i < length piece = omega (arith, m, tail_length piece from, low) in
-    let at : from + (k - from + i) ≡ k + i = omega (arith, low) in
-    get_or-take (length piece - from) (drop from piece) (k - from + i) 0 (omega (arith, inside, low)) ∙ get_or-drop from piece (k - from + i) 0
+-- a needle that agrees from a place on agrees with the piece from that place
+pub agrees_in_tail : (piece needle : List ℕ) (k : ℕ) → Agrees piece needle k → Agrees (take (length piece - k) (drop k piece)) needle 0
+agrees_in_tail piece needle k agrees i l m =
+    let inside : k + i < length piece = omega (arith, m, tail_length piece k) in
+    let at : k + (0 + i) ≡ k + i = omega arith in
+    get_or-take (length piece - k) (drop k piece) (0 + i) 0 (omega (arith, inside)) ∙ get_or-drop k piece (0 + i) 0
     ∙ ap (slice_index piece) at ∙ agrees i l inside
-
--- where places are ruled out up to one, and the needle's bytes don't stand at those from there on
-pub ruled_out_on : (needles : List (List ℕ)) (offset : ℕ) (rest piece : List ℕ) (from passed k : ℕ) → length needles ≡ 1 →
-    rest ≡ drop offset (numbered needles 0) → ((j : ℕ) → j < from → IsRuledOut needles offset piece j) →
-    ((j : ℕ) → j < passed → ¬ Agrees (take (length piece - from) (drop from piece)) rest j) → k < from + passed → IsRuledOut needles offset piece k
-ruled_out_on needles offset rest piece from passed k one is before never l =
-    elim (cases_lt k from) [
-      | inl h ↦ before k h
-      | inr g ↦ ruled_out_by_part needles offset rest piece k one is (λ agrees. never (k - from) (omega (arith, l, g)) (agrees_in_tail piece rest from k g agrees))
-    ]
 
 -- where all bytes agree, the first two of them have begun
 pub begun : (first second : ℕ) (piece rest : List ℕ) (k : ℕ) → 2 ≤ length rest → first ≡ slice_index rest 0 → second ≡ slice_index rest 1 →

@@ -5,7 +5,7 @@ ghost use Rattle.rc_literal.specs.Needles.{needle_at};
 ghost use Rattle.rc_literal.specs.Scans.{AreHeadsOf, AreHeadsOf-is_fact, IsRestOf};
 ghost use Rattle.rc_literal.specs.Tables.{Agrees, IsRuledOut, needles_in};
 
-use crate::pairs::{LANES, first_pair};
+use crate::pairs::{LANES, are_nowhere, first_place};
 use crate::scan::{Heads, Scan, Searcher};
 use crate::table::Table;
 use memchr::memmem::Finder;
@@ -16,11 +16,11 @@ use rc_text::input::{Input, piece_from, takes_next};
 /// A chunk of fewer bytes is passed over where two bytes of the only needle stand nowhere in it.
 const SHORT_PIECE: usize = 512;
 
-/// In a piece of fewer bytes these two bytes are sought before the needle is.
+/// In a piece of fewer bytes the needle is compared at each place where these two bytes stand.
 const LONG_PIECE: usize = 8192;
 
-/// So many bytes at a piece's end are searched together, since fewer are searched one by one.
-const END: usize = 64;
+/// A needle with more bytes from the offset on is left to the library, whose search stays linear.
+const LONG_REST: usize = 32;
 
 /// A way to look for needles in a piece of a chunk.
 trait Look {
@@ -60,20 +60,16 @@ impl Look for ByRest<'_> {
 
     #[inline(always)]
     fn passes(&self, piece: &[u8]) -> bool {
-        is_between(piece, LANES, SHORT_PIECE)
-            && first_pair(piece, self.first, self.second).is_none()
+        is_between(piece, LANES, SHORT_PIECE) && are_nowhere(piece, self.first, self.second)
     }
 
     #[inline(always)]
     fn candidate(&self, piece: &[u8]) -> usize {
-        if !is_between(piece, LANES, LONG_PIECE) {
-            return rest_candidate(self.rest, piece);
+        let rest = self.rest.needle();
+        if rest.len() <= LONG_REST && is_between(piece, LANES, LONG_PIECE) {
+            return first_place(piece, rest);
         }
-        let Some(at) = first_pair(piece, self.first, self.second) else {
-            return piece.len();
-        };
-        let from = at.min(piece.len().saturating_sub(END));
-        from + rest_candidate(self.rest, &piece[from..])
+        rest_candidate(self.rest, piece)
     }
 }
 

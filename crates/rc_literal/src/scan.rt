@@ -5,7 +5,7 @@ ghost use Rattle.rc_literal.specs.Tables.{AreSome, needles_in};
 ghost use Rattle.rc_literal.specs.Scans.{AreHeadsOf, IsScanOf, IsScanOf-is_fact};
 
 use crate::table::{Table, table_of};
-use memchr::arch::all::packedpair::Pair;
+use memchr::arch::all::packedpair::{DefaultFrequencyRank, HeuristicFrequencyRank};
 use memchr::memmem::Finder;
 use std::alloc::{AllocError, Global};
 
@@ -65,15 +65,26 @@ pub fn searcher_of(alloc: Global, needles: Vec<Vec<u8>>) -> Result<Searcher, All
     })
 }
 
-/// Where in the needle its rarest byte stands, or the byte before it where that one is the last.
+/// Where in the needle its two bytes side by side stand that are rarest in typical text.
 fn rare_offset(needle: &[u8]) -> usize
     requires { 2 ≤ length needle.now }
     ensures { result + 2 ≤ length needle.now }
 {
-    match Pair::new(needle) {
-        Some(pair) => (pair.index1() as usize).min(needle.len() - 2),
-        None => 0,
+    let mut rarest = 0;
+    for at in 1..needle.len() - 1 {
+        if rank(needle, at) < rank(needle, rarest) {
+            rarest = at;
+        }
     }
+    rarest
+}
+
+/// How common the byte at a place and the next are believed to be, by the library's ranks.
+fn rank(needle: &[u8], at: usize) -> usize
+    requires { at + 2 ≤ length needle.now }
+{
+    let ranks = DefaultFrequencyRank;
+    ranks.rank(needle[at]) as usize + ranks.rank(needle[at + 1]) as usize
 }
 
 /// The bytes with which needles begin.

@@ -87,15 +87,25 @@ fn a_false_start_before_a_border(rt: HostRuntime) -> Result<(), Fail> {
     Ok(())
 }
 
+/// So many bytes, in which the two bytes stand by which `terminator` is sought.
+fn pairs(alloc: Global, count: usize) -> Result<Vec<u8>, AllocError> {
+    let mut bytes = Vec::new(alloc);
+    for i in 0..count {
+        bytes.push(b"rm"[i % 2])?;
+    }
+    Ok(bytes)
+}
+
 /// Finds the word at the place `at` of 200 bytes, in chunks of `n` bytes.
 fn found_in_chunks(
     alloc: Global,
+    word: &[u8],
     at: usize,
     n: usize,
 ) -> Result<Option<(usize, usize, usize)>, Fail> {
-    let prefilter = of(alloc, &[b"terminator".as_slice()])?;
-    let mut text = vec![in alloc; b'm'; at.min(190)]?;
-    for byte in b"terminator" {
+    let prefilter = of(alloc, &[word])?;
+    let mut text = pairs(alloc, at)?;
+    for byte in word {
         text.push(*byte)?;
     }
     for _ in text.len()..200 {
@@ -112,7 +122,28 @@ fn found_in_chunks(
 fn a_word_at_each_place_of_short_chunks(rt: HostRuntime) -> Result<(), Fail> {
     for n in [15, 32, 33, 34, 63, 64, 65, 66, 130] {
         for at in 0..191 {
-            assert_eq!(rt; found_in_chunks(rt.alloc(), at, n)?, Some((at, at + 10, 0)));
+            assert_eq!(rt;
+                found_in_chunks(rt.alloc(), b"terminator", at, n)?,
+                Some((at, at + 10, 0))
+            );
+        }
+    }
+    Ok(())
+}
+
+#[test]
+fn a_long_word_at_each_place_of_short_chunks(rt: HostRuntime) -> Result<(), Fail> {
+    for n in [15, 33, 64, 66, 130] {
+        for at in 0..161 {
+            assert_eq!(rt;
+                found_in_chunks(
+                    rt.alloc(),
+                    b"rmrmrmrmrm0123456789terminatorrmrmrmrmrm",
+                    at,
+                    n
+                )?,
+                Some((at, at + 40, 0))
+            );
         }
     }
     Ok(())
@@ -126,7 +157,7 @@ fn found_behind(
     cut: usize,
 ) -> Result<Option<(usize, usize, usize)>, Fail> {
     let prefilter = of(alloc, &[b"terminator".as_slice()])?;
-    let mut text = vec![in alloc; b'm'; before]?;
+    let mut text = pairs(alloc, before)?;
     for byte in b"terminator" {
         text.push(*byte)?;
     }

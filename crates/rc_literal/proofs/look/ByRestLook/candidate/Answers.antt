@@ -1,18 +1,16 @@
-use Rattle.std.proofs.Common.{arith}
-use Rattle.rc_literal.specs.Tables.{needles_in}
-use Rattle.rc_literal.proofs.ScanLemmas.{begun, ruled_out_by_part, ruled_out_on}
+use Rattle.std.proofs.Common.{subst}
+use Rattle.rc_literal.specs.Tables.{Agrees, needles_in}
+use Rattle.rc_literal.proofs.ScanLemmas.{ruled_out_by_part}
 use Rattle.rc_literal.proofs.look.ByRestLook.candidate.Goals as goal
+
+pub returns-then-is_between-clause-passed : goal.returns-then-is_between-clause-passed
+returns-then-is_between-clause-passed c k l =
+    let by = c.args.self.now in
+    ruled_out_by_part (needles_in by.searcher.now.table.needles.items) by.searcher.now.offset by.rest.now c.args.piece.now k by.is.one by.is.is
+    (subst (λ rest. ¬ Agrees c.args.piece.now rest k) c.needle-rest.ensures (c.first_place.ensures.passed k l))
 
 pub returns-clause-passed : goal.returns-clause-passed
 returns-clause-passed c k l =
     let by = c.args.self.now in
-    let piece = c.args.piece.now in
-    let needles = needles_in by.searcher.now.table.needles.items in
-    let offset = by.searcher.now.offset in
-    let rest = by.rest.now in
-    let within = c.in-Some.ensures.within in
-    ruled_out_on needles offset rest piece c.min-from.result c.rest_candidate-2.result k by.is.one by.is.is
-    (λ j low. ruled_out_by_part needles offset rest piece j by.is.one by.is.is
-    (λ agrees. c.in-Some.ensures.passed j (omega (arith, low))
-    (begun by.first by.second piece rest j by.is.long by.is_first by.is_second (omega (arith, low, within)) agrees)))
-    c.rest_candidate-2.ensures.passed l
+    ruled_out_by_part (needles_in by.searcher.now.table.needles.items) by.searcher.now.offset by.rest.now c.args.piece.now k by.is.one by.is.is
+    (c.rest_candidate.ensures.passed k l)

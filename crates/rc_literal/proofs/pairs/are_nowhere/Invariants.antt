@@ -1,6 +1,6 @@
 use Rattle.std.proofs.Common.{ℕ, ◌-◌, ◌<◌}
 use Rattle.rc_literal.specs.Pairs.{HasPair}
-use Rattle.rc_literal.proofs.pairs.first_pair.Given as goal
+use Rattle.rc_literal.proofs.pairs.are_nowhere.Given as goal
 
 abbrev pub invariant-loop-at : goal.invariant-loop-at
 invariant-loop-at l = (k : ℕ) → k < l.at → ¬ HasPair l.first l.second l.piece k
