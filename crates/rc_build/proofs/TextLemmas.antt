@@ -13,8 +13,8 @@ use Rattle.rc_pattern.specs.Meaning.{meaning}
 use Rattle.rc_pattern.specs.declared.hir.Hir.{Hir}
 use Rattle.rc_pattern.specs.declared.syntax.Error.{Error}
 use Rattle.rc_pattern.specs.declared.syntax.Error.TheVariants.{Syntax as FaultAt}
-use Rattle.rc_syntax.specs.Outcome.{OnSyntax}
-use Rattle.rc_syntax.specs.Settings.{Settings}
+use Rattle.rc_parser.specs.Outcome.{OnSyntax}
+use Rattle.rc_parser.specs.Settings.{Settings}
 use Rattle.rc_build.specs.TextRefusals.{IsReadAs, IsRead, AllRead, IsFirstUnread, IsReadingRefusal, IsTextRefusal, texts_of}
 use Rattle.rc_build.specs.Refusals.{IsRefusal}
 use Rattle.rc_build.specs.declared.error.BuildError.{BuildError}

@@ -5,7 +5,7 @@ ghost use Rattle.rc_pattern.specs.WellFormed.{group_names};
 ghost use Rattle.rc_captures.specs.Groups.{names_of};
 ghost use Rattle.rc_captures.specs.Names.{names_in};
 ghost use Rattle.rc_program.specs.Program.{program, shown};
-ghost use Rattle.rc_thompson.specs.Places.{places_of};
+ghost use Rattle.rc_compile.specs.Places.{places_of};
 ghost use Rattle.rc_build.specs.Names.{is_grouped, names_shown};
 ghost use Rattle.rc_build.specs.Refusals.{IsBuildable, IsRefusal};
 
@@ -13,10 +13,10 @@ use crate::check::check;
 use crate::error::BuildError;
 use crate::which::WhichCaptures;
 use rc_captures::groups::{GroupInfo, group_info};
+use rc_compile::compile::compile;
+use rc_compile::place::Place;
 use rc_pattern::check::groups;
 use rc_pattern::hir::Hir;
-use rc_thompson::compile::compile;
-use rc_thompson::place::Place;
 use std::alloc::{AllocError, Global};
 
 /// What patterns were compiled to.

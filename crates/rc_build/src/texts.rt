@@ -1,13 +1,13 @@
 //! Texts read as patterns.
 ghost use Rattle.std.specs.Prelude.{◌≡◌, ◌≤◌, ◌<◌, ℕ, length, map, IfErr, IfOk};
 ghost use Rattle.rc_pattern.specs.Meaning.{meaning};
-ghost use Rattle.rc_syntax.specs.Settings.{settings_of};
+ghost use Rattle.rc_parser.specs.Settings.{settings_of};
 ghost use Rattle.rc_build.specs.TextRefusals.{AllRead, IsReadingRefusal, texts_of};
 
 use crate::error::BuildError;
+use rc_parser::{Config, parse};
 use rc_pattern::hir::Hir;
 use rc_pattern::syntax;
-use rc_syntax::{Config, parse};
 use rc_text::types::PatternID;
 use std::alloc::Global;
 

@@ -11,8 +11,8 @@ use Rattle.rc_pattern.specs.Meaning.{char_range}
 use Rattle.rc_pattern.specs.declared.hir.ClassUnicodeRange.{ClassUnicodeRange}
 use Rattle.rc_program.specs.Program.{Place, branch, scalar}
 use Rattle.rc_program.specs.Laws.{heaviness, place_weight}
-use Rattle.rc_thompson.specs.declared.place.Place as source
-use Rattle.rc_thompson.specs.Places.{place_of as source_of, places_of as sources_of}
+use Rattle.rc_compile.specs.declared.place.Place as source
+use Rattle.rc_compile.specs.Places.{place_of as source_of, places_of as sources_of}
 use Rattle.rc_bytes.specs.Bytes.{between, pieces, all_pieces, tails, ways_within, block_within, class_ways, class_block, piece_ways, piece_block, byte_place, block, byte_places, blocks}
 use Rattle.rc_bytes.specs.Places.{place_of, places_of, ways_of, Adds, IsLengthClass}
 use Rattle.rc_bytes.specs.declared.place.ByteWay.{ByteWay}

@@ -4,7 +4,7 @@ ghost use Rattle.std.specs.Prelude.{◌≡◌, ◌+◌, ◌*◌, ◌<◌, ◌≤
 ghost use Rattle.rc_pattern.specs.Meaning.{char_range};
 ghost use Rattle.rc_program.specs.Program.{scalar};
 ghost use Rattle.rc_program.specs.Laws.{heaviness, place_weight};
-ghost use Rattle.rc_thompson.specs.Places.{place_of as source_of, places_of as sources_of};
+ghost use Rattle.rc_compile.specs.Places.{place_of as source_of, places_of as sources_of};
 ghost use Rattle.rc_bytes.specs.Bytes.{block, byte_place, bytes_of};
 ghost use Rattle.rc_bytes.specs.Places.{places_of};
 
@@ -14,8 +14,8 @@ mod class;
 use crate::place::BytePlace;
 use block::{Exits, append};
 use class::{add_class, add_tails};
+use rc_compile::place::Place;
 use rc_pattern::hir::ClassUnicodeRange;
-use rc_thompson::place::Place;
 use std::alloc::{AllocError, Global};
 
 /// Adds a place of scalars and its block.

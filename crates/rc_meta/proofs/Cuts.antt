@@ -4,7 +4,7 @@ use Rattle.rc_text.specs.Found.{Found}
 use Rattle.rc_text.specs.Text.{Searched, high}
 use Rattle.rc_text.specs.declared.types.Span.{Span}
 use Rattle.rc_program.specs.Matches.{pieces_left}
-use Rattle.rc_matches.specs.Moved.{IsMoved}
+use Rattle.rc_engine.specs.Moved.{IsMoved}
 use Rattle.rc_meta.specs.Left.{few_in, unless_done}
 use Rattle.rc_meta.specs.declared.iterators.Pieces.{Pieces}
 

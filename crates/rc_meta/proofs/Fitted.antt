@@ -5,8 +5,8 @@ use Rattle.rc_pattern.specs.Re.{Re}
 use Rattle.rc_captures.specs.declared.groups.GroupInfo.{GroupInfo}
 use Rattle.rc_program.specs.Program.{program, shown}
 use Rattle.rc_program.specs.Sought.{search_over, search_for}
-use Rattle.rc_matches.specs.Engine.{engine_search}
-use Rattle.rc_matches.specs.declared.engine.Engine.{Engine}
+use Rattle.rc_engine.specs.Engine.{engine_search}
+use Rattle.rc_engine.specs.declared.engine.Engine.{Engine}
 use Rattle.rc_build.specs.Names.{is_grouped}
 use Rattle.rc_build.specs.Settings.{Settings, which_captures_of, line_terminator_of}
 use Rattle.rc_meta.specs.Fits.{Fits, sought_by}

@@ -14,12 +14,12 @@ use Rattle.rc_program.specs.Matches.{begin_of, end_of, from_on, next_match}
 use Rattle.rc_program.specs.Program.{program, shown}
 use Rattle.rc_program.specs.Sought.{passes_over, search_for}
 use Rattle.rc_program.proofs.KindLemmas.{kinds_law}
-use Rattle.rc_matches.specs.Engine.{engine_search}
-use Rattle.rc_matches.specs.Moved.{IsMoved}
-use Rattle.rc_matches.specs.Tells.{TellsBy, TellsOf, KeepsAll}
-use Rattle.rc_matches.specs.Walks.{next_start, walks_left, walk_end}
-use Rattle.rc_matches.proofs.Steps.{left_from, left_short, search_moved, step_none, step_some}
-use Rattle.rc_matches.proofs.Walked.{Step, last_step, tells_there, walk_step, walks_from}
+use Rattle.rc_engine.specs.Engine.{engine_search}
+use Rattle.rc_engine.specs.Moved.{IsMoved}
+use Rattle.rc_engine.specs.Tells.{TellsBy, TellsOf, KeepsAll}
+use Rattle.rc_engine.specs.Walks.{next_start, walks_left, walk_end}
+use Rattle.rc_engine.proofs.Steps.{left_from, left_short, search_moved, step_none, step_some}
+use Rattle.rc_engine.proofs.Walked.{Step, last_step, tells_there, walk_step, walks_from}
 use Rattle.rc_build.specs.Names.{is_grouped}
 use Rattle.rc_build.specs.Settings.{which_captures_of}
 use Rattle.rc_meta.specs.Left.{unless_done}

@@ -10,8 +10,8 @@ use Rattle.rc_captures.specs.declared.captures.Captures.{Captures}
 use Rattle.rc_program.specs.Answer.{Search, Chosen}
 use Rattle.rc_program.specs.Kinds.{matches_by_kind}
 use Rattle.rc_program.specs.Matches.{from_on, matches_left}
-use Rattle.rc_matches.specs.Tells.{TellsOf, TellsSpan, AllTell, KeepsAll}
-use Rattle.rc_matches.specs.Walks.{walks_left}
+use Rattle.rc_engine.specs.Tells.{TellsOf, TellsSpan, AllTell, KeepsAll}
+use Rattle.rc_engine.specs.Walks.{walks_left}
 use Rattle.rc_meta.specs.Left.{captures_input, captures_left, captures_regex, captures_walks, CapturesLaw, CapturesNext, MatchedLaw}
 use Rattle.rc_meta.specs.Views.{regex_kind, regex_names, sought}
 use Rattle.rc_meta.specs.declared.iterators.CapturesMatches.{CapturesMatches}

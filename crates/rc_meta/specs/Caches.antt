@@ -3,7 +3,7 @@ use Rattle.std.specs.Prelude.{List, length}
 use Rattle.rc_pattern.specs.Re.{Re}
 use Rattle.rc_captures.specs.Names.{slot_len}
 use Rattle.rc_program.specs.Program.{program, shown}
-use Rattle.rc_pikevm.specs.Caches as pikevm
+use Rattle.rc_pass.specs.Caches as pikevm
 use Rattle.rc_build.specs.Names.{is_grouped, names_shown}
 use Rattle.rc_build.specs.Settings.{Settings, which_captures_of}
 use Rattle.rc_meta.specs.declared.cache.Cache.{Cache}

@@ -6,9 +6,9 @@ use Rattle.rc_captures.specs.Groups.{names_of}
 use Rattle.rc_captures.specs.declared.groups.GroupInfo.{GroupInfo}
 use Rattle.rc_program.specs.Program.{program, shown}
 use Rattle.rc_program.specs.Sought.{Sought, passes_over}
-use Rattle.rc_thompson.specs.Places.{places_of}
-use Rattle.rc_matches.specs.Choices.{guarding}
-use Rattle.rc_matches.specs.declared.engine.Engine.{Engine}
+use Rattle.rc_compile.specs.Places.{places_of}
+use Rattle.rc_engine.specs.Choices.{guarding}
+use Rattle.rc_engine.specs.declared.engine.Engine.{Engine}
 use Rattle.rc_build.specs.Names.{is_grouped, names_shown}
 use Rattle.rc_build.specs.Refusals.{greatest_weight}
 use Rattle.rc_build.specs.Settings.{Settings, match_kind_of, utf8_empty_of, auto_prefilter_of, prefilter_of, which_captures_of, line_terminator_of}

@@ -15,8 +15,8 @@ use Rattle.rc_program.specs.Answer.{Search, Chosen}
 use Rattle.rc_program.specs.Kinds.{matches_by_kind}
 use Rattle.rc_program.specs.Matches.{from_on, matches_left, pieces_from, pieces_left}
 use Rattle.rc_program.specs.Sought.{search_for}
-use Rattle.rc_matches.specs.Tells.{TellsOf, TellsSpan, AllTell, KeepsAll}
-use Rattle.rc_matches.specs.Walks.{walks_left}
+use Rattle.rc_engine.specs.Tells.{TellsOf, TellsSpan, AllTell, KeepsAll}
+use Rattle.rc_engine.specs.Walks.{walks_left}
 use Rattle.rc_meta.specs.Views.{regex_kind, regex_names, sought}
 use Rattle.rc_meta.specs.declared.regex.Regex.{Regex}
 use Rattle.rc_meta.specs.declared.finder.Finder.{Finder}

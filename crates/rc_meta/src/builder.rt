@@ -3,33 +3,33 @@
 ghost use Rattle.std.specs.Prelude.{◌≡◌, ◌≤◌, ◌∷◌, [], IfOk, IfErr, length, map};
 ghost use Rattle.rc_pattern.specs.Meaning.{meaning};
 ghost use Rattle.rc_program.specs.Sought.{IsRunnable, may_be_empty, passes_over};
-ghost use Rattle.rc_thompson.specs.Places.{places_of};
+ghost use Rattle.rc_compile.specs.Places.{places_of};
 ghost use Rattle.rc_build.specs.Refusals.{IsBuildable, IsRefusal};
 ghost use Rattle.rc_build.specs.Settings.{settings_of, unset, overwritten, match_kind_of, nfa_size_limit_of, line_terminator_of};
 ghost use Rattle.rc_build.specs.TextRefusals.{AllRead, IsTextRefusal, texts_of};
-ghost use Rattle.rc_matches.specs.Strategies.{IsSound};
+ghost use Rattle.rc_engine.specs.Strategies.{IsSound};
 ghost use Rattle.rc_meta.specs.Fits.{sought_by};
 ghost use Rattle.rc_meta.specs.Views.{builder_settings, builder_syntax, regex_patterns, regex_settings};
-ghost use Rattle.rc_syntax.specs.Settings.{default_settings, settings_of as syntax_of};
+ghost use Rattle.rc_parser.specs.Settings.{default_settings, settings_of as syntax_of};
 
 use crate::regex::{Regex, assembled};
 use rc_build::compile::compile_all;
 use rc_build::config::Config;
 use rc_build::error::BuildError;
 use rc_build::texts::parse_all;
-use rc_matches::choice::choose;
-use rc_matches::engine::Engine;
-use rc_matches::strategy::Strategy;
+use rc_compile::place::Place;
+use rc_engine::choice::choose;
+use rc_engine::engine::Engine;
+use rc_engine::strategy::Strategy;
 use rc_pattern::check::copies_of;
 use rc_pattern::hir::Hir;
-use rc_thompson::place::Place;
 use std::alloc::Global;
 
 /// Makes regexes under settings of its own: those of the regex, and those by which its text is read.
 #[derive(Drop)]
 pub struct Builder {
     config: Config,
-    syntax: rc_syntax::Config,
+    syntax: rc_parser::Config,
 }
 
 impl Builder {
@@ -40,7 +40,7 @@ impl Builder {
     {
         Builder {
             config: Config::new(),
-            syntax: rc_syntax::Config::new(),
+            syntax: rc_parser::Config::new(),
         }
     }
 
@@ -55,7 +55,7 @@ impl Builder {
     }
 
     /// Reads text by these settings from now on, and lends the builder on.
-    pub fn syntax(&mut self, config: rc_syntax::Config) -> &mut Builder
+    pub fn syntax(&mut self, config: rc_parser::Config) -> &mut Builder
         ensures same_reference { result.ghost_name ≡ self.entry.ghost_name }
         ensures value { builder_syntax result.now ≡ syntax_of config }
         ensures settings_kept { builder_settings result.now ≡ builder_settings self.entry.now }

@@ -1,7 +1,7 @@
 //! What searches work in.
 
 use crate::regex::Regex;
-use rc_pikevm::cache;
+use rc_pass::cache;
 use std::alloc::{AllocError, Global};
 
 /// What searches by a regex work in: all memory that they need, made once.

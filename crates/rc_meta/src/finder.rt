@@ -2,11 +2,11 @@
 
 ghost use Rattle.rc_captures.specs.Groups.{names_of};
 ghost use Rattle.rc_captures.specs.Names.{slot_len};
-ghost use Rattle.rc_matches.specs.Engine.{IsEngineCache};
+ghost use Rattle.rc_engine.specs.Engine.{IsEngineCache};
 
 use crate::regex::Regex;
 use rc_captures::captures::Captures;
-use rc_pikevm::cache::Cache;
+use rc_pass::cache::Cache;
 use rc_text::cursor::Cursor;
 use rc_text::input::Input;
 use rc_text::types::Match;
@@ -32,8 +32,8 @@ pub(crate) struct GroupFinder<'r> {
 
 impl<'r> Finder<'r> {
     ghost use Rattle.std.specs.Prelude.{◌≡◌, IfOk};
-    ghost use Rattle.rc_matches.specs.Engine.{IsSameCache};
-    ghost use Rattle.rc_matches.specs.Moved.{IsMoved};
+    ghost use Rattle.rc_engine.specs.Engine.{IsSameCache};
+    ghost use Rattle.rc_engine.specs.Moved.{IsMoved};
     ghost use Rattle.rc_meta.specs.Left.{GivesNext, GivesCaptures};
 
     /// The next match in the input. Its span then starts where that ends. It takes no memory.

@@ -19,14 +19,14 @@ use rc_build::error::BuildError;
 use rc_captures::captures;
 use rc_captures::captures::Captures;
 use rc_captures::groups::GroupInfo;
-use rc_matches::engine::Engine;
+use rc_compile::place::Place;
+use rc_engine::engine::Engine;
+use rc_pass::cache;
 use rc_pattern::check::group_count;
 use rc_pattern::hir::Hir;
-use rc_pikevm::cache;
 use rc_text::cursor::Cursor;
 use rc_text::input::Input;
 use rc_text::types::{HalfMatch, Match, PatternID};
-use rc_thompson::place::Place;
 use std::alloc::{AllocError, Global};
 use std::mem::size_of;
 
@@ -45,8 +45,8 @@ impl Regex {
     ghost use Rattle.rc_captures.specs.Captures.{IsCapturesFor, captures_pattern, captures_slots, match_of};
     ghost use Rattle.rc_captures.specs.Groups.{names_of};
     ghost use Rattle.rc_captures.specs.Names.{slot_len};
-    ghost use Rattle.rc_matches.specs.Tells.{Tells, TellsBy, KeepsAll};
-    ghost use Rattle.rc_matches.specs.Walks.{walks_left};
+    ghost use Rattle.rc_engine.specs.Tells.{Tells, TellsBy, KeepsAll};
+    ghost use Rattle.rc_engine.specs.Walks.{walks_left};
     ghost use Rattle.rc_program.specs.Matches.{matches_left, pieces_of, pieces_at_most};
     ghost use Rattle.rc_meta.specs.Left.{captures_input, captures_left, captures_regex, captures_walks, CapturesLaw, MatchedLaw, find_input, find_left, find_regex, split_input, split_left, splitn_input, splitn_left, splitn_limit};
     ghost use Rattle.rc_text.specs.Found.{Found};
@@ -56,13 +56,13 @@ impl Regex {
     ghost use Rattle.rc_text.specs.declared.types.MatchKind.TheVariants.{LeftmostFirst};
     ghost use Rattle.rc_program.specs.Answer.{answer, groups};
     ghost use Rattle.rc_program.specs.Kinds.{IsAnswerBy, answer_by, matches_by_kind};
-    ghost use Rattle.rc_pikevm.specs.KindSlots.{slots_by};
+    ghost use Rattle.rc_pass.specs.KindSlots.{slots_by};
     ghost use Rattle.rc_program.specs.Sought.{search_for};
     ghost use Rattle.rc_build.specs.Settings.{unset, auto_prefilter_of, prefilter_of, match_kind_of, nfa_size_limit_of};
     ghost use Rattle.rc_build.specs.Refusals.{IsBuildable};
     ghost use Rattle.rc_build.specs.TextRefusals.{AllRead, IsTextRefusal, texts_of};
-    ghost use Rattle.rc_syntax.specs.Settings.{default_settings};
-    ghost use Rattle.rc_matches.specs.Engine.{IsEngineCache};
+    ghost use Rattle.rc_parser.specs.Settings.{default_settings};
+    ghost use Rattle.rc_engine.specs.Engine.{IsEngineCache};
     ghost use Rattle.rc_meta.specs.Caches.{IsCacheFor};
     ghost use Rattle.rc_meta.specs.Views.{builder_settings, builder_syntax, regex_kind, regex_patterns, regex_settings, regex_names, sought};
 

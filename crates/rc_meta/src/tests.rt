@@ -31,7 +31,7 @@ fn builds(rt: HostRuntime) -> Result<(), Fail> {
     let mut builder = Regex::builder();
     let implicit = Config::new().which_captures(WhichCaptures::Implicit);
     builder
-        .syntax(rc_syntax::Config::new().case_insensitive(true))
+        .syntax(rc_parser::Config::new().case_insensitive(true))
         .configure(implicit.nfa_size_limit(Some(255)));
     let limit = BuildError::SizeLimit { limit: 255 };
     assert_eq!(&rt; builder.build(alloc, "(a)").err(), Some(limit));

@@ -1,12 +1,6 @@
-pub mod Sparse
-pub mod Threads
-pub mod Trace
-pub mod Moves
-pub mod Passing
-pub mod Found
+pub mod Thompson
+pub mod Configs
+pub mod Fits
+pub mod Views
 pub mod Caches
-pub mod Windows
-pub mod Near
-pub mod Runnable
-pub mod Spread
-pub mod KindSlots
+pub mod Left

@@ -1,20 +1,12 @@
-//! The ordered pass over a text: all threads at once, in order, each place entered once at a position.
+//! The ordered pass over a text, as its users see it: what is built from patterns, its caches, and its searches.
 #![tactic(auto)]
 
+pub mod builder;
 pub mod cache;
-mod closure;
-pub mod greatest;
-#[cfg(test)]
-mod kind_tests;
-pub mod kinds;
-mod moves;
-mod pass;
-#[cfg(test)]
-mod runnable;
+pub mod config;
+pub mod iterators;
 pub mod search;
-pub mod sparse_set;
-mod spread;
 #[cfg(test)]
 mod tests;
-mod threads;
-mod window;
+pub mod thompson;
+pub mod vm;

@@ -6,8 +6,8 @@ use Rattle.std.proofs.lemmas.List.{length-map, get_or_past}
 use Rattle.rc_program.specs.Program.{Place, choice, accept}
 use Rattle.rc_program.specs.Laws.{targets}
 use Rattle.rc_program.specs.Sought.{IsRunnable}
-use Rattle.rc_thompson.specs.Places.{place_of, places_of}
-use Rattle.rc_thompson.specs.declared.place.Place as code
+use Rattle.rc_compile.specs.Places.{place_of, places_of}
+use Rattle.rc_compile.specs.declared.place.Place as code
 
 -- the ways lead to one of so many places, and the pattern is one of a `PatternID`
 pub record IsSound (count : ℕ) (q : code.Place) : Type 0 where

@@ -5,13 +5,13 @@ ghost use Rattle.rc_walks.specs.Walks.{IsFirstWalk, HasNoWalk};
 ghost use Rattle.rc_program.specs.Sought.{text_of};
 ghost use Rattle.rc_program.specs.Laws.{IsClosed};
 ghost use Rattle.rc_program.specs.Program.{ways, place_at, is_match_place};
-ghost use Rattle.rc_thompson.specs.Places.{places_of};
+ghost use Rattle.rc_compile.specs.Places.{places_of};
 ghost use Rattle.rc_walker.specs.Frames.{Ends, IsMarked, fresh_frame, walk_of};
 
 use crate::ways::way;
+use rc_compile::place::Place;
 use rc_text::cursor::Cursor;
 use rc_text::input::Input;
-use rc_thompson::place::Place;
 use std::alloc::AllocError;
 
 /// A pair on the walk under way, and how many of its ways out were tried.

@@ -4,15 +4,15 @@ ghost use Rattle.std.specs.List.{All};
 ghost use Rattle.rc_program.specs.Program.{accept};
 ghost use Rattle.rc_program.specs.Laws.{targets};
 ghost use Rattle.rc_program.specs.Sought.{IsRunnable};
-ghost use Rattle.rc_thompson.specs.Places.{place_of, places_of};
+ghost use Rattle.rc_compile.specs.Places.{place_of, places_of};
 
 use crate::walker::{find, find_slots};
+use rc_compile::place::Place;
 use rc_pattern::hir::{ClassUnicodeRange, Look};
 use rc_text::chunks::ChunkCursor;
 use rc_text::cursor::Cursor;
 use rc_text::input::Input;
 use rc_text::types::{Anchored, PatternID};
-use rc_thompson::place::Place;
 use std::alloc::Global;
 use std::test::Fail;
 

@@ -8,15 +8,15 @@ ghost use Rattle.rc_text.specs.Found.{Found};
 ghost use Rattle.rc_program.specs.Program.{accept, place_at};
 ghost use Rattle.rc_program.specs.Answer.{answer, chosen, groups, is_anchored, last_of, last_visit, only, pattern_at};
 ghost use Rattle.rc_program.specs.Sought.{anchoring_of, search_over, IsRunnable};
-ghost use Rattle.rc_thompson.specs.Places.{places_of};
+ghost use Rattle.rc_compile.specs.Places.{places_of};
 ghost use Rattle.rc_walker.specs.Frames.{pair_of, slot_name, walk_of};
 ghost use Rattle.rc_walker.specs.Found.{chosen_of};
 
 use crate::frames::{Frame, first_walk};
+use rc_compile::place::Place;
 use rc_text::cursor::Cursor;
 use rc_text::input::{Input, high, is_boundary_at, low, move_to};
 use rc_text::types::{Anchored, Match, PatternID, Span};
-use rc_thompson::place::Place;
 use std::alloc::{AllocError, Global};
 
 /// The walk that a search chose, and where it starts, in bytes.

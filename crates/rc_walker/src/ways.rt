@@ -6,13 +6,13 @@ ghost use Rattle.rc_program.specs.Text.{ahead, holds};
 ghost use Rattle.rc_program.specs.Scalars.{scalar_at};
 ghost use Rattle.rc_program.specs.Sought.{text_of};
 ghost use Rattle.rc_program.specs.Program.{in_ranges, pair_at, place_at, ways, ways_out};
-ghost use Rattle.rc_thompson.specs.Places.{place_of, places_of};
+ghost use Rattle.rc_compile.specs.Places.{place_of, places_of};
 
+use rc_compile::place::Place;
 use rc_pattern::hir::{ClassBytesRange, ClassUnicodeRange, Look};
 use rc_program::look::{holds, scalar_at};
 use rc_text::cursor::Cursor;
 use rc_text::input::{Input, around, byte_at};
-use rc_thompson::place::Place;
 
 /// The byte is in one of the ranges.
 fn has_byte(ranges: &Vec<ClassBytesRange>, byte: u8) -> bool

@@ -2,7 +2,7 @@
 use Rattle.std.specs.Prelude.{ℕ, [], ◌∷◌, List, codes, Option, Some}
 use Rattle.std.specs.Borrow.{Bor}
 use Rattle.rc_text.specs.Joined.{IsTooLong}
-use Rattle.rc_syntax.specs.Settings.{default_settings}
+use Rattle.rc_parser.specs.Settings.{default_settings}
 use Rattle.rc_build.specs.Lines.{line_of}
 use Rattle.rc_build.specs.TextRefusals.{IsTextRefusal}
 use Rattle.regex_cursor.specs.declared.run.error.RunError.{RunError}

@@ -9,7 +9,7 @@ use Rattle.rc_text.specs.declared.types.Anchored.TheVariants.{No}
 use Rattle.rc_pattern.specs.Re.{Re}
 use Rattle.rc_program.specs.Sought.{Sought, search_for}
 use Rattle.rc_program.specs.Matches.{matches_left}
-use Rattle.rc_syntax.specs.Settings.{default_settings}
+use Rattle.rc_parser.specs.Settings.{default_settings}
 use Rattle.rc_build.specs.TextRefusals.{IsReadAs}
 
 -- where the match begins, two dots, where it ends, and a line feed

@@ -1,3 +1,3 @@
 //! The texts of patterns, and why one is not read.
 
-pub use rc_syntax::{Config, Error, parse};
+pub use rc_parser::{Config, Error, parse};

@@ -2,25 +2,25 @@
 
 ghost use Rattle.std.specs.Prelude.{◌≤◌, length};
 ghost use Rattle.rc_program.specs.Sought.{IsRunnable};
-ghost use Rattle.rc_thompson.specs.Places.{places_of};
+ghost use Rattle.rc_compile.specs.Places.{places_of};
 
 use rc_build::compile::compile_all;
 use rc_build::config::Config;
 use rc_build::error::BuildError;
 use rc_build::texts::parse_all;
 use rc_captures::captures::{Captures, slots_of};
+use rc_compile::place::Place;
 use rc_meta::builder as meta;
 use rc_meta::regex::Regex;
+use rc_parser::Config as Syntax;
 use rc_pattern::hir::Hir;
-use rc_syntax::Config as Syntax;
+use rc_pikevm::builder::Builder;
+use rc_pikevm::config::Config as Searches;
+use rc_pikevm::vm::PikeVM;
+use rc_pikevm::{search, thompson};
 use rc_text::cursor::Cursor;
 use rc_text::input::Input;
 use rc_text::types::{HalfMatch, Match, MatchKind, PatternID};
-use rc_thompson::place::Place;
-use rc_vm::builder::Builder;
-use rc_vm::config::Config as Searches;
-use rc_vm::vm::PikeVM;
-use rc_vm::{search, thompson};
 use rc_walker::walker;
 use std::alloc::{AllocError, Global};
 use std::process::Abort;

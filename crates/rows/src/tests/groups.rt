@@ -7,7 +7,7 @@ use crate::tests::tables::{rows_of_groups, rows_of_patterns};
 use rc_build::config::Config;
 use rc_build::which::WhichCaptures;
 use rc_meta::regex::Regex;
-use rc_syntax::Config as Syntax;
+use rc_parser::Config as Syntax;
 use rc_text::types::{Anchored, PatternID, Span};
 use std::test::Fail;
 

@@ -7,7 +7,7 @@ use crate::tests::tables::{Pairs, row};
 use rc_build::config::Config;
 use rc_literal::prefilter::Prefilter;
 use rc_meta::regex::Regex;
-use rc_syntax::Config as Syntax;
+use rc_parser::Config as Syntax;
 use rc_text::cursor::Cursor;
 use rc_text::types::MatchKind;
 use std::alloc::{AllocError, Global};

@@ -6,7 +6,7 @@ use crate::tests::tables::row;
 use rc_build::config::Config;
 use rc_build::error::BuildError;
 use rc_meta::regex::Regex;
-use rc_syntax::Config as Syntax;
+use rc_parser::Config as Syntax;
 use std::alloc::{AllocError, Global};
 use std::process::Abort;
 use std::test::Fail;

@@ -5,7 +5,7 @@ use crate::tests::engines::Engines;
 use crate::tests::searches::{Asked, Groups, finds, groups, lists, splits};
 use rc_build::config::Config;
 use rc_build::error::BuildError;
-use rc_syntax::Config as Syntax;
+use rc_parser::Config as Syntax;
 use std::alloc::{AllocError, Global};
 use std::process::Abort;
 

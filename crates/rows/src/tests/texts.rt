@@ -4,7 +4,7 @@ use crate::tests::engines::Engines;
 use crate::tests::searches::{Asked, finds};
 use crate::tests::tables::{row, rows, rows_of_bytes, rows_of_slices, rows_of_spans};
 use rc_build::config::Config;
-use rc_syntax::Config as Syntax;
+use rc_parser::Config as Syntax;
 use rc_text::chunks::ChunkCursor;
 use rc_text::types::{Anchored, PatternID};
 use std::test::Fail;

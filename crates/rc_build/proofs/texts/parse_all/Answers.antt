@@ -1,7 +1,7 @@
 use Rattle.std.proofs.Common.{ap, sym, ◌∙◌, subst, map, take, ◌+◌}
 use Rattle.rc_pattern.specs.Meaning.{meaning}
 use Rattle.rc_pattern.specs.declared.syntax.Error.TheVariants.{Syntax as FaultAt}
-use Rattle.rc_syntax.specs.Settings.{settings_of}
+use Rattle.rc_parser.specs.Settings.{settings_of}
 use Rattle.rc_build.specs.TextRefusals.{AllRead, texts_of}
 use Rattle.rc_build.proofs.TextLemmas.{read_more, first_unread}
 use Rattle.rc_build.proofs.CheckLemmas.{number_of_some}

@@ -1,6 +1,6 @@
 use Rattle.std.proofs.Common.{map, take}
 use Rattle.rc_pattern.specs.Meaning.{meaning}
-use Rattle.rc_syntax.specs.Settings.{settings_of}
+use Rattle.rc_parser.specs.Settings.{settings_of}
 use Rattle.rc_build.specs.TextRefusals.{AllRead, texts_of}
 use Rattle.rc_build.proofs.texts.parse_all.Given as goal
 

@@ -1,5 +1,5 @@
 use Rattle.std.proofs.Common.{◌+◌, ap}
-use Rattle.rc_thompson.proofs.EmitLemmas.{IfOk_to}
+use Rattle.rc_compile.proofs.EmitLemmas.{IfOk_to}
 use Rattle.rc_bytes.proofs.AddLemmas.{whole_class}
 use Rattle.rc_bytes.proofs.program.add_scalars.Goals as goal
 

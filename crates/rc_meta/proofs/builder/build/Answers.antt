@@ -8,7 +8,7 @@ use Rattle.rc_program.specs.Sought.{IsRunnable, passes_over}
 use Rattle.rc_build.specs.Names.{is_grouped}
 use Rattle.rc_build.specs.Settings.{settings_of, line_terminator_of}
 use Rattle.rc_build.proofs.Runnable.{runnable}
-use Rattle.rc_matches.specs.Strategies.{IsSound}
+use Rattle.rc_engine.specs.Strategies.{IsSound}
 use Rattle.rc_meta.specs.Fits.{sought_by}
 use Rattle.rc_meta.proofs.builder.build.Goals as goal
 

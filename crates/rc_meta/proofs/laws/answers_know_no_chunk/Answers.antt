@@ -1,6 +1,6 @@
 use Rattle.rc_program.specs.Program.{program, shown}
 use Rattle.rc_program.specs.Sought.{passes_over}
-use Rattle.rc_matches.proofs.Steps.{search_kept}
+use Rattle.rc_engine.proofs.Steps.{search_kept}
 use Rattle.rc_meta.proofs.laws.answers_know_no_chunk.Goals as goal
 
 pub returns : goal.returns

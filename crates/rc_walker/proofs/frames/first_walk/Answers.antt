@@ -7,7 +7,7 @@ use Rattle.rc_program.specs.Sought.{text_of}
 use Rattle.rc_program.specs.Program.{ways}
 use Rattle.rc_program.proofs.WayLemmas.{same_pair, ways_onward, ways_within}
 use Rattle.rc_program.proofs.PlaceLemmas.{ways_closed}
-use Rattle.rc_thompson.specs.Places.{place_of, places_of}
+use Rattle.rc_compile.specs.Places.{place_of, places_of}
 use Rattle.rc_walker.specs.Frames.{pair_of, Ends, IsMarked, fresh_frame}
 use Rattle.rc_walker.proofs.StepLemmas.{IsWalking, steps_back, steps_over, steps_on, arrives_on, gives_up, back_falls, over_falls, on_falls, few_ways, in_from_get, on_top, begins, empty_of_length, ends_last, walk_of_frames, again, same_way, top_walking}
 use Rattle.rc_walker.proofs.MarkLemmas.{mark_at, marked_length, on_stack, new_on_stack, top_marked, own_marked, still_marked}

@@ -1,7 +1,7 @@
 use Rattle.std.proofs.Common.{length, reverse}
 use Rattle.rc_text.specs.Text.{Keeps}
 use Rattle.rc_program.specs.Sought.{text_of}
-use Rattle.rc_thompson.specs.Places.{places_of}
+use Rattle.rc_compile.specs.Places.{places_of}
 use Rattle.rc_walker.specs.Frames.{IsMarked}
 use Rattle.rc_walker.proofs.StepLemmas.{IsWalking, work}
 use Rattle.rc_walker.proofs.frames.first_walk.Given as goal

@@ -1,5 +1,5 @@
 use Rattle.std.proofs.Common.{◌<◌, ℕ, length, slice_index_or}
-use Rattle.rc_thompson.specs.declared.place.Place.{Place}
+use Rattle.rc_compile.specs.declared.place.Place.{Place}
 use Rattle.rc_walker.proofs.RunnableLemmas.{IsSound}
 use Rattle.rc_walker.proofs.tests.is_runnable.Given as goal
 

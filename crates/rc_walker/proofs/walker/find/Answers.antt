@@ -4,7 +4,7 @@ use Rattle.rc_walks.specs.Walks.{Pair}
 use Rattle.rc_program.specs.Answer.{chosen, found, last_of, pattern_at, Chosen, pattern_of}
 use Rattle.rc_program.specs.Program.{place_at}
 use Rattle.rc_program.specs.Sought.{search_over}
-use Rattle.rc_thompson.specs.Places.{places_of}
+use Rattle.rc_compile.specs.Places.{places_of}
 use Rattle.rc_walker.specs.Found.{chosen_of}
 use Rattle.rc_walker.proofs.SearchLemmas.{chosen_found, none_found, chosen_inside}
 use Rattle.rc_walker.proofs.walker.find.Goals as goal

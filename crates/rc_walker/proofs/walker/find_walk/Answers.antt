@@ -3,7 +3,7 @@ use Rattle.std.proofs.lemmas.List.{take_at}
 use Rattle.rc_walks.specs.Walks.{Pair}
 use Rattle.rc_program.specs.Answer.{IsFirstFrom}
 use Rattle.rc_program.specs.Sought.{search_over}
-use Rattle.rc_thompson.specs.Places.{places_of}
+use Rattle.rc_compile.specs.Places.{places_of}
 use Rattle.rc_walker.specs.Frames.{IsMarked, walk_of}
 use Rattle.rc_program.proofs.AnswerLemmas.{first_start_chosen, no_start_chosen, start_to_last, start_within_last, one_more_passed, last_start_of}
 use Rattle.rc_walker.proofs.SearchLemmas.{tells, told_allowed}

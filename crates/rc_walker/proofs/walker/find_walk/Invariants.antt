@@ -2,7 +2,7 @@ use Rattle.std.proofs.Common.{ℕ, ◌<◌, ◌≤◌, length, reverse}
 use Rattle.rc_text.specs.Text.{Keeps, low}
 use Rattle.rc_program.specs.Answer.{IsPassed}
 use Rattle.rc_program.specs.Sought.{search_over}
-use Rattle.rc_thompson.specs.Places.{places_of}
+use Rattle.rc_compile.specs.Places.{places_of}
 use Rattle.rc_walker.specs.Frames.{IsMarked}
 use Rattle.rc_walker.proofs.walker.find_walk.Given as goal
 

@@ -1,5 +1,5 @@
 use Rattle.std.proofs.Common.{◌≡◌, ◌∙◌, ap, length, map, take, set, Some, None, slice_index_or, List}
-use Rattle.rc_thompson.specs.Places.{places_of}
+use Rattle.rc_compile.specs.Places.{places_of}
 use Rattle.rc_walks.specs.Walks.{Pair}
 use Rattle.rc_walker.specs.Frames.{pair_of, fresh_frame}
 use Rattle.rc_walker.specs.declared.frames.Frame.{Frame}

@@ -1,7 +1,7 @@
 use Rattle.std.proofs.Common.{◌≡◌, map, take, length}
 use Rattle.std.specs.List.{range_with_len}
 use Rattle.rc_program.specs.Answer.{last_visit}
-use Rattle.rc_thompson.specs.Places.{places_of}
+use Rattle.rc_compile.specs.Places.{places_of}
 use Rattle.rc_walker.specs.Frames.{pair_of}
 use Rattle.rc_walker.proofs.walker.note_visits.Given as goal
 

@@ -3,7 +3,7 @@ use Rattle.std.proofs.lemmas.List.{append-nil}
 use Rattle.rc_program.specs.Program.{branch}
 use Rattle.rc_bytes.specs.Bytes.{block_within}
 use Rattle.rc_bytes.specs.Places.{places_of, ways_of}
-use Rattle.rc_thompson.proofs.EmitLemmas.{IfOk_to}
+use Rattle.rc_compile.proofs.EmitLemmas.{IfOk_to}
 use Rattle.rc_bytes.proofs.CodeLemmas.{block_same, block_last, turn, parted}
 use Rattle.rc_bytes.proofs.program.block.add_block.Goals as goal
 

@@ -1,4 +1,4 @@
-use Rattle.rc_thompson.proofs.EmitLemmas.{IfOk_to}
+use Rattle.rc_compile.proofs.EmitLemmas.{IfOk_to}
 use Rattle.rc_bytes.proofs.AddLemmas.{adds_both}
 use Rattle.rc_bytes.proofs.program.class.add_range.Goals as goal
 

@@ -1,6 +1,6 @@
 use Rattle.std.proofs.Common.{arith, ap, length}
 use Rattle.rc_build.proofs.TextLemmas.{as_many}
-use Rattle.rc_syntax.specs.Settings.{settings_of as syntax_of}
+use Rattle.rc_parser.specs.Settings.{settings_of as syntax_of}
 use Rattle.rc_meta.proofs.builder.Builder.build_many.Goals as goal
 
 pub build_many_from_hir-requires : goal.build_many_from_hir-requires

@@ -1,6 +1,6 @@
 use Rattle.std.proofs.Common.{◌∙◌, [], ap, refl, rules, subst, sym}
-use Rattle.rc_matches.specs.Moved.{IsMoved}
-use Rattle.rc_matches.specs.Tells.{KeepsAll, TellsSpan}
+use Rattle.rc_engine.specs.Moved.{IsMoved}
+use Rattle.rc_engine.specs.Tells.{KeepsAll, TellsSpan}
 use Rattle.rc_meta.specs.Views.{regex_names, sought}
 use Rattle.rc_meta.proofs.Going.{answer_same, none_left, no_walks, next_left, some_left, same_match, moved, tells_next, told_as}
 use Rattle.rc_program.specs.Kinds.{answer_by}

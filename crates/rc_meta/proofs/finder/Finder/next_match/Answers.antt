@@ -1,5 +1,5 @@
 use Rattle.std.proofs.Common.{◌∙◌, refl, rules, sym}
-use Rattle.rc_matches.specs.Moved.{IsMoved}
+use Rattle.rc_engine.specs.Moved.{IsMoved}
 use Rattle.rc_meta.proofs.Going.{none_left, next_left}
 use Rattle.rc_meta.proofs.finder.Finder.next_match.Goals as goal
 

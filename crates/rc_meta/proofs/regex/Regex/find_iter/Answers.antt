@@ -2,7 +2,7 @@ use Rattle.std.proofs.Common.{◌∙◌, None, ap, arith, false}
 use Rattle.rc_program.specs.Kinds.{matches_by_kind}
 use Rattle.rc_program.specs.Sought.{search_for}
 use Rattle.rc_program.proofs.KindLemmas.{kinds_law}
-use Rattle.rc_matches.proofs.Steps.{list_within}
+use Rattle.rc_engine.proofs.Steps.{list_within}
 use Rattle.rc_meta.specs.Views.{regex_kind, sought}
 use Rattle.rc_meta.proofs.Going.{few_left}
 use Rattle.rc_meta.proofs.regex.Regex.find_iter.Goals as goal

@@ -1,6 +1,6 @@
 use Rattle.std.proofs.Common.{◌∙◌, ap}
 use Rattle.rc_captures.specs.Captures.{match_of}
-use Rattle.rc_matches.proofs.Steps.{answer_lies}
+use Rattle.rc_engine.proofs.Steps.{answer_lies}
 use Rattle.rc_program.specs.Kinds.{answer_by}
 use Rattle.rc_program.specs.Sought.{search_for}
 use Rattle.rc_text.specs.declared.types.MatchKind.TheVariants.{LeftmostFirst as leftmost_first}

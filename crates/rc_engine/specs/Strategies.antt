@@ -1,0 +1,28 @@
+-- What a search may go by.
+use Rattle.std.specs.Prelude.{◌≡◌, ℕ, Bool, List}
+use denote.Struct.Props.{props}
+use Rattle.rc_text.specs.Text.{Searched}
+use Rattle.rc_program.specs.Program.{Place}
+use Rattle.rc_program.specs.Answer.{answer}
+use Rattle.rc_program.specs.Sought.{search_over}
+use Rattle.rc_literal.specs.Guards.{Guards}
+use Rattle.rc_literal.specs.Literals.{literal_answer}
+use Rattle.rc_literal.specs.Prefilters.{needles_of}
+use Rattle.rc_engine.specs.declared.strategy.Strategy.{Strategy}
+use Rattle.rc_engine.specs.declared.strategy.Strategy.TheVariants.{Pass, Guarded, Literal}
+
+-- a search for the needles finds the answer
+abbrev pub AreAnswers : List Place → ℕ → Bool → List (List ℕ) → Type 0
+AreAnswers places terminator over needles = (s : Searched) → answer (search_over places terminator over s) ≡ literal_answer needles s
+
+-- A search of these places may go by it.
+abbrev pub IsSound : List Place → ℕ → Bool → Strategy → Type 0
+IsSound places terminator over Pass = Unit {0}
+IsSound places terminator over (Guarded p) = Guards places terminator (needles_of p)
+IsSound places terminator over (Literal p) = Guards places terminator (needles_of p) × AreAnswers places terminator over (needles_of p)
+
+-- it is a fact
+pub IsSound-is_fact : (places : List Place) (terminator : ℕ) (over : Bool) (strategy : Strategy) → IsProp (IsSound places terminator over strategy)
+IsSound-is_fact places terminator over Pass = hlevel props
+IsSound-is_fact places terminator over (Guarded p) = hlevel props
+IsSound-is_fact places terminator over (Literal p) = hlevel props

@@ -1,7 +1,0 @@
-use Rattle.std.proofs.Common.{◌≡◌, ◌++◌, drop}
-use Rattle.rc_marks.specs.ClassView.{pairs}
-use Rattle.rc_marks.specs.Classes.{gaps}
-use Rattle.rc_marks.proofs.classes.gaps.Given as goal
-
-abbrev pub invariant-loop-i : goal.invariant-loop-i
-invariant-loop-i l = gaps l.fn.unicode 0 (pairs l.ranges) ≡ pairs l.all.items ++ gaps l.fn.unicode l.start (pairs (drop l.i l.ranges))

@@ -1,6 +1,0 @@
-use Rattle.std.proofs.Common.{◌≡◌, drop, true}
-use Rattle.rc_marks.specs.Marks.{change_of, unchanged}
-use Rattle.rc_marks.proofs.groups.changes.Given as goal
-
-abbrev pub invariant-loop-i : goal.invariant-loop-i
-invariant-loop-i l = change_of true unchanged l.flags ≡ change_of l.on l.to (drop l.i l.flags)

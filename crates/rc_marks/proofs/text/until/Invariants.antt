@@ -1,6 +1,0 @@
-use Rattle.rc_marks.specs.Lexer.{is_before}
-use Rattle.rc_marks.proofs.RunLemmas.{Passed}
-use Rattle.rc_marks.proofs.text.until.Given as goal
-
-abbrev pub invariant-loop-i : goal.invariant-loop-i
-invariant-loop-i l = Passed (is_before l.fn.d l.fn.e) l.text l.i

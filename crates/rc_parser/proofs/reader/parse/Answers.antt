@@ -1,0 +1,36 @@
+use Rattle.std.proofs.Common.{◌≡◌, ◌∙◌, chars, subst, ℕ}
+use Rattle.rc_parser.specs.Settings.{settings_of}
+use Rattle.rc_parser.specs.Pieces.{Part}
+use Rattle.rc_parser.specs.Machine.{Has, fresh}
+use Rattle.rc_parser.specs.View.{part}
+use Rattle.rc_parser.specs.Outcome.{OnFault}
+use Rattle.rc_parser.specs.declared.reader.Fault.{Fault}
+use Rattle.rc_parser.specs.declared.reader.Fault.TheVariants.{Syntax}
+use Rattle.rc_pattern.specs.Meaning.{meaning}
+use Rattle.rc_parser.proofs.StandLemmas.{well_formed}
+use Rattle.rc_parser.proofs.ReadLemmas.{reads_from_has, nothing_read}
+use Rattle.rc_parser.proofs.reader.parse.Goals as goal
+
+of_fault : (e : Fault) (left : ℕ) (P : Type 0) → e ≡ Syntax left → OnFault e P → P
+of_fault e left P is h = let at : OnFault (Syntax left) P = subst (λ x. OnFault x P) is h in at
+
+pub returns-in-Ok-read-clause-reads : goal.returns-in-Ok-read-clause-reads
+returns-in-Ok-read-clause-reads c = reads_from_has (settings_of c.args.config.now) (chars c.args.text.now) (part c.in-Ok-read.whole)
+    (subst (λ t. Has (settings_of c.args.config.now) (fresh (settings_of c.args.config.now)) t (part c.in-Ok-read.whole))
+    (c.deref.ensures.value ∙ c.in-Ok.ensures) c.in-Ok-read.ensures.reads)
+
+pub returns-in-Ok-read-clause-well_formed : goal.returns-in-Ok-read-clause-well_formed
+returns-in-Ok-read-clause-well_formed c = well_formed (settings_of c.args.config.now) (chars c.args.text.now) (meaning c.in-Ok-read.whole.hir) c.in-Ok-read.ensures.terminator
+    (reads_from_has (settings_of c.args.config.now) (chars c.args.text.now) (part c.in-Ok-read.whole)
+    (subst (λ t. Has (settings_of c.args.config.now) (fresh (settings_of c.args.config.now)) t (part c.in-Ok-read.whole))
+    (c.deref.ensures.value ∙ c.in-Ok.ensures) c.in-Ok-read.ensures.reads))
+
+pub returns-clause-reads : goal.returns-clause-reads
+returns-clause-reads c = (
+  c.byte_before-at.ensures,
+  nothing_read (settings_of c.args.config.now) (chars c.args.text.now)
+      (subst (λ t. (p : Part) → Has (settings_of c.args.config.now) (fresh (settings_of c.args.config.now)) t p → ⊥)
+      (c.deref.ensures.value ∙ c.in-Ok.ensures)
+      (of_fault c.in-Err-Syntax.field-0 c.in-Err-Syntax.left ((p : Part) → Has (settings_of c.args.config.now) (fresh (settings_of c.args.config.now)) c.deref.result.now p → ⊥)
+      c.in-Err-Syntax.field-0-is c.in-Err-Syntax.ensures.reads)),
+)

@@ -1,0 +1,204 @@
+//! The settings of a reader of patterns.
+
+ghost use Rattle.std.specs.Prelude.{◌≡◌, min};
+ghost use Rattle.rc_parser.specs.Settings.{settings_of, default_settings, first_flags};
+ghost use Rattle.rc_parser.specs.Pieces.{depth_limit};
+
+use crate::flags::Flags;
+
+/// The settings of a reader of patterns.
+#[derive(Clone, Copy, Debug, PartialEq, Eq)]
+pub struct Config {
+    unicode: bool,
+    utf8: bool,
+    case_insensitive: bool,
+    multi_line: bool,
+    dot_matches_new_line: bool,
+    crlf: bool,
+    line_terminator: u8,
+    swap_greed: bool,
+    nest_limit: u32,
+}
+
+impl Config {
+    /// `unicode` and `utf8` are on, all other flags are off, the line terminator is LF, and the nest limit is 250.
+    pub fn new() -> Config
+        ensures { settings_of result ≡ default_settings }
+    {
+        Config {
+            unicode: true,
+            utf8: true,
+            case_insensitive: false,
+            multi_line: false,
+            dot_matches_new_line: false,
+            crlf: false,
+            line_terminator: 10,
+            swap_greed: false,
+            nest_limit: 250,
+        }
+    }
+
+    /// A scalar where it is on, a byte where it is off: what classes and dots hold, and how word assertions look. It is the flag `u` at the start.
+    pub fn unicode(self, unicode: bool) -> Config
+        ensures { settings_of result ≡ record (settings_of self) { unicode = unicode } }
+    {
+        Config { unicode, ..self }
+    }
+
+    /// Whether a pattern that can match what is no UTF-8 is refused.
+    pub fn utf8(self, utf8: bool) -> Config
+        ensures { settings_of result ≡ record (settings_of self) { utf8 = utf8 } }
+    {
+        Config { utf8, ..self }
+    }
+
+    /// The flag `i` at the start.
+    pub fn case_insensitive(self, case_insensitive: bool) -> Config
+        ensures { settings_of result ≡ record (settings_of self) { case_insensitive = case_insensitive } }
+    {
+        Config {
+            case_insensitive,
+            ..self
+        }
+    }
+
+    /// The flag `m` at the start.
+    pub fn multi_line(self, multi_line: bool) -> Config
+        ensures { settings_of result ≡ record (settings_of self) { multi_line = multi_line } }
+    {
+        Config { multi_line, ..self }
+    }
+
+    /// The flag `s` at the start.
+    pub fn dot_matches_new_line(self, dot_matches_new_line: bool) -> Config
+        ensures { settings_of result ≡ record (settings_of self) { dot_matches_new_line = dot_matches_new_line } }
+    {
+        Config {
+            dot_matches_new_line,
+            ..self
+        }
+    }
+
+    /// The flag `R` at the start.
+    pub fn crlf(self, crlf: bool) -> Config
+        ensures { settings_of result ≡ record (settings_of self) { crlf = crlf } }
+    {
+        Config { crlf, ..self }
+    }
+
+    /// The byte that the dot leaves out.
+    pub fn line_terminator(self, line_terminator: u8) -> Config
+        ensures { settings_of result ≡ record (settings_of self) { line_terminator = line_terminator } }
+    {
+        Config {
+            line_terminator,
+            ..self
+        }
+    }
+
+    /// The flag `U` at the start.
+    pub fn swap_greed(self, swap_greed: bool) -> Config
+        ensures { settings_of result ≡ record (settings_of self) { swap_greed = swap_greed } }
+    {
+        Config { swap_greed, ..self }
+    }
+
+    /// How deep a pattern may be nested. More than 250 is read as 250.
+    pub fn nest_limit(self, nest_limit: u32) -> Config
+        ensures { settings_of result ≡ record (settings_of self) { nest_limit = nest_limit } }
+    {
+        Config { nest_limit, ..self }
+    }
+
+    /// The setting `unicode`.
+    pub fn get_unicode(&self) -> bool
+        ensures { result ≡ (settings_of self.now).unicode }
+    {
+        self.unicode
+    }
+
+    /// The setting `utf8`.
+    pub fn get_utf8(&self) -> bool
+        ensures { result ≡ (settings_of self.now).utf8 }
+    {
+        self.utf8
+    }
+
+    /// The setting `case_insensitive`.
+    pub fn get_case_insensitive(&self) -> bool
+        ensures { result ≡ (settings_of self.now).case_insensitive }
+    {
+        self.case_insensitive
+    }
+
+    /// The setting `multi_line`.
+    pub fn get_multi_line(&self) -> bool
+        ensures { result ≡ (settings_of self.now).multi_line }
+    {
+        self.multi_line
+    }
+
+    /// The setting `dot_matches_new_line`.
+    pub fn get_dot_matches_new_line(&self) -> bool
+        ensures { result ≡ (settings_of self.now).dot_matches_new_line }
+    {
+        self.dot_matches_new_line
+    }
+
+    /// The setting `crlf`.
+    pub fn get_crlf(&self) -> bool
+        ensures { result ≡ (settings_of self.now).crlf }
+    {
+        self.crlf
+    }
+
+    /// The setting `line_terminator`.
+    pub fn get_line_terminator(&self) -> u8
+        ensures { result ≡ (settings_of self.now).line_terminator }
+    {
+        self.line_terminator
+    }
+
+    /// The setting `swap_greed`.
+    pub fn get_swap_greed(&self) -> bool
+        ensures { result ≡ (settings_of self.now).swap_greed }
+    {
+        self.swap_greed
+    }
+
+    /// The setting `nest_limit`.
+    pub fn get_nest_limit(&self) -> u32
+        ensures { result ≡ (settings_of self.now).nest_limit }
+    {
+        self.nest_limit
+    }
+
+    /// The flags with which a pattern begins.
+    pub(crate) fn flags(&self) -> Flags
+        ensures { result ≡ first_flags (settings_of self.now) }
+    {
+        Flags {
+            case_insensitive: self.get_case_insensitive(),
+            multi_line: self.get_multi_line(),
+            dot_matches_new_line: self.get_dot_matches_new_line(),
+            crlf: self.get_crlf(),
+            swap_greed: self.get_swap_greed(),
+            unicode: self.get_unicode(),
+        }
+    }
+
+    /// How deep a pattern may be nested.
+    pub(crate) fn depth_limit(&self) -> u32
+        ensures { result ≡ depth_limit (settings_of self.now) }
+    {
+        self.get_nest_limit().min(250)
+    }
+}
+
+impl Default for Config {
+    ghost is_default = { λ c. settings_of c ≡ default_settings };
+
+    fn default() -> Config {
+        Config::new()
+    }
+}

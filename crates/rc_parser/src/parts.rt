@@ -1,0 +1,94 @@
+//! Patterns that have been read, and how deep they are nested.
+
+ghost use Rattle.std.specs.Prelude.{◌≡◌, ◌⊎◌, ◌+◌, ◌<◌, None, Some, [], option_map, MatchResult, OnOk, IfOk};
+ghost use Rattle.rc_pattern.specs.Meaning.{meaning, concat_of, alternation_of};
+ghost use Rattle.rc_tokens.specs.View.{Gives};
+ghost use Rattle.rc_parser.specs.Settings.{settings_of};
+ghost use Rattle.rc_parser.specs.Pieces.{deeper};
+ghost use Rattle.rc_parser.specs.Grammar.{join, with_part, no_parts};
+
+use crate::config::Config;
+use rc_pattern::hir::Hir;
+use rc_tokens::refusal::Refusal;
+use std::alloc::Global;
+
+/// A pattern, and how deep it is nested.
+#[derive(Drop)]
+pub struct Nested {
+    pub hir: Hir,
+    pub depth: u32,
+}
+
+/// Patterns, and how deep the deepest is nested.
+#[derive(Drop)]
+pub struct Parts {
+    pub hirs: Vec<Hir>,
+    pub deepest: u32,
+}
+
+ghost use Rattle.rc_parser.specs.View.{part, parts};
+
+/// One level more, within the limit.
+pub fn one_deeper(config: Config, hir: Hir, depth: u32) -> Option<Nested>
+    ensures { option_map part result ≡ deeper (settings_of config) (meaning hir) depth }
+{
+    if depth < config.depth_limit() {
+        return Some(Nested {
+            hir,
+            depth: depth + 1,
+        });
+    }
+    None
+}
+
+impl Parts {
+    pub fn new(alloc: Global) -> Parts
+        ensures { parts result ≡ no_parts }
+    {
+        Parts {
+            hirs: Vec::new(alloc),
+            deepest: 0,
+        }
+    }
+
+    pub fn push(&mut self, added: Nested) -> Result<(), Refusal>
+        ensures { MatchResult result (λ _. parts self.new ≡ with_part (part added) (parts self.old)) (λ e. e ≡ Refusal.Memory) }
+    {
+        let Nested { hir, depth } = added;
+        self.hirs.push(hir)?;
+        self.deepest = self.deepest.max(depth);
+        Ok(())
+    }
+
+    /// The parts one after another.
+    pub fn join_concat(self, alloc: Global, config: Config) -> Result<Nested, Refusal>
+        ensures { Gives result (join (settings_of config) concat_of (parts self)) part }
+    {
+        let Parts { hirs, deepest } = self;
+        let count = hirs.len();
+        let hir = Hir::concat(alloc, hirs)?;
+        if count <= 1 {
+            return Ok(Nested {
+                hir,
+                depth: deepest,
+            });
+        }
+        one_deeper(config, hir, deepest).ok_or(Refusal::Syntax)
+    }
+
+    /// One of the parts.
+    pub fn join_alternation(self, alloc: Global, config: Config) -> Result<Nested, Refusal>
+        ensures { Gives result (join (settings_of config) alternation_of (parts self)) part }
+    {
+        let Parts { hirs, deepest } = self;
+        let count = hirs.len();
+        let hir = Hir::alternation(alloc, hirs)?;
+        if count <= 1 {
+            return Ok(Nested {
+                hir,
+                depth: deepest,
+            });
+        }
+        one_deeper(config, hir, deepest).ok_or(Refusal::Syntax)
+    }
+}

@@ -1,0 +1,48 @@
+-- A search is that of an input whose shown chunk and position alone have changed.
+use Rattle.std.proofs.Common.{◌≡◌, ℕ, ◌+◌, ◌≤◌, List, refl, sym, ◌∙◌, arith, inl, inr, ⊎_elim}
+use Rattle.rc_text.specs.Text.{Searched, Keeps}
+use Rattle.rc_compile.specs.declared.place.Place as code
+use Rattle.rc_pass.specs.Moves.{seen}
+use Rattle.rc_pass.specs.Windows.{IsWindow, IsBegun, IsAround}
+use Rattle.rc_pass.specs.declared.window.Window.{Window}
+
+pub kept_seen : (ps : List code.Place) (terminator : ℕ) (a b : Searched) → Keeps a b → seen ps terminator b ≡ seen ps terminator a
+kept_seen ps terminator a b k = rw (k.content, k.span, k.slice, k.anchored) refl
+
+pub kept_back : (a b : Searched) → Keeps a b → Keeps b a
+kept_back a b k = record {
+  content = sym k.content;
+  span = sym k.span;
+  slice = sym k.slice;
+  anchored = sym k.anchored;
+  earliest = sym k.earliest;
+}
+
+pub kept_then : (a b c : Searched) → Keeps a b → Keeps b c → Keeps a c
+kept_then a b c k l = record {
+  content = l.content ∙ k.content;
+  span = l.span ∙ k.span;
+  slice = l.slice ∙ k.slice;
+  anchored = l.anchored ∙ k.anchored;
+  earliest = l.earliest ∙ k.earliest;
+}
+
+-- a window over the one is a window over the other
+pub kept_window : (a b : Searched) (w : Window) → Keeps a b → IsWindow a w → IsWindow b w
+kept_window a b w k x = record {
+  low = rw k.slice x.low;
+  bytes = rw k.content x.bytes;
+  end = rw (k.slice, k.content) x.end;
+}
+
+pub kept_begun : (a b : Searched) (at : ℕ) (w : Window) → Keeps a b → IsBegun a at w → IsBegun b at w
+kept_begun a b at w k x = record { below = x.below; four = rw k.slice x.four }
+
+pub kept_around : (a b : Searched) (at : ℕ) (w : Window) → Keeps a b → IsAround a at w → IsAround b at w
+kept_around a b at w k x = record { above = x.above; four = rw (k.slice, k.content) x.four }
+
+pub begun_later : (s : Searched) (at : ℕ) (w : Window) → IsBegun s at w → IsBegun s (at + 1) w
+begun_later s at w x = record { below = omega (arith, x.below); four = ⊎_elim (λ e. inl e) (λ l. inr (omega (arith, l))) x.four }
+
+pub begun_from : (s : Searched) (at x : ℕ) (w : Window) → at ≤ x → IsBegun s at w → IsBegun s x w
+begun_from s at x w low b = record { below = omega (arith, low, b.below); four = ⊎_elim (λ e. inl e) (λ l. inr (omega (arith, l, low))) b.four }

@@ -1,0 +1,7 @@
+use Rattle.rc_pass.proofs.pass.advance.Given as goal
+
+abbrev pub ghost-step : goal.ghost-step
+ghost-step g a = g.text
+
+abbrev pub ghost-close : goal.ghost-close
+ghost-close g a = g.text

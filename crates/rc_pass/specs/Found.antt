@@ -1,0 +1,16 @@
+-- What a search has found.
+use Rattle.std.specs.Prelude.{◌≡◌, ℕ, ◌<◌, List, length, Option, Some, None, MatchOption, slice_index_or}
+use Rattle.rc_program.specs.Answer.{Search, Chosen, chosen, pattern_of, last_of, last_visit}
+use Rattle.rc_pass.specs.declared.pass.Ending.{Ending}
+
+-- the chosen walk, of which the slots alone are told that stand in groups
+pub record IsChosen (s : Search) (e : Ending) (slots : List (Option ℕ)) (c : Chosen) : Type 0 where
+  pub is_chosen : chosen s ≡ Some c
+  pub pattern : e.pattern ≡ pattern_of s c
+  pub start : e.start ≡ c.start
+  pub end : e.end ≡ (last_of c.walk).1
+  pub visits : (k : ℕ) → k < length slots → slice_index_or slots k None ≡ last_visit s.places k c.walk
+
+-- the result is what the search chooses
+abbrev pub IsResult : Search → Option Ending → List (Option ℕ) → Type 0
+IsResult s result slots = MatchOption result (chosen s ≡ None) (λ e. (c : Chosen) × IsChosen s e slots c)

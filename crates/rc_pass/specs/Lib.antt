@@ -1,0 +1,12 @@
+pub mod Sparse
+pub mod Threads
+pub mod Trace
+pub mod Moves
+pub mod Passing
+pub mod Found
+pub mod Caches
+pub mod Windows
+pub mod Near
+pub mod Runnable
+pub mod Spread
+pub mod KindSlots

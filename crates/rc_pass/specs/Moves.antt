@@ -1,0 +1,36 @@
+-- How a thread goes on from a place that it enters.
+use Rattle.std.specs.Prelude.{◌≡◌, ℕ, ◌+◌, ◌<◌, ◌≤◌, List, [], ◌∷◌, false, IsTrue, Option}
+use Rattle.rc_text.specs.Text.{Searched, high}
+use Rattle.rc_walks.specs.Walks.{Pair}
+use Rattle.rc_program.specs.Program.{slot, accept, place_at}
+use Rattle.rc_program.specs.Answer.{Search, only, ends, next_of}
+use Rattle.rc_program.specs.Sought.{anchoring_of, search_over, IsRunnable}
+use Rattle.rc_compile.specs.Places.{places_of}
+use Rattle.rc_compile.specs.declared.place.Place as code
+use Rattle.rc_pass.specs.Trace.{Trace, note}
+use Rattle.rc_pass.specs.declared.moves.Move.{Move}
+use Rattle.rc_pass.specs.declared.moves.Move.TheVariants.{Fork, Save, Matches, Stays, Reads, Stops}
+
+-- the search of which a pass sees all but the starts and what is passed over
+abbrev pub seen : List code.Place → ℕ → Searched → Search
+seen ps terminator input = search_over (places_of ps) terminator false input
+
+-- the program may be run, and the bound and the allowed pattern are those of the input
+pub record IsSetting (ps : List code.Place) (hi : ℕ) (pattern : Option ℕ) (input : Searched) : Type 0 where
+  pub runnable : IsRunnable (places_of ps)
+  pub bound : hi ≡ high input
+  pub allowed : pattern ≡ only (anchoring_of input.anchored)
+
+-- nothing is noted there, and no walk ends
+pub record IsPlain (s : Search) (n : Pair) : Type 0 where
+  pub silent : (h : Trace) → note s.places h n ≡ h
+  pub on : ends s n ≡ false
+
+-- the move is the one that the pair has
+abbrev pub IsMove : Search → Pair → Move → Type 0
+IsMove s n (Fork a b) = (next_of s n ≡ (a, n.1) ∷ (b, n.1) ∷ []) × IsPlain s n
+IsMove s n (Save k m) = place_at s.places n.0 ≡ slot k m
+IsMove s n (Matches p) = (place_at s.places n.0 ≡ accept p) × IsTrue (ends s n)
+IsMove s n (Stays m) = (next_of s n ≡ (m, n.1) ∷ []) × IsPlain s n
+IsMove s n (Reads m to) = (next_of s n ≡ (m, to) ∷ []) × IsPlain s n × (n.1 < to) × (to ≤ n.1 + 4) × (to ≤ s.hi)
+IsMove s n Stops = (next_of s n ≡ []) × (ends s n ≡ false)

@@ -1,0 +1,146 @@
+//! How a thread goes on from a place.
+ghost use Rattle.std.specs.Prelude.{◌≡◌, ◌<◌, ◌≤◌, length, slice_get, take, map};
+ghost use Rattle.rc_pattern.specs.Meaning.{byte_range, char_range};
+ghost use Rattle.rc_text.specs.Text.{Searched};
+ghost use Rattle.rc_pass.specs.Near.{IsNear};
+ghost use Rattle.rc_program.specs.Program.{in_ranges, is_match_place, accept};
+ghost use Rattle.rc_program.specs.Scalars.{scalar_at};
+ghost use Rattle.rc_pass.specs.Moves.{IsMove, IsSetting, seen};
+
+use rc_compile::place::Place;
+use rc_pattern::hir::{ClassBytesRange, ClassUnicodeRange, Look};
+use rc_program::look::{holds, scalar_at};
+
+/// How a thread goes on from a place that it enters.
+#[derive(Clone, Copy)]
+pub enum Move {
+    /// At either of two places, the first preferred.
+    Fork(usize, usize),
+    /// At a place, with the position in a slot: the slot, and the place.
+    Save(usize, usize),
+    /// Not at all: a walk of this pattern ends.
+    Matches(usize),
+    /// At a place.
+    Stays(usize),
+    /// At a place, once the position is a later one: the place, and the position in bytes.
+    Reads(usize, usize),
+    /// Not at all.
+    Stops,
+}
+
+/// How a thread goes on from a place that it enters at the byte `at`, where no walk goes past `hi`
+/// and, where `pattern` is Some, that pattern's walks alone count. `before` and `after` are the bytes
+/// on the two sides of `at`: four at least, or all that the slice has.
+pub fn look_up(
+    places: &[Place],
+    terminator: u8,
+    hi: usize,
+    pattern: Option<usize>,
+    place: usize,
+    at: usize,
+    before: &[u8],
+    after: &[u8],
+) -> Move
+    ghost text: { Searched }
+    requires setting { IsSetting places.now hi pattern text }
+    requires place_in { place < length places.now }
+    requires near { IsNear (seen places.now terminator text) at before.now after.now }
+    ensures { IsMove (seen places.now terminator text) (place, at) result }
+{
+    match &places[place] {
+        Place::Choice(first, second) => Move::Fork(*first, *second),
+        Place::Pass(next) => Move::Stays(*next),
+        Place::Dead => Move::Stops,
+        Place::Byte(byte, next) => {
+            let Some(found) = next_byte(after, hi - at) else {
+                return Move::Stops;
+            };
+            if found != *byte {
+                return Move::Stops;
+            }
+            Move::Reads(*next, at + 1)
+        }
+        Place::Bytes(ranges, next) => {
+            let Some(found) = next_byte(after, hi - at) else {
+                return Move::Stops;
+            };
+            if !has_byte(ranges, found) {
+                return Move::Stops;
+            }
+            Move::Reads(*next, at + 1)
+        }
+        Place::Scalar(ranges, next) => {
+            let Some((c, count)) = next_scalar(after, hi - at) else {
+                return Move::Stops;
+            };
+            if !has_char(ranges, c) {
+                return Move::Stops;
+            }
+            Move::Reads(*next, at + count)
+        }
+        Place::Guard(look, next) => {
+            if !holds(*look, terminator, before, after) {
+                return Move::Stops;
+            }
+            Move::Stays(*next)
+        }
+        Place::Slot(slot, next) => Move::Save(*slot, *next),
+        Place::Accept(number) => {
+            if is_allowed(pattern, *number) {
+                return Move::Matches(*number);
+            }
+            Move::Stops
+        }
+    }
+}
+
+/// Whether walks of the pattern count.
+fn is_allowed(pattern: Option<usize>, number: usize) -> bool
+    ensures { result ≡ is_match_place pattern (accept number) }
+{
+    match pattern {
+        None => true,
+        Some(only) => number == only,
+    }
+}
+
+/// Whether one of the ranges has the byte.
+fn has_byte(ranges: &Vec<ClassBytesRange>, byte: u8) -> bool
+    ensures { result ≡ in_ranges (map byte_range ranges.now.items) byte }
+{
+    for range in ranges {
+        if range.start <= byte && byte <= range.end {
+            return true;
+        }
+    }
+    false
+}
+
+/// Whether one of the ranges has the character.
+fn has_char(ranges: &Vec<ClassUnicodeRange>, c: char) -> bool
+    ensures { result ≡ in_ranges (map char_range ranges.now.items) c }
+{
+    for range in ranges {
+        if range.start <= c && c <= range.end {
+            return true;
+        }
+    }
+    false
+}
+
+/// The first of the bytes, where one of the first `room` stands there.
+fn next_byte(after: &[u8], room: usize) -> Option<u8>
+    ensures { result ≡ slice_get (take room after.now) 0 }
+{
+    if room == 0 || after.is_empty() {
+        return None;
+    }
+    Some(after[0])
+}
+
+/// The scalar that begins the first `room` of the bytes, and how many it takes.
+fn next_scalar(after: &[u8], room: usize) -> Option<(char, usize)>
+    ensures { result ≡ scalar_at (take room after.now) }
+{
+    scalar_at(&after[..after.len().min(room)])
+}

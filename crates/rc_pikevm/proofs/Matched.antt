@@ -1,0 +1,87 @@
+-- The match that captures tell is that of the search.
+use Rattle.std.proofs.Common.{◌≡◌, ◌∙◌, ℕ, ◌+◌, ◌*◌, ◌<◌, List, inl, inr, ⊎_elim, length, MatchOption, Option, Some, None, ap, refl, replicate, subst, sym, arith, eq-eqb}
+use Rattle.std.proofs.lemmas.Bool.{ne_eqb}
+use Rattle.std.proofs.lemmas.List.{length-replicate}
+use Rattle.std.specs.Option.{option_and_then, option_map}
+use Rattle.rc_text.specs.Found.{Found}
+use Rattle.rc_text.specs.declared.types.MatchKind.{MatchKind}
+use Rattle.rc_text.specs.declared.types.MatchKind.TheVariants.{All as all_matches, LeftmostFirst as leftmost_first}
+use Rattle.rc_pattern.specs.Re.{Re}
+use Rattle.rc_captures.specs.Names.{Names}
+use Rattle.rc_captures.specs.Captures.{IsCapturesFor, captures_names, captures_slots, group_span, match_at, match_of}
+use Rattle.rc_captures.specs.declared.captures.Captures.{Captures}
+use Rattle.rc_captures.proofs.CapturesLaws.{match-whole}
+use Rattle.rc_pass.specs.KindSlots.{slots_by}
+use Rattle.rc_program.specs.Program.{accept, place_at, program}
+use Rattle.rc_program.specs.Greatest.{IsSpelledIn, greatest}
+use Rattle.rc_program.specs.Kinds.{answer_by}
+use Rattle.rc_program.proofs.PlaceLemmas.{accept_below}
+use Rattle.rc_program.proofs.GreatestLemmas.{spelled_within}
+use Rattle.rc_program.proofs.KindLemmas.{kind_spelled}
+use Rattle.rc_program.specs.Answer.{Search, Chosen, chosen, answer, found, last_of, pattern_of, slot_of}
+use Rattle.rc_program.proofs.AnswerLemmas.{chosen_law, chosen_within, chosen_pattern}
+use Rattle.rc_engine.specs.Tells.{Tells, TellsOf, TellsSpan, TellsBy, span_slot}
+
+start_slot : (s : Search) (c : Chosen) → slot_of s c (2 * pattern_of s c) ≡ Some c.start
+start_slot s c = rw (eq-eqb (2 * pattern_of s c) (2 * pattern_of s c) refl) refl
+
+end_slot : (s : Search) (c : Chosen) → slot_of s c (2 * pattern_of s c + 1) ≡ Some (last_of c.walk).1
+end_slot s c =
+    rw (ne_eqb (2 * pattern_of s c + 1) (2 * pattern_of s c) (λ x. omega (arith, x))) (rw (eq-eqb (2 * pattern_of s c + 1) (2 * pattern_of s c + 1) refl) refl)
+
+match_told : (hs : List Re) (s : Search) (names : Names) (caps : Captures) (o : Option Chosen) → s.places ≡ program hs → length names ≡ length hs →
+    IsCapturesFor names caps → chosen s ≡ o → TellsOf s o caps → match_of caps ≡ option_map (found s) o
+match_told hs s names caps None placed named made e told = ap (λ p. option_and_then (λ q. option_and_then (match_at q) (group_span caps 0)) p) told
+match_told hs s names caps (Some c) placed named made e told =
+    let a = (chosen_law s c).0 e in
+    let p = chosen_pattern hs s c placed a in
+    let w = chosen_within s c a in
+    match-whole names caps (pattern_of s c) (slot_of s c) c.start (last_of c.walk).1 made told (omega (arith, p, named)) (start_slot s c) (end_slot s c) w.1
+
+tells_match : (hs : List Re) (s : Search) (names : Names) (caps : Captures) → s.places ≡ program hs → length names ≡ length hs →
+    IsCapturesFor names caps → Tells s caps → match_of caps ≡ answer s
+unfolding answer
+tells_match hs s names caps placed named made told = match_told hs s names caps (chosen s) placed named made refl told
+
+-- a match that is spelled is of one of the patterns
+spelled_pattern : (hs : List Re) (s : Search) (m : Found) → s.places ≡ program hs → IsSpelledIn s m → m.pattern < length hs
+spelled_pattern hs s m placed h =
+    accept_below hs (last_of h.walk).0 m.pattern (subst (λ places. place_at places (last_of h.walk).0 ≡ accept m.pattern) placed h.pattern)
+
+span_start : (m : Found) → span_slot m (2 * m.pattern) ≡ Some m.start
+span_start m = rw (eq-eqb (2 * m.pattern) (2 * m.pattern) refl) refl
+
+span_end : (m : Found) → span_slot m (2 * m.pattern + 1) ≡ Some m.end
+span_end m =
+    rw (ne_eqb (2 * m.pattern + 1) (2 * m.pattern) (λ x. omega (arith, x))) (rw (eq-eqb (2 * m.pattern + 1) (2 * m.pattern + 1) refl) refl)
+
+greatest_told : (hs : List Re) (s : Search) (names : Names) (caps : Captures) (o : Option Found) → s.places ≡ program hs → length names ≡ length hs →
+    IsCapturesFor names caps → greatest s ≡ o → TellsSpan o caps → match_of caps ≡ o
+greatest_told hs s names caps None placed named made e told = ap (λ p. option_and_then (λ q. option_and_then (match_at q) (group_span caps 0)) p) told
+greatest_told hs s names caps (Some m) placed named made e told =
+    let h = kind_spelled all_matches s m e in
+    let p = spelled_pattern hs s m placed h in
+    let w = spelled_within s m h in
+    match-whole names caps m.pattern (span_slot m) m.start m.end made told (omega (arith, p, named)) (span_start m) (span_end m) w.1
+
+-- the match that captures tell is that of the kind
+pub tells_match_by : (kind : MatchKind) (hs : List Re) (s : Search) (names : Names) (caps : Captures) → s.places ≡ program hs →
+    length names ≡ length hs → IsCapturesFor names caps → TellsBy kind s caps → match_of caps ≡ answer_by kind s
+tells_match_by leftmost_first hs s names caps placed named made told = tells_match hs s names caps placed named made told
+tells_match_by all_matches hs s names caps placed named made told = greatest_told hs s names caps (greatest s) placed named made refl told
+
+-- captures with as many slots of the same patterns are captures of the patterns
+pub still_for : (names : Names) (old new : Captures) → IsCapturesFor names old → captures_names new ≡ captures_names old →
+    length (captures_slots new) ≡ length (captures_slots old) → IsCapturesFor names new
+still_for names old new made same long =
+    record { named = same ∙ made.named; sized = ⊎_elim (λ e. inl (long ∙ e)) (λ e. inr (long ∙ e)) made.sized }
+
+-- what captures keep, whose slots were empty before a search wrote them
+pub kept_slots : (kind : MatchKind) (s : Search) (n : ℕ) (p told : Option ℕ) (kept written before : List (Option ℕ)) → p ≡ told → kept ≡ written →
+    before ≡ replicate n None → MatchOption told (written ≡ before) (λ _. Some written ≡ slots_by kind s (length before)) →
+    MatchOption p (kept ≡ replicate n None) (λ _. Some kept ≡ slots_by kind s n)
+kept_slots kind s n p None kept written before is same empty h =
+    subst (λ o. MatchOption o (kept ≡ replicate n None) (λ _. Some kept ≡ slots_by kind s n)) (sym is) (same ∙ h ∙ empty)
+kept_slots kind s n p (Some _) kept written before is same empty h =
+    subst (λ o. MatchOption o (kept ≡ replicate n None) (λ _. Some kept ≡ slots_by kind s n)) (sym is)
+    (ap (λ xs. Some xs) same ∙ h ∙ ap (λ xs. slots_by kind s (length xs)) empty ∙ ap (slots_by kind s) (length-replicate n None))

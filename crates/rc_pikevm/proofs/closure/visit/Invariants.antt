@@ -1,4 +1,0 @@
-use Rattle.rc_pikevm.proofs.closure.visit.Given as goal
-
-abbrev pub ghost-look_up : goal.ghost-look_up
-ghost-look_up g a = g.text

@@ -1,0 +1,12 @@
+use Rattle.std.proofs.Common.{◌∙◌, sym, rules}
+use Rattle.rc_pikevm.proofs.Left.{engine_none, engine_some}
+use Rattle.rc_pikevm.proofs.search.next_match.Goals as goal
+
+pub returns-in_default-clause-left : goal.returns-in_default-clause-left
+returns-in_default-clause-left g c =
+    engine_none c.args.vm.now.fits c.args.input.now c.args.last (sym c.in_default.is ∙ c.next_match.ensures.found)
+
+pub returns-clause-left : goal.returns-clause-left
+returns-clause-left g c =
+    engine_some c.args.vm.now.fits c.args.input.now c.set_start.new.self c.args.last c.in-Some.found (search rules)
+    (c.set_start.ensures.start ∙ c.end.ensures.value) (sym c.in-Some.is ∙ c.next_match.ensures.found)

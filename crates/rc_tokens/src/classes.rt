@@ -1,0 +1,284 @@
+//! Sets of characters and of bytes, as ranges.
+
+ghost use Rattle.std.specs.Prelude.{◌≡◌, ◌+◌, ◌-◌, ◌<◌, ◌≤◌, ◌++◌, ◌∷◌, [], List, ℕ, Some, None, map, max, min, true, false, nat_lt, IfOk, OnOk, option_map};
+ghost use Rattle.rc_pattern.specs.Re.{Range};
+ghost use Rattle.rc_tokens.specs.ClassView.{pair, pairs};
+ghost use Rattle.rc_tokens.specs.Classes.{next, before, joins, canonical, shared, lower, upper, folded, gaps, folded_if, negated_if, class_of, last_code, is_code, has_high};
+ghost use Rattle.rc_tokens.specs.Merged.{is_range, are_ranges, merged};
+ghost use Rattle.std.specs.List.Sorted.{IsPermutation, IsNonDecreasingBy};
+
+use std::alloc::{AllocError, Global};
+
+/// Codes of characters or of bytes, both ends included.
+#[derive(Clone, Copy, Debug, PartialEq, Eq)]
+pub struct CodeRange {
+    pub start: u32,
+    pub end: u32,
+}
+
+/// The code after, which after U+D7FF is U+E000 among characters.
+fn next(unicode: bool, code: u32) -> u64
+    ensures { result ≡ next unicode code }
+{
+    if unicode && code == 0xD7FF {
+        return 0xE000;
+    }
+    code as u64 + 1
+}
+
+/// The code before, which before U+E000 is U+D7FF among characters.
+fn before(unicode: bool, code: u32) -> u32
+    ensures { result ≡ before unicode code }
+{
+    if unicode && code == 0xE000 {
+        return 0xD7FF;
+    }
+    code.saturating_sub(1)
+}
+
+/// Whether a code is left out between the two.
+fn is_apart(unicode: bool, low: u32, high: u32) -> bool
+    ensures { result ≡ nat_lt (next unicode low) high }
+{
+    next(unicode, low) < high as u64
+}
+
+pub(crate) fn push(ranges: &mut Vec<CodeRange>, start: u32, end: u32) -> Result<(), AllocError>
+    ensures { OnOk result (pairs ranges.new.items ≡ pairs ranges.old.items ++ (start, end) ∷ []) }
+{
+    ranges.push(CodeRange { start, end })?;
+    Ok(())
+}
+
+pub(crate) fn append(ranges: &mut Vec<CodeRange>, more: &[CodeRange]) -> Result<(), AllocError>
+    ensures { OnOk result (pairs ranges.new.items ≡ pairs ranges.old.items ++ pairs more.now) }
+{
+    for range in more {
+        ranges.push(*range)?;
+    }
+    Ok(())
+}
+
+/// Adds a range to ranges in order, and joins it with those that it touches.
+#[tactic(auto, using(crate::proofs::ClassSteps::joins_before, crate::proofs::ClassSteps::joins_after, crate::proofs::ClassSteps::joins_touch, crate::proofs::ClassSteps::joins_end))]
+fn joined(
+    alloc: Global,
+    unicode: bool,
+    range: CodeRange,
+    ranges: &[CodeRange],
+) -> Result<Vec<CodeRange>, AllocError>
+    ensures { IfOk result (λ v. pairs v.items ≡ joins unicode (pair range) (pairs ranges.now)) }
+{
+    let mut all = Vec::new(alloc);
+    let mut current = range;
+    for i in 0..ranges.len() {
+        let other = ranges[i];
+        if is_apart(unicode, current.end, other.start) {
+            push(&mut all, current.start, current.end)?;
+            append(&mut all, &ranges[i..])?;
+            return Ok(all);
+        }
+        if is_apart(unicode, other.end, current.start) {
+            push(&mut all, other.start, other.end)?;
+        } else {
+            let start = current.start.min(other.start);
+            let end = current.end.max(other.end);
+            current = CodeRange { start, end };
+        }
+    }
+    push(&mut all, current.start, current.end)?;
+    Ok(all)
+}
+
+/// The ranges in order, and joined where they touch: put in one by one, in steps as many as the square of their
+/// count. Where a range ends before it begins, or at a surrogate, the order in which they are given matters, so that
+/// they can't be sorted first. No list has such a range.
+#[tactic(auto, using(crate::proofs::ClassSteps::canonical_start, crate::proofs::ClassSteps::canonical_step))]
+fn inserted(
+    alloc: Global,
+    unicode: bool,
+    ranges: &[CodeRange],
+) -> Result<Vec<CodeRange>, AllocError>
+    ensures { IfOk result (λ v. pairs v.items ≡ canonical unicode (pairs ranges.now)) }
+{
+    let mut all = Vec::new(alloc);
+    let mut left = ranges.len();
+    while left > 0 {
+        left -= 1;
+        all = joined(alloc, unicode, ranges[left], &all)?;
+    }
+    Ok(all)
+}
+
+/// Whether the number is the code of a character, or of a byte.
+fn is_code(unicode: bool, code: u32) -> bool
+    ensures { result ≡ is_code unicode code }
+{
+    if unicode {
+        return code < 0xD800 || (0xE000 <= code && code < 0x11_0000);
+    }
+    code < 256
+}
+
+/// Whether both ends are codes, and it ends where it begins or later.
+fn is_range(unicode: bool, range: CodeRange) -> bool
+    ensures { result ≡ is_range unicode (pair range) }
+{
+    is_code(unicode, range.start) && is_code(unicode, range.end) && range.start <= range.end
+}
+
+/// Whether each is a range of codes.
+fn are_ranges(unicode: bool, ranges: &[CodeRange]) -> bool
+    ensures { result ≡ are_ranges unicode (pairs ranges.now) }
+{
+    for range in ranges {
+        if !is_range(unicode, *range) {
+            return false;
+        }
+    }
+    true
+}
+
+/// The ranges in the order of where they begin.
+fn sorted(alloc: Global, ranges: &[CodeRange]) -> Result<Vec<CodeRange>, AllocError>
+    ensures moved { IfOk result (λ v. IsPermutation ranges.now v.items) }
+    ensures order { IfOk result (λ v. IsNonDecreasingBy (λ (r : CodeRange). r.start) v.items) }
+{
+    let mut all = Vec::from_slice(alloc, ranges)?;
+    all.sort_unstable_by_key(|range| range.start);
+    Ok(all)
+}
+
+/// Joins ranges that stand in the order of where they begin.
+#[tactic(auto, using(crate::proofs::ClassSteps::merges_apart, crate::proofs::ClassSteps::merges_touch, crate::proofs::ClassSteps::merges_end))]
+fn merged(alloc: Global, unicode: bool, ranges: &[CodeRange]) -> Result<Vec<CodeRange>, AllocError>
+    ensures { IfOk result (λ v. pairs v.items ≡ merged unicode (pairs ranges.now)) }
+{
+    let mut all = Vec::new(alloc);
+    if ranges.is_empty() {
+        return Ok(all);
+    }
+    let mut current = ranges[0];
+    for i in 1..ranges.len() {
+        let other = ranges[i];
+        if is_apart(unicode, current.end, other.start) {
+            push(&mut all, current.start, current.end)?;
+            current = other;
+        } else {
+            current.end = current.end.max(other.end);
+        }
+    }
+    push(&mut all, current.start, current.end)?;
+    Ok(all)
+}
+
+/// The ranges in order, and joined where they touch. Ranges of codes, as every list has, are sorted and then
+/// joined in one pass.
+#[tactic(auto, using(crate::proofs::MergedLemmas::merged_sorted))]
+fn canonical(
+    alloc: Global,
+    unicode: bool,
+    ranges: &[CodeRange],
+) -> Result<Vec<CodeRange>, AllocError>
+    ensures { IfOk result (λ v. pairs v.items ≡ canonical unicode (pairs ranges.now)) }
+{
+    if !are_ranges(unicode, ranges) {
+        return inserted(alloc, unicode, ranges);
+    }
+    let in_order = sorted(alloc, ranges)?;
+    merged(alloc, unicode, &in_order)
+}
+
+/// What the ranges in order leave out.
+#[tactic(auto, using(crate::proofs::ClassSteps::gaps_step, crate::proofs::ClassSteps::gaps_end))]
+fn gaps(alloc: Global, unicode: bool, ranges: &[CodeRange]) -> Result<Vec<CodeRange>, AllocError>
+    ensures { IfOk result (λ v. pairs v.items ≡ gaps unicode 0 (pairs ranges.now)) }
+{
+    let mut all = Vec::new(alloc);
+    let mut start: u64 = 0;
+    for i in 0..ranges.len() {
+        let range = ranges[i];
+        if start < range.start as u64 {
+            push(&mut all, start as u32, before(unicode, range.start))?;
+        }
+        start = next(unicode, range.end);
+    }
+    let last: u32 = if unicode { 0x10_FFFF } else { 255 };
+    if start <= last as u64 {
+        push(&mut all, start as u32, last)?;
+    }
+    Ok(all)
+}
+
+/// The other case of the letters that the range shares with `A` to `Z`.
+fn push_lower(ranges: &mut Vec<CodeRange>, range: CodeRange) -> Result<(), AllocError>
+    ensures { OnOk result (pairs ranges.new.items ≡ pairs ranges.old.items ++ lower (shared 65 90 (pair range))) }
+{
+    let start = range.start.max(65);
+    let end = range.end.min(90);
+    if start <= end {
+        return push(ranges, start + 32, end + 32);
+    }
+    Ok(())
+}
+
+/// The other case of the letters that the range shares with `a` to `z`.
+fn push_upper(ranges: &mut Vec<CodeRange>, range: CodeRange) -> Result<(), AllocError>
+    ensures { OnOk result (pairs ranges.new.items ≡ pairs ranges.old.items ++ upper (shared 97 122 (pair range))) }
+{
+    let start = range.start.max(97);
+    let end = range.end.min(122);
+    if start <= end {
+        return push(ranges, start - 32, end - 32);
+    }
+    Ok(())
+}
+
+/// The ranges, with the other case of each ASCII letter.
+#[tactic(auto, using(crate::proofs::ClassSteps::folded_step, crate::proofs::ClassSteps::folded_end))]
+fn folded(alloc: Global, ranges: &[CodeRange]) -> Result<Vec<CodeRange>, AllocError>
+    ensures { IfOk result (λ v. pairs v.items ≡ folded (pairs ranges.now)) }
+{
+    let mut all = Vec::new(alloc);
+    for i in 0..ranges.len() {
+        let range = ranges[i];
+        push(&mut all, range.start, range.end)?;
+        push_lower(&mut all, range)?;
+        push_upper(&mut all, range)?;
+    }
+    Ok(all)
+}
+
+/// The class of the ranges: folded first, then in order and joined, then complemented.
+pub fn class_of(
+    alloc: Global,
+    unicode: bool,
+    fold: bool,
+    negated: bool,
+    ranges: &[CodeRange],
+) -> Result<Vec<CodeRange>, AllocError>
+    ensures { IfOk result (λ v. pairs v.items ≡ class_of unicode fold negated (pairs ranges.now)) }
+{
+    let in_order = if fold {
+        let all = folded(alloc, ranges)?;
+        canonical(alloc, unicode, &all)?
+    } else {
+        canonical(alloc, unicode, ranges)?
+    };
+    if negated {
+        return gaps(alloc, unicode, &in_order);
+    }
+    Ok(in_order)
+}
+
+/// Whether a code of 128 or more is in one of the ranges.
+pub fn has_high(ranges: &[CodeRange]) -> bool
+    ensures { result ≡ has_high (pairs ranges.now) }
+{
+    for range in ranges {
+        if range.end >= 128 {
+            return true;
+        }
+    }
+    false
+}

@@ -1,4 +1,0 @@
-pub mod Fitted
-pub mod Sizes
-pub mod Matched
-pub mod Left

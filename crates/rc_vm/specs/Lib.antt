@@ -1,6 +1,0 @@
-pub mod Thompson
-pub mod Configs
-pub mod Fits
-pub mod Views
-pub mod Caches
-pub mod Left
