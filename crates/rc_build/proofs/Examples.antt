@@ -1,12 +1,8 @@
 -- Worked rows of the definitions.
 use Rattle.std.proofs.Common.{◌≡◌, false, true, [], ◌∷◌, Some, None, refl}
-use Rattle.std.specs.Prelude.{codes}
 use Rattle.rc_pattern.specs.Re.{literal, char_in, repeat, capture, cat}
-use Rattle.rc_build.specs.declared.error.BuildError.TheVariants.{IllFormed}
-use Rattle.rc_build.specs.Lines.{line_of, pattern_of}
 use Rattle.rc_build.specs.Names.{names_shown}
 use Rattle.rc_build.specs.Refusals.{size_of}
-use Rattle.rc_build.specs.Settings.{Settings, unset, overwritten, dfa_of, hybrid_of, utf8_empty_of}
 
 size_of_a : size_of (literal (97 ∷ []) ∷ []) ≡ 192
 size_of_a = refl
@@ -23,16 +19,3 @@ names_that_are_kept = refl
 
 names_that_are_not : names_shown false (capture 1 (Some (110 ∷ [])) (literal (97 ∷ [])) ∷ []) ≡ [] ∷ []
 names_that_are_not = refl
-
-line_of_an_ill_formed_pattern : line_of (IllFormed 3) ≡ Some (codes "error building NFA")
-line_of_an_ill_formed_pattern = refl
-
-pattern_of_an_ill_formed_pattern : pattern_of (IllFormed 3) ≡ None
-pattern_of_an_ill_formed_pattern = refl
-
--- no DFA, and then no lazy one
-abbrev two_settings : Settings
-two_settings = overwritten (record unset { dfa = Some false }) (record unset { hybrid = Some false })
-
-both_are_kept : (dfa_of two_settings ∷ hybrid_of two_settings ∷ utf8_empty_of two_settings ∷ []) ≡ (false ∷ false ∷ true ∷ [])
-both_are_kept = refl

@@ -5,8 +5,8 @@ use Rattle.std.proofs.lemmas.Option.{slice_get_within, get_or_from_slice_get}
 use Rattle.std.proofs.lemmas.Bool.{cases_lt}
 use Rattle.rc_pattern.specs.Re.{Re}
 use Rattle.rc_pattern.specs.WellFormed.{IsWellFormed}
-use Rattle.rc_build.specs.declared.error.BuildError.{BuildError}
-use Rattle.rc_build.specs.declared.error.BuildError.TheVariants.{Syntax, IllFormed, SizeLimit, PlaceLimit, Memory, DfaSizeLimit, CacheTooSmall}
+use Rattle.rc_settings.specs.declared.error.BuildError.{BuildError}
+use Rattle.rc_settings.specs.declared.error.BuildError.TheVariants.{Syntax, IllFormed, SizeLimit, PlaceLimit, Memory, DfaSizeLimit, CacheTooSmall}
 use Rattle.rc_build.specs.Refusals.{IsFirstIllFormed, IsTooLarge, IsTooHeavy, IsWithin, IsRefusal, IsBuildable, size_of}
 
 -- each of well-formed patterns is

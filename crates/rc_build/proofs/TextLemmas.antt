@@ -17,8 +17,8 @@ use Rattle.rc_parser.specs.Outcome.{OnSyntax}
 use Rattle.rc_parser.specs.Settings.{Settings}
 use Rattle.rc_build.specs.TextRefusals.{IsReadAs, IsRead, AllRead, IsFirstUnread, IsReadingRefusal, IsTextRefusal, texts_of}
 use Rattle.rc_build.specs.Refusals.{IsRefusal}
-use Rattle.rc_build.specs.declared.error.BuildError.{BuildError}
-use Rattle.rc_build.specs.declared.error.BuildError.TheVariants.{Syntax, IllFormed, SizeLimit, PlaceLimit, Memory, DfaSizeLimit, CacheTooSmall}
+use Rattle.rc_settings.specs.declared.error.BuildError.{BuildError}
+use Rattle.rc_settings.specs.declared.error.BuildError.TheVariants.{Syntax, IllFormed, SizeLimit, PlaceLimit, Memory, DfaSizeLimit, CacheTooSmall}
 
 -- one more text is read
 pub read_more : (s : Settings) (ts : List (Bor (List ℕ))) (i : ℕ) (d : Bor (List ℕ)) (hs : List Hir) (h : Hir) → i < length ts →

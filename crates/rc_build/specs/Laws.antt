@@ -6,8 +6,8 @@ use Rattle.rc_captures.specs.Names.{slot_len}
 use Rattle.rc_program.specs.Program.{program, shown}
 use Rattle.rc_program.specs.Laws.{IsNumbered, slot_count}
 use Rattle.rc_program.specs.Sought.{IsRunnable}
-use Rattle.rc_build.specs.declared.error.BuildError.{BuildError}
-use Rattle.rc_build.specs.declared.error.BuildError.TheVariants.{Memory}
+use Rattle.rc_settings.specs.declared.error.BuildError.{BuildError}
+use Rattle.rc_settings.specs.declared.error.BuildError.TheVariants.{Memory}
 use Rattle.rc_build.specs.Names.{names_shown}
 use Rattle.rc_build.specs.Refusals.{IsBuildable, IsRefusal}
 

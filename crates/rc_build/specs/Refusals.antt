@@ -3,8 +3,8 @@ use Rattle.std.specs.Prelude.{◌≡◌, ℕ, ◌*◌, ◌<◌, ◌≤◌, All, 
 use Rattle.rc_pattern.specs.Re.{Re}
 use Rattle.rc_pattern.specs.Weight.{list_weight}
 use Rattle.rc_pattern.specs.WellFormed.{IsWellFormed}
-use Rattle.rc_build.specs.declared.error.BuildError.{BuildError}
-use Rattle.rc_build.specs.declared.error.BuildError.TheVariants.{Syntax, IllFormed, SizeLimit, PlaceLimit, Memory, DfaSizeLimit, CacheTooSmall}
+use Rattle.rc_settings.specs.declared.error.BuildError.{BuildError}
+use Rattle.rc_settings.specs.declared.error.BuildError.TheVariants.{Syntax, IllFormed, SizeLimit, PlaceLimit, Memory, DfaSizeLimit, CacheTooSmall}
 
 -- how much 32 times the weight of the patterns is: the size that a limit is on
 abbrev pub size_of : List Re → ℕ

@@ -8,8 +8,8 @@ use Rattle.rc_pattern.specs.declared.syntax.Error.TheVariants.{Syntax as FaultAt
 use Rattle.rc_parser.specs.Settings.{Settings}
 use Rattle.rc_parser.specs.Grammar.{Reads}
 use Rattle.rc_build.specs.Refusals.{IsRefusal}
-use Rattle.rc_build.specs.declared.error.BuildError.{BuildError}
-use Rattle.rc_build.specs.declared.error.BuildError.TheVariants.{Syntax, IllFormed, SizeLimit, PlaceLimit, Memory, DfaSizeLimit, CacheTooSmall}
+use Rattle.rc_settings.specs.declared.error.BuildError.{BuildError}
+use Rattle.rc_settings.specs.declared.error.BuildError.TheVariants.{Syntax, IllFormed, SizeLimit, PlaceLimit, Memory, DfaSizeLimit, CacheTooSmall}
 
 -- the bytes of texts that are lent
 abbrev pub texts_of : List (Bor (List ℕ)) → List (List ℕ)

@@ -5,9 +5,9 @@ ghost use Rattle.rc_pattern.specs.Weight.{list_weight};
 ghost use Rattle.rc_pattern.specs.WellFormed.{IsWellFormed};
 ghost use Rattle.rc_build.specs.Refusals.{IsBuildable, IsRefusal};
 
-use crate::error::BuildError;
 use rc_pattern::check::{capped_list_weight, is_well_formed};
 use rc_pattern::hir::Hir;
+use rc_settings::error::BuildError;
 use rc_text::types::PatternID;
 use std::alloc::Global;
 

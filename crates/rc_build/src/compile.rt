@@ -5,18 +5,19 @@ ghost use Rattle.rc_pattern.specs.WellFormed.{group_names};
 ghost use Rattle.rc_captures.specs.Groups.{names_of};
 ghost use Rattle.rc_captures.specs.Names.{names_in};
 ghost use Rattle.rc_program.specs.Program.{program, shown};
-ghost use Rattle.rc_compile.specs.Places.{places_of};
-ghost use Rattle.rc_build.specs.Names.{is_grouped, names_shown};
+ghost use Rattle.rc_program.specs.Places.{places_of};
+ghost use Rattle.rc_settings.specs.Which.{is_grouped};
+ghost use Rattle.rc_build.specs.Names.{names_shown};
 ghost use Rattle.rc_build.specs.Refusals.{IsBuildable, IsRefusal};
 
 use crate::check::check;
-use crate::error::BuildError;
-use crate::which::WhichCaptures;
 use rc_captures::groups::{GroupInfo, group_info};
 use rc_compile::compile::compile;
-use rc_compile::place::Place;
 use rc_pattern::check::groups;
 use rc_pattern::hir::Hir;
+use rc_program::place::Place;
+use rc_settings::error::BuildError;
+use rc_settings::which::WhichCaptures;
 use std::alloc::{AllocError, Global};
 
 /// What patterns were compiled to.

@@ -1,12 +1,7 @@
-//! What a regex is built from: the refusals of a build, the settings, and the patterns compiled.
+//! What a regex is built from: the patterns read, checked and compiled.
 #![tactic(auto)]
 
 pub mod check;
 pub mod compile;
-pub mod config;
-pub mod error;
 pub mod laws;
-#[cfg(test)]
-mod tests;
 pub mod texts;
-pub mod which;

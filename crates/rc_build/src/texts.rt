@@ -4,10 +4,10 @@ ghost use Rattle.rc_pattern.specs.Meaning.{meaning};
 ghost use Rattle.rc_parser.specs.Settings.{settings_of};
 ghost use Rattle.rc_build.specs.TextRefusals.{AllRead, IsReadingRefusal, texts_of};
 
-use crate::error::BuildError;
 use rc_parser::{Config, parse};
 use rc_pattern::hir::Hir;
 use rc_pattern::syntax;
+use rc_settings::error::BuildError;
 use rc_text::types::PatternID;
 use std::alloc::Global;
 

@@ -11,7 +11,7 @@ use Rattle.rc_walks.proofs.CutLemmas.{first_is_one}
 use Rattle.rc_walks.proofs.TryLemmas.{Finds, walk_by_finds}
 use Rattle.rc_program.specs.Program.{Place, choice, byte, branch, scalar, guard, slot, accept, is_match_place}
 use Rattle.rc_program.specs.Laws.{IsClosed}
-use Rattle.rc_program.specs.Answer.{Search, only, is_anchored, ends, next_of, is_allowed, Chosen, found, slot_of, slots_of, allowed_only, from_start, by_starts, start_count, chosen, answer, groups}
+use Rattle.rc_program.specs.Answer.{last_of, Search, only, is_anchored, ends, next_of, is_allowed, Chosen, found, slot_of, slots_of, allowed_only, from_start, by_starts, start_count, chosen, answer, groups}
 use Rattle.rc_program.proofs.WayLemmas.{same_pair}
 use Rattle.rc_program.proofs.AnswerLemmas.{last_pair, is_bounded}
 use Rattle.rc_bytes.specs.Bytes.{bytes_of}
@@ -98,6 +98,24 @@ module _ (s : Search) (closed : IsClosed s.places) where
       (walk_also s closed (match_of s) (match_accepts s) (length s.places * (s.hi + 1)) [] (0, x) (omega arith) tt tt (λ k i. absurd i) some (omega arith))
       (walk_by_finds T (ends (by_bytes s)) same_pair (last_pair (by_bytes s)) (length B) (s.hi + 1) (is_bounded (by_bytes s))
       (length B * (s.hi + 1)) [] (0, x) (omega arith) tt tt (omega arith)))
+
+  end_alike : (o q : Option (List Pair)) → Walks o q → option_map last_of q ≡ option_map last_of o
+  end_alike None None a = refl
+  end_alike None (Some v) a = absurd a
+  end_alike (Some w) None a = absurd a
+  end_alike (Some w) (Some v) a = ap (λ n. Some n) a.last
+
+  -- from each place of the program
+  pub same_from : (k x : ℕ) → k < length s.places → x ≤ s.hi →
+      option_map last_of (walk_by T (ends (by_bytes s)) (length B * (s.hi + 1)) [] (k, x))
+      ≡ option_map last_of (walk_by (next_of s) (ends s) (length s.places * (s.hi + 1)) [] (k, x))
+  same_from k x some h =
+      end_alike (walk_by (next_of s) (ends s) (length s.places * (s.hi + 1)) [] (k, x)) (walk_by T (ends (by_bytes s)) (length B * (s.hi + 1)) [] (k, x))
+      (walks_alike [] ((k, x) ∷ []) (walk_by (next_of s) (ends s) (length s.places * (s.hi + 1)) [] (k, x))
+      (walk_by T (ends (by_bytes s)) (length B * (s.hi + 1)) [] (k, x))
+      (walk_also s closed (match_of s) (match_accepts s) (length s.places * (s.hi + 1)) [] (k, x) (omega arith) tt tt (λ j i. absurd i) some (omega (arith, h)))
+      (walk_by_finds T (ends (by_bytes s)) same_pair (last_pair (by_bytes s)) (length B) (s.hi + 1) (is_bounded (by_bytes s))
+      (length B * (s.hi + 1)) [] (k, x) (omega arith) tt tt (omega (arith, h))))
 
   or_alike : (o q r u : Option Chosen) → Chosens o q → Chosens r u → Chosens (option_or o r) (option_or q u)
   or_alike None None r u a b = b

@@ -1,7 +1,7 @@
 -- The walks that lead through a block: those over its bytes, and to its next place.
-use Rattle.std.proofs.Common.{◌≡◌, ℕ, zero, suc, ◌+◌, ◌-◌, ◌<◌, ◌≤◌, ◌⊎◌, List, [], ◌∷◌, ◌++◌, length, map, take, drop, ⊎_elim, sym, subst, ap, ap₂, ◌∙◌, refl, arith, Bool, true, false, true≢false, IsTrue, Option, Some, None, ◌&&◌, ◌||◌, nat_le}
+use Rattle.std.proofs.Common.{◌≡◌, ℕ, zero, suc, ◌+◌, ◌-◌, ◌/◌, ◌%◌, ◌<◌, ◌≤◌, ◌⊎◌, List, [], ◌∷◌, ◌++◌, length, length-append, map, take, drop, ⊎_elim, sym, subst, ap, ap₂, ◌∙◌, refl, arith, Bool, true, false, true≢false, IsTrue, Option, Some, None, ◌&&◌, ◌||◌, nat_le}
 use Rattle.std.specs.List.{AllByRecursion}
-use Rattle.std.proofs.lemmas.Bool.{cases_Bool, cases_eq, or_cases, or_parts, or_left, or_right, eq-eqb, ne_eqb, or_from, false_from_ne_true}
+use Rattle.std.proofs.lemmas.Bool.{cases_Bool, cases_lt, cases_eq, or_cases, or_parts, or_left, or_right, or_from, false_from_ne_true}
 use Rattle.std.proofs.lemmas.Option.{none-some, same_Some}
 use Rattle.rc_program.specs.Scalars.{scalar_at}
 use Rattle.rc_walks.specs.Walks.{Pair, IsIn, IsFirstWalk, HasNoWalk}
@@ -15,10 +15,12 @@ use Rattle.rc_program.specs.Text.{Text, holds, ahead}
 use Rattle.rc_program.specs.Program.{Place, branch, place_at, ways, ways_out, over_byte, branch_ways, in_ranges, pair_at, is_match_place}
 use Rattle.rc_program.proofs.WayLemmas.{same_pair, no_way_from, ways_onward}
 use Rattle.rc_program.proofs.PartLemmas.{Stand, Stand-left, Stand-right}
-use Rattle.rc_bytes.specs.Bytes.{Ways, rest_of, tails, ways_from, block_from, ways_to, block_to, ways_within, block_within, piece_ways, piece_block, class_ways, class_block}
-use Rattle.rc_bytes.proofs.TakeLemmas.{inside, inside_parts, inside_from, takes_any, takes_from, takes_to, takes_within}
+use Rattle.rc_bytes.specs.Bytes as trees
+use Rattle.rc_bytes.specs.Bytes.{Sequence, Tree, ends, goes, Ways, rest_of, tails, depth, size, within_bytes, tree_ways, tree_block, piece_sequences, sequences, tree_of}
+use Rattle.rc_bytes.proofs.TreeLemmas.{takes, takes_some, IsLed, Takes, by_rest, by_below, past_end, past_way, IsLong, within_long, long_led, within_same, some_append, tree_takes, tree_parts}
+use Rattle.rc_bytes.proofs.TakeLemmas.{inside, inside_parts, inside_from, any_from, takes_any, takes_within}
 use Rattle.std.specs.Char.{encode_utf8}
-use Rattle.rc_bytes.proofs.ScalarLemmas.{IsPiece, takes_piece, EachPiece, same_test}
+use Rattle.rc_bytes.proofs.ScalarLemmas.{encode_one, encode_two, encode_three, encode_four, IsPiece, takes_piece, EachPiece, same_test}
 use Rattle.rc_bytes.proofs.AppendLemmas.{none_append, first_append, first_after_none}
 
 take_cons : (n : ℕ) (xs : List ℕ) (d : ℕ) (ds : List ℕ) → take n xs ≡ d ∷ ds →
@@ -52,14 +54,6 @@ over_append d y [] us = refl
 over_append d y (t ∷ ts) us = ⊎_elim (λ e. rw e (ap (λ f. (t.1, y + 1) ∷ f) (over_append d y ts us))) (λ e. rw e (over_append d y ts us))
     (cases_Bool (inside t.0.0 t.0.1 d))
 
-pub length-block_from : (tail next : ℕ) (xs : List ℕ) (start : ℕ) → length (block_from tail next xs start) ≡ length xs
-length-block_from tail next [] start = refl
-length-block_from tail next (a ∷ xs) start = ap suc (length-block_from tail next xs (start + 1))
-
-pub length-block_to : (tail next : ℕ) (xs : List ℕ) (start : ℕ) → length (block_to tail next xs start) ≡ length xs
-length-block_to tail next [] start = refl
-length-block_to tail next (a ∷ xs) start = ap suc (length-block_to tail next xs (start + 1))
-
 -- behind the first place
 stand_behind : (prog : List Place) (start : ℕ) (qs : List Place) → Stand prog (suc start) qs → Stand prog (start + 1) qs
 stand_behind prog start qs st = let e : suc start ≡ start + 1 = omega arith in subst (λ k. Stand prog k qs) e st
@@ -89,6 +83,111 @@ pub class_none : (ps : List Range) → EachPiece ps → (bs : List ℕ) → scal
 class_none [] each bs e = refl
 class_none (p ∷ ps) each bs e =
     or_from _ _ (false_from_ne_true _ (λ h. let b = each.0.1.from bs h in none-some _ (sym e ∙ b.1))) (class_none ps each.1 bs e)
+
+pub length-tails : (count tail next : ℕ) → length (tails count tail next) ≡ count
+length-tails zero tail next = refl
+length-tails (suc count) tail next = ap suc (length-tails count (tail + 1) next)
+
+pub length-tree_block : (count tail next : ℕ) (tree : Tree) (start : ℕ) → length (tree_block count tail next tree start) ≡ size tree
+length-tree_block count tail next trees.none start = refl
+length-tree_block count tail next (ends a b n others) start = length-tree_block count tail next others start
+length-tree_block count tail next (goes a b below others) start =
+    let inner = tree_block count tail next below start in
+    let outer = tree_block count tail next others (start + size below + 1) in
+    let l = length-append inner (branch (tree_ways count tail next below start) ∷ outer) in
+    let h = length-tree_block count tail next below start in
+    let k = length-tree_block count tail next others (start + size below + 1) in
+    omega (arith, l, h, k)
+
+rest_same : (count tail next n : ℕ) → n ≤ count → rest_of (suc count) tail next n ≡ rest_of count (tail + 1) next n
+rest_same count tail next zero h = refl
+rest_same count tail next (suc n) h = omega (arith, h)
+
+-- the place that reads any n + 1 continuation bytes
+tails_at : (prog : List Place) (next count tail n : ℕ) → Stand prog tail (tails count tail next) → n < count →
+    place_at prog (tail + (count - suc n)) ≡ branch (((128, 191), rest_of count tail next n) ∷ [])
+tails_at prog next zero tail n st h = absurd (omega (arith, h))
+tails_at prog next (suc count) tail n st h =
+    ⊎_elim
+    (λ e. let f : tail ≡ tail + (suc count - suc n) = omega (arith, e) in
+    subst (λ k. place_at prog k ≡ branch (((128, 191), rest_of (suc count) tail next n) ∷ [])) f
+    (st.0 ∙ ap (λ k. branch (((128, 191), k) ∷ [])) (sym (subst (λ m. rest_of (suc count) tail next m ≡ rest_of count (tail + 1) next count) (sym e) (rest_same count tail next count (omega arith))))))
+    (λ ne. let f : tail + 1 + (count - suc n) ≡ tail + (suc count - suc n) = omega (arith, ne, h) in
+    subst (λ k. place_at prog k ≡ branch (((128, 191), rest_of (suc count) tail next n) ∷ [])) f
+    (tails_at prog next count (tail + 1) n (stand_behind prog tail (tails count (tail + 1) next) st.1) (omega (arith, ne, h))
+    ∙ ap (λ k. branch (((128, 191), k) ∷ [])) (sym (rest_same count tail next n (omega (arith, h))))))
+    (cases_eq n count)
+
+-- THE TREE OF A CLASS
+
+-- continuation bytes stand behind the first
+abbrev Follows : List ℕ → Type 0
+Follows [] = Unit {0}
+Follows (a ∷ xs) = takes_any (length xs) xs ≡ true
+
+encode_follows : (c : ℕ) → Follows (encode_utf8 c)
+encode_follows c =
+    ⊎_elim (λ l. subst Follows (sym (encode_one c l)) refl)
+    (λ g1. ⊎_elim (λ l. subst Follows (sym (encode_two c g1 l)) (any_from 0 (128 + c % 64) [] (omega arith) (omega arith) refl))
+    (λ g2. ⊎_elim (λ l. subst Follows (sym (encode_three c g2 l))
+    (any_from 1 (128 + c / 64 % 64) ((128 + c % 64) ∷ []) (omega arith) (omega arith) (any_from 0 (128 + c % 64) [] (omega arith) (omega arith) refl)))
+    (λ g3. subst Follows (sym (encode_four c g3))
+    (any_from 2 (128 + c / 4096 % 64) ((128 + c / 64 % 64) ∷ (128 + c % 64) ∷ []) (omega arith) (omega arith)
+    (any_from 1 (128 + c / 64 % 64) ((128 + c % 64) ∷ []) (omega arith) (omega arith) (any_from 0 (128 + c % 64) [] (omega arith) (omega arith) refl))))
+    (cases_lt c 65536)) (cases_lt c 2048)) (cases_lt c 128)
+
+piece_takes : (p : Range) (n : ℕ) → IsPiece p n → (bs : List ℕ) → takes_some (piece_sequences p) bs ≡ takes_piece p bs
+piece_takes p n q bs = from (encode_utf8 p.0) (encode_utf8 p.1) q.first q.last (encode_follows p.0) (encode_follows p.1)
+  where
+    from : (xs ys : List ℕ) → length xs ≡ n → length ys ≡ n → Follows xs → Follows ys → takes_some (within_bytes xs ys) bs ≡ takes_within xs ys bs
+    from [] ys a b f g = let some = q.some in absurd (omega (arith, a, some))
+    from (x ∷ xs) [] a b f g = absurd (omega (arith, a, b))
+    from (x ∷ xs) (y ∷ ys) a b f g = within_same x xs y ys bs (omega (arith, a, b)) f g
+
+pub piece_long : (p : Range) (n : ℕ) → IsPiece p n → AllByRecursion (IsLong n) (piece_sequences p)
+piece_long p n q =
+    subst (λ m. AllByRecursion (IsLong m) (piece_sequences p)) q.first (within_long (encode_utf8 p.0) (encode_utf8 p.1) (q.last ∙ sym q.first))
+
+led_append : (xs ys : List Sequence) → AllByRecursion IsLed xs → AllByRecursion IsLed ys → AllByRecursion IsLed (xs ++ ys)
+led_append [] ys a b = b
+led_append (s ∷ xs) ys a b = (a.0, led_append xs ys a.1 b)
+
+pub class_led : (ps : List Range) → EachPiece ps → AllByRecursion IsLed (sequences ps)
+class_led [] each = tt
+class_led (p ∷ ps) each =
+    led_append (piece_sequences p) (sequences ps) (long_led each.0.0 (piece_sequences p) (piece_long p each.0.0 each.0.1)) (class_led ps each.1)
+
+some_class : (ps : List Range) → EachPiece ps → (bs : List ℕ) → takes_some (sequences ps) bs ≡ takes_class ps bs
+some_class [] each bs = refl
+some_class (p ∷ ps) each bs =
+    some_append (piece_sequences p) (sequences ps) bs ∙ ap₂ ◌||◌ (piece_takes p each.0.0 each.0.1 bs) (some_class ps each.1 bs)
+
+class_takes : (ps : List Range) → EachPiece ps → (bs : List ℕ) → takes (tree_of (sequences ps)) bs ≡ takes_class ps bs
+class_takes ps each [] = sym (none ps each)
+  where
+    none : (ps : List Range) → EachPiece ps → takes_class ps [] ≡ false
+    none [] each = refl
+    none (p ∷ ps) each =
+        or_from _ _ (within_nothing (encode_utf8 p.0) (encode_utf8 p.1)) (none ps each.1)
+      where
+        within_nothing : (xs ys : List ℕ) → takes_within xs ys [] ≡ false
+        within_nothing [] ys = refl
+        within_nothing (x ∷ xs) [] = refl
+        within_nothing (x ∷ xs) (y ∷ ys) = refl
+class_takes ps each (d ∷ ds) = tree_takes (sequences ps) (class_led ps each) d ds ∙ some_class ps each (d ∷ ds)
+
+-- a path is over the bytes of a scalar of the pieces
+class_parts : (ps : List Range) → EachPiece ps → (bs : List ℕ) (k : ℕ) → Takes (tree_of (sequences ps)) bs k →
+    (c : ℕ) × (scalar_at bs ≡ Some (c, k)) × (in_ranges ps c ≡ true)
+class_parts [] each bs k h = elim h [ ]
+class_parts (p ∷ ps) each bs k h =
+    let n = each.0.0 in
+    let q = each.0.1 in
+    ⊎_elim
+    (λ x. let b = q.from bs (sym (piece_takes p n q bs) ∙ x.0) in
+    (b.0, subst (λ m. scalar_at bs ≡ Some (b.0, m)) (sym x.1) b.1, or_left _ _ (inside_from p.0 p.1 b.0 b.2 b.3)))
+    (λ x. let r = class_parts ps each.1 bs k x in (r.0, r.1, or_right _ _ r.2))
+    (tree_parts n (piece_sequences p) (sequences ps) (piece_long p n q) bs k h)
 
 module _ (prog : List Place) (t : Text) (hi : ℕ) (test : Place → ℕ → Bool)
     (accepts : (q : Place) (y : ℕ) → test q y ≡ true → is_match_place None q ≡ true) (next z : ℕ) (o : Option (List Pair)) where
@@ -141,6 +240,16 @@ module _ (prog : List Place) (t : Text) (hi : ℕ) (test : Place → ℕ → Boo
       ⊎_elim (λ e. rw e (tells_append G ((n, y + 1) ∷ []) (over (d ∷ []) y ts) (y + 1) x w one rest)) (λ e. rw e rest)
       (cases_Bool (inside a b d))
 
+  -- where the byte is of the range
+  pub tells_when : (G : Type 0) (d y a b n : ℕ) (ts : Ways) (x w : Bool) → (inside a b d ≡ true → Tells G ((n, y + 1) ∷ []) (y + 1) x) →
+      Tells G (over (d ∷ []) y ts) (y + 1) w → Tells G (over (d ∷ []) y (((a, b), n) ∷ ts)) (y + 1) ((inside a b d && x) || w)
+  tells_when G d y a b n ts x w one rest =
+      ⊎_elim (λ e. let first = one e in rw e (tells_append G ((n, y + 1) ∷ []) (over (d ∷ []) y ts) (y + 1) x w first rest)) (λ e. rw e rest)
+      (cases_Bool (inside a b d))
+
+  free : (G : Type 0) (f : List Pair) (y : ℕ) (ok : Bool) → Tells G f y ok → (ok ≡ true → G) → Tells (Unit {0}) f y ok
+  free G f y ok x h = record { yes = λ e k p low. x.yes e (h e) p low; none = λ e p low. x.none e p low }
+
   -- a place that branches
   pub tells_place : (G : Type 0) (n y : ℕ) (bs : List ℕ) (ts : Ways) (ok : Bool) → place_at prog n ≡ branch ts → ahead t hi y ≡ bs →
       Tells G (over bs y ts) (y + 1) ok → Tells G ((n, y) ∷ []) y ok
@@ -189,130 +298,51 @@ module _ (prog : List Place) (t : Text) (hi : ℕ) (test : Place → ℕ → Boo
         from None none p low = none_alike W E [] p ((next, z) ∷ []) (alike p low) none
         from (Some v) first p low = ([], tt, first_alike W E [] p ((next, z) ∷ []) v (alike p low) first)
 
-    module _ (tail : ℕ) (stands : Stand prog tail (tails tail next)) where
-      tail_at : (n : ℕ) → n < 3 → place_at prog (tail + (2 - n)) ≡ branch (((128, 191), rest_of tail next n) ∷ [])
-      tail_at zero h = let e : suc (suc tail) ≡ tail + 2 = omega arith in subst (λ k. place_at prog k ≡ branch (((128, 191), next) ∷ [])) e stands.1.1.0
-      tail_at (suc zero) h =
-          let e : suc tail ≡ tail + 1 = omega arith in subst (λ k. place_at prog k ≡ branch (((128, 191), tail + 2) ∷ [])) e stands.1.0
-      tail_at (suc (suc zero)) h =
-          let e : tail ≡ tail + 0 = omega arith in subst (λ k. place_at prog k ≡ branch (((128, 191), tail + 1) ∷ [])) e stands.0
-      tail_at (suc (suc (suc n))) h = absurd (omega arith)
-
-      pub tells_any : (e n y : ℕ) (bs : List ℕ) → n ≤ 3 → ahead t hi y ≡ bs → y + n ≡ e → Tells (e ≡ z) ((rest_of tail next n, y) ∷ []) y (takes_any n bs)
+    module _ (count tail : ℕ) (stands : Stand prog tail (tails count tail next)) where
+      pub tells_any : (e n y : ℕ) (bs : List ℕ) → n ≤ count → ahead t hi y ≡ bs → y + n ≡ e → Tells (e ≡ z) ((rest_of count tail next n, y) ∷ []) y (takes_any n bs)
       tells_any e zero y bs h at end = tells_next e y (omega (arith, end))
       tells_any e (suc n) y [] h at end =
-          tells_place (e ≡ z) (tail + (2 - n)) y [] (((128, 191), rest_of tail next n) ∷ []) false (tail_at n (omega arith)) at (tells_nothing (e ≡ z) (y + 1))
+          tells_place (e ≡ z) (tail + (count - suc n)) y [] (((128, 191), rest_of count tail next n) ∷ []) false (tails_at prog next count tail n stands h) at (tells_nothing (e ≡ z) (y + 1))
       tells_any e (suc n) y (d ∷ ds) h at end =
-          tells_place (e ≡ z) (tail + (2 - n)) y (d ∷ ds) (((128, 191), rest_of tail next n) ∷ []) _ (tail_at n (omega arith)) at
-          (tells_way (e ≡ z) d y 128 191 (rest_of tail next n) [] (takes_any n ds) false
-          (tells_any e n (y + 1) ds (omega arith) (ahead_next t hi y d ds at) (omega (arith, end)))
+          tells_place (e ≡ z) (tail + (count - suc n)) y (d ∷ ds) (((128, 191), rest_of count tail next n) ∷ []) _ (tails_at prog next count tail n stands h) at
+          (tells_way (e ≡ z) d y 128 191 (rest_of count tail next n) [] (takes_any n ds) false
+          (tells_any e n (y + 1) ds (omega (arith, h)) (ahead_next t hi y d ds at) (omega (arith, end)))
           (tells_nothing (e ≡ z) (y + 1)))
 
-      tells_from : (e a : ℕ) (xs : List ℕ) (y start : ℕ) (bs : List ℕ) → length xs ≤ 3 → Stand prog start (block_from tail next xs start) →
-          ahead t hi y ≡ bs → y + suc (length xs) ≡ e → Tells (e ≡ z) (over bs y (ways_from tail next (a ∷ xs) start)) (y + 1) (takes_from (a ∷ xs) bs)
-      tells_from e a xs y start [] h st at end = tells_nothing (e ≡ z) (y + 1)
-      tells_from e a [] y start (d ∷ ds) h st at end =
-          tells_way (e ≡ z) d y a 191 next [] true false (tells_next e (y + 1) (omega (arith, end))) (tells_nothing (e ≡ z) (y + 1))
-      tells_from e a (c ∷ xs) y start (d ∷ ds) h st at end =
+      -- the walks through a tree
+      pub tells_tree : (tree : Tree) (y start : ℕ) (bs : List ℕ) → depth tree ≤ count → Stand prog start (tree_block count tail next tree start) →
+          ahead t hi y ≡ bs → ((k : ℕ) → Takes tree bs k → y + k ≡ z) →
+          Tells (Unit {0}) (over bs y (tree_ways count tail next tree start)) (y + 1) (takes tree bs)
+      tells_tree tree y start [] h st at right = tells_nothing (Unit {0}) (y + 1)
+      tells_tree trees.none y start (d ∷ ds) h st at right = tells_nothing (Unit {0}) (y + 1)
+      tells_tree (ends a b n others) y start (d ∷ ds) h st at right =
+          tells_when (Unit {0}) d y a b (rest_of count tail next n) (tree_ways count tail next others start) (takes_any n ds) (takes others (d ∷ ds))
+          (λ i. free (y + 1 + n ≡ z) ((rest_of count tail next n, y + 1) ∷ []) (y + 1) (takes_any n ds)
+          (tells_any (y + 1 + n) n (y + 1) ds (omega (arith, h)) (ahead_next t hi y d ds at) refl)
+          (λ k. let e = right (suc n) (by_rest i k) in omega (arith, e)))
+          (tells_tree others y start (d ∷ ds) (omega (arith, h)) st at (λ k x. right k (past_end x)))
+      tells_tree (goes a b below others) y start (d ∷ ds) h st at right =
           let on = ahead_next t hi y d ds at in
-          tells_way (e ≡ z) d y a a start (((a + 1, 191), rest_of tail next (length (c ∷ xs))) ∷ []) (takes_from (c ∷ xs) ds)
-          ((inside (a + 1) 191 d && takes_any (length (c ∷ xs)) ds) || false)
-          (tells_place (e ≡ z) start (y + 1) ds (ways_from tail next (c ∷ xs) (start + 1)) (takes_from (c ∷ xs) ds) st.0 on
-          (tells_from e c xs (y + 1) (start + 1) ds (omega (arith, h)) (stand_behind prog start (block_from tail next xs (start + 1)) st.1) on (omega (arith, end))))
-          (tells_way (e ≡ z) d y (a + 1) 191 (rest_of tail next (length (c ∷ xs))) [] (takes_any (length (c ∷ xs)) ds) false
-          (tells_any e (length (c ∷ xs)) (y + 1) ds h on (omega (arith, end))) (tells_nothing (e ≡ z) (y + 1)))
-
-      tells_to : (e b : ℕ) (xs : List ℕ) (y start : ℕ) (bs : List ℕ) → length xs ≤ 3 → Stand prog start (block_to tail next xs start) →
-          ahead t hi y ≡ bs → y + suc (length xs) ≡ e → Tells (e ≡ z) (over bs y (ways_to tail next (b ∷ xs) start)) (y + 1) (takes_to (b ∷ xs) bs)
-      tells_to e b xs y start [] h st at end = tells_nothing (e ≡ z) (y + 1)
-      tells_to e b [] y start (d ∷ ds) h st at end =
-          tells_way (e ≡ z) d y 128 b next [] true false (tells_next e (y + 1) (omega (arith, end))) (tells_nothing (e ≡ z) (y + 1))
-      tells_to e b (c ∷ xs) y start (d ∷ ds) h st at end =
-          let on = ahead_next t hi y d ds at in
-          tells_way (e ≡ z) d y 128 (b - 1) (rest_of tail next (length (c ∷ xs))) (((b, b), start) ∷ []) (takes_any (length (c ∷ xs)) ds)
-          ((inside b b d && takes_to (c ∷ xs) ds) || false)
-          (tells_any e (length (c ∷ xs)) (y + 1) ds h on (omega (arith, end)))
-          (tells_way (e ≡ z) d y b b start [] (takes_to (c ∷ xs) ds) false
-          (tells_place (e ≡ z) start (y + 1) ds (ways_to tail next (c ∷ xs) (start + 1)) (takes_to (c ∷ xs) ds) st.0 on
-          (tells_to e c xs (y + 1) (start + 1) ds (omega (arith, h)) (stand_behind prog start (block_to tail next xs (start + 1)) st.1) on (omega (arith, end))))
-          (tells_nothing (e ≡ z) (y + 1)))
-
-      pub tells_within : (e a : ℕ) (xs : List ℕ) (b : ℕ) (ys : List ℕ) (y start : ℕ) (bs : List ℕ) → length ys ≡ length xs → length xs ≤ 3 →
-          Stand prog start (block_within tail next (a ∷ xs) (b ∷ ys) start) → ahead t hi y ≡ bs → y + suc (length xs) ≡ e →
-          Tells (e ≡ z) (over bs y (ways_within tail next (a ∷ xs) (b ∷ ys) start)) (y + 1) (takes_within (a ∷ xs) (b ∷ ys) bs)
-      tells_within e a xs b ys y start [] len h st at end = tells_nothing (e ≡ z) (y + 1)
-      tells_within e a [] b ys y start (d ∷ ds) len h st at end =
-          tells_way (e ≡ z) d y a b next [] true false (tells_next e (y + 1) (omega (arith, end))) (tells_nothing (e ≡ z) (y + 1))
-      tells_within e a (c ∷ xs) b [] y start (d ∷ ds) len h st at end = absurd (omega (arith, len))
-      tells_within e a (c ∷ xs) b (f ∷ ys) y start (d ∷ ds) len h st at end =
-          let on = ahead_next t hi y d ds at in
-          ⊎_elim
-          (λ i. let both = eq-eqb a b i in
-          let here : Stand prog start (branch (ways_within tail next (c ∷ xs) (f ∷ ys) (start + 1)) ∷ block_within tail next (c ∷ xs) (f ∷ ys) (start + 1)) =
-          rw both at st in
-          rw both
-          (tells_way (e ≡ z) d y a a start [] (takes_within (c ∷ xs) (f ∷ ys) ds) false
-          (tells_place (e ≡ z) start (y + 1) ds (ways_within tail next (c ∷ xs) (f ∷ ys) (start + 1)) (takes_within (c ∷ xs) (f ∷ ys) ds) here.0 on
-          (tells_within e c xs f ys (y + 1) (start + 1) ds (omega (arith, len)) (omega (arith, h))
-          (stand_behind prog start (block_within tail next (c ∷ xs) (f ∷ ys) (start + 1)) here.1) on (omega (arith, end))))
-          (tells_nothing (e ≡ z) (y + 1))))
-          (λ i. let apart = ne_eqb a b i in
-          let here : Stand prog start (block_from tail next (c ∷ xs) start ++ block_to tail next (f ∷ ys) (start + length (c ∷ xs))) = rw apart at st in
-          let left = Stand-left prog start (block_from tail next (c ∷ xs) start) (block_to tail next (f ∷ ys) (start + length (c ∷ xs))) here in
-          let right = subst (λ k. Stand prog (start + k) (block_to tail next (f ∷ ys) (start + length (c ∷ xs))))
-          (length-block_from tail next (c ∷ xs) start)
-          (Stand-right prog start (block_from tail next (c ∷ xs) start) (block_to tail next (f ∷ ys) (start + length (c ∷ xs))) here) in
-          rw apart
-          (tells_way (e ≡ z) d y a a start
-          (((a + 1, b - 1), rest_of tail next (length (c ∷ xs))) ∷ ((b, b), start + length (c ∷ xs)) ∷ []) (takes_from (c ∷ xs) ds)
-          ((inside (a + 1) (b - 1) d && takes_any (length (c ∷ xs)) ds) || ((inside b b d && takes_to (f ∷ ys) ds) || false))
-          (tells_place (e ≡ z) start (y + 1) ds (ways_from tail next (c ∷ xs) (start + 1)) (takes_from (c ∷ xs) ds) left.0 on
-          (tells_from e c xs (y + 1) (start + 1) ds (omega (arith, h)) (stand_behind prog start (block_from tail next xs (start + 1)) left.1) on (omega (arith, end))))
-          (tells_way (e ≡ z) d y (a + 1) (b - 1) (rest_of tail next (length (c ∷ xs))) (((b, b), start + length (c ∷ xs)) ∷ [])
-          (takes_any (length (c ∷ xs)) ds) ((inside b b d && takes_to (f ∷ ys) ds) || false)
-          (tells_any e (length (c ∷ xs)) (y + 1) ds h on (omega (arith, end)))
-          (tells_way (e ≡ z) d y b b (start + length (c ∷ xs)) [] (takes_to (f ∷ ys) ds) false
-          (tells_place (e ≡ z) (start + length (c ∷ xs)) (y + 1) ds (ways_to tail next (f ∷ ys) (start + length (c ∷ xs) + 1)) (takes_to (f ∷ ys) ds) right.0 on
-          (tells_to e f ys (y + 1) (start + length (c ∷ xs) + 1) ds (omega (arith, len, h))
-          (stand_behind prog (start + length (c ∷ xs)) (block_to tail next ys (start + length (c ∷ xs) + 1)) right.1) on (omega (arith, end, len))))
-          (tells_nothing (e ≡ z) (y + 1))))))
-          (cases_eq a b)
-
-      -- the walks over a piece
-      tells_piece : (p : Range) (n : ℕ) → IsPiece p n → (y start : ℕ) (bs : List ℕ) → Stand prog start (piece_block tail next p start) →
-          ahead t hi y ≡ bs → Tells (y + n ≡ z) (over bs y (piece_ways tail next p start)) (y + 1) (takes_piece p bs)
-      tells_piece p n q y start bs st at = from (encode_utf8 p.0) (encode_utf8 p.1) q.first q.last st
-        where
-          from : (xs ys : List ℕ) → length xs ≡ n → length ys ≡ n → Stand prog start (block_within tail next xs ys start) →
-              Tells (y + n ≡ z) (over bs y (ways_within tail next xs ys start)) (y + 1) (takes_within xs ys bs)
-          from [] ys a b st = let some = q.some in absurd (omega (arith, a, some))
-          from (x ∷ xs) [] a b st = absurd (omega (arith, a, b))
-          from (x ∷ xs) (w ∷ ys) a b st =
-              let short = q.short in
-              tells_within (y + n) x xs w ys y start bs (omega (arith, a, b)) (omega (arith, a, short)) st at (omega (arith, a))
-
-      piece_freely : (p : Range) (n : ℕ) → IsPiece p n → (y start : ℕ) (bs : List ℕ) → Stand prog start (piece_block tail next p start) →
-          ahead t hi y ≡ bs → ((c k : ℕ) → scalar_at bs ≡ Some (c, k) → (nat_le p.0 c && nat_le c p.1) ≡ true → y + k ≡ z) →
-          Tells (Unit {0}) (over bs y (piece_ways tail next p start)) (y + 1) (takes_piece p bs)
-      piece_freely p n q y start bs st at right =
-          let x = tells_piece p n q y start bs st at in
-          record {
-            yes = λ h k r low. let b = q.from bs h in
-                let e = right b.0 n b.1 (inside_from p.0 p.1 b.0 b.2 b.3) in x.yes h e r low;
-            none = λ h r low. x.none h r low;
-          }
+          let inner = tree_block count tail next below start in
+          let here = start + size below in
+          let outer = tree_block count tail next others (here + 1) in
+          let length_is = length-tree_block count tail next below start in
+          let e : start + length inner ≡ here = omega (arith, length_is) in
+          let mid : Stand prog here (branch (tree_ways count tail next below start) ∷ outer) =
+          subst (λ k. Stand prog k (branch (tree_ways count tail next below start) ∷ outer)) e
+          (Stand-right prog start inner (branch (tree_ways count tail next below start) ∷ outer) st) in
+          tells_when (Unit {0}) d y a b here (tree_ways count tail next others (here + 1)) (takes below ds) (takes others (d ∷ ds))
+          (λ i. tells_place (Unit {0}) here (y + 1) ds (tree_ways count tail next below start) (takes below ds) mid.0 on
+          (tells_tree below (y + 1) start ds (omega (arith, h)) (Stand-left prog start inner (branch (tree_ways count tail next below start) ∷ outer) st) on
+          (λ k x. let f = right (suc k) (by_below i x) in omega (arith, f))))
+          (tells_tree others y (here + 1) (d ∷ ds) (omega (arith, h)) (stand_behind prog here outer mid.1) at (λ k x. right k (past_way x)))
 
       -- the walks over the scalars of some pieces
-      pub tells_class : (ps : List Range) → EachPiece ps → (y start : ℕ) (bs : List ℕ) → Stand prog start (class_block tail next ps start) →
+      pub tells_class : (ps : List Range) → EachPiece ps → (y start : ℕ) (bs : List ℕ) → depth (tree_of (sequences ps)) ≤ count →
+          Stand prog start (tree_block count tail next (tree_of (sequences ps)) start) →
           ahead t hi y ≡ bs → ((c k : ℕ) → scalar_at bs ≡ Some (c, k) → in_ranges ps c ≡ true → y + k ≡ z) →
-          Tells (Unit {0}) (over bs y (class_ways tail next ps start)) (y + 1) (takes_class ps bs)
-      tells_class [] each y start [] st at right = tells_nothing (Unit {0}) (y + 1)
-      tells_class [] each y start (d ∷ ds) st at right = tells_nothing (Unit {0}) (y + 1)
-      tells_class (p ∷ ps) each y start bs st at right =
-          let here = piece_block tail next p start in
-          let behind = start + length here in
-          let later = class_block tail next ps behind in
-          subst (λ f. Tells (Unit {0}) f (y + 1) (takes_class (p ∷ ps) bs)) (sym (over_both bs y (piece_ways tail next p start) (class_ways tail next ps behind)))
-          (tells_append (Unit {0}) (over bs y (piece_ways tail next p start)) (over bs y (class_ways tail next ps behind)) (y + 1) (takes_piece p bs) (takes_class ps bs)
-          (piece_freely p each.0.0 each.0.1 y start bs (Stand-left prog start here later st) at (λ c k e i. right c k e (or_left _ _ i)))
-          (tells_class ps each.1 y behind bs (Stand-right prog start here later st) at (λ c k e i. right c k e (or_right _ _ i))))
+          Tells (Unit {0}) (over bs y (tree_ways count tail next (tree_of (sequences ps)) start)) (y + 1) (takes_class ps bs)
+      tells_class ps each y start bs deep st at right =
+          subst (λ ok. Tells (Unit {0}) (over bs y (tree_ways count tail next (tree_of (sequences ps)) start)) (y + 1) ok) (class_takes ps each bs)
+          (tells_tree (tree_of (sequences ps)) y start bs deep st at
+          (λ k h. let r = class_parts ps each bs k h in right r.0 k r.1 r.2))

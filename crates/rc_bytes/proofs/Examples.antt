@@ -1,81 +1,50 @@
 -- Byte programs, run on worked rows.
-use Rattle.std.proofs.Common.{◌≡◌, ℕ, false, List, [], ◌∷◌, length, Some, None, refl}
-use Rattle.std.specs.Option.{option_map}
+use Rattle.std.proofs.Common.{◌≡◌, List, [], ◌∷◌, length, refl}
 use Rattle.std.specs.Char.{encode_utf8}
-use Rattle.rc_text.specs.Found.{Found}
-use Rattle.rc_pattern.specs.Re.{Range}
-use Rattle.rc_program.specs.Text.{Text}
-use Rattle.rc_program.specs.Program.{Place, branch, scalar, accept, ways}
-use Rattle.rc_program.specs.Answer.{Search, at_start, answer, chosen}
+use Rattle.rc_pattern.specs.Re.{Range, literal, char_in, cat}
+use Rattle.rc_program.specs.Program.{Place, branch, scalar, accept, program}
 use Rattle.rc_bytes.specs.Bytes.{bytes_of}
-use Rattle.rc_bytes.specs.Laws.{by_bytes}
 
 -- a class and a match place
 abbrev class_of : List Range → List Place
 class_of rs = scalar rs 1 ∷ accept 0 ∷ []
 
-abbrev text_of : List ℕ → Text
-text_of content = record { content = content; slice_start = 0; slice_end = length content; terminator = 10 }
+abbrev any_but_feed : List Range
+any_but_feed = (0, 9) ∷ (11, 0x10_FFFF) ∷ []
 
-abbrev over : List Range → List ℕ → Search
-over rs content = record {
-  places = class_of rs;
-  text = text_of content;
-  lo = 0;
-  hi = length content;
-  anchoring = at_start;
-  passes_over = false;
-}
-
-abbrev end_of : Found → ℕ
-end_of m = m.end
-
--- `[é-ÿ]`
-abbrev latin : List Range
-latin = (0xE9, 0xFF) ∷ []
-
--- `é` is C3 A9: the byte program reads it in two steps
-first_byte : ways (bytes_of (class_of latin)) (text_of (0xC3 ∷ 0xA9 ∷ [])) 2 (0, 0) ≡ (5, 1) ∷ []
+-- `\d` of ASCII is one place
+digit : bytes_of (class_of ((48, 57) ∷ [])) ≡ branch (((48, 57), 1) ∷ []) ∷ accept 0 ∷ []
 unfolding encode_utf8
-first_byte = refl
+digit = refl
 
-second_byte : ways (bytes_of (class_of latin)) (text_of (0xC3 ∷ 0xA9 ∷ [])) 2 (5, 1) ≡ (1, 2) ∷ []
+-- `.` is one place, four places behind a lead byte, and three that read any so many continuation bytes
+dot : bytes_of (class_of any_but_feed) ≡
+    branch (((0, 9), 1) ∷ ((11, 127), 1) ∷ ((194, 223), 4) ∷ ((224, 224), 5) ∷ ((225, 236), 3) ∷ ((237, 237), 6) ∷ ((238, 239), 3)
+    ∷ ((240, 240), 7) ∷ ((241, 243), 2) ∷ ((244, 244), 8) ∷ [])
+    ∷ accept 0
+    ∷ branch (((128, 191), 3) ∷ []) ∷ branch (((128, 191), 4) ∷ []) ∷ branch (((128, 191), 1) ∷ [])
+    ∷ branch (((160, 191), 4) ∷ []) ∷ branch (((128, 159), 4) ∷ []) ∷ branch (((144, 191), 3) ∷ []) ∷ branch (((128, 143), 3) ∷ []) ∷ []
 unfolding encode_utf8
-second_byte = refl
+dot = refl
 
--- `è` is C3 A8, before the range
-before_range : ways (bytes_of (class_of latin)) (text_of (0xC3 ∷ 0xA8 ∷ [])) 2 (5, 1) ≡ []
+-- `a.c`
+a_dot_c : length (bytes_of (program (cat (literal (97 ∷ [])) (cat (char_in any_but_feed) (literal (99 ∷ []))) ∷ []))) ≡ 13
 unfolding encode_utf8
-before_range = refl
+a_dot_c = refl
 
--- the second byte is missing
-broken : ways (bytes_of (class_of latin)) (text_of (0xC3 ∷ 0x41 ∷ [])) 2 (5, 1) ≡ []
+-- `[à-éù-ü]`: one place behind their one lead byte
+latin : bytes_of (class_of ((0xE0, 0xE9) ∷ (0xF9, 0xFC) ∷ [])) ≡
+    branch (((195, 195), 2) ∷ []) ∷ accept 0 ∷ branch (((160, 169), 1) ∷ ((185, 188), 1) ∷ []) ∷ []
 unfolding encode_utf8
-broken = refl
+latin = refl
 
--- a continuation byte begins no scalar
-lone : ways (bytes_of (class_of ((0, 0x10_FFFF) ∷ []))) (text_of (0xA9 ∷ [])) 1 (0, 0) ≡ []
+-- `[一-鿿]`, U+4E00 to U+9FFF: E4 B8 80 to E9 BF BF
+han : bytes_of (class_of ((0x4E00, 0x9FFF) ∷ [])) ≡
+    branch (((228, 228), 4) ∷ ((229, 233), 2) ∷ []) ∷ accept 0 ∷ branch (((128, 191), 3) ∷ []) ∷ branch (((128, 191), 1) ∷ [])
+    ∷ branch (((184, 191), 3) ∷ []) ∷ []
 unfolding encode_utf8
-lone = refl
-
--- ED A0 80 would be the surrogate D800: no walk goes on over A0
-surrogate : ways (bytes_of (class_of ((0xD000, 0xF000) ∷ []))) (text_of (0xED ∷ 0xA0 ∷ 0x80 ∷ [])) 3 (5, 1) ≡ []
-unfolding encode_utf8
-surrogate = refl
+han = refl
 
 -- no scalar is in the empty class
 empty_class : bytes_of (class_of []) ≡ branch [] ∷ accept 0 ∷ []
 empty_class = refl
-
--- `[a-c]` on `b`, and the euro sign's three bytes by any scalar
-one_byte : option_map end_of (answer (by_bytes (over ((0x61, 0x63) ∷ []) (0x62 ∷ [])))) ≡ Some 1
-unfolding answer chosen encode_utf8
-one_byte = refl
-
-three_bytes : option_map end_of (answer (by_bytes (over ((0, 0x10_FFFF) ∷ []) (0xE2 ∷ 0x82 ∷ 0xAC ∷ [])))) ≡ Some 3
-unfolding answer chosen encode_utf8
-three_bytes = refl
-
-cut_short : option_map end_of (answer (by_bytes (over ((0, 0x10_FFFF) ∷ []) (0xE2 ∷ 0x82 ∷ [])))) ≡ None
-unfolding answer chosen encode_utf8
-cut_short = refl

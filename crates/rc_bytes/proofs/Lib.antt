@@ -1,4 +1,5 @@
 pub mod TakeLemmas
+pub mod TreeLemmas
 pub mod ScalarLemmas
 pub mod AppendLemmas
 pub mod BlockLemmas
@@ -7,6 +8,8 @@ pub mod SameLemmas
 pub mod AnswerLemmas
 pub mod SizeLemmas
 pub mod GreatestLemmas
-pub mod CodeLemmas
+pub mod SequenceLemmas
+pub mod PlaceLemmas
 pub mod AddLemmas
+pub mod SpanLemmas
 mod Examples

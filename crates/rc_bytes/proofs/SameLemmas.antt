@@ -22,10 +22,10 @@ use Rattle.rc_program.proofs.WayLemmas.{same_pair, no_way_from, past_places, way
 use Rattle.rc_program.proofs.PlaceLemmas.{ways_closed}
 use Rattle.rc_program.proofs.PartLemmas.{Stand, Stand-left, Stand-right}
 use Rattle.rc_program.proofs.AnswerLemmas.{is_bounded}
-use Rattle.rc_bytes.specs.Bytes.{Ways, tails, class_ways, class_block, all_pieces, byte_place, block, bytes_of}
+use Rattle.rc_bytes.specs.Bytes.{Ways, tails, depth, class_tree, tree_block, class_ways, all_pieces, byte_place, block, bytes_of}
 use Rattle.rc_bytes.specs.Laws.{by_bytes}
 use Rattle.rc_bytes.proofs.ScalarLemmas.{all_pieces_each, in_all_pieces, scalar_of}
-use Rattle.rc_bytes.proofs.BlockLemmas.{over, takes_class, class_test, class_none, tells_class, tells_nothing, Tells}
+use Rattle.rc_bytes.proofs.BlockLemmas.{over, takes_class, class_test, class_none, tells_class, Tells, length-tails}
 use Rattle.rc_bytes.proofs.LayoutLemmas.{stands_at}
 
 names_same : (k b : ℕ) (q : Place) → names (byte_place b q) k ≡ names q k
@@ -196,16 +196,16 @@ module _ (s : Search) (closed : IsClosed s.places) (test : Place → ℕ → Boo
   class_tells : (n : Pair) (rs : List Range) (next b z : ℕ) (o : Option (List Pair)) → Finds T F [] ((next, z) ∷ []) o →
       Stand B b (block b (scalar rs next)) →
       ((c k : ℕ) → scalar_at (bytes_at n) ≡ Some (c, k) → in_ranges (all_pieces rs) c ≡ true → n.1 + k ≡ z) →
-      Tells B s.text s.hi test accepts next z o (Unit {0}) (over (bytes_at n) n.1 (class_ways b next (all_pieces rs) (b + 3))) (n.1 + 1)
+      Tells B s.text s.hi test accepts next z o (Unit {0}) (over (bytes_at n) n.1 (class_ways b next rs)) (n.1 + 1)
       (takes_class (all_pieces rs) (bytes_at n))
-  class_tells n [] next b z o found st right =
-      subst (λ f. Tells B s.text s.hi test accepts next z o (Unit {0}) f (n.1 + 1) false) (sym (over_nothing (bytes_at n) n.1))
-      (tells_nothing B s.text s.hi test accepts next z o (Unit {0}) (n.1 + 1))
-  class_tells n (r ∷ rs) next b z o found st right =
-      tells_class B s.text s.hi test accepts next z o found b
-      (Stand-left B b (tails b next) (class_block b next (all_pieces (r ∷ rs)) (b + 3)) st)
-      (all_pieces (r ∷ rs)) (all_pieces_each (r ∷ rs)) n.1 (b + 3) (bytes_at n)
-      (Stand-right B b (tails b next) (class_block b next (all_pieces (r ∷ rs)) (b + 3)) st) refl right
+  class_tells n rs next b z o found st right =
+      let count = depth (class_tree rs) in
+      let first = tails count b next in
+      let behind = tree_block count b next (class_tree rs) (b + count) in
+      tells_class B s.text s.hi test accepts next z o found count b
+      (Stand-left B b first behind st)
+      (all_pieces rs) (all_pieces_each rs) n.1 (b + count) (bytes_at n) (omega arith)
+      (subst (λ k. Stand B (b + k) behind) (length-tails count b next) (Stand-right B b first behind st)) refl right
 
   -- something is found from each pair
   found_at : (next : ℕ) → Finds T F [] ((next, 0) ∷ []) (walk_by T (may_end B) (length B * (s.hi + 1)) [] (next, 0))
@@ -220,7 +220,7 @@ module _ (s : Search) (closed : IsClosed s.places) (test : Place → ℕ → Boo
   module _ (n : Pair) (p : List Pair) (low : AllUpTo n.1 p) (rs : List Range) (next b : ℕ) (st : Stand B b (block b (scalar rs next)))
       (walk : Pair → Option (List Pair)) where
     abbrev f : List Pair
-    f = over (bytes_at n) n.1 (class_ways b next (all_pieces rs) (b + 3))
+    f = over (bytes_at n) n.1 (class_ways b next rs)
 
     dead : takes_class (all_pieces rs) (bytes_at n) ≡ false →
         ((c k : ℕ) → scalar_at (bytes_at n) ≡ Some (c, k) → in_ranges (all_pieces rs) c ≡ true → n.1 + k ≡ 0) → HasNoWalk T F (n ∷ p) f
@@ -291,13 +291,13 @@ module _ (s : Search) (closed : IsClosed s.places) (test : Place → ℕ → Boo
       by_class : (rs : List Range) × (next : ℕ) × (place_at s.places n.0 ≡ scalar rs next) → Also (n ∷ p) (T n) (by_ways walk (S n))
       by_class c =
           let r = stands_at s.places n.0 h in
-          let e : T n ≡ over (bytes_at n) n.1 (class_ways r.0 c.1 (all_pieces c.0) (r.0 + 3)) =
+          let e : T n ≡ over (bytes_at n) n.1 (class_ways r.0 c.1 c.0) =
           ap (λ q. map (pair_at n.1) (ways_out (λ l. holds s.text l n.1) (bytes_at n) q)) (r.1 ∙ ap (byte_place r.0) c.2) in
           let d : S n ≡ map (pair_at n.1) (over_scalar c.0 c.1 (scalar_at (bytes_at n))) =
           ap (λ q. map (pair_at n.1) (ways_out (λ l. holds s.text l n.1) (bytes_at n) q)) c.2 in
           let st : Stand B r.0 (block r.0 (scalar c.0 c.1)) = subst (λ q. Stand B r.0 (block r.0 q)) c.2 r.2 in
           subst (λ ms. Also (n ∷ p) ms (by_ways walk (S n))) (sym e)
-          (subst (λ ms. Also (n ∷ p) (over (bytes_at n) n.1 (class_ways r.0 c.1 (all_pieces c.0) (r.0 + 3))) (by_ways walk ms)) (sym d)
+          (subst (λ ms. Also (n ∷ p) (over (bytes_at n) n.1 (class_ways r.0 c.1 c.0)) (by_ways walk ms)) (sym d)
           (class_also n p low c.0 c.1 r.0 st walk (scalar_at (bytes_at n)) refl
           (λ m i. each m (subst (λ ms. IsIn m ms) (sym d) i))))
 

@@ -1,5 +1,5 @@
 -- The byte program of a program: each place of scalars is a branch over bytes, with a block of places of its own behind the program's.
-use Rattle.std.specs.Prelude.{ℕ, zero, suc, ◌+◌, ◌-◌, List, [], ◌∷◌, ◌++◌, length, max, min, nat_le, nat_eq, if◌then◌else◌, encode_utf8}
+use Rattle.std.specs.Prelude.{ℕ, zero, suc, ◌+◌, ◌-◌, Bool, true, false, ◌&&◌, List, [], ◌∷◌, ◌++◌, length, map, max, min, nat_le, nat_lt, nat_eq, if◌then◌else◌, encode_utf8}
 use Rattle.rc_pattern.specs.Re.{Range}
 use Rattle.rc_program.specs.Program.{Place, branch, scalar}
 
@@ -16,82 +16,152 @@ abbrev pub all_pieces : List Range → List Range
 all_pieces [] = []
 all_pieces (r ∷ rs) = pieces r ++ all_pieces rs
 
+-- A sequence of ranges of bytes: one byte of each range in turn, and then any so many continuation bytes.
+abbrev pub Sequence : Type 0
+Sequence = List Range × ℕ
+
+-- the sequence of one range, and n continuation bytes
+abbrev pub only_range : ℕ → ℕ → ℕ → List Sequence
+only_range a b n = ((a, b) ∷ [], n) ∷ []
+
+-- the same, if the range has a byte
+abbrev pub if_some : ℕ → ℕ → ℕ → List Sequence
+if_some a b n = if nat_le a b then only_range a b n else []
+
+-- the ranges in front of each
+abbrev pub after : List Range → List Sequence → List Sequence
+after rs = map (λ (s : Sequence). (rs ++ s.0, s.1))
+
+-- the byte a in front of each
+abbrev pub behind : ℕ → List Sequence → List Sequence
+behind a = after ((a, a) ∷ [])
+
+abbrev pub all_are : ℕ → List ℕ → Bool
+all_are x [] = true
+all_are x (a ∷ xs) = nat_eq a x && all_are x xs
+
+-- bytes that are at least these, the first of them at most `last`
+abbrev pub from_bytes : List ℕ → ℕ → List Sequence
+from_bytes [] last = []
+from_bytes (a ∷ xs) last =
+    if all_are 128 xs && nat_le a last then only_range a last (length xs)
+    else behind a (from_bytes xs 191) ++ if_some (a + 1) last (length xs)
+
+-- continuation bytes that are at most these
+abbrev pub to_bytes : List ℕ → List Sequence
+to_bytes [] = []
+to_bytes (b ∷ bs) =
+    if all_are 191 bs then only_range 128 b (length bs)
+    else if_some 128 (b - 1) (length bs) ++ behind b (to_bytes bs)
+
+-- behind the one first byte: if `all`, any n continuation bytes, and else these
+abbrev pub over_one : Bool → ℕ → ℕ → List Sequence → List Sequence
+over_one true a n below = only_range a a n
+over_one false a n below = behind a below
+
+-- from a lesser first byte to a greater; `all` says that each sequence by the greater is reached
+abbrev pub over_both : Bool → List ℕ → ℕ → List ℕ → List Sequence
+over_both true xs b bs = from_bytes xs b
+over_both false xs b bs = from_bytes xs (b - 1) ++ behind b (to_bytes bs)
+
+-- as many bytes from the one to the other
+abbrev pub within_bytes : List ℕ → List ℕ → List Sequence
+within_bytes (a ∷ []) (b ∷ bs) = only_range a b 0
+within_bytes (a ∷ c ∷ xs) (b ∷ bs) =
+    if nat_eq a b then over_one (all_are 128 (c ∷ xs) && all_are 191 bs) a (length (c ∷ xs)) (within_bytes (c ∷ xs) bs)
+    else over_both (all_are 191 bs && nat_lt a b) (a ∷ c ∷ xs) b bs
+within_bytes xs bs = []
+
+-- the bytes of the scalars of a piece
+abbrev pub piece_sequences : Range → List Sequence
+piece_sequences p = within_bytes (encode_utf8 p.0) (encode_utf8 p.1)
+
+abbrev pub sequences : List Range → List Sequence
+sequences [] = []
+sequences (p ∷ ps) = piece_sequences p ++ sequences ps
+
+-- A tree of sequences: the ways over the first byte, in order.
+pub data Tree : Type 0 where
+  none : Tree
+  -- a byte of the range, then any `rest` continuation bytes
+  ends : (first last rest : ℕ) (others : Tree) → Tree
+  -- a byte of the range, then what the tree below it has
+  goes : (first last : ℕ) (below others : Tree) → Tree
+
+-- the tree with one more sequence in front; the two share the places along the ranges that they have in common
+abbrev pub put : List Range → ℕ → Tree → Tree
+put [] n tree = tree
+put (r ∷ []) n tree = ends r.0 r.1 n tree
+put (r ∷ q ∷ qs) n (goes a b below others) =
+    if nat_eq r.0 a && nat_eq r.1 b then goes a b (put (q ∷ qs) n below) others
+    else goes r.0 r.1 (put (q ∷ qs) n none) (goes a b below others)
+put (r ∷ q ∷ qs) n tree = goes r.0 r.1 (put (q ∷ qs) n none) tree
+
+abbrev pub tree_of : List Sequence → Tree
+tree_of [] = none
+tree_of (s ∷ ss) = put s.0 s.1 (tree_of ss)
+
+abbrev pub class_tree : List Range → Tree
+class_tree rs = tree_of (sequences (all_pieces rs))
+
+-- how many continuation bytes a way ends with at most
+abbrev pub depth : Tree → ℕ
+depth none = 0
+depth (ends a b n others) = max n (depth others)
+depth (goes a b below others) = max (depth below) (depth others)
+
 -- the ways of a branch: of each range of bytes the place to which it leads
 abbrev pub Ways : Type 0
 Ways = List (Range × ℕ)
 
--- Behind three places that read any three, two and one continuation bytes and lead to `next`, of which the first is `tail`: the place
--- that reads any so many.
-abbrev pub rest_of : ℕ → ℕ → ℕ → ℕ
-rest_of tail next zero = next
-rest_of tail next (suc n) = tail + (2 - n)
+-- Behind `count` places that read any so many continuation bytes, the first the most, of which the first stands at `tail`, and that lead
+-- to `next`: the place that reads any n.
+abbrev pub rest_of : ℕ → ℕ → ℕ → ℕ → ℕ
+rest_of count tail next zero = next
+rest_of count tail next (suc n) = tail + (count - suc n)
 
--- the three
-abbrev pub tails : ℕ → ℕ → List Place
-tails tail next =
-    branch (((128, 191), tail + 1) ∷ []) ∷ branch (((128, 191), tail + 2) ∷ []) ∷ branch (((128, 191), next) ∷ []) ∷ []
+-- these places
+abbrev pub tails : ℕ → ℕ → ℕ → List Place
+tails zero tail next = []
+tails (suc count) tail next = branch (((128, 191), rest_of count (tail + 1) next count) ∷ []) ∷ tails count (tail + 1) next
 
--- the ways over continuation bytes that are at least these, where the block of the way by the first of them stands at `start`
-abbrev pub ways_from : ℕ → ℕ → List ℕ → ℕ → Ways
-ways_from tail next [] start = []
-ways_from tail next (a ∷ []) start = ((a, 191), next) ∷ []
-ways_from tail next (a ∷ c ∷ xs) start = ((a, a), start) ∷ ((a + 1, 191), rest_of tail next (length (c ∷ xs))) ∷ []
+-- how many places the trees below take
+abbrev pub size : Tree → ℕ
+size none = 0
+size (ends a b n others) = size others
+size (goes a b below others) = 1 + (size below + size others)
 
-abbrev pub block_from : ℕ → ℕ → List ℕ → ℕ → List Place
-block_from tail next [] start = []
-block_from tail next (a ∷ xs) start = branch (ways_from tail next (a ∷ xs) (start + 1)) ∷ block_from tail next xs (start + 1)
+-- the ways of a tree, where the places of the trees below stand from `start` on, each behind those below it
+abbrev pub tree_ways : ℕ → ℕ → ℕ → Tree → ℕ → Ways
+tree_ways count tail next none start = []
+tree_ways count tail next (ends a b n others) start = ((a, b), rest_of count tail next n) ∷ tree_ways count tail next others start
+tree_ways count tail next (goes a b below others) start =
+    ((a, b), start + size below) ∷ tree_ways count tail next others (start + size below + 1)
 
--- the ways over continuation bytes that are at most these
-abbrev pub ways_to : ℕ → ℕ → List ℕ → ℕ → Ways
-ways_to tail next [] start = []
-ways_to tail next (b ∷ []) start = ((128, b), next) ∷ []
-ways_to tail next (b ∷ c ∷ bs) start = ((128, b - 1), rest_of tail next (length (c ∷ bs))) ∷ ((b, b), start) ∷ []
+-- these places
+abbrev pub tree_block : ℕ → ℕ → ℕ → Tree → ℕ → List Place
+tree_block count tail next none start = []
+tree_block count tail next (ends a b n others) start = tree_block count tail next others start
+tree_block count tail next (goes a b below others) start =
+    tree_block count tail next below start
+    ++ branch (tree_ways count tail next below start) ∷ tree_block count tail next others (start + size below + 1)
 
-abbrev pub block_to : ℕ → ℕ → List ℕ → ℕ → List Place
-block_to tail next [] start = []
-block_to tail next (b ∷ bs) start = branch (ways_to tail next (b ∷ bs) (start + 1)) ∷ block_to tail next bs (start + 1)
+-- the ways over the scalars of the ranges, and their places, where these stand at `start` and lead to `next`
+abbrev pub class_ways : ℕ → ℕ → List Range → Ways
+class_ways start next rs = tree_ways (depth (class_tree rs)) start next (class_tree rs) (start + depth (class_tree rs))
 
--- the ways over as many bytes from the one sequence to the other: along both while they are the same, and then along each
-abbrev pub ways_within : ℕ → ℕ → List ℕ → List ℕ → ℕ → Ways
-ways_within tail next (a ∷ []) (b ∷ bs) start = ((a, b), next) ∷ []
-ways_within tail next (a ∷ c ∷ xs) (b ∷ bs) start =
-    if nat_eq a b then ((a, a), start) ∷ []
-    else ((a, a), start) ∷ ((a + 1, b - 1), rest_of tail next (length (c ∷ xs))) ∷ ((b, b), start + length (c ∷ xs)) ∷ []
-ways_within tail next xs bs start = []
-
-abbrev pub block_within : ℕ → ℕ → List ℕ → List ℕ → ℕ → List Place
-block_within tail next (a ∷ c ∷ xs) (b ∷ bs) start =
-    if nat_eq a b then branch (ways_within tail next (c ∷ xs) bs (start + 1)) ∷ block_within tail next (c ∷ xs) bs (start + 1)
-    else block_from tail next (c ∷ xs) start ++ block_to tail next bs (start + length (c ∷ xs))
-block_within tail next xs bs start = []
-
--- the ways over the scalars of a piece
-abbrev pub piece_ways : ℕ → ℕ → Range → ℕ → Ways
-piece_ways tail next p start = ways_within tail next (encode_utf8 p.0) (encode_utf8 p.1) start
-
-abbrev pub piece_block : ℕ → ℕ → Range → ℕ → List Place
-piece_block tail next p start = block_within tail next (encode_utf8 p.0) (encode_utf8 p.1) start
-
--- the ways over the scalars of the pieces, whose blocks stand one behind another
-abbrev pub class_ways : ℕ → ℕ → List Range → ℕ → Ways
-class_ways tail next [] start = []
-class_ways tail next (p ∷ ps) start =
-    piece_ways tail next p start ++ class_ways tail next ps (start + length (piece_block tail next p start))
-
-abbrev pub class_block : ℕ → ℕ → List Range → ℕ → List Place
-class_block tail next [] start = []
-class_block tail next (p ∷ ps) start =
-    piece_block tail next p start ++ class_block tail next ps (start + length (piece_block tail next p start))
+abbrev pub class_block : ℕ → ℕ → List Range → List Place
+class_block start next rs =
+    tails (depth (class_tree rs)) start next ++ tree_block (depth (class_tree rs)) start next (class_tree rs) (start + depth (class_tree rs))
 
 -- a place of the byte program, where its block stands at `start`
 abbrev pub byte_place : ℕ → Place → Place
-byte_place start (scalar rs n) = branch (class_ways start n (all_pieces rs) (start + 3))
+byte_place start (scalar rs n) = branch (class_ways start n rs)
 byte_place start q = q
 
 -- its block
 abbrev pub block : ℕ → Place → List Place
-block start (scalar [] n) = []
-block start (scalar (r ∷ rs) n) = tails start n ++ class_block start n (all_pieces (r ∷ rs)) (start + 3)
+block start (scalar rs n) = class_block start n rs
 block start q = []
 
 -- the places, whose blocks stand one behind another

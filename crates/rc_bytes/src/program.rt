@@ -4,19 +4,19 @@ ghost use Rattle.std.specs.Prelude.{◌≡◌, ◌+◌, ◌*◌, ◌<◌, ◌≤
 ghost use Rattle.rc_pattern.specs.Meaning.{char_range};
 ghost use Rattle.rc_program.specs.Program.{scalar};
 ghost use Rattle.rc_program.specs.Laws.{heaviness, place_weight};
-ghost use Rattle.rc_compile.specs.Places.{place_of as source_of, places_of as sources_of};
+ghost use Rattle.rc_program.specs.Places.{place_of as source_of, places_of as sources_of};
 ghost use Rattle.rc_bytes.specs.Bytes.{block, byte_place, bytes_of};
 ghost use Rattle.rc_bytes.specs.Places.{places_of};
 
-mod block;
-mod class;
+mod sequence;
+mod tree;
 
 use crate::place::BytePlace;
-use block::{Exits, append};
-use class::{add_class, add_tails};
-use rc_compile::place::Place;
 use rc_pattern::hir::ClassUnicodeRange;
+use rc_program::place::Place;
+use sequence::class_sequences;
 use std::alloc::{AllocError, Global};
+use tree::{Exits, add_tails, add_tree, append, longest};
 
 /// Adds a place of scalars and its block.
 fn add_scalars(
@@ -34,16 +34,14 @@ fn add_scalars(
     ensures behind { IfOk result (λ _. places_of blocks.new.items
         ≡ places_of blocks.old.items ++ block (first + vec_len blocks.old) (scalar (map char_range ranges.now) next)) }
 {
-    if ranges.is_empty() {
-        return append(places, BytePlace::Branch(Vec::new(alloc)));
-    }
+    let sequences = class_sequences(alloc, ranges)?;
     let exits = Exits {
+        count: longest(&sequences),
         tail: first + blocks.len(),
         next,
     };
     add_tails(alloc, blocks, exits)?;
-    let mut ways = Vec::new(alloc);
-    add_class(alloc, &mut ways, blocks, first, exits, ranges)?;
+    let ways = add_tree(alloc, blocks, first, exits, &sequences, 0)?;
     append(places, BytePlace::Branch(ways))
 }
 
@@ -94,6 +92,3 @@ pub fn byte_program(alloc: Global, program: &[Place]) -> Result<Vec<BytePlace>, 
     places.append(&mut blocks)?;
     Ok(places)
 }
-
-#[cfg(test)]
-mod tests;

@@ -3,5 +3,3 @@
 
 pub mod captures;
 pub mod groups;
-#[cfg(test)]
-mod tests;

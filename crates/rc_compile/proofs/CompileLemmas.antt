@@ -16,9 +16,9 @@ use Rattle.rc_program.specs.Laws.{all_groups}
 use Rattle.rc_program.proofs.PlaceLemmas.{length-program}
 use Rattle.rc_program.proofs.WeightLemmas.{program_small}
 use Rattle.rc_program.proofs.GroupLemmas.{shown_lighter, shown_all, without_groups_bounded, group_numbers-without_groups}
-use Rattle.rc_compile.specs.Places.{places_of}
+use Rattle.rc_program.specs.Places.{places_of}
 use Rattle.rc_compile.specs.Shown.{greatest_group, shown_one, laid}
-use Rattle.rc_compile.specs.declared.place.Place as code
+use Rattle.rc_program.specs.declared.place.Place as code
 use Rattle.rc_compile.proofs.EmitLemmas.{Emits}
 
 -- each number is one that a group of a light pattern may have

@@ -2,14 +2,9 @@
 use Rattle.std.proofs.Common.{◌≡◌, ℕ, zero, suc, ◌+◌, ◌-◌, ◌<◌, ◌≤◌, List, [], ◌∷◌, ◌++◌, Bool, Result, Ok, Err, IfOk, sym, ap, ◌∙◌, refl, arith, append_assoc, subst, vec_len, Vec, Global}
 use Rattle.std.specs.List.{AllZip}
 use Rattle.rc_program.specs.Program.{Place, Part, byte, body_or_out, then_part, optional, plus, copies, up_to, at_least, literal_part, bytes_in_order}
-use Rattle.rc_compile.specs.Places.{place_of, places_of}
-use Rattle.rc_compile.specs.declared.place.Place as code
+use Rattle.rc_program.specs.Places.{place_of, places_of}
+use Rattle.rc_program.specs.declared.place.Place as code
 use Rattle.rc_compile.proofs.SizeLemmas.{at_least_some}
-
--- what a call ensures where it answers Ok gives what is wanted there
-pub IfOk_to : {T E : Type 0} (r : Result T E) (P Q : Type 0) → IfOk r (λ _. P) → (P → Q) → IfOk r (λ _. Q)
-IfOk_to (Ok x) P Q h f = f h
-IfOk_to (Err e) P Q h f = h
 
 -- a list whose members are each a copy of another list's is that list
 pub same_members : {T : Type 0} (xs ys : List T) → AllZip (λ x y. y ≡ x) xs ys → ys ≡ xs

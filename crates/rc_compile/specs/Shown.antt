@@ -1,3 +1,4 @@
+-- Only proofs use this file.
 -- One pattern as a program shows it.
 use Rattle.std.specs.Prelude.{ℕ, min, Bool, if◌then◌else◌}
 use Rattle.rc_pattern.specs.Re.{Re, repeat, capture, cat, alt}

@@ -5,16 +5,16 @@ ghost use Rattle.rc_pattern.specs.Meaning.{meaning};
 ghost use Rattle.rc_pattern.specs.Weight.{list_weight};
 ghost use Rattle.rc_pattern.specs.WellFormed.{IsWellFormed, group_count};
 ghost use Rattle.rc_program.specs.Program.{choice, pattern_part, program, shown};
-ghost use Rattle.rc_compile.specs.Places.{places_of};
+ghost use Rattle.rc_program.specs.Places.{places_of};
 ghost use Rattle.rc_compile.specs.Shown.{laid, shown_one};
 
 mod emit;
 mod sizes;
 
-use crate::place::Place;
 use emit::{append, emit};
 use rc_pattern::check::group_count;
 use rc_pattern::hir::Hir;
+use rc_program::place::Place;
 use sizes::size;
 use std::alloc::{AllocError, Global};
 
@@ -68,6 +68,3 @@ pub fn compile(alloc: Global, hirs: &[Hir], groups: bool) -> Result<Vec<Place>, 
     append(&mut places, Place::Dead)?;
     Ok(places)
 }
-
-#[cfg(test)]
-mod tests;

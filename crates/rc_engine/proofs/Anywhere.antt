@@ -23,6 +23,24 @@ module _ {X : Type 0} (begin end : X → ℕ) (find : ℕ → Option X) (low hig
       (omega (arith, h.0, h.2), h.3))
       (cases_Bool (Matches.is_again begin end (Some last) n))
 
+  unless_spans : (k : ℕ) (last : Option ℕ) (o : Option X) (m : X) → find k ≡ o → Matches.unless_again begin end find k last o ≡ Some m →
+      (begin m ≤ end m) × (end m ≤ high)
+  unless_spans k last None m was e = absurd (none-some m e)
+  unless_spans k None (Some n) m was e = let h = within k m (was ∙ e) in (h.2, h.3)
+  unless_spans k (Some last) (Some n) m was e =
+      ⊎_elim
+      (λ t. let f : find (k + 1) ≡ Some m = rw t at e in
+      let h = within (k + 1) m f in
+      (h.2, h.3))
+      (λ f. let g : Some n ≡ Some m = rw f at e in
+      let h = within k m (was ∙ g) in
+      (h.2, h.3))
+      (cases_Bool (Matches.is_again begin end (Some last) n))
+
+  -- the next match ends where it begins or later, within the bound
+  pub next_spans : (k : ℕ) (last : Option ℕ) (m : X) → Matches.next_match begin end find k last ≡ Some m → (begin m ≤ end m) × (end m ≤ high)
+  next_spans k last m e = unless_spans k last (find k) m refl e
+
   first_of : (n k : ℕ) (last : Option ℕ) (m : X) → n ≡ high - k → k ≤ end m → end m ≤ high → Matches.next_match begin end find k last ≡ Some m →
       By (suc n) k last ≡ m ∷ By (high + 1 - end m) (end m) (Some (end m))
   first_of n k last m are ahead inside e =

@@ -118,15 +118,3 @@ pub guard_made : {E : Type 0} (r : Result (Option Prefilter) E) (hs : List Re) (
 guard_made r hs asked is_auto ws p on none ok =
     IfOk-weaker r (IsMade ws) (λ found. IsGuard hs asked is_auto (option_map needles_of found))
     (λ found made. made_guard hs asked is_auto ws found p on none made) ok
-
--- Patterns whose bounds are looked at one after another.
-
-abbrev pub IsBounded : Hir → Type 0
-IsBounded h = HasBounds (meaning h)
-
-pub bounded_more : (xs : List Hir) (i : ℕ) (x : Hir) → i < length xs → x ≡ get_or xs i x → All IsBounded (take i xs) → IsBounded x →
-    All IsBounded (take (i + 1) xs)
-bounded_more xs i x inside is before here = All-more IsBounded xs i x inside before (rw (sym is) here)
-
-pub all_bounded : (xs : List Hir) (n : ℕ) → length xs ≤ n → All IsBounded (take n xs) → All HasBounds (map meaning xs)
-all_bounded xs n done ok = All-map HasBounds meaning xs (rw (take_all n xs done) at ok)

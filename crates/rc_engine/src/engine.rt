@@ -2,33 +2,28 @@
 
 ghost use Rattle.std.specs.Prelude.{◌≡◌};
 ghost use Rattle.rc_program.specs.Matches.{begin_of, end_of, is_again};
-ghost use Rattle.rc_program.specs.Sought.{IsRunnable};
-ghost use Rattle.rc_compile.specs.Places.{places_of};
+ghost use Rattle.rc_program.specs.Places.{places_of};
 ghost use Rattle.rc_engine.specs.Strategies.{IsSound, IsSound-is_fact};
 
 use crate::strategy::{Strategy, guards_of, literals_of};
 use rc_captures::captures;
 use rc_captures::captures::Captures;
-use rc_compile::place::Place;
 use rc_literal::literal;
 use rc_pass::cache::Cache;
 use rc_pass::kinds::{find_by_kind, search_slots_by_kind};
+use rc_program::program::Program;
 use rc_text::cursor::Cursor;
 use rc_text::input::Input;
 use rc_text::types::{Match, MatchKind, PatternID};
 use std::alloc::{AllocError, Global};
 
-/// The places of a program, the byte at which lines end, whether passing over is in play, which kind of match is sought, and what a
-/// search may go by.
+/// A program, which kind of match is sought, and what a search may go by.
 #[derive(Drop)]
 pub struct Engine {
-    pub places: Vec<Place>,
-    pub terminator: u8,
-    pub passes_over: bool,
+    pub program: Program,
     pub kind: MatchKind,
     pub strategy: Strategy,
-    ghost runnable: { IsRunnable (places_of places.items) },
-    ghost sound: { IsSound (places_of places.items) terminator passes_over strategy } by { IsSound-is_fact (places_of places.items) terminator passes_over strategy },
+    ghost sound: { IsSound (places_of program.places.items) program.terminator program.passes_over strategy } by { IsSound-is_fact (places_of program.places.items) program.terminator program.passes_over strategy },
 }
 
 impl Engine {
@@ -42,23 +37,25 @@ impl Engine {
     ghost use Rattle.rc_program.specs.Kinds.{answer_by, answer_by_from};
     ghost use Rattle.rc_text.specs.Text.{Keeps, low, high};
     ghost use Rattle.rc_program.specs.Matches.{begin_of, end_of, next_match};
-    ghost use Rattle.rc_engine.specs.Engine.{engine_search, IsEngineCache, IsSameCache};
+    ghost use Rattle.rc_engine.specs.Engine.{engine_search, Counts, IsEngineCache, IsSameCache};
     ghost use Rattle.rc_engine.specs.Moved.{IsMoved};
 
     /// A cache for searches by this engine, with at most so many slots. An `Err` is want of memory.
     pub fn create_cache(&self, alloc: Global, slots: usize) -> Result<Cache, AllocError>
         ensures { IfOk result (IsEngineCache self.now slots) }
     {
-        Cache::new(alloc, self.places.len(), slots)
+        Cache::new(alloc, self.program.places.len(), slots)
     }
 
-    /// The match that a search finds. It takes no memory.
+    /// The match that a search finds. It takes no memory. The cache counts the pass that it makes, or, where needles alone tell the
+    /// match, nothing anew.
     pub fn find<C: Cursor>(&self, cache: &mut Cache, input: &mut Input<C>) -> Option<Match>
         requires made { IsEngineCache self.now 0 cache.old }
         ensures keeps { Keeps input.old input.new }
         ensures found { result ≡ answer_by self.now.kind (engine_search self.now input.old) }
         ensures within { IfSome result (λ m. (low input.old ≤ m.start) × (m.start ≤ m.end) × (m.end ≤ high input.old)) }
         ensures cache { IsSameCache cache.old cache.new }
+        ensures counts { Counts self.now input.new result cache.old cache.new }
     {
         if let Some(needles) = literals_of(&self.strategy, self.kind) {
             return literal::search(input, needles);
@@ -66,9 +63,7 @@ impl Engine {
         find_by_kind(
             cache,
             input,
-            &self.places,
-            self.terminator,
-            self.passes_over,
+            &self.program,
             guards_of(&self.strategy),
             self.kind,
         )
@@ -93,9 +88,7 @@ impl Engine {
         search_slots_by_kind(
             cache,
             input,
-            &self.places,
-            self.terminator,
-            self.passes_over,
+            &self.program,
             guards_of(&self.strategy),
             self.kind,
             slots,
@@ -119,6 +112,7 @@ impl Engine {
         ensures there { result ≡ answer_by self.now.kind (engine_search self.now input.new) }
         ensures within { IfSome result (λ m. (low input.new ≤ m.start) × (m.start ≤ m.end) × (m.end ≤ high input.new)) }
         ensures cache { IsSameCache cache.old cache.new }
+        ensures counts { Counts self.now input.new result cache.old cache.new }
     {
         let found = self.find(cache, input)?;
         if !is_again(last, found) {

@@ -5,5 +5,3 @@ pub mod choice;
 pub mod engine;
 pub mod laws;
 pub mod strategy;
-#[cfg(test)]
-mod tests;

@@ -4,7 +4,7 @@ ghost use Rattle.rc_text.specs.declared.types.MatchKind.TheVariants.{LeftmostFir
 ghost use Rattle.rc_program.specs.Program.{Place as PlaceOf};
 ghost use Rattle.rc_literal.specs.Guards.{Guards};
 ghost use Rattle.rc_literal.specs.Prefilters.{needles_of};
-ghost use Rattle.rc_engine.specs.Choices.{answering, guarding};
+ghost use Rattle.rc_engine.specs.Choices.{answering_for, guarding};
 ghost use Rattle.rc_engine.specs.Strategies.{AreAnswers, IsSound};
 
 use rc_literal::prefilter::Prefilter;
@@ -60,7 +60,7 @@ pub fn guards_of(strategy: &Strategy) -> Option<&Prefilter>
 
 /// The needles that alone tell the answer to a search for this kind of match.
 pub fn literals_of(strategy: &Strategy, kind: MatchKind) -> Option<&Prefilter>
-    ensures value { kind ≡ LeftmostFirst → option_map (λ p. needles_of p.now) result ≡ answering strategy.now }
+    ensures value { option_map (λ p. needles_of p.now) result ≡ answering_for kind strategy.now }
     ensures sound { (places : List PlaceOf) (terminator : ℕ) (over : Bool) → IsSound places terminator over strategy.now
         → MatchOption result ⊤ (λ p. (kind ≡ LeftmostFirst) × AreAnswers places terminator over (needles_of p.now)) }
 {

@@ -54,13 +54,13 @@ ends_with_the_content : limit (ab 0 None).input ≡ 2
 ends_with_the_content = refl
 
 -- a match at each of three positions, and an error
-at_first : items_at_most (going (ab 0 None)) ≡ 4
+at_first : items_at_most {F = ℕ} (going (ab 0 None) 0) ≡ 4
 at_first = refl
 
-at_last : items_at_most (going (ab 2 (Some 2))) ≡ 1
+at_last : items_at_most {F = ℕ} (going (ab 2 (Some 2)) 0) ≡ 1
 at_last = refl
 
-after_the_end : items_at_most (record { searcher = ab 0 None; is_done = true }) ≡ 0
+after_the_end : items_at_most {F = ℕ} (record { searcher = ab 0 None; finder = 0; is_done = true }) ≡ 0
 after_the_end = refl
 
 none_is_an_answer : answer_of None ≡ Ok None

@@ -58,11 +58,11 @@ at_last : (o : Option ℕ) (l k n : ℕ) → o ≡ Some l → l ≤ k → IfSome
 at_last o l k n is le h = subst (λ p. IfSome p (λ x. x ≤ k → x < n)) is h le
 
 module _ {F I : Type 0} (searched : I → Searched) (g : Calls F I HalfFound) where
-  given : (s : HalvesLeft) (r : Option (Result HalfFound MatchError)) (t : HalvesLeft) → s.is_done ≡ false →
+  given : (s : HalvesLeft F) (r : Option (Result HalfFound MatchError)) (t : HalvesLeft F) → s.is_done ≡ false →
       GivesNext searched g s r t → GivesHalf searched g s r t
-  given s r t on h = subst (λ b. MatchBool b ((r ≡ None) × (t ≡ s)) (GivesHalf searched g s r t)) on h
+  given s r t on h = subst (λ b. MatchBool b ((r ≡ None) × (t ≡ s)) (GivesHalf searched g s r t)) on h.0
 
-  few_at : (items : List HalfFound) (s t : HalvesLeft) → s.is_done ≡ false → s.searcher.last ≡ Some s.searcher.input.span.start →
+  few_at : (items : List HalfFound) (s t : HalvesLeft F) → s.is_done ≡ false → s.searcher.last ≡ Some s.searcher.input.span.start →
       Yields (GivesNext searched g) s (map Ok items) t → length items ≤ limit s.searcher.input - s.searcher.input.span.start
   few_at [] s t on at ys = omega arith
   few_at (m ∷ items) s t on at (j, step, ys) =
@@ -73,7 +73,7 @@ module _ {F I : Type 0} (searched : I → Searched) (g : Calls F I HalfFound) wh
       let above = at_last s.searcher.last s.searcher.input.span.start s.searcher.input.span.start m.offset at (omega arith) h.rises in
       omega (arith, rest, k, high, above, h.within.2)
 
-  few : (items : List HalfFound) (s t : HalvesLeft) → s.is_done ≡ false → Yields (GivesNext searched g) s (map Ok items) t →
+  few : (items : List HalfFound) (s t : HalvesLeft F) → s.is_done ≡ false → Yields (GivesNext searched g) s (map Ok items) t →
       length items ≤ limit s.searcher.input + 1 - s.searcher.input.span.start
   few [] s t on ys = omega arith
   few (m ∷ items) s t on (j, step, ys) =
@@ -83,7 +83,7 @@ module _ {F I : Type 0} (searched : I → Searched) (g : Calls F I HalfFound) wh
       let rest = few_at items j t h.done (h.leaves.1 ∙ ap Some (sym k)) ys in
       omega (arith, rest, k, high, h.within.0, h.within.2)
 
-  rise : (items : List HalfFound) (s t : HalvesLeft) → s.is_done ≡ false → Yields (GivesNext searched g) s (map Ok items) t →
+  rise : (items : List HalfFound) (s t : HalvesLeft F) → s.is_done ≡ false → Yields (GivesNext searched g) s (map Ok items) t →
       AreInOrder offset_of offset_of (limit s.searcher.input) items
   rise [] s t on ys = tt
   rise (m ∷ []) s t on (j, step, ys) = let h = given s (Some (Ok m)) j on step in (h.within.1, h.within.2)
@@ -95,50 +95,51 @@ module _ {F I : Type 0} (searched : I → Searched) (g : Calls F I HalfFound) wh
       (h.within.1, omega (arith, above), above, subst (λ x. AreInOrder offset_of offset_of x (n ∷ items)) (on_limit s.searcher j.searcher m.offset h.leaves) (rise (n ∷ items) j t h.done ys))
 
   -- halves that came, and what is left of the list
-  record Begins (find : Task → Option Found) (s : HalvesLeft) (items : List HalfFound) (t : HalvesLeft) : Type 0 where
+  record Begins (find : Task → Option Found) (s : HalvesLeft F) (items : List HalfFound) (t : HalvesLeft F) : Type 0 where
     pub ms : List Found
     pub are : items ≡ map half_of ms
     pub on : t.is_done ≡ false
     pub past : IsPast t.searcher
+    pub exact : AnswersAs searched g (halves_of find) t.finder
     pub rest : (rest : List Found) → AreLeft find t.searcher rest → AreLeft find s.searcher (ms ++ rest)
 
-  begins : (find : Task → Option Found) → FindsAhead find → AnswersAs searched g (halves_of find) →
-      (items : List HalfFound) (s t : HalvesLeft) → s.is_done ≡ false → IsPast s.searcher → Yields (GivesNext searched g) s (map Ok items) t →
+  begins : (find : Task → Option Found) → FindsAhead find → (items : List HalfFound) (s t : HalvesLeft F) → AnswersAs searched g (halves_of find) s.finder → s.is_done ≡ false → IsPast s.searcher → Yields (GivesNext searched g) s (map Ok items) t →
       Begins find s items t
-  begins find ahead answers [] s t on past e = record {
+  begins find ahead [] s t answers on past e = record {
     ms = [];
     are = refl;
     on = subst (λ x. x.is_done ≡ false) e on;
     past = subst (λ x. IsPast x.searcher) e past;
+    exact = subst (λ x. AnswersAs searched g (halves_of find) x.finder) e answers;
     rest = λ rest a. subst (λ x. AreLeft find x.searcher rest) (sym e) a;
   }
-  begins find ahead answers (m ∷ items) s t on past (j, step, ys) =
+  begins find ahead (m ∷ items) s t answers on past (j, step, ys) =
       let h = given s (Some (Ok m)) j on step in
       let w = from_half (next_by begin_of end_of find s.searcher) m (h.exact (halves_of find) answers ∙ half_next_by find s.searcher ahead past) in
       let goes : GoesOn s.searcher w.0.end j.searcher = subst (λ x. GoesOn s.searcher x j.searcher) (ap (λ x. x.offset) w.2) h.leaves in
-      let i = begins find ahead answers items j t h.done (on_past s.searcher j.searcher m.offset h.leaves) ys in
+      let i = begins find ahead items j t (h.stays (halves_of find) answers) h.done (on_past s.searcher j.searcher m.offset h.leaves) ys in
       record {
         ms = w.0 ∷ i.ms;
         are = ap (λ x. x ∷ items) w.2 ∙ ap (λ l. half_of w.0 ∷ l) i.are;
         on = i.on;
         past = i.past;
+        exact = i.exact;
         rest = λ rest a. Matches.goes_on w.0 w.1 (left_after find s.searcher j.searcher w.0.end (i.ms ++ rest) goes (i.rest rest a));
       }
 
-  whole : (find : Task → Option Found) → FindsAhead find → AnswersAs searched g (halves_of find) →
-      (items : List HalfFound) (s t : HalvesLeft) → s.is_done ≡ false → IsPast s.searcher →
+  whole : (find : Task → Option Found) → FindsAhead find → (items : List HalfFound) (s t : HalvesLeft F) → AnswersAs searched g (halves_of find) s.finder → s.is_done ≡ false → IsPast s.searcher →
       YieldsThen (GivesNext searched g) s (map Ok items) None t →
       (ms : List Found) × (items ≡ map half_of ms) × AreLeft find s.searcher ms
-  whole find ahead answers items s t on past (u, ys, step) =
-      let b = begins find ahead answers items s u on past ys in
+  whole find ahead items s t answers on past (u, ys, step) =
+      let b = begins find ahead items s u answers on past ys in
       let h = given u None t b.on step in
-      let none = no_half (next_by begin_of end_of find u.searcher) (h.exact (halves_of find) answers ∙ half_next_by find u.searcher ahead b.past) in
+      let none = no_half (next_by begin_of end_of find u.searcher) (h.exact (halves_of find) b.exact ∙ half_next_by find u.searcher ahead b.past) in
       (b.ms, b.are, subst (λ l. AreLeft find s.searcher l) (append-nil b.ms) (b.rest [] (Matches.ends none)))
 
-  pub halves_law : (s : Searching) → HalvesLaw searched g s
-  halves_law s = record {
-    begin = λ find ahead answers past items t ys. let b = begins find ahead answers items (going s) t refl past ys in (b.ms, b.are, b.rest);
-    list = λ find ahead answers past items t ys. whole find ahead answers items (going s) t refl past ys;
-    rise = λ items t ys. rise items (going s) t refl ys;
-    few = λ items t ys. few items (going s) t refl ys;
+  pub halves_law : (s : Searching) (f : F) → HalvesLaw searched g s f
+  halves_law s f = record {
+    begin = λ find ahead answers past items t ys. let b = begins find ahead items (going s f) t answers refl past ys in (b.ms, b.are, b.rest);
+    list = λ find ahead answers past items t ys. whole find ahead items (going s f) t answers refl past ys;
+    rise = λ items t ys. rise items (going s f) t refl ys;
+    few = λ items t ys. few items (going s f) t refl ys;
   }

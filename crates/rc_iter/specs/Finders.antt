@@ -1,9 +1,8 @@
 -- What a finder answers, and what it owes.
-use Rattle.std.specs.Prelude.{◌≡◌, ◌⊎◌, ℕ, ◌+◌, ◌≤◌, List, length, min, Bool, Option, IfOk, IfSome}
+use Rattle.std.specs.Prelude.{◌≡◌, ℕ, ◌≤◌, List, length, min, Bool, Option, IfOk, IfSome}
 use Rattle.std.specs.declared.result.Result.{Result}
-use Rattle.std.specs.declared.result.Result.TheVariants.{Err}
 use Rattle.std.specs.Borrow.{MutBor}
-use denote.Param.Members.{Mut}
+use Rattle.std.specs.Fn.{Mut, Called, AlwaysReturns}
 use Rattle.rc_text.specs.Text.{Searched, Keeps}
 use Rattle.rc_text.specs.Found.{Found, HalfFound}
 use Rattle.rc_text.specs.declared.types.Span.{Span}
@@ -58,26 +57,18 @@ module _ {X : Type 0} (begin end : X → ℕ) where
     pub keeps : Keeps old new
     pub within : IfOk r (λ o. IfSome o (LiesIn old))
 
-  -- each call of the finder does so, in whatever state the finder is
-  abbrev pub IsLawfulFinder : {F I : Type 0} → (I → Searched) → Calls F I X → Type 0
-  IsLawfulFinder {F} {I} searched g =
-      (f : F) (i : MutBor I) (r : Result (Option X) MatchError) (j : MutBor I) (f' : F) →
-      g.steps f (i, tt) (r, (j, tt)) f' → IsLawfulCall (searched i.now) (searched j.now) r
+  -- each call of the finder does so, from this state of it on
+  abbrev pub IsLawfulFinder : {F I : Type 0} → (I → Searched) → Calls F I X → F → Type 0
+  IsLawfulFinder searched g = AlwaysReturns g (λ a r. IsLawfulCall (searched a.0.now) (searched r.1.0.now) r.0)
 
 module _ {X : Type 0} where
-  -- each call of the finder answers what `find` gives, or an error: it is exact, and `find` is a function of the task alone
-  abbrev pub AnswersAs : {F I : Type 0} → (I → Searched) → Calls F I X → (Task → Option X) → Type 0
-  AnswersAs {F} {I} searched g find =
-      (f : F) (i : MutBor I) (r : Result (Option X) MatchError) (j : MutBor I) (f' : F) →
-      g.steps f (i, tt) (r, (j, tt)) f' → IfOk r (λ o. o ≡ find (task_of (searched i.now)))
+  -- each call of the finder, from this state on, answers what `find` gives, or an error: it is exact, and `find` is a function of the task
+  abbrev pub AnswersAs : {F I : Type 0} → (I → Searched) → Calls F I X → (Task → Option X) → F → Type 0
+  AnswersAs searched g find = AlwaysReturns g (λ a r. IfOk r.0 (λ o. o ≡ find (task_of (searched a.0.now))))
 
-  -- Some call of the finder over this input, from its start on or from a byte later, answers the error.
-  pub record MayFail {F I : Type 0} (searched : I → Searched) (g : Calls F I X) (s : Searched) (e : MatchError) : Type 0 where
-    pub state : F
+  -- A call of the finder in this state over this input may give the answer, and leave the finder in that state.
+  pub record Answers {F I : Type 0} (searched : I → Searched) (g : Calls F I X) (state : F) (s : Searched) (r : Result (Option X) MatchError) (next_state : F) : Type 0 where
     pub given : MutBor I
-    pub answer : Result (Option X) MatchError
     pub left : MutBor I
-    pub next_state : F
-    pub over : Keeps s (searched given.now) ⊎ Keeps (with_start s (s.span.start + 1)) (searched given.now)
-    pub met : g.steps state (given, tt) (answer, (left, tt)) next_state
-    pub is : answer ≡ Err e
+    pub over : Keeps s (searched given.now)
+    pub called : Called g state (given, tt) (r, (left, tt)) next_state

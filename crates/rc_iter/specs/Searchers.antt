@@ -1,12 +1,13 @@
 -- What a searcher answers, and what it keeps.
-use Rattle.std.specs.Prelude.{◌≡◌, ℕ, ◌<◌, ◌≤◌, Option, Some, IfOk, IfSome, MatchOption, MatchResult}
+use Rattle.std.specs.Prelude.{◌≡◌, ℕ, ◌+◌, ◌<◌, ◌≤◌, true, Option, Some, IfOk, IfSome, MatchOption, MatchResult}
 use Rattle.std.specs.Option.{option_map}
 use Rattle.std.specs.declared.result.Result.{Result}
+use Rattle.std.specs.declared.result.Result.TheVariants.{Ok, Err}
 use Rattle.rc_text.specs.Text.{Searched, Keeps}
 use Rattle.rc_text.specs.declared.types.MatchError.{MatchError}
 use Rattle.rc_text.specs.Found.{Found, HalfFound}
-use Rattle.rc_program.specs.Matches.{next_match}
-use Rattle.rc_iter.specs.Finders.{Task, task_of, with_start, half_of, LiesIn}
+use Rattle.rc_program.specs.Matches.{is_again, next_match}
+use Rattle.rc_iter.specs.Finders.{Answers, Calls, Task, task_of, with_start, half_of, LiesIn}
 
 -- A searcher as contracts see it.
 pub record Searching : Type 0 where
@@ -28,6 +29,13 @@ module _ {X : Type 0} (begin end : X → ℕ) where
   -- the next match of the list, where `find` answers each search
   abbrev pub next_by : (Task → Option X) → Searching → Option X
   next_by find s = next_match begin end (λ k. find (task_of (with_start s.input k))) s.input.span.start s.last
+
+  -- An error that the rule meets: of the first call, or, where that gave an empty match that ends where the last one did, of the call
+  -- from a byte later.
+  pub data Meets {F I : Type 0} (searched : I → Searched) (g : Calls F I X) (state : F) (s : Searching) (e : MatchError) : Type 0 where
+    at_once : {then : F} → Answers searched g state s.input (Err e) then → Meets searched g state s e
+    later : {between then : F} (m : X) → Answers searched g state s.input (Ok (Some m)) between → is_again begin end s.last m ≡ true →
+        Answers searched g between (with_start s.input (s.input.span.start + 1)) (Err e) then → Meets searched g state s e
 
   -- after a match it goes on from its end, and else it stands
   abbrev pub Leaves : Searching → Result (Option X) MatchError → Searching → Type 0

@@ -24,9 +24,9 @@ pub struct TryHalfMatchesOf<F, I: KeptInput> {
 impl<F, I: KeptInput> Model for TryHalfMatchesOf<F, I> {
     ghost use Rattle.rc_iter.specs.Halves.{HalvesLeft};
 
-    ghost Value = { HalvesLeft };
+    ghost Value = { HalvesLeft F };
 
-    ghost view = { λ h. record { searcher = h.searcher; is_done = h.is_done } };
+    ghost view = { λ h. record { searcher = h.searcher; finder = h.finder; is_done = h.is_done } };
 }
 
 impl<I: KeptInput + Drop> SearcherOf<I> {
@@ -37,10 +37,12 @@ impl<I: KeptInput + Drop> SearcherOf<I> {
         self,
         finder: F,
     ) -> TryHalfMatchesOf<F, I>
-        requires callable { (state : F) (i : _) → F.pre state i }
-        requires lawful { IsLawfulFinder offset_of offset_of I.searched F.FnMut }
-        ensures left { result ≡ going self }
-        ensures law { HalvesLaw I.searched F.FnMut self }
+        requires callable { F.IsAlwaysCallable finder }
+        requires lawful { IsLawfulFinder offset_of offset_of I.searched F.FnMut finder }
+        ensures left { result ≡ going self finder }
+        ensures callable { F.IsAlwaysCallable result.finder }
+        ensures lawful { IsLawfulFinder offset_of offset_of I.searched F.FnMut result.finder }
+        ensures law { HalvesLaw I.searched F.FnMut self finder }
     {
         TryHalfMatchesOf {
             searcher: self,
@@ -57,7 +59,7 @@ impl<F: FnMut(&mut I) -> Result<Option<HalfMatch>, MatchError> + Drop, I: KeptIn
 
     type Item = Result<HalfMatch, MatchError>;
 
-    ghost can_next = { λ _. ((state : F) (i : _) → F.pre state i) × IsLawfulFinder offset_of offset_of I.searched F.FnMut };
+    ghost can_next = { λ s. F.IsAlwaysCallable s.finder × IsLawfulFinder offset_of offset_of I.searched F.FnMut s.finder };
 
     ghost next_gives = { GivesNext I.searched F.FnMut };
 
@@ -67,7 +69,7 @@ impl<F: FnMut(&mut I) -> Result<Option<HalfMatch>, MatchError> + Drop, I: KeptIn
         if self.is_done {
             return None;
         }
-        match self.searcher.try_advance_half(&mut self.finder) {
+        match self.searcher.next_half(&mut self.finder) {
             Ok(Some(found)) => Some(Ok(found)),
             Ok(None) => {
                 self.is_done = true;

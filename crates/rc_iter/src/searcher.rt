@@ -2,9 +2,10 @@
 ghost use Rattle.std.specs.Prelude.{◌≡◌, ◌+◌, ◌≤◌, IfErr, IfOk, None, Option, option_map};
 ghost use Rattle.rc_text.specs.Found.{Found, HalfFound};
 ghost use Rattle.rc_program.specs.Matches.{begin_of, end_of};
-ghost use Rattle.rc_iter.specs.Finders.{AnswersAs, IsLawfulFinder, MayFail, Task, half_of, offset_of};
-ghost use Rattle.rc_iter.specs.Searchers.{FindsAhead, GoesOn, IsPast, Leaves, Rises, StaysWithin, halves_of, next_by};
+ghost use Rattle.rc_iter.specs.Finders.{AnswersAs, IsLawfulFinder, Task, half_of, offset_of};
+ghost use Rattle.rc_iter.specs.Searchers.{FindsAhead, GoesOn, IsPast, Leaves, Meets, Rises, StaysWithin, halves_of, next_by};
 
+use crate::ask::{ask, ask_half};
 use crate::kept::KeptInput;
 use rc_text::input::Input;
 use rc_text::types::{HalfMatch, Match, MatchError};
@@ -34,6 +35,9 @@ impl<I: KeptInput> Model for SearcherOf<I> {
 }
 
 impl<I: KeptInput + Drop> SearcherOf<I> {
+    ghost use Rattle.std.specs.Borrow.{Lends, sem};
+    ghost use Rattle.rc_iter.specs.contracts.searcher.SearcherOf.{the_row};
+
     /// A searcher of the input, with no last match.
     pub fn new(input: I) -> SearcherOf<I>
         ensures input { result.input ≡ I.searched input }
@@ -42,9 +46,11 @@ impl<I: KeptInput + Drop> SearcherOf<I> {
         SearcherOf { input, last: None }
     }
 
-    /// Lends the kept input. It may be changed: the next search is over what it then is.
+    /// Lends the kept input. It may be changed: the next search is over what it then is. The searcher is otherwise as before.
     pub fn input(&mut self) -> &mut I
-        ensures { I.searched result.now ≡ self.old.input }
+        ensures* kept { sem 𝓛 (Lends (the_row I.row I.KeptInput) I.row self.entry result
+            (λ i. record { input = I.searched i; last = self.old.last })) }
+        ensures input { I.searched result.now ≡ self.old.input }
     {
         &mut self.input
     }
@@ -54,11 +60,11 @@ impl<I: KeptInput + Drop> SearcherOf<I> {
         &mut self,
         finder: F,
     ) -> Result<Option<Match>, MatchError>
-        requires callable { (state : F) (i : _) → F.pre state i }
-        requires lawful { IsLawfulFinder begin_of end_of I.searched F.FnMut }
-        ensures exact { (find : Task → Option Found) → AnswersAs I.searched F.FnMut find
+        requires callable { F.IsAlwaysCallable finder }
+        requires lawful { IsLawfulFinder begin_of end_of I.searched F.FnMut finder }
+        ensures exact { (find : Task → Option Found) → AnswersAs I.searched F.FnMut find finder
             → IfOk result (λ o. o ≡ next_by begin_of end_of find self.old) }
-        ensures failed { IfErr result (MayFail I.searched F.FnMut self.old.input) }
+        ensures failed { IfErr result (Meets begin_of end_of I.searched F.FnMut finder self.old) }
         ensures within { StaysWithin begin_of end_of self.old result }
         ensures rises { Rises begin_of end_of self.old result }
         ensures leaves { Leaves begin_of end_of self.old result self.new }
@@ -75,17 +81,17 @@ impl<I: KeptInput + Drop> SearcherOf<I> {
         &mut self,
         mut finder: F,
     ) -> Result<Option<Match>, MatchError>
-        requires callable { (state : F) (i : _) → F.pre state i }
-        requires lawful { IsLawfulFinder begin_of end_of I.searched F.FnMut }
-        ensures exact { (find : Task → Option Found) → AnswersAs I.searched F.FnMut find
+        requires callable { F.IsAlwaysCallable finder }
+        requires lawful { IsLawfulFinder begin_of end_of I.searched F.FnMut finder }
+        ensures exact { (find : Task → Option Found) → AnswersAs I.searched F.FnMut find finder
             → IfOk result (λ o. o ≡ next_by begin_of end_of find self.old) }
-        ensures failed { IfErr result (MayFail I.searched F.FnMut self.old.input) }
+        ensures failed { IfErr result (Meets begin_of end_of I.searched F.FnMut finder self.old) }
         ensures within { StaysWithin begin_of end_of self.old result }
         ensures rises { Rises begin_of end_of self.old result }
         ensures leaves { Leaves begin_of end_of self.old result self.new }
     {
         let start = self.input.span_start();
-        let Some(found) = finder(&mut self.input)? else {
+        let Some(found) = ask(&mut finder, &mut self.input)? else {
             return Ok(None);
         };
         if !found.is_empty() || self.last != Some(found.end()) {
@@ -93,7 +99,7 @@ impl<I: KeptInput + Drop> SearcherOf<I> {
             return Ok(Some(found));
         }
         self.input.restart(start + 1);
-        let answer = finder(&mut self.input);
+        let answer = ask(&mut finder, &mut self.input);
         self.input.restart(start);
         let Some(found) = answer? else {
             return Ok(None);
@@ -111,20 +117,41 @@ impl<I: KeptInput + Drop> SearcherOf<I> {
         &mut self,
         mut finder: F,
     ) -> Result<Option<HalfMatch>, MatchError>
-        requires callable { (state : F) (i : _) → F.pre state i }
-        requires lawful { IsLawfulFinder offset_of offset_of I.searched F.FnMut }
-        ensures exact { (find : Task → Option HalfFound) → AnswersAs I.searched F.FnMut find
+        requires callable { F.IsAlwaysCallable finder }
+        requires lawful { IsLawfulFinder offset_of offset_of I.searched F.FnMut finder }
+        ensures exact { (find : Task → Option HalfFound) → AnswersAs I.searched F.FnMut find finder
             → IfOk result (λ o. o ≡ next_by offset_of offset_of find self.old) }
         ensures halves { (find : Task → Option Found) → FindsAhead find
-            → AnswersAs I.searched F.FnMut (halves_of find) → IsPast self.old
+            → AnswersAs I.searched F.FnMut (halves_of find) finder → IsPast self.old
             → IfOk result (λ o. o ≡ option_map half_of (next_by begin_of end_of find self.old)) }
-        ensures failed { IfErr result (MayFail I.searched F.FnMut self.old.input) }
+        ensures failed { IfErr result (Meets offset_of offset_of I.searched F.FnMut finder self.old) }
+        ensures within { StaysWithin offset_of offset_of self.old result }
+        ensures rises { Rises offset_of offset_of self.old result }
+        ensures leaves { Leaves offset_of offset_of self.old result self.new }
+    {
+        self.next_half(&mut finder)
+    }
+
+    /// The same, by a finder that is lent.
+    pub(crate) fn next_half<F: FnMut(&mut I) -> Result<Option<HalfMatch>, MatchError>>(
+        &mut self,
+        finder: &mut F,
+    ) -> Result<Option<HalfMatch>, MatchError>
+        requires callable { F.IsAlwaysCallable finder.old }
+        requires lawful { IsLawfulFinder offset_of offset_of I.searched F.FnMut finder.old }
+        ensures callable { F.IsAlwaysCallable finder.new }
+        ensures lawful { IsLawfulFinder offset_of offset_of I.searched F.FnMut finder.new }
+        ensures exact { (find : Task → Option HalfFound) → AnswersAs I.searched F.FnMut find finder.old
+            → IfOk result (λ o. o ≡ next_by offset_of offset_of find self.old) }
+        ensures stays { (find : Task → Option HalfFound) → AnswersAs I.searched F.FnMut find finder.old
+            → AnswersAs I.searched F.FnMut find finder.new }
+        ensures failed { IfErr result (Meets offset_of offset_of I.searched F.FnMut finder.old self.old) }
         ensures within { StaysWithin offset_of offset_of self.old result }
         ensures rises { Rises offset_of offset_of self.old result }
         ensures leaves { Leaves offset_of offset_of self.old result self.new }
     {
         let from = self.input.span_start();
-        let Some(found) = finder(&mut self.input)? else {
+        let Some(found) = ask_half(finder, &mut self.input)? else {
             return Ok(None);
         };
         if self.last != Some(found.offset()) {
@@ -132,7 +159,7 @@ impl<I: KeptInput + Drop> SearcherOf<I> {
             return Ok(Some(found));
         }
         self.input.restart(from + 1);
-        let later = finder(&mut self.input);
+        let later = ask_half(finder, &mut self.input);
         self.input.restart(from);
         let Some(found) = later? else {
             return Ok(None);

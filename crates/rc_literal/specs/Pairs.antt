@@ -1,3 +1,4 @@
+-- Only proofs use this file.
 -- Two bytes side by side, with which a needle's rest begins.
 use Rattle.std.specs.Prelude.{◌≡◌, ℕ, ◌+◌, ◌<◌, List, length, slice_index}
 

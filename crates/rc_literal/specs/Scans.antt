@@ -1,3 +1,4 @@
+-- Only proofs use this file.
 -- What a piece of a chunk is searched for.
 use Rattle.std.specs.Prelude.{◌≡◌, ℕ, ◌<◌, ◌≤◌, Bool, true, List, length, drop, ⊤}
 use denote.Struct.Props.{props}

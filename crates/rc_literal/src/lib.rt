@@ -15,5 +15,3 @@ pub mod prefilter;
 pub mod prefixes;
 mod scan;
 mod table;
-#[cfg(test)]
-mod tests;

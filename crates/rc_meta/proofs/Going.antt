@@ -20,8 +20,8 @@ use Rattle.rc_engine.specs.Tells.{TellsBy, TellsOf, KeepsAll}
 use Rattle.rc_engine.specs.Walks.{next_start, walks_left, walk_end}
 use Rattle.rc_engine.proofs.Steps.{left_from, left_short, search_moved, step_none, step_some}
 use Rattle.rc_engine.proofs.Walked.{Step, last_step, tells_there, walk_step, walks_from}
-use Rattle.rc_build.specs.Names.{is_grouped}
-use Rattle.rc_build.specs.Settings.{which_captures_of}
+use Rattle.rc_settings.specs.Which.{is_grouped}
+use Rattle.rc_settings.specs.Settings.{which_captures_of}
 use Rattle.rc_meta.specs.Left.{unless_done}
 use Rattle.rc_meta.specs.Views.{regex_kind, regex_names, regex_patterns, regex_settings, sought}
 use Rattle.rc_meta.specs.declared.regex.Regex.{Regex}

@@ -1,7 +1,10 @@
 -- What calls of `next` give of a list of matches with their groups.
-use Rattle.std.proofs.Common.{◌≡◌, ◌∙◌, ℕ, zero, suc, All, List, [], ◌∷◌, ◌++◌, map, Some, None, Ok, ap, sym, subst, arith}
+use Rattle.std.proofs.Common.{◌≡◌, ◌∙◌, ℕ, zero, suc, All, List, [], ◌∷◌, ◌++◌, length, map, Some, None, Ok, ap, sym, subst, arith}
+use Rattle.std.proofs.iter.runs.Sources.{as_is, from_front}
 use Rattle.std.proofs.lemmas.List.{append-nil}
-use Rattle.std.specs.Iterator.{Yields}
+use Rattle.std.specs.Iterator.{Drains, Yields}
+use Rattle.std.specs.Iterator.Runs.{YieldsInOrder}
+use Rattle.rc_text.specs.Found.{Found}
 use Rattle.rc_text.specs.declared.types.MatchKind.{MatchKind}
 use Rattle.rc_text.specs.declared.types.MatchKind.TheVariants.{All as all_matches, LeftmostFirst as leftmost_first}
 use Rattle.rc_captures.specs.Captures.{match_of}
@@ -12,9 +15,12 @@ use Rattle.rc_program.specs.Kinds.{matches_by_kind}
 use Rattle.rc_program.specs.Matches.{from_on, matches_left}
 use Rattle.rc_engine.specs.Tells.{TellsOf, TellsSpan, AllTell, KeepsAll}
 use Rattle.rc_engine.specs.Walks.{walks_left}
-use Rattle.rc_meta.specs.Left.{captures_input, captures_left, captures_regex, captures_walks, CapturesLaw, CapturesNext, MatchedLaw}
+use Rattle.rc_meta.specs.Left.{captures_input, captures_left, captures_regex, captures_walks, CapturesLaw, CapturesNext, FindNext, find_left, MatchedLaw, SplitNext, split_left, SplitnNext, splitn_left}
 use Rattle.rc_meta.specs.Views.{regex_kind, regex_names, sought}
 use Rattle.rc_meta.specs.declared.iterators.CapturesMatches.{CapturesMatches}
+use Rattle.rc_meta.specs.declared.iterators.FindMatches.{FindMatches}
+use Rattle.rc_meta.specs.declared.iterators.Split.{Split}
+use Rattle.rc_meta.specs.declared.iterators.SplitN.{SplitN}
 use Rattle.rc_program.specs.Sought.{search_for}
 
 module _ {X : Type 0} (P : X → Type 0) where
@@ -42,7 +48,8 @@ came kind names [] s t kinded named e = record {
   matched = ap (λ u. map Some (captures_left u)) e;
   spans = λ all. none_all (λ caps. TellsSpan (match_of caps) caps);
 }
-came kind names (caps ∷ items) s t kinded named (j, step, ys) =
+came kind names (caps ∷ items) s t kinded named (j, went, ys) =
+    let step = went.0 in
     let rest = came kind names items j t (ap regex_kind step.regex ∙ kinded) (ap regex_names step.regex ∙ named) ys in
     record {
       kept = one_more (KeepsAll names) caps items (subst (λ n. KeepsAll n caps) named step.kept) rest.kept;
@@ -67,7 +74,8 @@ walked search x [] s t kinded same e = record {
   others = ap captures_walks e;
   kinded = ap (λ u. regex_kind (captures_regex u)) (sym e) ∙ kinded;
 }
-walked search x (caps ∷ items) s t kinded same (j, step, ys) =
+walked search x (caps ∷ items) s t kinded same (j, went, ys) =
+    let step = went.0 in
     let next = step.tells kinded in
     let rest = walked search step.start items j t (ap regex_kind step.regex ∙ kinded) (step.search ∙ ap (λ y. from_on y step.start) same) ys in
     record {
@@ -86,7 +94,7 @@ matched_law kind names search start s kinded named left = record {
   spans = λ all items t ys. let c = came kind names items s t kinded named ys in c.spans all;
   all_matched = λ items t ys.
       let c = came kind names items s ys.0 kinded named ys.1 in
-      sym (ap (map Some) (sym left) ∙ c.matched ∙ ap (λ ms. map match_of items ++ map Some ms) ys.2.0 ∙ append-nil (map match_of items));
+      sym (ap (map Some) (sym left) ∙ c.matched ∙ ap (λ ms. map match_of items ++ map Some ms) ys.2.0.0 ∙ append-nil (map match_of items));
 }
 
 pub captures_law : {C : Type 0} (names : Names) (search : Search) (start : ℕ) (s : CapturesMatches C) → regex_kind (captures_regex s) ≡ leftmost_first →
@@ -99,8 +107,26 @@ captures_law names search start s kinded named same walks left = record {
   all_told = λ items t ys.
       let w = walked search start items s ys.0 kinded same ys.1 in
       subst (λ ws. AllTell search ws items)
-      (sym (sym walks ∙ w.others ∙ ap (λ ws. w.walks ++ ws) (ys.2.1 w.kinded) ∙ append-nil w.walks)) w.told;
+      (sym (sym walks ∙ w.others ∙ ap (λ ws. w.walks ++ ws) (ys.2.0.1 w.kinded) ∙ append-nil w.walks)) w.told;
   all_matched = λ items t ys.
       let c = came leftmost_first names items s ys.0 kinded named ys.1 in
-      sym (ap (map Some) (sym left) ∙ c.matched ∙ ap (λ ms. map match_of items ++ map Some ms) ys.2.0 ∙ append-nil (map match_of items));
+      sym (ap (map Some) (sym left) ∙ c.matched ∙ ap (λ ms. map match_of items ++ map Some ms) ys.2.0.0 ∙ append-nil (map match_of items));
 }
+
+module _ {C : Type 0} where
+  pub find_runs : YieldsInOrder (FindNext {C = C}) find_left
+  find_runs p u = as_is p (find_left p.from) (from_front (FindNext {C = C}) (λ x. x) find_left (λ s t h. ap length h.0.0) (λ s x t h. h.0) p u)
+
+  pub split_runs : YieldsInOrder (SplitNext {C = C}) split_left
+  split_runs p u = as_is p (split_left p.from) (from_front (SplitNext {C = C}) (λ x. x) split_left (λ s t h. ap length h.0.0) (λ s x t h. h.0) p u)
+
+  pub splitn_runs : YieldsInOrder (SplitnNext {C = C}) splitn_left
+  splitn_runs p u = as_is p (splitn_left p.from) (from_front (SplitnNext {C = C}) (λ x. x) splitn_left (λ s t h. ap length h.0.0) (λ s x t h. h.0) p u)
+
+  find_came : (items : List Found) (s t : FindMatches C) → Yields FindNext s items t → find_left s ≡ items ++ find_left t
+  find_came [] s t e = ap find_left e
+  find_came (m ∷ items) s t (j, went, ys) = went.0 ∙ ap (λ ms. m ∷ ms) (find_came items j t ys)
+
+  -- until there is none, all come
+  pub find_drained : (items : List Found) (s : FindMatches C) → Drains FindNext s items → find_left s ≡ items
+  find_drained items s (u, (t, ys, step)) = find_came items s t ys ∙ ap (λ ms. items ++ ms) step.0.0 ∙ append-nil items

@@ -4,8 +4,9 @@ use Rattle.rc_pattern.specs.Re.{Re}
 use Rattle.rc_captures.specs.Names.{slot_len}
 use Rattle.rc_program.specs.Program.{program, shown}
 use Rattle.rc_pass.specs.Caches as pikevm
-use Rattle.rc_build.specs.Names.{is_grouped, names_shown}
-use Rattle.rc_build.specs.Settings.{Settings, which_captures_of}
+use Rattle.rc_settings.specs.Which.{is_grouped}
+use Rattle.rc_build.specs.Names.{names_shown}
+use Rattle.rc_settings.specs.Settings.{Settings, which_captures_of}
 use Rattle.rc_meta.specs.declared.cache.Cache.{Cache}
 
 -- The cache was made for searches by patterns under settings: it has room for their program, and for the slots of all groups that

@@ -1,8 +1,9 @@
 -- What the iterators have still to give, from what they stand at.
-use Rattle.std.specs.Prelude.{◌≡◌, ◌<◌, ℕ, List, [], ◌∷◌, ◌++◌, All, length, map, Bool, Option, Some, None, Result, MatchOption, MatchResult, if◌then◌else◌}
+use Rattle.std.specs.Prelude.{◌≡◌, ◌-◌, ◌<◌, ℕ, List, [], ◌∷◌, ◌++◌, All, length, map, Bool, Option, Some, None, Result, IfErr, IfNone, IsTrue, MatchOption, MatchResult, if◌then◌else◌}
 use Rattle.std.specs.declared.result.Result.TheVariants.{Ok}
 use Rattle.std.specs.declared.alloc.AllocError.{AllocError}
-use Rattle.std.specs.Iterator.{Yields, YieldsThen}
+use Rattle.std.specs.Iterator.{Yields, YieldsFirst, YieldsThen}
+use Rattle.std.specs.Iterator.Runs.{YieldsInOrder}
 use Rattle.rc_text.specs.Found.{Found}
 use Rattle.rc_text.specs.Text.{Searched, high}
 use Rattle.rc_text.specs.declared.types.MatchKind.{MatchKind}
@@ -15,6 +16,7 @@ use Rattle.rc_program.specs.Answer.{Search, Chosen}
 use Rattle.rc_program.specs.Kinds.{matches_by_kind}
 use Rattle.rc_program.specs.Matches.{from_on, matches_left, pieces_from, pieces_left}
 use Rattle.rc_program.specs.Sought.{search_for}
+use Rattle.rc_engine.specs.Moved.{IsMoved}
 use Rattle.rc_engine.specs.Tells.{TellsOf, TellsSpan, AllTell, KeepsAll}
 use Rattle.rc_engine.specs.Walks.{walks_left}
 use Rattle.rc_meta.specs.Views.{regex_kind, regex_names, sought}
@@ -52,6 +54,10 @@ abbrev pub GivesNext : Finder → Searched → Option Found → Finder → Searc
 GivesNext f i r g j = MatchOption r
     ((left_in f i ≡ []) × (left_in g j ≡ []))
     (λ m. left_in f i ≡ m ∷ left_in g j)
+
+-- What a step keeps: the same regex, and the input but for its chunk, its position and the start of its span.
+abbrev pub Goes : Finder → Searched → Finder → Searched → Type 0
+Goes f i g j = (g.regex.now ≡ f.regex.now) × IsMoved i j
 
 -- The captures tell the first of the walks that are left, with all its groups, and the others stay left.
 pub record TellsWalk (f : Finder) (i : Searched) (caps : Captures) (g : Finder) (j : Searched) : Type 0 where
@@ -96,6 +102,22 @@ with_find_input s i = record s { input = i }
 abbrev pub find_left : {C : Type 0} → FindMatches C → List Found
 find_left s = left_in s.finder s.input
 
+-- no match comes any more, whatever the input becomes
+abbrev pub IsFindOver : {C : Type 0} → FindMatches C → Type 0
+IsFindOver s = IsTrue s.finder.is_done
+
+-- the same regex, and the same input but for its chunk, its position and the start of its span
+abbrev pub FindKeeps : {C : Type 0} → FindMatches C → FindMatches C → Type 0
+FindKeeps s t = Goes s.finder s.input t.finder t.input
+
+-- What `next` gives, and what it keeps. Without a match it is over.
+abbrev pub FindNext : {C : Type 0} → FindMatches C → Option Found → FindMatches C → Type 0
+FindNext s r t = YieldsFirst find_left s r t × FindKeeps s t × IfNone r (IsFindOver t)
+
+-- each run of calls gives the matches in order
+abbrev pub FindRuns : {C : Type 0} → FindMatches C → Type 0
+FindRuns {C} s = YieldsInOrder (FindNext {C = C}) find_left
+
 abbrev pub captures_regex : {C : Type 0} → CapturesMatches C → Regex
 captures_regex s = s.finder.finder.regex.now
 
@@ -113,9 +135,18 @@ captures_left s = left_in s.finder.finder s.input
 abbrev pub captures_walks : {C : Type 0} → CapturesMatches C → List Chosen
 captures_walks s = walks_in s.finder.finder s.input
 
--- what `next` gives
+-- no match comes any more, whatever the input becomes
+abbrev pub IsCapturesOver : {C : Type 0} → CapturesMatches C → Type 0
+IsCapturesOver s = IsTrue s.finder.finder.is_done
+
+abbrev pub CapturesKeeps : {C : Type 0} → CapturesMatches C → CapturesMatches C → Type 0
+CapturesKeeps s t = Goes s.finder.finder s.input t.finder.finder t.input
+
+-- What `next` gives, and what it keeps. After the last match, and after want of memory, it is over.
 abbrev pub CapturesNext : {C : Type 0} → CapturesMatches C → Option (Result Captures AllocError) → CapturesMatches C → Type 0
 CapturesNext s r t = GivesCaptures s.finder.finder s.input r t.finder.finder t.input
+    × CapturesKeeps s t
+    × MatchOption r (IsCapturesOver t) (λ item. IfErr item (λ _. IsCapturesOver t))
 
 -- What calls of `next` give of a search's list of matches, from the span's start `start` on.
 pub record CapturesLaw {C : Type 0} (names : Names) (search : Search) (start : ℕ) (s : CapturesMatches C) : Type 0 where
@@ -159,6 +190,21 @@ few_in n p i = unless_done p.is_done (pieces_left n p.start (high i) (left_in p.
 abbrev pub split_left : {C : Type 0} → Split C → List Span
 split_left s = pieces_in s.pieces s.input
 
+-- no piece comes any more, whatever the input becomes
+abbrev pub IsSplitOver : {C : Type 0} → Split C → Type 0
+IsSplitOver s = IsTrue s.pieces.is_done
+
+abbrev pub SplitKeeps : {C : Type 0} → Split C → Split C → Type 0
+SplitKeeps s t = Goes s.pieces.finder s.input t.pieces.finder t.input
+
+-- What `next` gives, and what it keeps. Without a piece it is over.
+abbrev pub SplitNext : {C : Type 0} → Split C → Option Span → Split C → Type 0
+SplitNext s r t = YieldsFirst split_left s r t × SplitKeeps s t × IfNone r (IsSplitOver t)
+
+-- each run of calls gives the pieces in order
+abbrev pub SplitRuns : {C : Type 0} → Split C → Type 0
+SplitRuns {C} s = YieldsInOrder (SplitNext {C = C}) split_left
+
 -- the input that is kept
 abbrev pub split_input : {C : Type 0} → Split C → Searched
 split_input s = s.input
@@ -174,6 +220,17 @@ splitn_limit s = s.limit
 -- at most so many of the pieces
 abbrev pub splitn_left : {C : Type 0} → SplitN C → List Span
 splitn_left s = few_in (splitn_limit s) s.pieces s.input
+
+abbrev pub SplitnKeeps : {C : Type 0} → SplitN C → SplitN C → Type 0
+SplitnKeeps s t = Goes s.pieces.finder s.input t.pieces.finder t.input
+
+-- What `next` gives, and what it keeps. Each call lowers the limit.
+abbrev pub SplitnNext : {C : Type 0} → SplitN C → Option Span → SplitN C → Type 0
+SplitnNext s r t = YieldsFirst splitn_left s r t × (splitn_limit t ≡ splitn_limit s - 1) × SplitnKeeps s t
+
+-- each run of calls gives the pieces in order
+abbrev pub SplitnRuns : {C : Type 0} → SplitN C → Type 0
+SplitnRuns {C} s = YieldsInOrder (SplitnNext {C = C}) splitn_left
 
 -- the input that is kept
 abbrev pub splitn_input : {C : Type 0} → SplitN C → Searched

@@ -5,8 +5,9 @@ use Rattle.rc_pattern.specs.Meaning.{meaning}
 use Rattle.rc_text.specs.declared.types.MatchKind.{MatchKind}
 use Rattle.rc_captures.specs.Names.{Names}
 use Rattle.rc_program.specs.Sought.{Sought}
-use Rattle.rc_build.specs.Names.{is_grouped, names_shown}
-use Rattle.rc_build.specs.Settings.{Settings, match_kind_of, settings_of, which_captures_of}
+use Rattle.rc_settings.specs.Which.{is_grouped}
+use Rattle.rc_build.specs.Names.{names_shown}
+use Rattle.rc_settings.specs.Settings.{Settings, match_kind_of, settings_of, which_captures_of}
 use Rattle.rc_parser.specs.Settings.{Settings as SyntaxSettings, settings_of as syntax_of}
 use Rattle.rc_meta.specs.Fits.{sought_by}
 use Rattle.rc_meta.specs.declared.regex.Regex.{Regex}

@@ -3,9 +3,9 @@
 ghost use Rattle.std.specs.Prelude.{◌≡◌, ◌≤◌, ◌∷◌, [], IfOk, IfErr, length, map};
 ghost use Rattle.rc_pattern.specs.Meaning.{meaning};
 ghost use Rattle.rc_program.specs.Sought.{IsRunnable, may_be_empty, passes_over};
-ghost use Rattle.rc_compile.specs.Places.{places_of};
+ghost use Rattle.rc_program.specs.Places.{places_of};
 ghost use Rattle.rc_build.specs.Refusals.{IsBuildable, IsRefusal};
-ghost use Rattle.rc_build.specs.Settings.{settings_of, unset, overwritten, match_kind_of, nfa_size_limit_of, line_terminator_of};
+ghost use Rattle.rc_settings.specs.Settings.{settings_of, unset, overwritten, match_kind_of, nfa_size_limit_of, line_terminator_of};
 ghost use Rattle.rc_build.specs.TextRefusals.{AllRead, IsTextRefusal, texts_of};
 ghost use Rattle.rc_engine.specs.Strategies.{IsSound};
 ghost use Rattle.rc_meta.specs.Fits.{sought_by};
@@ -14,15 +14,16 @@ ghost use Rattle.rc_parser.specs.Settings.{default_settings, settings_of as synt
 
 use crate::regex::{Regex, assembled};
 use rc_build::compile::compile_all;
-use rc_build::config::Config;
-use rc_build::error::BuildError;
 use rc_build::texts::parse_all;
-use rc_compile::place::Place;
 use rc_engine::choice::choose;
 use rc_engine::engine::Engine;
 use rc_engine::strategy::Strategy;
 use rc_pattern::check::copies_of;
 use rc_pattern::hir::Hir;
+use rc_program::place::Place;
+use rc_program::program::Program;
+use rc_settings::error::BuildError;
+use rc_settings::meta::Config;
 use std::alloc::Global;
 
 /// Makes regexes under settings of its own: those of the regex, and those by which its text is read.
@@ -146,17 +147,20 @@ fn engine_of(config: &Config, hirs: &[Hir], places: Vec<Place>, strategy: Strate
     requires runnable { IsRunnable (places_of places.items) }
     requires sound { IsSound (places_of places.items) (line_terminator_of (settings_of config.now))
         (passes_over (sought_by (settings_of config.now) (map meaning hirs.now))) strategy }
-    ensures places { result.places ≡ places }
-    ensures terminator { result.terminator ≡ line_terminator_of (settings_of config.now) }
-    ensures passes_over { result.passes_over ≡ passes_over (sought_by (settings_of config.now) (map meaning hirs.now)) }
+    ensures places { result.program.places ≡ places }
+    ensures terminator { result.program.terminator ≡ line_terminator_of (settings_of config.now) }
+    ensures passes_over { result.program.passes_over ≡ passes_over (sought_by (settings_of config.now) (map meaning hirs.now)) }
     ensures kind { result.kind ≡ match_kind_of (settings_of config.now) }
     ensures strategy { result.strategy ≡ strategy }
 {
     let passes_over = config.get_utf8_empty() && may_be_empty(hirs);
-    Engine {
+    let program = Program {
         places,
         terminator: config.get_line_terminator(),
         passes_over,
+    };
+    Engine {
+        program,
         kind: config.get_match_kind(),
         strategy,
     }

@@ -31,7 +31,7 @@ pub(crate) struct GroupFinder<'r> {
 }
 
 impl<'r> Finder<'r> {
-    ghost use Rattle.std.specs.Prelude.{◌≡◌, IfOk};
+    ghost use Rattle.std.specs.Prelude.{◌≡◌, IfErr, IfNone, IfOk, IsTrue, MatchOption};
     ghost use Rattle.rc_engine.specs.Engine.{IsSameCache};
     ghost use Rattle.rc_engine.specs.Moved.{IsMoved};
     ghost use Rattle.rc_meta.specs.Left.{GivesNext, GivesCaptures};
@@ -40,6 +40,8 @@ impl<'r> Finder<'r> {
     pub(crate) fn next_match<C: Cursor>(&mut self, input: &mut Input<C>) -> Option<Match>
         ensures steps { GivesNext self.old input.old result self.new input.new }
         ensures moves { IsMoved input.old input.new }
+        ensures regex { self.new.regex.now ≡ self.old.regex.now }
+        ensures over { IfNone result (IsTrue self.new.is_done) }
     {
         if self.is_done {
             return None;
@@ -63,6 +65,9 @@ impl<'r> Finder<'r> {
         requires made { IsEngineCache self.old.regex.now.engine (slot_len (names_of self.old.regex.now.info)) self.old.cache }
         ensures still_made { IsEngineCache self.new.regex.now.engine (slot_len (names_of self.new.regex.now.info)) self.new.cache }
         ensures steps { GivesCaptures self.old input.old result self.new input.new }
+        ensures moves { IsMoved input.old input.new }
+        ensures regex { self.new.regex.now ≡ self.old.regex.now }
+        ensures over { MatchOption result (IsTrue self.new.is_done) (λ item. IfErr item (λ _. IsTrue self.new.is_done)) }
     {
         if self.is_done {
             return None;
@@ -86,6 +91,8 @@ impl<'r> Finder<'r> {
 }
 
 impl<'r> GroupFinder<'r> {
+    ghost use Rattle.std.specs.Prelude.{◌≡◌, IfErr, IsTrue, MatchOption};
+    ghost use Rattle.rc_engine.specs.Moved.{IsMoved};
     ghost use Rattle.rc_meta.specs.Left.{GivesCaptures};
 
     /// The captures of the next match in the input.
@@ -94,6 +101,9 @@ impl<'r> GroupFinder<'r> {
         input: &mut Input<C>,
     ) -> Option<Result<Captures, AllocError>>
         ensures steps { GivesCaptures self.old.finder input.old result self.new.finder input.new }
+        ensures moves { IsMoved input.old input.new }
+        ensures regex { self.new.finder.regex.now ≡ self.old.finder.regex.now }
+        ensures over { MatchOption result (IsTrue self.new.finder.is_done) (λ item. IfErr item (λ _. IsTrue self.new.finder.is_done)) }
     {
         self.finder.next_captures(self.alloc, input)
     }

@@ -14,7 +14,8 @@ use std::iter::FusedIterator;
 
 /// The matches of a regex in an input, from left to right.
 ///
-/// Each call of `next` searches, and takes no memory. After the last match it gives None.
+/// Each call of `next` searches, and takes no memory. It keeps the regex, and the input but for where its span starts. After the last
+/// match it gives None, whatever the input becomes.
 #[derive(Drop)]
 pub struct FindMatches<'r, C: Cursor> {
     pub(crate) finder: Finder<'r>,
@@ -23,8 +24,9 @@ pub struct FindMatches<'r, C: Cursor> {
 
 /// The matches of a regex in an input, from left to right, each with its groups.
 ///
-/// Each call of `next` searches, and takes the memory of the captures that it gives, and no other. Want of it is an item, after
-/// which None comes; so it does after the last match.
+/// Each call of `next` searches, and takes the memory of the captures that it gives, and no other. It keeps the regex, and the input
+/// but for where its span starts. Want of memory is an item, after which None comes, whatever the input becomes; so it does after the
+/// last match.
 #[derive(Drop)]
 pub struct CapturesMatches<'r, C: Cursor> {
     pub(crate) finder: GroupFinder<'r>,
@@ -33,14 +35,15 @@ pub struct CapturesMatches<'r, C: Cursor> {
 
 /// The pieces of a content between the matches of a regex, from left to right.
 ///
-/// Each call of `next` searches, and takes no memory. After the last piece it gives None.
+/// Each call of `next` searches, and takes no memory. It keeps the regex, and the input but for where its span starts. After the last
+/// piece it gives None, whatever the input becomes.
 #[derive(Drop)]
 pub struct Split<'r, C: Cursor> {
     pub(crate) pieces: Pieces<'r>,
     pub(crate) input: Input<C>,
 }
 
-/// The same, of which there are at most so many.
+/// The same, of which there are at most so many. Each call of `next` lowers that number by one.
 #[derive(Drop)]
 pub struct SplitN<'r, C: Cursor> {
     pub(crate) pieces: Pieces<'r>,
@@ -99,12 +102,12 @@ impl<'r, C: Cursor + Drop> FindMatches<'r, C> {
 }
 
 impl<'r, C: Cursor + Drop> Iterator for FindMatches<'r, C> {
-    ghost use Rattle.std.specs.Iterator.{YieldsFirst, item_count};
-    ghost use Rattle.rc_meta.specs.Left.{find_left};
+    ghost use Rattle.std.specs.Iterator.{item_count};
+    ghost use Rattle.rc_meta.specs.Left.{FindNext, find_left};
 
     type Item = Match;
 
-    ghost next_gives = { YieldsFirst find_left };
+    ghost next_gives = { FindNext };
 
     ghost remaining = { item_count find_left };
 
@@ -177,9 +180,9 @@ impl<'r, C: Cursor + Drop> Iterator for CapturesMatches<'r, C> {
 impl<'r, C: Cursor + Drop> FusedIterator for CapturesMatches<'r, C> {}
 
 impl<'r> Pieces<'r> {
-    ghost use Rattle.std.specs.Prelude.{◌≡◌, ◌∷◌, ℕ, suc, [], MatchOption, true};
+    ghost use Rattle.std.specs.Prelude.{◌≡◌, ◌∷◌, ℕ, suc, [], IfNone, IsTrue, MatchOption, true};
     ghost use Rattle.rc_text.specs.Text.{high};
-    ghost use Rattle.rc_meta.specs.Left.{few_in, pieces_in};
+    ghost use Rattle.rc_meta.specs.Left.{Goes, few_in, pieces_in};
 
     /// The next piece.
     pub(crate) fn next_piece<C: Cursor>(&mut self, input: &mut Input<C>) -> Option<Span>
@@ -189,6 +192,8 @@ impl<'r> Pieces<'r> {
         ensures limited { (n : ℕ) → MatchOption result
             ((few_in n self.old input.old ≡ []) × (few_in n self.new input.new ≡ []))
             (λ piece. few_in (suc (suc n)) self.old input.old ≡ piece ∷ few_in (suc n) self.new input.new) }
+        ensures goes { Goes self.old.finder input.old self.new.finder input.new }
+        ensures over { IfNone result (IsTrue self.new.is_done) }
     {
         if self.is_done {
             return None;
@@ -208,6 +213,7 @@ impl<'r> Pieces<'r> {
     pub(crate) fn rest<C: Cursor>(&mut self, input: &mut Input<C>) -> Span
         ensures value { result ≡ record { start = self.old.start; end = high input.old } }
         ensures done { self.new.is_done ≡ true }
+        ensures goes { Goes self.old.finder input.old self.new.finder input.new }
     {
         self.is_done = true;
         Span {
@@ -237,12 +243,12 @@ impl<'r, C: Cursor> Split<'r, C> {
 }
 
 impl<'r, C: Cursor + Drop> Iterator for Split<'r, C> {
-    ghost use Rattle.std.specs.Iterator.{YieldsFirst, item_count};
-    ghost use Rattle.rc_meta.specs.Left.{split_left};
+    ghost use Rattle.std.specs.Iterator.{item_count};
+    ghost use Rattle.rc_meta.specs.Left.{SplitNext, split_left};
 
     type Item = Span;
 
-    ghost next_gives = { YieldsFirst split_left };
+    ghost next_gives = { SplitNext };
 
     ghost remaining = { item_count split_left };
 
@@ -260,7 +266,7 @@ impl<'r, C: Cursor> SplitN<'r, C> {
     ghost use mir.Syntax.{named};
     ghost use Rattle.rc_text.specs.contracts.input.Input.{the_row as input_row};
     ghost use Rattle.rc_meta.specs.contracts.iterators.SplitN.{the_row};
-    ghost use Rattle.rc_meta.specs.Left.{splitn_input, splitn_left, splitn_limit, with_splitn_input};
+    ghost use Rattle.rc_meta.specs.Left.{SplitnKeeps, splitn_input, splitn_left, splitn_limit, with_splitn_input};
 
     /// The input. It may be changed: `next` then goes on in what it is, and the iterator is otherwise as before.
     pub fn input(&mut self) -> &mut Input<C>
@@ -276,6 +282,7 @@ impl<'r, C: Cursor> SplitN<'r, C> {
     pub fn next(&mut self) -> Option<Span>
         ensures steps { YieldsFirst splitn_left self.old result self.new }
         ensures limit { splitn_limit self.new ≡ splitn_limit self.old - 1 }
+        ensures keeps { SplitnKeeps self.old self.new }
     {
         let limit = self.limit;
         self.limit = limit.saturating_sub(1);
@@ -292,13 +299,13 @@ impl<'r, C: Cursor> SplitN<'r, C> {
 
 impl<'r, C: Cursor + Drop> Iterator for SplitN<'r, C> {
     ghost use Rattle.std.specs.Prelude.{◌≡◌, Some, IfSome};
-    ghost use Rattle.std.specs.Iterator.{YieldsFirst, UpTo, at_most};
+    ghost use Rattle.std.specs.Iterator.{UpTo, at_most};
     ghost use Rattle.std.specs.Iterator.SizeHint.{IsWithinCount};
-    ghost use Rattle.rc_meta.specs.Left.{splitn_left, splitn_limit};
+    ghost use Rattle.rc_meta.specs.Left.{SplitnNext, splitn_limit};
 
     type Item = Span;
 
-    ghost next_gives = { YieldsFirst splitn_left };
+    ghost next_gives = { SplitnNext };
 
     ghost remaining = { λ s. at_most (splitn_limit s) };
 

@@ -7,5 +7,3 @@ mod finder;
 pub mod iterators;
 pub mod laws;
 pub mod regex;
-#[cfg(test)]
-mod tests;

@@ -7,23 +7,23 @@ ghost use Rattle.rc_program.specs.Laws.{all_groups};
 ghost use Rattle.rc_build.specs.Refusals.{greatest_weight};
 ghost use Rattle.rc_meta.specs.Counts.{static_groups};
 ghost use Rattle.rc_pattern.specs.Meaning.{meaning};
-ghost use Rattle.rc_build.specs.Settings.{settings_of};
+ghost use Rattle.rc_settings.specs.Settings.{settings_of};
 ghost use Rattle.rc_meta.specs.Fits.{Fits};
 
 use crate::builder::{Builder, build};
 use crate::cache::Cache;
 use crate::finder::{Finder, GroupFinder};
 use crate::iterators::{CapturesMatches, FindMatches, Pieces, Split, SplitN};
-use rc_build::config::Config;
-use rc_build::error::BuildError;
 use rc_captures::captures;
 use rc_captures::captures::Captures;
 use rc_captures::groups::GroupInfo;
-use rc_compile::place::Place;
 use rc_engine::engine::Engine;
 use rc_pass::cache;
 use rc_pattern::check::group_count;
 use rc_pattern::hir::Hir;
+use rc_program::place::Place;
+use rc_settings::error::BuildError;
+use rc_settings::meta::Config;
 use rc_text::cursor::Cursor;
 use rc_text::input::Input;
 use rc_text::types::{HalfMatch, Match, PatternID};
@@ -48,7 +48,7 @@ impl Regex {
     ghost use Rattle.rc_engine.specs.Tells.{Tells, TellsBy, KeepsAll};
     ghost use Rattle.rc_engine.specs.Walks.{walks_left};
     ghost use Rattle.rc_program.specs.Matches.{matches_left, pieces_of, pieces_at_most};
-    ghost use Rattle.rc_meta.specs.Left.{captures_input, captures_left, captures_regex, captures_walks, CapturesLaw, MatchedLaw, find_input, find_left, find_regex, split_input, split_left, splitn_input, splitn_left, splitn_limit};
+    ghost use Rattle.rc_meta.specs.Left.{FindRuns, SplitRuns, SplitnRuns, captures_input, captures_left, captures_regex, captures_walks, CapturesLaw, MatchedLaw, find_input, find_left, find_regex, split_input, split_left, splitn_input, splitn_left, splitn_limit};
     ghost use Rattle.rc_text.specs.Found.{Found};
     ghost use Rattle.rc_program.specs.Laws.{all_groups};
     ghost use Rattle.rc_meta.specs.Counts.{half_of, static_captures_len};
@@ -58,7 +58,7 @@ impl Regex {
     ghost use Rattle.rc_program.specs.Kinds.{IsAnswerBy, answer_by, matches_by_kind};
     ghost use Rattle.rc_pass.specs.KindSlots.{slots_by};
     ghost use Rattle.rc_program.specs.Sought.{search_for};
-    ghost use Rattle.rc_build.specs.Settings.{unset, auto_prefilter_of, prefilter_of, match_kind_of, nfa_size_limit_of};
+    ghost use Rattle.rc_settings.specs.Settings.{unset, auto_prefilter_of, prefilter_of, match_kind_of, nfa_size_limit_of};
     ghost use Rattle.rc_build.specs.Refusals.{IsBuildable};
     ghost use Rattle.rc_build.specs.TextRefusals.{AllRead, IsTextRefusal, texts_of};
     ghost use Rattle.rc_parser.specs.Settings.{default_settings};
@@ -134,8 +134,6 @@ impl Regex {
         alloc: Global,
         input: Input<C>,
     ) -> Result<Option<Match>, AllocError>
-        ensures found { match_kind_of (regex_settings self.now) ≡ LeftmostFirst
-            → IfOk result (λ m. m ≡ answer (search_for (sought self.now) input)) }
         ensures found_by { IfOk result (λ m. m ≡ answer_by (regex_kind self.now) (search_for (sought self.now) input)) }
         ensures within { IfOk result (λ o. IfSome o (λ m. (low input ≤ m.start) × (m.start ≤ m.end) × (m.end ≤ high input))) }
     {
@@ -163,8 +161,6 @@ impl Regex {
         alloc: Global,
         input: Input<C>,
     ) -> Result<Option<HalfMatch>, AllocError>
-        ensures found { match_kind_of (regex_settings self.now) ≡ LeftmostFirst
-            → IfOk result (λ m. m ≡ option_map half_of (answer (search_for (sought self.now) input))) }
         ensures found_by { IfOk result (λ m. m ≡ option_map half_of (answer_by (regex_kind self.now) (search_for (sought self.now) input))) }
         ensures within { IfOk result (λ o. IfSome o (λ m. (low input ≤ m.offset) × (m.offset ≤ high input))) }
     {
@@ -183,8 +179,6 @@ impl Regex {
         requires made { IsCacheFor (regex_patterns self.now) (regex_settings self.now) cache.old }
         ensures cache { IsCacheFor (regex_patterns self.now) (regex_settings self.now) cache.new }
         ensures keeps { Keeps input.old input.new }
-        ensures found { match_kind_of (regex_settings self.now) ≡ LeftmostFirst
-            → result ≡ option_map half_of (answer (search_for (sought self.now) input.old)) }
         ensures found_by { result ≡ option_map half_of (answer_by (regex_kind self.now) (search_for (sought self.now) input.old)) }
         ensures within { IfSome result (λ m. (low input.old ≤ m.offset) × (m.offset ≤ high input.old)) }
     {
@@ -202,8 +196,6 @@ impl Regex {
         alloc: Global,
         input: Input<C>,
     ) -> Result<bool, AllocError>
-        ensures found { match_kind_of (regex_settings self.now) ≡ LeftmostFirst
-            → IfOk result (λ b. IsTrue b ↔ IsSome (answer (search_for (sought self.now) input))) }
         ensures found_by { IfOk result (λ b. IsTrue b ↔ IsSome (answer_by (regex_kind self.now) (search_for (sought self.now) input))) }
     {
         Ok(self.find(alloc, input)?.is_some())
@@ -268,7 +260,12 @@ impl Regex {
 
     /// About how many bytes the program, the groups and the needles of searches take.
     pub fn memory_usage(&self) -> usize {
-        let places = self.engine.places.len().saturating_mul(size_of::<Place>());
+        let places = self
+            .engine
+            .program
+            .places
+            .len()
+            .saturating_mul(size_of::<Place>());
         let slots = self
             .info
             .slot_len()
@@ -336,10 +333,6 @@ impl Regex {
         ensures still_made { IsCapturesFor (regex_names self.now) caps.new }
         ensures long { length (captures_slots caps.new) ≡ length (captures_slots caps.old) }
         ensures refused { OnErr result (captures_pattern caps.new ≡ None) }
-        ensures found { match_kind_of (regex_settings self.now) ≡ LeftmostFirst
-            → OnOk result (Tells (search_for (sought self.now) input) caps.new) }
-        ensures matched { match_kind_of (regex_settings self.now) ≡ LeftmostFirst
-            → OnOk result (match_of caps.new ≡ answer (search_for (sought self.now) input)) }
         ensures told_by { OnOk result (TellsBy (regex_kind self.now) (search_for (sought self.now) input) caps.new) }
         ensures matched_by { OnOk result (match_of caps.new ≡ answer_by (regex_kind self.now) (search_for (sought self.now) input)) }
         ensures within { OnOk result (IfSome (match_of caps.new)
@@ -388,12 +381,6 @@ impl Regex {
     ) -> Result<Option<PatternID>, AllocError>
         requires few { length slots.old ≤ slot_len (regex_names self.now) }
         ensures refused { OnErr result (slots.new ≡ slots.old) }
-        ensures pattern { match_kind_of (regex_settings self.now) ≡ LeftmostFirst
-            → IfOk result (λ p. p ≡ option_map (λ (m : Found). m.pattern) (answer (search_for (sought self.now) input))) }
-        ensures slots { match_kind_of (regex_settings self.now) ≡ LeftmostFirst
-            → IfOk result (λ p. MatchOption p
-            (slots.new ≡ slots.old)
-            (λ _. Some slots.new ≡ groups (search_for (sought self.now) input) (length slots.old))) }
         ensures pattern_by { IfOk result (λ p. p ≡ option_map (λ (m : Found). m.pattern) (answer_by (regex_kind self.now) (search_for (sought self.now) input))) }
         ensures slots_by { IfOk result (λ p. MatchOption p
             (slots.new ≡ slots.old)
@@ -414,12 +401,6 @@ impl Regex {
         requires few { length slots.old ≤ slot_len (regex_names self.now) }
         ensures cache { IsCacheFor (regex_patterns self.now) (regex_settings self.now) cache.new }
         ensures keeps { Keeps input.old input.new }
-        ensures pattern { match_kind_of (regex_settings self.now) ≡ LeftmostFirst
-            → result ≡ option_map (λ (m : Found). m.pattern) (answer (search_for (sought self.now) input.old)) }
-        ensures slots { match_kind_of (regex_settings self.now) ≡ LeftmostFirst
-            → MatchOption result
-            (slots.new ≡ slots.old)
-            (λ _. Some slots.new ≡ groups (search_for (sought self.now) input.old) (length slots.old)) }
         ensures pattern_by { result ≡ option_map (λ (m : Found). m.pattern) (answer_by (regex_kind self.now) (search_for (sought self.now) input.old)) }
         ensures slots_by { MatchOption result
             (slots.new ≡ slots.old)
@@ -446,6 +427,7 @@ impl Regex {
         ensures short { IfOk result (λ s. length (find_left s) < 2 ^ 64) }
         ensures regex { IfOk result (λ s. find_regex s ≡ self.now) }
         ensures input { IfOk result (λ s. find_input s ≡ input) }
+        ensures runs { IfOk result FindRuns }
     {
         // The content is shorter than the greatest number.
         let _offset = input.chunk_offset();
@@ -500,12 +482,10 @@ impl Regex {
         alloc: Global,
         input: Input<C>,
     ) -> Result<Split<'r, C>, AllocError>
-        ensures left { match_kind_of (regex_settings self.now) ≡ LeftmostFirst
-            → IfOk result (λ s. split_left s
-            ≡ pieces_of (high input) (matches_left (search_for (sought self.now) input) input.span.start None)) }
         ensures left_by { IfOk result (λ s. split_left s
             ≡ pieces_of (high input) (matches_by_kind (regex_kind self.now) (search_for (sought self.now) input) input.span.start None)) }
         ensures input { IfOk result (λ s. split_input s ≡ input) }
+        ensures runs { IfOk result SplitRuns }
         ensures few { IfOk result (λ s. length (split_left s) ≤ high input + 2) }
         ensures short { high input + 2 < 2 ^ 64 → IfOk result (λ s. length (split_left s) < 2 ^ 64) }
     {
@@ -527,13 +507,11 @@ impl Regex {
         input: Input<C>,
         limit: usize,
     ) -> Result<SplitN<'r, C>, AllocError>
-        ensures left { match_kind_of (regex_settings self.now) ≡ LeftmostFirst
-            → IfOk result (λ s. splitn_left s
-            ≡ pieces_at_most limit (high input) (matches_left (search_for (sought self.now) input) input.span.start None)) }
         ensures left_by { IfOk result (λ s. splitn_left s
             ≡ pieces_at_most limit (high input) (matches_by_kind (regex_kind self.now) (search_for (sought self.now) input) input.span.start None)) }
         ensures limit { IfOk result (λ s. splitn_limit s ≡ limit) }
         ensures input { IfOk result (λ s. splitn_input s ≡ input) }
+        ensures runs { IfOk result SplitnRuns }
     {
         let matches = self.find_iter(alloc, input)?;
         let pieces = Pieces {

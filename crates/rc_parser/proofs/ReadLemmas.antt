@@ -2,7 +2,7 @@
 use Rattle.std.proofs.Common.{◌≡◌, ℕ, zero, suc, ◌<◌, ◌⊎◌, inl, inr, ⊎_elim, false, [], ◌∷◌, ◌++◌, Option, Some, None, length, refl, ap, sym, subst, ◌∙◌, arith}
 use Rattle.std.proofs.lemmas.Option.{none-some, same_Some}
 use Rattle.std.proofs.lemmas.List.{nil_from_length}
-use Rattle.rc_pattern.specs.Re.{Re}
+use Rattle.rc_pattern.specs.Re.{Re, empty}
 use Rattle.rc_tokens.specs.Text.{Text, ◌>>=◌}
 use Rattle.rc_tokens.specs.Marks.{Mark, said, written, takes_more, AreMarks, Begins}
 use Rattle.rc_tokens.specs.Said.{Said}
@@ -11,7 +11,7 @@ use Rattle.rc_tokens.proofs.StepLemmas.{some_parts}
 use Rattle.rc_tokens.proofs.SoundLemmas.{lex_sound, lex_shorter}
 use Rattle.rc_tokens.proofs.AgainLemmas.{lex_again}
 use Rattle.rc_parser.specs.Settings.{Settings, first_flags}
-use Rattle.rc_parser.specs.Pieces.{Part}
+use Rattle.rc_parser.specs.Pieces.{Part, leaf}
 use Rattle.rc_parser.specs.Grammar.{marks, begin, reads, whole, Reads}
 use Rattle.rc_parser.specs.Machine.{Work, settled, take_said, finish, run_marks, Has, fresh}
 use Rattle.rc_parser.proofs.TreeLemmas.{body_run, bodies_of, no_operator}
@@ -121,3 +121,7 @@ module _ (s : Settings) where
   reads_one t a b x y =
       let (d, h) = has_from_reads t a x in let (e, g) = has_from_reads t b y in
       ap (λ (r : Part). r.re) (has_one (suc (length t)) (fresh s) t (record { re = a; depth = d }) (record { re = b; depth = e }) (omega arith) h g)
+
+  -- the empty text is read as the empty pattern
+  pub empty_read : (re : Re) → Reads s [] re → re ≡ empty
+  empty_read re r = reads_one [] re empty r (reads_from_has [] (leaf empty) ([], refl, refl))

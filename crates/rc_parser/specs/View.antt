@@ -4,8 +4,8 @@ use Rattle.rc_pattern.specs.Meaning.{meaning}
 use Rattle.rc_parser.specs.Pieces.{Part}
 use Rattle.rc_parser.specs.Grammar as spec
 use Rattle.rc_parser.specs.Machine as machine
-use Rattle.rc_parser.specs.declared.parts.Nested.{Nested}
-use Rattle.rc_parser.specs.declared.parts.Parts.{Parts}
+use Rattle.rc_parser.specs.declared.nested.Nested.{Nested}
+use Rattle.rc_parser.specs.declared.nested.Parts.{Parts}
 use Rattle.rc_parser.specs.declared.builder.Level.{Level}
 use Rattle.rc_parser.specs.declared.builder.Group.{Group}
 use Rattle.rc_parser.specs.declared.builder.Outside.{Outside}

@@ -6,6 +6,7 @@ mod config;
 mod error;
 mod flags;
 mod names;
+mod nested;
 mod parts;
 mod pieces;
 mod reader;
@@ -13,6 +14,3 @@ mod reader;
 pub use config::Config;
 pub use error::Error;
 pub use reader::{parse, reads_as_one, reads_plain, reads_well_formed};
-
-#[cfg(test)]
-mod tests;

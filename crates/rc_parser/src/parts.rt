@@ -1,35 +1,23 @@
-//! Patterns that have been read, and how deep they are nested.
+//! How patterns that have been read are joined.
 
-ghost use Rattle.std.specs.Prelude.{◌≡◌, ◌⊎◌, ◌+◌, ◌<◌, None, Some, [], option_map, MatchResult, OnOk, IfOk};
+ghost use Rattle.std.specs.Prelude.{◌≡◌, ◌⊎◌, ◌+◌, ◌<◌, None, Some, [], option_map, MatchResult, OnOk, IfOk, IsTrue};
 ghost use Rattle.rc_pattern.specs.Meaning.{meaning, concat_of, alternation_of};
 ghost use Rattle.rc_tokens.specs.View.{Gives};
 ghost use Rattle.rc_parser.specs.Settings.{settings_of};
 ghost use Rattle.rc_parser.specs.Pieces.{deeper};
 ghost use Rattle.rc_parser.specs.Grammar.{join, with_part, no_parts};
+ghost use Rattle.rc_parser.specs.View.{part, parts};
+ghost use Rattle.rc_pattern.specs.Kinds.{has_plain_nodes};
 
 use crate::config::Config;
+use crate::nested::{Nested, Parts};
 use rc_pattern::hir::Hir;
 use rc_tokens::refusal::Refusal;
 use std::alloc::Global;
 
-/// A pattern, and how deep it is nested.
-#[derive(Drop)]
-pub struct Nested {
-    pub hir: Hir,
-    pub depth: u32,
-}
-
-/// Patterns, and how deep the deepest is nested.
-#[derive(Drop)]
-pub struct Parts {
-    pub hirs: Vec<Hir>,
-    pub deepest: u32,
-}
-
-ghost use Rattle.rc_parser.specs.View.{part, parts};
-
 /// One level more, within the limit.
 pub fn one_deeper(config: Config, hir: Hir, depth: u32) -> Option<Nested>
+    requires { IsTrue (has_plain_nodes hir) }
     ensures { option_map part result ≡ deeper (settings_of config) (meaning hir) depth }
 {
     if depth < config.depth_limit() {

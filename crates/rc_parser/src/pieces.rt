@@ -1,7 +1,8 @@
 //! What a mark that stands alone is read as.
 
-ghost use Rattle.std.specs.Prelude.{◌≡◌, ◌⊎◌, ◌+◌, ◌<◌, ◌∷◌, ◌++◌, true, false, None, Some, [], map, option_map, MatchResult, OnOk, IfOk, encode_utf8_all, length, drop};
+ghost use Rattle.std.specs.Prelude.{◌≡◌, ◌⊎◌, ◌+◌, ◌<◌, ◌∷◌, ◌++◌, true, false, None, Some, [], map, option_map, MatchResult, OnOk, IfOk, IsTrue, encode_utf8_all, length, drop};
 ghost use Rattle.rc_pattern.specs.Meaning.{meaning, literal_of, byte_range, char_range};
+ghost use Rattle.rc_pattern.specs.Kinds.{has_plain_nodes};
 ghost use Rattle.rc_pattern.specs.Re as re;
 ghost use Rattle.rc_tokens.specs.View.{Gives};
 ghost use Rattle.rc_tokens.specs.ClassView.{pairs};
@@ -14,7 +15,8 @@ ghost use Rattle.rc_parser.specs.View.{part};
 
 use crate::config::Config;
 use crate::flags::Flags;
-use crate::parts::{Nested, one_deeper};
+use crate::nested::Nested;
+use crate::parts::one_deeper;
 use rc_pattern::hir::{Class, ClassBytesRange, ClassUnicodeRange, Dot, Hir, Look};
 use rc_tokens::classes::{CodeRange, class_of, has_high};
 use rc_tokens::items::{list_ranges, perl_ranges};
@@ -23,6 +25,7 @@ use rc_tokens::tokens::{Assertion, List, Perl};
 use std::alloc::{AllocError, Global};
 
 fn leaf(hir: Hir) -> Nested
+    requires { IsTrue (has_plain_nodes hir) }
     ensures { part result ≡ leaf (meaning hir) }
 {
     Nested { hir, depth: 0 }
@@ -110,7 +113,8 @@ fn bytes(alloc: Global, ranges: &[CodeRange]) -> Result<Vec<ClassBytesRange>, Al
 /// The class of the ranges.
 fn set(alloc: Global, config: Config, flags: Flags, ranges: &[CodeRange]) -> Result<Hir, Refusal>
     requires { AreCodes flags.unicode (pairs ranges.now) }
-    ensures { Gives result (set_re (settings_of config) flags (pairs ranges.now)) meaning }
+    ensures reads { Gives result (set_re (settings_of config) flags (pairs ranges.now)) meaning }
+    ensures kind { IfOk result (λ h. IsTrue (has_plain_nodes h)) }
 {
     if flags.unicode {
         let all = characters(alloc, ranges)?;
@@ -131,7 +135,8 @@ fn is_letter(c: char) -> bool
 
 /// The UTF-8 bytes of a character.
 fn literal(alloc: Global, c: char) -> Result<Hir, AllocError>
-    ensures { IfOk result (λ h. meaning h ≡ literal_of (encode_utf8_all (c ∷ []))) }
+    ensures reads { IfOk result (λ h. meaning h ≡ literal_of (encode_utf8_all (c ∷ []))) }
+    ensures kind { IfOk result (λ h. IsTrue (has_plain_nodes h)) }
 {
     let mut text = String::new(alloc);
     text.push(c)?;
@@ -142,7 +147,8 @@ fn literal(alloc: Global, c: char) -> Result<Hir, AllocError>
 #[tactic(auto, using(crate::proofs::PieceLemmas::letter_class))]
 fn letter(alloc: Global, config: Config, flags: Flags, c: char) -> Result<Hir, Refusal>
     requires { is_letter c ≡ true }
-    ensures { Gives result (set_re (settings_of config) flags (class_of flags.unicode true false ((c, c) ∷ []))) meaning }
+    ensures reads { Gives result (set_re (settings_of config) flags (class_of flags.unicode true false ((c, c) ∷ []))) meaning }
+    ensures kind { IfOk result (λ h. IsTrue (has_plain_nodes h)) }
 {
     let code = c as u32;
     let ranges = [CodeRange {
@@ -154,7 +160,8 @@ fn letter(alloc: Global, config: Config, flags: Flags, c: char) -> Result<Hir, R
 }
 
 fn char_hir(alloc: Global, config: Config, flags: Flags, c: char) -> Result<Hir, Refusal>
-    ensures { Gives result (char_re (settings_of config) flags c) meaning }
+    ensures reads { Gives result (char_re (settings_of config) flags c) meaning }
+    ensures kind { IfOk result (λ h. IsTrue (has_plain_nodes h)) }
 {
     if flags.case_insensitive && is_letter(c) {
         return letter(alloc, config, flags, c);
@@ -170,7 +177,8 @@ pub fn character(alloc: Global, config: Config, flags: Flags, c: char) -> Result
 }
 
 fn byte_hir(alloc: Global, config: Config, flags: Flags, byte: u8) -> Result<Hir, Refusal>
-    ensures { Gives result (byte_re (settings_of config) flags byte) meaning }
+    ensures reads { Gives result (byte_re (settings_of config) flags byte) meaning }
+    ensures kind { IfOk result (λ h. IsTrue (has_plain_nodes h)) }
 {
     if !flags.unicode && byte >= 128 {
         if config.get_utf8() {

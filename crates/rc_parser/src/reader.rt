@@ -1,8 +1,11 @@
 //! Reads the text of a pattern.
 
-ghost use Rattle.std.specs.Prelude.{◌≡◌, ℕ, ◌≤◌, ◌<◌, ◌+◌, None, [], MatchResult, IfOk, length, chars};
+ghost use Rattle.std.specs.Prelude.{◌≡◌, ℕ, ◌≤◌, ◌<◌, ◌+◌, None, [], MatchResult, IfOk, IsTrue, length, chars};
 ghost use Rattle.rc_pattern.specs.Re.{Re};
 ghost use Rattle.rc_pattern.specs.Meaning.{meaning};
+ghost use Rattle.rc_pattern.specs.Kinds.{has_plain_nodes};
+ghost use Rattle.rc_pattern.specs.declared.hir.Hir.{out-Hir};
+ghost use Rattle.rc_pattern.specs.declared.hir.HirKind.TheVariants as HirKind;
 ghost use Rattle.rc_pattern.specs.WellFormed.{IsWellFormed};
 ghost use Rattle.rc_tokens.specs.Text.{Text};
 ghost use Rattle.rc_parser.specs.Settings.{Settings, settings_of};
@@ -16,7 +19,7 @@ ghost use Rattle.rc_parser.specs.Outcome.{OnSyntax, OnFault};
 use crate::builder::Work;
 use crate::config::Config;
 use crate::error::Error;
-use crate::parts::Nested;
+use crate::nested::Nested;
 use rc_pattern::hir::Hir;
 use rc_tokens::lexer::first_token;
 use rc_tokens::refusal::Refusal;
@@ -80,13 +83,15 @@ fn characters(alloc: Global, text: &str) -> Result<Vec<char>, AllocError>
 
 /// Reads the text of a pattern.
 ///
-/// The answer is the pattern as which the grammar reads the text, and is well-formed. `Syntax` comes
-/// only where the grammar reads none, and `Memory` is want of memory.
+/// The answer is the pattern as which the grammar reads the text, and is well-formed. No node of it is a
+/// concatenation of nothing, and of the empty text it is the node `Empty`. `Syntax` comes only where the grammar reads none, and `Memory` is want of memory.
 pub fn parse(alloc: Global, text: &str, config: &Config) -> Result<Hir, Error>
     ensures reads { MatchResult result
         (λ h. Reads (settings_of config.now) (chars text.now) (meaning h))
         (λ e. OnSyntax e (λ at. (at ≤ length text.now) × ((re : Re) → Reads (settings_of config.now) (chars text.now) re → ⊥))) }
     ensures well_formed { IfOk result (λ h. IsWellFormed (meaning h)) }
+    ensures kind { IfOk result (λ h. IsTrue (has_plain_nodes h)) }
+    ensures empty { text.now ≡ [] → IfOk result (λ h. (out-Hir h).kind ≡ HirKind.Empty) }
 {
     let Ok(all) = characters(alloc, text) else {
         return Err(Error::Memory);

@@ -1,9 +1,11 @@
 -- The pairs that were entered at a position.
-use Rattle.std.proofs.Common.{◌≡◌, ℕ, ◌⊎◌, List, [], ◌∷◌, ◌++◌, map, reverse, inl, inr, ⊎_elim, sym, ap}
+use Rattle.std.proofs.Common.{◌≡◌, ℕ, ◌⊎◌, List, [], ◌∷◌, ◌++◌, map, reverse, inl, inr, ⊎_elim, sym, ap, ◌∙◌}
 use Rattle.std.proofs.lemmas.List.{reverse-append}
 use Rattle.rc_walks.specs.Walks.{Pair, IsIn}
 use Rattle.rc_pass.specs.Sparse.{Has}
 use Rattle.rc_pass.specs.Passing.{pairs}
+use Rattle.rc_pass.specs.declared.growth.Frame.{Frame}
+use Rattle.rc_pass.specs.declared.growth.Frame.TheVariants.{Explore}
 
 pub reverse-first : {X : Type 0} (x : X) (xs : List X) → reverse (x ∷ xs) ≡ reverse xs ++ x ∷ []
 reverse-first x xs = reverse-append (x ∷ []) xs
@@ -57,3 +59,8 @@ pairs_at at items k h = all_at_map at k (reverse items) h
 
 pub pairs_push : (at p : ℕ) (items : List ℕ) → pairs at (items ++ p ∷ []) ≡ (p, at) ∷ pairs at items
 pairs_push at p items = ap (map (λ q. (q, at))) (reverse-push items p)
+
+-- the frame on top of the stack
+pub popped : (items rest : List Frame) (frame : Frame) (place : ℕ) → items ≡ rest ++ frame ∷ [] → frame ≡ Explore place →
+    reverse items ≡ Explore place ∷ reverse rest
+popped items rest frame place e is = ap reverse e ∙ reverse-push rest frame ∙ ap (λ f. f ∷ reverse rest) is

@@ -14,7 +14,7 @@ use Rattle.rc_pass.specs.Moves.{IsMove}
 use Rattle.rc_pass.specs.Passing.{resting_of, frames_of, AllInside, IsMoveInside, AllIn, AllFrom, count_from, IsSound, IsGrown}
 use Rattle.rc_pass.specs.declared.moves.Move.{Move}
 use Rattle.rc_pass.specs.declared.moves.Move.TheVariants.{Fork, Save, Matches, Stays, Reads, Stops}
-use Rattle.rc_pass.specs.declared.closure.Frame.{Frame}
+use Rattle.rc_pass.specs.declared.growth.Frame.{Frame}
 
 -- the places that a move names are places of the program
 pub move_inside : (s : Search) (p at : ℕ) (move : Move) → IsClosed s.places → IsMove s (p, at) move → IsMoveInside (length s.places) move

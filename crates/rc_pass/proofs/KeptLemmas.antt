@@ -1,13 +1,13 @@
 -- A search is that of an input whose shown chunk and position alone have changed.
-use Rattle.std.proofs.Common.{◌≡◌, ℕ, ◌+◌, ◌≤◌, List, refl, sym, ◌∙◌, arith, inl, inr, ⊎_elim}
+use Rattle.std.proofs.Common.{◌≡◌, ℕ, ◌+◌, ◌≤◌, refl, sym, ◌∙◌, arith, inl, inr, ⊎_elim}
 use Rattle.rc_text.specs.Text.{Searched, Keeps}
-use Rattle.rc_compile.specs.declared.place.Place as code
+use Rattle.rc_program.specs.declared.program.Program.{Program}
 use Rattle.rc_pass.specs.Moves.{seen}
 use Rattle.rc_pass.specs.Windows.{IsWindow, IsBegun, IsAround}
 use Rattle.rc_pass.specs.declared.window.Window.{Window}
 
-pub kept_seen : (ps : List code.Place) (terminator : ℕ) (a b : Searched) → Keeps a b → seen ps terminator b ≡ seen ps terminator a
-kept_seen ps terminator a b k = rw (k.content, k.span, k.slice, k.anchored) refl
+pub kept_seen : (p : Program) (a b : Searched) → Keeps a b → seen p b ≡ seen p a
+kept_seen p a b k = rw (k.content, k.span, k.slice, k.anchored) refl
 
 pub kept_back : (a b : Searched) → Keeps a b → Keeps b a
 kept_back a b k = record {

@@ -1,6 +1,5 @@
 pub mod EnteredLemmas
 pub mod GrownLemmas
-pub mod GuardLemmas
 pub mod KeptLemmas
 pub mod LookUpLemmas
 pub mod MoveLemmas
@@ -9,7 +8,6 @@ pub mod NotedLemmas
 pub mod PassLemmas
 pub mod PassingLemmas
 pub mod RowLemmas
-pub mod RunnableLemmas
 pub mod SearchLemmas
 pub mod SparseLemmas
 pub mod SpreadLemmas
@@ -19,3 +17,4 @@ pub mod SpreadStepLemmas
 pub mod StartLemmas
 pub mod StepLemmas
 pub mod TurnLemmas
+pub mod VisitLemmas

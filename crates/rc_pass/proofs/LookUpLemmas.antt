@@ -8,8 +8,8 @@ use Rattle.rc_program.specs.Text.{holds, ahead}
 use Rattle.rc_program.specs.Answer.{Search, only}
 use Rattle.std.proofs.lemmas.Option.{none-some, same_Some, slice_get_within}
 use Rattle.rc_program.proofs.WayLemmas.{scalar_at_short, length-ahead}
-use Rattle.rc_compile.specs.Places.{place_of, places_of}
-use Rattle.rc_compile.specs.declared.place.Place as code
+use Rattle.rc_program.specs.Places.{place_of, places_of}
+use Rattle.rc_program.specs.declared.place.Place as code
 use Rattle.rc_pass.specs.Trace.{note_at}
 use Rattle.rc_pass.specs.Moves.{IsMove}
 use Rattle.rc_pass.specs.declared.moves.Move.TheVariants.{Reads}

@@ -17,7 +17,7 @@ use Rattle.rc_pass.specs.Moves.{IsMove, IsPlain}
 use Rattle.rc_pass.specs.Passing.{pending, pairs, waits, resting_of, frames_of, slots_after, Carries}
 use Rattle.rc_pass.specs.declared.moves.Move.{Move}
 use Rattle.rc_pass.specs.declared.moves.Move.TheVariants.{Fork, Save, Matches, Stays, Reads, Stops}
-use Rattle.rc_pass.specs.declared.closure.Frame.{Frame}
+use Rattle.rc_pass.specs.declared.growth.Frame.{Frame}
 use Rattle.rc_pass.proofs.PassLemmas.{waits_pends, turned_pends}
 use Rattle.rc_pass.proofs.EnteredLemmas.{has_pairs, pairs_has, pairs_at, pairs_push}
 

@@ -1,5 +1,5 @@
 -- A window shows what a search sees at a position.
-use Rattle.std.proofs.Common.{◌≡◌, ℕ, ◌+◌, ◌-◌, ◌≤◌, ◌⊎◌, List, length, take, drop, slice_range, slice_get, sym, ap, ap₂, ◌∙◌, arith, inl, inr, ⊎_elim, length-take}
+use Rattle.std.proofs.Common.{◌≡◌, ℕ, ◌+◌, ◌-◌, ◌≤◌, ◌⊎◌, length, take, drop, slice_range, slice_get, sym, ap, ap₂, ◌∙◌, arith, inl, inr, ⊎_elim, length-take}
 use Rattle.std.proofs.lemmas.Bool.{cases_lt}
 use Rattle.std.proofs.lemmas.List.{take-take, take_all, drop-take, drop-drop}
 use Rattle.rc_text.specs.Text.{Searched, slice_end, high}
@@ -7,7 +7,7 @@ use Rattle.rc_text.proofs.Ranges.{length-slice_range, slice_range-append, slice_
 use Rattle.rc_program.specs.Looks.{side_before, side_after}
 use Rattle.rc_program.specs.Scalars.{scalar_at}
 use Rattle.rc_program.proofs.SideLemmas.{side_before-append, side_after-append, scalar_at-take}
-use Rattle.rc_compile.specs.declared.place.Place as code
+use Rattle.rc_program.specs.declared.program.Program.{Program}
 use Rattle.rc_pass.specs.Windows.{IsWindow, IsBegun, IsAround}
 use Rattle.rc_pass.specs.Moves.{seen}
 use Rattle.rc_pass.specs.Near.{IsNear}
@@ -72,9 +72,9 @@ module _ (s : Searched) (at : ℕ) (w : Window) (window : IsWindow s w) (begun :
       (λ ge. inl (take-take (hi - at) (w.start + w.len - at) rest (omega (arith, ge))))
       (cases_lt (w.start + w.len) hi)
 
-  pub is_near : (ps : List code.Place) (terminator : ℕ) → at ≤ high s →
-      IsNear (seen ps terminator s) at (take (at - w.start) w.bytes) (slice_range w.bytes (at - w.start) w.len)
-  is_near ps terminator le = record {
+  pub is_near : (p : Program) → at ≤ high s →
+      IsNear (seen p s) at (take (at - w.start) w.bytes) (slice_range w.bytes (at - w.start) w.len)
+  is_near p le = record {
     within = le;
     behind = ap side_before before_is ∙ behind;
     beyond = ap side_after after_is ∙ beyond;

@@ -14,8 +14,8 @@ use Rattle.rc_pass.specs.Passing.{pairs, resting_of, frames_of}
 use Rattle.rc_pass.specs.Spread.{Runner, running, SomeSpells, span_of, Offers, IsTop, Seeks, BeginFrom, IsGreater, IsOrdered, AllBefore, IsRising, runners_of}
 use Rattle.rc_pass.specs.declared.moves.Move.{Move}
 use Rattle.rc_pass.specs.declared.moves.Move.TheVariants.{Fork, Save, Matches, Stays, Reads, Stops}
-use Rattle.rc_pass.specs.declared.closure.Frame.{Frame}
-use Rattle.rc_pass.specs.declared.closure.Frame.TheVariants.{Explore, Restore}
+use Rattle.rc_pass.specs.declared.growth.Frame.{Frame}
+use Rattle.rc_pass.specs.declared.growth.Frame.TheVariants.{Explore, Restore}
 use Rattle.rc_pass.specs.declared.pass.Ending.{Ending}
 use Rattle.rc_pass.proofs.EnteredLemmas.{has_pairs, pairs_has, pairs_at, pairs_push}
 use Rattle.rc_pass.proofs.GrownLemmas.{from_push}

@@ -26,12 +26,12 @@ in_wider n lo hi hi2 [] h all = tt
 in_wider n lo hi hi2 (t ∷ ts) h all = ((all.0.0, all.0.1, omega (arith, h, all.0.2)), in_wider n lo hi hi2 ts h all.1)
 
 -- the threads of the next position
-pub lined_next : (n hi width at insertions more : ℕ) (curr next : ThreadList) (entered : Members) → IsLined n hi width at insertions curr →
+pub lined_next : (n hi width at insertions insertions2 : ℕ) (curr next : ThreadList) (entered : Members) → IsLined n hi width at insertions curr →
     IsSound n hi at next entered → next.width ≡ width → next.room ≡ 4 * n →
     ((q : ℕ) → count_from q next.items ≤ count_from q curr.items + length entered.items) →
     ((x : ℕ) → x ≤ at → AllFrom x curr.items → AllFrom x next.items) →
-    (0 < length next.items → 0 < more) → IsLined n hi width (at + 1) (insertions + more) next
-lined_next n hi width at insertions more curr next entered lined sound wide room counts begun some = record {
+    (0 < length next.items → insertions < insertions2) → IsLined n hi width (at + 1) insertions2 next
+lined_next n hi width at insertions insertions2 curr next entered lined sound wide room counts begun some = record {
   inside = in_wider n (at + 1) (min hi (at + 4)) (min hi (at + 1 + 3)) next.items (omega arith) sound.inside;
   width_is = wide;
   room = room;
@@ -52,13 +52,13 @@ lined_next n hi width at insertions more curr next entered lined sound wide room
         let three : k * n ≡ 3 * n = ap (λ z. z * n) (omega arith) in
         omega (arith, none, three, counts (at + 1 + k), sound.few)
 
-    latest : (ts : List Thread) → (0 < length ts → 0 < more) → ((x : ℕ) → x ≤ at → AllFrom x curr.items → AllFrom x ts) →
-        AllFrom (at + 1 - (insertions + more)) ts
+    latest : (ts : List Thread) → (0 < length ts → insertions < insertions2) → ((x : ℕ) → x ≤ at → AllFrom x curr.items → AllFrom x ts) →
+        AllFrom (at + 1 - insertions2) ts
     latest [] some begun = tt
     latest (t ∷ ts) some begun =
         let m = some (omega arith) in
-        begun (at + 1 - (insertions + more)) (omega (arith, m))
-        (from_earlier (at + 1 - (insertions + more)) (at - insertions) curr.items (omega (arith, m)) lined.begun)
+        begun (at + 1 - insertions2) (omega (arith, m))
+        (from_earlier (at + 1 - insertions2) (at - insertions) curr.items (omega (arith, m)) lined.begun)
 
 -- no walk has ended at this position
 pub turned_on : (s : Search) (width last at : ℕ) (curr next : List Thread) (items : List ℕ) (best : Option Ending) (found : List (Option ℕ)) (o : Option Trace)

@@ -1,3 +1,4 @@
+-- Only proofs use this file.
 -- What a search has found.
 use Rattle.std.specs.Prelude.{◌≡◌, ℕ, ◌<◌, List, length, Option, Some, None, MatchOption, slice_index_or}
 use Rattle.rc_program.specs.Answer.{Search, Chosen, chosen, pattern_of, last_of, last_visit}

@@ -7,6 +7,7 @@ pub mod Found
 pub mod Caches
 pub mod Windows
 pub mod Near
-pub mod Runnable
 pub mod Spread
 pub mod KindSlots
+pub mod Scratches
+pub mod Entered

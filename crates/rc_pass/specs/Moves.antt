@@ -1,25 +1,26 @@
+-- Only proofs use this file.
 -- How a thread goes on from a place that it enters.
-use Rattle.std.specs.Prelude.{◌≡◌, ℕ, ◌+◌, ◌<◌, ◌≤◌, List, [], ◌∷◌, false, IsTrue, Option}
+use Rattle.std.specs.Prelude.{◌≡◌, ◌+◌, ◌<◌, ◌≤◌, [], ◌∷◌, false, IsTrue}
 use Rattle.rc_text.specs.Text.{Searched, high}
 use Rattle.rc_walks.specs.Walks.{Pair}
 use Rattle.rc_program.specs.Program.{slot, accept, place_at}
 use Rattle.rc_program.specs.Answer.{Search, only, ends, next_of}
-use Rattle.rc_program.specs.Sought.{anchoring_of, search_over, IsRunnable}
-use Rattle.rc_compile.specs.Places.{places_of}
-use Rattle.rc_compile.specs.declared.place.Place as code
+use Rattle.rc_program.specs.Sought.{anchoring_of, search_over}
+use Rattle.rc_program.specs.Places.{places_of}
+use Rattle.rc_program.specs.declared.program.Program.{Program}
 use Rattle.rc_pass.specs.Trace.{Trace, note}
+use Rattle.rc_pass.specs.declared.spot.Course.{Course}
 use Rattle.rc_pass.specs.declared.moves.Move.{Move}
 use Rattle.rc_pass.specs.declared.moves.Move.TheVariants.{Fork, Save, Matches, Stays, Reads, Stops}
 
 -- the search of which a pass sees all but the starts and what is passed over
-abbrev pub seen : List code.Place → ℕ → Searched → Search
-seen ps terminator input = search_over (places_of ps) terminator false input
+abbrev pub seen : Program → Searched → Search
+seen p input = search_over (places_of p.places.items) p.terminator false input
 
--- the program may be run, and the bound and the allowed pattern are those of the input
-pub record IsSetting (ps : List code.Place) (hi : ℕ) (pattern : Option ℕ) (input : Searched) : Type 0 where
-  pub runnable : IsRunnable (places_of ps)
-  pub bound : hi ≡ high input
-  pub allowed : pattern ≡ only (anchoring_of input.anchored)
+-- the bound and the allowed pattern are those of the input
+pub record IsSetting (course : Course) (input : Searched) : Type 0 where
+  pub bound : course.hi ≡ high input
+  pub allowed : course.pattern ≡ only (anchoring_of input.anchored)
 
 -- nothing is noted there, and no walk ends
 pub record IsPlain (s : Search) (n : Pair) : Type 0 where

@@ -1,9 +1,14 @@
+-- Only proofs use this file.
 -- What a pass needs to know of a search at one position.
-use Rattle.std.specs.Prelude.{◌≡◌, ℕ, ◌-◌, ◌≤◌, List, take, slice_get}
+use Rattle.std.specs.Prelude.{◌≡◌, ℕ, ◌-◌, ◌≤◌, List, length, take, slice_get}
 use Rattle.rc_program.specs.Text.{before_at, after_at, ahead}
 use Rattle.rc_program.specs.Looks.{side_before, side_after}
 use Rattle.rc_program.specs.Scalars.{scalar_at}
 use Rattle.rc_program.specs.Answer.{Search}
+use Rattle.rc_text.specs.Text.{Searched}
+use Rattle.rc_pass.specs.Moves.{IsSetting, seen}
+use Rattle.rc_pass.specs.declared.spot.Course.{Course}
+use Rattle.rc_pass.specs.declared.spot.Spot.{Spot}
 
 -- the bytes before and after `at` show what the search sees there
 pub record IsNear (s : Search) (at : ℕ) (before after : List ℕ) : Type 0 where
@@ -12,3 +17,16 @@ pub record IsNear (s : Search) (at : ℕ) (before after : List ℕ) : Type 0 whe
   pub beyond : side_after after ≡ after_at s.text at
   pub next : slice_get (take (s.hi - at) after) 0 ≡ slice_get (ahead s.text s.hi at) 0
   pub scalar : scalar_at (take (s.hi - at) after) ≡ scalar_at (ahead s.text s.hi at)
+
+-- how many places the program has
+abbrev pub size : Course → ℕ
+size course = length course.program.now.places.items
+
+-- the search of which a pass sees all but the starts and what is passed over
+abbrev pub seen_from : Spot → Searched → Search
+seen_from spot = seen spot.course.program.now
+
+-- the spot is one of a pass over the input
+pub record IsHere (spot : Spot) (input : Searched) : Type 0 where
+  pub setting : IsSetting spot.course input
+  pub near : IsNear (seen_from spot input) spot.at spot.before.now spot.after.now

@@ -1,3 +1,4 @@
+-- Only proofs use this file.
 -- What one ordered pass over a text keeps.
 use Rattle.std.specs.Prelude.{◌≡◌, ℕ, ◌+◌, ◌-◌, ◌<◌, ◌≤◌, ◌⊎◌, Bool, List, [], ◌∷◌, ◌++◌, length, map, reverse, Option, Some, None, IsTrue, slice_set, slice_index_or, if◌then◌else◌, is_none, option_map, nat_lt, nat_le, min, ◌*◌, MatchOption}
 use Rattle.rc_walks.specs.Walks.{Pair}
@@ -8,8 +9,8 @@ use Rattle.rc_pass.specs.Threads.{Thread, ThreadList}
 use Rattle.rc_pass.specs.Trace.{Trace, note, trace, done, starts, sets_out}
 use Rattle.rc_pass.specs.declared.moves.Move.{Move}
 use Rattle.rc_pass.specs.declared.moves.Move.TheVariants.{Fork, Save, Matches, Stays, Reads, Stops}
-use Rattle.rc_pass.specs.declared.closure.Frame.{Frame}
-use Rattle.rc_pass.specs.declared.closure.Frame.TheVariants.{Explore, Restore}
+use Rattle.rc_pass.specs.declared.growth.Frame.{Frame}
+use Rattle.rc_pass.specs.declared.growth.Frame.TheVariants.{Explore, Restore}
 use Rattle.rc_pass.specs.declared.pass.Ending.{Ending}
 
 -- a thread, by what it noted and where it goes on
@@ -104,8 +105,7 @@ pub record IsClosing (s : Search) (n hi start at root : ℕ) (threads0 : ThreadL
       Carries s at threads0.items entered0.items ((trace start slots0, (root, at)) ∷ below) best o
   pub grown : IsGrown n hi start at threads0 entered0 threads entered
   pub some : 0 < length entered.items
-  pub frames_in : AllInside n (length slots) frames
-  pub width : length slots ≡ threads.width
+  pub frames_in : AllInside n threads.width frames
 
 -- The threads of a position have gone on so far: `left` are those still to go on.
 pub record IsStepping (s : Search) (n hi at : ℕ) (all left : List Thread) (threads0 threads : ThreadList) (entered : Members) : Type 0 where

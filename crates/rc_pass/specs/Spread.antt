@@ -1,3 +1,4 @@
+-- Only proofs use this file.
 -- What a pass for the greatest span keeps.
 use Rattle.std.specs.Prelude.{◌≡◌, ℕ, zero, suc, ◌+◌, ◌-◌, ◌*◌, ◌<◌, ◌≤◌, ◌⊎◌, List, [], ◌∷◌, ◌++◌, length, map, Option, Some, None, IsTrue, option_map}
 use Rattle.rc_text.specs.Found.{Found}
@@ -8,8 +9,8 @@ use Rattle.rc_program.specs.Greatest.{IsNoGreater}
 use Rattle.rc_pass.specs.Sparse.{Members}
 use Rattle.rc_pass.specs.Threads.{Thread, ThreadList}
 use Rattle.rc_pass.specs.Passing.{pairs, AllFrom, IsSound, IsGrown, IsLined, IsCounted, AllInside, count_from}
-use Rattle.rc_pass.specs.declared.closure.Frame.{Frame}
-use Rattle.rc_pass.specs.declared.closure.Frame.TheVariants.{Explore, Restore}
+use Rattle.rc_pass.specs.declared.growth.Frame.{Frame}
+use Rattle.rc_pass.specs.declared.growth.Frame.TheVariants.{Explore, Restore}
 use Rattle.rc_pass.specs.declared.pass.Ending.{Ending}
 
 -- where a thread's walk began, and the pair that it enters next

@@ -1,3 +1,4 @@
+-- Only proofs use this file.
 -- Threads in order of preference.
 use Rattle.std.specs.Prelude.{ℕ, List, [], ◌∷◌, take, drop, refl, Option}
 use Rattle.std.specs.Coded.{Coded, code_by, coded×, coded_ℕ, coded_list, coded_option}

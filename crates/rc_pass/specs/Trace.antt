@@ -1,3 +1,4 @@
+-- Only proofs use this file.
 -- What is noted along a walk.
 use Rattle.std.specs.Prelude.{ℕ, zero, suc, ◌+◌, List, [], ◌∷◌, Option, Some, None, slice_set, replicate}
 use Rattle.rc_walks.specs.Walks.{Pair}

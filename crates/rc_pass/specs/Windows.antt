@@ -1,3 +1,4 @@
+-- Only proofs use this file.
 -- What a window shows of a text.
 use Rattle.std.specs.Prelude.{◌≡◌, ℕ, ◌+◌, ◌≤◌, ◌⊎◌, min, take, slice_range}
 use Rattle.rc_text.specs.Text.{Searched, slice_end}

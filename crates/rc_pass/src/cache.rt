@@ -1,8 +1,8 @@
 //! What a search works in.
 
-use crate::closure::Frame;
-use crate::sparse_set::SparseSet;
-use crate::threads::{Head, Threads};
+use crate::growth::Frame;
+use crate::scratch::Scratch;
+use crate::threads::Head;
 use std::alloc::{AllocError, Global};
 use std::marker::Model;
 use std::mem::size_of;
@@ -10,30 +10,22 @@ use std::mem::size_of;
 /// What a search works in: all memory that it needs, made once.
 #[derive(Drop)]
 pub struct Cache {
-    pub(crate) curr: Threads,
-    pub(crate) next: Threads,
-    pub(crate) entered: SparseSet,
-    pub(crate) stack: Vec<Frame>,
-    pub(crate) row: Vec<Option<usize>>,
-    pub(crate) found: Vec<Option<usize>>,
+    pub(crate) scratch: Scratch,
     places: usize,
     slots: usize,
-    pub(crate) insertions: u128,
 }
 
 impl Model for Cache {
-    ghost use Rattle.std.specs.Prelude.{◌≡◌, ◌+◌, ◌*◌, ◌≤◌, vec_len, vec_capacity};
+    ghost use Rattle.std.specs.Prelude.{◌≡◌};
     ghost use Rattle.rc_pass.specs.Caches.{Made, made_code};
 
     ghost Value = { Made };
 
     ghost coded = { made_code };
 
-    ghost view = { λ a. record { places = a.places; slots = a.slots; insertions = a.insertions } };
+    ghost view = { λ a. record { places = a.places; slots = a.slots; insertions = a.scratch.insertions } };
 
-    ghost invariant = { λ a. (a.curr.room ≡ 4 * a.places) × (a.next.room ≡ 4 * a.places) × (a.curr.most ≡ a.slots)
-        × (a.next.most ≡ a.slots) × (a.entered.capacity ≡ a.places) × (vec_len a.stack ≡ 0)
-        × (a.places + 1 ≤ vec_capacity a.stack) × (a.slots ≤ vec_capacity a.row) × (a.slots ≤ vec_capacity a.found) };
+    ghost invariant = { λ a. (a.scratch.next.entered.capacity ≡ a.places) × (a.scratch.next.threads.most ≡ a.slots) };
 }
 
 impl Cache {
@@ -45,22 +37,10 @@ impl Cache {
     pub fn new(alloc: Global, places: usize, slots: usize) -> Result<Cache, AllocError>
         ensures { IfOk result (λ c. c ≡ record { places = places; slots = slots; insertions = 0 }) }
     {
-        let Some(room) = places.checked_mul(4) else {
-            return Err(AllocError);
-        };
-        let Some(depth) = places.checked_add(1) else {
-            return Err(AllocError);
-        };
         Ok(Cache {
-            curr: Threads::new(alloc, room, slots)?,
-            next: Threads::new(alloc, room, slots)?,
-            entered: SparseSet::new(alloc, places)?,
-            stack: Vec::with_capacity(alloc, depth)?,
-            row: Vec::with_capacity(alloc, slots)?,
-            found: Vec::with_capacity(alloc, slots)?,
+            scratch: Scratch::new(alloc, places, slots)?,
             places,
             slots,
-            insertions: 0,
         })
     }
 
@@ -69,7 +49,7 @@ impl Cache {
     pub fn insertions(&self) -> u128
         ensures { result ≡ self.now.insertions }
     {
-        self.insertions
+        self.scratch.insertions
     }
 
     /// About how many bytes the cache has taken for its lists.

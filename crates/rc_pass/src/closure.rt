@@ -2,78 +2,67 @@
 ghost use Rattle.std.specs.Prelude.{◌≡◌, ◌≢◌, ℕ, ◌+◌, ◌*◌, ◌<◌, ◌≤◌, List, [], ◌∷◌, ◌++◌, length, reverse, vec_len, vec_capacity, Option, None, Some, MatchOption, slice_set, slice_index_or};
 ghost use Rattle.rc_walks.specs.Walks.{Pair};
 ghost use Rattle.rc_text.specs.Text.{Searched};
-ghost use Rattle.rc_pass.specs.Near.{IsNear};
-ghost use Rattle.rc_pass.specs.Moves.{IsSetting, seen};
+ghost use Rattle.rc_pass.specs.Near.{IsHere, seen_from, size};
 ghost use Rattle.rc_pass.specs.Trace.{Trace, trace, done};
 ghost use Rattle.rc_pass.specs.Passing.{Carries, waits, AllInside, IsSound, IsGrown, frames_of, resting_of, slots_after};
+ghost use Rattle.rc_pass.specs.Entered.{IsSkipped, IsEntered};
 ghost use Rattle.rc_pass.specs.declared.moves.Move.TheVariants.{Matches};
 
+use crate::growth::{Frame, Growth};
 use crate::moves::{Move, look_up};
-use crate::sparse_set::SparseSet;
-use crate::threads::{Head, Threads};
-use rc_compile::place::Place;
-
-/// What a closure comes back to when the way that it follows ends.
-#[derive(Clone, Copy)]
-pub enum Frame {
-    /// Go on from this place.
-    Explore(usize),
-    /// Give the slot its old value back.
-    Restore(usize, Option<usize>),
-}
+use crate::spot::Spot;
+use crate::threads::Head;
 
 /// Writes the position to the slot, and pushes the frame that undoes the write.
-fn save(slot: usize, at: usize, stack: &mut Vec<Frame>, slots: &mut [Option<usize>])
-    requires within { slot < length slots.old }
-    requires room { vec_len stack.old < vec_capacity stack.old }
-    ensures stack { stack.new.items ≡ stack.old.items ++ Frame.Restore slot (slice_index_or slots.old slot None) ∷ [] }
-    ensures len { vec_len stack.new ≡ vec_len stack.old + 1 }
-    ensures capacity { vec_capacity stack.new ≡ vec_capacity stack.old }
-    ensures slots { slots.new ≡ slice_set slots.old slot (Some at) }
+fn save(slot: usize, at: usize, growth: &mut Growth)
+    requires within { slot < length growth.old.slots.items }
+    requires room { vec_len growth.old.stack < vec_capacity growth.old.stack }
+    ensures threads { growth.new.threads ≡ growth.old.threads }
+    ensures entered { growth.new.entered ≡ growth.old.entered }
+    ensures stack { growth.new.stack.items
+        ≡ growth.old.stack.items ++ Frame.Restore slot (slice_index_or growth.old.slots.items slot None) ∷ [] }
+    ensures len { vec_len growth.new.stack ≡ vec_len growth.old.stack + 1 }
+    ensures capacity { vec_capacity growth.new.stack ≡ vec_capacity growth.old.stack }
+    ensures slots { growth.new.slots.items ≡ slice_set growth.old.slots.items slot (Some at) }
 {
-    stack.push_reserved(Frame::Restore(slot, slots[slot]));
-    slots[slot] = Some(at);
+    let old = growth.slots[slot];
+    growth.stack.push_reserved(Frame::Restore(slot, old));
+    growth.slots[slot] = Some(at);
 }
 
-/// Makes a move that ends no walk: its places go on the stack, the first uppermost, and a thread
-/// that reads goes behind the threads.
-pub fn follow(
-    step: Move,
-    at: usize,
-    start: usize,
-    threads: &mut Threads,
-    stack: &mut Vec<Frame>,
-    slots: &mut [Option<usize>],
-)
-    requires deep { vec_len stack.old + 2 ≤ vec_capacity stack.old }
-    requires room { length threads.old.items < threads.old.room }
-    requires width { length slots.old ≡ threads.old.width }
-    ensures threads { threads.new ≡ record threads.old { items = threads.old.items ++ resting_of start slots.old step } }
-    ensures stack { reverse stack.new.items ≡ frames_of slots.old step ++ reverse stack.old.items }
-    ensures deep { (vec_len stack.new ≤ vec_len stack.old + 2) × (vec_capacity stack.new ≡ vec_capacity stack.old) }
-    ensures slots { slots.new ≡ slots_after at slots.old step }
+/// Makes a move: its places go on the stack, the first uppermost, and a thread that reads goes
+/// behind the threads.
+fn follow(step: Move, at: usize, start: usize, growth: &mut Growth)
+    requires deep { vec_len growth.old.stack + 2 ≤ vec_capacity growth.old.stack }
+    requires room { length growth.old.threads.items < growth.old.threads.room }
+    ensures threads { growth.new.threads
+        ≡ record growth.old.threads { items = growth.old.threads.items ++ resting_of start growth.old.slots.items step } }
+    ensures entered { growth.new.entered ≡ growth.old.entered }
+    ensures stack { reverse growth.new.stack.items ≡ frames_of growth.old.slots.items step ++ reverse growth.old.stack.items }
+    ensures deep { vec_len growth.new.stack ≤ vec_len growth.old.stack + 2 }
+    ensures slots { growth.new.slots.items ≡ slots_after at growth.old.slots.items step }
 {
     match step {
         Move::Fork(first, second) => {
-            stack.push_reserved(Frame::Explore(second));
-            stack.push_reserved(Frame::Explore(first));
+            growth.stack.push_reserved(Frame::Explore(second));
+            growth.stack.push_reserved(Frame::Explore(first));
         }
         Move::Save(slot, place) => {
-            if slot < slots.len() {
-                save(slot, at, stack, slots);
-                stack.push_reserved(Frame::Explore(place));
+            if slot < growth.slots.len() {
+                save(slot, at, growth);
+                growth.stack.push_reserved(Frame::Explore(place));
             } else {
-                stack.push_reserved(Frame::Explore(place));
+                growth.stack.push_reserved(Frame::Explore(place));
             }
         }
-        Move::Stays(place) => stack.push_reserved(Frame::Explore(place)),
-        Move::Reads(place, to) => threads.push(
+        Move::Stays(place) => growth.stack.push_reserved(Frame::Explore(place)),
+        Move::Reads(place, to) => growth.threads.push(
             Head {
                 place,
                 at: to,
                 start,
             },
-            slots,
+            &growth.slots,
         ),
         Move::Matches(_) => {}
         Move::Stops => {}
@@ -94,54 +83,64 @@ pub fn ended(step: Move) -> Option<usize>
     }
 }
 
-/// Enters a place, unless it was entered at this position already. Answers the pattern where a walk
-/// ends there.
-fn visit(
-    places: &[Place],
-    terminator: u8,
-    hi: usize,
-    pattern: Option<usize>,
-    at: usize,
-    before: &[u8],
-    after: &[u8],
-    place: usize,
-    start: usize,
-    threads: &mut Threads,
-    entered: &mut SparseSet,
-    stack: &mut Vec<Frame>,
-    slots: &mut [Option<usize>],
-) -> Option<usize>
+/// Enters a place, unless it was entered at this position already, and makes its move. Answers the
+/// move.
+pub fn enter(spot: &Spot, place: usize, start: usize, growth: &mut Growth) -> Option<Move>
     ghost text: { Searched }
-    requires setting { IsSetting places.now hi pattern text }
-    requires place_in { place < length places.now }
-    requires near { IsNear (seen places.now terminator text) at before.now after.now }
-    requires sound { IsSound (length places.now) hi at threads.old entered.old }
-    requires frames { AllInside (length places.now) (length slots.old) (reverse stack.old.items) }
-    requires width { length slots.old ≡ threads.old.width }
-    requires deep { (vec_len stack.old ≤ length entered.old.items) × (length places.now + 1 ≤ vec_capacity stack.old) }
-    ensures carries { (below : List (Trace × Pair)) (best o : Option Trace)
-        → MatchOption result
-        (Carries (seen places.now terminator text) at threads.new.items entered.new.items
-        (waits start at (reverse stack.new.items) slots.new ++ below) best o)
-        (λ p. Carries (seen places.now terminator text) at threads.new.items entered.new.items []
-        (Some (done p start at slots.new)) o)
-        → Carries (seen places.now terminator text) at threads.old.items entered.old.items
-        ((trace start slots.old, (place, at)) ∷ (waits start at (reverse stack.old.items) slots.old ++ below)) best o }
-    ensures grown { IsGrown (length places.now) hi start at threads.old entered.old threads.new entered.new }
-    ensures some { 0 < length entered.new.items }
-    ensures frames { AllInside (length places.now) (length slots.old) (reverse stack.new.items) }
-    ensures deep { (vec_len stack.new ≤ length entered.new.items + 1) × (vec_capacity stack.new ≡ vec_capacity stack.old) }
-    ensures falls { vec_len stack.new + 3 * length entered.old.items ≤ vec_len stack.old + 3 * length entered.new.items }
+    requires here { IsHere spot.now text }
+    requires place_in { place < size spot.now.course }
+    requires sound { IsSound (size spot.now.course) spot.now.course.hi spot.now.at growth.old.threads growth.old.entered }
+    requires frames { AllInside (size spot.now.course) growth.old.threads.width (reverse growth.old.stack.items) }
+    requires deep { vec_len growth.old.stack ≤ length growth.old.entered.items }
+    ensures entered { MatchOption result
+        (IsSkipped place growth.old growth.new)
+        (λ move. IsEntered (seen_from spot.now text) spot.now.at place start move growth.old growth.new) }
+    ensures grown { IsGrown (size spot.now.course) spot.now.course.hi start spot.now.at growth.old.threads growth.old.entered
+        growth.new.threads growth.new.entered }
+    ensures some { 0 < length growth.new.entered.items }
+    ensures frames { AllInside (size spot.now.course) growth.new.threads.width (reverse growth.new.stack.items) }
+    ensures deep { vec_len growth.new.stack ≤ length growth.new.entered.items + 1 }
+    ensures falls { vec_len growth.new.stack + 3 * length growth.old.entered.items
+        ≤ vec_len growth.old.stack + 3 * length growth.new.entered.items }
 {
-    if !entered.insert(place) {
+    if !growth.entered.insert(place) {
         return None;
     }
-    let step = look_up(places, terminator, hi, pattern, place, at, before, after);
-    if let Some(number) = ended(step) {
-        return Some(number);
-    }
-    follow(step, at, start, threads, stack, slots);
-    None
+    let step = look_up(spot, place);
+    follow(step, spot.at, start, growth);
+    Some(step)
+}
+
+/// Enters a place, unless it was entered at this position already. Answers the pattern where a walk
+/// ends there.
+fn visit(spot: &Spot, place: usize, start: usize, growth: &mut Growth) -> Option<usize>
+    ghost text: { Searched }
+    requires here { IsHere spot.now text }
+    requires place_in { place < size spot.now.course }
+    requires sound { IsSound (size spot.now.course) spot.now.course.hi spot.now.at growth.old.threads growth.old.entered }
+    requires frames { AllInside (size spot.now.course) growth.old.threads.width (reverse growth.old.stack.items) }
+    requires deep { vec_len growth.old.stack ≤ length growth.old.entered.items }
+    ensures carries { (below : List (Trace × Pair)) (best o : Option Trace)
+        → MatchOption result
+        (Carries (seen_from spot.now text) spot.now.at growth.new.threads.items growth.new.entered.items
+        (waits start spot.now.at (reverse growth.new.stack.items) growth.new.slots.items ++ below) best o)
+        (λ p. Carries (seen_from spot.now text) spot.now.at growth.new.threads.items growth.new.entered.items []
+        (Some (done p start spot.now.at growth.new.slots.items)) o)
+        → Carries (seen_from spot.now text) spot.now.at growth.old.threads.items growth.old.entered.items
+        ((trace start growth.old.slots.items, (place, spot.now.at))
+        ∷ (waits start spot.now.at (reverse growth.old.stack.items) growth.old.slots.items ++ below)) best o }
+    ensures grown { IsGrown (size spot.now.course) spot.now.course.hi start spot.now.at growth.old.threads growth.old.entered
+        growth.new.threads growth.new.entered }
+    ensures some { 0 < length growth.new.entered.items }
+    ensures frames { AllInside (size spot.now.course) growth.new.threads.width (reverse growth.new.stack.items) }
+    ensures deep { vec_len growth.new.stack ≤ length growth.new.entered.items + 1 }
+    ensures falls { vec_len growth.new.stack + 3 * length growth.old.entered.items
+        ≤ vec_len growth.old.stack + 3 * length growth.new.entered.items }
+{
+    let Some(step) = enter(spot, place, start, growth) else {
+        return None;
+    };
+    ended(step)
 }
 
 /// Follows all ways from `root` that read nothing, in order, and puts a thread behind the others for
@@ -149,58 +148,34 @@ fn visit(
 ///
 /// Answers the pattern where a walk ends on the way: the slots are those of that walk then, and the
 /// ways that were still to come are dropped.
-pub fn close(
-    places: &[Place],
-    terminator: u8,
-    hi: usize,
-    pattern: Option<usize>,
-    at: usize,
-    before: &[u8],
-    after: &[u8],
-    root: usize,
-    start: usize,
-    threads: &mut Threads,
-    entered: &mut SparseSet,
-    stack: &mut Vec<Frame>,
-    slots: &mut [Option<usize>],
-) -> Option<usize>
+pub fn close(spot: &Spot, root: usize, start: usize, growth: &mut Growth) -> Option<usize>
     ghost text: { Searched }
-    requires setting { IsSetting places.now hi pattern text }
-    requires root_in { root < length places.now }
-    requires near { IsNear (seen places.now terminator text) at before.now after.now }
-    requires sound { IsSound (length places.now) hi at threads.old entered.old }
-    requires width { length slots.old ≡ threads.old.width }
-    requires stack { (vec_len stack.old ≡ 0) × (length places.now + 1 ≤ vec_capacity stack.old) }
+    requires here { IsHere spot.now text }
+    requires root_in { root < size spot.now.course }
+    requires sound { IsSound (size spot.now.course) spot.now.course.hi spot.now.at growth.old.threads growth.old.entered }
     ensures carries { (below : List (Trace × Pair)) (best o : Option Trace)
         → MatchOption result
-        (Carries (seen places.now terminator text) at threads.new.items entered.new.items below best o)
-        (λ p. Carries (seen places.now terminator text) at threads.new.items entered.new.items []
-        (Some (done p start at slots.new)) o)
-        → Carries (seen places.now terminator text) at threads.old.items entered.old.items
-        ((trace start slots.old, (root, at)) ∷ below) best o }
-    ensures grown { IsGrown (length places.now) hi start at threads.old entered.old threads.new entered.new }
-    ensures some { 0 < length entered.new.items }
-    ensures stack { (vec_len stack.new ≡ 0) × (length places.now + 1 ≤ vec_capacity stack.new) }
+        (Carries (seen_from spot.now text) spot.now.at growth.new.threads.items growth.new.entered.items below best o)
+        (λ p. Carries (seen_from spot.now text) spot.now.at growth.new.threads.items growth.new.entered.items []
+        (Some (done p start spot.now.at growth.new.slots.items)) o)
+        → Carries (seen_from spot.now text) spot.now.at growth.old.threads.items growth.old.entered.items
+        ((trace start growth.old.slots.items, (root, spot.now.at)) ∷ below) best o }
+    ensures grown { IsGrown (size spot.now.course) spot.now.course.hi start spot.now.at growth.old.threads growth.old.entered
+        growth.new.threads growth.new.entered }
+    ensures some { 0 < length growth.new.entered.items }
 {
-    if let Some(number) = visit(
-        places, terminator, hi, pattern, at, before, after, root, start, threads, entered, stack,
-        slots,
-    ) {
-        stack.clear();
+    growth.stack.clear();
+    if let Some(number) = visit(spot, root, start, growth) {
         return Some(number);
     }
-    'frames: while let Some(frame) = stack.pop() {
+    'frames: while let Some(frame) = growth.stack.pop() {
         match frame {
             Frame::Explore(place) => {
-                if let Some(number) = visit(
-                    places, terminator, hi, pattern, at, before, after, place, start, threads,
-                    entered, stack, slots,
-                ) {
-                    stack.clear();
+                if let Some(number) = visit(spot, place, start, growth) {
                     return Some(number);
                 }
             }
-            Frame::Restore(slot, old) => slots[slot] = old,
+            Frame::Restore(slot, old) => growth.slots[slot] = old,
         }
     }
     None

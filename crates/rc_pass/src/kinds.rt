@@ -5,8 +5,8 @@ ghost use Rattle.rc_text.specs.Found.{Found};
 ghost use Rattle.rc_text.specs.Text.{Keeps, low, high};
 ghost use Rattle.rc_program.specs.Greatest.{greatest};
 ghost use Rattle.rc_program.specs.Kinds.{answer_by};
-ghost use Rattle.rc_program.specs.Sought.{search_over, IsRunnable};
-ghost use Rattle.rc_compile.specs.Places.{places_of};
+ghost use Rattle.rc_program.specs.Programs.{search_of};
+ghost use Rattle.rc_program.specs.Places.{places_of};
 ghost use Rattle.rc_literal.specs.Guards.{Guards};
 ghost use Rattle.rc_literal.specs.Prefilters.{needles_of};
 ghost use Rattle.rc_pass.specs.Caches.{IsCacheFor};
@@ -15,42 +15,37 @@ ghost use Rattle.rc_pass.specs.KindSlots.{span_slots, slots_by};
 use crate::cache::Cache;
 use crate::greatest::find_greatest;
 use crate::search::{find, search_slots};
-use rc_compile::place::Place;
 use rc_literal::prefilter::Prefilter;
+use rc_program::program::Program;
 use rc_text::cursor::Cursor;
 use rc_text::input::Input;
 use rc_text::types::{Match, MatchKind, PatternID};
 
 /// The match of the kind that a search of the input finds. The earliest flag is not read.
-/// `passes_over` says whether matches that end off a boundary are passed over; a search for the
+/// The program says whether matches that end off a boundary are passed over; a search for the
 /// greatest match passes none over, and doesn't go by the prefilter.
 ///
 /// The cache has to be made for programs of as many places; it stays so. No memory is taken.
 pub fn find_by_kind<C: Cursor>(
     cache: &mut Cache,
     input: &mut Input<C>,
-    places: &[Place],
-    terminator: u8,
-    passes_over: bool,
+    program: &Program,
     prefilter: Option<&Prefilter>,
     kind: MatchKind,
 ) -> Option<Match>
-    requires runnable { IsRunnable (places_of places.now) }
-    requires guarded { MatchOption prefilter ⊤ (λ p. Guards (places_of places.now) terminator (needles_of p.now)) }
-    requires made { IsCacheFor (length places.now) 0 cache.old }
+    requires guarded { MatchOption prefilter ⊤ (λ p. Guards (places_of program.now.places.items) program.now.terminator (needles_of p.now)) }
+    requires made { IsCacheFor (length program.now.places.items) 0 cache.old }
     ensures keeps { Keeps input.old input.new }
-    ensures found { result ≡ answer_by kind (search_over (places_of places.now) terminator passes_over input.old) }
+    ensures found { result ≡ answer_by kind (search_of program.now input.old) }
     ensures bounds { MatchOption result ⊤ (λ m. (low input.old ≤ m.start) × (m.start ≤ m.end) × (m.end ≤ high input.old)) }
     ensures cache { cache.new ≡ record cache.old { insertions = cache.new.insertions } }
     ensures none { high input.old < low input.old → cache.new.insertions ≡ 0 }
-    ensures few { cache.new.insertions ≤ length places.now * (high input.old - low input.old + 2) }
+    ensures few { cache.new.insertions ≤ length program.now.places.items * (high input.old - low input.old + 2) }
     ensures counted { MatchOption result ⊤ (λ m. m.end - m.start + 1 ≤ cache.new.insertions) }
 {
     match kind {
-        MatchKind::All => find_greatest(cache, input, places, terminator),
-        MatchKind::LeftmostFirst => {
-            find(cache, input, places, terminator, passes_over, prefilter)
-        }
+        MatchKind::All => find_greatest(cache, input, program),
+        MatchKind::LeftmostFirst => { find(cache, input, program, prefilter) }
     }
 }
 
@@ -73,28 +68,26 @@ fn put_span(found: Match, slots: &mut [Option<usize>])
 fn search_span<C: Cursor>(
     cache: &mut Cache,
     input: &mut Input<C>,
-    places: &[Place],
-    terminator: u8,
+    program: &Program,
     slots: &mut [Option<usize>],
 ) -> Option<Match>
-    requires runnable { IsRunnable (places_of places.now) }
-    requires made { IsCacheFor (length places.now) 0 cache.old }
+    requires made { IsCacheFor (length program.now.places.items) 0 cache.old }
     ensures keeps { Keeps input.old input.new }
-    ensures found { (over : Bool) → result ≡ greatest (search_over (places_of places.now) terminator over input.old) }
+    ensures found { result ≡ greatest (search_of program.now input.old) }
     ensures slots { MatchOption result (slots.new ≡ slots.old) (λ m. slots.new ≡ span_slots (length slots.old) m) }
     ensures cache { cache.new ≡ record cache.old { insertions = cache.new.insertions } }
     ensures none { high input.old < low input.old → cache.new.insertions ≡ 0 }
-    ensures few { cache.new.insertions ≤ length places.now * (high input.old - low input.old + 2) }
+    ensures few { cache.new.insertions ≤ length program.now.places.items * (high input.old - low input.old + 2) }
     ensures counted { MatchOption result ⊤ (λ m. m.end - m.start + 1 ≤ cache.new.insertions) }
 {
-    let found = find_greatest(cache, input, places, terminator)?;
+    let found = find_greatest(cache, input, program)?;
     put_span(found, slots);
     Some(found)
 }
 
 /// The pattern of the match of the kind that a search of the input finds, with the first of its
 /// slots, as many as are handed in. Without a match the slots stay. The earliest flag is not read.
-/// `passes_over` says whether matches that end off a boundary are passed over; a search for the
+/// The program says whether matches that end off a boundary are passed over; a search for the
 /// greatest match passes none over, and of its slots the two of the whole match alone are set, the
 /// others None.
 ///
@@ -103,43 +96,30 @@ fn search_span<C: Cursor>(
 pub fn search_slots_by_kind<C: Cursor>(
     cache: &mut Cache,
     input: &mut Input<C>,
-    places: &[Place],
-    terminator: u8,
-    passes_over: bool,
+    program: &Program,
     prefilter: Option<&Prefilter>,
     kind: MatchKind,
     slots: &mut [Option<usize>],
 ) -> Option<PatternID>
-    requires runnable { IsRunnable (places_of places.now) }
-    requires guarded { MatchOption prefilter ⊤ (λ p. Guards (places_of places.now) terminator (needles_of p.now)) }
-    requires made { IsCacheFor (length places.now) (length slots.old) cache.old }
+    requires guarded { MatchOption prefilter ⊤ (λ p. Guards (places_of program.now.places.items) program.now.terminator (needles_of p.now)) }
+    requires made { IsCacheFor (length program.now.places.items) (length slots.old) cache.old }
     ensures keeps { Keeps input.old input.new }
-    ensures pattern { result ≡ option_map (λ (m : Found). m.pattern) (answer_by kind (search_over (places_of places.now) terminator passes_over input.old)) }
+    ensures pattern { result ≡ option_map (λ (m : Found). m.pattern) (answer_by kind (search_of program.now input.old)) }
     ensures long { length slots.new ≡ length slots.old }
     ensures slots { MatchOption result
         (slots.new ≡ slots.old)
-        (λ _. Some slots.new ≡ slots_by kind (search_over (places_of places.now) terminator passes_over input.old) (length slots.old)) }
+        (λ _. Some slots.new ≡ slots_by kind (search_of program.now input.old) (length slots.old)) }
     ensures cache { cache.new ≡ record cache.old { insertions = cache.new.insertions } }
     ensures none { high input.old < low input.old → cache.new.insertions ≡ 0 }
-    ensures few { cache.new.insertions ≤ length places.now * (high input.old - low input.old + 2) }
-    ensures counted { (m : Found) → answer_by kind (search_over (places_of places.now) terminator passes_over input.old) ≡ Some m
+    ensures few { cache.new.insertions ≤ length program.now.places.items * (high input.old - low input.old + 2) }
+    ensures counted { (m : Found) → answer_by kind (search_of program.now input.old) ≡ Some m
         → m.end - m.start + 1 ≤ cache.new.insertions }
 {
     match kind {
         MatchKind::All => {
-            let found = search_span(cache, input, places, terminator, slots)?;
+            let found = search_span(cache, input, program, slots)?;
             Some(found.pattern())
         }
-        MatchKind::LeftmostFirst => {
-            search_slots(
-                cache,
-                input,
-                places,
-                terminator,
-                passes_over,
-                prefilter,
-                slots,
-            )
-        }
+        MatchKind::LeftmostFirst => { search_slots(cache, input, program, prefilter, slots) }
     }
 }

@@ -4,17 +4,14 @@
 pub mod cache;
 mod closure;
 pub mod greatest;
-#[cfg(test)]
-mod kind_tests;
+mod growth;
 pub mod kinds;
 mod moves;
 mod pass;
-#[cfg(test)]
-mod runnable;
+mod scratch;
 pub mod search;
 pub mod sparse_set;
+mod spot;
 mod spread;
-#[cfg(test)]
-mod tests;
 mod threads;
 mod window;

@@ -2,14 +2,15 @@
 ghost use Rattle.std.specs.Prelude.{◌≡◌, ◌<◌, ◌≤◌, length, slice_get, take, map};
 ghost use Rattle.rc_pattern.specs.Meaning.{byte_range, char_range};
 ghost use Rattle.rc_text.specs.Text.{Searched};
-ghost use Rattle.rc_pass.specs.Near.{IsNear};
+ghost use Rattle.rc_pass.specs.Near.{IsHere, seen_from, size};
 ghost use Rattle.rc_program.specs.Program.{in_ranges, is_match_place, accept};
 ghost use Rattle.rc_program.specs.Scalars.{scalar_at};
-ghost use Rattle.rc_pass.specs.Moves.{IsMove, IsSetting, seen};
+ghost use Rattle.rc_pass.specs.Moves.{IsMove};
 
-use rc_compile::place::Place;
+use crate::spot::Spot;
 use rc_pattern::hir::{ClassBytesRange, ClassUnicodeRange, Look};
 use rc_program::look::{holds, scalar_at};
+use rc_program::place::Place;
 
 /// How a thread goes on from a place that it enters.
 #[derive(Clone, Copy)]
@@ -28,65 +29,58 @@ pub enum Move {
     Stops,
 }
 
-/// How a thread goes on from a place that it enters at the byte `at`, where no walk goes past `hi`
-/// and, where `pattern` is Some, that pattern's walks alone count. `before` and `after` are the bytes
-/// on the two sides of `at`: four at least, or all that the slice has.
-pub fn look_up(
-    places: &[Place],
-    terminator: u8,
-    hi: usize,
-    pattern: Option<usize>,
-    place: usize,
-    at: usize,
-    before: &[u8],
-    after: &[u8],
-) -> Move
+/// How a thread goes on from a place that it enters at the spot.
+pub fn look_up(spot: &Spot, place: usize) -> Move
     ghost text: { Searched }
-    requires setting { IsSetting places.now hi pattern text }
-    requires place_in { place < length places.now }
-    requires near { IsNear (seen places.now terminator text) at before.now after.now }
-    ensures { IsMove (seen places.now terminator text) (place, at) result }
+    requires here { IsHere spot.now text }
+    requires place_in { place < size spot.now.course }
+    ensures { IsMove (seen_from spot.now text) (place, spot.now.at) result }
 {
-    match &places[place] {
+    match &spot.course.program.places[place] {
         Place::Choice(first, second) => Move::Fork(*first, *second),
         Place::Pass(next) => Move::Stays(*next),
         Place::Dead => Move::Stops,
         Place::Byte(byte, next) => {
-            let Some(found) = next_byte(after, hi - at) else {
+            let Some(found) = next_byte(spot.after, spot.course.hi - spot.at) else {
                 return Move::Stops;
             };
             if found != *byte {
                 return Move::Stops;
             }
-            Move::Reads(*next, at + 1)
+            Move::Reads(*next, spot.at + 1)
         }
         Place::Bytes(ranges, next) => {
-            let Some(found) = next_byte(after, hi - at) else {
+            let Some(found) = next_byte(spot.after, spot.course.hi - spot.at) else {
                 return Move::Stops;
             };
             if !has_byte(ranges, found) {
                 return Move::Stops;
             }
-            Move::Reads(*next, at + 1)
+            Move::Reads(*next, spot.at + 1)
         }
         Place::Scalar(ranges, next) => {
-            let Some((c, count)) = next_scalar(after, hi - at) else {
+            let Some((c, count)) = next_scalar(spot.after, spot.course.hi - spot.at) else {
                 return Move::Stops;
             };
             if !has_char(ranges, c) {
                 return Move::Stops;
             }
-            Move::Reads(*next, at + count)
+            Move::Reads(*next, spot.at + count)
         }
         Place::Guard(look, next) => {
-            if !holds(*look, terminator, before, after) {
+            if !holds(
+                *look,
+                spot.course.program.terminator,
+                spot.before,
+                spot.after,
+            ) {
                 return Move::Stops;
             }
             Move::Stays(*next)
         }
         Place::Slot(slot, next) => Move::Save(*slot, *next),
         Place::Accept(number) => {
-            if is_allowed(pattern, *number) {
+            if is_allowed(spot.course.pattern, *number) {
                 return Move::Matches(*number);
             }
             Move::Stops

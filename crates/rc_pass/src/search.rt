@@ -4,21 +4,22 @@ ghost use Rattle.std.specs.Option.{option_map};
 ghost use Rattle.rc_text.specs.Found.{Found};
 ghost use Rattle.rc_text.specs.Text.{Keeps, low, high};
 ghost use Rattle.rc_program.specs.Answer.{only, is_anchored, answer, groups};
-ghost use Rattle.rc_program.specs.Sought.{anchoring_of, search_over, IsRunnable};
+ghost use Rattle.rc_program.specs.Sought.{anchoring_of};
+ghost use Rattle.rc_program.specs.Programs.{search_of};
 ghost use Rattle.rc_literal.specs.Guards.{Guards};
 ghost use Rattle.rc_literal.specs.Prefilters.{needles_of};
-ghost use Rattle.rc_compile.specs.Places.{places_of};
+ghost use Rattle.rc_program.specs.Places.{places_of};
 ghost use Rattle.rc_pass.specs.Passing.{IsCounted};
 ghost use Rattle.rc_pass.specs.Found.{IsResult};
 ghost use Rattle.rc_pass.specs.Caches.{IsCacheFor};
+ghost use Rattle.rc_pass.specs.Scratches.{IsSame};
 
 use crate::cache::Cache;
-use crate::closure::Frame;
 use crate::pass::{Ending, pass};
-use crate::sparse_set::SparseSet;
-use crate::threads::Threads;
-use rc_compile::place::Place;
+use crate::scratch::Scratch;
+use crate::spot::Course;
 use rc_literal::prefilter::Prefilter;
+use rc_program::program::Program;
 use rc_text::cursor::Cursor;
 use rc_text::input::{Input, high, is_boundary_at, low, move_to};
 use rc_text::types::{Anchored, Match, PatternID, Span};
@@ -48,18 +49,6 @@ pub(crate) fn starts_of(anchored: Anchored, lo: usize, hi: usize) -> (Option<usi
     }
 }
 
-/// Empties the row and fills it with `width` slots.
-fn make_row(row: &mut Vec<Option<usize>>, width: usize)
-    requires { width ≤ vec_capacity row.old }
-    ensures len { vec_len row.new ≡ width }
-    ensures capacity { vec_capacity row.new ≡ vec_capacity row.old }
-{
-    row.clear();
-    for _ in 0..width {
-        row.push_reserved(None);
-    }
-}
-
 /// Puts the whole match into its two slots, as far as these are there.
 pub(crate) fn put_match(end: Ending, slots: &mut [Option<usize>])
     requires { end.pattern ≤ 2147483646 }
@@ -78,50 +67,37 @@ pub(crate) fn put_match(end: Ending, slots: &mut [Option<usize>])
 /// is made again from the next start, as long as what it found is passed over.
 fn choose<C: Cursor>(
     input: &mut Input<C>,
-    places: &[Place],
-    terminator: u8,
-    passes_over: bool,
+    program: &Program,
     prefilter: Option<&Prefilter>,
-    curr: &mut Threads,
-    next: &mut Threads,
-    entered: &mut SparseSet,
-    stack: &mut Vec<Frame>,
-    slots: &mut [Option<usize>],
-    found: &mut [Option<usize>],
-    insertions: &mut u128,
+    scratch: &mut Scratch,
 ) -> Option<Ending>
-    requires runnable { IsRunnable (places_of places.now) }
-    requires guarded { MatchOption prefilter ⊤ (λ p. Guards (places_of places.now) terminator (needles_of p.now)) }
-    requires rooms { (curr.old.room ≡ 4 * length places.now) × (next.old.room ≡ 4 * length places.now) }
-    requires most { (curr.old.most ≡ next.old.most) × (length slots.old ≤ curr.old.most) }
-    requires capacity { entered.old.capacity ≡ length places.now }
-    requires stack { (vec_len stack.old ≡ 0) × (length places.now + 1 ≤ vec_capacity stack.old) }
-    requires widths { length found.old ≡ length slots.old }
+    requires guarded { MatchOption prefilter ⊤ (λ p. Guards (places_of program.now.places.items) program.now.terminator (needles_of p.now)) }
+    requires made { scratch.old.next.entered.capacity ≡ length program.now.places.items }
     ensures keeps { Keeps input.old input.new }
-    ensures chosen { IsResult (search_over (places_of places.now) terminator passes_over input.old) result found.new }
-    ensures counted { IsCounted insertions.new result }
-    ensures few { insertions.new ≤ length places.now * (high input.old - low input.old + 2) }
-    ensures none { high input.old < low input.old → insertions.new ≡ 0 }
-    ensures rooms { (curr.new.room ≡ 4 * length places.now) × (next.new.room ≡ 4 * length places.now) }
-    ensures most { (curr.new.most ≡ curr.old.most) × (next.new.most ≡ curr.old.most) }
-    ensures capacity { entered.new.capacity ≡ length places.now }
-    ensures stack { (vec_len stack.new ≡ 0) × (length places.now + 1 ≤ vec_capacity stack.new) }
+    ensures chosen { IsResult (search_of program.now input.old) result scratch.new.found.items }
+    ensures counted { IsCounted scratch.new.insertions result }
+    ensures few { scratch.new.insertions ≤ length program.now.places.items * (high input.old - low input.old + 2) }
+    ensures none { high input.old < low input.old → scratch.new.insertions ≡ 0 }
+    ensures same { IsSame scratch.old scratch.new }
 {
-    *insertions = 0;
+    scratch.insertions = 0;
     let (lo, hi) = bounds(input);
     if lo > hi {
         return None;
     }
     let (pattern, last) = starts_of(input.get_anchored(), lo, hi);
+    let course = Course {
+        program,
+        hi,
+        pattern,
+        last,
+    };
     let mut from = lo;
     'starts: while from <= last {
-        let Some(end) = pass(
-            input, places, terminator, prefilter, hi, pattern, from, last, curr, next, entered,
-            stack, slots, found, insertions,
-        ) else {
+        let Some(end) = pass(input, course, prefilter, from, scratch) else {
             return None;
         };
-        if !passes_over {
+        if !program.passes_over {
             return Some(end);
         }
         if is_boundary_at(input, end.end) {
@@ -136,47 +112,30 @@ fn choose<C: Cursor>(
 fn choose_in<C: Cursor>(
     cache: &mut Cache,
     input: &mut Input<C>,
-    places: &[Place],
-    terminator: u8,
-    passes_over: bool,
+    program: &Program,
     prefilter: Option<&Prefilter>,
     slots: &mut [Option<usize>],
 ) -> Option<Ending>
-    requires runnable { IsRunnable (places_of places.now) }
-    requires guarded { MatchOption prefilter ⊤ (λ p. Guards (places_of places.now) terminator (needles_of p.now)) }
-    requires made { IsCacheFor (length places.now) (length slots.old) cache.old }
+    requires guarded { MatchOption prefilter ⊤ (λ p. Guards (places_of program.now.places.items) program.now.terminator (needles_of p.now)) }
+    requires made { IsCacheFor (length program.now.places.items) (length slots.old) cache.old }
     ensures keeps { Keeps input.old input.new }
-    ensures chosen { IsResult (search_over (places_of places.now) terminator passes_over input.old) result slots.new }
+    ensures chosen { IsResult (search_of program.now input.old) result slots.new }
     ensures stays { IfNone result (slots.new ≡ slots.old) }
     ensures cache { cache.new ≡ record cache.old { insertions = cache.new.insertions } }
     ensures counted { IsCounted cache.new.insertions result }
-    ensures few { cache.new.insertions ≤ length places.now * (high input.old - low input.old + 2) }
+    ensures few { cache.new.insertions ≤ length program.now.places.items * (high input.old - low input.old + 2) }
     ensures none { high input.old < low input.old → cache.new.insertions ≡ 0 }
 {
-    make_row(&mut cache.row, slots.len());
-    make_row(&mut cache.found, slots.len());
-    if let Some(end) = choose(
-        input,
-        places,
-        terminator,
-        passes_over,
-        prefilter,
-        &mut cache.curr,
-        &mut cache.next,
-        &mut cache.entered,
-        &mut cache.stack,
-        &mut cache.row,
-        &mut cache.found,
-        &mut cache.insertions,
-    ) {
-        slots.copy_from_slice(&cache.found);
+    cache.scratch.widen(slots.len());
+    if let Some(end) = choose(input, program, prefilter, &mut cache.scratch) {
+        slots.copy_from_slice(&cache.scratch.found);
         return Some(end);
     }
     None
 }
 
 /// The pattern that a search of the input finds, with the first of its slots, as many as are handed
-/// in. Without a match the slots stay. The earliest flag is not read. `passes_over` says whether
+/// in. Without a match the slots stay. The earliest flag is not read. The program says whether
 /// matches that end off a boundary are passed over. With a prefilter, the search goes from needle to
 /// needle where no walk is under way.
 ///
@@ -185,36 +144,25 @@ fn choose_in<C: Cursor>(
 pub fn search_slots<C: Cursor>(
     cache: &mut Cache,
     input: &mut Input<C>,
-    places: &[Place],
-    terminator: u8,
-    passes_over: bool,
+    program: &Program,
     prefilter: Option<&Prefilter>,
     slots: &mut [Option<usize>],
 ) -> Option<PatternID>
-    requires runnable { IsRunnable (places_of places.now) }
-    requires guarded { MatchOption prefilter ⊤ (λ p. Guards (places_of places.now) terminator (needles_of p.now)) }
-    requires made { IsCacheFor (length places.now) (length slots.old) cache.old }
+    requires guarded { MatchOption prefilter ⊤ (λ p. Guards (places_of program.now.places.items) program.now.terminator (needles_of p.now)) }
+    requires made { IsCacheFor (length program.now.places.items) (length slots.old) cache.old }
     ensures keeps { Keeps input.old input.new }
-    ensures pattern { result ≡ option_map (λ (m : Found). m.pattern) (answer (search_over (places_of places.now) terminator passes_over input.old)) }
+    ensures pattern { result ≡ option_map (λ (m : Found). m.pattern) (answer (search_of program.now input.old)) }
     ensures long { length slots.new ≡ length slots.old }
     ensures slots { MatchOption result
         (slots.new ≡ slots.old)
-        (λ _. Some slots.new ≡ groups (search_over (places_of places.now) terminator passes_over input.old) (length slots.old)) }
+        (λ _. Some slots.new ≡ groups (search_of program.now input.old) (length slots.old)) }
     ensures cache { cache.new ≡ record cache.old { insertions = cache.new.insertions } }
     ensures none { high input.old < low input.old → cache.new.insertions ≡ 0 }
-    ensures few { cache.new.insertions ≤ length places.now * (high input.old - low input.old + 2) }
-    ensures counted { (m : Found) → answer (search_over (places_of places.now) terminator passes_over input.old) ≡ Some m
+    ensures few { cache.new.insertions ≤ length program.now.places.items * (high input.old - low input.old + 2) }
+    ensures counted { (m : Found) → answer (search_of program.now input.old) ≡ Some m
         → m.end - m.start + 1 ≤ cache.new.insertions }
 {
-    let Some(end) = choose_in(
-        cache,
-        input,
-        places,
-        terminator,
-        passes_over,
-        prefilter,
-        slots,
-    ) else {
+    let Some(end) = choose_in(cache, input, program, prefilter, slots) else {
         return None;
     };
     put_match(end, slots);
@@ -232,31 +180,20 @@ pub fn search_slots<C: Cursor>(
 pub fn find<C: Cursor>(
     cache: &mut Cache,
     input: &mut Input<C>,
-    places: &[Place],
-    terminator: u8,
-    passes_over: bool,
+    program: &Program,
     prefilter: Option<&Prefilter>,
 ) -> Option<Match>
-    requires runnable { IsRunnable (places_of places.now) }
-    requires guarded { MatchOption prefilter ⊤ (λ p. Guards (places_of places.now) terminator (needles_of p.now)) }
-    requires made { IsCacheFor (length places.now) 0 cache.old }
+    requires guarded { MatchOption prefilter ⊤ (λ p. Guards (places_of program.now.places.items) program.now.terminator (needles_of p.now)) }
+    requires made { IsCacheFor (length program.now.places.items) 0 cache.old }
     ensures keeps { Keeps input.old input.new }
-    ensures found { result ≡ answer (search_over (places_of places.now) terminator passes_over input.old) }
+    ensures found { result ≡ answer (search_of program.now input.old) }
     ensures bounds { MatchOption result ⊤ (λ m. (low input.old ≤ m.start) × (m.start ≤ m.end) × (m.end ≤ high input.old)) }
     ensures cache { cache.new ≡ record cache.old { insertions = cache.new.insertions } }
     ensures none { high input.old < low input.old → cache.new.insertions ≡ 0 }
-    ensures few { cache.new.insertions ≤ length places.now * (high input.old - low input.old + 2) }
+    ensures few { cache.new.insertions ≤ length program.now.places.items * (high input.old - low input.old + 2) }
     ensures counted { MatchOption result ⊤ (λ m. m.end - m.start + 1 ≤ cache.new.insertions) }
 {
-    let Some(end) = choose_in(
-        cache,
-        input,
-        places,
-        terminator,
-        passes_over,
-        prefilter,
-        &mut [],
-    ) else {
+    let Some(end) = choose_in(cache, input, program, prefilter, &mut []) else {
         return None;
     };
     let Some(pattern) = PatternID::new(end.pattern) else {

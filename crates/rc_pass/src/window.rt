@@ -1,8 +1,11 @@
 //! The bytes of a text around the positions that a pass is at.
 ghost use Rattle.std.specs.Prelude.{◌≡◌, ◌+◌, ◌-◌, ◌≤◌, ◌<◌, length, take, slice_range, min, ◌++◌};
-ghost use Rattle.rc_text.specs.Text.{Keeps, slice_end};
+ghost use Rattle.rc_text.specs.Text.{Searched, Keeps, slice_end};
+ghost use Rattle.rc_pass.specs.Moves.{IsSetting};
+ghost use Rattle.rc_pass.specs.Near.{IsHere};
 ghost use Rattle.rc_pass.specs.Windows.{IsWindow, IsAround, IsBegun};
 
+use crate::spot::{Course, Spot};
 use rc_text::cursor::Cursor;
 use rc_text::input::{Input, piece_from};
 
@@ -62,5 +65,26 @@ pub fn reach<C: Cursor>(window: &mut Window, input: &mut Input<C>, at: usize)
 {
     if window.len == 256 && at - window.start > 252 {
         *window = open(input, at);
+    }
+}
+
+/// What a pass sees at the byte `at`, through a window that shows four bytes on both sides of it.
+pub fn spot_at<'a>(course: Course<'a>, window: &'a Window, at: usize) -> Spot<'a>
+    ghost text: { Searched }
+    requires setting { IsSetting course text }
+    requires window { IsWindow text window.now }
+    requires begun { IsBegun text at window.now }
+    requires around { IsAround text at window.now }
+    requires within { at ≤ course.hi }
+    ensures course { result.course ≡ course.entry }
+    ensures at { result.at ≡ at }
+    ensures here { IsHere result text }
+{
+    let place = at - window.start;
+    Spot {
+        course,
+        at,
+        before: &window.bytes[..place],
+        after: &window.bytes[place..window.len],
     }
 }

@@ -1,5 +1,8 @@
 -- How the members of a concatenation are joined, one after another.
 use Rattle.std.proofs.Common.{◌≡◌, ◌≢◌, ℕ, List, [], ◌∷◌, ◌++◌, map, sym, ap, ◌∙◌, refl, append_assoc, Vec, Global}
+use Rattle.std.specs.List.{flat_map}
+use Rattle.std.proofs.lemmas.List.{map-append, append-nil}
+use Rattle.std.proofs.lemmas.Grind.{flat_map-append}
 use Rattle.rc_pattern.specs.Re.{Re, literal}
 use Rattle.rc_pattern.specs.Meaning.{meaning, kind_meaning, class_meaning, cat_all, alt_all, cat_members, alt_members, cat_rest, alt_rest, joins, joined}
 use Rattle.rc_pattern.specs.declared.hir.Hir.{Hir}
@@ -173,3 +176,11 @@ single k (is_Alternation subs) h = absurd (h subs refl)
 -- any other node stands for itself
 pub node_single : (k : HirKind) → ((subs : Vec Hir Global) → k ≢ HirKind.Alternation subs) → alt_members (kind_meaning k) ≡ kind_meaning k ∷ []
 node_single k h = single k (is_node k) h
+
+-- what one pattern more stands for
+pub flat_push : (f : Re → List Re) (hs : List Hir) (h : Hir) (old new : List Re) → new ≡ old ++ f (meaning h) → old ≡ flat_map f (map meaning hs) →
+    new ≡ flat_map f (map meaning (hs ++ h ∷ []))
+flat_push f hs h old new e g =
+    e ∙ ap (λ xs. xs ++ f (meaning h)) g
+    ∙ ap (λ xs. flat_map f (map meaning hs) ++ xs) (sym (append-nil (f (meaning h))))
+    ∙ sym (ap (flat_map f) (map-append meaning hs (h ∷ [])) ∙ flat_map-append f (map meaning hs) (meaning h ∷ []))

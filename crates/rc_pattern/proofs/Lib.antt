@@ -4,6 +4,8 @@ pub mod WellFormedLemmas
 pub mod WeightLemmas
 pub mod NameLemmas
 pub mod LookLemmas
+pub mod SetLemmas
+pub mod PlainNodeLemmas
 pub mod LengthLemmas
 pub mod KnownLemmas
 mod Examples

@@ -1,3 +1,4 @@
+-- Only proofs use this file.
 -- What is read of a group.
 use Rattle.std.specs.Prelude.{ℕ, List, Option, string_bytes}
 use Rattle.std.specs.Option.{option_map}

@@ -1,5 +1,6 @@
 pub mod Re
 pub mod Meaning
+pub mod Kinds
 pub mod WellFormed
 pub mod Weight
 pub mod Properties

@@ -16,6 +16,3 @@ pub use copies::{copies_of, copy_of};
 pub use depths::depth_within;
 pub use weights::{capped_list_weight, capped_weight};
 pub use well_formed::is_well_formed;
-
-#[cfg(test)]
-mod tests;

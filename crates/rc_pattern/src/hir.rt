@@ -1,10 +1,11 @@
 //! A pattern as a tree.
 
-ghost use Rattle.std.specs.Prelude.{◌≡◌, IfOk, map, []};
+ghost use Rattle.std.specs.Prelude.{◌≡◌, IfOk, IsTrue, map, []};
 ghost use Rattle.rc_pattern.specs.declared.hir.Hir.{out-Hir};
 ghost use Rattle.rc_pattern.specs.Re as re;
 ghost use Rattle.rc_pattern.specs.Meaning.{meaning, kind_meaning, class_meaning, repetition_meaning, capture_meaning, literal_of, concat_of, alternation_of};
 ghost use Rattle.rc_pattern.specs.Dots.{dot_of};
+ghost use Rattle.rc_pattern.specs.Kinds.{has_plain_nodes, kind_has_plain_nodes, repetition_has_plain_nodes, capture_has_plain_nodes, all_have_plain_nodes};
 
 mod dots;
 mod lengths;
@@ -13,7 +14,7 @@ mod members;
 mod properties;
 
 pub use dots::Dot;
-pub use look_set::LookSet;
+pub use look_set::{LookSet, LookSetIter};
 pub use properties::Properties;
 use std::alloc::{AllocError, Global};
 
@@ -138,7 +139,8 @@ impl Hir {
 
     /// The pattern that spells nothing but the empty text.
     pub fn empty() -> Hir
-        ensures { meaning result ≡ re.empty }
+        ensures meaning { meaning result ≡ re.empty }
+        ensures kind { IsTrue (has_plain_nodes result) }
     {
         Hir {
             kind: HirKind::Empty,
@@ -147,14 +149,16 @@ impl Hir {
 
     /// The pattern that spells no text at all: the class of no byte.
     pub fn fail(alloc: Global) -> Hir
-        ensures { meaning result ≡ re.byte_in [] }
+        ensures meaning { meaning result ≡ re.byte_in [] }
+        ensures kind { IsTrue (has_plain_nodes result) }
     {
         Hir::class(Class::Bytes(Vec::new(alloc)))
     }
 
     /// These bytes. Of no bytes it is `empty`. An `Err` is want of memory.
     pub fn literal(alloc: Global, bytes: &[u8]) -> Result<Hir, AllocError>
-        ensures { IfOk result (λ h. meaning h ≡ literal_of bytes.now) }
+        ensures meaning { IfOk result (λ h. meaning h ≡ literal_of bytes.now) }
+        ensures kind { IfOk result (λ h. IsTrue (has_plain_nodes h)) }
     {
         if bytes.is_empty() {
             return Ok(Hir::empty());
@@ -166,7 +170,8 @@ impl Hir {
 
     /// One character or one byte of the class, whose ranges stay as they are given.
     pub fn class(class: Class) -> Hir
-        ensures { meaning result ≡ class_meaning class }
+        ensures meaning { meaning result ≡ class_meaning class }
+        ensures kind { IsTrue (has_plain_nodes result) }
     {
         Hir {
             kind: HirKind::Class(class),
@@ -175,7 +180,8 @@ impl Hir {
 
     /// The assertion.
     pub fn look(look: Look) -> Hir
-        ensures { meaning result ≡ re.look look }
+        ensures meaning { meaning result ≡ re.look look }
+        ensures kind { IsTrue (has_plain_nodes result) }
     {
         Hir {
             kind: HirKind::Look(look),
@@ -184,14 +190,16 @@ impl Hir {
 
     /// The class of what the dot leaves in. An `Err` is want of memory.
     pub fn dot(alloc: Global, dot: Dot) -> Result<Hir, AllocError>
-        ensures { IfOk result (λ h. meaning h ≡ dot_of dot) }
+        ensures meaning { IfOk result (λ h. meaning h ≡ dot_of dot) }
+        ensures kind { IfOk result (λ h. IsTrue (has_plain_nodes h)) }
     {
         Ok(Hir::class(dots::class_of(alloc, dot)?))
     }
 
     /// The repetition, as it is given.
     pub fn repetition(repetition: Repetition) -> Hir
-        ensures { meaning result ≡ repetition_meaning repetition }
+        ensures meaning { meaning result ≡ repetition_meaning repetition }
+        ensures kind { has_plain_nodes result ≡ repetition_has_plain_nodes repetition }
     {
         Hir {
             kind: HirKind::Repetition(repetition),
@@ -200,7 +208,8 @@ impl Hir {
 
     /// The group, as it is given.
     pub fn capture(capture: Capture) -> Hir
-        ensures { meaning result ≡ capture_meaning capture }
+        ensures meaning { meaning result ≡ capture_meaning capture }
+        ensures kind { has_plain_nodes result ≡ capture_has_plain_nodes capture }
     {
         Hir {
             kind: HirKind::Capture(capture),
@@ -211,7 +220,8 @@ impl Hir {
     /// neighbouring literals are joined. No member left is `empty`, and one stands for itself. An
     /// `Err` is want of memory, and the patterns are dropped then.
     pub fn concat(alloc: Global, subs: Vec<Hir>) -> Result<Hir, AllocError>
-        ensures { IfOk result (λ h. meaning h ≡ concat_of (map meaning subs.items)) }
+        ensures meaning { IfOk result (λ h. meaning h ≡ concat_of (map meaning subs.items)) }
+        ensures kind { IfOk result (λ h. IsTrue (all_have_plain_nodes subs.items) → IsTrue (has_plain_nodes h)) }
     {
         let members = members::all_cat_members(alloc, subs)?;
         let mut members = members::joined_literals(alloc, members)?;
@@ -227,7 +237,8 @@ impl Hir {
     /// is `fail`, and one stands for itself. An `Err` is want of memory, and the patterns are dropped
     /// then.
     pub fn alternation(alloc: Global, subs: Vec<Hir>) -> Result<Hir, AllocError>
-        ensures { IfOk result (λ h. meaning h ≡ alternation_of (map meaning subs.items)) }
+        ensures meaning { IfOk result (λ h. meaning h ≡ alternation_of (map meaning subs.items)) }
+        ensures kind { IfOk result (λ h. IsTrue (all_have_plain_nodes subs.items) → IsTrue (has_plain_nodes h)) }
     {
         let mut members = members::all_alt_members(alloc, subs)?;
         if members.len() > 1 {
@@ -240,7 +251,8 @@ impl Hir {
 
     /// The pattern of this node, as it is given.
     pub(crate) fn from_kind(kind: HirKind) -> Hir
-        ensures { meaning result ≡ kind_meaning kind }
+        ensures meaning { meaning result ≡ kind_meaning kind }
+        ensures kind { has_plain_nodes result ≡ kind_has_plain_nodes kind }
     {
         Hir { kind }
     }
@@ -261,6 +273,3 @@ impl Hir {
         &self.kind
     }
 }
-
-#[cfg(test)]
-mod tests;

@@ -3,4 +3,5 @@
 
 pub mod check;
 pub mod hir;
+pub mod laws;
 pub mod syntax;

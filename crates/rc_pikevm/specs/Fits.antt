@@ -1,5 +1,5 @@
 -- What is built from patterns under the settings of a program.
-use Rattle.std.specs.Prelude.{◌≡◌, ◌≤◌, List, length}
+use Rattle.std.specs.Prelude.{◌≡◌, ◌≤◌, List, None, length}
 use Rattle.rc_text.specs.declared.types.MatchKind.{MatchKind}
 use Rattle.rc_pattern.specs.Re.{Re}
 use Rattle.rc_pattern.specs.Weight.{list_weight}
@@ -7,10 +7,12 @@ use Rattle.rc_captures.specs.Groups.{names_of}
 use Rattle.rc_captures.specs.declared.groups.GroupInfo.{GroupInfo}
 use Rattle.rc_program.specs.Program.{program, shown}
 use Rattle.rc_program.specs.Sought.{Sought, passes_over}
-use Rattle.rc_compile.specs.Places.{places_of}
+use Rattle.rc_program.specs.Places.{places_of}
+use Rattle.rc_engine.specs.Choices.{answering}
 use Rattle.rc_engine.specs.declared.engine.Engine.{Engine}
-use Rattle.rc_build.specs.Names.{is_grouped, names_shown}
-use Rattle.rc_pikevm.specs.Thompson.{Settings, utf8_of, which_captures_of, line_terminator_of}
+use Rattle.rc_settings.specs.Which.{is_grouped}
+use Rattle.rc_build.specs.Names.{names_shown}
+use Rattle.rc_settings.specs.Thompson.{Settings, utf8_of, which_captures_of, line_terminator_of}
 
 -- what is sought by patterns under settings
 abbrev pub sought_by : Settings → List Re → Sought
@@ -22,11 +24,12 @@ sought_by s hs = record {
 }
 
 -- The engine and the groups are those of the patterns under the settings, for this kind of match, and there are no more places than
--- the patterns' weight.
+-- the patterns' weight. No needles alone tell its answers, so each search makes a pass.
 pub record Fits (s : Settings) (kind : MatchKind) (hs : List Re) (e : Engine) (info : GroupInfo) : Type 0 where
-  pub small : length e.places.items ≤ list_weight hs
-  pub placed : places_of e.places.items ≡ program (shown (is_grouped (which_captures_of s)) hs)
-  pub ended : e.terminator ≡ line_terminator_of s
-  pub passing : e.passes_over ≡ passes_over (sought_by s hs)
+  pub small : length e.program.places.items ≤ list_weight hs
+  pub placed : places_of e.program.places.items ≡ program (shown (is_grouped (which_captures_of s)) hs)
+  pub ended : e.program.terminator ≡ line_terminator_of s
+  pub passing : e.program.passes_over ≡ passes_over (sought_by s hs)
   pub kinded : e.kind ≡ kind
+  pub unanswered : answering e.strategy ≡ None
   pub named : names_of info ≡ names_shown (is_grouped (which_captures_of s)) hs

@@ -1,5 +1,3 @@
-pub mod Thompson
-pub mod Configs
 pub mod Fits
 pub mod Views
 pub mod Caches

@@ -5,11 +5,12 @@ use Rattle.rc_pattern.specs.Meaning.{meaning}
 use Rattle.rc_captures.specs.Names.{Names}
 use Rattle.rc_program.specs.Program.{program, shown}
 use Rattle.rc_program.specs.Sought.{Sought}
-use Rattle.rc_build.specs.Names.{is_grouped, names_shown}
+use Rattle.rc_settings.specs.Which.{is_grouped}
+use Rattle.rc_build.specs.Names.{names_shown}
 use Rattle.rc_parser.specs.Settings.{Settings as SyntaxSettings, settings_of as syntax_of}
-use Rattle.rc_pikevm.specs.Configs.{SearchSettings, search_settings_of}
+use Rattle.rc_settings.specs.SearchSettings.{SearchSettings, search_settings_of}
 use Rattle.rc_pikevm.specs.Fits.{sought_by}
-use Rattle.rc_pikevm.specs.Thompson.{Settings, settings_of, which_captures_of}
+use Rattle.rc_settings.specs.Thompson.{Settings, settings_of, which_captures_of}
 use Rattle.rc_pikevm.specs.declared.vm.PikeVM.{PikeVM}
 use Rattle.rc_pikevm.specs.declared.builder.Builder.{Builder}
 

@@ -3,28 +3,29 @@
 ghost use Rattle.std.specs.Prelude.{◌≡◌, ◌≤◌, ◌∷◌, [], IfOk, IfErr, length, map};
 ghost use Rattle.rc_pattern.specs.Meaning.{meaning};
 ghost use Rattle.rc_program.specs.Sought.{IsRunnable, may_be_empty, passes_over};
-ghost use Rattle.rc_compile.specs.Places.{places_of};
+ghost use Rattle.rc_program.specs.Places.{places_of};
 ghost use Rattle.rc_build.specs.Refusals.{IsBuildable, IsRefusal};
 ghost use Rattle.rc_build.specs.TextRefusals.{AllRead, IsTextRefusal, texts_of};
 ghost use Rattle.rc_parser.specs.Settings.{default_settings, settings_of as syntax_of};
-ghost use Rattle.rc_pikevm.specs.Configs.{match_kind_of, search_settings_of, none_set, set_over};
-ghost use Rattle.rc_pikevm.specs.Thompson.{settings_of, unset, overwritten, nfa_size_limit_of, line_terminator_of};
+ghost use Rattle.rc_settings.specs.SearchSettings.{match_kind_of, search_settings_of, none_set, set_over};
+ghost use Rattle.rc_settings.specs.Thompson.{settings_of, unset, overwritten, nfa_size_limit_of, line_terminator_of};
 ghost use Rattle.rc_engine.specs.Strategies.{IsSound};
 ghost use Rattle.rc_pikevm.specs.Fits.{sought_by};
 ghost use Rattle.rc_pikevm.specs.Views.{builder_settings, builder_program, builder_syntax, vm_patterns, vm_program, vm_settings};
 
-use crate::config::Config;
-use crate::thompson;
 use crate::vm::{PikeVM, assembled};
 use rc_build::compile::compile_all;
-use rc_build::error::BuildError;
 use rc_build::texts::parse_all;
-use rc_compile::place::Place;
 use rc_engine::choice::choose;
 use rc_engine::engine::Engine;
 use rc_engine::strategy::Strategy;
 use rc_pattern::check::copies_of;
 use rc_pattern::hir::Hir;
+use rc_program::place::Place;
+use rc_program::program::Program;
+use rc_settings::error::BuildError;
+use rc_settings::pikevm::Config;
+use rc_settings::thompson;
 use std::alloc::Global;
 
 /// Builds a `PikeVM` under settings of its own: those of its searches, those of its program, and those by which text is read.
@@ -148,16 +149,20 @@ fn engine_of(
     requires runnable { IsRunnable (places_of places.items) }
     requires sound { IsSound (places_of places.items) (line_terminator_of (settings_of thompson))
         (passes_over (sought_by (settings_of thompson) (map meaning hirs.now))) strategy }
-    ensures places { result.places ≡ places }
-    ensures terminator { result.terminator ≡ line_terminator_of (settings_of thompson) }
+    ensures places { result.program.places ≡ places }
+    ensures terminator { result.program.terminator ≡ line_terminator_of (settings_of thompson) }
     ensures kind { result.kind ≡ match_kind_of (search_settings_of config.now) }
-    ensures passes_over { result.passes_over ≡ passes_over (sought_by (settings_of thompson) (map meaning hirs.now)) }
+    ensures passes_over { result.program.passes_over ≡ passes_over (sought_by (settings_of thompson) (map meaning hirs.now)) }
+    ensures strategy { result.strategy ≡ strategy }
 {
     let passes_over = thompson.get_utf8() && may_be_empty(hirs);
-    Engine {
+    let program = Program {
         places,
         terminator: thompson.get_line_terminator(),
         passes_over,
+    };
+    Engine {
+        program,
         kind: config.get_match_kind(),
         strategy,
     }

@@ -13,7 +13,8 @@ use std::iter::FusedIterator;
 
 /// The matches in an input, from left to right. Each is searched for when `next` is called, in the cache that is lent.
 ///
-/// After the last it gives none, whatever its input becomes. The cache is always one that was made for the `PikeVM`.
+/// A call keeps the `PikeVM`, and the input but for where its span starts. After the last match it gives none, whatever its input
+/// becomes. The cache is always one that was made for the `PikeVM`.
 #[derive(Drop)]
 pub struct FindMatches<'v, 'c, C: Cursor> {
     pub(crate) vm: &'v PikeVM,

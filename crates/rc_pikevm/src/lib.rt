@@ -3,10 +3,6 @@
 
 pub mod builder;
 pub mod cache;
-pub mod config;
 pub mod iterators;
 pub mod search;
-#[cfg(test)]
-mod tests;
-pub mod thompson;
 pub mod vm;

@@ -6,16 +6,16 @@ ghost use Rattle.rc_text.specs.Text.{Keeps, low, high};
 ghost use Rattle.rc_text.specs.declared.types.MatchKind.TheVariants.{LeftmostFirst};
 ghost use Rattle.rc_captures.specs.Captures.{IsCapturesFor, captures_pattern, captures_slots, match_of};
 ghost use Rattle.rc_captures.specs.Names.{slot_len};
-ghost use Rattle.rc_program.specs.Answer.{answer, groups};
 ghost use Rattle.rc_program.specs.Sought.{search_for};
 ghost use Rattle.rc_program.specs.Kinds.{answer_by};
 ghost use Rattle.rc_program.specs.Matches.{matches_left};
 ghost use Rattle.rc_pass.specs.KindSlots.{slots_by};
-ghost use Rattle.rc_engine.specs.Tells.{Tells, TellsBy};
+ghost use Rattle.rc_engine.specs.Moved.{IsMoved};
+ghost use Rattle.rc_engine.specs.Tells.{TellsBy};
 ghost use Rattle.rc_pikevm.specs.Caches.{IsCacheFor, insertions_of};
-ghost use Rattle.rc_pikevm.specs.Configs.{match_kind_of};
+ghost use Rattle.rc_settings.specs.SearchSettings.{match_kind_of};
 ghost use Rattle.rc_pikevm.specs.Views.{sought, states_of, vm_names, vm_settings};
-ghost use Rattle.rc_pikevm.specs.Left.{FindKeepsAlong, FindSteps, find_left, find_lender, find_vm, matches_in};
+ghost use Rattle.rc_pikevm.specs.Left.{FindKeepsAlong, FindSteps, IsCounted, find_input, find_left, find_lender, find_vm, matches_in};
 ghost use Rattle.std.specs.Iterator.Runs.{YieldsInOrder};
 
 use crate::cache::Cache;
@@ -37,8 +37,6 @@ pub fn is_match<C: Cursor>(vm: &PikeVM, cache: &mut Cache, input: &mut Input<C>)
     requires made { IsCacheFor (sought vm.now) cache.old }
     ensures cache { IsCacheFor (sought vm.now) cache.new }
     ensures keeps { Keeps input.old input.new }
-    ensures found { match_kind_of (vm_settings vm.now) ≡ LeftmostFirst
-        → IsTrue result ↔ IsSome (answer (search_for (sought vm.now) input.old)) }
     ensures found_by { IsTrue result ↔ IsSome (answer_by (match_kind_of (vm_settings vm.now)) (search_for (sought vm.now) input.old)) }
     ensures none { high input.old < low input.old → insertions_of cache.new ≡ 0 }
     ensures few { insertions_of cache.new ≤ states_of (sought vm.now) * (high input.old - low input.old + 2) }
@@ -48,9 +46,7 @@ pub fn is_match<C: Cursor>(vm: &PikeVM, cache: &mut Cache, input: &mut Input<C>)
     find_by_kind(
         &mut cache.inner,
         input,
-        &vm.engine.places,
-        vm.engine.terminator,
-        vm.engine.passes_over,
+        &vm.engine.program,
         guards_of(&vm.engine.strategy),
         vm.engine.kind,
     )
@@ -70,10 +66,6 @@ pub fn search<C: Cursor>(vm: &PikeVM, cache: &mut Cache, input: &mut Input<C>, c
     ensures keeps { Keeps input.old input.new }
     ensures still_made { IsCapturesFor (vm_names vm.now) caps.new }
     ensures long { length (captures_slots caps.new) ≡ length (captures_slots caps.old) }
-    ensures found { match_kind_of (vm_settings vm.now) ≡ LeftmostFirst
-        → Tells (search_for (sought vm.now) input.old) caps.new }
-    ensures matched { match_kind_of (vm_settings vm.now) ≡ LeftmostFirst
-        → match_of caps.new ≡ answer (search_for (sought vm.now) input.old) }
     ensures found_by { TellsBy (match_kind_of (vm_settings vm.now)) (search_for (sought vm.now) input.old) caps.new }
     ensures matched_by { match_of caps.new ≡ answer_by (match_kind_of (vm_settings vm.now)) (search_for (sought vm.now) input.old) }
     ensures slots { MatchOption (captures_pattern caps.new)
@@ -89,9 +81,7 @@ pub fn search<C: Cursor>(vm: &PikeVM, cache: &mut Cache, input: &mut Input<C>, c
     let pattern = search_slots_by_kind(
         &mut cache.inner,
         input,
-        &vm.engine.places,
-        vm.engine.terminator,
-        vm.engine.passes_over,
+        &vm.engine.program,
         guards_of(&vm.engine.strategy),
         vm.engine.kind,
         caps.slots_mut(),
@@ -115,12 +105,6 @@ pub fn search_slots<C: Cursor>(
     requires few_slots { length slots.old ≤ slot_len (vm_names vm.now) }
     ensures cache { IsCacheFor (sought vm.now) cache.new }
     ensures keeps { Keeps input.old input.new }
-    ensures pattern { match_kind_of (vm_settings vm.now) ≡ LeftmostFirst
-        → result ≡ option_map (λ (m : Found). m.pattern) (answer (search_for (sought vm.now) input.old)) }
-    ensures slots { match_kind_of (vm_settings vm.now) ≡ LeftmostFirst
-        → MatchOption result
-        (slots.new ≡ slots.old)
-        (λ _. Some slots.new ≡ groups (search_for (sought vm.now) input.old) (length slots.old)) }
     ensures pattern_by { result
         ≡ option_map (λ (m : Found). m.pattern) (answer_by (match_kind_of (vm_settings vm.now)) (search_for (sought vm.now) input.old)) }
     ensures slots_by { MatchOption result
@@ -134,9 +118,7 @@ pub fn search_slots<C: Cursor>(
     search_slots_by_kind(
         &mut cache.inner,
         input,
-        &vm.engine.places,
-        vm.engine.terminator,
-        vm.engine.passes_over,
+        &vm.engine.program,
         guards_of(&vm.engine.strategy),
         vm.engine.kind,
         slots,
@@ -145,6 +127,8 @@ pub fn search_slots<C: Cursor>(
 
 /// The matches in the input, from left to right. None is searched for before it is asked for, and neither this call nor an item takes
 /// memory. The cache has to be made for this `PikeVM`; it stays so, also where the iterator is dropped before its end.
+///
+/// The cache counts the last pass for an item as for a search.
 ///
 /// Each is the match that `search` finds from where the one before ended, or from a byte later where that would be an empty one
 /// that ends there again. So under `MatchKind::All` the first is the one with the greatest end of all.
@@ -158,6 +142,7 @@ pub fn find_iter<'v, 'c, C: Cursor + Drop>(
     ensures leftmost { match_kind_of (vm_settings vm.now) ≡ LeftmostFirst
         → find_left result ≡ matches_left (search_for (sought vm.now) input) input.span.start None }
     ensures vm { find_vm result ≡ vm.now }
+    ensures input { find_input result ≡ input }
     ensures runs { YieldsInOrder (FindSteps {cursor = C.Cursor}) find_left }
     ensures same_reference { find_lender result ≡ cache.entry.ghost_name }
     ensures stays { FindKeepsAlong result }
@@ -183,6 +168,8 @@ pub(crate) fn next_match<C: Cursor>(
     ensures left { MatchOption result
         (matches_in vm.now input.old last ≡ [])
         (λ m. matches_in vm.now input.old last ≡ m ∷ matches_in vm.now input.new (Some m.end)) }
+    ensures moves { IsMoved input.old input.new }
+    ensures counted { IfSome result (λ m. IsCounted vm.now input.old m (insertions_of cache.new)) }
 {
     let Some(found) = vm.engine.next_match(&mut cache.inner, input, last) else {
         return None;

@@ -2,19 +2,20 @@
 
 ghost use Rattle.std.specs.Prelude.{◌≡◌, map};
 ghost use Rattle.rc_pattern.specs.Meaning.{meaning};
-ghost use Rattle.rc_pikevm.specs.Configs.{match_kind_of, search_settings_of};
+ghost use Rattle.rc_settings.specs.SearchSettings.{match_kind_of, search_settings_of};
 ghost use Rattle.rc_pikevm.specs.Fits.{Fits};
-ghost use Rattle.rc_pikevm.specs.Thompson.{settings_of};
+ghost use Rattle.rc_settings.specs.Thompson.{settings_of};
 
 use crate::builder::Builder;
 use crate::cache::Cache;
-use crate::config::Config;
-use crate::thompson;
-use rc_build::error::BuildError;
+use rc_captures::captures::Captures;
 use rc_captures::groups::GroupInfo;
 use rc_engine::engine::Engine;
 use rc_pass::cache;
 use rc_pattern::hir::Hir;
+use rc_settings::error::BuildError;
+use rc_settings::pikevm::Config;
+use rc_settings::thompson;
 use std::alloc::{AllocError, Global};
 
 /// A list of patterns, built for searches by one ordered pass.
@@ -31,15 +32,17 @@ pub struct PikeVM {
 impl PikeVM {
     ghost use Rattle.std.specs.Prelude.{◌≡◌, ◌≤◌, ◌∷◌, [], IfErr, IfOk, length, None};
     ghost use Rattle.rc_pattern.specs.Weight.{list_weight};
+    ghost use Rattle.rc_captures.specs.Captures.{IsCapturesFor, captures_pattern};
     ghost use Rattle.rc_captures.specs.Groups.{names_of};
     ghost use Rattle.rc_captures.specs.Names.{slot_len};
+    ghost use Rattle.rc_engine.specs.Tells.{KeepsAll};
     ghost use Rattle.rc_pass.specs.Caches as pikevm;
     ghost use Rattle.rc_build.specs.Refusals.{IsBuildable};
     ghost use Rattle.rc_build.specs.TextRefusals.{AllRead, IsTextRefusal, texts_of};
     ghost use Rattle.rc_parser.specs.Settings.{default_settings};
     ghost use Rattle.rc_pikevm.specs.Caches.{IsCacheFor, insertions_of};
-    ghost use Rattle.rc_pikevm.specs.Configs.{none_set};
-    ghost use Rattle.rc_pikevm.specs.Thompson.{unset};
+    ghost use Rattle.rc_settings.specs.SearchSettings.{none_set};
+    ghost use Rattle.rc_settings.specs.Thompson.{unset};
     ghost use Rattle.rc_pikevm.specs.Views.{builder_settings, builder_program, builder_syntax, sought, states_of, vm_names, vm_patterns, vm_program, vm_settings};
 
     /// What is built of the pattern as which this text is read by the default settings. Nothing else is set. The `Err`s are those
@@ -85,7 +88,7 @@ impl PikeVM {
         ensures value { result ≡ states_of (sought self.now) }
         ensures small { result ≤ list_weight (vm_patterns self.now) }
     {
-        self.engine.places.len()
+        self.engine.program.places.len()
     }
 
     /// The groups that are kept.
@@ -93,6 +96,15 @@ impl PikeVM {
         ensures { names_of result.now ≡ vm_names self.now }
     {
         &self.info
+    }
+
+    /// Captures that keep the groups of the patterns. They hold no match. An `Err` is want of memory.
+    pub fn create_captures(&self, alloc: Global) -> Result<Captures, AllocError>
+        ensures made { IfOk result (IsCapturesFor (vm_names self.now)) }
+        ensures whole { IfOk result (KeepsAll (vm_names self.now)) }
+        ensures pattern { IfOk result (λ c. captures_pattern c ≡ None) }
+    {
+        Captures::all(alloc, &self.info)
     }
 
     /// A cache for searches. An `Err` is want of memory.
@@ -108,7 +120,7 @@ impl PikeVM {
         ensures made { IfOk result (pikevm.IsCacheFor (states_of (sought self.now)) (slot_len (vm_names self.now))) }
         ensures unused { IfOk result (λ c. c.insertions ≡ 0) }
     {
-        cache::Cache::new(alloc, self.engine.places.len(), self.info.slot_len())
+        cache::Cache::new(alloc, self.states_len(), self.info.slot_len())
     }
 }
 

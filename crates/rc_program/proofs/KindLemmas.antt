@@ -91,5 +91,6 @@ kinds_law = record {
   in_order = λ kind s k. kinds_in_order kind s k None tt;
   few = λ kind s k. kinds_few kind s k None tt;
   within = kinds_lie_within;
+  preferred = λ s. refl;
   leftmost = kinds_leftmost;
 }

@@ -1,4 +1,5 @@
 pub mod WayLemmas
+pub mod ResultLemmas
 pub mod AnswerLemmas
 pub mod PlaceLemmas
 pub mod WeightLemmas
@@ -15,3 +16,4 @@ pub mod EntryLemmas
 pub mod GreatestLemmas
 pub mod KindLemmas
 mod KindExamples
+pub mod PropertyLemmas

@@ -53,4 +53,6 @@ pub record KindsLaw : Type 0 where
   pub in_order : (kind : MatchKind) (s : Search) (k : ℕ) → AreInOrder begin_of end_of s.hi (matches_by_kind kind s k None)
   pub few : (kind : MatchKind) (s : Search) (k : ℕ) → length (matches_by_kind kind s k None) ≤ s.hi + 1 - max k s.text.slice_start
   pub within : (kind : MatchKind) (s : Search) → LiesWithin begin_of end_of (answer_by_from kind s) s.text.slice_start s.hi
+  -- the preferred match is the answer, and its list the list of matches
+  pub preferred : (s : Search) → answer_by leftmost_first s ≡ answer s
   pub leftmost : (s : Search) (k : ℕ) (last : Option ℕ) → matches_by_kind leftmost_first s k last ≡ matches_left s k last

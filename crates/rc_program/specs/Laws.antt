@@ -1,12 +1,13 @@
 -- The laws that tie programs to patterns: what the walks of a program spell, and that a program is closed and small.
 use Rattle.std.specs.Prelude.{◌≡◌, ◌↔◌, ℕ, ◌+◌, ◌*◌, ◌<◌, ◌≤◌, Bool, List, [], ◌∷◌, ◌++◌, IsTrue, Some, None, All, map, length}
-use Rattle.rc_pattern.specs.Re.{Re, Range, literal, repeat, capture, cat, alt}
+use Rattle.rc_pattern.specs.Re.{Re, Range}
 use Rattle.std.specs.List.{range_with_len}
 use Rattle.rc_pattern.specs.WellFormed.{HasBounds, group_numbers, group_count}
 use Rattle.rc_pattern.specs.Weight.{weight, list_weight}
-use Rattle.rc_pattern.specs.Properties.{minimum_len}
+use Rattle.rc_pattern.specs.Properties.{minimum_len, maximum_len, begins_with_look, ends_with_look}
+use Rattle.rc_pattern.specs.declared.hir.Look.{Look}
 use Rattle.rc_walks.specs.Walks.{Pair, IsIn, IsWalk, IsFirstWalk, HasNoWalk}
-use Rattle.rc_program.specs.Text.{Text}
+use Rattle.rc_program.specs.Text.{Text, holds}
 use Rattle.rc_program.specs.Program.{Place, choice, byte, branch, scalar, guard, slot, accept, place_at, ways, is_match_place, program, entry, without_groups, shown}
 use Rattle.rc_program.specs.Spells.{Spells, SpelledBy}
 use Rattle.rc_program.specs.Answer.{last_of}
@@ -106,3 +107,14 @@ pub record EntryLaw : Type 0 where
   pub own : (hs : List Re) (t : Text) (hi p x : ℕ) (w : List Pair) → p < length hs →
       IsWalk (ways (program hs) t hi) (λ n. IsTrue (is_match_place None (place_at (program hs) n.0))) [] ((entry hs p, x) ∷ []) w →
       place_at (program hs) (last_of w).0 ≡ accept p
+
+-- What the properties of a pattern say of each span that it spells.
+pub record PropertyLaw : Type 0 where
+  -- it has a least length, and the span is no shorter
+  pub least : (t : Text) (h : Re) (i j : ℕ) → Spells t h i j → (n : ℕ) × (minimum_len h ≡ Some n) × (i + n ≤ j)
+  -- where it has a greatest length, the span is no longer
+  pub greatest : (t : Text) (h : Re) (i j n : ℕ) → Spells t h i j → maximum_len h ≡ Some n → j ≤ i + n
+  -- the assertions of its prefix set hold where the span begins
+  pub begins : (t : Text) (h : Re) (i j : ℕ) (l : Look) → Spells t h i j → IsTrue (begins_with_look h l) → IsTrue (holds t l i)
+  -- those of its suffix set hold where it ends
+  pub ends : (t : Text) (h : Re) (i j : ℕ) (l : Look) → Spells t h i j → IsTrue (ends_with_look h l) → IsTrue (holds t l j)

@@ -6,6 +6,8 @@ pub mod Spells
 pub mod Answer
 pub mod Matches
 pub mod Laws
+pub mod Places
 pub mod Sought
 pub mod Greatest
 pub mod Kinds
+pub mod Programs

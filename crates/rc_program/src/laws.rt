@@ -2,7 +2,7 @@
 ghost use Rattle.rc_program.specs.Answer.{AnswerLaw};
 ghost use Rattle.rc_program.specs.Greatest.{GreatestLaw};
 ghost use Rattle.rc_program.specs.Kinds.{KindsLaw};
-ghost use Rattle.rc_program.specs.Laws.{ClosedLaw, EntryLaw, GroupLaw, ProgramLaw};
+ghost use Rattle.rc_program.specs.Laws.{ClosedLaw, EntryLaw, GroupLaw, ProgramLaw, PropertyLaw};
 ghost use Rattle.rc_program.specs.Matches.{MatchesLaw, PiecesLaw};
 ghost use Rattle.rc_program.specs.Scalars.{ScalarLaw};
 
@@ -16,6 +16,12 @@ pub fn walks_are_spellings()
     ensures { ProgramLaw }
 {}
 
+/// Where a pattern spells a span, the span is no shorter than the pattern's least length and no longer than its greatest, and the
+/// assertions of its prefix set hold where the span begins, and those of its suffix set where it ends.
+pub fn properties_are_sound()
+    ensures { PropertyLaw }
+{}
+
 /// The answer, as contracts name it, is the answer as it is defined: the first walk of the least start that has a walk and
 /// isn't passed over, with its pattern, its span and its slots; and nothing exactly where no start gives one.
 pub fn answers_are_first_walks()
@@ -23,8 +29,8 @@ pub fn answers_are_first_walks()
 {}
 
 /// The edges of a program stay inside it, it is entered at one of its places, and its match places and slots are those of its
-/// patterns. It is no heavier than the weight of its patterns, where each repetition's least number is at most its greatest and no
-/// literal is empty.
+/// patterns. It is no heavier than the weight of its patterns, and has no more places, where the bounds of each repetition and the
+/// ranges of each class are in order.
 pub fn programs_are_closed()
     ensures { ClosedLaw }
 {}
@@ -63,7 +69,7 @@ pub fn greatest_spans_are_greatest()
 
 /// The match of each kind is an answer, with the earliest flag on or off; each answer is a span that is spelled; and an answer is
 /// missing exactly where there is no match. The list of a kind's matches is the one that the definition gives over them: they rise,
-/// lie within the bounds, and are no more than there are positions.
+/// lie within the bounds, and are no more than there are positions. Of `LeftmostFirst` they are the answer and the list of matches.
 pub fn kinds_have_answers()
     ensures { KindsLaw }
 {}

@@ -1,7 +1,10 @@
 //! What a program is, and what a search over it answers: the definitions that contracts cite, and the laws that tie them.
 //!
-//! `laws` has the laws, each as the contract of a function with nothing to do. `look` tests where assertions hold.
+//! `laws` has the laws, each as the contract of a function with nothing to do. `look` tests where assertions hold. `place` has the
+//! places of a program as code has them, and `program` a program that can be searched with.
 #![tactic(auto)]
 
 pub mod laws;
 pub mod look;
+pub mod place;
+pub mod program;

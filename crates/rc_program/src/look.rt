@@ -6,9 +6,6 @@ ghost use Rattle.rc_program.specs.Looks.{side_before, side_after, has_byte, is_w
 use rc_pattern::hir::Look;
 use unicode::properties::{GeneralCategory, is_alphabetic};
 
-#[cfg(test)]
-mod tests;
-
 /// Whether the assertion holds at a position, where `before` are the bytes that lead up to it and `after` those that go on from
 /// it. Lines end at the byte `terminator`; `StartCRLF` and `EndCRLF` know CR, LF and both as one end instead.
 ///

@@ -1,3 +1,4 @@
+-- What a match and its half are.
 use Rattle.std.specs.Prelude.{ℕ}
 
 -- A match: the number of its pattern, and its span.

@@ -1,3 +1,4 @@
+-- An input, its bounds and its boundaries.
 use Rattle.std.specs.Prelude.{◌≡◌, ℕ, ◌+◌, ◌-◌, ◌<◌, ◌≤◌, ◌⊎◌, ◌||◌, min, max, if◌then◌else◌, nat_lt, nat_le, List, [], length, drop, Bool, true, Option, Some, None, slice_get, slice_range, slice_index}
 use Rattle.rc_text.specs.declared.types.Span.{Span}
 use Rattle.rc_text.specs.declared.types.Anchored.{Anchored}

@@ -88,6 +88,17 @@ impl PatternID {
     }
 }
 
+/// The number of the first pattern.
+impl Default for PatternID {
+    ghost use Rattle.std.specs.Prelude.{◌≡◌};
+
+    ghost is_default = { λ p. p ≡ 0 };
+
+    fn default() -> PatternID {
+        PatternID::ZERO
+    }
+}
+
 /// A match: its pattern and its span, whose start is at most its end.
 #[derive(Clone, Copy, Debug, PartialEq, Eq, Hash)]
 pub struct Match {

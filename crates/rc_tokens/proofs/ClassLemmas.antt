@@ -6,6 +6,7 @@ use Rattle.rc_pattern.specs.Re.{Range}
 use Rattle.rc_pattern.specs.WellFormed.{AreAscending}
 use Rattle.rc_tokens.specs.Text.{◌>>=◌}
 use Rattle.rc_tokens.specs.Classes.{shared, lower, upper, folded, next, before, joins, canonical, last_code, gaps, folded_if, class_of, set_ranges, perl_ranges, is_code, code_of, items, led_items, list_ranges, AreCodes}
+use Rattle.rc_tokens.specs.Members.{InOrder}
 use Rattle.rc_tokens.specs.Items.{Taken, range_end, ranged_to, may_be_itself, ranged, item, more}
 use Rattle.rc_tokens.specs.declared.tokens.Set.{Set}
 use Rattle.rc_tokens.specs.declared.tokens.Set.TheVariants.{Digits, Spaces, Words}
@@ -121,15 +122,10 @@ pub canonical_codes : (u : Bool) (rs : List Range) → AreCodes u rs → AreCode
 canonical_codes u [] h = tt
 canonical_codes u (r ∷ rs) h = joins_codes u r (canonical u rs) (h.0, h.1, h.2, tt) (canonical_codes u rs h.3)
 
--- in order, none below n, and a code left out between neighbours
-abbrev pub InOrder : Bool → ℕ → List Range → Type 0
-InOrder u n [] = Unit {0}
-InOrder u n (r ∷ rs) = (n ≤ r.0) × (r.0 ≤ r.1) × InOrder u (suc (next u r.1)) rs
-
 pub next_above : (u : Bool) (c : ℕ) → c < next u c
 next_above u c = if_elim (λ x. c < x) (u && c == 0xD7FF) 0xE000 (c + 1) (λ e. let (_, b) = and_parts u (c == 0xD7FF) e in let h = eqb-true c 0xD7FF b in omega (arith, h)) (λ _. omega arith)
 
-lower_floor : (u : Bool) (m n : ℕ) (rs : List Range) → m ≤ n → InOrder u n rs → InOrder u m rs
+pub lower_floor : (u : Bool) (m n : ℕ) (rs : List Range) → m ≤ n → InOrder u n rs → InOrder u m rs
 lower_floor u m n [] l h = tt
 lower_floor u m n (r ∷ rs) l h = (omega (arith, l, h.0), h.1, h.2)
 
@@ -167,7 +163,7 @@ last_is true = inr (omega arith, omega arith)
 last_is false = omega arith
 
 -- where a gap may begin: at a code, or behind all
-abbrev IsStart : Bool → ℕ → Type 0
+abbrev pub IsStart : Bool → ℕ → Type 0
 IsStart u c = IsCode u c ⊎ (last_code u < c)
 
 pub next_start : (u : Bool) (c : ℕ) → IsCode u c → IsStart u (next u c)
@@ -191,7 +187,7 @@ pub start_code : (u : Bool) (c d : ℕ) → IsStart u c → d ≤ last_code u �
 start_code u c d h l g = ⊎_elim (λ x. x) (λ x. absurd (omega (arith, x, l, g))) h
 
 -- the code before one that isn't the first, and no start stands between them
-before_code : (u : Bool) (c s : ℕ) → IsCode u c → IsCode u s → s < c → IsCode u (before u c) × (s ≤ before u c) × (before u c < c)
+pub before_code : (u : Bool) (c s : ℕ) → IsCode u c → IsCode u s → s < c → IsCode u (before u c) × (s ≤ before u c) × (before u c < c)
 before_code true c s h g l = if_elim (λ x. IsCode true x × (s ≤ x) × (x < c)) (c == 0xE000) 0xD7FF (c - 1)
     (λ e. let is = eqb-true c 0xE000 e in (inl (omega arith), ⊎_elim (λ a. omega (arith, a)) (λ (a, b). absurd (omega (arith, a, is, l))) g, omega (arith, is)))
     (λ e. let n = eqb-false c 0xE000 e in (⊎_elim (λ a. inl (omega (arith, a))) (λ (a, b). inr (omega (arith, a, n), omega (arith, b))) h, omega (arith, l), omega (arith, l)))
@@ -237,11 +233,11 @@ gaps_fine u start (r ∷ rs) s h g = go (gaps_fine u (next u r.1) rs (next_start
 
 -- ---- classes
 
-fold_codes : (u fold : Bool) (rs : List Range) → AreCodes u rs → AreCodes u (folded_if fold rs)
+pub fold_codes : (u fold : Bool) (rs : List Range) → AreCodes u rs → AreCodes u (folded_if fold rs)
 fold_codes u true rs h = folded_codes u rs h
 fold_codes u false rs h = h
 
-zero_start : (u : Bool) → IsStart u 0
+pub zero_start : (u : Bool) → IsStart u 0
 zero_start true = inl (inl (omega arith))
 zero_start false = inl (omega arith)
 
@@ -260,7 +256,7 @@ class_codes u fold negated rs h = (class_fine u fold negated rs h).0
 pub class_ascending : (u fold negated : Bool) (rs : List Range) → AreCodes u rs → AreAscending 0 (class_of u fold negated rs)
 class_ascending u fold negated rs h = (class_fine u fold negated rs h).1
 
-set_codes : (u : Bool) (s : Set) → AreCodes u (set_ranges s)
+pub set_codes : (u : Bool) (s : Set) → AreCodes u (set_ranges s)
 set_codes true Digits = (refl, refl, omega arith, tt)
 set_codes true Spaces = (refl, refl, omega arith, (refl, refl, omega arith, tt))
 set_codes true Words = (refl, refl, omega arith, (refl, refl, omega arith, (refl, refl, omega arith, (refl, refl, omega arith, tt))))

@@ -13,4 +13,5 @@ pub mod ItemLemmas
 pub mod LeadLemmas
 pub mod ClassLemmas
 pub mod MergedLemmas
+pub mod ClassMembers
 mod Examples

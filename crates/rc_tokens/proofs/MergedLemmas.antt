@@ -6,25 +6,19 @@ use Rattle.std.proofs.lemmas.List.Sorted.{All-permutation, Contains-permutation,
 use Rattle.rc_pattern.specs.Re.{Range}
 use Rattle.rc_tokens.specs.ClassView.{pair, pairs}
 use Rattle.rc_tokens.specs.Classes.{next, joins, canonical, is_code, AreCodes}
+use Rattle.rc_tokens.specs.Members.{In, Has, InOrder}
 use Rattle.rc_tokens.specs.Merged.{is_range, are_ranges, merges, merged}
 use Rattle.rc_tokens.specs.declared.classes.CodeRange.{CodeRange}
 use Rattle.rc_tokens.proofs.StepLemmas.{and_parts}
-use Rattle.rc_tokens.proofs.ClassLemmas.{le_true, IsCode, code_is, if_elim, either, max_one, InOrder, next_above, canonical_codes, canonical_in_order, next_start, code_most, start_code}
+use Rattle.rc_tokens.proofs.ClassLemmas.{le_true, IsCode, code_is, if_elim, either, max_one, next_above, canonical_codes, canonical_in_order, next_start, code_most, start_code}
 
 -- ---- what stands in ranges
 
-abbrev In : Range → ℕ → Type 0
-In r c = (r.0 ≤ c) × (c ≤ r.1)
-
-abbrev Has : List Range → ℕ → Type 0
-Has [] c = ⊥
-Has (r ∷ rs) c = In r c ⊎ Has rs c
-
 -- two lists have the same codes
-abbrev Alike : Bool → List Range → List Range → Type 0
+abbrev pub Alike : Bool → List Range → List Range → Type 0
 Alike u xs ys = (c : ℕ) → IsCode u c → Has xs c → Has ys c
 
-next_least : (u : Bool) (a c : ℕ) → IsCode u c → a < c → next u a ≤ c
+pub next_least : (u : Bool) (a c : ℕ) → IsCode u c → a < c → next u a ≤ c
 next_least true a c h l = if_elim (λ x. x ≤ c) (a == 0xD7FF) 0xE000 (a + 1)
     (λ e. let is = eqb-true a 0xD7FF e in ⊎_elim (λ below. absurd (omega (arith, below, is, l))) (λ (above, _). omega (arith, above)) h)
     (λ _. omega (arith, l))
@@ -71,11 +65,11 @@ joins_from u r (q ∷ qs) c g =
     (λ _. joins_from u (min r.0 q.0, max r.1 q.1) qs c
     (⊎_elim (λ (a, b). inl (omega (arith, a), omega (arith, b))) (λ m. ⊎_elim (λ (a, b). inl (omega (arith, a), omega (arith, b))) (λ t. inr t) m) g)))
 
-canonical_to : (u : Bool) (rs : List Range) → Alike u (canonical u rs) rs
+pub canonical_to : (u : Bool) (rs : List Range) → Alike u (canonical u rs) rs
 canonical_to u [] c k g = g
 canonical_to u (r ∷ rs) c k g = ⊎_elim (λ w. inl w) (λ t. inr (canonical_to u rs c k t)) (joins_to u r (canonical u rs) c k g)
 
-canonical_from : (u : Bool) (rs : List Range) → Alike u rs (canonical u rs)
+pub canonical_from : (u : Bool) (rs : List Range) → Alike u rs (canonical u rs)
 canonical_from u [] c k g = g
 canonical_from u (r ∷ rs) c k g = joins_from u r (canonical u rs) c (⊎_elim (λ w. inl w) (λ t. inr (canonical_from u rs c k t)) g)
 
@@ -159,7 +153,7 @@ at_least u n (r ∷ rs) c h g =
     (λ t. let later = at_least u (suc (next u r.1)) rs c h.2 t in let above = next_above u r.1 in omega (arith, later, above, first, order)) g
 
 -- the first range begins at the least code
-first_least : (u : Bool) (n : ℕ) (q : Range) (qs : List Range) (c : ℕ) → InOrder u n (q ∷ qs) → Has (q ∷ qs) c → q.0 ≤ c
+pub first_least : (u : Bool) (n : ℕ) (q : Range) (qs : List Range) (c : ℕ) → InOrder u n (q ∷ qs) → Has (q ∷ qs) c → q.0 ≤ c
 first_least u n q qs c h g = at_least u q.0 (q ∷ qs) c (omega arith, h.1, h.2) g
 
 -- it ends no earlier than that of a list with as many codes

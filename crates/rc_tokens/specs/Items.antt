@@ -1,3 +1,4 @@
+-- Only proofs use this file.
 -- The ranges of a list, an item at a time.
 use Rattle.std.specs.Prelude.{ℕ, Bool, true, false, nat_le, List, [], ◌∷◌, ◌++◌, Option, Some, None}
 use Rattle.rc_pattern.specs.Re.{Range}

@@ -8,3 +8,4 @@ pub mod ClassView
 pub mod Items
 pub mod Laws
 pub mod Merged
+pub mod Members

@@ -1,3 +1,4 @@
+-- Only proofs use this file.
 -- Ranges that stand in the order of where they begin, joined in one pass.
 use Rattle.std.specs.Prelude.{Bool, true, ◌&&◌, nat_le, nat_lt, List, [], ◌∷◌, if◌then◌else◌, max}
 use Rattle.rc_pattern.specs.Re.{Range}

@@ -1,3 +1,4 @@
+-- Only proofs use this file.
 -- What the values of the reader of marks stand for.
 use Rattle.std.specs.Prelude.{◌≡◌, ◌⊎◌, ℕ, List, Option, Some, None, Result, MatchOption, MatchResult, string_bytes}
 use Rattle.std.specs.Borrow.{Bor}

@@ -5,6 +5,7 @@ ghost use Rattle.rc_pattern.specs.Re.{Range};
 ghost use Rattle.rc_tokens.specs.ClassView.{pair, pairs};
 ghost use Rattle.rc_tokens.specs.Classes.{set_ranges, perl_ranges, code_of, items, led_items, list_ranges};
 ghost use Rattle.rc_tokens.specs.Laws.{ClassLaw, ListLaw};
+ghost use Rattle.rc_tokens.specs.Members.{MembersLaw};
 ghost use Rattle.rc_tokens.specs.Items.{Taken, is_hyphen, range_end, may_be_itself, ranged, item, more, led_more};
 ghost use Rattle.rc_tokens.specs.View.{Gives};
 
@@ -234,4 +235,10 @@ pub fn list_ranges(alloc: Global, unicode: bool, list: &List) -> Result<Vec<Code
 pub fn classes_ascend()
     ensures classes { ClassLaw }
     ensures lists { ListLaw }
+{}
+
+/// A code is in the class of a list exactly where one of the list's items has it, or its other case where letters are folded; in a
+/// negated class, exactly where none has. The ranges stand in order, and no two of them touch.
+pub fn classes_have_members()
+    ensures { MembersLaw }
 {}

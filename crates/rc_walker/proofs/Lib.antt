@@ -2,5 +2,4 @@ pub mod TextLemmas
 pub mod StepLemmas
 pub mod SlotLemmas
 pub mod SearchLemmas
-pub mod RunnableLemmas
 pub mod MarkLemmas

@@ -14,10 +14,10 @@ use Rattle.rc_program.specs.Program.{Place, choice, Way, stays, over_byte, over_
 use Rattle.rc_program.proofs.WayLemmas.{same_pair, no_way_from, ways_onward}
 use Rattle.rc_program.specs.Scalars.{scalar_at}
 use Rattle.rc_program.specs.Sought.{text_of}
-use Rattle.rc_compile.specs.Places.{place_of}
+use Rattle.rc_program.specs.Places.{place_of}
 use Rattle.rc_walker.proofs.TextLemmas.{same_text}
-use Rattle.rc_compile.specs.declared.place.Place as code
-use Rattle.rc_compile.specs.declared.place.Place.TheVariants as code_variants
+use Rattle.rc_program.specs.declared.place.Place as code
+use Rattle.rc_program.specs.declared.place.Place.TheVariants as code_variants
 use Rattle.rc_walker.specs.Frames.{pair_of, Ends, fresh_frame}
 use Rattle.rc_walker.specs.declared.frames.Frame.{Frame}
 

@@ -1,3 +1,4 @@
+-- Only proofs use this file.
 -- The walk that a search chose, as the answer names it.
 use Rattle.rc_program.specs.Answer.{Chosen}
 use Rattle.rc_walker.specs.declared.walker.Walk.{Walk}

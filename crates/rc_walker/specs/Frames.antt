@@ -1,3 +1,4 @@
+-- Only proofs use this file.
 -- The walk that a stack of frames holds.
 use Rattle.std.specs.Prelude.{◌≡◌, ℕ, ◌<◌, Vec, List, [], ◌∷◌, map, Option, Some, None, IsTrue, replicate, slice_index_or, slice_set}
 use Rattle.std.specs.declared.alloc.Global.{Global}

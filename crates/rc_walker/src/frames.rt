@@ -5,11 +5,12 @@ ghost use Rattle.rc_walks.specs.Walks.{IsFirstWalk, HasNoWalk};
 ghost use Rattle.rc_program.specs.Sought.{text_of};
 ghost use Rattle.rc_program.specs.Laws.{IsClosed};
 ghost use Rattle.rc_program.specs.Program.{ways, place_at, is_match_place};
-ghost use Rattle.rc_compile.specs.Places.{places_of};
+ghost use Rattle.rc_program.specs.Places.{places_of};
 ghost use Rattle.rc_walker.specs.Frames.{Ends, IsMarked, fresh_frame, walk_of};
 
 use crate::ways::way;
-use rc_compile::place::Place;
+use rc_program::place::Place;
+use rc_program::program::Program;
 use rc_text::cursor::Cursor;
 use rc_text::input::Input;
 use std::alloc::AllocError;
@@ -28,11 +29,11 @@ pub struct Frame {
 }
 
 /// The place is a match place of an allowed pattern; `None` allows all.
-fn is_match(places: &[Place], place: usize, only: Option<usize>) -> bool
-    requires { place < length places.now }
-    ensures { result ≡ is_match_place only (place_at (places_of places.now) place) }
+fn is_match(program: &Program, place: usize, only: Option<usize>) -> bool
+    requires { place < length program.now.places.items }
+    ensures { result ≡ is_match_place only (place_at (places_of program.now.places.items) place) }
 {
-    match &places[place] {
+    match &program.places[place] {
         Place::Accept(pattern) => match only {
             Some(only) => *pattern == only,
             None => true,
@@ -101,36 +102,32 @@ pub fn first_walk<C: Cursor>(
     input: &mut Input<C>,
     stack: &mut Vec<Frame>,
     marks: &mut [Option<usize>],
-    places: &[Place],
-    terminator: u8,
+    program: &Program,
     only: Option<usize>,
     hi: usize,
     start: usize,
 ) -> Result<bool, AllocError>
-    requires some { 0 < length places.now }
-    requires closed { IsClosed (places_of places.now) }
     requires low { input.old.slice.start ≤ start }
     requires start_in { start ≤ hi }
     requires hi_in { hi ≤ high input.old }
-    requires marked { IsMarked (length places.now) marks.old (reverse stack.old.items) }
+    requires marked { IsMarked (length program.now.places.items) marks.old (reverse stack.old.items) }
     ensures keeps { Keeps input.old input.new }
-    ensures marked { IfOk result (λ _. IsMarked (length places.now) marks.new (reverse stack.new.items)) }
+    ensures marked { IfOk result (λ _. IsMarked (length program.now.places.items) marks.new (reverse stack.new.items)) }
     ensures first { IfOk result (λ found. IsTrue found →
-        IsFirstWalk (ways (places_of places.now) (text_of terminator input.old) hi) (Ends only (places_of places.now)) []
+        IsFirstWalk (ways (places_of program.now.places.items) (text_of program.now.terminator input.old) hi) (Ends only (places_of program.now.places.items)) []
         ((0, start) ∷ []) (walk_of stack.new)) }
     ensures none { IfOk result (λ found. IsTrue (not found) →
-        HasNoWalk (ways (places_of places.now) (text_of terminator input.old) hi) (Ends only (places_of places.now)) [] ((0, start) ∷ [])) }
+        HasNoWalk (ways (places_of program.now.places.items) (text_of program.now.terminator input.old) hi) (Ends only (places_of program.now.places.items)) [] ((0, start) ∷ [])) }
 {
     unwind(stack, marks);
     enter(stack, marks, 0, start)?;
-    if is_match(places, 0, only) {
+    if is_match(program, 0, only) {
         return Ok(true);
     }
     'steps: while let Some(top) = stack.pop() {
         if let Some((place, position)) = way(
             input,
-            places,
-            terminator,
+            program,
             hi,
             top.place,
             top.position,
@@ -144,7 +141,7 @@ pub fn first_walk<C: Cursor>(
             })?;
             if !is_on(marks, place, position) {
                 enter(stack, marks, place, position)?;
-                if is_match(places, place, only) {
+                if is_match(program, place, only) {
                     return Ok(true);
                 }
             }

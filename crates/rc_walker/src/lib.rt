@@ -2,7 +2,5 @@
 #![tactic(auto)]
 
 mod frames;
-#[cfg(test)]
-mod tests;
 pub mod walker;
 mod ways;

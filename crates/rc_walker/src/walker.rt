@@ -7,13 +7,15 @@ ghost use Rattle.rc_text.specs.Text.{Keeps, high, is_boundary, low};
 ghost use Rattle.rc_text.specs.Found.{Found};
 ghost use Rattle.rc_program.specs.Program.{accept, place_at};
 ghost use Rattle.rc_program.specs.Answer.{answer, chosen, groups, is_anchored, last_of, last_visit, only, pattern_at};
-ghost use Rattle.rc_program.specs.Sought.{anchoring_of, search_over, IsRunnable};
-ghost use Rattle.rc_compile.specs.Places.{places_of};
+ghost use Rattle.rc_program.specs.Sought.{anchoring_of};
+ghost use Rattle.rc_program.specs.Places.{places_of};
+ghost use Rattle.rc_program.specs.Programs.{search_of};
 ghost use Rattle.rc_walker.specs.Frames.{pair_of, slot_name, walk_of};
 ghost use Rattle.rc_walker.specs.Found.{chosen_of};
 
 use crate::frames::{Frame, first_walk};
-use rc_compile::place::Place;
+use rc_program::place::Place;
+use rc_program::program::Program;
 use rc_text::cursor::Cursor;
 use rc_text::input::{Input, high, is_boundary_at, low, move_to};
 use rc_text::types::{Anchored, Match, PatternID, Span};
@@ -79,13 +81,10 @@ fn allows<C: Cursor>(input: &mut Input<C>, passes_over: bool, walk: &Vec<Frame>)
 fn find_walk<C: Cursor>(
     alloc: Global,
     input: &mut Input<C>,
-    places: &[Place],
-    terminator: u8,
-    passes_over: bool,
+    program: &Program,
 ) -> Result<Option<Walk>, AllocError>
-    requires runnable { IsRunnable (places_of places.now) }
     ensures keeps { Keeps input.old input.new }
-    ensures found { IfOk result (λ w. option_map chosen_of w ≡ chosen (search_over (places_of places.now) terminator passes_over input.old)) }
+    ensures found { IfOk result (λ w. option_map chosen_of w ≡ chosen (search_of program.now input.old)) }
 {
     let only = only_of(input.get_anchored());
     let is_anchored = is_anchored(input.get_anchored());
@@ -93,19 +92,10 @@ fn find_walk<C: Cursor>(
     let hi = high(input);
     move_to(input, lo); // the first byte to be read
     let mut frames = Vec::new(alloc);
-    let mut marks = vec![in alloc; None; places.len()]?;
+    let mut marks = vec![in alloc; None; program.places.len()]?;
     for start in lo..last_start(lo, hi, is_anchored) + 1 {
-        if first_walk(
-            input,
-            &mut frames,
-            &mut marks,
-            places,
-            terminator,
-            only,
-            hi,
-            start,
-        )? {
-            if allows(input, passes_over, &frames) {
+        if first_walk(input, &mut frames, &mut marks, program, only, hi, start)? {
+            if allows(input, program.passes_over, &frames) {
                 return Ok(Some(Walk { start, frames }));
             }
         }
@@ -114,11 +104,10 @@ fn find_walk<C: Cursor>(
 }
 
 /// The pattern of a match place.
-fn pattern_of(places: &[Place], place: usize) -> PatternID
-    requires runnable { IsRunnable (places_of places.now) }
-    ensures { result ≡ pattern_at (place_at (places_of places.now) place) }
+fn pattern_of(program: &Program, place: usize) -> PatternID
+    ensures { result ≡ pattern_at (place_at (places_of program.now.places.items) place) }
 {
-    match places.get(place) {
+    match program.places.get(place) {
         Some(Place::Accept(pattern)) => match PatternID::new(*pattern) {
             Some(id) => id,
             None => PatternID::ZERO,
@@ -142,16 +131,13 @@ fn pattern_of(places: &[Place], place: usize) -> PatternID
 pub fn find<C: Cursor>(
     alloc: Global,
     input: &mut Input<C>,
-    places: &[Place],
-    terminator: u8,
-    passes_over: bool,
+    program: &Program,
 ) -> Result<Option<Match>, AllocError>
-    requires runnable { IsRunnable (places_of places.now) }
     ensures keeps { Keeps input.old input.new }
-    ensures found { IfOk result (λ m. m ≡ answer (search_over (places_of places.now) terminator passes_over input.old)) }
+    ensures found { IfOk result (λ m. m ≡ answer (search_of program.now input.old)) }
     ensures within { IfOk result (λ m. IfSome m (λ f. (low input.old ≤ f.start) × (f.start ≤ f.end) × (f.end ≤ high input.old))) }
 {
-    match find_walk(alloc, input, places, terminator, passes_over)? {
+    match find_walk(alloc, input, program)? {
         None => Ok(None),
         Some(walk) => {
             let (place, end) = end_of(&walk.frames);
@@ -159,7 +145,7 @@ pub fn find<C: Cursor>(
                 start: walk.start,
                 end,
             };
-            Ok(Some(Match::new(pattern_of(places, place), span)))
+            Ok(Some(Match::new(pattern_of(program, place), span)))
         }
     }
 }
@@ -174,10 +160,10 @@ fn put(slots: &mut [Option<usize>], slot: usize, position: usize)
 }
 
 /// The slot that a place names.
-fn slot_at(places: &[Place], place: usize) -> Option<usize>
-    ensures { result ≡ slot_name (place_at (places_of places.now) place) }
+fn slot_at(program: &Program, place: usize) -> Option<usize>
+    ensures { result ≡ slot_name (place_at (places_of program.now.places.items) place) }
 {
-    match places.get(place) {
+    match program.places.get(place) {
         Some(Place::Slot(slot, _)) => Some(*slot),
         Some(
             Place::Choice(_, _)
@@ -202,12 +188,12 @@ fn clear(slots: &mut [Option<usize>])
 
 /// Writes into each slot the position of the walk's last visit to a place that names it, and empties
 /// the others.
-fn note_visits(places: &[Place], frames: &Vec<Frame>, slots: &mut [Option<usize>])
-    ensures { slots.new ≡ map (λ k. last_visit (places_of places.now) k (walk_of frames.now)) (range_with_len 0 (length slots.old)) }
+fn note_visits(program: &Program, frames: &Vec<Frame>, slots: &mut [Option<usize>])
+    ensures { slots.new ≡ map (λ k. last_visit (places_of program.now.places.items) k (walk_of frames.now)) (range_with_len 0 (length slots.old)) }
 {
     clear(slots);
     'visits: for frame in frames {
-        if let Some(slot) = slot_at(places, frame.place) {
+        if let Some(slot) = slot_at(program, frame.place) {
             put(slots, slot, frame.position);
         }
     }
@@ -218,28 +204,25 @@ fn note_visits(places: &[Place], frames: &Vec<Frame>, slots: &mut [Option<usize>
 pub fn find_slots<C: Cursor>(
     alloc: Global,
     input: &mut Input<C>,
-    places: &[Place],
-    terminator: u8,
-    passes_over: bool,
+    program: &Program,
     slots: &mut [Option<usize>],
 ) -> Result<Option<PatternID>, AllocError>
-    requires runnable { IsRunnable (places_of places.now) }
     ensures keeps { Keeps input.old input.new }
     ensures pattern { IfOk result (λ p. p
-        ≡ option_map (λ (m : Found). m.pattern) (answer (search_over (places_of places.now) terminator passes_over input.old))) }
+        ≡ option_map (λ (m : Found). m.pattern) (answer (search_of program.now input.old))) }
     ensures long { length slots.new ≡ length slots.old }
     ensures slots { IfOk result (λ p. MatchOption p
         (slots.new ≡ slots.old)
-        (λ _. Some slots.new ≡ groups (search_over (places_of places.now) terminator passes_over input.old) (length slots.old))) }
+        (λ _. Some slots.new ≡ groups (search_of program.now input.old) (length slots.old))) }
     ensures kept { IfErr result (λ _. slots.new ≡ slots.old) }
 {
-    match find_walk(alloc, input, places, terminator, passes_over)? {
+    match find_walk(alloc, input, program)? {
         None => Ok(None),
         Some(walk) => {
             let (place, end) = end_of(&walk.frames);
-            let pattern = pattern_of(places, place);
+            let pattern = pattern_of(program, place);
             let own = 2 * pattern.as_usize();
-            note_visits(places, &walk.frames, slots);
+            note_visits(program, &walk.frames, slots);
             put(slots, own + 1, end);
             put(slots, own, walk.start);
             Ok(Some(pattern))

@@ -6,11 +6,12 @@ ghost use Rattle.rc_program.specs.Text.{ahead, holds};
 ghost use Rattle.rc_program.specs.Scalars.{scalar_at};
 ghost use Rattle.rc_program.specs.Sought.{text_of};
 ghost use Rattle.rc_program.specs.Program.{in_ranges, pair_at, place_at, ways, ways_out};
-ghost use Rattle.rc_compile.specs.Places.{place_of, places_of};
+ghost use Rattle.rc_program.specs.Places.{place_of, places_of};
 
-use rc_compile::place::Place;
 use rc_pattern::hir::{ClassBytesRange, ClassUnicodeRange, Look};
 use rc_program::look::{holds, scalar_at};
+use rc_program::place::Place;
+use rc_program::program::Program;
 use rc_text::cursor::Cursor;
 use rc_text::input::{Input, around, byte_at};
 
@@ -132,24 +133,29 @@ fn first_way<C: Cursor>(
 /// The way out of a place with this number, counted from 0.
 pub fn way<C: Cursor>(
     input: &mut Input<C>,
-    places: &[Place],
-    terminator: u8,
+    program: &Program,
     hi: usize,
     place: usize,
     position: usize,
     number: usize,
 ) -> Option<(usize, usize)>
-    requires place_in { place < length places.now }
+    requires place_in { place < length program.now.places.items }
     requires low { input.old.slice.start ≤ position }
     requires position_in { position ≤ hi }
     requires hi_in { hi ≤ high input.old }
     ensures keeps { Keeps input.old input.new }
-    ensures value { result ≡ slice_get (ways (places_of places.now) (text_of terminator input.old) hi (place, position)) number }
+    ensures value { result ≡ slice_get (ways (places_of program.now.places.items) (text_of program.now.terminator input.old) hi (place, position)) number }
 {
     if number == 0 {
-        return first_way(input, &places[place], terminator, hi, position);
+        return first_way(
+            input,
+            &program.places[place],
+            program.terminator,
+            hi,
+            position,
+        );
     }
-    match &places[place] {
+    match &program.places[place] {
         Place::Choice(_, second) => {
             if number == 1 {
                 Some((*second, position))

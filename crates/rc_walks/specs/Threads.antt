@@ -1,3 +1,4 @@
+-- Only proofs use this file.
 -- Threads in order, and the first of them from which a walk leads on.
 use Rattle.std.specs.Prelude.{◌≡◌, ℕ, ◌<◌, List, [], ◌∷◌, map, Option, Some}
 use Rattle.rc_walks.specs.Walks.{Pair, IsFirstWalk, HasNoWalk}

@@ -1,12 +1,22 @@
 -- The matches that are listed for a whole content.
-use Rattle.std.proofs.Common.{◌≡◌, ℕ, List, [], ◌∷◌, Bool, Option, None, ap, subst, ◌∙◌}
+use Rattle.std.proofs.Common.{◌≡◌, ℕ, List, [], ◌∷◌, Bool, Option, None, Some, Result, Ok, Err, IfErr, ap, subst, ◌∙◌}
+use Rattle.std.specs.Result.{IsErrAnd}
+use Rattle.std.specs.Borrow.{Bor}
+use Rattle.rc_text.specs.Joined.{IsTooLong}
 use Rattle.rc_text.specs.Found.{Found}
 use Rattle.rc_text.specs.Text.{Searched}
 use Rattle.rc_pattern.specs.Re.{Re}
 use Rattle.rc_program.specs.Answer.{Search}
 use Rattle.rc_program.specs.Sought.{search_for}
 use Rattle.rc_program.specs.Matches.{matches_left}
-use Rattle.rc_build.specs.Settings.{Settings, unset}
+use Rattle.rc_parser.specs.Settings.{default_settings}
+use Rattle.rc_build.specs.Refusals.{IsBuildable}
+use Rattle.rc_build.specs.TextRefusals.{AllRead}
+use Rattle.rc_build.proofs.TextLemmas.{one_read}
+use Rattle.regex_cursor.specs.declared.run.error.RunError.{RunError}
+use Rattle.regex_cursor.specs.declared.run.error.RunError.TheVariants.{Memory, Write}
+use Rattle.regex_cursor.specs.Faults.{IsBuilt, IsFault}
+use Rattle.rc_settings.specs.Settings.{Settings, unset}
 use Rattle.rc_meta.specs.Fits.{sought_by}
 use Rattle.regex_cursor.specs.Output.{IsPut, IsWhole, matches_in, whole}
 
@@ -21,3 +31,19 @@ listed_whole st hs s p content e f w =
 
 pub put_as : (a b : Option (List ℕ)) (xs ys : List Found) (found : Bool) → xs ≡ ys → IsPut xs a b found → IsPut ys a b found
 put_as a b xs ys found e = subst (λ (ms : List Found). IsPut ms a b found) e
+
+-- the text is read as the one pattern, which was built
+pub built : (text : List ℕ) (hs : List Re) → AllRead default_settings (text ∷ []) hs → IsBuildable (Some 10485760) hs → IsBuilt text
+built text hs read ok =
+    let (p, patterns, as_it) = one_read default_settings text hs read in
+    (p, as_it, subst (IsBuildable (Some 10485760)) patterns ok)
+
+-- the faults that come once it was built, and the chunks were measured
+pub memory_fault : (r : Result Bool RunError) (text : List ℕ) (chunks : List (Bor (List ℕ))) → r ≡ Err Memory → IsBuilt text → ¬ IsTooLong chunks →
+    IfErr r (IsFault text chunks)
+memory_fault r text chunks is ok short = rw is (ok, short)
+
+pub write_fault : (r : Result Bool RunError) (e : RunError) (text : List ℕ) (chunks : List (Bor (List ℕ))) → IsErrAnd r (λ f. f ≡ e) → e ≡ Write →
+    IsBuilt text → ¬ IsTooLong chunks → IfErr r (IsFault text chunks)
+write_fault (Ok b) e text chunks same told ok short = tt
+write_fault (Err f) e text chunks same told ok short = rw (same ∙ told) (ok, short)

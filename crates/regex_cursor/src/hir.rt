@@ -2,5 +2,5 @@
 
 pub use rc_pattern::hir::{
     Capture, Class, ClassBytesRange, ClassUnicodeRange, Dot, Hir, HirKind, Look, LookSet,
-    Properties, Repetition,
+    LookSetIter, Properties, Repetition,
 };

@@ -8,8 +8,6 @@ pub mod input;
 pub mod prefilter;
 pub mod run;
 pub mod syntax;
-#[cfg(test)]
-mod tests;
 pub mod thompson;
 pub mod types;
 pub mod util;

@@ -3,12 +3,12 @@
 ghost use Rattle.std.specs.Prelude.{◌≡◌, ◌+◌, ◌<◌, ◌^◌, [], ◌∷◌, ◌++◌, IfOk, map, vec_len};
 ghost use Rattle.rc_pattern.specs.Meaning.{meaning, cat_all, alt_all, class_meaning, capture_meaning, repetition_meaning};
 ghost use Rattle.rc_program.specs.Program.{part, literal_part, body_or_out};
-ghost use Rattle.rc_compile.specs.Places.{place_of, places_of};
+ghost use Rattle.rc_program.specs.Places.{place_of, places_of};
 ghost use Rattle.rc_compile.specs.Shown.{laid};
 
 use super::sizes::size;
-use crate::place::Place;
 use rc_pattern::hir::{Capture, Class, Hir, HirKind, Repetition};
+use rc_program::place::Place;
 use std::alloc::AllocError;
 
 /// No pattern that is light enough for a program has a group of a greater number.

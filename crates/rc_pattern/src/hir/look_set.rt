@@ -1,24 +1,53 @@
 //! Sets of assertions.
 
-ghost use Rattle.std.specs.Prelude.{◌≡◌, true, false, ◌&&◌, ◌||◌};
-ghost use Rattle.rc_pattern.specs.Properties.{look_number, same_look};
-ghost use Rattle.rc_pattern.specs.LookSets.{has, HasOnly};
+ghost use Rattle.std.specs.Prelude.{◌≡◌, ◌<◌, ◌^◌};
+ghost use Rattle.rc_pattern.specs.Properties.{look_number};
 
 use super::Look;
+use std::fmt::{self, Debug, Formatter, Write};
+
+/// The assertions in the order of their numbers.
+const LOOKS: [Look; 18] = [
+    Look::Start,
+    Look::End,
+    Look::StartLF,
+    Look::EndLF,
+    Look::StartCRLF,
+    Look::EndCRLF,
+    Look::WordAscii,
+    Look::WordAsciiNegate,
+    Look::WordUnicode,
+    Look::WordUnicodeNegate,
+    Look::WordStartAscii,
+    Look::WordEndAscii,
+    Look::WordStartUnicode,
+    Look::WordEndUnicode,
+    Look::WordStartHalfAscii,
+    Look::WordEndHalfAscii,
+    Look::WordStartHalfUnicode,
+    Look::WordEndHalfUnicode,
+];
 
 /// A set of assertions.
-#[derive(Clone, Copy, Debug, PartialEq, Eq)]
+#[derive(Clone, Copy, PartialEq, Eq)]
 pub struct LookSet {
+    /// The bit of an assertion's number is set where the set has it, and no other bit is.
     bits: u32,
+    ghost small: { bits < 2 ^ 18 },
 }
 
 fn number_of(look: Look) -> u32
-    ensures { result ≡ look_number look }
+    ensures value { result ≡ look_number look }
+    ensures small { result < 18 }
 {
     look as u32
 }
 
 impl LookSet {
+    ghost use Rattle.std.specs.Prelude.{true, false, ◌&&◌, ◌||◌};
+    ghost use Rattle.rc_pattern.specs.Properties.{same_look};
+    ghost use Rattle.rc_pattern.specs.LookSets.{has, HasOnly, looks_of, looks_left};
+
     /// The set of no assertion.
     pub(super) fn empty() -> LookSet
         ensures { HasOnly result (λ k. false) }
@@ -30,7 +59,7 @@ impl LookSet {
     pub(super) fn full() -> LookSet
         ensures { HasOnly result (λ k. true) }
     {
-        LookSet { bits: u32::MAX }
+        LookSet { bits: 0x3_FFFF }
     }
 
     /// The set of this assertion.
@@ -49,6 +78,16 @@ impl LookSet {
         (self.bits >> number_of(look)) & 1 == 1
     }
 
+    /// The assertions of the set, each once, in the order of `Look`.
+    pub fn iter(&self) -> LookSetIter
+        ensures { looks_left result ≡ looks_of self.now }
+    {
+        LookSetIter {
+            set: *self,
+            left: &LOOKS,
+        }
+    }
+
     /// The assertions of either set.
     pub(super) fn union(self, other: LookSet) -> LookSet
         ensures { HasOnly result (λ k. has self k || has other k) }
@@ -65,5 +104,40 @@ impl LookSet {
         LookSet {
             bits: self.bits & other.bits,
         }
+    }
+}
+
+/// Its assertions in braces, as `{Start, EndLF}`.
+impl Debug for LookSet {
+    fn fmt<W: Write>(&self, f: &mut Formatter<W>) -> fmt::Result {
+        f.debug_set().entries(self.iter()).finish()
+    }
+}
+
+/// The assertions of a set that are left, in the order of `Look`.
+#[derive(Clone, Debug, Drop)]
+pub struct LookSetIter {
+    set: LookSet,
+    left: &'static [Look],
+}
+
+impl Iterator for LookSetIter {
+    ghost use Rattle.std.specs.Iterator.{YieldsFirst, item_count};
+    ghost use Rattle.rc_pattern.specs.LookSets.{looks_left};
+
+    type Item = Look;
+
+    ghost next_gives = { YieldsFirst looks_left };
+
+    ghost remaining = { item_count looks_left };
+
+    fn next(&mut self) -> Option<Look> {
+        while let Some((look, others)) = self.left.split_first() {
+            self.left = others;
+            if self.set.contains(*look) {
+                return Some(*look);
+            }
+        }
+        None
     }
 }

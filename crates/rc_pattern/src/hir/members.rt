@@ -1,15 +1,17 @@
 //! The members of concatenations and alternations.
 
-ghost use Rattle.std.specs.Prelude.{◌≡◌, List, ◌++◌, ◌∷◌, [], IfOk, OnOk, map};
+ghost use Rattle.std.specs.Prelude.{◌≡◌, List, ◌++◌, ◌∷◌, [], IfOk, OnOk, IsTrue, map};
 ghost use Rattle.std.specs.List.{flat_map};
 ghost use Rattle.rc_pattern.specs.Re.{Re, literal};
 ghost use Rattle.rc_pattern.specs.Meaning.{meaning, kind_meaning, cat_members, alt_members, joined};
+ghost use Rattle.rc_pattern.specs.Kinds.{has_plain_nodes, kind_has_plain_nodes, all_have_plain_nodes};
 
 use super::{Hir, HirKind};
 use std::alloc::{AllocError, Global};
 
 fn put(members: &mut Vec<Hir>, kind: HirKind) -> Result<(), AllocError>
-    ensures { OnOk result (map meaning members.new.items ≡ map meaning members.old.items ++ kind_meaning kind ∷ []) }
+    ensures meaning { OnOk result (map meaning members.new.items ≡ map meaning members.old.items ++ kind_meaning kind ∷ []) }
+    ensures kind { OnOk result (IsTrue (all_have_plain_nodes members.old.items) → IsTrue (kind_has_plain_nodes kind) → IsTrue (all_have_plain_nodes members.new.items)) }
 {
     members.push(Hir { kind })?;
     Ok(())
@@ -17,7 +19,8 @@ fn put(members: &mut Vec<Hir>, kind: HirKind) -> Result<(), AllocError>
 
 /// Appends what the pattern stands for in a concatenation.
 fn put_cat_members(members: &mut Vec<Hir>, sub: Hir) -> Result<(), AllocError>
-    ensures { OnOk result (map meaning members.new.items ≡ map meaning members.old.items ++ cat_members (meaning sub)) }
+    ensures meaning { OnOk result (map meaning members.new.items ≡ map meaning members.old.items ++ cat_members (meaning sub)) }
+    ensures kind { OnOk result (IsTrue (all_have_plain_nodes members.old.items) → IsTrue (has_plain_nodes sub) → IsTrue (all_have_plain_nodes members.new.items)) }
 {
     let Hir { kind } = sub;
     match kind {
@@ -33,8 +36,9 @@ fn put_cat_members(members: &mut Vec<Hir>, sub: Hir) -> Result<(), AllocError>
 
 /// Appends a literal, joined to the last member where that is one too.
 fn append_literal(members: &mut Vec<Hir>, bytes: Vec<u8>) -> Result<(), AllocError>
-    ensures { OnOk result ((xs : List Re) → map meaning members.old.items ≡ joined xs
+    ensures meaning { OnOk result ((xs : List Re) → map meaning members.old.items ≡ joined xs
         → map meaning members.new.items ≡ joined (xs ++ literal bytes.items ∷ [])) }
+    ensures kind { OnOk result (IsTrue (all_have_plain_nodes members.old.items) → IsTrue (all_have_plain_nodes members.new.items)) }
 {
     let Some(Hir { kind }) = members.pop() else {
         return put(members, HirKind::Literal(bytes));
@@ -55,8 +59,9 @@ fn append_literal(members: &mut Vec<Hir>, bytes: Vec<u8>) -> Result<(), AllocErr
 
 /// Appends a member, where neighbouring literals are joined.
 fn append(members: &mut Vec<Hir>, member: Hir) -> Result<(), AllocError>
-    ensures { OnOk result ((xs : List Re) → map meaning members.old.items ≡ joined xs
+    ensures meaning { OnOk result ((xs : List Re) → map meaning members.old.items ≡ joined xs
         → map meaning members.new.items ≡ joined (xs ++ meaning member ∷ [])) }
+    ensures kind { OnOk result (IsTrue (all_have_plain_nodes members.old.items) → IsTrue (has_plain_nodes member) → IsTrue (all_have_plain_nodes members.new.items)) }
 {
     let Hir { kind } = member;
     match kind {
@@ -67,7 +72,8 @@ fn append(members: &mut Vec<Hir>, member: Hir) -> Result<(), AllocError>
 
 /// Appends what the pattern stands for in an alternation.
 fn put_alt_members(members: &mut Vec<Hir>, sub: Hir) -> Result<(), AllocError>
-    ensures { OnOk result (map meaning members.new.items ≡ map meaning members.old.items ++ alt_members (meaning sub)) }
+    ensures meaning { OnOk result (map meaning members.new.items ≡ map meaning members.old.items ++ alt_members (meaning sub)) }
+    ensures kind { OnOk result (IsTrue (all_have_plain_nodes members.old.items) → IsTrue (has_plain_nodes sub) → IsTrue (all_have_plain_nodes members.new.items)) }
 {
     let Hir { kind } = sub;
     match kind {
@@ -82,7 +88,8 @@ fn put_alt_members(members: &mut Vec<Hir>, sub: Hir) -> Result<(), AllocError>
 
 /// The members of an alternation of these patterns.
 pub(super) fn all_alt_members(alloc: Global, subs: Vec<Hir>) -> Result<Vec<Hir>, AllocError>
-    ensures { IfOk result (λ members. map meaning members.items ≡ flat_map alt_members (map meaning subs.items)) }
+    ensures meaning { IfOk result (λ members. map meaning members.items ≡ flat_map alt_members (map meaning subs.items)) }
+    ensures kind { IfOk result (λ members. IsTrue (all_have_plain_nodes subs.items) → IsTrue (all_have_plain_nodes members.items)) }
 {
     let mut members = Vec::new(alloc);
     for sub in subs {
@@ -93,7 +100,8 @@ pub(super) fn all_alt_members(alloc: Global, subs: Vec<Hir>) -> Result<Vec<Hir>,
 
 /// The members of a concatenation of these patterns, but for the joining of literals.
 pub(super) fn all_cat_members(alloc: Global, subs: Vec<Hir>) -> Result<Vec<Hir>, AllocError>
-    ensures { IfOk result (λ members. map meaning members.items ≡ flat_map cat_members (map meaning subs.items)) }
+    ensures meaning { IfOk result (λ members. map meaning members.items ≡ flat_map cat_members (map meaning subs.items)) }
+    ensures kind { IfOk result (λ members. IsTrue (all_have_plain_nodes subs.items) → IsTrue (all_have_plain_nodes members.items)) }
 {
     let mut members = Vec::new(alloc);
     for sub in subs {
@@ -104,7 +112,8 @@ pub(super) fn all_cat_members(alloc: Global, subs: Vec<Hir>) -> Result<Vec<Hir>,
 
 /// The members with neighbouring literals joined.
 pub(super) fn joined_literals(alloc: Global, members: Vec<Hir>) -> Result<Vec<Hir>, AllocError>
-    ensures { IfOk result (λ all. map meaning all.items ≡ joined (map meaning members.items)) }
+    ensures meaning { IfOk result (λ all. map meaning all.items ≡ joined (map meaning members.items)) }
+    ensures kind { IfOk result (λ all. IsTrue (all_have_plain_nodes members.items) → IsTrue (all_have_plain_nodes all.items)) }
 {
     let mut all = Vec::new(alloc);
     for member in members {

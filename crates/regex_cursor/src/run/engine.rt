@@ -46,8 +46,9 @@ fn put_lines<W: Sink, C: Cursor + Drop>(
 /// Puts a line for each match of the pattern in the chunks, one after another, and tells whether
 /// there is one.
 ///
-/// The text is read and its pattern built first, both by the default settings. After any error but
-/// `Write` nothing was put.
+/// The text is read and its pattern built first, both by the default settings, so that any error but
+/// `Build` comes only where that can be done. After any error but `Write` nothing was put, and the
+/// sink has not failed.
 pub fn run<W: Sink>(
     alloc: Global,
     pattern: &str,
@@ -57,6 +58,7 @@ pub fn run<W: Sink>(
     requires { W.has_failed out.old ≡ false }
     ensures done { IfOk result (λ found. IsRun pattern.now (joined chunks.now) (W.taken out.old) (W.taken out.new) found) }
     ensures sound { OnOk result (W.has_failed out.new ≡ false) }
+    ensures unfailed { IfErr result (λ e. e ≢ RunError.Write → W.has_failed out.new ≡ false) }
     ensures write_failed { result ≡ Err RunError.Write → W.has_failed out.new ≡ true }
     ensures nothing_put { IfErr result (λ e. e ≢ RunError.Write → Keeps (W.taken out.old) (W.taken out.new)) }
     ensures fault { IfErr result (IsFault pattern.now chunks.now) }

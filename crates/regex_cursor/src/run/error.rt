@@ -1,6 +1,6 @@
 //! Why a run stops.
 
-use rc_build::error::BuildError;
+use rc_settings::error::BuildError;
 use rc_text::chunks::TooLong;
 use std::alloc::{AllocError, AllocFailed};
 use std::error::Error;

@@ -1,6 +1,6 @@
 use Rattle.std.proofs.Common.{◌≡◌, ◌≤◌, ◌++◌, ◌+◌, drop, length, vec_len}
 use Rattle.rc_program.specs.Laws.{heaviness}
-use Rattle.rc_compile.specs.Places.{places_of as sources_of}
+use Rattle.rc_program.specs.Places.{places_of as sources_of}
 use Rattle.rc_bytes.specs.Bytes.{byte_places, blocks}
 use Rattle.rc_bytes.specs.Places.{places_of}
 use Rattle.rc_bytes.proofs.program.byte_program.Given as goal

@@ -5,8 +5,8 @@ use Rattle.rc_pattern.specs.Meaning.{meaning}
 use Rattle.rc_pattern.specs.WellFormed.{HasBounds, IsWellFormed}
 use Rattle.rc_program.specs.Program.{program, shown}
 use Rattle.rc_program.specs.Sought.{IsRunnable, passes_over}
-use Rattle.rc_build.specs.Names.{is_grouped}
-use Rattle.rc_build.specs.Settings.{settings_of, line_terminator_of}
+use Rattle.rc_settings.specs.Which.{is_grouped}
+use Rattle.rc_settings.specs.Settings.{settings_of, line_terminator_of}
 use Rattle.rc_build.proofs.Runnable.{runnable}
 use Rattle.rc_engine.specs.Strategies.{IsSound}
 use Rattle.rc_meta.specs.Fits.{sought_by}

@@ -1,4 +1,5 @@
-use Rattle.std.proofs.Common.{◌≡◌, ◌∙◌, chars, subst, ℕ}
+use Rattle.std.proofs.Common.{◌≡◌, ◌∙◌, ap, chars, subst, ℕ}
+use Rattle.std.proofs.lemmas.Str.{chars-nil}
 use Rattle.rc_parser.specs.Settings.{settings_of}
 use Rattle.rc_parser.specs.Pieces.{Part}
 use Rattle.rc_parser.specs.Machine.{Has, fresh}
@@ -8,7 +9,9 @@ use Rattle.rc_parser.specs.declared.reader.Fault.{Fault}
 use Rattle.rc_parser.specs.declared.reader.Fault.TheVariants.{Syntax}
 use Rattle.rc_pattern.specs.Meaning.{meaning}
 use Rattle.rc_parser.proofs.StandLemmas.{well_formed}
-use Rattle.rc_parser.proofs.ReadLemmas.{reads_from_has, nothing_read}
+use Rattle.rc_parser.proofs.ReadLemmas.{reads_from_has, nothing_read, empty_read}
+use Rattle.rc_parser.specs.Grammar.{Reads}
+use Rattle.rc_pattern.proofs.PlainNodeLemmas.{kind_law}
 use Rattle.rc_parser.proofs.reader.parse.Goals as goal
 
 of_fault : (e : Fault) (left : ℕ) (P : Type 0) → e ≡ Syntax left → OnFault e P → P
@@ -24,6 +27,12 @@ returns-in-Ok-read-clause-well_formed c = well_formed (settings_of c.args.config
     (reads_from_has (settings_of c.args.config.now) (chars c.args.text.now) (part c.in-Ok-read.whole)
     (subst (λ t. Has (settings_of c.args.config.now) (fresh (settings_of c.args.config.now)) t (part c.in-Ok-read.whole))
     (c.deref.ensures.value ∙ c.in-Ok.ensures) c.in-Ok-read.ensures.reads))
+
+pub returns-in-Ok-read-clause-empty : goal.returns-in-Ok-read-clause-empty
+returns-in-Ok-read-clause-empty c = λ none.
+    let s = settings_of c.args.config.now in
+    let reads = subst (λ t. Reads s t (meaning c.in-Ok-read.whole.hir)) (ap chars none ∙ chars-nil) (returns-in-Ok-read-clause-reads c) in
+    kind_law c.in-Ok-read.whole.hir c.in-Ok-read.whole.plain (empty_read s (meaning c.in-Ok-read.whole.hir) reads)
 
 pub returns-clause-reads : goal.returns-clause-reads
 returns-clause-reads c = (

@@ -1,17 +1,17 @@
-use Rattle.std.proofs.Common.{◌+◌, ◌-◌, ◌*◌, ◌≤◌, length, reverse, vec_len, vec_capacity}
-use Rattle.rc_pass.specs.Moves.{seen}
+use Rattle.std.proofs.Common.{◌+◌, ◌-◌, ◌*◌, ◌≤◌, length, reverse, vec_len}
+use Rattle.rc_pass.specs.Near.{seen_from, size}
 use Rattle.rc_pass.specs.Passing.{IsClosing}
 use Rattle.rc_pass.proofs.closure.close.Given as goal
 
 abbrev pub invariant-frames : goal.invariant-frames
 invariant-frames g l = record {
-  closing : IsClosing (seen l.places l.terminator g.text) (length l.places) l.hi l.start l.at l.root l.fn.threads l.fn.entered l.fn.slots
-      l.threads l.entered (reverse l.stack.items) l.slots;
-  deep : (vec_len l.stack ≤ length l.entered.items + 1) × (length l.places + 1 ≤ vec_capacity l.stack);
+  closing : IsClosing (seen_from l.spot g.text) (size l.spot.course) l.spot.course.hi l.start l.spot.at l.root l.fn.growth.threads l.fn.growth.entered l.fn.growth.slots.items
+      l.growth.threads l.growth.entered (reverse l.growth.stack.items) l.growth.slots.items;
+  deep : vec_len l.growth.stack ≤ length l.growth.entered.items + 1;
 }
 
 abbrev pub decreases-frames : goal.decreases-frames
-decreases-frames g l = 3 * (length l.places - length l.entered.items) + vec_len l.stack
+decreases-frames g l = 3 * (size l.spot.course - length l.growth.entered.items) + vec_len l.growth.stack
 
 abbrev pub ghost-visit : goal.ghost-visit
 ghost-visit g a = g.text

@@ -1,4 +1,4 @@
 use Rattle.rc_pass.proofs.closure.visit.Given as goal
 
-abbrev pub ghost-look_up : goal.ghost-look_up
-ghost-look_up g a = g.text
+abbrev pub ghost-enter : goal.ghost-enter
+ghost-enter g a = g.text

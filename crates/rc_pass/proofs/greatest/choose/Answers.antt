@@ -10,12 +10,12 @@ use Rattle.rc_pass.proofs.greatest.choose.Goals as goal
 
 pub returns-then-lo-hi-clause-chosen : goal.returns-then-lo-hi-clause-chosen
 returns-then-lo-hi-clause-chosen g c =
-    outside_greatest (seen c.args.places.now c.args.terminator c.args.input.now)
+    outside_greatest (seen c.args.program.now c.args.input.now)
     (omega (arith, c.if-lo-hi.true, c.bounds-lo.ensures.low, c.bounds-lo.ensures.high))
 
 pub returns-clause-chosen : goal.returns-clause-chosen
 returns-clause-chosen g c =
-    let s : Search = seen c.args.places.now c.args.terminator c.args.input.now in
+    let s : Search = seen c.args.program.now c.args.input.now in
     let last = last_found s c.starts_of-pattern.result.1 c.bounds-lo.result.0 c.bounds-lo.result.1 (anchoring_of c.get_anchored.result)
     c.starts_of-pattern.ensures.last c.bounds-lo.ensures.low c.bounds-lo.ensures.high
     (ap anchoring_of (c.get_anchored.ensures ∙ c.bounds-lo.ensures.keeps.anchored))
@@ -24,4 +24,4 @@ returns-clause-chosen g c =
     (omega (arith, c.if-lo-hi.false, c.bounds-lo.ensures.low, c.bounds-lo.ensures.high))
     (subst (λ x. IsTop (SomeSpells s [] (starting x c.starts_of-pattern.result.1)) (option_map span_of c.pass.result)) c.bounds-lo.ensures.low
     (subst (λ q. IsTop (SomeSpells q [] (starting c.bounds-lo.result.0 c.starts_of-pattern.result.1)) (option_map span_of c.pass.result))
-    (kept_seen c.args.places.now c.args.terminator c.args.input.now c.bounds-lo.new.input c.bounds-lo.ensures.keeps) c.pass.ensures.top))
+    (kept_seen c.args.program.now c.args.input.now c.bounds-lo.new.input c.bounds-lo.ensures.keeps) c.pass.ensures.top))

@@ -1,6 +1,6 @@
-use Rattle.std.proofs.Common.{◌≡◌, ℕ, ◌+◌, List, ◌∷◌, length, sym, ap, subst, ◌∙◌, arith, None, replicate}
+use Rattle.std.proofs.Common.{◌≡◌, ℕ, ◌+◌, List, ◌∷◌, sym, ap, subst, ◌∙◌, arith, None, replicate}
 use Rattle.rc_walks.specs.Walks.{Pair}
-use Rattle.rc_pass.specs.Moves.{seen}
+use Rattle.rc_pass.specs.Near.{seen_from}
 use Rattle.rc_pass.specs.Trace.{Trace, trace}
 use Rattle.rc_pass.specs.Passing.{Carries, waiting_starts}
 use Rattle.rc_pass.proofs.StartLemmas.{waiting_next}
@@ -23,26 +23,30 @@ returns-clause-begun g c x l h = c.in_default-close.ensures.grown.begun x l (c.i
 
 pub returns-in-Some-close-clause-carries : goal.returns-in-Some-close-clause-carries
 returns-in-Some-close-clause-carries g c best o x =
-    let at : ℕ = c.args.at in
-    let width : ℕ = length c.args.slots.now in
-    let rest : List (Trace × Pair) = waiting_starts c.args.is_open width (at + 1) c.args.last in
-    let next = waiting_next c.args.is_open width at c.args.last c.if-not-is_open.false (omega (arith, c.if-at-last.false)) in
-    let slots : c.empty.new.slots ≡ replicate width None = c.empty.ensures ∙ ap (λ n. replicate n None) (omega (arith, c.step.auto.slots)) in
-    c.in_default.ensures.carries (waiting_starts c.args.is_open width at c.args.last) best o
-    (subst (λ ts. Carries (seen c.args.places.now c.args.terminator g.text) at c.step.new.threads.items c.step.new.entered.items ts best o) (sym next)
-    (subst (λ l. Carries (seen c.args.places.now c.args.terminator g.text) at c.step.new.threads.items c.step.new.entered.items
+    let at : ℕ = c.args.spot.now.at in
+    let width : ℕ = c.args.growth.now.threads.width in
+    let last : ℕ = c.args.spot.now.course.last in
+    let rest : List (Trace × Pair) = waiting_starts c.args.is_open width (at + 1) last in
+    let next = waiting_next c.args.is_open width at last c.if-not-is_open.false (omega (arith, c.if-spot.false)) in
+    let slots : c.empty.new.slots.items ≡ replicate width None =
+    c.empty.ensures.slots ∙ ap (λ n. replicate n None) (c.step.new.growth.wide.0 ∙ c.in_default.ensures.same.2) in
+    c.in_default.ensures.carries (waiting_starts c.args.is_open width at last) best o
+    (subst (λ ts. Carries (seen_from c.args.spot.now g.text) at c.step.new.growth.threads.items c.step.new.growth.entered.items ts best o) (sym next)
+    (subst (λ l. Carries (seen_from c.args.spot.now g.text) at c.step.new.growth.threads.items c.step.new.growth.entered.items
     ((trace at l, (0, at)) ∷ rest) best o) slots
     (c.in-Some-close.ensures.carries rest best o x)))
 
 pub returns-clause-carries : goal.returns-clause-carries
 returns-clause-carries g c best o x =
-    let at : ℕ = c.args.at in
-    let width : ℕ = length c.args.slots.now in
-    let rest : List (Trace × Pair) = waiting_starts c.args.is_open width (at + 1) c.args.last in
-    let next = waiting_next c.args.is_open width at c.args.last c.if-not-is_open.false (omega (arith, c.if-at-last.false)) in
-    let slots : c.empty.new.slots ≡ replicate width None = c.empty.ensures ∙ ap (λ n. replicate n None) (omega (arith, c.step.auto.slots)) in
-    c.in_default.ensures.carries (waiting_starts c.args.is_open width at c.args.last) best o
-    (subst (λ ts. Carries (seen c.args.places.now c.args.terminator g.text) at c.step.new.threads.items c.step.new.entered.items ts best o) (sym next)
-    (subst (λ l. Carries (seen c.args.places.now c.args.terminator g.text) at c.step.new.threads.items c.step.new.entered.items
+    let at : ℕ = c.args.spot.now.at in
+    let width : ℕ = c.args.growth.now.threads.width in
+    let last : ℕ = c.args.spot.now.course.last in
+    let rest : List (Trace × Pair) = waiting_starts c.args.is_open width (at + 1) last in
+    let next = waiting_next c.args.is_open width at last c.if-not-is_open.false (omega (arith, c.if-spot.false)) in
+    let slots : c.empty.new.slots.items ≡ replicate width None =
+    c.empty.ensures.slots ∙ ap (λ n. replicate n None) (c.step.new.growth.wide.0 ∙ c.in_default.ensures.same.2) in
+    c.in_default.ensures.carries (waiting_starts c.args.is_open width at last) best o
+    (subst (λ ts. Carries (seen_from c.args.spot.now g.text) at c.step.new.growth.threads.items c.step.new.growth.entered.items ts best o) (sym next)
+    (subst (λ l. Carries (seen_from c.args.spot.now g.text) at c.step.new.growth.threads.items c.step.new.growth.entered.items
     ((trace at l, (0, at)) ∷ rest) best o) slots
     (c.in_default-close.ensures.carries rest best o x)))

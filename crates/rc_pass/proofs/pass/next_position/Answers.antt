@@ -6,7 +6,7 @@ use Rattle.rc_literal.proofs.StartLemmas.{needle_law}
 use Rattle.rc_pass.proofs.pass.next_position.Goals as goal
 
 pub returns-in_default-find_from-clause-next : goal.returns-in_default-find_from-clause-next
-returns-in_default-find_from-clause-next g c program line h =
+returns-in_default-find_from-clause-next g c h =
     let needles = needles_of c.in-Some.needles.now in
     let content = c.args.input.now.content in
     let guarded = rw c.in-Some.is at h in
@@ -16,7 +16,7 @@ returns-in_default-find_from-clause-next g c program line h =
     (c.if-not-idle.false, λ y low most. guarded false c.args.input.now y (omega (arith, most, c.requires.inside.1)) (none y low))
 
 pub returns-clause-next : goal.returns-clause-next
-returns-clause-next g c program line h =
+returns-clause-next g c h =
     let needles = needles_of c.in-Some.needles.now in
     let content = c.args.input.now.content in
     let hit = c.in-Some-find_from.hit in

@@ -1,7 +1,9 @@
-use Rattle.std.proofs.Common.{◌≡◌, ◌+◌, ◌*◌, ◌-◌, ◌≤◌, length, vec_len, vec_capacity}
+use Rattle.std.proofs.Common.{◌+◌, ◌-◌}
 use Rattle.rc_text.specs.Text.{Keeps}
 use Rattle.rc_pass.specs.Moves.{seen}
+use Rattle.rc_pass.specs.Near.{size}
 use Rattle.rc_pass.specs.Passing.{IsPassing}
+use Rattle.rc_pass.specs.Scratches.{IsSame}
 use Rattle.rc_pass.specs.Windows.{IsWindow, IsBegun}
 use Rattle.rc_pass.proofs.pass.pass.Given as goal
 
@@ -10,16 +12,16 @@ invariant-positions g l = record {
   keeps : Keeps g.text l.input;
   window : IsWindow g.text l.window;
   begun : IsBegun g.text l.at l.window;
-  passing : IsPassing (seen l.places l.terminator g.text) (length l.places) l.hi (length l.fn.slots) l.from l.last l.at l.insertions l.curr l.best l.found;
-  room : l.next.room ≡ 4 * length l.places;
-  most : (l.curr.most ≡ l.fn.curr.most) × (l.next.most ≡ l.fn.curr.most);
-  capacity : l.entered.capacity ≡ length l.places;
-  stack : (vec_len l.stack ≡ 0) × (length l.places + 1 ≤ vec_capacity l.stack);
-  widths : (length l.slots ≡ length l.fn.slots) × (length l.found ≡ length l.fn.slots);
+  passing : IsPassing (seen l.course.program.now g.text) (size l.course) l.course.hi l.fn.scratch.next.threads.width l.from l.course.last l.at
+      l.scratch.insertions l.scratch.curr l.best l.scratch.found.items;
+  same : IsSame l.fn.scratch l.scratch;
 }
 
 abbrev pub decreases-positions : goal.decreases-positions
-decreases-positions g l = l.hi + 1 - l.at
+decreases-positions g l = l.course.hi + 1 - l.at
+
+abbrev pub ghost-spot_at : goal.ghost-spot_at
+ghost-spot_at g a = g.text
 
 abbrev pub ghost-turn : goal.ghost-turn
 ghost-turn g a = g.text

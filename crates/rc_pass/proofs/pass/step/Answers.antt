@@ -1,45 +1,35 @@
-use Rattle.std.proofs.Common.{◌+◌, ◌<◌, length, sym, arith, length-drop, inl, inr, ⊎_elim, min}
+use Rattle.std.proofs.Common.{◌+◌, ◌<◌, sym, arith, length-drop, inl, inr, ⊎_elim, min}
 use Rattle.rc_program.specs.Answer.{Search}
-use Rattle.rc_pass.specs.Moves.{seen}
+use Rattle.rc_pass.specs.Near.{seen_from, size}
 use Rattle.rc_pass.specs.Threads.{thread_of}
 use Rattle.rc_pass.proofs.StepLemmas.{in_at, from_at, has_room, stepping_waits, stepping_closes, stepping_ends}
 use Rattle.rc_pass.proofs.pass.step.Goals as goal
 
 pub push-requires-clause-room : goal.push-requires-clause-room
 push-requires-clause-room g c =
-    has_room (seen c.args.places.now c.args.terminator g.text) (length c.args.places.now) c.args.hi c.args.at c.args.curr.now.items c.args.threads.now
-    c.threads.threads c.threads.entered c.threads.index (thread_of c.get.result.0 c.get.result.1.now) c.get.ensures.item c.requires.1.1.0
-    c.threads.invariant.stepping (omega (arith, c.if-head-at.true)) c.requires.1.1.1.1.1.1.0
+    has_room (seen_from c.args.spot.now g.text) (size c.args.spot.now.course) c.args.spot.now.course.hi c.args.spot.now.at c.args.curr.now.items c.args.growth.now.threads
+    c.threads.growth.threads c.threads.growth.entered c.threads.index (thread_of c.get.result.0 c.get.result.1.now) c.get.ensures.item c.requires.1.0
+    c.threads.invariant.stepping (omega (arith, c.if-head-spot.true)) c.requires.1.1.1.1.1
 
-pub threads-preserved-then-head-at : goal.threads-preserved-then-head-at
-threads-preserved-then-head-at g c =
-    let later : c.args.at < c.get.result.0.at = omega (arith, c.if-head-at.true) in
-    let room = has_room (seen c.args.places.now c.args.terminator g.text) (length c.args.places.now) c.args.hi c.args.at c.args.curr.now.items
-    c.args.threads.now c.threads.threads c.threads.entered c.threads.index (thread_of c.get.result.0 c.get.result.1.now) c.get.ensures.item
-    c.requires.1.1.0 c.threads.invariant.stepping later c.requires.1.1.1.1.1.1.0 in
+pub threads-preserved-then-head-spot : goal.threads-preserved-then-head-spot
+threads-preserved-then-head-spot g c =
+    let later : c.args.spot.now.at < c.get.result.0.at = omega (arith, c.if-head-spot.true) in
+    let room = has_room (seen_from c.args.spot.now g.text) (size c.args.spot.now.course) c.args.spot.now.course.hi c.args.spot.now.at c.args.curr.now.items
+    c.args.growth.now.threads c.threads.growth.threads c.threads.growth.entered c.threads.index (thread_of c.get.result.0 c.get.result.1.now) c.get.ensures.item
+    c.requires.1.0 c.threads.invariant.stepping later c.requires.1.1.1.1.1 in
     record {
-      stepping = stepping_waits (seen c.args.places.now c.args.terminator g.text) (length c.args.places.now) c.args.hi c.args.at
-          c.args.curr.now.items c.args.threads.now c.threads.threads c.threads.entered c.threads.index (thread_of c.get.result.0 c.get.result.1.now)
-          c.get.ensures.item c.requires.1.1.0 c.threads.invariant.stepping c.push.new.self later room c.requires.1.1.1.1.1.1.0 c.push.ensures;
-      stack = c.threads.invariant.stack;
+      stepping = stepping_waits (seen_from c.args.spot.now g.text) (size c.args.spot.now.course) c.args.spot.now.course.hi c.args.spot.now.at
+          c.args.curr.now.items c.args.growth.now.threads c.threads.growth.threads c.threads.growth.entered c.threads.index (thread_of c.get.result.0 c.get.result.1.now)
+          c.get.ensures.item c.requires.1.0 c.threads.invariant.stepping c.push.new.self later room c.requires.1.1.1.1.1 c.push.ensures;
     }
 
 pub close-requires : goal.close-requires
 close-requires g c = (
   c.requires.0,
   (
-    (in_at (length c.args.places.now) c.args.at (min c.args.hi (c.args.at + 3)) c.args.curr.now.items c.threads.index
-        (thread_of c.get.result.0 c.get.result.1.now) c.requires.1.1.0 c.get.ensures.item).0,
-    (
-      c.requires.1.0,
-      (
-        c.threads.invariant.stepping.sound,
-        (
-          omega (arith, c.copy_from_slice.ensures.len, c.threads.auto.slots, c.requires.1.1.1.0, c.threads.invariant.stepping.same_width),
-          c.threads.invariant.stack,
-        ),
-      ),
-    ),
+    (in_at (size c.args.spot.now.course) c.args.spot.now.at (min c.args.spot.now.course.hi (c.args.spot.now.at + 3)) c.args.curr.now.items c.threads.index
+        (thread_of c.get.result.0 c.get.result.1.now) c.requires.1.0 c.get.ensures.item).0,
+    c.threads.invariant.stepping.sound,
   ),
 )
 
@@ -50,11 +40,11 @@ returns-clause-ended g c =
 
 pub returns-in-Some-clause-carries : goal.returns-in-Some-clause-carries
 returns-in-Some-clause-carries g c below best o x =
-    let s : Search = seen c.args.places.now c.args.terminator g.text in
-    stepping_ends s (length c.args.places.now) c.args.hi c.args.at c.args.curr.now.items c.args.threads.now c.threads.threads c.threads.entered
-    c.threads.index (thread_of c.get.result.0 c.get.result.1.now) c.get.ensures.item c.requires.1.1.0 c.threads.invariant.stepping
-    c.close.new.threads.items c.close.new.entered.items c.copy_from_slice.new.self c.close.new.slots c.in-Some.number
-    (omega (arith, c.if-head-at.false)) (sym c.copy_from_slice.ensures.after)
+    let s : Search = seen_from c.args.spot.now g.text in
+    stepping_ends s (size c.args.spot.now.course) c.args.spot.now.course.hi c.args.spot.now.at c.args.curr.now.items c.args.growth.now.threads c.threads.growth.threads c.threads.growth.entered
+    c.threads.index (thread_of c.get.result.0 c.get.result.1.now) c.get.ensures.item c.requires.1.0 c.threads.invariant.stepping
+    c.close.new.growth.threads.items c.close.new.growth.entered.items c.copy_from_slice.new.self.items c.close.new.growth.slots.items c.in-Some.number
+    (omega (arith, c.if-head-spot.false)) (sym c.copy_from_slice.ensures.items)
     c.in-Some.ensures.carries
     below best o x
 
@@ -71,13 +61,12 @@ returns-in-Some-clause-ended g c = (
 
 pub threads-preserved : goal.threads-preserved
 threads-preserved g c =
-    let s : Search = seen c.args.places.now c.args.terminator g.text in
+    let s : Search = seen_from c.args.spot.now g.text in
     record {
-      stepping = stepping_closes s (length c.args.places.now) c.args.hi c.args.at c.args.curr.now.items c.args.threads.now c.threads.threads c.threads.entered
-          c.threads.index (thread_of c.get.result.0 c.get.result.1.now) c.get.ensures.item c.requires.1.1.0 c.threads.invariant.stepping
-          c.close.new.threads c.close.new.entered c.copy_from_slice.new.self
-          (omega (arith, c.if-head-at.false)) (sym c.copy_from_slice.ensures.after)
+      stepping = stepping_closes s (size c.args.spot.now.course) c.args.spot.now.course.hi c.args.spot.now.at c.args.curr.now.items c.args.growth.now.threads c.threads.growth.threads c.threads.growth.entered
+          c.threads.index (thread_of c.get.result.0 c.get.result.1.now) c.get.ensures.item c.requires.1.0 c.threads.invariant.stepping
+          c.close.new.growth.threads c.close.new.growth.entered c.copy_from_slice.new.self.items
+          (omega (arith, c.if-head-spot.false)) (sym c.copy_from_slice.ensures.items)
           c.in_default.ensures.carries
           c.in_default.ensures.grown c.in_default.ensures.some;
-      stack = c.in_default.ensures.stack;
     }

@@ -1,12 +1,11 @@
-use Rattle.std.proofs.Common.{◌≡◌, ◌+◌, ◌≤◌, length, drop, vec_len, vec_capacity}
-use Rattle.rc_pass.specs.Moves.{seen}
+use Rattle.std.proofs.Common.{drop}
+use Rattle.rc_pass.specs.Near.{seen_from, size}
 use Rattle.rc_pass.specs.Passing.{IsStepping}
 use Rattle.rc_pass.proofs.pass.step.Given as goal
 
 abbrev pub invariant-threads : goal.invariant-threads
 invariant-threads g l = record {
-  stepping : IsStepping (seen l.places l.terminator g.text) (length l.places) l.hi l.at l.curr.items (drop l.index l.curr.items) l.fn.threads l.threads l.entered;
-  stack : (vec_len l.stack ≡ 0) × (length l.places + 1 ≤ vec_capacity l.stack);
+  stepping : IsStepping (seen_from l.spot g.text) (size l.spot.course) l.spot.course.hi l.spot.at l.curr.items (drop l.index l.curr.items) l.fn.growth.threads l.growth.threads l.growth.entered;
 }
 
 abbrev pub ghost-close : goal.ghost-close

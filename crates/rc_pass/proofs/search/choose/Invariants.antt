@@ -1,21 +1,17 @@
-use Rattle.std.proofs.Common.{◌≡◌, ◌+◌, ◌-◌, ◌*◌, ◌≤◌, length, vec_len, vec_capacity}
+use Rattle.std.proofs.Common.{◌+◌, ◌-◌, ◌*◌, ◌≤◌, length}
 use Rattle.rc_text.specs.Text.{Keeps}
-use Rattle.rc_program.specs.Sought.{search_over}
-use Rattle.rc_compile.specs.Places.{places_of}
+use Rattle.rc_program.specs.Programs.{search_of}
+use Rattle.rc_pass.specs.Scratches.{IsSame}
 use Rattle.rc_pass.proofs.SearchLemmas.{PassedBelow}
 use Rattle.rc_pass.proofs.search.choose.Given as goal
 
 abbrev pub invariant-starts : goal.invariant-starts
 invariant-starts g l = record {
   keeps : Keeps l.fn.input l.input;
-  passed : PassedBelow (search_over (places_of l.places) l.terminator l.passes_over l.fn.input) l.from;
+  passed : PassedBelow (search_of l.program l.fn.input) l.from;
   low : (l.lo ≤ l.from) × (l.last ≤ l.hi);
-  few : l.insertions ≤ length l.places * (l.hi - l.lo + 2);
-  rooms : (l.curr.room ≡ 4 * length l.places) × (l.next.room ≡ 4 * length l.places);
-  most : (l.curr.most ≡ l.fn.curr.most) × (l.next.most ≡ l.fn.curr.most);
-  capacity : l.entered.capacity ≡ length l.places;
-  stack : (vec_len l.stack ≡ 0) × (length l.places + 1 ≤ vec_capacity l.stack);
-  widths : (length l.slots ≡ length l.fn.slots) × (length l.found ≡ length l.fn.slots);
+  few : l.scratch.insertions ≤ length l.program.places.items * (l.hi - l.lo + 2);
+  same : IsSame l.fn.scratch l.scratch;
 }
 
 abbrev pub decreases-starts : goal.decreases-starts

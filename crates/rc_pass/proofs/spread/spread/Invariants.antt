@@ -1,18 +1,18 @@
-use Rattle.std.proofs.Common.{◌+◌, ◌-◌, ◌*◌, ◌≤◌, ◌≡◌, length, reverse, vec_len, vec_capacity}
-use Rattle.rc_pass.specs.Moves.{seen}
+use Rattle.std.proofs.Common.{◌+◌, ◌-◌, ◌*◌, ◌≤◌, ◌≡◌, length, reverse, vec_len}
+use Rattle.rc_pass.specs.Near.{seen_from, size}
 use Rattle.rc_pass.specs.Spread.{IsSpread}
 use Rattle.rc_pass.proofs.spread.spread.Given as goal
 
 abbrev pub invariant-frames : goal.invariant-frames
 invariant-frames g l = record {
-  spread : IsSpread (seen l.places l.terminator g.text) (length l.places) l.hi l.start l.at l.root l.fn.threads l.fn.entered l.fn.best
-      l.threads l.entered l.best (reverse l.stack.items);
-  width : l.threads.width ≡ 0;
-  deep : (vec_len l.stack ≤ length l.entered.items + 1) × (length l.places + 1 ≤ vec_capacity l.stack);
+  spread : IsSpread (seen_from l.spot g.text) (size l.spot.course) l.spot.course.hi l.start l.spot.at l.root l.fn.growth.threads l.fn.growth.entered l.fn.best
+      l.growth.threads l.growth.entered l.best (reverse l.growth.stack.items);
+  width : l.growth.threads.width ≡ 0;
+  deep : vec_len l.growth.stack ≤ length l.growth.entered.items + 1;
 }
 
 abbrev pub decreases-frames : goal.decreases-frames
-decreases-frames g l = 3 * (length l.places - length l.entered.items) + vec_len l.stack
+decreases-frames g l = 3 * (size l.spot.course - length l.growth.entered.items) + vec_len l.growth.stack
 
 abbrev pub ghost-visit : goal.ghost-visit
 ghost-visit g a = g.text

@@ -2,11 +2,10 @@ use Rattle.std.proofs.Common.{MatchOption, subst, sym}
 use Rattle.std.specs.Bool.{⊤}
 use Rattle.rc_literal.specs.Guards.{Guards}
 use Rattle.rc_literal.specs.Prefilters.{needles_of}
-use Rattle.rc_compile.specs.Places.{places_of}
+use Rattle.rc_program.specs.Places.{places_of}
 use Rattle.rc_pikevm.proofs.search.is_match.Goals as goal
 
 pub find_by_kind-requires-clause-guarded : goal.find_by_kind-requires-clause-guarded
 find_by_kind-requires-clause-guarded g c =
     let e = c.args.vm.now.engine in
-    subst (λ xs. MatchOption c.guards_of.result ⊤ (λ p. Guards (places_of xs) e.terminator (needles_of p.now))) (sym c.deref.ensures.value)
-    (c.guards_of.ensures.sound (places_of e.places.items) e.terminator e.passes_over e.sound)
+    c.guards_of.ensures.sound (places_of e.program.places.items) e.program.terminator e.program.passes_over e.sound

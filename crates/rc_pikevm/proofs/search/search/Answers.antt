@@ -10,13 +10,14 @@ use Rattle.rc_pass.specs.KindSlots.{slots_by}
 use Rattle.rc_program.specs.Answer.{Search}
 use Rattle.rc_program.specs.Kinds.{answer_by}
 use Rattle.rc_program.specs.Program.{shown}
-use Rattle.rc_program.specs.Sought.{search_for, search_over}
-use Rattle.rc_compile.specs.Places.{places_of}
-use Rattle.rc_build.specs.Names.{is_grouped}
+use Rattle.rc_program.specs.Programs.{search_of}
+use Rattle.rc_program.specs.Sought.{search_for}
+use Rattle.rc_program.specs.Places.{places_of}
+use Rattle.rc_settings.specs.Which.{is_grouped}
 use Rattle.rc_engine.specs.Tells.{TellsBy}
 use Rattle.rc_engine.proofs.Told.{tells_by}
-use Rattle.rc_pikevm.specs.Configs.{match_kind_of}
-use Rattle.rc_pikevm.specs.Thompson.{which_captures_of}
+use Rattle.rc_settings.specs.SearchSettings.{match_kind_of}
+use Rattle.rc_settings.specs.Thompson.{which_captures_of}
 use Rattle.rc_pikevm.specs.Views.{sought, vm_names, vm_patterns, vm_program, vm_settings}
 use Rattle.rc_pikevm.proofs.Fitted.{fits_search}
 use Rattle.rc_pikevm.proofs.Matched.{kept_slots, still_for, tells_match_by}
@@ -25,8 +26,7 @@ use Rattle.rc_pikevm.proofs.search.search.Goals as goal
 pub search_slots_by_kind-pattern-requires-clause-guarded : goal.search_slots_by_kind-pattern-requires-clause-guarded
 search_slots_by_kind-pattern-requires-clause-guarded g c =
     let e = c.args.vm.now.engine in
-    subst (λ xs. MatchOption c.guards_of.result ⊤ (λ p. Guards (places_of xs) e.terminator (needles_of p.now))) (sym c.deref.ensures.value)
-    (c.guards_of.ensures.sound (places_of e.places.items) e.terminator e.passes_over e.sound)
+    c.guards_of.ensures.sound (places_of e.program.places.items) e.program.terminator e.program.passes_over e.sound
 
 pub returns-clause-found_by : goal.returns-clause-found_by
 returns-clause-found_by g c =
@@ -34,17 +34,13 @@ returns-clause-found_by g c =
     let e = vm.engine in
     subst (λ k. TellsBy k (search_for (sought vm) c.args.input.now) c.set_pattern.new.caps) vm.fits.kinded
     (subst (λ s. TellsBy e.kind s c.set_pattern.new.caps)
-    (ap (λ ps. search_over (places_of ps) e.terminator e.passes_over c.args.input.now) c.deref.ensures.value ∙ fits_search vm.fits c.args.input.now)
-    (tells_by e.kind (search_over (places_of c.deref.result.now) e.terminator e.passes_over c.args.input.now) c.set_pattern.new.caps
+    (fits_search vm.fits c.args.input.now)
+    (tells_by e.kind (search_of e.program c.args.input.now) c.set_pattern.new.caps
     c.search_slots_by_kind-pattern.result _ _
     c.search_slots_by_kind-pattern.ensures.pattern c.search_slots_by_kind-pattern.ensures.slots c.set_pattern.ensures.pattern
     (c.set_pattern.ensures.slots
     ∙ lent-written c.clear.new.caps c.search_slots_by_kind-pattern.new.slots (c.search_slots_by_kind-pattern.ensures.long ∙ ap length c.slots_mut.ensures.value))
     c.search_slots_by_kind-pattern.ensures.long))
-
-pub returns-clause-found : goal.returns-clause-found
-returns-clause-found g c kind =
-    subst (λ k. TellsBy k (search_for (sought c.args.vm.now) c.args.input.now) c.set_pattern.new.caps) kind (returns-clause-found_by g c)
 
 pub returns-clause-long : goal.returns-clause-long
 returns-clause-long g c =
@@ -64,10 +60,6 @@ returns-clause-matched_by g c =
     tells_match_by (match_kind_of (vm_settings vm)) shows (search_for (sought vm) c.args.input.now) (vm_names vm) c.set_pattern.new.caps refl
     (length-map shows group_names) (returns-clause-still_made g c) (returns-clause-found_by g c)
 
-pub returns-clause-matched : goal.returns-clause-matched
-returns-clause-matched g c kind =
-    returns-clause-matched_by g c ∙ ap (λ k. answer_by k (search_for (sought c.args.vm.now) c.args.input.now)) kind
-
 pub returns-clause-slots : goal.returns-clause-slots
 returns-clause-slots g c =
     let vm = c.args.vm.now in
@@ -77,8 +69,8 @@ returns-clause-slots g c =
     let p = captures_pattern c.set_pattern.new.caps in
     subst (λ k. MatchOption p (kept ≡ replicate n None) (λ _. Some kept ≡ slots_by k (search_for (sought vm) c.args.input.now) n)) vm.fits.kinded
     (subst (λ (s : Search). MatchOption p (kept ≡ replicate n None) (λ _. Some kept ≡ slots_by e.kind s n))
-    (ap (λ ps. search_over (places_of ps) e.terminator e.passes_over c.args.input.now) c.deref.ensures.value ∙ fits_search vm.fits c.args.input.now)
-    (kept_slots e.kind (search_over (places_of c.deref.result.now) e.terminator e.passes_over c.args.input.now) n p
+    (fits_search vm.fits c.args.input.now)
+    (kept_slots e.kind (search_of e.program c.args.input.now) n p
     c.search_slots_by_kind-pattern.result kept c.search_slots_by_kind-pattern.new.slots c.slots_mut.result.now
     c.set_pattern.ensures.pattern
     (c.set_pattern.ensures.slots

@@ -3,16 +3,16 @@ use Rattle.rc_text.specs.Found.{Found}
 use Rattle.rc_walks.specs.Walks.{Pair}
 use Rattle.rc_program.specs.Answer.{chosen, found, last_of, pattern_at, Chosen, pattern_of}
 use Rattle.rc_program.specs.Program.{place_at}
-use Rattle.rc_program.specs.Sought.{search_over}
-use Rattle.rc_compile.specs.Places.{places_of}
+use Rattle.rc_program.specs.Programs.{search_of}
+use Rattle.rc_program.specs.Places.{places_of}
 use Rattle.rc_walker.specs.Found.{chosen_of}
 use Rattle.rc_walker.proofs.SearchLemmas.{chosen_found, none_found, chosen_inside}
 use Rattle.rc_walker.proofs.walker.find.Goals as goal
 
 pub new-requires : goal.new-requires
 new-requires g c =
-    let P = places_of c.args.places.now in
-    let s = search_over P c.args.terminator c.args.passes_over c.args.input.now in
+    let P = places_of c.args.program.now.places.items in
+    let s = search_of c.args.program.now c.args.input.now in
     let was : Chosen = chosen_of c.in-Some.walk in
     let e : Some was ≡ chosen s = rw c.in-Some.is at c.in_ok-find_walk.ensures.found in
     let end : c.end_of-place.result ≡ last_of was.walk = c.end_of-place.ensures in
@@ -21,14 +21,14 @@ new-requires g c =
 
 pub returns-in-None-clause-found : goal.returns-in-None-clause-found
 returns-in-None-clause-found g c =
-    let P = places_of c.args.places.now in
-    let s = search_over P c.args.terminator c.args.passes_over c.args.input.now in
+    let P = places_of c.args.program.now.places.items in
+    let s = search_of c.args.program.now c.args.input.now in
     none_found s (rw c.in-None.is at c.in_ok-find_walk.ensures.found)
 
 pub returns-in-Some-clause-found : goal.returns-in-Some-clause-found
 returns-in-Some-clause-found g c =
-    let P = places_of c.args.places.now in
-    let s = search_over P c.args.terminator c.args.passes_over c.args.input.now in
+    let P = places_of c.args.program.now.places.items in
+    let s = search_of c.args.program.now c.args.input.now in
     let was : Chosen = chosen_of c.in-Some.walk in
     let e : Some was ≡ chosen s = rw c.in-Some.is at c.in_ok-find_walk.ensures.found in
     let end : c.end_of-place.result ≡ last_of was.walk = c.end_of-place.ensures in
@@ -39,8 +39,8 @@ returns-in-Some-clause-found g c =
 
 pub returns-in-Some-clause-within : goal.returns-in-Some-clause-within
 returns-in-Some-clause-within g c =
-    let P = places_of c.args.places.now in
-    let s = search_over P c.args.terminator c.args.passes_over c.args.input.now in
+    let P = places_of c.args.program.now.places.items in
+    let s = search_of c.args.program.now c.args.input.now in
     let was : Chosen = chosen_of c.in-Some.walk in
     let e : Some was ≡ chosen s = rw c.in-Some.is at c.in_ok-find_walk.ensures.found in
     let end : c.end_of-place.result ≡ last_of was.walk = c.end_of-place.ensures in

@@ -4,8 +4,8 @@ use Rattle.rc_text.specs.Found.{Found}
 use Rattle.rc_walks.specs.Walks.{Pair}
 use Rattle.rc_program.specs.Answer.{chosen, last_of, pattern_at, Chosen, pattern_of}
 use Rattle.rc_program.specs.Program.{place_at}
-use Rattle.rc_program.specs.Sought.{search_over}
-use Rattle.rc_compile.specs.Places.{places_of}
+use Rattle.rc_program.specs.Programs.{search_of}
+use Rattle.rc_program.specs.Places.{places_of}
 use Rattle.rc_walker.specs.Found.{chosen_of}
 use Rattle.rc_walker.proofs.SearchLemmas.{chosen_found, none_found, chosen_groups}
 use Rattle.rc_walker.proofs.SlotLemmas.{own_slots, visits}
@@ -13,14 +13,14 @@ use Rattle.rc_walker.proofs.walker.find_slots.Goals as goal
 
 pub returns-in-None-clause-pattern : goal.returns-in-None-clause-pattern
 returns-in-None-clause-pattern g c =
-    let P = places_of c.args.places.now in
-    let s = search_over P c.args.terminator c.args.passes_over c.args.input.now in
+    let P = places_of c.args.program.now.places.items in
+    let s = search_of c.args.program.now c.args.input.now in
     ap (option_map (λ (m : Found). m.pattern)) (none_found s (rw c.in-None.is at c.in_ok-find_walk.ensures.found))
 
 pub returns-in-Some-clause-pattern : goal.returns-in-Some-clause-pattern
 returns-in-Some-clause-pattern g c =
-    let P = places_of c.args.places.now in
-    let s = search_over P c.args.terminator c.args.passes_over c.args.input.now in
+    let P = places_of c.args.program.now.places.items in
+    let s = search_of c.args.program.now c.args.input.now in
     let was : Chosen = chosen_of c.in-Some.walk in
     let e : Some was ≡ chosen s = rw c.in-Some.is at c.in_ok-find_walk.ensures.found in
     let end : c.end_of-place.result ≡ last_of was.walk = c.end_of-place.ensures in
@@ -29,8 +29,8 @@ returns-in-Some-clause-pattern g c =
 
 pub returns-in-Some-clause-slots : goal.returns-in-Some-clause-slots
 returns-in-Some-clause-slots g c =
-    let P = places_of c.args.places.now in
-    let s = search_over P c.args.terminator c.args.passes_over c.args.input.now in
+    let P = places_of c.args.program.now.places.items in
+    let s = search_of c.args.program.now c.args.input.now in
     let was : Chosen = chosen_of c.in-Some.walk in
     let e : Some was ≡ chosen s = rw c.in-Some.is at c.in_ok-find_walk.ensures.found in
     let end : c.end_of-place.result ≡ last_of was.walk = c.end_of-place.ensures in

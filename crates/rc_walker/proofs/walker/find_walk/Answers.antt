@@ -2,8 +2,8 @@ use Rattle.std.proofs.Common.{rules, ◌≡◌, ◌+◌, ◌<◌, ◌≤◌, ◌
 use Rattle.std.proofs.lemmas.List.{take_at}
 use Rattle.rc_walks.specs.Walks.{Pair}
 use Rattle.rc_program.specs.Answer.{IsFirstFrom}
-use Rattle.rc_program.specs.Sought.{search_over}
-use Rattle.rc_compile.specs.Places.{places_of}
+use Rattle.rc_program.specs.Programs.{search_of}
+use Rattle.rc_program.specs.Places.{places_of}
 use Rattle.rc_walker.specs.Frames.{IsMarked, walk_of}
 use Rattle.rc_program.proofs.AnswerLemmas.{first_start_chosen, no_start_chosen, start_to_last, start_within_last, one_more_passed, last_start_of}
 use Rattle.rc_walker.proofs.SearchLemmas.{tells, told_allowed}
@@ -13,11 +13,11 @@ use Rattle.rc_walker.proofs.walker.find_walk.Goals.{then-branch+else-allows, els
 
 pub returns-then-allows-clause-found : goal.returns-then-allows-clause-found
 returns-then-allows-clause-found g c =
-    let P = places_of c.args.places.now in
-    let t = c.args.terminator in
-    let over = c.args.passes_over in
+    let P = places_of c.args.program.now.places.items in
+    let t = c.args.program.now.terminator in
+    let over = c.args.program.now.passes_over in
     let input = c.args.input.now in
-    let s = search_over P t over input in
+    let s = search_of c.args.program.now input in
     let start = c.loop-start.start in
     let walk : List Pair = walk_of c.first_walk.new.stack in
     let keeps = c.loop-start.invariant.keeps in
@@ -35,18 +35,18 @@ returns-then-allows-clause-found g c =
 
 pub loop-start-preserved : goal.loop-start-preserved
 loop-start-preserved g c =
-    let P = places_of c.args.places.now in
-    let t = c.args.terminator in
-    let over = c.args.passes_over in
+    let P = places_of c.args.program.now.places.items in
+    let t = c.args.program.now.terminator in
+    let over = c.args.program.now.passes_over in
     let input = c.args.input.now in
-    let s = search_over P t over input in
+    let s = search_of c.args.program.now input in
     let start = c.loop-start.start in
     let walk : List Pair = walk_of c.first_walk.new.stack in
     let keeps = c.loop-start.invariant.keeps in
     let only_is = rw c.get_anchored.ensures at c.only_of-only.ensures in
     let told = tells P t over input c.loop-start.input c.high-hi.result start c.only_of-only.result walk c.in_ok-first_walk.field-0 keeps c.high-hi.ensures.value only_is
     (record { first = c.in_ok-first_walk.ensures.first; none = c.in_ok-first_walk.ensures.none }) in
-    let n = length c.args.places.now in
+    let n = length c.args.program.now.places.items in
     let marks = c.first_walk.new.marks in
     let long = marked_length n marks (reverse c.first_walk.new.stack.items) c.in_ok-first_walk.ensures.marked in
     let was = marked_length n c.loop-start.marks.items (reverse c.loop-start.frames.items) c.loop-start.invariant.marked in
@@ -67,7 +67,7 @@ loop-start-preserved g c =
 
 pub returns-clause-found : goal.returns-clause-found
 returns-clause-found g c =
-    let s = search_over (places_of c.args.places.now) c.args.terminator c.args.passes_over c.args.input.now in
+    let s = search_of c.args.program.now c.args.input.now in
     let last : c.last_start-start-end.result ≡ last_start_of s =
     rw (c.is_anchored-is_anchored.ensures, c.get_anchored-2.ensures, c.low-lo.ensures, c.high-hi.ensures.value) at c.last_start-start-end.ensures in
     no_start_chosen s (λ y h. c.loop-start.invariant.passed y h.0

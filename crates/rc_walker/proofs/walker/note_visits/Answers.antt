@@ -1,5 +1,5 @@
 use Rattle.std.proofs.Common.{◌≡◌, ◌∙◌, ap, length, map, take, set, Some, None, slice_index_or, List}
-use Rattle.rc_compile.specs.Places.{places_of}
+use Rattle.rc_program.specs.Places.{places_of}
 use Rattle.rc_walks.specs.Walks.{Pair}
 use Rattle.rc_walker.specs.Frames.{pair_of, fresh_frame}
 use Rattle.rc_walker.specs.declared.frames.Frame.{Frame}
@@ -12,7 +12,7 @@ visits-init c = c.clear.ensures ∙ no_slots (length c.args.slots.now)
 
 pub visits-preserved : goal.visits-preserved
 visits-preserved c =
-    let P = places_of c.args.places.now in
+    let P = places_of c.args.program.now.places.items in
     let n = length c.args.slots.now in
     let i = c.visits.frame-index in
     let fs = c.args.frames.now.items in

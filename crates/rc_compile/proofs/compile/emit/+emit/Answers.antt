@@ -8,10 +8,11 @@ use Rattle.rc_pattern.specs.declared.hir.HirKind.TheFolds
 use Rattle.rc_pattern.specs.declared.hir.Repetition.{out-Repetition}
 use Rattle.rc_pattern.proofs.FoldLemmas.{kind_Literal}
 use Rattle.rc_program.specs.Program.{Place, Part, up_to, plus, copies, body_or_out}
-use Rattle.rc_compile.specs.Places.{places_of}
+use Rattle.rc_program.specs.Places.{places_of}
 use Rattle.rc_compile.specs.Shown.{laid}
 use Rattle.rc_compile.proofs.SizeLemmas.{literal_size, on_part, to_part, on_body, to_body}
-use Rattle.rc_compile.proofs.EmitLemmas.{IfOk_to, Emits, emits_copy, copy_fits, literal_slots, emits_more, more_fits, emits_trans, begins_none, begins_some, ends_plus}
+use Rattle.rc_program.proofs.ResultLemmas.{IfOk_to}
+use Rattle.rc_compile.proofs.EmitLemmas.{Emits, emits_copy, copy_fits, literal_slots, emits_more, more_fits, emits_trans, begins_none, begins_some, ends_plus}
 use Rattle.rc_compile.proofs.compile.emit.+emit.Goals.{emit_repetition-then-min-eq0+in_ok-append-in-None, emit_repetition-else-min-eq0}
 use Rattle.rc_compile.proofs.compile.emit.+emit.Goals as goal
 

@@ -1,6 +1,6 @@
 use Rattle.std.proofs.Common.{arith}
 use Rattle.rc_compile.proofs.SizeLemmas.{literal_size}
-use Rattle.rc_compile.proofs.EmitLemmas.{IfOk_to}
+use Rattle.rc_program.proofs.ResultLemmas.{IfOk_to}
 use Rattle.rc_compile.proofs.compile.emit.emit_literal.Goals as goal
 
 pub returns-clause-long : goal.returns-clause-long

@@ -1,6 +1,6 @@
 use Rattle.std.proofs.Common.{◌≡◌, ◌++◌, ◌+◌, drop, vec_len}
 use Rattle.rc_program.specs.Program.{literal_part}
-use Rattle.rc_compile.specs.Places.{places_of}
+use Rattle.rc_program.specs.Places.{places_of}
 use Rattle.rc_compile.proofs.compile.emit.emit_literal.Given as goal
 
 abbrev pub invariant-loop-i : goal.invariant-loop-i

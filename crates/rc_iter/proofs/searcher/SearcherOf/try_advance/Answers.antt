@@ -1,13 +1,17 @@
-use Rattle.std.proofs.Common.{rules, inl, inr}
-use Rattle.rc_iter.proofs.Failing.{may_fail}
+use Rattle.std.proofs.Common.{rules}
+use Rattle.rc_program.specs.Matches.{begin_of, end_of}
+use Rattle.rc_iter.proofs.Meeting.{at_once, later}
 use Rattle.rc_iter.proofs.searcher.SearcherOf.try_advance.Goals as goal
 
 -- the first call failed
 pub returns-in_err-found-clause-failed : goal.returns-in_err-found-clause-failed
 returns-in_err-found-clause-failed g c =
-    may_fail g.I.KeptInput.searched g.F.FnMut c.args.self.now.input _ _ _ _ _ _ _ (inl (search rules)) c.finder.ensures.met c.in_err-found.was (search rules)
+    at_once begin_of end_of g.I.KeptInput.searched g.F.FnMut c.args.self.now _ _ _ _ _ (c.ask.ensures.answers c.args.self.now.input (search rules))
+    c.in_err-found.was (search rules)
 
 -- the call from a byte later failed
 pub returns-in_err-found-2-clause-failed : goal.returns-in_err-found-2-clause-failed
 returns-in_err-found-2-clause-failed g c =
-    may_fail g.I.KeptInput.searched g.F.FnMut c.args.self.now.input _ _ _ _ _ _ _ (inr (search rules)) c.finder-answer.ensures.met c.in_err-found-2.was (search rules)
+    later begin_of end_of g.I.KeptInput.searched g.F.FnMut c.args.self.now _ _ _ _ c.in-Some.found _ _ _
+    (c.ask.ensures.answers c.args.self.now.input (search rules)) (search rules) (search rules) (search rules)
+    (c.ask-answer.ensures.answers _ (search rules)) c.in_err-found-2.was (search rules)

@@ -5,6 +5,7 @@ use Rattle.rc_program.proofs.KindLemmas.{kinds_law}
 use Rattle.rc_engine.proofs.Steps.{list_within}
 use Rattle.rc_meta.specs.Views.{regex_kind, sought}
 use Rattle.rc_meta.proofs.Going.{few_left}
+use Rattle.rc_meta.proofs.Runs.{find_runs}
 use Rattle.rc_meta.proofs.regex.Regex.find_iter.Goals as goal
 
 pub returns-clause-left : goal.returns-clause-left
@@ -17,3 +18,6 @@ returns-clause-within g c = list_within (regex_kind c.args.self.now) (search_for
 
 pub returns-clause-short : goal.returns-clause-short
 returns-clause-short g c = let few = few_left c.args.self.now c.args.input None false in omega (arith, few, c.chunk_offset-offset.ensures.shows.small)
+
+pub returns-clause-runs : goal.returns-clause-runs
+returns-clause-runs g c = find_runs

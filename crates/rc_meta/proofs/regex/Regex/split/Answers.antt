@@ -4,13 +4,8 @@ use Rattle.rc_program.specs.Matches.{pieces_from}
 use Rattle.rc_program.proofs.PieceLemmas.{length-pieces_from}
 use Rattle.rc_meta.specs.Left.{find_left}
 use Rattle.rc_meta.proofs.Going.{few_left}
+use Rattle.rc_meta.proofs.Runs.{split_runs}
 use Rattle.rc_meta.proofs.regex.Regex.split.Goals as goal
-
-pub returns-clause-left : goal.returns-clause-left
-returns-clause-left g c = λ kind.
-    let m = c.in_ok-matches.matches in
-    ap (λ i. pieces_from 0 (high i) (find_left m)) c.in_ok-matches.ensures.input
-    ∙ ap (pieces_from 0 (high c.args.input)) (c.in_ok-matches.ensures.left kind)
 
 pub returns-clause-left_by : goal.returns-clause-left_by
 returns-clause-left_by g c =
@@ -31,3 +26,6 @@ returns-clause-short g c = λ small.
     let few = few_left m.finder.regex.now m.input m.finder.last m.finder.is_done in
     let pieces = length-pieces_from 0 (high m.input) (find_left m) in
     omega (arith, small, few, pieces, ap high c.in_ok-matches.ensures.input)
+
+pub returns-clause-runs : goal.returns-clause-runs
+returns-clause-runs g c = split_runs

@@ -6,11 +6,11 @@ use Rattle.rc_pattern.proofs.FoldLemmas.{meaning_of_hir}
 use Rattle.rc_pattern.proofs.JoinLemmas.{node_other, join_other}
 use Rattle.rc_pattern.proofs.hir.members.append.Goals as goal
 
-pub returns-in_default : goal.returns-in_default
-returns-in_default c =
+pub returns-in_default-clause-meaning : goal.returns-in_default-clause-meaning
+returns-in_default-clause-meaning c =
     let old = map meaning c.args.members.now.items in
     let kind = c.args.member.kind in
     on_ok_weaker c.put.result
     (λ e xs f. e ∙ join_other xs old (kind_meaning kind) (node_other kind c.in_default.not-Literal) f
     ∙ ap (λ (m : Re). joined (xs ++ m ∷ [])) (sym (meaning_of_hir c.args.member)))
-    c.put.ensures
+    c.put.ensures.meaning

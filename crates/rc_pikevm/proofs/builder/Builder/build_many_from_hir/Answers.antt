@@ -5,10 +5,11 @@ use Rattle.rc_pattern.specs.Meaning.{meaning}
 use Rattle.rc_pattern.specs.WellFormed.{HasBounds, IsWellFormed}
 use Rattle.rc_program.specs.Program.{program, shown}
 use Rattle.rc_program.specs.Sought.{IsRunnable, passes_over}
-use Rattle.rc_compile.specs.Places.{places_of}
+use Rattle.rc_program.specs.Places.{places_of}
 use Rattle.rc_build.proofs.Runnable.{runnable}
+use Rattle.rc_engine.specs.Choices.{answering}
 use Rattle.rc_engine.specs.Strategies.{IsSound}
-use Rattle.rc_pikevm.specs.Thompson.{settings_of, line_terminator_of}
+use Rattle.rc_settings.specs.Thompson.{settings_of, line_terminator_of}
 use Rattle.rc_pikevm.specs.Fits.{sought_by}
 use Rattle.rc_pikevm.proofs.Sizes.{fitted}
 use Rattle.rc_pikevm.proofs.builder.Builder.build_many_from_hir.Goals as goal
@@ -35,4 +36,5 @@ pub assembled-requires : goal.assembled-requires
 assembled-requires c =
     fitted _ c.in_ok-hirs.ensures c.in_ok-compiled.ensures.buildable
     (ap (λ ps. places_of ps.items) c.engine_of-engine.ensures.places ∙ c.in_ok-compiled.ensures.places ∙ search rules)
-    c.engine_of-engine.ensures.terminator c.engine_of-engine.ensures.passes_over (search rules) (search rules)
+    c.engine_of-engine.ensures.terminator c.engine_of-engine.ensures.passes_over (search rules)
+    (ap answering c.engine_of-engine.ensures.strategy ∙ c.in_ok-strategy.ensures.exact) (search rules)

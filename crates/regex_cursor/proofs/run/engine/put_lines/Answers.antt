@@ -12,7 +12,7 @@ loop-found-preserved g c =
     let m = c.in-Some.found in
     let longer = length-append ms (m ∷ []) in
     record {
-      left = c.loop-found.invariant.left ∙ ap (λ xs. ms ++ xs) c.in-Some.ensures.steps ∙ sym (append_assoc ms (m ∷ []) (find_left c.next.new.self));
+      left = c.loop-found.invariant.left ∙ ap (λ xs. ms ++ xs) c.in-Some.ensures.steps.0 ∙ sym (append_assoc ms (m ∷ []) (find_left c.next.new.self));
       put =
           Appends-line (g.W.Sink.taken c.args.out.now) (g.W.Sink.taken c.loop-found.out) (g.W.Sink.taken c.put_line.new.out) ms m
           c.loop-found.invariant.put c.in-Ok.ensures.appended;
@@ -24,6 +24,6 @@ loop-found-preserved g c =
 pub returns-clause-put : goal.returns-clause-put
 returns-clause-put g c =
     let begun : find_left c.args.matches ≡ find_left c.into_iter-found-iterator.result = search rules in
-    let all = begun ∙ c.loop-found.invariant.left ∙ ap (λ ms. c.loop-found.yielded ++ ms) c.in-None.ensures.steps.0 ∙ append-nil c.loop-found.yielded in
+    let all = begun ∙ c.loop-found.invariant.left ∙ ap (λ ms. c.loop-found.yielded ++ ms) c.in-None.ensures.steps.0.0 ∙ append-nil c.loop-found.yielded in
     subst (λ ms. IsPut ms (g.W.Sink.taken c.args.out.now) (g.W.Sink.taken c.loop-found.out) c.loop-found.is_found) (sym all)
     (record { lines = c.loop-found.invariant.put; told = c.loop-found.invariant.told })

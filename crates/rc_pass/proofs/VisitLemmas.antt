@@ -1,0 +1,86 @@
+-- What a thread carries once it has entered a place.
+use Rattle.std.proofs.Common.{◌≡◌, ◌≢◌, ℕ, List, [], ◌∷◌, ◌++◌, length, reverse, MatchOption, Option, Some, None, ap, subst, sym, ◌∙◌, refl, arith}
+use Rattle.std.proofs.lemmas.List.{append-nil}
+use Rattle.rc_text.specs.Found.{Found}
+use Rattle.rc_walks.specs.Walks.{Pair}
+use Rattle.rc_program.specs.Answer.{Search}
+use Rattle.rc_pass.specs.Entered.{IsSkipped, IsEntered}
+use Rattle.rc_pass.specs.Moves.{IsMove}
+use Rattle.rc_pass.specs.Threads.{ThreadList}
+use Rattle.rc_pass.specs.Trace.{Trace, trace, done}
+use Rattle.rc_pass.specs.Passing.{Carries, waits, resting_of, slots_after}
+use Rattle.rc_pass.specs.Spread.{Runner, Seeks, BeginFrom, IsGreater, IsOrdered, runners_of}
+use Rattle.rc_pass.specs.declared.growth.Growth.{Growth}
+use Rattle.rc_pass.specs.declared.moves.Move.{Move}
+use Rattle.rc_pass.specs.declared.moves.Move.TheVariants.{Matches}
+use Rattle.rc_pass.specs.declared.pass.Ending.{Ending}
+use Rattle.rc_pass.proofs.MoveLemmas.{skipped, matched, moved}
+use Rattle.rc_pass.proofs.SpreadMoveLemmas.{begin_more, passed_over, ended_here, moved_on, ordered_by}
+
+no_slots : (slots : List (Option ℕ)) → length slots ≡ 0 → slots ≡ []
+no_slots [] e = refl
+no_slots (k ∷ slots) e = absurd (omega arith)
+
+module _ (s : Search) (at p start : ℕ) (g0 g : Growth) where
+  -- where a walk ends, no thread is put behind the others
+  same_threads : (move : Move) (q : ℕ) → move ≡ Matches q → IsEntered s at p start move g0 g → g.threads.items ≡ g0.threads.items
+  same_threads move q is m =
+      ap (λ (l : ThreadList). l.items) m.threads ∙ ap (λ (v : Move). g0.threads.items ++ resting_of start g0.slots.items v) is ∙ append-nil g0.threads.items
+
+  module _ (best o : Option Trace) (below : List (Trace × Pair)) where
+    -- the place was entered before
+    pub skipped_carries : IsSkipped p g0 g → Carries s at g.threads.items g.entered.items (waits start at (reverse g.stack.items) g.slots.items ++ below) best o →
+        Carries s at g0.threads.items g0.entered.items
+        ((trace start g0.slots.items, (p, at)) ∷ (waits start at (reverse g0.stack.items) g0.slots.items ++ below)) best o
+    skipped_carries m x =
+        skipped s at g0.threads.items g0.entered.items best o p (trace start g0.slots.items)
+        (waits start at (reverse g0.stack.items) g0.slots.items ++ below) m.before (rw (m.threads, m.entered, m.frames, m.slots) at x)
+
+    -- it is entered, and a walk ends there or goes on
+    pub entered_carries : (move : Move) (r : Option ℕ) → IsEntered s at p start move g0 g →
+        MatchOption r ((q : ℕ) → move ≢ Matches q) (λ q. move ≡ Matches q) →
+        MatchOption r (Carries s at g.threads.items g.entered.items (waits start at (reverse g.stack.items) g.slots.items ++ below) best o)
+        (λ q. Carries s at g.threads.items g.entered.items [] (Some (done q start at g.slots.items)) o) →
+        Carries s at g0.threads.items g0.entered.items
+        ((trace start g0.slots.items, (p, at)) ∷ (waits start at (reverse g0.stack.items) g0.slots.items ++ below)) best o
+    entered_carries move None m other x =
+        moved s at g0.threads.items g0.entered.items best o p start g0.slots.items m.fresh move (reverse g0.stack.items) below m.is_move other
+        (rw (m.threads, m.entered, m.frames, m.slots) at x)
+    entered_carries move (Some q) m is x =
+        let i = subst (IsMove s (p, at)) is m.is_move in
+        let slots : g.slots.items ≡ g0.slots.items = m.slots ∙ ap (slots_after at g0.slots.items) is in
+        matched s at g0.threads.items g0.entered.items best o p q start g0.slots.items g.entered.items
+        (waits start at (reverse g0.stack.items) g0.slots.items ++ below) m.fresh i.0 i.1
+        (subst (λ ts. Carries s at ts g.entered.items [] (Some (done q start at g0.slots.items)) o) (same_threads move q is m)
+        (subst (λ l. Carries s at g.threads.items g.entered.items [] (Some (done q start at l)) o) slots x))
+
+  module _ (best : Option Ending) (o : Option Found) (below : List Runner) (low : BeginFrom start below) where
+    pub skipped_seeks : IsSkipped p g0 g → Seeks s at g.threads.items g.entered.items (runners_of start at (reverse g.stack.items) ++ below) best o →
+        Seeks s at g0.threads.items g0.entered.items ((start, (p, at)) ∷ (runners_of start at (reverse g0.stack.items) ++ below)) best o
+    skipped_seeks m x =
+        passed_over s at g0.threads.items g0.entered.items best o p start (runners_of start at (reverse g0.stack.items) ++ below) m.before
+        (rw (m.threads, m.entered, m.frames) at x)
+
+    pub moved_seeks : (move : Move) → IsEntered s at p start move g0 g → length g0.slots.items ≡ 0 → ((q : ℕ) → move ≢ Matches q) →
+        Seeks s at g.threads.items g.entered.items (runners_of start at (reverse g.stack.items) ++ below) best o →
+        Seeks s at g0.threads.items g0.entered.items ((start, (p, at)) ∷ (runners_of start at (reverse g0.stack.items) ++ below)) best o
+    moved_seeks move m none other x =
+        moved_on s at g0.threads.items g0.entered.items best o p start m.fresh move (reverse g0.stack.items) below m.is_move other low
+        (rw (m.threads, m.entered, m.frames, no_slots g0.slots.items none) at x)
+
+    pub ended_seeks : (move : Move) (q : ℕ) (result : Ending) → IsEntered s at p start move g0 g → move ≡ Matches q →
+        IsGreater best (record { pattern = q; start = start; end = at }) result →
+        Seeks s at g.threads.items g.entered.items (runners_of start at (reverse g.stack.items) ++ below) (Some result) o →
+        Seeks s at g0.threads.items g0.entered.items ((start, (p, at)) ∷ (runners_of start at (reverse g0.stack.items) ++ below)) best o
+    ended_seeks move q result m is greater x =
+        let i = subst (IsMove s (p, at)) is m.is_move in
+        let frames : reverse g.stack.items ≡ reverse g0.stack.items = rw is at m.frames in
+        ended_here s at g0.threads.items g0.entered.items best o p start m.fresh (record { pattern = q; start = start; end = at }) result
+        (runners_of start at (reverse g0.stack.items) ++ below) i.1 i.0 refl refl greater (begin_more start at (reverse g0.stack.items) below low)
+        (rw (same_threads move q is m, m.entered, frames) at x)
+
+-- the starts rise on
+pub entered_ordered : (s : Search) (at p start : ℕ) (g0 g : Growth) (move : Move) → IsEntered s at p start move g0 g → length g0.slots.items ≡ 0 →
+    IsOrdered start g0.threads.items → IsOrdered start g.threads.items
+entered_ordered s at p start g0 g move m none ordered =
+    subst (λ (l : ThreadList). IsOrdered start l.items) (sym m.threads) (rw (no_slots g0.slots.items none) (ordered_by start g0.threads.items move ordered))

@@ -1,0 +1,26 @@
+-- Only proofs use this file.
+-- What entering a place does.
+use Rattle.std.specs.Prelude.{◌≡◌, ℕ, [], ◌∷◌, ◌++◌, reverse}
+use Rattle.rc_program.specs.Answer.{Search}
+use Rattle.rc_pass.specs.Sparse.{Has}
+use Rattle.rc_pass.specs.Moves.{IsMove}
+use Rattle.rc_pass.specs.Passing.{frames_of, resting_of, slots_after}
+use Rattle.rc_pass.specs.declared.moves.Move.{Move}
+use Rattle.rc_pass.specs.declared.growth.Growth.{Growth}
+
+-- The place was entered before, and nothing changes.
+pub record IsSkipped (place : ℕ) (g0 g : Growth) : Type 0 where
+  pub before : Has g0.entered.items place
+  pub threads : g.threads ≡ g0.threads
+  pub entered : g.entered ≡ g0.entered
+  pub frames : g.stack.items ≡ g0.stack.items
+  pub slots : g.slots.items ≡ g0.slots.items
+
+-- The place is entered by a thread that began at `start`, and its move is made.
+pub record IsEntered (s : Search) (at place start : ℕ) (move : Move) (g0 g : Growth) : Type 0 where
+  pub fresh : ¬ Has g0.entered.items place
+  pub is_move : IsMove s (place, at) move
+  pub threads : g.threads ≡ record g0.threads { items = g0.threads.items ++ resting_of start g0.slots.items move }
+  pub entered : g.entered ≡ record g0.entered { items = g0.entered.items ++ place ∷ [] }
+  pub frames : reverse g.stack.items ≡ frames_of g0.slots.items move ++ reverse g0.stack.items
+  pub slots : g.slots.items ≡ slots_after at g0.slots.items move

@@ -1,0 +1,64 @@
+//! What grows while a pass is at one position.
+ghost use Rattle.std.specs.Prelude.{◌≡◌, ◌+◌, ◌*◌, ◌≤◌, length, vec_capacity};
+
+use crate::sparse_set::SparseSet;
+use crate::threads::Threads;
+
+/// What a closure comes back to when the way that it follows ends.
+#[derive(Clone, Copy)]
+pub enum Frame {
+    /// Go on from this place.
+    Explore(usize),
+    /// Give the slot its old value back.
+    Restore(usize, Option<usize>),
+}
+
+/// What grows while a pass is at one position.
+#[derive(Drop)]
+pub struct Growth {
+    /// The threads that go on later.
+    pub threads: Threads,
+    /// The places that were entered.
+    pub entered: SparseSet,
+    /// What the closure under way comes back to.
+    pub stack: Vec<Frame>,
+    /// The slots of the thread under way.
+    pub slots: Vec<Option<usize>>,
+    ghost fits: { (threads.room ≡ 4 * entered.capacity) × (entered.capacity + 1 ≤ vec_capacity stack) },
+    ghost wide: { (length slots.items ≡ threads.width) × (threads.width ≤ threads.most) × (threads.most ≤ vec_capacity slots) },
+}
+
+/// Empties the row and fills it with `width` slots.
+pub fn make_row(row: &mut Vec<Option<usize>>, width: usize)
+    requires { width ≤ vec_capacity row.old }
+    ensures len { length row.new.items ≡ width }
+    ensures capacity { vec_capacity row.new ≡ vec_capacity row.old }
+{
+    row.clear();
+    for _ in 0..width {
+        row.push_reserved(None);
+    }
+}
+
+impl Growth {
+    ghost use Rattle.std.specs.Prelude.{[]};
+
+    /// Forgets the threads. The next ones, and the one under way, have `width` slots each.
+    pub fn widen(&mut self, width: usize)
+        requires { width ≤ self.old.threads.most }
+        ensures threads { self.new.threads ≡ record self.old.threads { items = []; width = width } }
+        ensures entered { self.new.entered ≡ self.old.entered }
+    {
+        make_row(&mut self.slots, width);
+        self.threads.clear(width);
+    }
+
+    /// Forgets the threads, and the places that were entered.
+    pub fn clear(&mut self)
+        ensures threads { self.new.threads ≡ record self.old.threads { items = [] } }
+        ensures entered { self.new.entered ≡ record self.old.entered { items = [] } }
+    {
+        self.threads.clear(self.slots.len());
+        self.entered.clear();
+    }
+}

@@ -1,0 +1,5 @@
+pub mod Lines
+pub mod SearchSettings
+pub mod Settings
+pub mod Thompson
+pub mod Which

@@ -1,0 +1,320 @@
+//! The settings of a regex.
+ghost use Rattle.std.specs.Prelude.{◌≡◌, IfOk, Some, option_map};
+ghost use Rattle.rc_settings.specs.Settings.{settings_of, unset, overwritten, match_kind_of, utf8_empty_of, auto_prefilter_of, prefilter_of, which_captures_of, nfa_size_limit_of, hybrid_cache_capacity_of, hybrid_of, dfa_of, dfa_size_limit_of, dfa_state_limit_of, byte_classes_of, line_terminator_of};
+ghost use Rattle.rc_literal.specs.Prefilters.{needles_of};
+
+use crate::which::WhichCaptures;
+use rc_literal::prefilter::{Prefilter, copy_of};
+use rc_text::types::MatchKind;
+use std::alloc::{AllocError, Global};
+
+/// The settings of a build. One that isn't set has its default.
+#[derive(Debug, Drop)]
+pub struct Config {
+    match_kind: Option<MatchKind>,
+    utf8_empty: Option<bool>,
+    auto_prefilter: Option<bool>,
+    prefilter: Option<Option<Prefilter>>,
+    which_captures: Option<WhichCaptures>,
+    nfa_size_limit: Option<Option<usize>>,
+    onepass_size_limit: Option<Option<usize>>,
+    hybrid_cache_capacity: Option<usize>,
+    hybrid: Option<bool>,
+    dfa: Option<bool>,
+    dfa_size_limit: Option<Option<usize>>,
+    dfa_state_limit: Option<Option<usize>>,
+    byte_classes: Option<bool>,
+    backtrack: Option<bool>,
+    line_terminator: Option<u8>,
+}
+
+impl Config {
+    /// Nothing is set.
+    pub fn new() -> Config
+        ensures { settings_of result ≡ unset }
+    {
+        Config {
+            match_kind: None,
+            utf8_empty: None,
+            auto_prefilter: None,
+            prefilter: None,
+            which_captures: None,
+            nfa_size_limit: None,
+            onepass_size_limit: None,
+            hybrid_cache_capacity: None,
+            hybrid: None,
+            dfa: None,
+            dfa_size_limit: None,
+            dfa_state_limit: None,
+            byte_classes: None,
+            backtrack: None,
+            line_terminator: None,
+        }
+    }
+
+    /// Which match is sought: the first walk of the least start, or all.
+    pub fn match_kind(mut self, value: MatchKind) -> Config
+        ensures { settings_of result ≡ record (settings_of self) { match_kind = Some value } }
+    {
+        self.match_kind = Some(value);
+        self
+    }
+
+    /// Whether empty matches stand on boundaries alone.
+    pub fn utf8_empty(mut self, yes: bool) -> Config
+        ensures { settings_of result ≡ record (settings_of self) { utf8_empty = Some yes } }
+    {
+        self.utf8_empty = Some(yes);
+        self
+    }
+
+    /// Whether a search may look for literals of the patterns first. No answer depends on it.
+    pub fn auto_prefilter(mut self, yes: bool) -> Config
+        ensures { settings_of result ≡ record (settings_of self) { auto_prefilter = Some yes } }
+    {
+        self.auto_prefilter = Some(yes);
+        self
+    }
+
+    /// The needles that a search may look for first; `None` for none of the caller's. No answer depends
+    /// on it: they are used only where each prefix of the patterns begins with one of them.
+    pub fn prefilter(mut self, value: Option<Prefilter>) -> Config
+        ensures { settings_of result ≡ record (settings_of self) { prefilter = Some (option_map needles_of value) } }
+    {
+        self.prefilter = Some(value);
+        self
+    }
+
+    /// Which groups the regex keeps.
+    pub fn which_captures(mut self, value: WhichCaptures) -> Config
+        ensures { settings_of result ≡ record (settings_of self) { which_captures = Some value } }
+    {
+        self.which_captures = Some(value);
+        self
+    }
+
+    /// The limit on 32 times the weight of the patterns; `None` for no limit.
+    pub fn nfa_size_limit(mut self, value: Option<usize>) -> Config
+        ensures { settings_of result ≡ record (settings_of self) { nfa_size_limit = Some value } }
+    {
+        self.nfa_size_limit = Some(value);
+        self
+    }
+
+    /// Kept, and read by nothing.
+    pub fn onepass_size_limit(mut self, value: Option<usize>) -> Config
+        ensures { settings_of result ≡ record (settings_of self) { onepass_size_limit = Some value } }
+    {
+        self.onepass_size_limit = Some(value);
+        self
+    }
+
+    /// The capacity of the cache of the lazy DFA, in bytes. No answer depends on it.
+    pub fn hybrid_cache_capacity(mut self, value: usize) -> Config
+        ensures { settings_of result ≡ record (settings_of self) { hybrid_cache_capacity = Some value } }
+    {
+        self.hybrid_cache_capacity = Some(value);
+        self
+    }
+
+    /// Whether a search may run a lazy DFA. No answer depends on it.
+    pub fn hybrid(mut self, yes: bool) -> Config
+        ensures { settings_of result ≡ record (settings_of self) { hybrid = Some yes } }
+    {
+        self.hybrid = Some(yes);
+        self
+    }
+
+    /// Whether a search may run a DFA. No answer depends on it.
+    pub fn dfa(mut self, yes: bool) -> Config
+        ensures { settings_of result ≡ record (settings_of self) { dfa = Some yes } }
+    {
+        self.dfa = Some(yes);
+        self
+    }
+
+    /// The limit on the size of DFAs, in bytes, a quarter of it for each direction; `None` for no limit. No answer depends on it.
+    pub fn dfa_size_limit(mut self, value: Option<usize>) -> Config
+        ensures { settings_of result ≡ record (settings_of self) { dfa_size_limit = Some value } }
+    {
+        self.dfa_size_limit = Some(value);
+        self
+    }
+
+    /// The number of places up to which a DFA is tried; `None` for no limit. No answer depends on it.
+    pub fn dfa_state_limit(mut self, value: Option<usize>) -> Config
+        ensures { settings_of result ≡ record (settings_of self) { dfa_state_limit = Some value } }
+    {
+        self.dfa_state_limit = Some(value);
+        self
+    }
+
+    /// Whether DFAs put bytes that no pattern tells apart into one class. No answer depends on it.
+    pub fn byte_classes(mut self, yes: bool) -> Config
+        ensures { settings_of result ≡ record (settings_of self) { byte_classes = Some yes } }
+    {
+        self.byte_classes = Some(yes);
+        self
+    }
+
+    /// Kept, and read by nothing.
+    pub fn backtrack(mut self, yes: bool) -> Config
+        ensures { settings_of result ≡ record (settings_of self) { backtrack = Some yes } }
+    {
+        self.backtrack = Some(yes);
+        self
+    }
+
+    /// The byte that ends a line for `^` and `$`.
+    pub fn line_terminator(mut self, value: u8) -> Config
+        ensures { settings_of result ≡ record (settings_of self) { line_terminator = Some value } }
+    {
+        self.line_terminator = Some(value);
+        self
+    }
+
+    /// Which match is sought; `LeftmostFirst` where it isn't set.
+    pub fn get_match_kind(&self) -> MatchKind
+        ensures { result ≡ match_kind_of (settings_of self.now) }
+    {
+        self.match_kind.unwrap_or(MatchKind::LeftmostFirst)
+    }
+
+    /// Whether empty matches stand on boundaries alone; true where it isn't set.
+    pub fn get_utf8_empty(&self) -> bool
+        ensures { result ≡ utf8_empty_of (settings_of self.now) }
+    {
+        self.utf8_empty.unwrap_or(true)
+    }
+
+    /// Whether a search may look for literals of the patterns first; true where it isn't set.
+    pub fn get_auto_prefilter(&self) -> bool
+        ensures { result ≡ auto_prefilter_of (settings_of self.now) }
+    {
+        self.auto_prefilter.unwrap_or(true)
+    }
+
+    /// The needles that a search may look for first; `None` where they aren't set.
+    pub fn get_prefilter(&self) -> Option<&Prefilter>
+        ensures { option_map (λ p. needles_of p.now) result ≡ prefilter_of (settings_of self.now) }
+    {
+        match &self.prefilter {
+            Some(Some(prefilter)) => Some(prefilter),
+            Some(None) | None => None,
+        }
+    }
+
+    /// Which groups the regex keeps; `All` where it isn't set.
+    pub fn get_which_captures(&self) -> WhichCaptures
+        ensures { result ≡ which_captures_of (settings_of self.now) }
+    {
+        self.which_captures.unwrap_or(WhichCaptures::All)
+    }
+
+    /// The limit on 32 times the weight of the patterns, `None` for no limit; 10,485,760 where it isn't set.
+    pub fn get_nfa_size_limit(&self) -> Option<usize>
+        ensures { result ≡ nfa_size_limit_of (settings_of self.now) }
+    {
+        self.nfa_size_limit.unwrap_or(Some(10_485_760))
+    }
+
+    /// The capacity of the cache of the lazy DFA, in bytes; 2,097,152 where it isn't set.
+    pub fn get_hybrid_cache_capacity(&self) -> usize
+        ensures { result ≡ hybrid_cache_capacity_of (settings_of self.now) }
+    {
+        self.hybrid_cache_capacity.unwrap_or(2_097_152)
+    }
+
+    /// Whether a search may run a lazy DFA; true where it isn't set.
+    pub fn get_hybrid(&self) -> bool
+        ensures { result ≡ hybrid_of (settings_of self.now) }
+    {
+        self.hybrid.unwrap_or(true)
+    }
+
+    /// Whether a search may run a DFA; true where it isn't set.
+    pub fn get_dfa(&self) -> bool
+        ensures { result ≡ dfa_of (settings_of self.now) }
+    {
+        self.dfa.unwrap_or(true)
+    }
+
+    /// The limit on the size of DFAs, in bytes, `None` for no limit; 40,960 where it isn't set.
+    pub fn get_dfa_size_limit(&self) -> Option<usize>
+        ensures { result ≡ dfa_size_limit_of (settings_of self.now) }
+    {
+        self.dfa_size_limit.unwrap_or(Some(40_960))
+    }
+
+    /// The number of places up to which a DFA is tried, `None` for no limit; 30 where it isn't set.
+    pub fn get_dfa_state_limit(&self) -> Option<usize>
+        ensures { result ≡ dfa_state_limit_of (settings_of self.now) }
+    {
+        self.dfa_state_limit.unwrap_or(Some(30))
+    }
+
+    /// Whether DFAs put bytes that no pattern tells apart into one class; true where it isn't set.
+    pub fn get_byte_classes(&self) -> bool
+        ensures { result ≡ byte_classes_of (settings_of self.now) }
+    {
+        self.byte_classes.unwrap_or(true)
+    }
+
+    /// The byte that ends a line for `^` and `$`; 10 where it isn't set.
+    pub fn get_line_terminator(&self) -> u8
+        ensures { result ≡ line_terminator_of (settings_of self.now) }
+    {
+        self.line_terminator.unwrap_or(b'\n')
+    }
+
+    /// Takes over what `new` sets, and keeps what it doesn't.
+    pub fn overwrite(&mut self, new: Config)
+        ensures { settings_of self.new ≡ overwritten (settings_of self.old) (settings_of new) }
+    {
+        self.match_kind = new.match_kind.or(self.match_kind);
+        self.utf8_empty = new.utf8_empty.or(self.utf8_empty);
+        self.auto_prefilter = new.auto_prefilter.or(self.auto_prefilter);
+        self.which_captures = new.which_captures.or(self.which_captures);
+        self.nfa_size_limit = new.nfa_size_limit.or(self.nfa_size_limit);
+        self.onepass_size_limit = new.onepass_size_limit.or(self.onepass_size_limit);
+        self.hybrid_cache_capacity = new.hybrid_cache_capacity.or(self.hybrid_cache_capacity);
+        self.hybrid = new.hybrid.or(self.hybrid);
+        self.dfa = new.dfa.or(self.dfa);
+        self.dfa_size_limit = new.dfa_size_limit.or(self.dfa_size_limit);
+        self.dfa_state_limit = new.dfa_state_limit.or(self.dfa_state_limit);
+        self.byte_classes = new.byte_classes.or(self.byte_classes);
+        self.backtrack = new.backtrack.or(self.backtrack);
+        self.line_terminator = new.line_terminator.or(self.line_terminator);
+        if let Some(prefilter) = new.prefilter {
+            self.prefilter = Some(prefilter);
+        }
+    }
+
+    /// The same settings. An `Err` is want of memory, which a prefilter takes.
+    pub fn try_clone(&self, alloc: Global) -> Result<Config, AllocError>
+        ensures { IfOk result (λ c. settings_of c ≡ settings_of self.now) }
+    {
+        let prefilter = match &self.prefilter {
+            Some(Some(prefilter)) => Some(Some(copy_of(alloc, prefilter)?)),
+            Some(None) => Some(None),
+            None => None,
+        };
+        Ok(Config {
+            match_kind: self.match_kind,
+            utf8_empty: self.utf8_empty,
+            auto_prefilter: self.auto_prefilter,
+            prefilter,
+            which_captures: self.which_captures,
+            nfa_size_limit: self.nfa_size_limit,
+            onepass_size_limit: self.onepass_size_limit,
+            hybrid_cache_capacity: self.hybrid_cache_capacity,
+            hybrid: self.hybrid,
+            dfa: self.dfa,
+            dfa_size_limit: self.dfa_size_limit,
+            dfa_state_limit: self.dfa_state_limit,
+            byte_classes: self.byte_classes,
+            backtrack: self.backtrack,
+            line_terminator: self.line_terminator,
+        })
+    }
+}

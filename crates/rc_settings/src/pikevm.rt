@@ -1,0 +1,87 @@
+//! The settings of searches by a `PikeVM`.
+ghost use Rattle.std.specs.Prelude.{◌≡◌, IfOk, Some, option_map};
+ghost use Rattle.rc_literal.specs.Prefilters.{needles_of};
+ghost use Rattle.rc_settings.specs.SearchSettings.{search_settings_of, none_set, set_over, match_kind_of};
+
+use rc_literal::prefilter::{Prefilter, copy_of};
+use rc_text::types::MatchKind;
+use std::alloc::{AllocError, Global};
+
+/// The settings of searches. One that isn't set has its default.
+#[derive(Debug, Drop)]
+pub struct Config {
+    match_kind: Option<MatchKind>,
+    prefilter: Option<Option<Prefilter>>,
+}
+
+impl Config {
+    /// Nothing is set.
+    pub fn new() -> Config
+        ensures { search_settings_of result ≡ none_set }
+    {
+        Config {
+            match_kind: None,
+            prefilter: None,
+        }
+    }
+
+    /// Which match is sought: the first walk of the least start, as where it isn't set; or the greatest, which has the greatest end,
+    /// then the least start, then the least pattern. A search for the greatest passes no match over, and finds no groups but the
+    /// whole match.
+    pub fn match_kind(mut self, value: MatchKind) -> Config
+        ensures { search_settings_of result ≡ record (search_settings_of self) { match_kind = Some value } }
+    {
+        self.match_kind = Some(value);
+        self
+    }
+
+    /// The needles that a search may look for first; `None`, as where it isn't set, for none. No answer depends on it: they are used
+    /// only where prefixes of the patterns were extracted and each begins with one of them.
+    pub fn prefilter(mut self, value: Option<Prefilter>) -> Config
+        ensures { search_settings_of result ≡ record (search_settings_of self) { prefilter = Some (option_map needles_of value) } }
+    {
+        self.prefilter = Some(value);
+        self
+    }
+
+    /// Which match is sought.
+    pub fn get_match_kind(&self) -> MatchKind
+        ensures { result ≡ match_kind_of (search_settings_of self.now) }
+    {
+        self.match_kind.unwrap_or(MatchKind::LeftmostFirst)
+    }
+
+    /// Takes over what `new` sets, and keeps what it doesn't.
+    pub fn overwrite(&mut self, new: Config)
+        ensures { search_settings_of self.new ≡ set_over (search_settings_of self.old) (search_settings_of new) }
+    {
+        self.match_kind = new.match_kind.or(self.match_kind);
+        if let Some(prefilter) = new.prefilter {
+            self.prefilter = Some(prefilter);
+        }
+    }
+
+    /// The prefilter that was set.
+    pub fn asked(&self) -> Option<&Prefilter> {
+        match &self.prefilter {
+            Some(Some(prefilter)) => Some(prefilter),
+            Some(None) => None,
+            None => None,
+        }
+    }
+
+    /// The same settings. An `Err` is want of memory, which a prefilter takes.
+    pub fn try_clone(&self, alloc: Global) -> Result<Config, AllocError>
+        ensures { IfOk result (λ c. search_settings_of c ≡ search_settings_of self.now) }
+    {
+        let prefilter = match &self.prefilter {
+            Some(Some(prefilter)) => Some(Some(copy_of(alloc, prefilter)?)),
+            Some(None) => Some(None),
+            None => None,
+        };
+        Ok(Config {
+            match_kind: self.match_kind,
+            prefilter,
+        })
+    }
+}

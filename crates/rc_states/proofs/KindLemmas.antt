@@ -1,0 +1,120 @@
+-- The laws of the steps of each kind.
+use Rattle.std.proofs.Common.{◌≡◌, ℕ, ◌<◌, ◌≤◌, ◌⊎◌, ◌↔◌, Bool, true, false, List, [], ◌∷◌, length, Option, Some, inl, inr, ⊎_elim, sym, subst, ap, ◌∙◌, arith}
+use Rattle.std.specs.List.{AllByRecursion}
+use Rattle.std.proofs.lemmas.Bool.{cases_lt}
+use Rattle.std.proofs.lemmas.List.Elements.{recursion_from_All}
+use Rattle.rc_pattern.specs.declared.hir.Look.{Look}
+use Rattle.rc_program.specs.Program.{Place, choice, Way, stays, reads, ways_out, place_at}
+use Rattle.rc_program.specs.Laws.{IsClosed, targets}
+use Rattle.rc_program.proofs.PlaceLemmas.{ways_out_to, goal_of}
+use Rattle.rc_program.proofs.WayLemmas.{past_places}
+use Rattle.rc_states.specs.Steps.{HasPlace, AreOnce, AreBelow, IsStep, ahead_of, out_by}
+use Rattle.rc_states.specs.Sides.{holds_by, told, AreAlike, out_seen}
+use Rattle.rc_states.specs.States.{Setting, State, IsNext, root_if, is_match}
+use Rattle.rc_states.specs.Steps.{HasWay}
+use Rattle.rc_states.proofs.SidesLemmas.{alike_out}
+use Rattle.rc_text.specs.declared.types.MatchKind.{MatchKind}
+use Rattle.rc_text.specs.declared.types.MatchKind.TheVariants.{All as all_matches, LeftmostFirst as leftmost_first}
+use Rattle.rc_states.specs.Steps.{IsRising}
+use Rattle.rc_states.specs.Sets.{ComesBy, IsLeastMatch, IsNextOfAll}
+use Rattle.rc_states.specs.Kinds.{IsNextBy, longest, KindLaw}
+use Rattle.rc_states.proofs.LimitLemmas as limit
+
+pub rising_once : (qs : List ℕ) → IsRising qs → AreOnce qs
+rising_once [] h = tt
+rising_once (q ∷ qs) h = ((λ k. let l = h.0 q k in absurd (omega (arith, l))), rising_once qs h.1)
+
+alike_next : (g : Setting) (root b c : ℕ) (s s2 : State) → AreAlike g.places g.needs g.terminator b c → IsNext g root s (Some b) s2 → IsNext g root s (Some c) s2
+alike_next g root b c s s2 a n = record {
+  next = n.next;
+  is_step = subst (λ o. IsStep o (is_match g.places) s.list n.next s2.stop) (alike_out g.places g.needs g.terminator b c s.beside a) n.is_step;
+  goes_on = n.goes_on;
+  joined = n.joined;
+  beside = n.beside ∙ a.told_same;
+}
+
+alike_all : (g : Setting) (root b c : ℕ) (s s2 : State) → AreAlike g.places g.needs g.terminator b c → IsNextOfAll g root s (Some b) s2 →
+    IsNextOfAll g root s (Some c) s2
+alike_all g root b c s s2 a n =
+    let e = alike_out g.places g.needs g.terminator b c s.beside a in
+    record {
+      list = λ q. subst (λ o. HasPlace q s2.list ↔ (((s2.goes_on ≡ true) × (q ≡ root)) ⊎ ((p : ℕ) × ComesBy o s.list p × HasWay (reads 1 q) (o p)))) e (n.list q);
+      rising = n.rising;
+      stop = subst (λ o. IsLeastMatch g.places (ComesBy o s.list) s2.stop) e n.stop;
+      goes_on = n.goes_on;
+      beside = n.beside ∙ a.told_same;
+    }
+
+alike : (kind : MatchKind) (g : Setting) (root b c : ℕ) (s t : State) → AreAlike g.places g.needs g.terminator b c →
+    IsNextBy kind g root s (Some b) t → IsNextBy kind g root s (Some c) t
+alike leftmost_first g root b c s t a n = alike_next g root b c s t a n
+alike all_matches g root b c s t a n = alike_all g root b c s t a n
+
+-- the reading ways of a closed program lead to its places
+read_under : (n : ℕ) (ws : List Way) → AllByRecursion (λ w. goal_of w < n) ws → AreBelow n (limit.read_by ws)
+read_under n [] h k i = absurd i
+read_under n (stays q ∷ ws) h k i = read_under n ws h.1 k i
+read_under n (reads count q ∷ ws) h k i = ⊎_elim (λ e. subst (λ x. x < n) e h.0) (λ z. read_under n ws h.1 k z) i
+
+no_targets : (places : List Place) (q : ℕ) → length places ≤ q → AllByRecursion (λ k. k < length places) (targets (place_at places q))
+no_targets places q ge = subst (λ p. AllByRecursion (λ k. k < length places) (targets p)) (sym (past_places places q ge)) tt
+
+out_under : (places : List Place) → IsClosed places → (test : Look → Bool) (after : Option ℕ) (q : ℕ) →
+    AreBelow (length places) (limit.read_by (out_by places test after q))
+out_under places closed test after q =
+    read_under (length places) (ways_out test (ahead_of after) (place_at places q))
+    (ways_out_to (λ k. k < length places) test (ahead_of after) (place_at places q)
+    (⊎_elim (λ lt. recursion_from_All (λ k. k < length places) (targets (place_at places q)) (closed q (choice []) lt))
+    (λ ge. no_targets places q ge) (cases_lt q (length places))))
+
+root_under : (b : Bool) (root n : ℕ) → root < n → AreBelow n (root_if b root)
+root_under true root n h k i = ⊎_elim (λ e. subst (λ x. x < n) e h) (λ never. absurd never) i
+root_under false root n h k i = absurd i
+
+abbrev kind_of : Way → ℕ
+kind_of (stays q) = 0
+kind_of (reads n q) = 1
+
+read_in : (n q : ℕ) (ws : List Way) → HasWay (reads n q) ws → HasPlace q (limit.read_by ws)
+read_in n q [] h = absurd h
+read_in n q (stays k ∷ ws) h = ⊎_elim (λ e. absurd (stays_reads e)) (λ z. read_in n q ws z) h
+  where
+    stays_reads : stays k ≡ reads n q → ⊥
+    stays_reads e = let f : 0 ≡ 1 = ap (λ w. kind_of w) e in omega (arith, f)
+read_in n q (reads m k ∷ ws) h = ⊎_elim (λ e. inl (ap (λ w. goal_of w) e)) (λ z. inr (read_in n q ws z)) h
+
+inside : (kind : MatchKind) (g : Setting) (root : ℕ) (s t : State) (after : Option ℕ) → IsClosed g.places → root < length g.places →
+    IsNextBy kind g root s after t → AreOnce t.list × AreBelow (length g.places) t.list
+inside leftmost_first g root s t after closed rooted n =
+    let f = limit.next_fits (out_seen g.places g.needs g.terminator s.beside after) (is_match g.places) (length g.places)
+    (out_under g.places closed (holds_by s.beside (told g.needs g.terminator after)) after) n.is_step in
+    (limit.once_kept n.joined f.0, limit.under_kept (length g.places) n.joined f.1 (root_under t.goes_on root (length g.places) rooted))
+inside all_matches g root s t after closed rooted n = (
+  rising_once t.list n.rising,
+  λ q h.
+      ⊎_elim (λ x. subst (λ k. k < length g.places) (sym x.1) rooted)
+      (λ x. out_under g.places closed (holds_by s.beside (told g.needs g.terminator after)) after x.0 q (read_in 1 q _ x.2))
+      ((n.list q).0 h),
+)
+
+short : (kind : MatchKind) (g : Setting) (root : ℕ) (s t : State) (after : Option ℕ) → IsClosed g.places → root < length g.places →
+    IsNextBy kind g root s after t → length t.list ≤ longest kind (length g.places)
+short leftmost_first g root s t after closed rooted n =
+    let f = inside leftmost_first g root s t after closed rooted n in limit.short (length g.places) t.list f.0 f.1
+short all_matches g root s t after closed rooted n =
+    let f = inside all_matches g root s t after closed rooted n in limit.short (length g.places) t.list f.0 f.1
+
+forgets : (kind : MatchKind) (g : Setting) (root : ℕ) (s t : State) (after stop : Option ℕ) →
+    IsNextBy kind g root s after t → IsNextBy kind g root (record s { stop = stop }) after t
+forgets leftmost_first g root s t after stop n =
+    record { next = n.next; is_step = n.is_step; goes_on = n.goes_on; joined = n.joined; beside = n.beside }
+forgets all_matches g root s t after stop n =
+    record { list = n.list; rising = n.rising; stop = n.stop; goes_on = n.goes_on; beside = n.beside }
+
+tells : (kind : MatchKind) (g : Setting) (root : ℕ) (s t : State) (after : Option ℕ) →
+    IsNextBy kind g root s after t → t.beside ≡ told g.needs g.terminator after
+tells leftmost_first g root s t after n = n.beside
+tells all_matches g root s t after n = n.beside
+
+pub kind_law : KindLaw
+kind_law = record { alike = alike; inside = inside; short = short; forgets = forgets; tells = tells }

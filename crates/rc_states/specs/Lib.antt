@@ -1,0 +1,15 @@
+pub mod Gives
+pub mod Steps
+pub mod Sides
+pub mod Run
+pub mod Machine
+pub mod States
+pub mod Backward
+pub mod Laws
+pub mod Sets
+pub mod Places
+pub mod Kinds
+pub mod Sparse
+pub mod Reversed
+pub mod Classes
+pub mod Spans

@@ -1,0 +1,56 @@
+-- Only proofs use this file.
+-- The step as a machine with a stack, a set of places that it has entered, and a list that grows.
+use Rattle.std.specs.Prelude.{ℕ, suc, List, [], ◌∷◌, ◌++◌, Option, Some, None, Bool, true, false, IsTrue, nat_eq, min, if◌then◌else◌, ◌↔◌}
+use Rattle.std.specs.List.{list_any}
+use Rattle.rc_program.specs.Program.{Place, Way, stays, reads}
+use Rattle.rc_states.specs.Steps.{HasPlace, HasWay}
+use Rattle.rc_states.specs.Sets.{ComesBy, IsLeastMatch}
+
+-- `Runs steps entered stack next new stop`: so many steps lead to the end
+pub data Runs (out : ℕ → List Way) (ends : ℕ → Bool) : ℕ → List ℕ → List Way → List ℕ → List ℕ → Option ℕ → Type 0 where
+  done : {entered next : List ℕ} → Runs out ends 0 entered [] next next None
+  adds : {k : ℕ} {entered : List ℕ} {from : List Way} {next new : List ℕ} {stop : Option ℕ} (q : ℕ) → ¬ HasPlace q next →
+      Runs out ends k entered from (next ++ q ∷ []) new stop → Runs out ends (suc k) entered (reads 1 q ∷ from) next new stop
+  repeats : {k : ℕ} {entered : List ℕ} {from : List Way} {next new : List ℕ} {stop : Option ℕ} (q : ℕ) → HasPlace q next →
+      Runs out ends k entered from next new stop → Runs out ends (suc k) entered (reads 1 q ∷ from) next new stop
+  leaps : {k : ℕ} {entered : List ℕ} {from : List Way} {next new : List ℕ} {stop : Option ℕ} (q : ℕ) → HasPlace q entered →
+      Runs out ends k entered from next new stop → Runs out ends (suc k) entered (stays q ∷ from) next new stop
+  matches : {entered : List ℕ} {from : List Way} {next : List ℕ} (q : ℕ) → ¬ HasPlace q entered → IsTrue (ends q) →
+      Runs out ends 0 entered (stays q ∷ from) next next (Some q)
+  opens : {k : ℕ} {entered : List ℕ} {from : List Way} {next new : List ℕ} {stop : Option ℕ} (q : ℕ) → ¬ HasPlace q entered →
+      ¬ IsTrue (ends q) → Runs out ends k (entered ++ q ∷ []) (out q ++ from) next new stop →
+      Runs out ends (suc k) entered (stays q ∷ from) next new stop
+
+abbrev pub Finishes : (ℕ → List Way) → (ℕ → Bool) → List ℕ → List Way → List ℕ → List ℕ → Option ℕ → Type 0
+Finishes out ends entered from next new stop = (k : ℕ) × Runs out ends k entered from next new stop
+
+-- the places to which ways lead that read nothing, in order
+abbrev pub stay_places : List Way → List ℕ
+stay_places [] = []
+stay_places (stays q ∷ ws) = q ∷ stay_places ws
+stay_places (reads count q ∷ ws) = stay_places ws
+
+-- the places to which ways lead that read
+abbrev pub read_places : List Way → List ℕ
+read_places [] = []
+read_places (stays q ∷ ws) = read_places ws
+read_places (reads count q ∷ ws) = q ∷ read_places ws
+
+-- the list with the place, where it doesn't have it
+abbrev pub add_one : List ℕ → ℕ → List ℕ
+add_one list place = if list_any (λ q. nat_eq q place) list then list else list ++ place ∷ []
+
+abbrev pub add_all : List ℕ → List ℕ → List ℕ
+add_all list [] = list
+add_all list (q ∷ qs) = add_all (add_one list q) qs
+
+-- the lesser, where the place counts
+abbrev pub least_with : Bool → Option ℕ → ℕ → Option ℕ
+least_with false least q = least
+least_with true None q = Some q
+least_with true (Some p) q = Some (min p q)
+
+-- The places to which the byte leads from those to which ways lead that read nothing, and the least match place of these.
+pub record IsGathered (out : ℕ → List Way) (places : List Place) (list next : List ℕ) (stop : Option ℕ) : Type 0 where
+  pub listed : (q : ℕ) → HasPlace q next ↔ ((p : ℕ) × ComesBy out list p × HasWay (reads 1 q) (out p))
+  pub least : IsLeastMatch places (ComesBy out list) stop

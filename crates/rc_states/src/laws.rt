@@ -1,0 +1,41 @@
+//! The laws of states and steps. The functions do nothing: their contracts are the laws.
+ghost use Rattle.rc_states.specs.Laws.{ForwardLaw, BackwardLaw, SpanLaw, GatherLaw};
+ghost use Rattle.rc_states.specs.Classes.{ClassLaw};
+ghost use Rattle.rc_states.specs.Spans.{GreatestSpanLaw};
+ghost use Rattle.rc_states.specs.Kinds.{KindLaw};
+
+/// A search that goes from state to state, a byte at a time, gives where the first walk of the least start ends.
+pub fn states_carry_first_walks()
+    ensures { ForwardLaw }
+{}
+
+/// A search that comes down from an end tells at each position whether walks lead from there to that end.
+pub fn states_tell_starts()
+    ensures { BackwardLaw }
+{}
+
+/// The end that is found forwards and the least start that is found backwards from it are the answer's.
+pub fn ends_and_starts_are_answers()
+    ensures { SpanLaw }
+{}
+
+/// A search where each match counts tells at each position whether a walk ends there.
+pub fn states_gather_walks()
+    ensures { GatherLaw }
+{}
+
+/// A step of each kind is the same over bytes that are alike, and its state holds places of the program, each once.
+pub fn steps_are_of_a_kind()
+    ensures { KindLaw }
+{}
+
+/// No step can tell bytes of one class apart.
+pub fn classes_are_alike()
+    ensures { ClassLaw }
+{}
+
+/// Where each match counts, the last end that is found forwards, and backwards from it the least start and there the first root, are the
+/// greatest span.
+pub fn last_ends_and_least_starts_are_greatest()
+    ensures { GreatestSpanLaw }
+{}

@@ -1,0 +1,34 @@
+//! The places of a byte program, as a step reads them.
+
+use rc_pattern::hir::{ClassBytesRange, Look};
+
+/// A way out of a branch: over one byte of a range, both ends included, to the place of this index.
+#[derive(Clone, Copy)]
+pub struct ByteWay {
+    pub first: u8,
+    pub last: u8,
+    pub next: usize,
+}
+
+/// A place of a byte program. A way out names another place by its index in the program.
+#[derive(Drop)]
+pub enum BytePlace {
+    /// Two ways out, in this order, which read nothing.
+    Choice(usize, usize),
+    /// One way out, which reads nothing.
+    Pass(usize),
+    /// No way out.
+    Dead,
+    /// One way out, over this byte.
+    Byte(u8, usize),
+    /// One way out, over one byte of the ranges.
+    Bytes(Vec<ClassBytesRange>, usize),
+    /// A way out over each range of bytes.
+    Branch(Vec<ByteWay>),
+    /// One way out, where the assertion holds.
+    Guard(Look, usize),
+    /// One way out, and the slot that a visit here fills.
+    Slot(usize, usize),
+    /// The match place of a pattern.
+    Accept(usize),
+}

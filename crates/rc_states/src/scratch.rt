@@ -1,0 +1,41 @@
+//! What a step works with.
+ghost use Rattle.std.specs.Coded.{coded_ℕ};
+ghost use Rattle.std.specs.Prelude.{ℕ, ◌≡◌, IfOk};
+
+use crate::sparse_set::SparseSet;
+use std::alloc::{AllocError, Global};
+use std::marker::Model;
+
+/// What a step works with, made once for a program. Between steps it says nothing.
+#[derive(Drop)]
+pub struct Scratch {
+    pub(crate) stack: Vec<usize>,
+    pub(crate) entered: SparseSet,
+    pub(crate) listed: SparseSet,
+}
+
+impl Model for Scratch {
+    ghost Value = { ℕ };
+
+    ghost coded = { coded_ℕ };
+
+    ghost view = { λ a. a.entered.capacity };
+
+    ghost invariant = { λ a. a.listed.capacity ≡ a.entered.capacity };
+}
+
+impl Scratch {
+    /// Scratch for programs of so many places. An `Err` is want of memory.
+    pub fn new(alloc: Global, places: usize) -> Result<Scratch, AllocError>
+        ensures { IfOk result (λ scratch. scratch ≡ places) }
+    {
+        let stack = Vec::new(alloc);
+        let entered = SparseSet::new(alloc, places)?;
+        let listed = SparseSet::new(alloc, places)?;
+        Ok(Scratch {
+            stack,
+            entered,
+            listed,
+        })
+    }
+}

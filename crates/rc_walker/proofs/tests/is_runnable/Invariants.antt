@@ -1,7 +1,0 @@
-use Rattle.std.proofs.Common.{◌<◌, ℕ, length, slice_index_or}
-use Rattle.rc_compile.specs.declared.place.Place.{Place}
-use Rattle.rc_walker.proofs.RunnableLemmas.{IsSound}
-use Rattle.rc_walker.proofs.tests.is_runnable.Given as goal
-
-abbrev pub invariant-loop-place : goal.invariant-loop-place
-invariant-loop-place l = (k : ℕ) (d : Place) → k < l.place-index → IsSound (length l.places) (slice_index_or l.places k d)

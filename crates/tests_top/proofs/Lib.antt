@@ -1,0 +1,2 @@
+pub mod BoundedLemmas
+pub mod RunnableLemmas
