@@ -238,26 +238,27 @@ fn refusal(alloc: Global, hirs: &[Hir]) -> Option<BuildError>
     Regex::builder().build_many_from_hir(alloc, hirs).err()
 }
 
+/// The refusal of the pattern of this number, which isn't well-formed.
+fn ill_formed(number: usize) -> Option<BuildError> {
+    let pattern = PatternID::new(number)?;
+    Some(BuildError::IllFormed { pattern })
+}
+
 #[test]
 fn refused_trees(rt: HostRuntime) -> Result<(), Fail> {
     let alloc = rt.alloc();
     // a group numbered 2 alone
     let hirs = [Hir::literal(alloc, b"a")?, group(alloc, 2)?];
     let error = refusal(alloc, &hirs);
-    assert!(rt;
-        matches!(error, Some(BuildError::IllFormed { pattern }) if pattern.as_usize() == 1)
-    );
+    assert!(rt; error == ill_formed(1));
     assert!(rt; error.and_then(|e| e.pattern()).is_none());
     // two groups of one name
     let mut subs = Vec::new(alloc);
     subs.push(group(alloc, 1)?)?;
     subs.push(group(alloc, 2)?)?;
-    let error = refusal(alloc, &[Hir::concat(alloc, subs)?]);
-    assert!(rt;
-        matches!(error, Some(BuildError::IllFormed { pattern }) if pattern.as_usize() == 0)
-    );
+    assert!(rt; refusal(alloc, &[Hir::concat(alloc, subs)?]) == ill_formed(0));
     let error = refusal(alloc, &[nested(alloc, 1000, u32::MAX)?]);
-    assert!(rt; matches!(error, Some(BuildError::SizeLimit { limit: 10485760 })));
+    assert!(rt; error == Some(BuildError::SizeLimit { limit: 10485760 }));
     Ok(())
 }
 
@@ -270,9 +271,6 @@ fn nested_to_the_limit(rt: HostRuntime) -> Result<(), Fail> {
     assert_eq!(rt; parts(found), Some((0, 0, 1)));
     let vm = PikeVM::builder().build_many_from_hir(alloc, std::slice::from_ref(&hir))?;
     assert!(rt; matches(alloc, &vm, b"a")?);
-    let error = refusal(alloc, &[turns(alloc, 1, hir)?]);
-    assert!(rt;
-        matches!(error, Some(BuildError::IllFormed { pattern }) if pattern.as_usize() == 0)
-    );
+    assert!(rt; refusal(alloc, &[turns(alloc, 1, hir)?]) == ill_formed(0));
     Ok(())
 }
