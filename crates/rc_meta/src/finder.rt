@@ -19,7 +19,7 @@ pub(crate) struct Finder<'r> {
     pub(crate) cache: Cache,
     pub(crate) last: Option<usize>,
     pub(crate) is_done: bool,
-    ghost made: { IsEngineCache regex.now.engine 0 cache },
+    ghost made: { IsEngineCache regex.now.built.engine 0 cache },
 }
 
 /// The same, with a cache for searches with all groups, and what gives the memory of captures.
@@ -27,7 +27,7 @@ pub(crate) struct Finder<'r> {
 pub(crate) struct GroupFinder<'r> {
     pub(crate) finder: Finder<'r>,
     pub(crate) alloc: Global,
-    ghost roomy: { IsEngineCache finder.regex.now.engine (slot_len (names_of finder.regex.now.info)) finder.cache },
+    ghost roomy: { IsEngineCache finder.regex.now.built.engine (slot_len (names_of finder.regex.now.built.info)) finder.cache },
 }
 
 impl<'r> Finder<'r> {
@@ -47,7 +47,11 @@ impl<'r> Finder<'r> {
             return None;
         }
         let regex = self.regex;
-        let Some(found) = regex.engine.next_match(&mut self.cache, input, self.last) else {
+        let Some(found) = regex
+            .built
+            .engine
+            .next_match(&mut self.cache, input, self.last)
+        else {
             self.is_done = true;
             return None;
         };
@@ -62,8 +66,8 @@ impl<'r> Finder<'r> {
         alloc: Global,
         input: &mut Input<C>,
     ) -> Option<Result<Captures, AllocError>>
-        requires made { IsEngineCache self.old.regex.now.engine (slot_len (names_of self.old.regex.now.info)) self.old.cache }
-        ensures still_made { IsEngineCache self.new.regex.now.engine (slot_len (names_of self.new.regex.now.info)) self.new.cache }
+        requires made { IsEngineCache self.old.regex.now.built.engine (slot_len (names_of self.old.regex.now.built.info)) self.old.cache }
+        ensures still_made { IsEngineCache self.new.regex.now.built.engine (slot_len (names_of self.new.regex.now.built.info)) self.new.cache }
         ensures steps { GivesCaptures self.old input.old result self.new input.new }
         ensures moves { IsMoved input.old input.new }
         ensures regex { self.new.regex.now ≡ self.old.regex.now }
@@ -73,7 +77,11 @@ impl<'r> Finder<'r> {
             return None;
         }
         let regex = self.regex;
-        let Some(found) = regex.engine.next_match(&mut self.cache, input, self.last) else {
+        let Some(found) = regex
+            .built
+            .engine
+            .next_match(&mut self.cache, input, self.last)
+        else {
             self.is_done = true;
             return None;
         };
@@ -82,6 +90,7 @@ impl<'r> Finder<'r> {
             return Some(Err(AllocError));
         };
         regex
+            .built
             .engine
             .find_captures(&mut self.cache, input, &mut caps);
         input.set_start(found.end());
