@@ -46,12 +46,8 @@ impl<'r> Finder<'r> {
         if self.is_done {
             return None;
         }
-        let regex = self.regex;
-        let Some(found) = regex
-            .built
-            .engine
-            .next_match(&mut self.cache, input, self.last)
-        else {
+        let engine = &self.regex.built.engine;
+        let Some(found) = engine.next_match(&mut self.cache, input, self.last) else {
             self.is_done = true;
             return None;
         };
@@ -76,23 +72,16 @@ impl<'r> Finder<'r> {
         if self.is_done {
             return None;
         }
-        let regex = self.regex;
-        let Some(found) = regex
-            .built
-            .engine
-            .next_match(&mut self.cache, input, self.last)
-        else {
+        let engine = &self.regex.built.engine;
+        let Some(found) = engine.next_match(&mut self.cache, input, self.last) else {
             self.is_done = true;
             return None;
         };
-        let Ok(mut caps) = regex.create_captures(alloc) else {
+        let Ok(mut caps) = self.regex.create_captures(alloc) else {
             self.is_done = true;
             return Some(Err(AllocError));
         };
-        regex
-            .built
-            .engine
-            .find_captures(&mut self.cache, input, &mut caps);
+        engine.find_captures(&mut self.cache, input, &mut caps);
         input.set_start(found.end());
         self.last = Some(found.end());
         Some(Ok(caps))
