@@ -1,3 +1,4 @@
+-- Only proofs use this file.
 -- What a search may go by.
 use Rattle.std.specs.Prelude.{◌≡◌, ℕ, Bool, List}
 use denote.Struct.Props.{props}

@@ -11,26 +11,22 @@ use Rattle.rc_captures.specs.declared.captures.Captures.{Captures}
 use Rattle.rc_program.specs.Answer.{Search, Chosen}
 use Rattle.rc_program.specs.Kinds.{IsAnswerBy, answer_by, answer_by_from, matches_by_kind}
 use Rattle.rc_program.specs.Matches.{begin_of, end_of, from_on, next_match}
-use Rattle.rc_program.specs.Program.{program, shown}
-use Rattle.rc_program.specs.Sought.{passes_over, search_for}
+use Rattle.rc_program.specs.Program.{shown}
+use Rattle.rc_program.specs.Sought.{search_for}
 use Rattle.rc_program.proofs.KindLemmas.{kinds_law}
 use Rattle.rc_engine.specs.Engine.{engine_search}
 use Rattle.rc_engine.specs.Moved.{IsMoved}
 use Rattle.rc_engine.specs.Tells.{TellsBy, TellsOf, KeepsAll}
 use Rattle.rc_engine.specs.Walks.{next_start, walks_left, walk_end}
-use Rattle.rc_engine.proofs.Steps.{left_from, left_short, search_moved, step_none, step_some}
+use Rattle.rc_engine.proofs.Steps.{left_short, step_some}
 use Rattle.rc_engine.proofs.Walked.{Step, last_step, tells_there, walk_step, walks_from}
 use Rattle.rc_settings.specs.Which.{is_grouped}
 use Rattle.rc_settings.specs.Settings.{which_captures_of}
 use Rattle.rc_meta.specs.Left.{unless_done}
 use Rattle.rc_meta.specs.Views.{regex_kind, regex_names, regex_patterns, regex_settings, sought}
 use Rattle.rc_meta.specs.declared.regex.Regex.{Regex}
-use Rattle.rc_meta.proofs.Fitted.{fits_search}
-use Rattle.rc_meta.proofs.Matched.{keeps_is_for, tells_match_by}
-
--- the engine of a regex finds the next of its matches
-abbrev pub Finds : Regex → Searched → Option ℕ → Option Found → Type 0
-Finds r i last o = o ≡ next_match begin_of end_of (answer_by_from r.engine.kind (engine_search r.engine i)) i.span.start last
+use Rattle.rc_build.proofs.Fitted.{Finds, answer_same, engine_none, engine_some, finds_same, fits_search, sought_moved, told_same}
+use Rattle.rc_build.proofs.Matched.{keeps_is_for, tells_match_by}
 
 -- what a regex seeks in an input
 abbrev search_of : Regex → Searched → Search
@@ -40,40 +36,25 @@ search_of r i = search_for (sought r) i
 abbrev pub matches_of : Regex → Searched → Option ℕ → List Found
 matches_of r i last = matches_by_kind (regex_kind r) (search_of r i) i.span.start last
 
-finds_same : (r : Regex) (i : Searched) (last : Option ℕ) (o : Option Found) → Finds r i last o →
-    o ≡ next_match begin_of end_of (answer_by_from (regex_kind r) (search_of r i)) i.span.start last
-finds_same r i last o f =
-    f ∙ ap (λ x. next_match begin_of end_of (answer_by_from r.engine.kind x) i.span.start last) (fits_search r.fits i)
-    ∙ ap (λ k. next_match begin_of end_of (answer_by_from k (search_of r i)) i.span.start last) r.fits.kinded
-
-finds_leftmost : (r : Regex) (i : Searched) (last : Option ℕ) (o : Option Found) → regex_kind r ≡ leftmost_first → Finds r i last o →
+finds_leftmost : (r : Regex) (i : Searched) (last : Option ℕ) (o : Option Found) → regex_kind r ≡ leftmost_first → Finds r.built.engine i last o →
     o ≡ next_match begin_of end_of (answer_by_from leftmost_first (search_of r i)) i.span.start last
 finds_leftmost r i last o kind f =
-    finds_same r i last o f ∙ ap (λ k. next_match begin_of end_of (answer_by_from k (search_of r i)) i.span.start last) kind
+    finds_same r.fits i last o f ∙ ap (λ k. next_match begin_of end_of (answer_by_from k (search_of r i)) i.span.start last) kind
 
 -- the search from where the span starts now
 pub moved : (r : Regex) (i j : Searched) → IsMoved i j → search_of r j ≡ from_on (search_of r i) j.span.start
-moved r i j m =
-    let q = sought r in search_moved (program (shown q.grouped q.patterns)) q.terminator (passes_over q) i j m
+moved r = sought_moved (sought r)
 
-pub none_left : (r : Regex) (i : Searched) (last : Option ℕ) (done : Bool) → Finds r i last None → unless_done done (matches_of r i last) ≡ []
+pub none_left : (r : Regex) (i : Searched) (last : Option ℕ) (done : Bool) → Finds r.built.engine i last None → unless_done done (matches_of r i last) ≡ []
 none_left r i last true f = refl
-none_left r i last false f = step_none (regex_kind r) (search_of r i) i.span.start last (finds_same r i last None f)
+none_left r i last false f = engine_none r.fits i last f
 
-pub no_walks : (r : Regex) (i : Searched) (last : Option ℕ) (done : Bool) → Finds r i last None → regex_kind r ≡ leftmost_first →
+pub no_walks : (r : Regex) (i : Searched) (last : Option ℕ) (done : Bool) → Finds r.built.engine i last None → regex_kind r ≡ leftmost_first →
     unless_done done (walks_left (search_of r i) i.span.start last) ≡ []
 no_walks r i last true f kind = refl
 no_walks r i last false f kind = last_step (search_of r i) i.span.start last (finds_leftmost r i last None kind f)
 
--- the others, from where the match ends
-others : (r : Regex) (i j : Searched) (at end : ℕ) → IsMoved i j → j.span.start ≡ at → end ≡ at →
-    matches_of r j (Some end) ≡ matches_by_kind (regex_kind r) (search_of r i) at (Some at)
-others r i j at end m a e =
-    ap (λ x. matches_by_kind (regex_kind r) x j.span.start (Some end)) (moved r i j m)
-    ∙ left_from (regex_kind r) (search_of r i) j.span.start j.span.start (Some end)
-    ∙ ap (λ k. matches_by_kind (regex_kind r) (search_of r i) k (Some end)) a
-    ∙ ap (λ l. matches_by_kind (regex_kind r) (search_of r i) at (Some l)) e
-
+-- the other walks, from where the match ends
 other_walks : (r : Regex) (i j : Searched) (at end : ℕ) → IsMoved i j → j.span.start ≡ at → end ≡ at →
     walks_left (search_of r j) j.span.start (Some end) ≡ walks_left (search_of r i) at (Some at)
 other_walks r i j at end m a e =
@@ -82,54 +63,43 @@ other_walks r i j at end m a e =
     ∙ ap (λ k. walks_left (search_of r i) k (Some end)) a
     ∙ ap (λ l. walks_left (search_of r i) at (Some l)) e
 
-first_left : (r : Regex) (i : Searched) (last : Option ℕ) (m : Found) → Finds r i last (Some m) →
-    matches_of r i last ≡ m ∷ matches_by_kind (regex_kind r) (search_of r i) m.end (Some m.end)
-first_left r i last m f = step_some (regex_kind r) (search_of r i) i.span.start last m (finds_same r i last (Some m) f)
-
 -- the next match, and the others from its end
-pub next_left : (r : Regex) (i j : Searched) (last : Option ℕ) (done : Bool) (m : Found) (end : ℕ) → done ≡ false → Finds r i last (Some m) →
+pub next_left : (r : Regex) (i j : Searched) (last : Option ℕ) (done : Bool) (m : Found) (end : ℕ) → done ≡ false → Finds r.built.engine i last (Some m) →
     IsMoved i j → j.span.start ≡ m.end → end ≡ m.end →
     unless_done done (matches_of r i last) ≡ m ∷ unless_done done (matches_of r j (Some end))
 next_left r i j last done m end going f move a e =
-    rw going (first_left r i last m f ∙ ap (λ ms. m ∷ ms) (sym (others r i j m.end end move a e)))
+    rw going (engine_some r.fits i j last m move a f ∙ ap (λ k. m ∷ matches_of r j (Some k)) (sym e))
 
 -- some match is left
-pub some_left : (r : Regex) (i : Searched) (last : Option ℕ) (done : Bool) (m : Found) → done ≡ false → Finds r i last (Some m) →
+pub some_left : (r : Regex) (i : Searched) (last : Option ℕ) (done : Bool) (m : Found) → done ≡ false → Finds r.built.engine i last (Some m) →
     0 < length (unless_done done (matches_of r i last))
-some_left r i last done m going f = rw going (let h = first_left r i last m f in omega (arith, ap length h))
+some_left r i last done m going f =
+    let h = step_some (regex_kind r) (search_of r i) i.span.start last m (finds_same r.fits i last (Some m) f) in rw going (omega (arith, ap length h))
 
 -- no more are left than positions
 pub few_left : (r : Regex) (i : Searched) (last : Option ℕ) (done : Bool) → length (unless_done done (matches_of r i last)) ≤ high i + 1
 few_left r i last true = omega arith
 few_left r i last false = let h = left_short (regex_kind r) (search_of r i) i.span.start last in omega (arith, h)
 
--- the engine's answer is the regex's
-pub answer_same : (r : Regex) (i : Searched) → answer_by r.engine.kind (engine_search r.engine i) ≡ answer_by (regex_kind r) (search_of r i)
-answer_same r i = ap (answer_by r.engine.kind) (fits_search r.fits i) ∙ ap (λ k. answer_by k (search_of r i)) r.fits.kinded
-
--- and one that the search may give
-pub may_answer : (r : Regex) (i : Searched) (o : Option Found) → o ≡ answer_by r.engine.kind (engine_search r.engine i) →
+-- the engine's answer is one that the search may give
+pub may_answer : (r : Regex) (i : Searched) (o : Option Found) → o ≡ answer_by r.built.engine.kind (engine_search r.built.engine i) →
     IsAnswerBy (regex_kind r) i.earliest (search_of r i) o
 may_answer r i o e =
-    subst (IsAnswerBy (regex_kind r) i.earliest (search_of r i)) (sym (e ∙ answer_same r i)) (kinds_law.best (regex_kind r) i.earliest (search_of r i))
+    subst (IsAnswerBy (regex_kind r) i.earliest (search_of r i)) (sym (e ∙ answer_same r.fits i)) (kinds_law.best (regex_kind r) i.earliest (search_of r i))
 
 -- captures that tell what the engine finds tell what the regex finds
-pub told_same : (r : Regex) (i : Searched) (caps : Captures) → TellsBy r.engine.kind (engine_search r.engine i) caps → TellsBy (regex_kind r) (search_of r i) caps
-told_same r i caps told =
-    subst (λ k. TellsBy k (search_of r i) caps) r.fits.kinded (subst (λ x. TellsBy r.engine.kind x caps) (fits_search r.fits i) told)
-
-pub told_as : (r : Regex) (i : Searched) (caps : Captures) (kind : MatchKind) → regex_kind r ≡ kind → TellsBy r.engine.kind (engine_search r.engine i) caps →
+pub told_as : (r : Regex) (i : Searched) (caps : Captures) (kind : MatchKind) → regex_kind r ≡ kind → TellsBy r.built.engine.kind (engine_search r.built.engine i) caps →
     TellsBy kind (search_of r i) caps
-told_as r i caps kind e told = subst (λ k. TellsBy k (search_of r i) caps) e (told_same r i caps told)
+told_as r i caps kind e told = subst (λ k. TellsBy k (search_of r i) caps) e (told_same r.fits i caps told)
 
 -- and answer the match that it finds
-pub match_made : (r : Regex) (i : Searched) (caps : Captures) → IsCapturesFor (regex_names r) caps → TellsBy r.engine.kind (engine_search r.engine i) caps →
+pub match_made : (r : Regex) (i : Searched) (caps : Captures) → IsCapturesFor (regex_names r) caps → TellsBy r.built.engine.kind (engine_search r.built.engine i) caps →
     match_of caps ≡ answer_by (regex_kind r) (search_of r i)
 match_made r i caps made told =
     let shows = shown (is_grouped (which_captures_of (regex_settings r))) (regex_patterns r) in
-    tells_match_by (regex_kind r) shows (search_of r i) (regex_names r) caps refl (length-map shows group_names) made (told_same r i caps told)
+    tells_match_by (regex_kind r) shows (search_of r i) (regex_names r) caps refl (length-map shows group_names) made (told_same r.fits i caps told)
 
-pub same_match : (r : Regex) (i : Searched) (caps : Captures) → KeepsAll (regex_names r) caps → TellsBy r.engine.kind (engine_search r.engine i) caps →
+pub same_match : (r : Regex) (i : Searched) (caps : Captures) → KeepsAll (regex_names r) caps → TellsBy r.built.engine.kind (engine_search r.built.engine i) caps →
     match_of caps ≡ answer_by (regex_kind r) (search_of r i)
 same_match r i caps kept told = match_made r i caps (keeps_is_for (regex_names r) caps kept) told
 
@@ -141,14 +111,14 @@ pub record TellsNext (r : Regex) (i k : Searched) (last : Option ℕ) (done : Bo
       ≡ walk ∷ unless_done done (walks_left (search_of r k) k.span.start (Some end))
 
 pub tells_next : (r : Regex) (i j k : Searched) (last : Option ℕ) (done : Bool) (m : Found) (end : ℕ) (caps : Captures) → done ≡ false →
-    Finds r i last (Some m) → IsMoved i j → j.span.start ≡ next_start r.engine.kind (engine_search r.engine i) i.span.start last →
-    TellsBy r.engine.kind (engine_search r.engine j) caps → IsMoved i k → k.span.start ≡ m.end → end ≡ m.end → regex_kind r ≡ leftmost_first →
+    Finds r.built.engine i last (Some m) → IsMoved i j → j.span.start ≡ next_start r.built.engine.kind (engine_search r.built.engine i) i.span.start last →
+    TellsBy r.built.engine.kind (engine_search r.built.engine j) caps → IsMoved i k → k.span.start ≡ m.end → end ≡ m.end → regex_kind r ≡ leftmost_first →
     TellsNext r i k last done m end caps
 tells_next r i j k last done m end caps going f there at told move a e kind =
     let s = search_of r i in
     let step : Step s (search_of r j) i.span.start last m =
     walk_step s (search_of r j) i.span.start last m j.span.start (moved r i j there)
-    (at ∙ ap (λ x. next_start r.engine.kind x i.span.start last) (fits_search r.fits i) ∙ ap (λ y. next_start y s i.span.start last) (r.fits.kinded ∙ kind))
+    (at ∙ ap (λ x. next_start r.built.engine.kind x i.span.start last) (fits_search r.fits i) ∙ ap (λ y. next_start y s i.span.start last) (r.fits.kinded ∙ kind))
     (finds_leftmost r i last (Some m) kind f) in
     let ends = ap (λ (x : Found). x.end) step.is_found in
     record {

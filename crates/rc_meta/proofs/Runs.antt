@@ -19,8 +19,6 @@ use Rattle.rc_meta.specs.Left.{captures_input, captures_left, captures_regex, ca
 use Rattle.rc_meta.specs.Views.{regex_kind, regex_names, sought}
 use Rattle.rc_meta.specs.declared.iterators.CapturesMatches.{CapturesMatches}
 use Rattle.rc_meta.specs.declared.iterators.FindMatches.{FindMatches}
-use Rattle.rc_meta.specs.declared.iterators.Split.{Split}
-use Rattle.rc_meta.specs.declared.iterators.SplitN.{SplitN}
 use Rattle.rc_program.specs.Sought.{search_for}
 
 module _ {X : Type 0} (P : X → Type 0) where

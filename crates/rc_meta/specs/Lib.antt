@@ -1,4 +1,3 @@
-pub mod Fits
 pub mod Views
 pub mod Caches
 pub mod Counts

@@ -7,15 +7,15 @@ use Rattle.rc_captures.specs.Names.{Names}
 use Rattle.rc_program.specs.Sought.{Sought}
 use Rattle.rc_settings.specs.Which.{is_grouped}
 use Rattle.rc_build.specs.Names.{names_shown}
-use Rattle.rc_settings.specs.Settings.{Settings, match_kind_of, settings_of, which_captures_of}
+use Rattle.rc_settings.specs.Settings.{Settings, match_kind_of, program_settings, settings_of, which_captures_of}
 use Rattle.rc_parser.specs.Settings.{Settings as SyntaxSettings, settings_of as syntax_of}
-use Rattle.rc_meta.specs.Fits.{sought_by}
+use Rattle.rc_build.specs.Fits.{sought_by}
 use Rattle.rc_meta.specs.declared.regex.Regex.{Regex}
 use Rattle.rc_meta.specs.declared.builder.Builder.{Builder}
 
 -- the patterns that the regex was built of, and its settings
 abbrev pub regex_patterns : Regex → List Re
-regex_patterns r = map meaning r.hirs.items
+regex_patterns r = map meaning r.built.hirs.items
 
 abbrev pub regex_settings : Regex → Settings
 regex_settings r = settings_of r.config
@@ -26,7 +26,7 @@ regex_kind r = match_kind_of (regex_settings r)
 
 -- what it seeks
 abbrev pub sought : Regex → Sought
-sought r = sought_by (regex_settings r) (regex_patterns r)
+sought r = sought_by (program_settings (regex_settings r)) (regex_patterns r)
 
 -- for each pattern the names of its groups that are kept, in order
 abbrev pub regex_names : Regex → Names

@@ -2,26 +2,16 @@
 
 ghost use Rattle.std.specs.Prelude.{◌≡◌, ◌≤◌, ◌∷◌, [], IfOk, IfErr, length, map};
 ghost use Rattle.rc_pattern.specs.Meaning.{meaning};
-ghost use Rattle.rc_program.specs.Sought.{IsRunnable, may_be_empty, passes_over};
-ghost use Rattle.rc_program.specs.Places.{places_of};
 ghost use Rattle.rc_build.specs.Refusals.{IsBuildable, IsRefusal};
-ghost use Rattle.rc_settings.specs.Settings.{settings_of, unset, overwritten, match_kind_of, nfa_size_limit_of, line_terminator_of};
+ghost use Rattle.rc_settings.specs.Settings.{settings_of, unset, overwritten, nfa_size_limit_of};
 ghost use Rattle.rc_build.specs.TextRefusals.{AllRead, IsTextRefusal, texts_of};
-ghost use Rattle.rc_engine.specs.Strategies.{IsSound};
-ghost use Rattle.rc_meta.specs.Fits.{sought_by};
 ghost use Rattle.rc_meta.specs.Views.{builder_settings, builder_syntax, regex_patterns, regex_settings};
 ghost use Rattle.rc_parser.specs.Settings.{default_settings, settings_of as syntax_of};
 
-use crate::regex::{Regex, assembled};
-use rc_build::compile::compile_all;
+use crate::regex::Regex;
+use rc_build::build::build_all;
 use rc_build::texts::parse_all;
-use rc_engine::choice::choose;
-use rc_engine::engine::Engine;
-use rc_engine::strategy::Strategy;
-use rc_pattern::check::copies_of;
 use rc_pattern::hir::Hir;
-use rc_program::place::Place;
-use rc_program::program::Program;
 use rc_settings::error::BuildError;
 use rc_settings::meta::Config;
 use std::alloc::Global;
@@ -124,56 +114,14 @@ pub(crate) fn build(alloc: Global, config: &Config, hirs: &[Hir]) -> Result<Rege
     ensures buildable { IfOk result (λ _. IsBuildable (nfa_size_limit_of (settings_of config.now)) (map meaning hirs.now)) }
     ensures refused { IfErr result (λ e. IsRefusal (nfa_size_limit_of (settings_of config.now)) (map meaning hirs.now) e) }
 {
-    let compiled = compile_all(
+    let built = build_all(
         alloc,
         hirs,
-        config.get_nfa_size_limit(),
-        config.get_which_captures(),
-    )?;
-    let strategy = choose(
-        alloc,
-        hirs,
+        config.program_settings(),
+        config.get_match_kind(),
         config.get_prefilter(),
         config.get_auto_prefilter(),
     )?;
-    let engine = engine_of(config, hirs, compiled.places, strategy);
-    let hirs = copies_of(alloc, hirs)?;
     let config = config.try_clone(alloc)?;
-    Ok(assembled(hirs, config, engine, compiled.info))
-}
-
-/// The engine of these patterns, whose program this is, and whose searches may go by the strategy.
-fn engine_of(config: &Config, hirs: &[Hir], places: Vec<Place>, strategy: Strategy) -> Engine
-    requires runnable { IsRunnable (places_of places.items) }
-    requires sound { IsSound (places_of places.items) (line_terminator_of (settings_of config.now))
-        (passes_over (sought_by (settings_of config.now) (map meaning hirs.now))) strategy }
-    ensures places { result.program.places ≡ places }
-    ensures terminator { result.program.terminator ≡ line_terminator_of (settings_of config.now) }
-    ensures passes_over { result.program.passes_over ≡ passes_over (sought_by (settings_of config.now) (map meaning hirs.now)) }
-    ensures kind { result.kind ≡ match_kind_of (settings_of config.now) }
-    ensures strategy { result.strategy ≡ strategy }
-{
-    let passes_over = config.get_utf8_empty() && may_be_empty(hirs);
-    let program = Program {
-        places,
-        terminator: config.get_line_terminator(),
-        passes_over,
-    };
-    Engine {
-        program,
-        kind: config.get_match_kind(),
-        strategy,
-    }
-}
-
-/// Whether the least length of some pattern is 0.
-fn may_be_empty(hirs: &[Hir]) -> bool
-    ensures { result ≡ may_be_empty (map meaning hirs.now) }
-{
-    for hir in hirs {
-        if hir.properties().minimum_len() == Some(0) {
-            return true;
-        }
-    }
-    false
+    Ok(Regex { config, built })
 }

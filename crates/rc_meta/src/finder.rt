@@ -19,7 +19,7 @@ pub(crate) struct Finder<'r> {
     pub(crate) cache: Cache,
     pub(crate) last: Option<usize>,
     pub(crate) is_done: bool,
-    ghost made: { IsEngineCache regex.now.engine 0 cache },
+    ghost made: { IsEngineCache regex.now.built.engine 0 cache },
 }
 
 /// The same, with a cache for searches with all groups, and what gives the memory of captures.
@@ -27,7 +27,7 @@ pub(crate) struct Finder<'r> {
 pub(crate) struct GroupFinder<'r> {
     pub(crate) finder: Finder<'r>,
     pub(crate) alloc: Global,
-    ghost roomy: { IsEngineCache finder.regex.now.engine (slot_len (names_of finder.regex.now.info)) finder.cache },
+    ghost roomy: { IsEngineCache finder.regex.now.built.engine (slot_len (names_of finder.regex.now.built.info)) finder.cache },
 }
 
 impl<'r> Finder<'r> {
@@ -46,8 +46,8 @@ impl<'r> Finder<'r> {
         if self.is_done {
             return None;
         }
-        let regex = self.regex;
-        let Some(found) = regex.engine.next_match(&mut self.cache, input, self.last) else {
+        let engine = &self.regex.built.engine;
+        let Some(found) = engine.next_match(&mut self.cache, input, self.last) else {
             self.is_done = true;
             return None;
         };
@@ -62,8 +62,8 @@ impl<'r> Finder<'r> {
         alloc: Global,
         input: &mut Input<C>,
     ) -> Option<Result<Captures, AllocError>>
-        requires made { IsEngineCache self.old.regex.now.engine (slot_len (names_of self.old.regex.now.info)) self.old.cache }
-        ensures still_made { IsEngineCache self.new.regex.now.engine (slot_len (names_of self.new.regex.now.info)) self.new.cache }
+        requires made { IsEngineCache self.old.regex.now.built.engine (slot_len (names_of self.old.regex.now.built.info)) self.old.cache }
+        ensures still_made { IsEngineCache self.new.regex.now.built.engine (slot_len (names_of self.new.regex.now.built.info)) self.new.cache }
         ensures steps { GivesCaptures self.old input.old result self.new input.new }
         ensures moves { IsMoved input.old input.new }
         ensures regex { self.new.regex.now ≡ self.old.regex.now }
@@ -72,18 +72,16 @@ impl<'r> Finder<'r> {
         if self.is_done {
             return None;
         }
-        let regex = self.regex;
-        let Some(found) = regex.engine.next_match(&mut self.cache, input, self.last) else {
+        let engine = &self.regex.built.engine;
+        let Some(found) = engine.next_match(&mut self.cache, input, self.last) else {
             self.is_done = true;
             return None;
         };
-        let Ok(mut caps) = regex.create_captures(alloc) else {
+        let Ok(mut caps) = self.regex.create_captures(alloc) else {
             self.is_done = true;
             return Some(Err(AllocError));
         };
-        regex
-            .engine
-            .find_captures(&mut self.cache, input, &mut caps);
+        engine.find_captures(&mut self.cache, input, &mut caps);
         input.set_start(found.end());
         self.last = Some(found.end());
         Some(Ok(caps))

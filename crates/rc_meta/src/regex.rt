@@ -1,23 +1,24 @@
 //! A regex, and its searches.
 
-ghost use Rattle.std.specs.Prelude.{◌≡◌, ◌≤◌, ◌+◌, length, map};
+ghost use Rattle.std.specs.Prelude.{◌≡◌, ◌≤◌, ◌+◌, None, false, length, map};
 ghost use Rattle.rc_pattern.specs.Properties.{common};
 ghost use Rattle.rc_pattern.specs.Weight.{list_weight};
 ghost use Rattle.rc_program.specs.Laws.{all_groups};
+ghost use Rattle.rc_build.specs.Fits.{Fits};
 ghost use Rattle.rc_build.specs.Refusals.{greatest_weight};
+ghost use Rattle.rc_engine.specs.Choices.{guarding};
 ghost use Rattle.rc_meta.specs.Counts.{static_groups};
 ghost use Rattle.rc_pattern.specs.Meaning.{meaning};
-ghost use Rattle.rc_settings.specs.Settings.{settings_of};
-ghost use Rattle.rc_meta.specs.Fits.{Fits};
+ghost use Rattle.rc_settings.specs.Settings.{settings_of, program_settings, auto_prefilter_of, prefilter_of, match_kind_of};
 
 use crate::builder::{Builder, build};
 use crate::cache::Cache;
 use crate::finder::{Finder, GroupFinder};
 use crate::iterators::{CapturesMatches, FindMatches, Pieces, Split, SplitN};
+use rc_build::build::Built;
 use rc_captures::captures;
 use rc_captures::captures::Captures;
 use rc_captures::groups::GroupInfo;
-use rc_engine::engine::Engine;
 use rc_pass::cache;
 use rc_pattern::check::group_count;
 use rc_pattern::hir::Hir;
@@ -33,11 +34,11 @@ use std::mem::size_of;
 /// A list of patterns, built.
 #[derive(Drop)]
 pub struct Regex {
-    hirs: Vec<Hir>,
-    config: Config,
-    pub(crate) engine: Engine,
-    info: GroupInfo,
-    ghost fits: { Fits (settings_of config) (map meaning hirs.items) engine info },
+    pub(crate) config: Config,
+    pub(crate) built: Built,
+    ghost fits: { Fits (program_settings (settings_of config)) (match_kind_of (settings_of config)) (map meaning built.hirs.items) built.engine built.info },
+    // no needles, where none are asked for
+    ghost unguarded: { auto_prefilter_of (settings_of config) ≡ false → prefilter_of (settings_of config) ≡ None → guarding built.engine.strategy ≡ None },
 }
 
 impl Regex {
@@ -124,8 +125,8 @@ impl Regex {
         ensures may { IfOk result (IsAnswerBy (regex_kind self.now) input.earliest (search_for (sought self.now) input)) }
         ensures within { IfOk result (λ o. IfSome o (λ m. (low input ≤ m.start) × (m.start ≤ m.end) × (m.end ≤ high input))) }
     {
-        let mut cache = self.engine.create_cache(alloc, 0)?;
-        Ok(self.engine.find(&mut cache, &mut input))
+        let mut cache = self.built.engine.create_cache(alloc, 0)?;
+        Ok(self.built.engine.find(&mut cache, &mut input))
     }
 
     /// As `find`.
@@ -152,7 +153,7 @@ impl Regex {
         ensures may { IsAnswerBy (regex_kind self.now) input.old.earliest (search_for (sought self.now) input.old) result }
         ensures within { IfSome result (λ m. (low input.old ≤ m.start) × (m.start ≤ m.end) × (m.end ≤ high input.old)) }
     {
-        self.engine.find(&mut cache.inner, input)
+        self.built.engine.find(&mut cache.inner, input)
     }
 
     /// The pattern and the end of the match that `find` finds. An `Err` is want of memory.
@@ -205,14 +206,14 @@ impl Regex {
     pub fn pattern_len(&self) -> usize
         ensures { result ≡ length (regex_patterns self.now) }
     {
-        self.hirs.len()
+        self.built.hirs.len()
     }
 
     /// How many groups the patterns have: group 0 of each, and the explicit ones, whether they are kept or not.
     pub fn captures_len(&self) -> usize
         ensures { result ≡ length (regex_patterns self.now) + all_groups (regex_patterns self.now) }
     {
-        self.pattern_len() + explicit_groups(&self.hirs)
+        self.pattern_len() + explicit_groups(&self.built.hirs)
     }
 
     /// How many groups take part in each match, group 0 among them, where that is known to be one number for all patterns. `None`
@@ -220,7 +221,7 @@ impl Regex {
     pub fn static_captures_len(&self) -> Option<usize>
         ensures { result ≡ static_captures_len (regex_patterns self.now) }
     {
-        let explicit = static_groups(&self.hirs)?;
+        let explicit = static_groups(&self.built.hirs)?;
         Some(explicit.saturating_add(1))
     }
 
@@ -228,7 +229,7 @@ impl Regex {
     pub fn group_info(&self) -> &GroupInfo
         ensures { names_of result.now ≡ regex_names self.now }
     {
-        &self.info
+        &self.built.info
     }
 
     /// The settings.
@@ -243,7 +244,7 @@ impl Regex {
         ensures patterns { IfOk result (λ r. regex_patterns r ≡ regex_patterns self.now) }
         ensures settings { IfOk result (λ r. regex_settings r ≡ regex_settings self.now) }
     {
-        match build(alloc, &self.config, &self.hirs) {
+        match build(alloc, &self.config, &self.built.hirs) {
             Ok(regex) => Ok(regex),
             // The patterns were built before, so nothing else refuses them.
             Err(_) => Err(AllocError),
@@ -255,24 +256,26 @@ impl Regex {
         ensures { auto_prefilter_of (regex_settings self.now) ≡ false → prefilter_of (regex_settings self.now) ≡ None
             → result ≡ false }
     {
-        self.engine.strategy.is_fast()
+        self.built.engine.strategy.is_fast()
     }
 
     /// About how many bytes the program, the groups and the needles of searches take.
     pub fn memory_usage(&self) -> usize {
         let places = self
+            .built
             .engine
             .program
             .places
             .len()
             .saturating_mul(size_of::<Place>());
         let slots = self
+            .built
             .info
             .slot_len()
             .saturating_mul(size_of::<Option<usize>>());
         places
             .saturating_add(slots)
-            .saturating_add(self.engine.strategy.memory_usage())
+            .saturating_add(self.built.engine.strategy.memory_usage())
     }
 
     /// A cache for searches by this regex. An `Err` is want of memory.
@@ -284,9 +287,11 @@ impl Regex {
 
     /// A cache for searches by the engine, with all slots.
     pub(crate) fn engine_cache(&self, alloc: Global) -> Result<cache::Cache, AllocError>
-        ensures { IfOk result (IsEngineCache self.now.engine (slot_len (names_of self.now.info))) }
+        ensures { IfOk result (IsEngineCache self.now.built.engine (slot_len (names_of self.now.built.info))) }
     {
-        self.engine.create_cache(alloc, self.info.slot_len())
+        self.built
+            .engine
+            .create_cache(alloc, self.built.info.slot_len())
     }
 
     /// Captures that keep the groups of the patterns. They hold no match. An `Err` is want of memory.
@@ -295,7 +300,7 @@ impl Regex {
         ensures whole { IfOk result (KeepsAll (regex_names self.now)) }
         ensures pattern { IfOk result (λ c. captures_pattern c ≡ None) }
     {
-        Captures::all(alloc, &self.info)
+        Captures::all(alloc, &self.built.info)
     }
 
     /// The match that `find` finds, with its groups. Without a match the captures hold none. An `Err` is want of memory.
@@ -366,7 +371,9 @@ impl Regex {
         ensures within { IfSome (match_of caps.new)
             (λ m. (low input.old ≤ m.start) × (m.start ≤ m.end) × (m.end ≤ high input.old)) }
     {
-        self.engine.find_captures(&mut cache.inner, input, caps);
+        self.built
+            .engine
+            .find_captures(&mut cache.inner, input, caps);
     }
 
     /// The pattern of the match that `find` finds, and its slots in `slots`, which may be fewer than the regex has. Without a match
@@ -386,8 +393,8 @@ impl Regex {
             (slots.new ≡ slots.old)
             (λ _. Some slots.new ≡ slots_by (regex_kind self.now) (search_for (sought self.now) input) (length slots.old))) }
     {
-        let mut cache = self.engine.create_cache(alloc, slots.len())?;
-        Ok(self.engine.find_slots(&mut cache, &mut input, slots))
+        let mut cache = self.built.engine.create_cache(alloc, slots.len())?;
+        Ok(self.built.engine.find_slots(&mut cache, &mut input, slots))
     }
 
     /// As `search_slots`, in a cache that was made for this regex. It takes no memory.
@@ -406,7 +413,7 @@ impl Regex {
             (slots.new ≡ slots.old)
             (λ _. Some slots.new ≡ slots_by (regex_kind self.now) (search_for (sought self.now) input.old) (length slots.old)) }
     {
-        self.engine.find_slots(&mut cache.inner, input, slots)
+        self.built.engine.find_slots(&mut cache.inner, input, slots)
     }
 
     /// All matches in the input, from left to right.
@@ -431,7 +438,7 @@ impl Regex {
     {
         // The content is shorter than the greatest number.
         let _offset = input.chunk_offset();
-        let cache = self.engine.create_cache(alloc, 0)?;
+        let cache = self.built.engine.create_cache(alloc, 0)?;
         let finder = Finder {
             regex: self,
             cache,
@@ -525,20 +532,6 @@ impl Regex {
             input,
             limit,
         })
-    }
-}
-
-/// The regex of these patterns under these settings.
-pub(crate) fn assembled(hirs: Vec<Hir>, config: Config, engine: Engine, info: GroupInfo) -> Regex
-    requires { Fits (settings_of config) (map meaning hirs.items) engine info }
-    ensures hirs { result.hirs ≡ hirs }
-    ensures config { result.config ≡ config }
-{
-    Regex {
-        hirs,
-        config,
-        engine,
-        info,
     }
 }
 

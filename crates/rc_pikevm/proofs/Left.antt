@@ -1,5 +1,5 @@
 -- The first of the matches that are left, wherever the one before ended, and what runs of an iterator give.
-use Rattle.std.proofs.Common.{◌≡◌, ◌∙◌, ℕ, ◌+◌, ◌-◌, ◌*◌, ◌≤◌, Bool, true, false, List, [], ◌∷◌, Option, Some, None, MatchOption, if◌then◌else◌, length, sym, ap, subst, refl, arith}
+use Rattle.std.proofs.Common.{◌≡◌, ◌∙◌, ℕ, ◌+◌, ◌-◌, ◌*◌, ◌≤◌, Bool, true, false, List, [], ◌∷◌, Option, Some, None, MatchOption, if◌then◌else◌, length, ap, subst, refl, arith}
 use Rattle.std.specs.Iterator.Runs.{YieldsInOrder}
 use Rattle.std.proofs.iter.runs.Sources.{from_front, as_is}
 use Rattle.rc_text.specs.Found.{Found}
@@ -9,13 +9,10 @@ use Rattle.std.proofs.lemmas.List.{length-map}
 use Rattle.rc_text.specs.declared.types.MatchKind.TheVariants.{All as all_matches, LeftmostFirst as leftmost_first}
 use Rattle.rc_text.specs.declared.types.MatchKind.{MatchKind}
 use Rattle.rc_text.specs.declared.cursor.Cursor.{Ghosts}
-use Rattle.rc_program.specs.Kinds.{answer_by_from, matches_by_kind}
-use Rattle.rc_program.specs.Matches.{begin_of, end_of, from_on, next_match}
-use Rattle.rc_program.specs.Sought.{search_for}
+use Rattle.rc_program.specs.Kinds.{answer_by_from}
 use Rattle.rc_engine.specs.Engine.{Counts, engine_search}
 use Rattle.rc_engine.specs.Moved.{IsMoved}
 use Rattle.rc_engine.specs.declared.engine.Engine.{Engine}
-use Rattle.rc_engine.proofs.Steps.{left_from, search_moved, step_none, step_some}
 use Rattle.rc_captures.specs.declared.groups.GroupInfo.{GroupInfo}
 use Rattle.rc_pattern.specs.Re.{Re}
 use Rattle.rc_pass.specs.Caches.{Made}
@@ -25,49 +22,13 @@ use Rattle.rc_program.specs.declared.place.Place as code
 use Rattle.rc_engine.specs.Choices.{answering, answering_for}
 use Rattle.rc_engine.specs.Walks.{again, next_start}
 use Rattle.rc_engine.specs.declared.strategy.Strategy.{Strategy}
-use Rattle.rc_pikevm.specs.Fits.{Fits, sought_by}
+use Rattle.rc_build.specs.Fits.{Fits, sought_by}
 use Rattle.rc_settings.specs.Thompson.{Settings}
-use Rattle.rc_pikevm.proofs.Fitted.{fits_search}
 use Rattle.rc_pikevm.specs.Left.{FindKeeps, FindKeepsAlong, FindSteps, find_left}
 use Rattle.rc_pikevm.specs.declared.iterators.FindMatches.{FindMatches}
 
 same_places : {ps : List Place} (places : List code.Place) → places_of places ≡ ps → length places ≡ length ps
 same_places places e = let many = length-map places place_of in let same = ap length e in omega (arith, many, same)
-
--- the next match that an engine that fits gives is that of what is sought
-same_next : {q : Settings} {kind : MatchKind} {hs : List Re} {e : Engine} {info : GroupInfo} → Fits q kind hs e info → (i : Searched) (last : Option ℕ) →
-    next_match begin_of end_of (answer_by_from e.kind (engine_search e i)) i.span.start last
-    ≡ next_match begin_of end_of (answer_by_from kind (search_for (sought_by q hs) i)) i.span.start last
-same_next {q} {kind} {hs} {e} f i last =
-    ap (λ k. next_match begin_of end_of (answer_by_from k (engine_search e i)) i.span.start last) f.kinded
-    ∙ ap (λ s. next_match begin_of end_of (answer_by_from kind s) i.span.start last) (fits_search f i)
-
--- the search of an input whose span starts elsewhere
-sought_moved : {q : Settings} {kind : MatchKind} {hs : List Re} {e : Engine} {info : GroupInfo} → Fits q kind hs e info → (i j : Searched) →
-    IsMoved i j → search_for (sought_by q hs) j ≡ from_on (search_for (sought_by q hs) i) j.span.start
-sought_moved {e = e} f i j moved =
-    sym (fits_search f j) ∙ search_moved (places_of e.program.places.items) e.program.terminator e.program.passes_over i j moved
-    ∙ ap (λ s. from_on s j.span.start) (fits_search f i)
-
--- an engine that fits gives the first of the matches that are left of what is sought, and leaves the others
-pub engine_some : {q : Settings} {kind : MatchKind} {hs : List Re} {e : Engine} {info : GroupInfo} → Fits q kind hs e info → (i j : Searched)
-    (last : Option ℕ) (m : Found) → IsMoved i j → j.span.start ≡ m.end →
-    Some m ≡ next_match begin_of end_of (answer_by_from e.kind (engine_search e i)) i.span.start last →
-    matches_by_kind kind (search_for (sought_by q hs) i) i.span.start last
-    ≡ m ∷ matches_by_kind kind (search_for (sought_by q hs) j) j.span.start (Some m.end)
-engine_some {q} {kind} {hs} f i j last m moved at is =
-    let s = search_for (sought_by q hs) i in
-    step_some kind s i.span.start last m (is ∙ same_next f i last)
-    ∙ ap (λ ms. m ∷ ms)
-    (sym (left_from kind s j.span.start m.end (Some m.end))
-    ∙ ap (λ u. matches_by_kind kind u m.end (Some m.end)) (sym (sought_moved f i j moved))
-    ∙ ap (λ k. matches_by_kind kind (search_for (sought_by q hs) j) k (Some m.end)) (sym at))
-
-pub engine_none : {q : Settings} {kind : MatchKind} {hs : List Re} {e : Engine} {info : GroupInfo} → Fits q kind hs e info → (i : Searched)
-    (last : Option ℕ) → None ≡ next_match begin_of end_of (answer_by_from e.kind (engine_search e i)) i.span.start last →
-    matches_by_kind kind (search_for (sought_by q hs) i) i.span.start last ≡ []
-engine_none {q} {kind} {hs} f i last is =
-    step_none kind (search_for (sought_by q hs) i) i.span.start last (is ∙ same_next f i last)
 
 -- no needles alone tell the matches of an engine that fits
 no_needles : (kind : MatchKind) (s : Strategy) → answering s ≡ None → answering_for kind s ≡ None
@@ -91,12 +52,12 @@ few_places places many n a b same less few =
 
 -- what the pass for the next match counted, by the bounds before the search
 pub counted : {q : Settings} {kind : MatchKind} {hs : List Re} {e : Engine} {info : GroupInfo} → Fits q kind hs e info → (i j : Searched) (last : Option ℕ)
-    (m : Found) (c d : Made) → {o : Option Found} → IsMoved i j → j.span.start ≡ next_start e.kind (engine_search e i) i.span.start last → o ≡ Some m →
+    (m : Found) (c d : Made) → {o : Option Found} → answering e.strategy ≡ None → IsMoved i j → j.span.start ≡ next_start e.kind (engine_search e i) i.span.start last → o ≡ Some m →
     Counts e j o c d →
     (m.end - m.start + 1 ≤ d.insertions) × (d.insertions ≤ length (program (shown (sought_by q hs).grouped hs)) * (high i - low i + 2))
-counted {hs = hs} {e = e} f i j last m c d {o = o} moved at is counts =
+counted {hs = hs} {e = e} f i j last m c d {o = o} unanswered moved at is counts =
     let s = subst (λ x. Counts e j x c d) is counts in
-    let count = by_pass (answering_for e.kind e.strategy) _ _ (no_needles e.kind e.strategy f.unanswered) s in
+    let count = by_pass (answering_for e.kind e.strategy) _ _ (no_needles e.kind e.strategy unanswered) s in
     let ahead = from_start (again last (answer_by_from e.kind (engine_search e i) i.span.start)) i.span.start in
     let lower : low i ≤ low j = rw moved.slice (omega (arith, ahead, at)) in
     let top : high j ≡ high i = rw (moved.content, moved.end, moved.slice) refl in

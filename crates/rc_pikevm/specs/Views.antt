@@ -9,14 +9,14 @@ use Rattle.rc_settings.specs.Which.{is_grouped}
 use Rattle.rc_build.specs.Names.{names_shown}
 use Rattle.rc_parser.specs.Settings.{Settings as SyntaxSettings, settings_of as syntax_of}
 use Rattle.rc_settings.specs.SearchSettings.{SearchSettings, search_settings_of}
-use Rattle.rc_pikevm.specs.Fits.{sought_by}
+use Rattle.rc_build.specs.Fits.{sought_by}
 use Rattle.rc_settings.specs.Thompson.{Settings, settings_of, which_captures_of}
 use Rattle.rc_pikevm.specs.declared.vm.PikeVM.{PikeVM}
 use Rattle.rc_pikevm.specs.declared.builder.Builder.{Builder}
 
 -- the patterns of which it was built, the settings of its program and of its searches
 abbrev pub vm_patterns : PikeVM → List Re
-vm_patterns vm = map meaning vm.hirs.items
+vm_patterns vm = map meaning vm.built.hirs.items
 
 abbrev pub vm_program : PikeVM → Settings
 vm_program vm = settings_of vm.thompson

@@ -2,27 +2,17 @@
 
 ghost use Rattle.std.specs.Prelude.{◌≡◌, ◌≤◌, ◌∷◌, [], IfOk, IfErr, length, map};
 ghost use Rattle.rc_pattern.specs.Meaning.{meaning};
-ghost use Rattle.rc_program.specs.Sought.{IsRunnable, may_be_empty, passes_over};
-ghost use Rattle.rc_program.specs.Places.{places_of};
 ghost use Rattle.rc_build.specs.Refusals.{IsBuildable, IsRefusal};
 ghost use Rattle.rc_build.specs.TextRefusals.{AllRead, IsTextRefusal, texts_of};
 ghost use Rattle.rc_parser.specs.Settings.{default_settings, settings_of as syntax_of};
-ghost use Rattle.rc_settings.specs.SearchSettings.{match_kind_of, search_settings_of, none_set, set_over};
-ghost use Rattle.rc_settings.specs.Thompson.{settings_of, unset, overwritten, nfa_size_limit_of, line_terminator_of};
-ghost use Rattle.rc_engine.specs.Strategies.{IsSound};
-ghost use Rattle.rc_pikevm.specs.Fits.{sought_by};
+ghost use Rattle.rc_settings.specs.SearchSettings.{search_settings_of, none_set, set_over};
+ghost use Rattle.rc_settings.specs.Thompson.{settings_of, unset, overwritten, nfa_size_limit_of};
 ghost use Rattle.rc_pikevm.specs.Views.{builder_settings, builder_program, builder_syntax, vm_patterns, vm_program, vm_settings};
 
-use crate::vm::{PikeVM, assembled};
-use rc_build::compile::compile_all;
+use crate::vm::PikeVM;
+use rc_build::build::build_all;
 use rc_build::texts::parse_all;
-use rc_engine::choice::choose;
-use rc_engine::engine::Engine;
-use rc_engine::strategy::Strategy;
-use rc_pattern::check::copies_of;
 use rc_pattern::hir::Hir;
-use rc_program::place::Place;
-use rc_program::program::Program;
 use rc_settings::error::BuildError;
 use rc_settings::pikevm::Config;
 use rc_settings::thompson;
@@ -123,59 +113,19 @@ impl Builder {
         ensures buildable { IfOk result (λ _. IsBuildable (nfa_size_limit_of (builder_program self.now)) (map meaning hirs.now)) }
         ensures refused { IfErr result (λ e. IsRefusal (nfa_size_limit_of (builder_program self.now)) (map meaning hirs.now) e) }
     {
-        let thompson = self.thompson;
-        let compiled = compile_all(
+        let built = build_all(
             alloc,
             hirs,
-            thompson.get_nfa_size_limit(),
-            thompson.get_which_captures(),
+            self.thompson,
+            self.config.get_match_kind(),
+            self.config.asked(),
+            false,
         )?;
-        let strategy = choose(alloc, hirs, self.config.asked(), false)?;
         let config = self.config.try_clone(alloc)?;
-        let engine = engine_of(&config, thompson, hirs, compiled.places, strategy);
-        let hirs = copies_of(alloc, hirs)?;
-        Ok(assembled(hirs, config, thompson, engine, compiled.info))
+        Ok(PikeVM {
+            config,
+            thompson: self.thompson,
+            built,
+        })
     }
-}
-
-/// The engine of these patterns, whose program this is, and whose searches may go by the strategy.
-fn engine_of(
-    config: &Config,
-    thompson: thompson::Config,
-    hirs: &[Hir],
-    places: Vec<Place>,
-    strategy: Strategy,
-) -> Engine
-    requires runnable { IsRunnable (places_of places.items) }
-    requires sound { IsSound (places_of places.items) (line_terminator_of (settings_of thompson))
-        (passes_over (sought_by (settings_of thompson) (map meaning hirs.now))) strategy }
-    ensures places { result.program.places ≡ places }
-    ensures terminator { result.program.terminator ≡ line_terminator_of (settings_of thompson) }
-    ensures kind { result.kind ≡ match_kind_of (search_settings_of config.now) }
-    ensures passes_over { result.program.passes_over ≡ passes_over (sought_by (settings_of thompson) (map meaning hirs.now)) }
-    ensures strategy { result.strategy ≡ strategy }
-{
-    let passes_over = thompson.get_utf8() && may_be_empty(hirs);
-    let program = Program {
-        places,
-        terminator: thompson.get_line_terminator(),
-        passes_over,
-    };
-    Engine {
-        program,
-        kind: config.get_match_kind(),
-        strategy,
-    }
-}
-
-/// Whether the least length of some pattern is 0.
-fn may_be_empty(hirs: &[Hir]) -> bool
-    ensures { result ≡ may_be_empty (map meaning hirs.now) }
-{
-    for hir in hirs {
-        if hir.properties().minimum_len() == Some(0) {
-            return true;
-        }
-    }
-    false
 }

@@ -46,9 +46,9 @@ pub fn is_match<C: Cursor>(vm: &PikeVM, cache: &mut Cache, input: &mut Input<C>)
     find_by_kind(
         &mut cache.inner,
         input,
-        &vm.engine.program,
-        guards_of(&vm.engine.strategy),
-        vm.engine.kind,
+        &vm.built.engine.program,
+        guards_of(&vm.built.engine.strategy),
+        vm.built.engine.kind,
     )
     .is_some()
 }
@@ -81,9 +81,9 @@ pub fn search<C: Cursor>(vm: &PikeVM, cache: &mut Cache, input: &mut Input<C>, c
     let pattern = search_slots_by_kind(
         &mut cache.inner,
         input,
-        &vm.engine.program,
-        guards_of(&vm.engine.strategy),
-        vm.engine.kind,
+        &vm.built.engine.program,
+        guards_of(&vm.built.engine.strategy),
+        vm.built.engine.kind,
         caps.slots_mut(),
     );
     captures::set_pattern(caps, pattern);
@@ -118,9 +118,9 @@ pub fn search_slots<C: Cursor>(
     search_slots_by_kind(
         &mut cache.inner,
         input,
-        &vm.engine.program,
-        guards_of(&vm.engine.strategy),
-        vm.engine.kind,
+        &vm.built.engine.program,
+        guards_of(&vm.built.engine.strategy),
+        vm.built.engine.kind,
         slots,
     )
 }
@@ -171,7 +171,7 @@ pub(crate) fn next_match<C: Cursor>(
     ensures moves { IsMoved input.old input.new }
     ensures counted { IfSome result (λ m. IsCounted vm.now input.old m (insertions_of cache.new)) }
 {
-    let Some(found) = vm.engine.next_match(&mut cache.inner, input, last) else {
+    let Some(found) = vm.built.engine.next_match(&mut cache.inner, input, last) else {
         return None;
     };
     input.set_start(found.end());

@@ -1,32 +1,31 @@
 //! A program of patterns, and the groups that are kept.
 
-ghost use Rattle.std.specs.Prelude.{◌≡◌, map};
+ghost use Rattle.std.specs.Prelude.{◌≡◌, None, map};
 ghost use Rattle.rc_pattern.specs.Meaning.{meaning};
+ghost use Rattle.rc_engine.specs.Choices.{answering};
 ghost use Rattle.rc_settings.specs.SearchSettings.{match_kind_of, search_settings_of};
-ghost use Rattle.rc_pikevm.specs.Fits.{Fits};
 ghost use Rattle.rc_settings.specs.Thompson.{settings_of};
+ghost use Rattle.rc_build.specs.Fits.{Fits};
 
 use crate::builder::Builder;
 use crate::cache::Cache;
+use rc_build::build::Built;
 use rc_captures::captures::Captures;
 use rc_captures::groups::GroupInfo;
-use rc_engine::engine::Engine;
 use rc_pass::cache;
-use rc_pattern::hir::Hir;
 use rc_settings::error::BuildError;
 use rc_settings::pikevm::Config;
 use rc_settings::thompson;
 use std::alloc::{AllocError, Global};
 
-/// A list of patterns, built for searches by one ordered pass.
+/// A list of patterns, built for searches by one ordered pass. No needles alone tell its answers, so each search makes a pass.
 #[derive(Drop)]
 pub struct PikeVM {
-    hirs: Vec<Hir>,
-    config: Config,
-    thompson: thompson::Config,
-    pub(crate) engine: Engine,
-    info: GroupInfo,
-    ghost fits: { Fits (settings_of thompson) (match_kind_of (search_settings_of config)) (map meaning hirs.items) engine info },
+    pub(crate) config: Config,
+    pub(crate) thompson: thompson::Config,
+    pub(crate) built: Built,
+    ghost fits: { Fits (settings_of thompson) (match_kind_of (search_settings_of config)) (map meaning built.hirs.items) built.engine built.info },
+    ghost unanswered: { answering built.engine.strategy ≡ None },
 }
 
 impl PikeVM {
@@ -88,14 +87,14 @@ impl PikeVM {
         ensures value { result ≡ states_of (sought self.now) }
         ensures small { result ≤ list_weight (vm_patterns self.now) }
     {
-        self.engine.program.places.len()
+        self.built.engine.program.places.len()
     }
 
     /// The groups that are kept.
     pub fn get_group_info(&self) -> &GroupInfo
         ensures { names_of result.now ≡ vm_names self.now }
     {
-        &self.info
+        &self.built.info
     }
 
     /// Captures that keep the groups of the patterns. They hold no match. An `Err` is want of memory.
@@ -104,7 +103,7 @@ impl PikeVM {
         ensures whole { IfOk result (KeepsAll (vm_names self.now)) }
         ensures pattern { IfOk result (λ c. captures_pattern c ≡ None) }
     {
-        Captures::all(alloc, &self.info)
+        Captures::all(alloc, &self.built.info)
     }
 
     /// A cache for searches. An `Err` is want of memory.
@@ -120,28 +119,6 @@ impl PikeVM {
         ensures made { IfOk result (pikevm.IsCacheFor (states_of (sought self.now)) (slot_len (vm_names self.now))) }
         ensures unused { IfOk result (λ c. c.insertions ≡ 0) }
     {
-        cache::Cache::new(alloc, self.states_len(), self.info.slot_len())
-    }
-}
-
-/// What is built of these patterns under these settings.
-pub(crate) fn assembled(
-    hirs: Vec<Hir>,
-    config: Config,
-    thompson: thompson::Config,
-    engine: Engine,
-    info: GroupInfo,
-) -> PikeVM
-    requires { Fits (settings_of thompson) (match_kind_of (search_settings_of config)) (map meaning hirs.items) engine info }
-    ensures hirs { result.hirs ≡ hirs }
-    ensures config { result.config ≡ config }
-    ensures thompson { result.thompson ≡ thompson }
-{
-    PikeVM {
-        hirs,
-        config,
-        thompson,
-        engine,
-        info,
+        cache::Cache::new(alloc, self.states_len(), self.built.info.slot_len())
     }
 }

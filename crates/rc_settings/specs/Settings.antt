@@ -7,6 +7,7 @@ use Rattle.rc_literal.specs.Prefilters.{needles_of}
 use Rattle.rc_settings.specs.declared.which.WhichCaptures.{WhichCaptures}
 use Rattle.rc_settings.specs.declared.which.WhichCaptures.TheVariants.{All}
 use Rattle.rc_settings.specs.declared.meta.Config.{Config}
+use Rattle.rc_settings.specs.Thompson.{Settings as ProgramSettings}
 
 -- what was set
 pub record Settings : Type 0 where
@@ -124,3 +125,12 @@ byte_classes_of s = unwrap_or s.byte_classes true
 
 abbrev pub line_terminator_of : Settings → ℕ
 line_terminator_of s = unwrap_or s.line_terminator 10
+
+-- the settings of its program, each of which is set
+abbrev pub program_settings : Settings → ProgramSettings
+program_settings s = record {
+  utf8 = Some (utf8_empty_of s);
+  nfa_size_limit = Some (nfa_size_limit_of s);
+  which_captures = Some (which_captures_of s);
+  line_terminator = Some (line_terminator_of s);
+}

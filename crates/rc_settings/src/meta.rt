@@ -1,8 +1,10 @@
 //! The settings of a regex.
 ghost use Rattle.std.specs.Prelude.{◌≡◌, IfOk, Some, option_map};
-ghost use Rattle.rc_settings.specs.Settings.{settings_of, unset, overwritten, match_kind_of, utf8_empty_of, auto_prefilter_of, prefilter_of, which_captures_of, nfa_size_limit_of, hybrid_cache_capacity_of, hybrid_of, dfa_of, dfa_size_limit_of, dfa_state_limit_of, byte_classes_of, line_terminator_of};
+ghost use Rattle.rc_settings.specs.Settings.{settings_of, unset, overwritten, match_kind_of, utf8_empty_of, auto_prefilter_of, prefilter_of, which_captures_of, nfa_size_limit_of, hybrid_cache_capacity_of, hybrid_of, dfa_of, dfa_size_limit_of, dfa_state_limit_of, byte_classes_of, line_terminator_of, program_settings};
+ghost use Rattle.rc_settings.specs.Thompson.{settings_of as program_settings_of};
 ghost use Rattle.rc_literal.specs.Prefilters.{needles_of};
 
+use crate::thompson;
 use crate::which::WhichCaptures;
 use rc_literal::prefilter::{Prefilter, copy_of};
 use rc_text::types::MatchKind;
@@ -265,6 +267,17 @@ impl Config {
         ensures { result ≡ line_terminator_of (settings_of self.now) }
     {
         self.line_terminator.unwrap_or(b'\n')
+    }
+
+    /// The settings of the regex's program. All four are set, where they aren't set here to the defaults here.
+    pub fn program_settings(&self) -> thompson::Config
+        ensures { program_settings_of result ≡ program_settings (settings_of self.now) }
+    {
+        thompson::Config::new()
+            .utf8(self.get_utf8_empty())
+            .nfa_size_limit(self.get_nfa_size_limit())
+            .which_captures(self.get_which_captures())
+            .line_terminator(self.get_line_terminator())
     }
 
     /// Takes over what `new` sets, and keeps what it doesn't.

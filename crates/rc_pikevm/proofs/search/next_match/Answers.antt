@@ -1,5 +1,6 @@
 use Rattle.std.proofs.Common.{◌∙◌, sym, rules}
-use Rattle.rc_pikevm.proofs.Left.{counted, engine_none, engine_some}
+use Rattle.rc_build.proofs.Fitted.{engine_none, engine_some}
+use Rattle.rc_pikevm.proofs.Left.{counted}
 use Rattle.rc_pikevm.proofs.search.next_match.Goals as goal
 
 pub returns-in_default-clause-left : goal.returns-in_default-clause-left
@@ -15,5 +16,5 @@ pub returns-clause-counted : goal.returns-clause-counted
 returns-clause-counted g c =
     let vm = c.args.vm.now in
     let j = c.next_match.new.input in
-    counted vm.fits c.args.input.now j c.args.last c.in-Some.found _ _ c.next_match.ensures.moves c.next_match.ensures.start c.in-Some.is
+    counted vm.fits c.args.input.now j c.args.last c.in-Some.found _ _ vm.unanswered c.next_match.ensures.moves c.next_match.ensures.start c.in-Some.is
     c.next_match.ensures.counts

@@ -2,7 +2,8 @@ use Rattle.std.proofs.Common.{◌∙◌, [], ap, refl, rules, subst, sym}
 use Rattle.rc_engine.specs.Moved.{IsMoved}
 use Rattle.rc_engine.specs.Tells.{KeepsAll, TellsSpan}
 use Rattle.rc_meta.specs.Views.{regex_names, sought}
-use Rattle.rc_meta.proofs.Going.{answer_same, none_left, no_walks, next_left, some_left, same_match, moved, tells_next, told_as}
+use Rattle.rc_build.proofs.Fitted.{answer_same}
+use Rattle.rc_meta.proofs.Going.{none_left, no_walks, next_left, some_left, same_match, moved, tells_next, told_as}
 use Rattle.rc_program.specs.Kinds.{answer_by}
 use Rattle.rc_program.specs.Sought.{search_for}
 use Rattle.rc_text.specs.declared.types.MatchKind.TheVariants.{All as all_matches}
@@ -38,7 +39,7 @@ returns-clause-steps g c =
     } in
     let matched =
     same_match r j caps kept c.find_captures.ensures.found
-    ∙ sym (answer_same r j) ∙ sym c.next_match.ensures.there ∙ c.in-Some.is in
+    ∙ sym (answer_same r.fits j) ∙ sym c.next_match.ensures.there ∙ c.in-Some.is in
     record {
       kept = kept;
       found = c.in-Some.found;

@@ -5,12 +5,13 @@ use Rattle.rc_program.specs.Kinds.{answer_by}
 use Rattle.rc_program.specs.Sought.{search_for}
 use Rattle.rc_text.specs.declared.types.MatchKind.TheVariants.{LeftmostFirst as leftmost_first}
 use Rattle.rc_meta.specs.Views.{regex_kind, regex_names, sought}
-use Rattle.rc_meta.proofs.Going.{match_made, told_as, told_same}
-use Rattle.rc_meta.proofs.Matched.{still_for}
+use Rattle.rc_build.proofs.Fitted.{told_same}
+use Rattle.rc_meta.proofs.Going.{match_made, told_as}
+use Rattle.rc_build.proofs.Matched.{still_for}
 use Rattle.rc_meta.proofs.regex.Regex.search_captures_with.Goals as goal
 
 pub returns-clause-told_by : goal.returns-clause-told_by
-returns-clause-told_by g c = told_same c.args.self.now c.args.input.now c.find_captures.new.caps c.find_captures.ensures.found
+returns-clause-told_by g c = told_same c.args.self.now.fits c.args.input.now c.find_captures.new.caps c.find_captures.ensures.found
 
 pub returns-clause-found : goal.returns-clause-found
 returns-clause-found g c kind = told_as c.args.self.now c.args.input.now c.find_captures.new.caps leftmost_first kind c.find_captures.ensures.found

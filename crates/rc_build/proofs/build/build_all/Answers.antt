@@ -6,13 +6,12 @@ use Rattle.rc_pattern.specs.WellFormed.{HasBounds, IsWellFormed}
 use Rattle.rc_program.specs.Program.{program, shown}
 use Rattle.rc_program.specs.Sought.{IsRunnable, passes_over}
 use Rattle.rc_program.specs.Places.{places_of}
-use Rattle.rc_build.proofs.Runnable.{runnable}
-use Rattle.rc_engine.specs.Choices.{answering}
 use Rattle.rc_engine.specs.Strategies.{IsSound}
 use Rattle.rc_settings.specs.Thompson.{settings_of, line_terminator_of}
-use Rattle.rc_pikevm.specs.Fits.{sought_by}
-use Rattle.rc_pikevm.proofs.Sizes.{fitted}
-use Rattle.rc_pikevm.proofs.builder.Builder.build_many_from_hir.Goals as goal
+use Rattle.rc_build.specs.Fits.{sought_by}
+use Rattle.rc_build.proofs.Runnable.{runnable}
+use Rattle.rc_build.proofs.Sizes.{fitted}
+use Rattle.rc_build.proofs.build.build_all.Goals as goal
 
 pub choose-requires : goal.choose-requires
 choose-requires c = record {
@@ -26,15 +25,14 @@ engine_of-engine-requires-clause-runnable c =
 pub engine_of-engine-requires-clause-sound : goal.engine_of-engine-requires-clause-sound
 engine_of-engine-requires-clause-sound c =
     let hs = map meaning c.args.hirs.now in
-    let s = settings_of c.args.self.now.thompson in
+    let s = settings_of c.args.settings in
     let q = sought_by s hs in
     subst (λ places. IsSound places (line_terminator_of s) (passes_over q) c.in_ok-strategy.strategy)
     (sym (c.in_ok-compiled.ensures.places ∙ search rules))
     (IfOk-at_ok (IsSound (program (shown q.grouped hs)) (line_terminator_of s) (passes_over q)) c.in_ok-strategy.was (c.choose.ensures.sound q refl))
 
-pub assembled-requires : goal.assembled-requires
-assembled-requires c =
+pub returns-clause-fits : goal.returns-clause-fits
+returns-clause-fits c =
     fitted _ c.in_ok-hirs.ensures c.in_ok-compiled.ensures.buildable
     (ap (λ ps. places_of ps.items) c.engine_of-engine.ensures.places ∙ c.in_ok-compiled.ensures.places ∙ search rules)
-    c.engine_of-engine.ensures.terminator c.engine_of-engine.ensures.passes_over (search rules)
-    (ap answering c.engine_of-engine.ensures.strategy ∙ c.in_ok-strategy.ensures.exact) (search rules)
+    c.engine_of-engine.ensures.terminator c.engine_of-engine.ensures.passes_over (search rules) (search rules)

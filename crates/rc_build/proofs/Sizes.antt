@@ -1,5 +1,5 @@
 -- There are no more places than the weight of the patterns.
-use Rattle.std.proofs.Common.{◌≡◌, ◌≤◌, List, length, Bool, Option, None, ℕ, ap, arith, subst, sym}
+use Rattle.std.proofs.Common.{◌≡◌, ◌≤◌, List, length, Bool, Option, ℕ, ap, arith, subst, sym}
 use Rattle.std.proofs.lemmas.List.{length-map}
 use Rattle.rc_text.specs.declared.types.MatchKind.{MatchKind}
 use Rattle.rc_pattern.specs.Re.{Re}
@@ -14,11 +14,10 @@ use Rattle.rc_build.proofs.Runnable.{bounded}
 use Rattle.rc_captures.specs.Groups.{names_of}
 use Rattle.rc_captures.specs.declared.groups.GroupInfo.{GroupInfo}
 use Rattle.rc_program.specs.Sought.{passes_over}
-use Rattle.rc_engine.specs.Choices.{answering}
 use Rattle.rc_engine.specs.declared.engine.Engine.{Engine}
 use Rattle.rc_settings.specs.Which.{is_grouped}
 use Rattle.rc_build.specs.Names.{names_shown}
-use Rattle.rc_pikevm.specs.Fits.{Fits, sought_by}
+use Rattle.rc_build.specs.Fits.{Fits, sought_by}
 use Rattle.rc_settings.specs.Thompson.{Settings, which_captures_of, line_terminator_of}
 
 pub program_light : (limit : Option ℕ) (grouped : Bool) (hs : List Re) → IsBuildable limit hs → length (program (shown grouped hs)) ≤ list_weight hs
@@ -40,13 +39,13 @@ places_light ps limit grouped hs e ok =
 -- what fits the patterns fits the same patterns
 pub fitted : {s : Settings} {kind : MatchKind} {hs ks : List Re} {e : Engine} {info : GroupInfo} (limit : Option ℕ) → ks ≡ hs → IsBuildable limit hs →
     places_of e.program.places.items ≡ program (shown (is_grouped (which_captures_of s)) hs) → e.program.terminator ≡ line_terminator_of s →
-    e.program.passes_over ≡ passes_over (sought_by s hs) → e.kind ≡ kind → answering e.strategy ≡ None → names_of info ≡ names_shown (is_grouped (which_captures_of s)) hs → Fits s kind ks e info
-fitted {s} {kind} {hs} {ks} {e} {info} limit same ok placed ended passing kinded unanswered named = subst (λ x. Fits s kind x e info) (sym same) (record {
+    e.program.passes_over ≡ passes_over (sought_by s hs) → e.kind ≡ kind → names_of info ≡ names_shown (is_grouped (which_captures_of s)) hs → Fits s kind ks e info
+fitted {s} {kind} {hs} {ks} {e} {info} limit same ok placed ended passing kinded named = subst (λ x. Fits s kind x e info) (sym same) (record {
+  light = ok.placed;
   small = places_light e.program.places.items limit (is_grouped (which_captures_of s)) hs placed ok;
   placed = placed;
   ended = ended;
   passing = passing;
   kinded = kinded;
-  unanswered = unanswered;
   named = named;
 })

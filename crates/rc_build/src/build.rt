@@ -1,0 +1,122 @@
+//! Patterns built: an engine over their program, and their groups.
+
+ghost use Rattle.std.specs.Prelude.{◌≡◌, ◌≤◌, IfErr, IfOk, None, false, length, map, option_map};
+ghost use Rattle.rc_pattern.specs.Meaning.{meaning};
+ghost use Rattle.rc_program.specs.Places.{places_of};
+ghost use Rattle.rc_program.specs.Sought.{IsRunnable, may_be_empty, passes_over};
+ghost use Rattle.rc_literal.specs.Prefilters.{needles_of};
+ghost use Rattle.rc_engine.specs.Choices.{answering, guarding};
+ghost use Rattle.rc_engine.specs.Strategies.{IsSound};
+ghost use Rattle.rc_settings.specs.Thompson.{settings_of, nfa_size_limit_of, line_terminator_of};
+ghost use Rattle.rc_build.specs.Fits.{Fits, sought_by};
+ghost use Rattle.rc_build.specs.Refusals.{IsBuildable, IsRefusal};
+
+use crate::compile::compile_all;
+use rc_captures::groups::GroupInfo;
+use rc_engine::choice::choose;
+use rc_engine::engine::Engine;
+use rc_engine::strategy::Strategy;
+use rc_literal::prefilter::Prefilter;
+use rc_pattern::check::copies_of;
+use rc_pattern::hir::Hir;
+use rc_program::place::Place;
+use rc_program::program::Program;
+use rc_settings::error::BuildError;
+use rc_settings::thompson;
+use rc_text::types::MatchKind;
+use std::alloc::Global;
+
+/// What patterns were built to.
+#[derive(Drop)]
+pub struct Built {
+    /// Copies of the patterns.
+    pub hirs: Vec<Hir>,
+    /// The engine over their program.
+    pub engine: Engine,
+    /// The groups that are kept.
+    pub info: GroupInfo,
+}
+
+/// The patterns, at most 2,147,483,647 of them, built under the settings of their program, for searches
+/// for this kind of match.
+///
+/// Searches may go by the needles of `prefilter`, and where `is_auto` is on also by the patterns' own.
+/// No answer depends on them.
+///
+/// An `Err` is the first of these that applies: `IllFormed`, with the least pattern that isn't
+/// well-formed; `SizeLimit`, where 32 times the weight of the patterns is above the limit on their
+/// size; `PlaceLimit`, where the weight is above 2,147,483,646. `Memory` comes where memory was refused.
+pub fn build_all(
+    alloc: Global,
+    hirs: &[Hir],
+    settings: thompson::Config,
+    kind: MatchKind,
+    prefilter: Option<&Prefilter>,
+    is_auto: bool,
+) -> Result<Built, BuildError>
+    requires { length hirs.now ≤ 2147483647 }
+    ensures patterns { IfOk result (λ b. map meaning b.hirs.items ≡ map meaning hirs.now) }
+    ensures buildable { IfOk result (λ _. IsBuildable (nfa_size_limit_of (settings_of settings)) (map meaning hirs.now)) }
+    ensures fits { IfOk result (λ b. Fits (settings_of settings) kind (map meaning b.hirs.items) b.engine b.info) }
+    ensures unanswered { is_auto ≡ false → IfOk result (λ b. answering b.engine.strategy ≡ None) }
+    ensures unguarded { is_auto ≡ false → option_map (λ p. needles_of p.now) prefilter.entry ≡ None
+        → IfOk result (λ b. guarding b.engine.strategy ≡ None) }
+    ensures refused { IfErr result (λ e. IsRefusal (nfa_size_limit_of (settings_of settings)) (map meaning hirs.now) e) }
+{
+    let compiled = compile_all(
+        alloc,
+        hirs,
+        settings.get_nfa_size_limit(),
+        settings.get_which_captures(),
+    )?;
+    let strategy = choose(alloc, hirs, prefilter, is_auto)?;
+    let engine = engine_of(settings, kind, hirs, compiled.places, strategy);
+    let hirs = copies_of(alloc, hirs)?;
+    Ok(Built {
+        hirs,
+        engine,
+        info: compiled.info,
+    })
+}
+
+/// The engine of these patterns, whose program this is, and whose searches may go by the strategy.
+fn engine_of(
+    settings: thompson::Config,
+    kind: MatchKind,
+    hirs: &[Hir],
+    places: Vec<Place>,
+    strategy: Strategy,
+) -> Engine
+    requires runnable { IsRunnable (places_of places.items) }
+    requires sound { IsSound (places_of places.items) (line_terminator_of (settings_of settings))
+        (passes_over (sought_by (settings_of settings) (map meaning hirs.now))) strategy }
+    ensures places { result.program.places ≡ places }
+    ensures terminator { result.program.terminator ≡ line_terminator_of (settings_of settings) }
+    ensures passes_over { result.program.passes_over ≡ passes_over (sought_by (settings_of settings) (map meaning hirs.now)) }
+    ensures kind { result.kind ≡ kind }
+    ensures strategy { result.strategy ≡ strategy }
+{
+    let passes_over = settings.get_utf8() && may_be_empty(hirs);
+    let program = Program {
+        places,
+        terminator: settings.get_line_terminator(),
+        passes_over,
+    };
+    Engine {
+        program,
+        kind,
+        strategy,
+    }
+}
+
+/// Whether the least length of some pattern is 0.
+fn may_be_empty(hirs: &[Hir]) -> bool
+    ensures { result ≡ may_be_empty (map meaning hirs.now) }
+{
+    for hir in hirs {
+        if hir.properties().minimum_len() == Some(0) {
+            return true;
+        }
+    }
+    false
+}
