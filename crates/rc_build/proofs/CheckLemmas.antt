@@ -11,16 +11,16 @@ use Rattle.rc_pattern.specs.declared.hir.Hir.{Hir}
 use Rattle.rc_build.specs.Refusals.{IsFirstIllFormed}
 
 -- the tree is of a well-formed pattern
-abbrev pub IsSound : Hir → Type 0
-IsSound h = IsWellFormed (meaning h)
+abbrev pub MeansWellFormed : Hir → Type 0
+MeansWellFormed h = IsWellFormed (meaning h)
 
-pub sound_more : (xs : List Hir) (i : ℕ) (x : Hir) → i < length xs → x ≡ get_or xs i x → All IsSound (take i xs) → IsSound x → All IsSound (take (i + 1) xs)
-sound_more xs i x inside is before here = All-more IsSound xs i x inside before (rw (sym is) here)
+pub sound_more : (xs : List Hir) (i : ℕ) (x : Hir) → i < length xs → x ≡ get_or xs i x → All MeansWellFormed (take i xs) → MeansWellFormed x → All MeansWellFormed (take (i + 1) xs)
+sound_more xs i x inside is before here = All-more MeansWellFormed xs i x inside before (rw (sym is) here)
 
-pub all_sound : (xs : List Hir) (n : ℕ) → length xs ≤ n → All IsSound (take n xs) → All IsWellFormed (map meaning xs)
+pub all_sound : (xs : List Hir) (n : ℕ) → length xs ≤ n → All MeansWellFormed (take n xs) → All IsWellFormed (map meaning xs)
 all_sound xs n done ok = All-map IsWellFormed meaning xs (rw (take_all n xs done) at ok)
 
-pub first_unsound : (xs : List Hir) (i : ℕ) (x : Hir) → i < length xs → x ≡ get_or xs i x → All IsSound (take i xs) → ¬ IsSound x →
+pub first_unsound : (xs : List Hir) (i : ℕ) (x : Hir) → i < length xs → x ≡ get_or xs i x → All MeansWellFormed (take i xs) → ¬ MeansWellFormed x →
     IsFirstIllFormed (map meaning xs) i
 first_unsound xs i x inside is before bad = record {
   before = rw (take-map meaning i xs) (All-map IsWellFormed meaning (take i xs) before);

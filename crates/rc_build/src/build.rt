@@ -6,7 +6,7 @@ ghost use Rattle.rc_program.specs.Places.{places_of};
 ghost use Rattle.rc_program.specs.Sought.{IsRunnable, may_be_empty, passes_over};
 ghost use Rattle.rc_literal.specs.Prefilters.{needles_of};
 ghost use Rattle.rc_engine.specs.Choices.{answering, guarding};
-ghost use Rattle.rc_engine.specs.Strategies.{IsSound};
+ghost use Rattle.rc_engine.specs.Strategies.{MayGoBy};
 ghost use Rattle.rc_settings.specs.Thompson.{settings_of, nfa_size_limit_of, line_terminator_of};
 ghost use Rattle.rc_build.specs.Fits.{Fits, sought_by};
 ghost use Rattle.rc_build.specs.Refusals.{IsBuildable, IsRefusal};
@@ -88,7 +88,7 @@ fn engine_of(
     strategy: Strategy,
 ) -> Engine
     requires runnable { IsRunnable (places_of places.items) }
-    requires sound { IsSound (places_of places.items) (line_terminator_of (settings_of settings))
+    requires sound { MayGoBy (places_of places.items) (line_terminator_of (settings_of settings))
         (passes_over (sought_by (settings_of settings) (map meaning hirs.now))) strategy }
     ensures places { result.program.places ≡ places }
     ensures terminator { result.program.terminator ≡ line_terminator_of (settings_of settings) }

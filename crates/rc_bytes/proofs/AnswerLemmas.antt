@@ -11,7 +11,7 @@ use Rattle.rc_walks.proofs.CutLemmas.{first_is_one}
 use Rattle.rc_walks.proofs.TryLemmas.{Finds, walk_by_finds}
 use Rattle.rc_program.specs.Program.{Place, choice, byte, branch, scalar, guard, slot, accept, is_match_place}
 use Rattle.rc_program.specs.Laws.{IsClosed}
-use Rattle.rc_program.specs.Answer.{last_of, Search, only, is_anchored, ends, next_of, is_allowed, Chosen, found, slot_of, slots_of, allowed_only, from_start, by_starts, start_count, chosen, answer, groups}
+use Rattle.rc_program.specs.Answer.{last_of, Search, only, is_anchored, ends, next_of, is_allowed, Chosen, found, slot_of, slots_of, allowed_only, from_start, first_given, start_count, chosen, answer, groups}
 use Rattle.rc_program.proofs.WayLemmas.{same_pair}
 use Rattle.rc_program.proofs.AnswerLemmas.{last_pair, is_bounded}
 use Rattle.rc_bytes.specs.Bytes.{bytes_of}
@@ -124,10 +124,10 @@ module _ (s : Search) (closed : IsClosed s.places) where
   or_alike (Some c) (Some d) r u a b = a
 
   starts_alike : 0 < length s.places → (n x : ℕ) → x + n ≤ s.hi + 1 →
-      Chosens (by_starts (from_start s) n x) (by_starts (from_start (by_bytes s)) n x)
+      Chosens (first_given (from_start s) n x) (first_given (from_start (by_bytes s)) n x)
   starts_alike some zero x h = tt
   starts_alike some (suc n) x h =
-      or_alike (from_start s x) (from_start (by_bytes s) x) (by_starts (from_start s) n (x + 1)) (by_starts (from_start (by_bytes s)) n (x + 1))
+      or_alike (from_start s x) (from_start (by_bytes s) x) (first_given (from_start s) n (x + 1)) (first_given (from_start (by_bytes s)) n (x + 1))
       (start_alike some x (omega arith)) (starts_alike some n (x + 1) (omega arith))
 
   pub count_in : (s.lo + start_count s ≤ s.hi + 1) ⊎ (start_count s ≡ 0)
@@ -142,7 +142,7 @@ module _ (s : Search) (closed : IsClosed s.places) where
       let z : length q.places * (q.hi + 1) ≡ 0 = ap (λ k. k * (q.hi + 1)) e ∙ omega arith in
       ap (λ k. option_and_then (allowed_only q x) (walk_by (next_of q) (ends q) k [] (0, x))) z
 
-  nothing_left : (q : Search) → length q.places ≡ 0 → (n x : ℕ) → by_starts (from_start q) n x ≡ None
+  nothing_left : (q : Search) → length q.places ≡ 0 → (n x : ℕ) → first_given (from_start q) n x ≡ None
   nothing_left q e zero x = refl
   nothing_left q e (suc n) x = ap₂ option_or (none_of q e x) (nothing_left q e n (x + 1))
 
@@ -155,9 +155,9 @@ module _ (s : Search) (closed : IsClosed s.places) where
   chosen_alike =
       ⊎_elim
       (λ some. ⊎_elim (λ h. starts_alike some (start_count s) s.lo h)
-      (λ e. subst (λ n. Chosens (by_starts (from_start s) n s.lo) (by_starts (from_start (by_bytes s)) n s.lo)) (sym e) tt) count_in)
+      (λ e. subst (λ n. Chosens (first_given (from_start s) n s.lo) (first_given (from_start (by_bytes s)) n s.lo)) (sym e) tt) count_in)
       (λ none. let e : length s.places ≡ 0 = omega (arith, none) in
-      subst (λ o. Chosens o (by_starts (from_start (by_bytes s)) (start_count s) s.lo)) (sym (nothing_left s e (start_count s) s.lo))
+      subst (λ o. Chosens o (first_given (from_start (by_bytes s)) (start_count s) s.lo)) (sym (nothing_left s e (start_count s) s.lo))
       (subst (λ o. Chosens None o) (sym (nothing_left (by_bytes s) (no_bytes s.places e) (start_count s) s.lo)) tt))
       (cases_lt 0 (length s.places))
 

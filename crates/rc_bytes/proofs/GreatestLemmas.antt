@@ -9,8 +9,8 @@ use Rattle.rc_walks.specs.Tries.{walk_by}
 use Rattle.rc_walks.proofs.TryLemmas.{Finds, walk_by_finds}
 use Rattle.rc_program.specs.Program.{Place, choice, byte, branch, scalar, guard, slot, accept, is_match_place}
 use Rattle.rc_program.specs.Laws.{IsClosed}
-use Rattle.rc_program.specs.Answer.{Search, only, next_of, start_count}
-use Rattle.rc_program.specs.Greatest.{ends_for, span_by, first_from, last_below, past_patterns, by_patterns, to_end, greatest}
+use Rattle.rc_program.specs.Answer.{Search, only, next_of, start_count, first_given}
+use Rattle.rc_program.specs.Greatest.{ends_for, span_by, last_below, past_patterns, by_patterns, to_end, greatest}
 use Rattle.rc_program.proofs.WayLemmas.{same_pair}
 use Rattle.rc_bytes.specs.Bytes.{block, byte_places, blocks, bytes_of}
 use Rattle.rc_bytes.specs.Laws.{by_bytes}
@@ -35,7 +35,7 @@ past_bytes start (accept p ∷ qs) behind e = ap (λ n. max (p + 1) n) (past_byt
 past_same : (qs : List Place) → past_patterns (bytes_of qs) ≡ past_patterns qs
 past_same qs = past_bytes (length qs) qs (blocks (length qs) qs) (past_branching (blocks (length qs) qs) (blocks_branching (length qs) qs))
 
-first_same : (f g : ℕ → Option Found) (b : ℕ) → ((y : ℕ) → y < b → f y ≡ g y) → (n x : ℕ) → x + n ≤ b → first_from f n x ≡ first_from g n x
+first_same : (f g : ℕ → Option Found) (b : ℕ) → ((y : ℕ) → y < b → f y ≡ g y) → (n x : ℕ) → x + n ≤ b → first_given f n x ≡ first_given g n x
 first_same f g b h zero x le = refl
 first_same f g b h (suc n) x le = ap₂ option_or (h x (omega arith)) (first_same f g b h n (x + 1) (omega arith))
 
@@ -90,14 +90,14 @@ module _ (s : Search) (closed : IsClosed s.places) where
 
   patterns_same : (e x : ℕ) → x ≤ s.hi → by_patterns (by_bytes s) e x ≡ by_patterns s e x
   patterns_same e x h =
-      ap (λ n. first_from (span_by (by_bytes s) e x) n 0) (past_same s.places)
+      ap (λ n. first_given (span_by (by_bytes s) e x) n 0) (past_same s.places)
       ∙ first_same (span_by (by_bytes s) e x) (span_by s e x) (past_patterns s.places) (λ p l. span_same p e x h) (past_patterns s.places) 0 (omega arith)
 
   ends_same : (e : ℕ) → to_end (by_bytes s) e ≡ to_end s e
   ends_same e =
       ⊎_elim
       (λ h. first_same (by_patterns (by_bytes s) e) (by_patterns s e) (s.hi + 1) (λ x l. patterns_same e x (omega arith)) (start_count s) s.lo h)
-      (λ none. ap (λ n. first_from (by_patterns (by_bytes s) e) n s.lo) none ∙ sym (ap (λ n. first_from (by_patterns s e) n s.lo) none))
+      (λ none. ap (λ n. first_given (by_patterns (by_bytes s) e) n s.lo) none ∙ sym (ap (λ n. first_given (by_patterns s e) n s.lo) none))
       (count_in s closed)
 
   pub same_greatest : greatest (by_bytes s) ≡ greatest s

@@ -17,13 +17,13 @@ abbrev pub AreAnswers : List Place → ℕ → Bool → List (List ℕ) → Type
 AreAnswers places terminator over needles = (s : Searched) → answer (search_over places terminator over s) ≡ literal_answer needles s
 
 -- A search of these places may go by it.
-abbrev pub IsSound : List Place → ℕ → Bool → Strategy → Type 0
-IsSound places terminator over Pass = Unit {0}
-IsSound places terminator over (Guarded p) = Guards places terminator (needles_of p)
-IsSound places terminator over (Literal p) = Guards places terminator (needles_of p) × AreAnswers places terminator over (needles_of p)
+abbrev pub MayGoBy : List Place → ℕ → Bool → Strategy → Type 0
+MayGoBy places terminator over Pass = Unit {0}
+MayGoBy places terminator over (Guarded p) = Guards places terminator (needles_of p)
+MayGoBy places terminator over (Literal p) = Guards places terminator (needles_of p) × AreAnswers places terminator over (needles_of p)
 
 -- it is a fact
-pub IsSound-is_fact : (places : List Place) (terminator : ℕ) (over : Bool) (strategy : Strategy) → IsProp (IsSound places terminator over strategy)
-IsSound-is_fact places terminator over Pass = hlevel props
-IsSound-is_fact places terminator over (Guarded p) = hlevel props
-IsSound-is_fact places terminator over (Literal p) = hlevel props
+pub MayGoBy-is_fact : (places : List Place) (terminator : ℕ) (over : Bool) (strategy : Strategy) → IsProp (MayGoBy places terminator over strategy)
+MayGoBy-is_fact places terminator over Pass = hlevel props
+MayGoBy-is_fact places terminator over (Guarded p) = hlevel props
+MayGoBy-is_fact places terminator over (Literal p) = hlevel props

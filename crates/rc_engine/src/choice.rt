@@ -8,7 +8,7 @@ ghost use Rattle.rc_program.specs.Text.{Text};
 ghost use Rattle.rc_literal.specs.Literals.{Covers};
 ghost use Rattle.rc_literal.specs.Prefilters.{needles_of};
 ghost use Rattle.rc_engine.specs.Choices.{answering, exact_needles, guarding, IsGuard};
-ghost use Rattle.rc_engine.specs.Strategies.{IsSound};
+ghost use Rattle.rc_engine.specs.Strategies.{MayGoBy};
 
 use crate::strategy::Strategy;
 use rc_literal::exact::exact_literals;
@@ -32,7 +32,7 @@ pub fn choose(
 ) -> Result<Strategy, AllocError>
     requires bounds { All HasBounds (map meaning hirs.now) }
     ensures sound { (q : Sought) → q.patterns ≡ map meaning hirs.now
-        → IfOk result (IsSound (program (shown q.grouped q.patterns)) q.terminator (passes_over q)) }
+        → IfOk result (MayGoBy (program (shown q.grouped q.patterns)) q.terminator (passes_over q)) }
     ensures exact { IfOk result (λ s. answering s ≡ (if is_auto then exact_needles (map meaning hirs.now) else None)) }
     ensures asked { is_auto ≡ false
         → IfOk result (λ s. IfSome (guarding s) (λ needles. option_map (λ p. needles_of p.now) asked.entry ≡ Some needles)) }

@@ -3,7 +3,7 @@
 ghost use Rattle.std.specs.Prelude.{◌≡◌};
 ghost use Rattle.rc_program.specs.Matches.{begin_of, end_of, is_again};
 ghost use Rattle.rc_program.specs.Places.{places_of};
-ghost use Rattle.rc_engine.specs.Strategies.{IsSound, IsSound-is_fact};
+ghost use Rattle.rc_engine.specs.Strategies.{MayGoBy, MayGoBy-is_fact};
 
 use crate::strategy::{Strategy, guards_of, literals_of};
 use rc_captures::captures;
@@ -23,7 +23,7 @@ pub struct Engine {
     pub program: Program,
     pub kind: MatchKind,
     pub strategy: Strategy,
-    ghost sound: { IsSound (places_of program.places.items) program.terminator program.passes_over strategy } by { IsSound-is_fact (places_of program.places.items) program.terminator program.passes_over strategy },
+    ghost sound: { MayGoBy (places_of program.places.items) program.terminator program.passes_over strategy } by { MayGoBy-is_fact (places_of program.places.items) program.terminator program.passes_over strategy },
 }
 
 impl Engine {

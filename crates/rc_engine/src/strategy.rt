@@ -5,7 +5,7 @@ ghost use Rattle.rc_program.specs.Program.{Place as PlaceOf};
 ghost use Rattle.rc_literal.specs.Guards.{Guards};
 ghost use Rattle.rc_literal.specs.Prefilters.{needles_of};
 ghost use Rattle.rc_engine.specs.Choices.{answering_for, guarding};
-ghost use Rattle.rc_engine.specs.Strategies.{AreAnswers, IsSound};
+ghost use Rattle.rc_engine.specs.Strategies.{AreAnswers, MayGoBy};
 
 use rc_literal::prefilter::Prefilter;
 use rc_text::types::MatchKind;
@@ -48,7 +48,7 @@ impl Strategy {
 /// The needles where walks begin.
 pub fn guards_of(strategy: &Strategy) -> Option<&Prefilter>
     ensures value { option_map (λ p. needles_of p.now) result ≡ guarding strategy.now }
-    ensures sound { (places : List PlaceOf) (terminator : ℕ) (over : Bool) → IsSound places terminator over strategy.now
+    ensures sound { (places : List PlaceOf) (terminator : ℕ) (over : Bool) → MayGoBy places terminator over strategy.now
         → MatchOption result ⊤ (λ p. Guards places terminator (needles_of p.now)) }
 {
     match strategy {
@@ -61,7 +61,7 @@ pub fn guards_of(strategy: &Strategy) -> Option<&Prefilter>
 /// The needles that alone tell the answer to a search for this kind of match.
 pub fn literals_of(strategy: &Strategy, kind: MatchKind) -> Option<&Prefilter>
     ensures value { option_map (λ p. needles_of p.now) result ≡ answering_for kind strategy.now }
-    ensures sound { (places : List PlaceOf) (terminator : ℕ) (over : Bool) → IsSound places terminator over strategy.now
+    ensures sound { (places : List PlaceOf) (terminator : ℕ) (over : Bool) → MayGoBy places terminator over strategy.now
         → MatchOption result ⊤ (λ p. (kind ≡ LeftmostFirst) × AreAnswers places terminator over (needles_of p.now)) }
 {
     match (strategy, kind) {

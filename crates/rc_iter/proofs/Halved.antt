@@ -2,10 +2,10 @@
 use Rattle.std.proofs.Common.{◌≡◌, ℕ, ◌+◌, ◌≤◌, Bool, true, false, ◌&&◌, Option, Some, None, Result, IfOk, IfSome, if◌then◌else◌, nat_eq, refl, sym, arith, ⊎_elim, subst}
 use Rattle.std.specs.Option.{option_map}
 use Rattle.std.proofs.lemmas.Bool.{cases_Bool, eq-eqb, eqb-true}
-use Rattle.rc_text.specs.Found.{Found, HalfFound}
+use Rattle.rc_text.specs.Found.{Found, HalfFound, half_of}
 use Rattle.rc_text.specs.declared.types.MatchError.{MatchError}
 use Rattle.rc_program.specs.Matches.{begin_of, end_of, next_match, unless_again}
-use Rattle.rc_iter.specs.Finders.{Task, task_of, with_start, offset_of, half_of}
+use Rattle.rc_iter.specs.Finders.{Task, task_of, with_start, offset_of}
 use Rattle.rc_iter.specs.Searchers.{Searching, next_by, FindsAhead, IsPast, halves_of}
 
 -- an end that is met again shows that the match is empty

@@ -6,11 +6,11 @@ use Rattle.std.specs.Iterator.{Yields, YieldsThen}
 use Rattle.std.proofs.lemmas.List.{append-nil}
 use Rattle.std.proofs.lemmas.Option.{none-some, same_Some}
 use Rattle.rc_text.specs.Text.{Searched, Keeps}
-use Rattle.rc_text.specs.Found.{Found, HalfFound}
+use Rattle.rc_text.specs.Found.{Found, HalfFound, half_of}
 use Rattle.rc_text.specs.declared.types.MatchError.{MatchError}
 use Rattle.rc_program.specs.Matches
 use Rattle.rc_program.specs.Matches.{AreInOrder, AreMatches, begin_of, end_of}
-use Rattle.rc_iter.specs.Finders.{Task, task_of, with_start, Calls, AnswersAs, half_of, limit, offset_of}
+use Rattle.rc_iter.specs.Finders.{Task, task_of, with_start, Calls, AnswersAs, limit, offset_of}
 use Rattle.rc_iter.specs.Searchers.{Searching, next_by, halves_of, FindsAhead, GoesOn, IsPast}
 use Rattle.rc_iter.specs.Halves.{HalvesLeft, GivesHalf, GivesNext, AreLeft, found_in, going, HalvesLaw}
 use Rattle.rc_iter.proofs.Halved.{half_next_by}

@@ -38,10 +38,6 @@ limit s = min s.span.end (length s.content)
 abbrev pub offset_of : HalfFound → ℕ
 offset_of m = m.offset
 
--- the half of a match: its pattern, and its end
-abbrev pub half_of : Found → HalfFound
-half_of m = record { pattern = m.pattern; offset = m.end }
-
 -- What a call of a finder is: it is handed an input that is lent, and a result comes with what is then behind the loan.
 abbrev pub Calls : Type 0 → Type 0 → Type 0 → Type 1
 Calls F I X = Mut F (MutBor I × Unit {0}) (Result (Option X) MatchError × (MutBor I × Unit {0}))

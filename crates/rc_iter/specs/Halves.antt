@@ -5,10 +5,10 @@ use Rattle.std.specs.declared.result.Result.TheVariants.{Ok, Err}
 use Rattle.rc_text.specs.Text.{Searched}
 use Rattle.std.specs.Fn.{always_mut}
 use Rattle.std.specs.Iterator.{Yields, YieldsThen}
-use Rattle.rc_text.specs.Found.{Found, HalfFound}
+use Rattle.rc_text.specs.Found.{Found, HalfFound, half_of}
 use Rattle.rc_program.specs.Matches.{AreInOrder, AreMatches, begin_of, end_of}
 use Rattle.rc_text.specs.declared.types.MatchError.{MatchError}
-use Rattle.rc_iter.specs.Finders.{Task, Calls, AnswersAs, IsLawfulFinder, half_of, limit, offset_of, task_of, with_start}
+use Rattle.rc_iter.specs.Finders.{Task, Calls, AnswersAs, IsLawfulFinder, limit, offset_of, task_of, with_start}
 use Rattle.rc_iter.specs.Searchers.{FindsAhead, IsPast, Searching, halves_of, next_by, Meets, StaysWithin, Rises, Leaves}
 
 -- The halves that are still to come, as contracts see them: over this searcher by this finder, or none.

@@ -5,9 +5,9 @@ use Rattle.std.specs.declared.result.Result.{Result}
 use Rattle.std.specs.declared.result.Result.TheVariants.{Ok, Err}
 use Rattle.rc_text.specs.Text.{Searched, Keeps}
 use Rattle.rc_text.specs.declared.types.MatchError.{MatchError}
-use Rattle.rc_text.specs.Found.{Found, HalfFound}
+use Rattle.rc_text.specs.Found.{Found, HalfFound, half_of}
 use Rattle.rc_program.specs.Matches.{is_again, next_match}
-use Rattle.rc_iter.specs.Finders.{Answers, Calls, Task, task_of, with_start, half_of, LiesIn}
+use Rattle.rc_iter.specs.Finders.{Answers, Calls, Task, task_of, with_start, LiesIn}
 
 -- A searcher as contracts see it.
 pub record Searching : Type 0 where

@@ -1,8 +1,8 @@
 //! A searcher: a kept input, whose matches a finder gives one after another.
 ghost use Rattle.std.specs.Prelude.{◌≡◌, ◌+◌, ◌≤◌, IfErr, IfOk, None, Option, option_map};
-ghost use Rattle.rc_text.specs.Found.{Found, HalfFound};
+ghost use Rattle.rc_text.specs.Found.{Found, HalfFound, half_of};
 ghost use Rattle.rc_program.specs.Matches.{begin_of, end_of};
-ghost use Rattle.rc_iter.specs.Finders.{AnswersAs, IsLawfulFinder, Task, half_of, offset_of};
+ghost use Rattle.rc_iter.specs.Finders.{AnswersAs, IsLawfulFinder, Task, offset_of};
 ghost use Rattle.rc_iter.specs.Searchers.{FindsAhead, GoesOn, IsPast, Leaves, Meets, Rises, StaysWithin, halves_of, next_by};
 
 use crate::ask::{ask, ask_half};

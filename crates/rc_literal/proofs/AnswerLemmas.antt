@@ -7,10 +7,10 @@ use Rattle.rc_text.specs.Text.{Searched, low, high, is_boundary}
 use Rattle.rc_text.specs.Found.{Found}
 use Rattle.rc_walks.specs.Walks.{Pair}
 use Rattle.rc_pattern.specs.Re.{Re, literal, alt}
-use Rattle.rc_pattern.specs.Properties.{minimum_len, saturated, least}
+use Rattle.rc_pattern.specs.Properties.{is_zero, minimum_len, saturated, least}
 use Rattle.rc_program.specs.Program.{accept, place_at, is_match_place, program, part, without_groups, shown}
 use Rattle.rc_program.specs.Answer.{Search, Chosen, only, is_anchored, last_of, is_allowed, IsStart, HasNoWalkFrom, next_of, ends, found, chosen, answer, pattern_at}
-use Rattle.rc_program.specs.Sought.{Sought, anchoring_of, search_over, search_for, passes_over, may_be_empty, is_zero}
+use Rattle.rc_program.specs.Sought.{Sought, anchoring_of, search_over, search_for, passes_over, may_be_empty}
 use Rattle.rc_program.proofs.AnswerLemmas.{first_start_chosen, no_start_chosen, walk_ends, match_place_is}
 use Rattle.rc_program.proofs.PlaceLemmas.{accept_below}
 use Rattle.rc_literal.specs.declared.hit.Hit.{Hit}

@@ -22,7 +22,7 @@ use Rattle.rc_program.specs.Program.{in_ranges}
 use Rattle.rc_program.specs.Spells.{Stands, Turns, Spells, SpelledBy}
 use Rattle.rc_literal.specs.Literals.{Covers}
 use Rattle.rc_literal.specs.Needles.{StandsAt}
-use Rattle.rc_literal.specs.Extraction.{greatest_count, greatest_length, range_bytes, range_chars, is_still, both, first_bytes, filled, grown, Adds}
+use Rattle.rc_literal.specs.Extraction.{greatest_count, greatest_length, range_bytes, range_chars, is_still, both, first_bytes, filled, grown, Extends}
 use Rattle.rc_literal.specs.Prefixes.{ArePrefixes}
 use Rattle.rc_literal.specs.Tables.{IsUsable}
 use Rattle.rc_literal.proofs.RelationLemmas.{range_of}
@@ -291,20 +291,20 @@ module _ {X : Type 0} (f : X → Option (List (List ℕ))) where
   IsLeft begun list xs i = grown begun (each xs) ≡ grown list (each (drop i xs))
 
   turned : (begun list new : List (List ℕ)) (xs : List X) (i : ℕ) (x d : X) (done : Bool) → i < length xs → x ≡ get_or xs i d →
-      IsLeft begun list xs i → Adds done list new (f x) →
+      IsLeft begun list xs i → Extends done list new (f x) →
       grown begun (each xs) ≡ then_grown (if done then Some new else None) (each (drop (i + 1) xs))
   turned begun list new xs i x d done inside is inv adds =
       inv ∙ ap (grown list) (at_drop_more each xs i d inside ∙ ap (λ y. both (f y) (each (drop (i + 1) xs))) (sym is))
       ∙ grown_both list (f x) (each (drop (i + 1) xs)) ∙ ap (λ o. then_grown o (each (drop (i + 1) xs))) adds
 
   pub turn_taken : (begun list new : List (List ℕ)) (xs : List X) (i : ℕ) (x d : X) (done : Bool) → i < length xs → x ≡ get_or xs i d →
-      IsLeft begun list xs i → Adds done list new (f x) → done ≡ true → IsLeft begun new xs (i + 1)
+      IsLeft begun list xs i → Extends done list new (f x) → done ≡ true → IsLeft begun new xs (i + 1)
   turn_taken begun list new xs i x d done inside is inv adds e =
       turned begun list new xs i x d done inside is inv adds
       ∙ ap (λ b. then_grown (if b then Some new else None) (each (drop (i + 1) xs))) e
 
   pub turn_failed : (begun list new : List (List ℕ)) (xs : List X) (i : ℕ) (x d : X) (done : Bool) → i < length xs → x ≡ get_or xs i d →
-      IsLeft begun list xs i → Adds done list new (f x) → done ≡ false → grown begun (each xs) ≡ None
+      IsLeft begun list xs i → Extends done list new (f x) → done ≡ false → grown begun (each xs) ≡ None
   turn_failed begun list new xs i x d done inside is inv adds e =
       turned begun list new xs i x d done inside is inv adds
       ∙ ap (λ b. then_grown (if b then Some new else None) (each (drop (i + 1) xs))) e
@@ -323,7 +323,7 @@ each_some r g (x ∷ xs) = ap (both (Some (g (r x)))) (each_some r g xs)
 
 -- one number more of a range
 pub number_taken : (begun list new : List (List ℕ)) (whole : Option (List (List ℕ))) (f : ℕ → List ℕ) (number end : ℕ) → number < end →
-    grown begun whole ≡ filled list (map f (range_with_len number (end - number))) → Adds true list new (Some (f number ∷ [])) →
+    grown begun whole ≡ filled list (map f (range_with_len number (end - number))) → Extends true list new (Some (f number ∷ [])) →
     grown begun whole ≡ filled new (map f (range_with_len (number + 1) (end - (number + 1))))
 number_taken begun list new whole f number end inside inv e =
     let n : end - number ≡ suc (end - (number + 1)) = omega (arith, inside) in
@@ -332,7 +332,7 @@ number_taken begun list new whole f number end inside inv e =
     ∙ ap (λ o. then_grown o (Some rest)) e
 
 pub number_failed : (begun list new : List (List ℕ)) (whole : Option (List (List ℕ))) (f : ℕ → List ℕ) (number end : ℕ) → number < end →
-    grown begun whole ≡ filled list (map f (range_with_len number (end - number))) → Adds false list new (Some (f number ∷ [])) →
+    grown begun whole ≡ filled list (map f (range_with_len number (end - number))) → Extends false list new (Some (f number ∷ [])) →
     grown begun whole ≡ None
 number_failed begun list new whole f number end inside inv e =
     let n : end - number ≡ suc (end - (number + 1)) = omega (arith, inside) in
@@ -350,7 +350,7 @@ scalars_one number end inside is =
     ap (λ m. map encode_utf8 (filter scalar (range_with_len number m))) n ∙ rw is refl
 
 scalar_turned : (begun list new : List (List ℕ)) (whole : Option (List (List ℕ))) (w : List ℕ) (number end : ℕ) (done : Bool) → number < end →
-    IsScalar number → w ≡ encode_utf8 number → grown begun whole ≡ filled list (scalars_left number end) → Adds done list new (Some (w ∷ [])) →
+    IsScalar number → w ≡ encode_utf8 number → grown begun whole ≡ filled list (scalars_left number end) → Extends done list new (Some (w ∷ [])) →
     grown begun whole ≡ then_grown (if done then Some new else None) (Some (scalars_left (number + 1) end))
 scalar_turned begun list new whole w number end done inside is same inv adds =
     let rest = scalars_left (number + 1) end in
@@ -358,14 +358,14 @@ scalar_turned begun list new whole w number end done inside is same inv adds =
     ∙ ap (λ o. then_grown o (Some rest)) adds
 
 pub scalar_taken : (begun list new : List (List ℕ)) (whole : Option (List (List ℕ))) (w : List ℕ) (number end : ℕ) (done : Bool) → number < end →
-    IsScalar number → w ≡ encode_utf8 number → grown begun whole ≡ filled list (scalars_left number end) → Adds done list new (Some (w ∷ [])) →
+    IsScalar number → w ≡ encode_utf8 number → grown begun whole ≡ filled list (scalars_left number end) → Extends done list new (Some (w ∷ [])) →
     done ≡ true → grown begun whole ≡ filled new (scalars_left (number + 1) end)
 scalar_taken begun list new whole w number end done inside is same inv adds e =
     scalar_turned begun list new whole w number end done inside is same inv adds
     ∙ ap (λ b. then_grown (if b then Some new else None) (Some (scalars_left (number + 1) end))) e
 
 pub scalar_failed : (begun list new : List (List ℕ)) (whole : Option (List (List ℕ))) (w : List ℕ) (number end : ℕ) (done : Bool) → number < end →
-    IsScalar number → w ≡ encode_utf8 number → grown begun whole ≡ filled list (scalars_left number end) → Adds done list new (Some (w ∷ [])) →
+    IsScalar number → w ≡ encode_utf8 number → grown begun whole ≡ filled list (scalars_left number end) → Extends done list new (Some (w ∷ [])) →
     done ≡ false → grown begun whole ≡ None
 scalar_failed begun list new whole w number end done inside is same inv adds e =
     scalar_turned begun list new whole w number end done inside is same inv adds
@@ -443,7 +443,7 @@ module _ (h : Hir) (k : HirKind) (subs : Vec Hir Global) (value : kind_meaning k
 pub literal_prefix : (bs : List ℕ) (n : ℕ) → n ≡ min (length bs) greatest_length → take n bs ≡ take greatest_length bs
 literal_prefix bs n e = ap (λ m. take m bs) (e ∙ min_comm (length bs) greatest_length) ∙ take_min greatest_length bs
 
-module _ (hs : List Re) (begun new : List (List ℕ)) (done : Bool) (empty : begun ≡ []) (adds : Adds done begun new (first_bytes (alt_all hs))) where
+module _ (hs : List Re) (begun new : List (List ℕ)) (done : Bool) (empty : begun ≡ []) (adds : Extends done begun new (first_bytes (alt_all hs))) where
   whole_list : (found : Option (List (List ℕ))) → grown begun found ≡ Some new → found ≡ Some new × (length new ≤ greatest_count)
   whole_list None e = absurd (none-some new e)
   whole_list (Some ws) e =

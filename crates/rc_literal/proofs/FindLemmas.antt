@@ -5,8 +5,9 @@ use Rattle.std.proofs.lemmas.List.{get_or-drop}
 use Rattle.std.proofs.lemmas.Option.{none-some, same_Some}
 use Rattle.rc_text.proofs.Ranges.{get_or-slice_range}
 use Rattle.rc_text.specs.Text.{Searched, Keeps, low}
+use Rattle.rc_program.specs.Answer.{first_given}
 use Rattle.rc_literal.specs.declared.hit.Hit.{Hit}
-use Rattle.rc_literal.specs.Needles.{stands_within, first_from, needle_at, by_starts, find_needle, prefix_needle}
+use Rattle.rc_literal.specs.Needles.{stands_within, first_from, needle_at, find_needle, prefix_needle}
 use Rattle.rc_literal.specs.declared.scan.Scan.{Scan}
 use Rattle.rc_literal.specs.declared.scan.Scan.TheVariants.{Needle, Heads}
 use Rattle.rc_literal.specs.Scans.{IsScanOf}
@@ -55,7 +56,7 @@ none_past needles content hi offset i longer past =
     (λ e. let le = (stands_parts content hi i (numbered needles n) e).0 in let long = longer n l in omega (arith, le, long, past)))
 
 -- no start gives one
-pub by_none : (gives : ℕ → Option Hit) (n i : ℕ) → ((y : ℕ) → i ≤ y → y < i + n → gives y ≡ None) → by_starts gives n i ≡ None
+pub by_none : (gives : ℕ → Option Hit) (n i : ℕ) → ((y : ℕ) → i ≤ y → y < i + n → gives y ≡ None) → first_given gives n i ≡ None
 by_none gives zero i h = refl
 by_none gives (suc n) i h =
     let e : gives i ≡ None = h i (omega arith) (omega arith) in
@@ -63,7 +64,7 @@ by_none gives (suc n) i h =
 
 -- the start x gives the first one
 pub by_first : (gives : ℕ → Option Hit) (n i x : ℕ) (hit : Hit) → i ≤ x → x < i + n → ((y : ℕ) → i ≤ y → y < x → gives y ≡ None) →
-    gives x ≡ Some hit → by_starts gives n i ≡ Some hit
+    gives x ≡ Some hit → first_given gives n i ≡ Some hit
 by_first gives zero i x hit low high h e = absurd (omega arith)
 by_first gives (suc n) i x hit low high h e =
     elim (cases_lt i x) [

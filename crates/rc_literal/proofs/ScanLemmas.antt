@@ -7,22 +7,22 @@ use Rattle.std.proofs.lemmas.Option.{slice_get-get_or}
 use Rattle.std.specs.Option.{unwrap_or}
 use Rattle.memchr.specs.Find.{Nowhere, Passes, OccursAt, IsFirstByte, is_byte, is_byte2, is_byte3}
 use Rattle.rc_literal.specs.Pairs.{HasBegun}
-use Rattle.rc_literal.specs.Tables.{numbered, Begins, Agrees, IsRuledOut, AreSome, AreHeads}
+use Rattle.rc_literal.specs.Tables.{numbered, BeginsWithByte, Agrees, IsRuledOut, AreSome, AreHeads}
 use Rattle.rc_literal.specs.Scans.{AllBegin}
 
 -- a needle begins with its first byte
-pub begins_itself : (needle : List ℕ) → 0 < length needle → Begins needle (slice_index needle 0)
+pub begins_itself : (needle : List ℕ) → 0 < length needle → BeginsWithByte needle (slice_index needle 0)
 begins_itself needle some = slice_get-get_or needle 0 0 some
 
 -- a needle that agrees begins with the byte
-pub agrees_first : (piece needle : List ℕ) (k : ℕ) → 0 < length needle → k < length piece → Agrees piece needle k → Begins needle (slice_index piece k)
+pub agrees_first : (piece needle : List ℕ) (k : ℕ) → 0 < length needle → k < length piece → Agrees piece needle k → BeginsWithByte needle (slice_index piece k)
 agrees_first piece needle k some within agrees =
     let z : k + 0 ≡ k = omega arith in
     let e : slice_index piece (k + 0) ≡ slice_index needle 0 = agrees 0 some (omega (arith, within)) in
     begins_itself needle some ∙ ap Some (sym e ∙ ap (slice_index piece) z)
 
 pub ruled_out_by : (needles : List (List ℕ)) (offset : ℕ) (piece : List ℕ) (k : ℕ) → offset ≡ 0 → AreSome needles → k < length piece →
-    ((n : ℕ) → n < length needles → ¬ Begins (numbered needles n) (slice_index piece k)) → IsRuledOut needles offset piece k
+    ((n : ℕ) → n < length needles → ¬ BeginsWithByte (numbered needles n) (slice_index piece k)) → IsRuledOut needles offset piece k
 ruled_out_by needles offset piece k zero some within none n l agrees =
     none n l (agrees_first piece (numbered needles n) k (some n l) within (subst (λ o. Agrees piece (drop o (numbered needles n)) k) zero agrees))
 
@@ -95,7 +95,7 @@ no_tail piece needle from to k some none low high within agrees =
 
 -- a byte with which a needle begins has a head
 pub head_of : (needles : List (List ℕ)) (heads : List ℕ) (k b : ℕ) → AreHeads needles 0 heads → k < length needles → b < 256 →
-    Begins (numbered needles k) b → slice_index heads b < length needles
+    BeginsWithByte (numbered needles k) b → slice_index heads b < length needles
 head_of needles heads k b headed l small begins =
     elim (cases_lt k (slice_index heads b)) [
       | inl h ↦ absurd ((headed b small).none_between k zero-le h begins)

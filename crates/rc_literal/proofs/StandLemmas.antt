@@ -8,7 +8,7 @@ use Rattle.std.proofs.lemmas.Slice.Eq.{bytes_eq-Decides}
 use Rattle.rc_text.proofs.Ranges.{slice_get-slice_range}
 use Rattle.rc_literal.specs.declared.hit.Hit.{Hit}
 use Rattle.rc_literal.specs.Needles.{stands_within, first_from, needle_at}
-use Rattle.rc_literal.specs.Tables.{needles_in, numbered, Begins, IsNextWith, AreSome}
+use Rattle.rc_literal.specs.Tables.{needles_in, numbered, BeginsWithByte, IsNextWith, AreSome}
 
 -- what it is to stand, as two facts
 pub stands_parts : (content : List ℕ) (hi i : ℕ) (needle : List ℕ) → stands_within content hi i needle ≡ true →
@@ -30,7 +30,7 @@ false_if_not false never = refl
 
 -- a needle that stands begins with the byte there
 pub begins_with : (content : List ℕ) (hi i b : ℕ) (needle : List ℕ) → 0 < length needle → slice_get content i ≡ Some b →
-    stands_within content hi i needle ≡ true → Begins needle b
+    stands_within content hi i needle ≡ true → BeginsWithByte needle b
 begins_with content hi i b needle some at e =
     let s = (stands_parts content hi i needle e).1 in
     let n : i + 0 ≡ i = omega arith in

@@ -3,8 +3,9 @@ use Rattle.std.proofs.Common.{◌≡◌, ℕ, zero, suc, ◌+◌, ◌-◌, ◌<�
 use Rattle.std.specs.Option.{option_or}
 use Rattle.std.proofs.lemmas.Bool.{cases_lt}
 use Rattle.std.proofs.lemmas.Option.{none-some}
+use Rattle.rc_program.specs.Answer.{first_given}
 use Rattle.rc_literal.specs.declared.hit.Hit.{Hit}
-use Rattle.rc_literal.specs.Needles.{NoneAt, IsFirstNeedle, HasNoNeedle, needle_at, by_starts, find_needle, NeedleLaw}
+use Rattle.rc_literal.specs.Needles.{NoneAt, IsFirstNeedle, HasNoNeedle, needle_at, find_needle, NeedleLaw}
 use Rattle.rc_literal.proofs.RelationLemmas.{first_to, first_of, none_to, none_of}
 use Rattle.rc_literal.proofs.FindLemmas.{by_first, by_none, prefix_is}
 
@@ -38,17 +39,17 @@ finds_later gives n i h e f = record {
   ];
 }
 
-starts_step : (gives : ℕ → Option Hit) (n i : ℕ) (h : Hit) → AreStarts gives → (by_starts gives n (i + 1) ≡ Some h → Finds gives n (i + 1) h) →
-    (o : Option Hit) → gives i ≡ o → option_or o (by_starts gives n (i + 1)) ≡ Some h → Finds gives (suc n) i h
+starts_step : (gives : ℕ → Option Hit) (n i : ℕ) (h : Hit) → AreStarts gives → (first_given gives n (i + 1) ≡ Some h → Finds gives n (i + 1) h) →
+    (o : Option Hit) → gives i ≡ o → option_or o (first_given gives n (i + 1)) ≡ Some h → Finds gives (suc n) i h
 starts_step gives n i h at more None e r = finds_later gives n i h e (more r)
 starts_step gives n i h at more (Some hit) e r = finds_now gives n i h at (e ∙ r)
 
-pub starts_found : (gives : ℕ → Option Hit) (n i : ℕ) (h : Hit) → AreStarts gives → by_starts gives n i ≡ Some h → Finds gives n i h
+pub starts_found : (gives : ℕ → Option Hit) (n i : ℕ) (h : Hit) → AreStarts gives → first_given gives n i ≡ Some h → Finds gives n i h
 starts_found gives zero i h at e = absurd (none-some h e)
 starts_found gives (suc n) i h at e = starts_step gives n i h at (starts_found gives n (i + 1) h at) (gives i) refl e
 
-none_step : (gives : ℕ → Option Hit) (n i : ℕ) → (by_starts gives n (i + 1) ≡ None → (y : ℕ) → i + 1 ≤ y → y < i + 1 + n → gives y ≡ None) →
-    (o : Option Hit) → gives i ≡ o → option_or o (by_starts gives n (i + 1)) ≡ None → (y : ℕ) → i ≤ y → y < i + suc n → gives y ≡ None
+none_step : (gives : ℕ → Option Hit) (n i : ℕ) → (first_given gives n (i + 1) ≡ None → (y : ℕ) → i + 1 ≤ y → y < i + 1 + n → gives y ≡ None) →
+    (o : Option Hit) → gives i ≡ o → option_or o (first_given gives n (i + 1)) ≡ None → (y : ℕ) → i ≤ y → y < i + suc n → gives y ≡ None
 none_step gives n i more None e r y a b =
     elim (cases_lt i y) [
       | inl l ↦ more r y (omega (arith, l)) (omega (arith, b))
@@ -56,7 +57,7 @@ none_step gives n i more None e r y a b =
     ]
 none_step gives n i more (Some hit) e r y a b = absurd (none-some hit (sym r))
 
-pub starts_none : (gives : ℕ → Option Hit) (n i : ℕ) → by_starts gives n i ≡ None → (y : ℕ) → i ≤ y → y < i + n → gives y ≡ None
+pub starts_none : (gives : ℕ → Option Hit) (n i : ℕ) → first_given gives n i ≡ None → (y : ℕ) → i ≤ y → y < i + n → gives y ≡ None
 starts_none gives zero i e = λ y a b. absurd (omega arith)
 starts_none gives (suc n) i e = none_step gives n i (starts_none gives n (i + 1)) (gives i) refl e
 

@@ -3,7 +3,7 @@ use Rattle.std.proofs.Common.{◌≡◌, ℕ, ◌+◌, ◌<◌, List, [], ◌∷
 use Rattle.std.proofs.lemmas.Bool.{cases_lt, cases_eq}
 use Rattle.std.proofs.lemmas.List.{get_or-set_same, get_or-set_other, take_more, map-append}
 use Rattle.std.proofs.lemmas.Option.{same_Some}
-use Rattle.rc_literal.specs.Tables.{needles_in, numbered, Begins, IsNextWith, AreHeads, AreNexts}
+use Rattle.rc_literal.specs.Tables.{needles_in, numbered, BeginsWithByte, IsNextWith, AreHeads, AreNexts}
 use Rattle.rc_literal.specs.Needles.{longest}
 
 -- where there are no more needles
@@ -16,7 +16,7 @@ no_more needles b = record {
 }
 
 -- one more needle is the next that begins with its byte
-next_itself : (needles : List (List ℕ)) (b n : ℕ) → n < length needles → Begins (numbered needles n) b → IsNextWith needles b n n
+next_itself : (needles : List (List ℕ)) (b n : ℕ) → n < length needles → BeginsWithByte (numbered needles n) b → IsNextWith needles b n n
 next_itself needles b n l begins = record {
   low = omega arith;
   high = omega arith;
@@ -25,19 +25,19 @@ next_itself needles b n l begins = record {
 }
 
 -- and makes no difference to the other bytes
-next_other : (needles : List (List ℕ)) (b n r : ℕ) → ¬ Begins (numbered needles n) b → IsNextWith needles b (n + 1) r → IsNextWith needles b n r
+next_other : (needles : List (List ℕ)) (b n r : ℕ) → ¬ BeginsWithByte (numbered needles n) b → IsNextWith needles b (n + 1) r → IsNextWith needles b n r
 next_other needles b n r other next = record {
   low = omega (arith, next.low);
   high = next.high;
   begins = next.begins;
   none_between = λ k low high. elim (cases_lt n k) [
     | inl h ↦ next.none_between k (omega (arith, h)) high
-    | inr h ↦ let e : n ≡ k = omega arith in λ begins. other (subst (λ j. Begins (numbered needles j) b) (sym e) begins)
+    | inr h ↦ let e : n ≡ k = omega arith in λ begins. other (subst (λ j. BeginsWithByte (numbered needles j) b) (sym e) begins)
   ];
 }
 
 pub one_more_head : (needles : List (List ℕ)) (heads : List ℕ) (n a : ℕ) → length heads ≡ 256 → a < 256 → n < length needles →
-    Begins (numbered needles n) a → AreHeads needles (n + 1) heads → AreHeads needles n (set heads a n)
+    BeginsWithByte (numbered needles n) a → AreHeads needles (n + 1) heads → AreHeads needles n (set heads a n)
 one_more_head needles heads n a long small l begins headed b m =
     elim (cases_eq b a) [
       | inl e ↦
@@ -50,7 +50,7 @@ one_more_head needles heads n a long small l begins headed b m =
     ]
 
 pub one_more_next : (needles : List (List ℕ)) (heads nexts : List ℕ) (n a : ℕ) → length nexts ≡ length needles → a < 256 → n < length needles →
-    Begins (numbered needles n) a → AreHeads needles (n + 1) heads → AreNexts needles (n + 1) nexts →
+    BeginsWithByte (numbered needles n) a → AreHeads needles (n + 1) heads → AreNexts needles (n + 1) nexts →
     AreNexts needles n (set nexts n (slice_index heads a))
 one_more_next needles heads nexts n a long small l begins headed linked k b low high starts =
     elim (cases_eq k n) [

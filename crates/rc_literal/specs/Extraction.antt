@@ -61,5 +61,5 @@ grown list None = None
 grown list (Some ws) = filled list ws
 
 -- Where it is done, the old list with these prefixes is the new one; where it isn't, there are none or there is no room for them.
-abbrev pub Adds : Bool → List (List ℕ) → List (List ℕ) → Option (List (List ℕ)) → Type 0
-Adds done old new found = grown old found ≡ (if done then Some new else None)
+abbrev pub Extends : Bool → List (List ℕ) → List (List ℕ) → Option (List (List ℕ)) → Type 0
+Extends done old new found = grown old found ≡ (if done then Some new else None)

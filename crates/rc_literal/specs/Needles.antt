@@ -1,6 +1,6 @@
 -- Needles, and where they stand in a content.
 use Rattle.std.specs.Prelude.{◌≡◌, ◌↔◌, ℕ, zero, suc, ◌+◌, ◌-◌, ◌<◌, ◌≤◌, Bool, ◌&&◌, List, [], ◌∷◌, length, max, Option, Some, None, nat_le, bytes_eq, slice_get, slice_range, if◌then◌else◌}
-use Rattle.std.specs.Option.{option_or}
+use Rattle.rc_program.specs.Answer.{first_given}
 use Rattle.rc_program.specs.Spells.{Stands}
 use Rattle.rc_literal.specs.declared.hit.Hit.{Hit}
 
@@ -52,14 +52,9 @@ first_from content hi i n (needle ∷ needles) =
 abbrev pub needle_at : List (List ℕ) → List ℕ → ℕ → ℕ → Option Hit
 needle_at needles content hi i = first_from content hi i 0 needles
 
--- what the first of so many starts from i on gives
-abbrev pub by_starts : (ℕ → Option Hit) → ℕ → ℕ → Option Hit
-by_starts gives zero i = None
-by_starts gives (suc n) i = option_or (gives i) (by_starts gives n (i + 1))
-
 -- the least start from lo on at which a needle stands, and the first needle there
 unfoldable pub find_needle : List (List ℕ) → List ℕ → ℕ → ℕ → Option Hit
-find_needle needles content lo hi = by_starts (needle_at needles content hi) (hi + 1 - lo) lo
+find_needle needles content lo hi = first_given (needle_at needles content hi) (hi + 1 - lo) lo
 
 -- the needle that stands at lo
 unfoldable pub prefix_needle : List (List ℕ) → List ℕ → ℕ → ℕ → Option Hit

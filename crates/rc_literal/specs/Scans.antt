@@ -3,7 +3,7 @@
 use Rattle.std.specs.Prelude.{◌≡◌, ℕ, ◌<◌, ◌≤◌, Bool, true, List, length, drop, ⊤}
 use denote.Struct.Props.{props}
 use Rattle.memchr.specs.Find.{is_byte, is_byte2, is_byte3}
-use Rattle.rc_literal.specs.Tables.{numbered, Begins}
+use Rattle.rc_literal.specs.Tables.{numbered, BeginsWithByte}
 use Rattle.rc_literal.specs.declared.scan.Heads.{Heads}
 use Rattle.rc_literal.specs.declared.scan.Heads.TheVariants.{One, Two, Three, Many}
 use Rattle.rc_literal.specs.declared.scan.Scan.{Scan}
@@ -11,7 +11,7 @@ use Rattle.rc_literal.specs.declared.scan.Scan.TheVariants as scan
 
 -- each byte with which a needle begins passes the test
 abbrev pub AllBegin : List (List ℕ) → (ℕ → Bool) → Type 0
-AllBegin needles test = (k b : ℕ) → k < length needles → b < 256 → Begins (numbered needles k) b → test b ≡ true
+AllBegin needles test = (k b : ℕ) → k < length needles → b < 256 → BeginsWithByte (numbered needles k) b → test b ≡ true
 
 -- each needle begins with one of these bytes, or with one of the table's
 abbrev pub AreHeadsOf : List (List ℕ) → Heads → Type 0

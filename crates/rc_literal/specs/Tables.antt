@@ -10,15 +10,15 @@ abbrev pub numbered : List (List ℕ) → ℕ → List ℕ
 numbered needles k = slice_index_or needles k []
 
 -- the needle begins with the byte
-abbrev pub Begins : List ℕ → ℕ → Type 0
-Begins needle b = slice_get needle 0 ≡ Some b
+abbrev pub BeginsWithByte : List ℕ → ℕ → Type 0
+BeginsWithByte needle b = slice_get needle 0 ≡ Some b
 
 -- r is the first number from `from` on of a needle that begins with b, or how many needles there are
 pub record IsNextWith (needles : List (List ℕ)) (b from r : ℕ) : Type 0 where
   pub low : from ≤ r
   pub high : r ≤ length needles
-  pub begins : r < length needles → Begins (numbered needles r) b
-  pub none_between : (k : ℕ) → from ≤ k → k < r → ¬ Begins (numbered needles k) b
+  pub begins : r < length needles → BeginsWithByte (numbered needles r) b
+  pub none_between : (k : ℕ) → from ≤ k → k < r → ¬ BeginsWithByte (numbered needles k) b
 
 -- no needle is empty
 abbrev pub AreSome : List (List ℕ) → Type 0
@@ -31,7 +31,7 @@ AreHeads needles from heads = (b : ℕ) → b < 256 → IsNextWith needles b fro
 -- for each needle from a number on the next one that begins with the same byte
 abbrev pub AreNexts : List (List ℕ) → ℕ → List ℕ → Type 0
 AreNexts needles from nexts =
-    (k b : ℕ) → from ≤ k → k < length needles → Begins (numbered needles k) b → IsNextWith needles b (k + 1) (slice_index nexts k)
+    (k b : ℕ) → from ≤ k → k < length needles → BeginsWithByte (numbered needles k) b → IsNextWith needles b (k + 1) (slice_index nexts k)
 
 -- the piece and a needle from its place k on have the same bytes, as far as both go
 abbrev pub Agrees : List ℕ → List ℕ → ℕ → Type 0

@@ -5,11 +5,11 @@
 //! No search takes memory, and none copies a byte of the content.
 #![tactic(auto)]
 
+mod candidates;
 pub mod exact;
 pub mod hit;
 pub mod laws;
 pub mod literal;
-mod look;
 mod pairs;
 pub mod prefilter;
 pub mod prefixes;

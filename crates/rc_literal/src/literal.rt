@@ -6,8 +6,8 @@ ghost use Rattle.rc_literal.specs.Literals.{literal_answer};
 ghost use Rattle.rc_literal.specs.Prefilters.{needles_of};
 ghost use Rattle.rc_literal.specs.Tables.{needles_in};
 
+use crate::candidates::place_from;
 use crate::hit::Hit;
-use crate::look::place_from;
 use crate::prefilter::Prefilter;
 use crate::table::Table;
 use rc_text::cursor::Cursor;

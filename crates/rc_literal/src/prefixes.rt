@@ -5,7 +5,7 @@ ghost use Rattle.std.specs.Option.{option_and_then};
 ghost use Rattle.rc_pattern.specs.Meaning.{alt_all, byte_range, cat_all, char_range, class_meaning, meaning};
 ghost use Rattle.rc_pattern.specs.Re.{byte_in, char_in, literal};
 ghost use Rattle.rc_program.specs.Text.{Text};
-ghost use Rattle.rc_literal.specs.Extraction.{Adds, first_bytes, is_still, range_bytes, range_chars};
+ghost use Rattle.rc_literal.specs.Extraction.{Extends, first_bytes, is_still, range_bytes, range_chars};
 ghost use Rattle.rc_literal.specs.Literals.{Covers};
 ghost use Rattle.rc_literal.specs.Prefilters.{needles_of};
 ghost use Rattle.rc_literal.specs.Prefixes.{ArePrefixes, BeginsWithOne, EachBegins};
@@ -43,7 +43,7 @@ pub fn prefixes(alloc: Global, hirs: &[Hir]) -> Result<Option<Vec<Vec<u8>>>, All
 /// Adds the prefixes of a pattern; false where it has none of use.
 #[cycle(add)]
 fn add(alloc: Global, hir: &Hir, list: &mut Vec<Vec<u8>>) -> Result<bool, AllocError>
-    ensures { IfOk result (λ done. Adds done (needles_in list.old.items) (needles_in list.new.items) (first_bytes (meaning hir.now))) }
+    ensures { IfOk result (λ done. Extends done (needles_in list.old.items) (needles_in list.new.items) (first_bytes (meaning hir.now))) }
 {
     match hir.kind() {
         HirKind::Empty | HirKind::Look(_) => Ok(false),
@@ -67,7 +67,7 @@ fn add(alloc: Global, hir: &Hir, list: &mut Vec<Vec<u8>>) -> Result<bool, AllocE
 /// Adds the prefixes of each pattern; false where one has none of use.
 #[cycle(add)]
 fn add_alternation(alloc: Global, subs: &[Hir], list: &mut Vec<Vec<u8>>) -> Result<bool, AllocError>
-    ensures { IfOk result (λ done. Adds done (needles_in list.old.items) (needles_in list.new.items) (first_bytes (alt_all (map meaning subs.now)))) }
+    ensures { IfOk result (λ done. Extends done (needles_in list.old.items) (needles_in list.new.items) (first_bytes (alt_all (map meaning subs.now)))) }
 {
     for sub in subs {
         if !add(alloc, sub, list)? {
@@ -106,14 +106,14 @@ fn is_still(hir: &Hir) -> bool
 
 /// Adds the first bytes of a literal.
 fn add_literal(alloc: Global, bytes: &[u8], list: &mut Vec<Vec<u8>>) -> Result<bool, AllocError>
-    ensures { IfOk result (λ done. Adds done (needles_in list.old.items) (needles_in list.new.items) (first_bytes (literal bytes.now))) }
+    ensures { IfOk result (λ done. Extends done (needles_in list.old.items) (needles_in list.new.items) (first_bytes (literal bytes.now))) }
 {
     add_needle(alloc, &bytes[..bytes.len().min(GREATEST_LENGTH)], list)
 }
 
 /// Adds each member of a class; false where there are too many.
 fn add_class(alloc: Global, class: &Class, list: &mut Vec<Vec<u8>>) -> Result<bool, AllocError>
-    ensures { IfOk result (λ done. Adds done (needles_in list.old.items) (needles_in list.new.items) (first_bytes (class_meaning class.now))) }
+    ensures { IfOk result (λ done. Extends done (needles_in list.old.items) (needles_in list.new.items) (first_bytes (class_meaning class.now))) }
 {
     match class {
         Class::Bytes(ranges) => add_byte_ranges(alloc, ranges, list),
@@ -127,7 +127,7 @@ fn add_byte_ranges(
     ranges: &[ClassBytesRange],
     list: &mut Vec<Vec<u8>>,
 ) -> Result<bool, AllocError>
-    ensures { IfOk result (λ done. Adds done (needles_in list.old.items) (needles_in list.new.items) (first_bytes (byte_in (map byte_range ranges.now)))) }
+    ensures { IfOk result (λ done. Extends done (needles_in list.old.items) (needles_in list.new.items) (first_bytes (byte_in (map byte_range ranges.now)))) }
 {
     for range in ranges {
         if !add_bytes(alloc, *range, list)? {
@@ -143,7 +143,7 @@ fn add_char_ranges(
     ranges: &[ClassUnicodeRange],
     list: &mut Vec<Vec<u8>>,
 ) -> Result<bool, AllocError>
-    ensures { IfOk result (λ done. Adds done (needles_in list.old.items) (needles_in list.new.items) (first_bytes (char_in (map char_range ranges.now)))) }
+    ensures { IfOk result (λ done. Extends done (needles_in list.old.items) (needles_in list.new.items) (first_bytes (char_in (map char_range ranges.now)))) }
 {
     for range in ranges {
         if !add_chars(alloc, *range, list)? {
@@ -159,7 +159,7 @@ fn add_bytes(
     range: ClassBytesRange,
     list: &mut Vec<Vec<u8>>,
 ) -> Result<bool, AllocError>
-    ensures { IfOk result (λ done. Adds done (needles_in list.old.items) (needles_in list.new.items) (Some (range_bytes (byte_range range)))) }
+    ensures { IfOk result (λ done. Extends done (needles_in list.old.items) (needles_in list.new.items) (Some (range_bytes (byte_range range)))) }
 {
     for byte in range.start as usize..range.end as usize + 1 {
         if !add_needle(alloc, &[byte as u8], list)? {
@@ -175,7 +175,7 @@ fn add_chars(
     range: ClassUnicodeRange,
     list: &mut Vec<Vec<u8>>,
 ) -> Result<bool, AllocError>
-    ensures { IfOk result (λ done. Adds done (needles_in list.old.items) (needles_in list.new.items) (Some (range_chars (char_range range)))) }
+    ensures { IfOk result (λ done. Extends done (needles_in list.old.items) (needles_in list.new.items) (Some (range_chars (char_range range)))) }
 {
     for code in range.start as u32..range.end as u32 + 1 {
         if let Some(scalar) = char::from_u32(code) {
@@ -190,7 +190,7 @@ fn add_chars(
 
 /// Adds these bytes; false where the list is full.
 fn add_needle(alloc: Global, needle: &[u8], list: &mut Vec<Vec<u8>>) -> Result<bool, AllocError>
-    ensures { IfOk result (λ done. Adds done (needles_in list.old.items) (needles_in list.new.items) (Some (needle.now ∷ []))) }
+    ensures { IfOk result (λ done. Extends done (needles_in list.old.items) (needles_in list.new.items) (Some (needle.now ∷ []))) }
 {
     if list.len() >= GREATEST_COUNT {
         return Ok(false);

@@ -1,6 +1,5 @@
--- What is counted of a list of patterns, and a match without its start.
+-- What is counted of a list of patterns.
 use Rattle.std.specs.Prelude.{ℕ, ◌+◌, List, [], ◌∷◌, Option, None, option_map}
-use Rattle.rc_text.specs.Found.{Found, HalfFound}
 use Rattle.rc_pattern.specs.Re.{Re}
 use Rattle.rc_pattern.specs.Properties.{common, saturated, static_explicit_captures_len}
 
@@ -17,7 +16,3 @@ static_groups (h ∷ hs) = agreed (static_explicit_captures_len h) hs
 -- the same with group 0
 abbrev pub static_captures_len : List Re → Option ℕ
 static_captures_len hs = option_map (λ k. saturated (k + 1)) (static_groups hs)
-
--- the pattern and the end of a match
-abbrev pub half_of : Found → HalfFound
-half_of m = record { pattern = m.pattern; offset = m.end }

@@ -21,7 +21,7 @@ use Rattle.rc_engine.specs.Tells.{TellsOf, TellsSpan, AllTell, KeepsAll}
 use Rattle.rc_engine.specs.Walks.{walks_left}
 use Rattle.rc_meta.specs.Views.{regex_kind, regex_names, sought}
 use Rattle.rc_meta.specs.declared.regex.Regex.{Regex}
-use Rattle.rc_meta.specs.declared.finder.Finder.{Finder}
+use Rattle.rc_meta.specs.declared.seeker.Seeker.{Seeker}
 use Rattle.rc_meta.specs.declared.iterators.FindMatches.{FindMatches}
 use Rattle.rc_meta.specs.declared.iterators.CapturesMatches.{CapturesMatches}
 use Rattle.rc_meta.specs.declared.iterators.Pieces.{Pieces}
@@ -29,44 +29,44 @@ use Rattle.rc_meta.specs.declared.iterators.Split.{Split}
 use Rattle.rc_meta.specs.declared.iterators.SplitN.{SplitN}
 
 -- the search of an input by a regex
-abbrev pub search_by : Finder → Searched → Search
+abbrev pub search_by : Seeker → Searched → Search
 search_by f i = search_for (sought f.regex.now) i
 
 -- nothing once it has ended
 abbrev pub unless_done : {X : Type 0} → Bool → List X → List X
 unless_done done xs = if done then [] else xs
 
--- the kind of match that a finder finds
-abbrev pub kind_by : Finder → MatchKind
+-- the kind of match that a seeker finds
+abbrev pub kind_by : Seeker → MatchKind
 kind_by f = regex_kind f.regex.now
 
--- the matches that a finder has left in an input
-abbrev pub left_in : Finder → Searched → List Found
+-- the matches that a seeker has left in an input
+abbrev pub left_in : Seeker → Searched → List Found
 left_in f i = unless_done f.is_done (matches_by_kind (kind_by f) (search_by f i) i.span.start f.last)
 
 -- and their walks, where they are leftmost-first
-abbrev pub walks_in : Finder → Searched → List Chosen
+abbrev pub walks_in : Seeker → Searched → List Chosen
 walks_in f i = unless_done f.is_done (walks_left (search_by f i) i.span.start f.last)
 
 -- What a search gives: the first of the matches that are left, and the others stay left; or nothing where none is left, and then none
 -- is left.
-abbrev pub GivesNext : Finder → Searched → Option Found → Finder → Searched → Type 0
+abbrev pub GivesNext : Seeker → Searched → Option Found → Seeker → Searched → Type 0
 GivesNext f i r g j = MatchOption r
     ((left_in f i ≡ []) × (left_in g j ≡ []))
     (λ m. left_in f i ≡ m ∷ left_in g j)
 
 -- What a step keeps: the same regex, and the input but for its chunk, its position and the start of its span.
-abbrev pub Goes : Finder → Searched → Finder → Searched → Type 0
+abbrev pub Goes : Seeker → Searched → Seeker → Searched → Type 0
 Goes f i g j = (g.regex.now ≡ f.regex.now) × IsMoved i j
 
 -- The captures tell the first of the walks that are left, with all its groups, and the others stay left.
-pub record TellsWalk (f : Finder) (i : Searched) (caps : Captures) (g : Finder) (j : Searched) : Type 0 where
+pub record TellsWalk (f : Seeker) (i : Searched) (caps : Captures) (g : Seeker) (j : Searched) : Type 0 where
   pub walk : Chosen
   pub told : TellsOf (search_by f i) (Some walk) caps
   pub walks : walks_in f i ≡ walk ∷ walks_in g j
 
 -- The captures hold the first of the matches that are left, and the others stay left.
-pub record HoldsNext (f : Finder) (i : Searched) (caps : Captures) (g : Finder) (j : Searched) : Type 0 where
+pub record HoldsNext (f : Seeker) (i : Searched) (caps : Captures) (g : Seeker) (j : Searched) : Type 0 where
   pub kept : KeepsAll (regex_names f.regex.now) caps
   pub found : Found
   pub matched : match_of caps ≡ Some found
@@ -81,14 +81,14 @@ pub record HoldsNext (f : Finder) (i : Searched) (caps : Captures) (g : Finder) 
 
 -- What a search with groups gives: captures of the next match; or want of memory, which comes only where a match is left, and after
 -- which none is left; or nothing where none is left, and then none is left.
-abbrev pub GivesCaptures : Finder → Searched → Option (Result Captures AllocError) → Finder → Searched → Type 0
+abbrev pub GivesCaptures : Seeker → Searched → Option (Result Captures AllocError) → Seeker → Searched → Type 0
 GivesCaptures f i r g j = MatchOption r
     ((left_in f i ≡ []) × (kind_by f ≡ leftmost_first → walks_in f i ≡ []) × (left_in g j ≡ []))
     (λ item. MatchResult item (λ caps. HoldsNext f i caps g j) (λ _. (0 < length (left_in f i)) × (left_in g j ≡ [])))
 
 -- whose matches they are
 abbrev pub find_regex : {C : Type 0} → FindMatches C → Regex
-find_regex s = s.finder.regex.now
+find_regex s = s.seeker.regex.now
 
 -- the input that is kept
 abbrev pub find_input : {C : Type 0} → FindMatches C → Searched
@@ -100,15 +100,15 @@ with_find_input s i = record s { input = i }
 
 -- the matches that are left
 abbrev pub find_left : {C : Type 0} → FindMatches C → List Found
-find_left s = left_in s.finder s.input
+find_left s = left_in s.seeker s.input
 
 -- no match comes any more, whatever the input becomes
 abbrev pub IsFindOver : {C : Type 0} → FindMatches C → Type 0
-IsFindOver s = IsTrue s.finder.is_done
+IsFindOver s = IsTrue s.seeker.is_done
 
 -- the same regex, and the same input but for its chunk, its position and the start of its span
 abbrev pub FindKeeps : {C : Type 0} → FindMatches C → FindMatches C → Type 0
-FindKeeps s t = Goes s.finder s.input t.finder t.input
+FindKeeps s t = Goes s.seeker s.input t.seeker t.input
 
 -- What `next` gives, and what it keeps. Without a match it is over.
 abbrev pub FindNext : {C : Type 0} → FindMatches C → Option Found → FindMatches C → Type 0
@@ -119,7 +119,7 @@ abbrev pub FindRuns : {C : Type 0} → FindMatches C → Type 0
 FindRuns {C} s = YieldsInOrder (FindNext {C = C}) find_left
 
 abbrev pub captures_regex : {C : Type 0} → CapturesMatches C → Regex
-captures_regex s = s.finder.finder.regex.now
+captures_regex s = s.seeker.seeker.regex.now
 
 abbrev pub captures_input : {C : Type 0} → CapturesMatches C → Searched
 captures_input s = s.input
@@ -130,21 +130,21 @@ with_captures_input s i = record s { input = i }
 
 -- the matches whose captures are left, and their walks
 abbrev pub captures_left : {C : Type 0} → CapturesMatches C → List Found
-captures_left s = left_in s.finder.finder s.input
+captures_left s = left_in s.seeker.seeker s.input
 
 abbrev pub captures_walks : {C : Type 0} → CapturesMatches C → List Chosen
-captures_walks s = walks_in s.finder.finder s.input
+captures_walks s = walks_in s.seeker.seeker s.input
 
 -- no match comes any more, whatever the input becomes
 abbrev pub IsCapturesOver : {C : Type 0} → CapturesMatches C → Type 0
-IsCapturesOver s = IsTrue s.finder.finder.is_done
+IsCapturesOver s = IsTrue s.seeker.seeker.is_done
 
 abbrev pub CapturesKeeps : {C : Type 0} → CapturesMatches C → CapturesMatches C → Type 0
-CapturesKeeps s t = Goes s.finder.finder s.input t.finder.finder t.input
+CapturesKeeps s t = Goes s.seeker.seeker s.input t.seeker.seeker t.input
 
 -- What `next` gives, and what it keeps. After the last match, and after want of memory, it is over.
 abbrev pub CapturesNext : {C : Type 0} → CapturesMatches C → Option (Result Captures AllocError) → CapturesMatches C → Type 0
-CapturesNext s r t = GivesCaptures s.finder.finder s.input r t.finder.finder t.input
+CapturesNext s r t = GivesCaptures s.seeker.seeker s.input r t.seeker.seeker t.input
     × CapturesKeeps s t
     × MatchOption r (IsCapturesOver t) (λ item. IfErr item (λ _. IsCapturesOver t))
 
@@ -180,11 +180,11 @@ pub record MatchedLaw {C : Type 0} (kind : MatchKind) (names : Names) (search : 
 
 -- the pieces that are left in an input: the next begins at `start`
 abbrev pub pieces_in : Pieces → Searched → List Span
-pieces_in p i = unless_done p.is_done (pieces_from p.start (high i) (left_in p.finder i))
+pieces_in p i = unless_done p.is_done (pieces_from p.start (high i) (left_in p.seeker i))
 
 -- at most so many of them
 abbrev pub few_in : ℕ → Pieces → Searched → List Span
-few_in n p i = unless_done p.is_done (pieces_left n p.start (high i) (left_in p.finder i))
+few_in n p i = unless_done p.is_done (pieces_left n p.start (high i) (left_in p.seeker i))
 
 -- the pieces that are left
 abbrev pub split_left : {C : Type 0} → Split C → List Span
@@ -195,7 +195,7 @@ abbrev pub IsSplitOver : {C : Type 0} → Split C → Type 0
 IsSplitOver s = IsTrue s.pieces.is_done
 
 abbrev pub SplitKeeps : {C : Type 0} → Split C → Split C → Type 0
-SplitKeeps s t = Goes s.pieces.finder s.input t.pieces.finder t.input
+SplitKeeps s t = Goes s.pieces.seeker s.input t.pieces.seeker t.input
 
 -- What `next` gives, and what it keeps. Without a piece it is over.
 abbrev pub SplitNext : {C : Type 0} → Split C → Option Span → Split C → Type 0
@@ -222,7 +222,7 @@ abbrev pub splitn_left : {C : Type 0} → SplitN C → List Span
 splitn_left s = few_in (splitn_limit s) s.pieces s.input
 
 abbrev pub SplitnKeeps : {C : Type 0} → SplitN C → SplitN C → Type 0
-SplitnKeeps s t = Goes s.pieces.finder s.input t.pieces.finder t.input
+SplitnKeeps s t = Goes s.pieces.seeker s.input t.pieces.seeker t.input
 
 -- What `next` gives, and what it keeps. Each call lowers the limit.
 abbrev pub SplitnNext : {C : Type 0} → SplitN C → Option Span → SplitN C → Type 0

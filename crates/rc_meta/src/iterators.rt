@@ -3,8 +3,8 @@
 //! Each keeps the input and a cache that is made with it, and searches when `next` is called: nothing is found ahead. The searches
 //! take no memory.
 
-use crate::finder::{Finder, GroupFinder};
 use crate::regex::Regex;
+use crate::seeker::{GroupSeeker, Seeker};
 use rc_captures::captures::Captures;
 use rc_text::cursor::Cursor;
 use rc_text::input::{Input, high};
@@ -18,7 +18,7 @@ use std::iter::FusedIterator;
 /// match it gives None, whatever the input becomes.
 #[derive(Drop)]
 pub struct FindMatches<'r, C: Cursor> {
-    pub(crate) finder: Finder<'r>,
+    pub(crate) seeker: Seeker<'r>,
     pub(crate) input: Input<C>,
 }
 
@@ -29,7 +29,7 @@ pub struct FindMatches<'r, C: Cursor> {
 /// last match.
 #[derive(Drop)]
 pub struct CapturesMatches<'r, C: Cursor> {
-    pub(crate) finder: GroupFinder<'r>,
+    pub(crate) seeker: GroupSeeker<'r>,
     pub(crate) input: Input<C>,
 }
 
@@ -55,7 +55,7 @@ pub struct SplitN<'r, C: Cursor> {
 /// What finds the pieces between the matches, one after another, in an input that is lent to it.
 #[derive(Drop)]
 pub(crate) struct Pieces<'r> {
-    pub(crate) finder: Finder<'r>,
+    pub(crate) seeker: Seeker<'r>,
     /// Where the next piece begins.
     pub(crate) start: usize,
     pub(crate) is_done: bool,
@@ -73,7 +73,7 @@ impl<'r, C: Cursor> FindMatches<'r, C> {
     pub fn regex(&self) -> &'r Regex
         ensures { result.now ≡ find_regex self.now }
     {
-        self.finder.regex
+        self.seeker.regex
     }
 
     /// The input. It may be changed: `next` then goes on in what it is, and the iterator is otherwise as before.
@@ -112,7 +112,7 @@ impl<'r, C: Cursor + Drop> Iterator for FindMatches<'r, C> {
     ghost remaining = { item_count find_left };
 
     fn next(&mut self) -> Option<Match> {
-        self.finder.next_match(&mut self.input)
+        self.seeker.next_match(&mut self.input)
     }
 }
 
@@ -130,7 +130,7 @@ impl<'r, C: Cursor> CapturesMatches<'r, C> {
     pub fn regex(&self) -> &'r Regex
         ensures { result.now ≡ captures_regex self.now }
     {
-        self.finder.finder.regex
+        self.seeker.seeker.regex
     }
 
     /// The input. It may be changed: `next` then goes on in what it is, and the iterator is otherwise as before.
@@ -154,7 +154,7 @@ impl<'r, C: Cursor + Drop> CapturesMatches<'r, C> {
         ensures { result ≡ length (captures_left self.entry) }
     {
         let matches = FindMatches {
-            finder: self.finder.finder,
+            seeker: self.seeker.seeker,
             input: self.input,
         };
         matches.count()
@@ -173,7 +173,7 @@ impl<'r, C: Cursor + Drop> Iterator for CapturesMatches<'r, C> {
 
     /// The next match, with its groups. An `Err` is want of memory for them, and after it no item comes.
     fn next(&mut self) -> Option<Result<Captures, AllocError>> {
-        self.finder.next(&mut self.input)
+        self.seeker.next(&mut self.input)
     }
 }
 
@@ -192,14 +192,14 @@ impl<'r> Pieces<'r> {
         ensures limited { (n : ℕ) → MatchOption result
             ((few_in n self.old input.old ≡ []) × (few_in n self.new input.new ≡ []))
             (λ piece. few_in (suc (suc n)) self.old input.old ≡ piece ∷ few_in (suc n) self.new input.new) }
-        ensures goes { Goes self.old.finder input.old self.new.finder input.new }
+        ensures goes { Goes self.old.seeker input.old self.new.seeker input.new }
         ensures over { IfNone result (IsTrue self.new.is_done) }
     {
         if self.is_done {
             return None;
         }
         let start = self.start;
-        let Some(found) = self.finder.next_match(input) else {
+        let Some(found) = self.seeker.next_match(input) else {
             return Some(self.rest(input));
         };
         self.start = found.end();
@@ -213,7 +213,7 @@ impl<'r> Pieces<'r> {
     pub(crate) fn rest<C: Cursor>(&mut self, input: &mut Input<C>) -> Span
         ensures value { result ≡ record { start = self.old.start; end = high input.old } }
         ensures done { self.new.is_done ≡ true }
-        ensures goes { Goes self.old.finder input.old self.new.finder input.new }
+        ensures goes { Goes self.old.seeker input.old self.new.seeker input.new }
     {
         self.is_done = true;
         Span {

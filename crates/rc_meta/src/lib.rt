@@ -3,7 +3,7 @@
 
 pub mod builder;
 pub mod cache;
-mod finder;
 pub mod iterators;
 pub mod laws;
 pub mod regex;
+mod seeker;

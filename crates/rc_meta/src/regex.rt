@@ -13,8 +13,8 @@ ghost use Rattle.rc_settings.specs.Settings.{settings_of, program_settings, auto
 
 use crate::builder::{Builder, build};
 use crate::cache::Cache;
-use crate::finder::{Finder, GroupFinder};
 use crate::iterators::{CapturesMatches, FindMatches, Pieces, Split, SplitN};
+use crate::seeker::{GroupSeeker, Seeker};
 use rc_build::build::Built;
 use rc_captures::captures;
 use rc_captures::captures::Captures;
@@ -50,9 +50,9 @@ impl Regex {
     ghost use Rattle.rc_engine.specs.Walks.{walks_left};
     ghost use Rattle.rc_program.specs.Matches.{matches_left, pieces_of, pieces_at_most};
     ghost use Rattle.rc_meta.specs.Left.{FindRuns, SplitRuns, SplitnRuns, captures_input, captures_left, captures_regex, captures_walks, CapturesLaw, MatchedLaw, find_input, find_left, find_regex, split_input, split_left, splitn_input, splitn_left, splitn_limit};
-    ghost use Rattle.rc_text.specs.Found.{Found};
+    ghost use Rattle.rc_text.specs.Found.{Found, half_of};
     ghost use Rattle.rc_program.specs.Laws.{all_groups};
-    ghost use Rattle.rc_meta.specs.Counts.{half_of, static_captures_len};
+    ghost use Rattle.rc_meta.specs.Counts.{static_captures_len};
     ghost use Rattle.rc_text.specs.Text.{Keeps, low, high};
     ghost use Rattle.rc_text.specs.declared.types.MatchKind.TheVariants.{LeftmostFirst};
     ghost use Rattle.rc_program.specs.Answer.{answer, groups};
@@ -439,13 +439,13 @@ impl Regex {
         // The content is shorter than the greatest number.
         let _offset = input.chunk_offset();
         let cache = self.built.engine.create_cache(alloc, 0)?;
-        let finder = Finder {
+        let seeker = Seeker {
             regex: self,
             cache,
             last: None,
             is_done: false,
         };
-        Ok(FindMatches { finder, input })
+        Ok(FindMatches { seeker, input })
     }
 
     /// The matches of `find_iter`, each with its groups. An `Err` is want of memory for the cache; an item takes the memory of its
@@ -472,14 +472,14 @@ impl Regex {
         // The content is shorter than the greatest number.
         let _offset = input.chunk_offset();
         let cache = self.engine_cache(alloc)?;
-        let finder = Finder {
+        let seeker = Seeker {
             regex: self,
             cache,
             last: None,
             is_done: false,
         };
-        let finder = GroupFinder { finder, alloc };
-        Ok(CapturesMatches { finder, input })
+        let seeker = GroupSeeker { seeker, alloc };
+        Ok(CapturesMatches { seeker, input })
     }
 
     /// The pieces of the content between the matches of `find_iter`, from left to right: the first begins at 0, and the last ends
@@ -498,7 +498,7 @@ impl Regex {
     {
         let matches = self.find_iter(alloc, input)?;
         let pieces = Pieces {
-            finder: matches.finder,
+            seeker: matches.seeker,
             start: 0,
             is_done: false,
         };
@@ -522,7 +522,7 @@ impl Regex {
     {
         let matches = self.find_iter(alloc, input)?;
         let pieces = Pieces {
-            finder: matches.finder,
+            seeker: matches.seeker,
             start: 0,
             is_done: false,
         };

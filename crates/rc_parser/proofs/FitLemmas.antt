@@ -17,7 +17,7 @@ use Rattle.rc_tokens.proofs.StepLemmas.{some_parts, guard_parts, and_parts}
 use Rattle.rc_tokens.proofs.ClassLemmas.{class_ascending, perl_ascending, list_codes, letter_codes, le_true}
 use Rattle.rc_parser.proofs.PieceLemmas.{letter_small}
 use Rattle.rc_parser.specs.Settings.{Settings}
-use Rattle.rc_parser.specs.Pieces.{Part, leaf, depth_limit, deeper, set_re, char_re, byte_re, dot_kind, has_dot, look_of, sense_part}
+use Rattle.rc_parser.specs.Pieces.{Subpattern, leaf, depth_limit, deeper, set_re, char_re, byte_re, dot_kind, has_dot, look_of, sense_part}
 use Rattle.rc_parser.specs.Grammar.{Parts, no_parts, with_part, join, repeated_once, repeated}
 use Rattle.rc_parser.specs.declared.flags.Flags.{Flags}
 use Rattle.rc_parser.proofs.SpineLemmas.{groups, all_groups, all_append, IsSpine, front, Fine, AllFine, fine_more, all_more, fine_append}
@@ -25,7 +25,7 @@ use Rattle.rc_parser.proofs.SpineLemmas.{groups, all_groups, all_append, IsSpine
 -- ---- parts
 
 -- a part of a body: its depth is in step with the depth that was counted
-pub record Fit (c : ℕ) (p : Part) : Type 0 where
+pub record Fit (c : ℕ) (p : Subpattern) : Type 0 where
   pub fine : Fine (3 * p.depth + c) p.re
   pub within : p.depth ≤ 250
 
@@ -33,7 +33,7 @@ pub record AllFit (c : ℕ) (ps : Parts) : Type 0 where
   pub fine : AllFine (3 * ps.deepest + c) ps.res
   pub within : ps.deepest ≤ 250
 
-pub fit_with : (c : ℕ) (p : Part) (ps : Parts) → Fit c p → AllFit c ps → AllFit c (with_part p ps)
+pub fit_with : (c : ℕ) (p : Subpattern) (ps : Parts) → Fit c p → AllFit c ps → AllFit c (with_part p ps)
 fit_with c p ps h g =
     let a = h.within in let b = g.within in
     record {
@@ -45,24 +45,24 @@ fit_with c p ps h g =
 pub no_fit : (c : ℕ) → AllFit c no_parts
 no_fit c = record { fine = tt; within = omega arith }
 
-pub with_groups : (p : Part) (ps : Parts) → all_groups (with_part p ps).res ≡ all_groups ps.res ++ groups p.re
+pub with_groups : (p : Subpattern) (ps : Parts) → all_groups (with_part p ps).res ≡ all_groups ps.res ++ groups p.re
 with_groups p ps = all_append ps.res (p.re ∷ []) ∙ ap (λ t. all_groups ps.res ++ t) (append-nil (groups p.re))
 
 module _ (s : Settings) where
-  deeper_parts : (re : Re) (d : ℕ) (p : Part) → deeper s re d ≡ Some p → (p.re ≡ re) × (p.depth ≡ d + 1) × (p.depth ≤ 250)
+  deeper_parts : (re : Re) (d : ℕ) (p : Subpattern) → deeper s re d ≡ Some p → (p.re ≡ re) × (p.depth ≡ d + 1) × (p.depth ≤ 250)
   deeper_parts re d p h =
       let (less, same) = guard_parts (nat_lt d (depth_limit s)) (Some (record { re = re; depth = d + 1 })) p h in
       let l = ltb-true d (depth_limit s) less in
       let e = same_Some (record { re = re; depth = d + 1 }) p same in
-      (ap (λ (p : Part). p.re) (sym e), ap (λ (p : Part). p.depth) (sym e), subst (λ (p : Part). p.depth ≤ 250) e (omega (arith, l)))
+      (ap (λ (p : Subpattern). p.re) (sym e), ap (λ (p : Subpattern). p.depth) (sym e), subst (λ (p : Subpattern). p.depth ≤ 250) e (omega (arith, l)))
 
-  pub deeper_fit : (c k : ℕ) (re : Re) (d : ℕ) (p : Part) → k ≤ c + 3 → Fine (3 * d + k) re → deeper s re d ≡ Some p → Fit c p × (p.re ≡ re)
+  pub deeper_fit : (c k : ℕ) (re : Re) (d : ℕ) (p : Subpattern) → k ≤ c + 3 → Fine (3 * d + k) re → deeper s re d ≡ Some p → Fit c p × (p.re ≡ re)
   deeper_fit c k re d p l h e =
       let (is, deep, within) = deeper_parts re d p e in
       (record { fine = subst (Fine (3 * p.depth + c)) (sym is) (fine_more (3 * d + k) (3 * p.depth + c) re (omega (arith, deep, l)) h); within = within }, is)
 
   -- parts joined by what makes a pattern of patterns
-  pub join_fit : (c : ℕ) (all : List Re → Re) (ps : Parts) (p : Part) →
+  pub join_fit : (c : ℕ) (all : List Re → Re) (ps : Parts) (p : Subpattern) →
       ((d : ℕ) (res : List Re) → AllFine d res → Fine (d + 1) (all res)) → ((d : ℕ) (res : List Re) → AllFine d res → groups (all res) ≡ all_groups res) →
       AllFit c ps → join s all ps ≡ Some p → Fit (c + 1) p × (groups p.re ≡ all_groups ps.res)
   join_fit c all ps p makes keeps h e = go (nat_le (length ps.res) 1) e
@@ -77,7 +77,7 @@ module _ (s : Settings) where
           Fit (c + 1) p × (groups p.re ≡ all_groups ps.res)
       go true g =
           let is = same_Some (record { re = all ps.res; depth = ps.deepest }) p g in
-          subst (λ (p : Part). Fit (c + 1) p × (groups p.re ≡ all_groups ps.res)) is
+          subst (λ (p : Subpattern). Fit (c + 1) p × (groups p.re ≡ all_groups ps.res)) is
           (record { fine = fine_more (3 * ps.deepest + c + 1) (3 * ps.deepest + (c + 1)) (all ps.res) (omega arith) fine; within = h.within }, same)
       go false g =
           let (fit, is) = deeper_fit (c + 1) (c + 1) (all ps.res) ps.deepest p (omega arith)
@@ -102,8 +102,8 @@ module _ (s : Settings) where
           let (ordered, same) = guard_parts (nat_le k j) _ b rest in
           at (bounds o.lazy k (Some j)) (le_true k j ordered, g) same
 
-  pub repeated_fit : (f : Flags) (os : List Operator) (p q : Part) → Fit 1 p → repeated s f os p ≡ Some q → Fit 1 q × (groups q.re ≡ groups p.re)
-  repeated_fit f [] p q h e = let is = same_Some p q e in subst (λ (q : Part). Fit 1 q × (groups q.re ≡ groups p.re)) is (h, refl)
+  pub repeated_fit : (f : Flags) (os : List Operator) (p q : Subpattern) → Fit 1 p → repeated s f os p ≡ Some q → Fit 1 q × (groups q.re ≡ groups p.re)
+  repeated_fit f [] p q h e = let is = same_Some p q e in subst (λ (q : Subpattern). Fit 1 q × (groups q.re ≡ groups p.re)) is (h, refl)
   repeated_fit f (o ∷ os) p q h e =
       let (b, at_b, next) = some_parts (bounds_of o.lazy o.amount) _ q e in
       let (r, at_r, rest) = some_parts (repeated_once s f b p) (λ r. repeated s f os r) q next in
@@ -179,21 +179,21 @@ module _ (s : Settings) where
       go false false true h = (chars_ascending s.line_terminator (ltb-true s.line_terminator 128 h), omega arith, tt, refl)
       go false false false h = (bytes_ascending s.line_terminator byte, omega arith, tt, refl)
 
-  leaf_fit : (o : Option Re) (p : Part) → ((re : Re) → o ≡ Some re → Plain re) → (o >>= λ re. Some (leaf re)) ≡ Some p → Fit 1 p × (groups p.re ≡ [])
+  leaf_fit : (o : Option Re) (p : Subpattern) → ((re : Re) → o ≡ Some re → Plain re) → (o >>= λ re. Some (leaf re)) ≡ Some p → Fit 1 p × (groups p.re ≡ [])
   leaf_fit o p plain e =
       let (re, is, same) = some_parts o (λ re. Some (leaf re)) p e in
-      subst (λ (p : Part). Fit 1 p × (groups p.re ≡ [])) (same_Some (leaf re) p same) (plain_fit re (plain re is), (plain re is).3)
+      subst (λ (p : Subpattern). Fit 1 p × (groups p.re ≡ [])) (same_Some (leaf re) p same) (plain_fit re (plain re is), (plain re is).3)
 
-  pub sense_fit : (f : Flags) (k : sense.Sense) (p : Part) → s.line_terminator < 256 → sense_part s f k ≡ Some p → Fit 1 p × (groups p.re ≡ [])
+  pub sense_fit : (f : Flags) (k : sense.Sense) (p : Subpattern) → s.line_terminator < 256 → sense_part s f k ≡ Some p → Fit 1 p × (groups p.re ≡ [])
   sense_fit f (sense.Character c) p l e = leaf_fit (char_re s f c) p (λ re h. char_plain f c re h) e
   sense_fit f (sense.Byte b) p l e = leaf_fit (byte_re s f b) p (λ re h. byte_plain f b re h) e
   sense_fit f sense.Dot p l e =
       let (ok, same) = guard_parts (has_dot s f) (Some (leaf (dot_of (dot_kind s f)))) p e in
       let plain = dot_plain f l ok in
-      subst (λ (p : Part). Fit 1 p × (groups p.re ≡ [])) (same_Some (leaf (dot_of (dot_kind s f))) p same) (plain_fit (dot_of (dot_kind s f)) plain, plain.3)
+      subst (λ (p : Subpattern). Fit 1 p × (groups p.re ≡ [])) (same_Some (leaf (dot_of (dot_kind s f))) p same) (plain_fit (dot_of (dot_kind s f)) plain, plain.3)
   sense_fit f (sense.PerlClass q) p l e = leaf_fit (set_re s f (perl_ranges f.unicode q)) p (λ re h. set_plain f (perl_ranges f.unicode q) re (perl_ascending f.unicode q) h) e
   sense_fit f (sense.Asserts a) p l e =
-      subst (λ (p : Part). Fit 1 p × (groups p.re ≡ [])) (same_Some (leaf (look (look_of f a))) p e) (plain_fit (look (look_of f a)) (tt, omega arith, tt, refl), refl)
+      subst (λ (p : Subpattern). Fit 1 p × (groups p.re ≡ [])) (same_Some (leaf (look (look_of f a))) p e) (plain_fit (look (look_of f a)) (tt, omega arith, tt, refl), refl)
   sense_fit f (sense.Members negated bracket ms) p l e =
       let (rs, are, next) = some_parts (list_ranges f.unicode bracket ms) _ p e in
       let (re, is, deep) = some_parts (set_re s f (class_of f.unicode f.case_insensitive negated rs)) (λ re. deeper s re 0) p next in

@@ -6,12 +6,12 @@ use Rattle.std.specs.List.{range_with_len}
 use Rattle.rc_pattern.specs.Re.{Re, empty, capture}
 use Rattle.rc_pattern.specs.Meaning.{concat_of, alternation_of}
 use Rattle.rc_pattern.specs.WellFormed.{group_numbers, IsNew, AreDistinct, IsWellFormed}
-use Rattle.rc_tokens.specs.Text.{Text, ◌>>=◌, same_text}
+use Rattle.rc_tokens.specs.Text.{Characters, ◌>>=◌, same_text}
 use Rattle.rc_tokens.specs.Said.{Start, Capturing, Named, Flagged}
 use Rattle.rc_tokens.specs.Marks.{piece_says, opening_says, flags_of}
 use Rattle.rc_tokens.proofs.StepLemmas.{some_parts, guard_parts}
 use Rattle.rc_parser.specs.Settings.{Settings, first_flags}
-use Rattle.rc_parser.specs.Pieces.{Part, leaf, sense_part}
+use Rattle.rc_parser.specs.Pieces.{Subpattern, leaf, sense_part}
 use Rattle.rc_parser.specs.Grammar.{Body, ends, bars, sets, piece, group, Parts, no_parts, with_part, Level, begin, add, set_flags, is_named, inside, Tie, tie, tied, join, end_branch, whole, repeated, closed, reads, Reads}
 use Rattle.rc_parser.proofs.SpineLemmas.{Numbered, groups, all_groups, map-append, numbers_are, names_are, concat_fine, concat_groups, alternation_fine, alternation_groups}
 use Rattle.rc_parser.proofs.FitLemmas.{Fit, AllFit, fit_with, no_fit, with_groups, deeper_fit, join_fit, repeated_fit, sense_fit, plain_fit}
@@ -136,7 +136,7 @@ pub record Stands (pre : List Numbered) (l : Level) : Type 0 where
   pub items : AllFit 1 l.items
   pub branches : AllFit 2 l.branches
 
-add_stands : (pre : List Numbered) (m : Level) (q : Part) → AllFit 1 m.items → AllFit 2 m.branches → Fit 1 q →
+add_stands : (pre : List Numbered) (m : Level) (q : Subpattern) → AllFit 1 m.items → AllFit 2 m.branches → Fit 1 q →
     Ordered (pre ++ (held m ++ groups q.re)) m.groups m.names → Stands pre (add q m)
 add_stands pre m q i b f o = record {
   ordered = ordered_as (pre ++ held (add q m)) (pre ++ (held m ++ groups q.re)) m.groups m.names
@@ -146,7 +146,7 @@ add_stands pre m q i b f o = record {
   branches = b;
 }
 
-add_nothing : (pre : List Numbered) (m : Level) (q : Part) → AllFit 1 m.items → AllFit 2 m.branches → Fit 1 q → groups q.re ≡ [] →
+add_nothing : (pre : List Numbered) (m : Level) (q : Subpattern) → AllFit 1 m.items → AllFit 2 m.branches → Fit 1 q → groups q.re ≡ [] →
     Ordered (pre ++ held m) m.groups m.names → Stands pre (add q m)
 add_nothing pre m q i b f none o = add_stands pre m q i b f (ordered_as (pre ++ (held m ++ groups q.re)) (pre ++ held m) m.groups m.names
     (ap (λ t. pre ++ t) (ap (λ t. held m ++ t) none ∙ append-nil (held m))) o)
@@ -167,14 +167,14 @@ module _ (s : Settings) where
         all,
       )
 
-  whole_stands : (pre : List Numbered) (l : Level) (body : Part) → Stands pre l → whole s l ≡ Some body → Fit 3 body × (groups body.re ≡ held l)
+  whole_stands : (pre : List Numbered) (l : Level) (body : Subpattern) → Stands pre l → whole s l ≡ Some body → Fit 3 body × (groups body.re ≡ held l)
   whole_stands pre l body h e =
       let (m, is, joined) = some_parts (end_branch s l) (λ m. join s alternation_of m.branches) body e in
       let (stands, all) = branch_stands pre l m h is in
       let (fit, gs) = join_fit s 2 alternation_of m.branches body alternation_fine alternation_groups stands.branches joined in
       (fit, gs ∙ all)
 
-  closed_fit : (t : Tie) (body p : Part) → Fit 3 body → closed s t body ≡ Some p → Fit 1 p × (p.re ≡ tied t body.re)
+  closed_fit : (t : Tie) (body p : Subpattern) → Fit 3 body → closed s t body ≡ Some p → Fit 1 p × (p.re ≡ tied t body.re)
   closed_fit None body p h e = deeper_fit s 1 3 body.re body.depth p (omega arith) h.fine e
   closed_fit (Some t) body p h e =
       let deep = h.fine.shallow in
@@ -246,7 +246,7 @@ module _ (s : Settings) where
       (ordered_as (pre ++ (held l ++ groups q.re)) (before pre l (tie k l) ++ held last) last.groups last.names
       (ap (λ t. pre ++ (held l ++ t)) (same ∙ ap groups is) ∙ around (tie k l) pre l body.re (held last) gs) within.ordered)) e6
 
-  pub well_formed : (text : Text) (re : Re) → s.line_terminator < 256 → Reads s text re → IsWellFormed re
+  pub well_formed : (text : Characters) (re : Re) → s.line_terminator < 256 → Reads s text re → IsWellFormed re
   well_formed text re byte r =
       let first : Stands [] (begin (first_flags s) 0 []) = begin_stands [] (begin (first_flags s) 0 []) refl refl (record { numbered = refl; named = refl; distinct = tt }) in
       let last = reads_stands r.body [] (begin (first_flags s) 0 []) r.end byte first r.is_read in

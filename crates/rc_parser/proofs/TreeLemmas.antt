@@ -6,7 +6,7 @@ use Rattle.rc_tokens.specs.Text.{◌>>=◌}
 use Rattle.rc_tokens.specs.Marks.{Operator, Piece, Opening, Mark, stands, bar, setting, opens, closes, repeats, piece_says, opening_says, flags_of, bounds_of}
 use Rattle.rc_tokens.specs.Said.{Said, Start, Stands, Setting, Opens, Repeats}
 use Rattle.rc_parser.specs.Settings.{Settings}
-use Rattle.rc_parser.specs.Pieces.{Part, leaf, sense_part}
+use Rattle.rc_parser.specs.Pieces.{Subpattern, leaf, sense_part}
 use Rattle.rc_parser.specs.Grammar.{Body, ends, bars, sets, piece, group, marks, Level, Tie, add, set_flags, end_branch, whole, repeated_once, repeated, inside, tie, closed, reads}
 use Rattle.rc_parser.specs.Machine.{Outside, Work, work, nameless, settled, take_said, run_marks}
 
@@ -50,10 +50,10 @@ plain_marks (group f inner os b) ms p = tt
 
 module _ (s : Settings) where
   -- what a mark leads to, and the marks after it
-  abbrev next : List Mark → Work → Said → Option Part
+  abbrev next : List Mark → Work → Said → Option Subpattern
   next ms w k = take_said s k w >>= λ v. run_marks s v ms
 
-  settle_first : (ms : List Mark) → IsPlain ms → (l : Level) (last : Option Part) (outer : List Outside) →
+  settle_first : (ms : List Mark) → IsPlain ms → (l : Level) (last : Option Subpattern) (outer : List Outside) →
       run_marks s (work l last outer) ms ≡ run_marks s (work (settled last l) None outer) ms
   settle_first [] p l last outer = refl
   settle_first (repeats o ∷ ms) p l last outer = absurd p
@@ -66,7 +66,7 @@ module _ (s : Settings) where
       via_same (opening_says o) Opens (next ms (work l last outer)) (next ms (work (settled last l) None outer)) (λ a. refl)
   settle_first (closes ∷ ms) p l last outer = refl
 
-  operators : (os : List Operator) (l : Level) (p : Part) (outer : List Outside) (ms : List Mark) →
+  operators : (os : List Operator) (l : Level) (p : Subpattern) (outer : List Outside) (ms : List Mark) →
       run_marks s (work l (Some p) outer) (map repeats os ++ ms)
       ≡ (repeated s l.flags os p >>= λ q. run_marks s (work l (Some q) outer) ms)
   operators [] l p outer ms = refl
@@ -78,11 +78,11 @@ module _ (s : Settings) where
       (λ q. repeated s l.flags os q) (λ q. run_marks s (work l (Some q) outer) ms) (λ q. operators os l q outer ms))
 
   -- what is read after the marks of a body
-  abbrev after : List Outside → List Mark → Level → Option Part
+  abbrev after : List Outside → List Mark → Level → Option Subpattern
   after outer ms l = run_marks s (work l None outer) ms
 
   -- an item with its operators, and what follows
-  item_run : (os : List Operator) (b : Body) (l : Level) (p : Part) (outer : List Outside) (ms : List Mark) → IsPlain ms →
+  item_run : (os : List Operator) (b : Body) (l : Level) (p : Subpattern) (outer : List Outside) (ms : List Mark) → IsPlain ms →
       ((m : Level) → run_marks s (work m None outer) (marks b ++ ms) ≡ (reads s m b >>= after outer ms)) →
       run_marks s (work l (Some p) outer) ((map repeats os ++ marks b) ++ ms)
       ≡ ((repeated s l.flags os p >>= λ q. reads s (add q l) b) >>= after outer ms)
@@ -165,17 +165,17 @@ grow (x ∷ outer) extend front rest e (b, os, more, is, others) =
     (extend b, os, more, ap (λ t. front ++ t) is ∙ sym (append_assoc front (marks b) tail) ∙ ap (λ t. t ++ tail) (sym (e b)), others)
 
 -- the operators at the front, and then bodies
-abbrev pub Begins : Option Part → List Outside → List Mark → Type 0
+abbrev pub Begins : Option Subpattern → List Outside → List Mark → Type 0
 Begins last outer ms = (os : List Operator) × (rest : List Mark) × (ms ≡ map repeats os ++ rest) × (last ≡ None → os ≡ []) × AreBodies outer rest
 
-plainly : (last : Option Part) (outer : List Outside) (ms : List Mark) → AreBodies outer ms → Begins last outer ms
+plainly : (last : Option Subpattern) (outer : List Outside) (ms : List Mark) → AreBodies outer ms → Begins last outer ms
 plainly last outer ms h = ([], ms, refl, λ _. refl, h)
 
 pub no_operator : (outer : List Outside) (ms : List Mark) → Begins None outer ms → AreBodies outer ms
 no_operator outer ms (os, rest, is, none, h) =
     subst (AreBodies outer) (sym (is ∙ ap (λ xs. map repeats xs ++ rest) (none refl))) h
 
-after_item : (last : Option Part) (outer : List Outside) (ms : List Mark) (x : Piece) → Begins last outer ms → AreBodies outer (stands x ∷ ms)
+after_item : (last : Option Subpattern) (outer : List Outside) (ms : List Mark) (x : Piece) → Begins last outer ms → AreBodies outer (stands x ∷ ms)
 after_item last outer ms x (os, rest, is, none, h) =
     subst (AreBodies outer) (ap (λ t. stands x ∷ t) (sym is)) (grow outer (piece x os) (stands x ∷ map repeats os) rest (λ b. refl) h)
 
@@ -185,15 +185,15 @@ after_open x outer ms o (inner, os, rest, is, h) =
     (grow outer (group o inner os) (opens o ∷ (marks inner ++ closes ∷ map repeats os)) rest
     (λ b. ap (λ t. opens o ∷ t) (sym (append_assoc (marks inner) (closes ∷ map repeats os) (marks b)))) h)
 
-after_close : (x : Outside) (last : Option Part) (outer : List Outside) (ms : List Mark) → Begins last outer ms → AreBodies (x ∷ outer) (closes ∷ ms)
+after_close : (x : Outside) (last : Option Subpattern) (outer : List Outside) (ms : List Mark) → Begins last outer ms → AreBodies (x ∷ outer) (closes ∷ ms)
 after_close x last outer ms (os, rest, is, none, h) = (ends, os, rest, ap (λ t. closes ∷ t) is, h)
 
 module _ (s : Settings) where
-  abbrev follow : List Mark → Work → Said → Option Part
+  abbrev follow : List Mark → Work → Said → Option Subpattern
   follow ms w k = take_said s k w >>= λ v. run_marks s v ms
 
   -- the marks that a reader takes are those of bodies
-  pub bodies_of : (ms : List Mark) (l : Level) (last : Option Part) (outer : List Outside) (p : Part) →
+  pub bodies_of : (ms : List Mark) (l : Level) (last : Option Subpattern) (outer : List Outside) (p : Subpattern) →
       run_marks s (work l last outer) ms ≡ Some p → Begins last outer ms
   bodies_of [] l last [] p h = plainly last [] [] (ends, refl)
   bodies_of [] l last (f ∷ outer) p h = absurd (none-some p h)

@@ -2,13 +2,13 @@
 use Rattle.std.specs.Prelude.{◌≡◌, ℕ, ◌+◌, Bool, false, not, ◌||◌, nat_le, List, [], ◌∷◌, ◌++◌, Option, Some, None, map, max, length, if◌then◌else◌}
 use Rattle.rc_pattern.specs.Re.{Re, empty, repeat, capture}
 use Rattle.rc_pattern.specs.Meaning.{concat_of, alternation_of}
-use Rattle.rc_tokens.specs.Text.{Text, ◌>>=◌, ◌>>◌, same_text}
+use Rattle.rc_tokens.specs.Text.{Characters, ◌>>=◌, ◌>>◌, same_text}
 use Rattle.rc_tokens.specs.Marks.{Operator, Piece, Opening, Mark, stands, bar, setting, opens, closes, repeats, piece_says, opening_says, flags_of, bounds_of, AreMarks}
 use Rattle.rc_tokens.specs.Said.{Start, Capturing, Named, Flagged}
 use Rattle.rc_tokens.specs.declared.tokens.Change.{Change}
 use Rattle.rc_tokens.specs.declared.tokens.Bounds.{Bounds}
 use Rattle.rc_parser.specs.Settings.{Settings, first_flags}
-use Rattle.rc_parser.specs.Pieces.{Part, leaf, deeper, sense_part}
+use Rattle.rc_parser.specs.Pieces.{Subpattern, leaf, deeper, sense_part}
 use Rattle.rc_parser.specs.declared.flags.Flags.{Flags}
 
 -- What stands between two parentheses, or the whole of a pattern.
@@ -16,7 +16,7 @@ pub data Body : Type 0 where
   ends : Body
   -- the end of one branch, and the branches after it
   bars : Body → Body
-  sets : Text → Body → Body
+  sets : Characters → Body → Body
   -- a mark that stands alone, its operators, and what follows
   piece : Piece → List Operator → Body → Body
   -- a group, its operators, and what follows
@@ -38,7 +38,7 @@ pub record Parts : Type 0 where
 abbrev pub no_parts : Parts
 no_parts = record { res = []; deepest = 0 }
 
-abbrev pub with_part : Part → Parts → Parts
+abbrev pub with_part : Subpattern → Parts → Parts
 with_part p ps = record { res = ps.res ++ p.re ∷ []; deepest = max ps.deepest p.depth }
 
 -- Where the reading of a body stands: the flags that hold, how many groups are opened so far in the whole
@@ -53,7 +53,7 @@ pub record Level : Type 0 where
 abbrev pub begin : Flags → ℕ → List (List ℕ) → Level
 begin flags groups names = record { flags = flags; groups = groups; names = names; branches = no_parts; items = no_parts }
 
-abbrev pub add : Part → Level → Level
+abbrev pub add : Subpattern → Level → Level
 add p l = record l { items = with_part p l.items }
 
 abbrev pub switched : Bool → Option Bool → Bool
@@ -96,26 +96,26 @@ tied (Some t) re = capture t.0 t.1 re
 
 module _ (s : Settings) where
   -- the parts joined: two or more are a level of their own
-  abbrev pub join : (List Re → Re) → Parts → Option Part
+  abbrev pub join : (List Re → Re) → Parts → Option Subpattern
   join all ps = if nat_le (length ps.res) 1 then Some (record { re = all ps.res; depth = ps.deepest }) else deeper s (all ps.res) ps.deepest
 
   abbrev pub end_branch : Level → Option Level
   end_branch l = join concat_of l.items >>= λ branch. Some (record l { branches = with_part branch l.branches; items = no_parts })
 
   -- the body as one part
-  abbrev pub whole : Level → Option Part
+  abbrev pub whole : Level → Option Subpattern
   whole l = end_branch l >>= λ l'. join alternation_of l'.branches
 
   -- a `?` turns greed round, and so does the flag `U`
-  abbrev pub repeated_once : Flags → Bounds → Part → Option Part
+  abbrev pub repeated_once : Flags → Bounds → Subpattern → Option Subpattern
   repeated_once f b p = deeper s (repeat b.min b.max (if b.lazy then f.swap_greed else not f.swap_greed) p.re) p.depth
 
-  abbrev pub repeated : Flags → List Operator → Part → Option Part
+  abbrev pub repeated : Flags → List Operator → Subpattern → Option Subpattern
   repeated f [] p = Some p
   repeated f (o ∷ os) p = bounds_of o.lazy o.amount >>= λ b. repeated_once f b p >>= λ q. repeated f os q
 
   -- the group around a body
-  abbrev pub closed : Tie → Part → Option Part
+  abbrev pub closed : Tie → Subpattern → Option Subpattern
   closed t p = deeper s (tied t p.re) p.depth
 
   -- reads a body from left to right; the flags of the outside come back after a group
@@ -129,7 +129,7 @@ module _ (s : Settings) where
       repeated l.flags os p >>= λ q. reads (add q (record l { groups = end.groups; names = end.names })) b
 
 -- The text is a body that is read as `re`.
-pub record Reads (s : Settings) (text : Text) (re : Re) : Type 0 where
+pub record Reads (s : Settings) (text : Characters) (re : Re) : Type 0 where
   pub body : Body
   pub is_written : AreMarks (marks body) text
   pub end : Level

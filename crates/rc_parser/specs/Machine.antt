@@ -1,11 +1,11 @@
 -- What a reader that goes from mark to mark keeps.
 use Rattle.std.specs.Prelude.{◌≡◌, List, [], ◌∷◌, Option, Some, None}
 use Rattle.rc_pattern.specs.Re.{empty}
-use Rattle.rc_tokens.specs.Text.{Text, ◌>>=◌}
+use Rattle.rc_tokens.specs.Text.{Characters, ◌>>=◌}
 use Rattle.rc_tokens.specs.Marks.{Mark, said, AreMarks}
 use Rattle.rc_tokens.specs.Said.{Said, Stands, Bar, Setting, Opens, Closes, Repeats}
 use Rattle.rc_parser.specs.Settings.{Settings, first_flags}
-use Rattle.rc_parser.specs.Pieces.{Part, leaf, sense_part}
+use Rattle.rc_parser.specs.Pieces.{Subpattern, leaf, sense_part}
 use Rattle.rc_parser.specs.Grammar.{Level, Tie, begin, add, set_flags, end_branch, whole, repeated_once, inside, tie, closed}
 
 -- a level outside, with the group that it waits for
@@ -15,14 +15,14 @@ Outside = Tie × Level
 -- The innermost level, the last item where an operator may follow, and the levels outside.
 pub record Work : Type 0 where
   pub level : Level
-  pub last : Option Part
+  pub last : Option Subpattern
   pub outer : List Outside
 
-abbrev pub settled : Option Part → Level → Level
+abbrev pub settled : Option Subpattern → Level → Level
 settled None l = l
 settled (Some p) l = add p l
 
-abbrev pub work : Level → Option Part → List Outside → Work
+abbrev pub work : Level → Option Subpattern → List Outside → Work
 work l last outer = record { level = l; last = last; outer = outer }
 
 -- The names go to the level inside, and come back from it.
@@ -52,16 +52,16 @@ module _ (s : Settings) where
   take_said (Opens k) w = step (Opens k) (settled w.last w.level) w.outer
   take_said Closes w = step Closes (settled w.last w.level) w.outer
 
-  abbrev pub finish : Level → List Outside → Option Part
+  abbrev pub finish : Level → List Outside → Option Subpattern
   finish l [] = whole s l
   finish l (f ∷ outer) = None
 
-  abbrev pub run_marks : Work → List Mark → Option Part
+  abbrev pub run_marks : Work → List Mark → Option Subpattern
   run_marks w [] = finish (settled w.last w.level) w.outer
   run_marks w (m ∷ ms) = said m >>= λ k. take_said k w >>= λ v. run_marks v ms
 
 -- Some marks of the text lead from this work to the part p.
-abbrev pub Has : Settings → Work → Text → Part → Type 0
+abbrev pub Has : Settings → Work → Characters → Subpattern → Type 0
 Has s w t p = (ms : List Mark) × AreMarks ms t × (run_marks s w ms ≡ Some p)
 
 -- the reader of a whole pattern, before its first mark

@@ -16,11 +16,11 @@ use Rattle.rc_parser.specs.Settings.{Settings}
 use Rattle.rc_parser.specs.declared.flags.Flags.{Flags}
 
 -- a pattern, and how deep it is nested
-pub record Part : Type 0 where
+pub record Subpattern : Type 0 where
   pub re : Re
   pub depth : ℕ
 
-abbrev pub leaf : Re → Part
+abbrev pub leaf : Re → Subpattern
 leaf re = record { re = re; depth = 0 }
 
 -- A greater limit is read as 250.
@@ -47,7 +47,7 @@ look_of f says.WordEndHalf = word f WordEndHalfUnicode WordEndHalfAscii
 
 module _ (s : Settings) where
   -- one level more, within the limit
-  abbrev pub deeper : Re → ℕ → Option Part
+  abbrev pub deeper : Re → ℕ → Option Subpattern
   deeper re depth = nat_lt depth (depth_limit s) >> Some (record { re = re; depth = depth + 1 })
 
   -- With `utf8` on no byte of 128 or more is read.
@@ -72,7 +72,7 @@ module _ (s : Settings) where
   abbrev pub has_dot : Flags → Bool
   has_dot f = if f.unicode then f.dot_matches_new_line || f.crlf || nat_lt s.line_terminator 128 else not s.utf8
 
-  abbrev pub sense_part : Flags → sense.Sense → Option Part
+  abbrev pub sense_part : Flags → sense.Sense → Option Subpattern
   sense_part f (sense.Character c) = char_re f c >>= λ re. Some (leaf re)
   sense_part f (sense.Byte b) = byte_re f b >>= λ re. Some (leaf re)
   sense_part f sense.Dot = has_dot f >> Some (leaf (dot_of (dot_kind f)))

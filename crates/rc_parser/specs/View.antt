@@ -1,7 +1,7 @@
 -- What the reader's values stand for.
 use Rattle.std.specs.Prelude.{ℕ, List, map, reverse, Option, option_map, string_bytes}
 use Rattle.rc_pattern.specs.Meaning.{meaning}
-use Rattle.rc_parser.specs.Pieces.{Part}
+use Rattle.rc_parser.specs.Pieces.{Subpattern}
 use Rattle.rc_parser.specs.Grammar as spec
 use Rattle.rc_parser.specs.Machine as machine
 use Rattle.rc_parser.specs.declared.nested.Nested.{Nested}
@@ -11,7 +11,7 @@ use Rattle.rc_parser.specs.declared.builder.Group.{Group}
 use Rattle.rc_parser.specs.declared.builder.Outside.{Outside}
 use Rattle.rc_parser.specs.declared.builder.Work.{Work}
 
-abbrev pub part : Nested → Part
+abbrev pub part : Nested → Subpattern
 part n = record { re = meaning n.hir; depth = n.depth }
 
 abbrev pub parts : Parts → spec.Parts

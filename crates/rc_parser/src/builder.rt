@@ -4,7 +4,7 @@ ghost use Rattle.std.specs.Prelude.{◌≡◌, ◌⊎◌, ◌+◌, ◌-◌, ◌^
 ghost use Rattle.rc_pattern.specs.Re as re;
 ghost use Rattle.rc_pattern.specs.Meaning.{meaning};
 ghost use Rattle.rc_tokens.specs.Said as said;
-ghost use Rattle.rc_tokens.specs.View.{Gives, said_of, start_of};
+ghost use Rattle.rc_tokens.specs.View.{IsResultOf, said_of, start_of};
 ghost use Rattle.rc_parser.specs.Settings.{settings_of, first_flags};
 ghost use Rattle.rc_parser.specs.Pieces.{leaf, sense_part};
 ghost use Rattle.rc_parser.specs.Grammar as grammar;
@@ -96,7 +96,7 @@ impl Level {
 
     /// The body as one part. It takes the branches.
     fn whole(&mut self, alloc: Global, config: Config) -> Result<Nested, Refusal>
-        ensures value { Gives result (whole (settings_of config) (level self.old)) part }
+        ensures value { IsResultOf result (whole (settings_of config) (level self.old)) part }
         ensures groups { self.new.groups ≡ self.old.groups }
         ensures names { self.new.names ≡ self.old.names }
     {
@@ -113,7 +113,7 @@ fn repeat(
     bounds: Bounds,
     item: Nested,
 ) -> Result<Nested, Refusal>
-    ensures { Gives result (repeated_once (settings_of config) flags bounds (part item)) part }
+    ensures { IsResultOf result (repeated_once (settings_of config) flags bounds (part item)) part }
 {
     let Nested { hir, depth } = item;
     let greedy = if bounds.lazy {
@@ -137,7 +137,7 @@ fn group_of(
     group: Option<Group>,
     body: Nested,
 ) -> Result<Nested, Refusal>
-    ensures { Gives result (closed (settings_of config) (option_map paired_name group) (part body)) part }
+    ensures { IsResultOf result (closed (settings_of config) (option_map paired_name group) (part body)) part }
 {
     let Nested { hir, depth } = body;
     let hir = match group {
@@ -190,7 +190,7 @@ impl Work {
 
     fn bar(&mut self, alloc: Global) -> Result<(), Refusal>
         requires { self.old.last ≡ None }
-        ensures value { Gives result (step (settings_of self.old.config) said.Bar (state self.old).level (state self.old).outer) (λ _. state self.new) }
+        ensures value { IsResultOf result (step (settings_of self.old.config) said.Bar (state self.old).level (state self.old).outer) (λ _. state self.new) }
         ensures config { self.new.config ≡ self.old.config }
         ensures groups { self.new.level.groups ≡ self.old.level.groups }
     {
@@ -199,7 +199,7 @@ impl Work {
 
     fn set(&mut self, to: Change) -> Result<(), Refusal>
         requires { self.old.last ≡ None }
-        ensures value { Gives result (step (settings_of self.old.config) (said.Setting to) (state self.old).level (state self.old).outer) (λ _. state self.new) }
+        ensures value { IsResultOf result (step (settings_of self.old.config) (said.Setting to) (state self.old).level (state self.old).outer) (λ _. state self.new) }
         ensures config { self.new.config ≡ self.old.config }
         ensures groups { self.new.level.groups ≡ self.old.level.groups }
     {
@@ -233,7 +233,7 @@ impl Work {
     fn open(&mut self, alloc: Global, opening: Opening) -> Result<(), Refusal>
         requires last { self.old.last ≡ None }
         requires room { self.old.level.groups < 2 ^ 64 - 1 }
-        ensures value { Gives result (step (settings_of self.old.config) (said.Opens (start_of opening)) (state self.old).level (state self.old).outer) (λ _. state self.new) }
+        ensures value { IsResultOf result (step (settings_of self.old.config) (said.Opens (start_of opening)) (state self.old).level (state self.old).outer) (λ _. state self.new) }
         ensures config { self.new.config ≡ self.old.config }
         ensures groups { OnOk result (self.new.level.groups ≤ self.old.level.groups + 1) }
     {
@@ -261,7 +261,7 @@ impl Work {
 
     fn close(&mut self, alloc: Global) -> Result<(), Refusal>
         requires { self.old.last ≡ None }
-        ensures value { Gives result (step (settings_of self.old.config) said.Closes (state self.old).level (state self.old).outer) (λ _. state self.new) }
+        ensures value { IsResultOf result (step (settings_of self.old.config) said.Closes (state self.old).level (state self.old).outer) (λ _. state self.new) }
         ensures config { self.new.config ≡ self.old.config }
         ensures groups { OnOk result (self.new.level.groups ≡ self.old.level.groups) }
     {
@@ -279,7 +279,7 @@ impl Work {
     }
 
     fn repeat(&mut self, alloc: Global, bounds: Bounds) -> Result<(), Refusal>
-        ensures value { Gives result (take_said (settings_of self.old.config) (said.Repeats bounds) (state self.old)) (λ _. state self.new) }
+        ensures value { IsResultOf result (take_said (settings_of self.old.config) (said.Repeats bounds) (state self.old)) (λ _. state self.new) }
         ensures config { self.new.config ≡ self.old.config }
         ensures groups { self.new.level.groups ≡ self.old.level.groups }
     {
@@ -310,7 +310,7 @@ impl Work {
     fn step(&mut self, alloc: Global, token: Token) -> Result<(), Refusal>
         requires last { self.old.last ≡ None }
         requires room { self.old.level.groups < 2 ^ 64 - 1 }
-        ensures value { Gives result (step (settings_of self.old.config) (said_of token) (state self.old).level (state self.old).outer) (λ _. state self.new) }
+        ensures value { IsResultOf result (step (settings_of self.old.config) (said_of token) (state self.old).level (state self.old).outer) (λ _. state self.new) }
         ensures config { self.new.config ≡ self.old.config }
         ensures groups { OnOk result (self.new.level.groups ≤ self.old.level.groups + 1) }
     {
@@ -334,7 +334,7 @@ impl Work {
     /// Reads one mark more.
     pub fn accept(&mut self, alloc: Global, token: Token) -> Result<(), Refusal>
         requires { self.old.level.groups < 2 ^ 64 - 1 }
-        ensures value { Gives result (take_said (settings_of self.old.config) (said_of token) (state self.old)) (λ _. state self.new) }
+        ensures value { IsResultOf result (take_said (settings_of self.old.config) (said_of token) (state self.old)) (λ _. state self.new) }
         ensures config { self.new.config ≡ self.old.config }
         ensures groups { OnOk result (self.new.level.groups ≤ self.old.level.groups + 1) }
     {
@@ -347,7 +347,7 @@ impl Work {
 
     /// The pattern, where no group is open.
     pub fn finish(&mut self, alloc: Global) -> Result<Nested, Refusal>
-        ensures { Gives result (finish (settings_of self.old.config) (settled (state self.old).last (state self.old).level) (state self.old).outer) part }
+        ensures { IsResultOf result (finish (settings_of self.old.config) (settled (state self.old).last (state self.old).level) (state self.old).outer) part }
     {
         self.settle()?;
         if !self.outer.is_empty() {

@@ -2,7 +2,7 @@
 
 ghost use Rattle.std.specs.Prelude.{◌≡◌, ◌⊎◌, ◌+◌, ◌<◌, None, Some, [], option_map, MatchResult, OnOk, IfOk, IsTrue};
 ghost use Rattle.rc_pattern.specs.Meaning.{meaning, concat_of, alternation_of};
-ghost use Rattle.rc_tokens.specs.View.{Gives};
+ghost use Rattle.rc_tokens.specs.View.{IsResultOf};
 ghost use Rattle.rc_parser.specs.Settings.{settings_of};
 ghost use Rattle.rc_parser.specs.Pieces.{deeper};
 ghost use Rattle.rc_parser.specs.Grammar.{join, with_part, no_parts};
@@ -50,7 +50,7 @@ impl Parts {
 
     /// The parts one after another.
     pub fn join_concat(self, alloc: Global, config: Config) -> Result<Nested, Refusal>
-        ensures { Gives result (join (settings_of config) concat_of (parts self)) part }
+        ensures { IsResultOf result (join (settings_of config) concat_of (parts self)) part }
     {
         let Parts { hirs, deepest } = self;
         let count = hirs.len();
@@ -66,7 +66,7 @@ impl Parts {
 
     /// One of the parts.
     pub fn join_alternation(self, alloc: Global, config: Config) -> Result<Nested, Refusal>
-        ensures { Gives result (join (settings_of config) alternation_of (parts self)) part }
+        ensures { IsResultOf result (join (settings_of config) alternation_of (parts self)) part }
     {
         let Parts { hirs, deepest } = self;
         let count = hirs.len();

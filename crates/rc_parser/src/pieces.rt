@@ -4,7 +4,7 @@ ghost use Rattle.std.specs.Prelude.{◌≡◌, ◌⊎◌, ◌+◌, ◌<◌, ◌�
 ghost use Rattle.rc_pattern.specs.Meaning.{meaning, literal_of, byte_range, char_range};
 ghost use Rattle.rc_pattern.specs.Kinds.{has_plain_nodes};
 ghost use Rattle.rc_pattern.specs.Re as re;
-ghost use Rattle.rc_tokens.specs.View.{Gives};
+ghost use Rattle.rc_tokens.specs.View.{IsResultOf};
 ghost use Rattle.rc_tokens.specs.ClassView.{pairs};
 ghost use Rattle.rc_tokens.specs.Classes.{AreCodes, list_ranges, class_of};
 ghost use Rattle.rc_tokens.specs.Text.{is_letter};
@@ -113,7 +113,7 @@ fn bytes(alloc: Global, ranges: &[CodeRange]) -> Result<Vec<ClassBytesRange>, Al
 /// The class of the ranges.
 fn set(alloc: Global, config: Config, flags: Flags, ranges: &[CodeRange]) -> Result<Hir, Refusal>
     requires { AreCodes flags.unicode (pairs ranges.now) }
-    ensures reads { Gives result (set_re (settings_of config) flags (pairs ranges.now)) meaning }
+    ensures reads { IsResultOf result (set_re (settings_of config) flags (pairs ranges.now)) meaning }
     ensures kind { IfOk result (λ h. IsTrue (has_plain_nodes h)) }
 {
     if flags.unicode {
@@ -147,7 +147,7 @@ fn literal(alloc: Global, c: char) -> Result<Hir, AllocError>
 #[tactic(auto, using(crate::proofs::PieceLemmas::letter_class))]
 fn letter(alloc: Global, config: Config, flags: Flags, c: char) -> Result<Hir, Refusal>
     requires { is_letter c ≡ true }
-    ensures reads { Gives result (set_re (settings_of config) flags (class_of flags.unicode true false ((c, c) ∷ []))) meaning }
+    ensures reads { IsResultOf result (set_re (settings_of config) flags (class_of flags.unicode true false ((c, c) ∷ []))) meaning }
     ensures kind { IfOk result (λ h. IsTrue (has_plain_nodes h)) }
 {
     let code = c as u32;
@@ -160,7 +160,7 @@ fn letter(alloc: Global, config: Config, flags: Flags, c: char) -> Result<Hir, R
 }
 
 fn char_hir(alloc: Global, config: Config, flags: Flags, c: char) -> Result<Hir, Refusal>
-    ensures reads { Gives result (char_re (settings_of config) flags c) meaning }
+    ensures reads { IsResultOf result (char_re (settings_of config) flags c) meaning }
     ensures kind { IfOk result (λ h. IsTrue (has_plain_nodes h)) }
 {
     if flags.case_insensitive && is_letter(c) {
@@ -171,13 +171,13 @@ fn char_hir(alloc: Global, config: Config, flags: Flags, c: char) -> Result<Hir,
 
 /// A character.
 pub fn character(alloc: Global, config: Config, flags: Flags, c: char) -> Result<Nested, Refusal>
-    ensures { Gives result (sense_part (settings_of config) flags (sense.Character c)) part }
+    ensures { IsResultOf result (sense_part (settings_of config) flags (sense.Character c)) part }
 {
     Ok(leaf(char_hir(alloc, config, flags, c)?))
 }
 
 fn byte_hir(alloc: Global, config: Config, flags: Flags, byte: u8) -> Result<Hir, Refusal>
-    ensures reads { Gives result (byte_re (settings_of config) flags byte) meaning }
+    ensures reads { IsResultOf result (byte_re (settings_of config) flags byte) meaning }
     ensures kind { IfOk result (λ h. IsTrue (has_plain_nodes h)) }
 {
     if !flags.unicode && byte >= 128 {
@@ -191,7 +191,7 @@ fn byte_hir(alloc: Global, config: Config, flags: Flags, byte: u8) -> Result<Hir
 
 /// `\xHH`.
 pub fn byte(alloc: Global, config: Config, flags: Flags, byte: u8) -> Result<Nested, Refusal>
-    ensures { Gives result (sense_part (settings_of config) flags (sense.Byte byte)) part }
+    ensures { IsResultOf result (sense_part (settings_of config) flags (sense.Byte byte)) part }
 {
     Ok(leaf(byte_hir(alloc, config, flags, byte)?))
 }
@@ -228,7 +228,7 @@ fn has_dot(config: Config, flags: Flags) -> bool
 
 /// `.`
 pub fn dot(alloc: Global, config: Config, flags: Flags) -> Result<Nested, Refusal>
-    ensures { Gives result (sense_part (settings_of config) flags sense.Dot) part }
+    ensures { IsResultOf result (sense_part (settings_of config) flags sense.Dot) part }
 {
     if !has_dot(config, flags) {
         return Err(Refusal::Syntax);
@@ -239,7 +239,7 @@ pub fn dot(alloc: Global, config: Config, flags: Flags) -> Result<Nested, Refusa
 /// A Perl class.
 #[tactic(auto, using(rc_tokens::proofs::ClassLemmas::perl_codes))]
 pub fn perl(alloc: Global, config: Config, flags: Flags, perl: Perl) -> Result<Nested, Refusal>
-    ensures { Gives result (sense_part (settings_of config) flags (sense.PerlClass perl)) part }
+    ensures { IsResultOf result (sense_part (settings_of config) flags (sense.PerlClass perl)) part }
 {
     let ranges = perl_ranges(alloc, flags.unicode, perl)?;
     Ok(leaf(set(alloc, config, flags, &ranges)?))
@@ -248,7 +248,7 @@ pub fn perl(alloc: Global, config: Config, flags: Flags, perl: Perl) -> Result<N
 /// A list.
 #[tactic(auto, using(crate::proofs::PieceLemmas::list_class))]
 pub fn list(alloc: Global, config: Config, flags: Flags, list: &List) -> Result<Nested, Refusal>
-    ensures { Gives result (sense_part (settings_of config) flags (sense.Members list.now.negated list.now.bracket list.now.members.items)) part }
+    ensures { IsResultOf result (sense_part (settings_of config) flags (sense.Members list.now.negated list.now.bracket list.now.members.items)) part }
 {
     let ranges = list_ranges(alloc, flags.unicode, list)?;
     let class = class_of(

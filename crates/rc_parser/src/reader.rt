@@ -7,9 +7,9 @@ ghost use Rattle.rc_pattern.specs.Kinds.{has_plain_nodes};
 ghost use Rattle.rc_pattern.specs.declared.hir.Hir.{out-Hir};
 ghost use Rattle.rc_pattern.specs.declared.hir.HirKind.TheVariants as HirKind;
 ghost use Rattle.rc_pattern.specs.WellFormed.{IsWellFormed};
-ghost use Rattle.rc_tokens.specs.Text.{Text};
+ghost use Rattle.rc_tokens.specs.Text.{Characters};
 ghost use Rattle.rc_parser.specs.Settings.{Settings, settings_of};
-ghost use Rattle.rc_parser.specs.Pieces.{Part};
+ghost use Rattle.rc_parser.specs.Pieces.{Subpattern};
 ghost use Rattle.rc_parser.specs.Grammar.{Reads};
 ghost use Rattle.rc_parser.specs.Machine.{Has, fresh};
 ghost use Rattle.rc_parser.specs.View.{part};
@@ -36,7 +36,7 @@ pub enum Fault {
 #[tactic(auto, using(crate::proofs::ReadLemmas::same_start, crate::proofs::ReadLemmas::same_step, crate::proofs::ReadLemmas::same_stuck, crate::proofs::ReadLemmas::same_refused, crate::proofs::ReadLemmas::same_end, crate::proofs::ReadLemmas::same_none, rc_tokens::proofs::SoundLemmas::lex_shorter))]
 fn read(alloc: Global, chars: &[char], config: Config) -> Result<Nested, Fault>
     ensures terminator { (settings_of config).line_terminator < 256 }
-    ensures reads { MatchResult result (λ n. Has (settings_of config) (fresh (settings_of config)) chars.now (part n)) (λ e. OnFault e ((p : Part) → Has (settings_of config) (fresh (settings_of config)) chars.now p → ⊥)) }
+    ensures reads { MatchResult result (λ n. Has (settings_of config) (fresh (settings_of config)) chars.now (part n)) (λ e. OnFault e ((p : Subpattern) → Has (settings_of config) (fresh (settings_of config)) chars.now p → ⊥)) }
 {
     let mut work = Work::new(alloc, config);
     let mut rest = chars;

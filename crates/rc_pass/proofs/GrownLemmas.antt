@@ -11,7 +11,7 @@ use Rattle.rc_program.proofs.PlaceLemmas.{ways_closed}
 use Rattle.rc_pass.specs.Sparse.{Members}
 use Rattle.rc_pass.specs.Threads.{Thread, ThreadList}
 use Rattle.rc_pass.specs.Moves.{IsMove}
-use Rattle.rc_pass.specs.Passing.{resting_of, frames_of, AllInside, IsMoveInside, AllIn, AllFrom, count_from, IsSound, IsGrown}
+use Rattle.rc_pass.specs.Passing.{resting_of, frames_of, AllInside, IsMoveInside, AllIn, AllFrom, count_from, HasRoom, IsGrown}
 use Rattle.rc_pass.specs.declared.moves.Move.{Move}
 use Rattle.rc_pass.specs.declared.moves.Move.TheVariants.{Fork, Save, Matches, Stays, Reads, Stops}
 use Rattle.rc_pass.specs.declared.growth.Frame.{Frame}
@@ -73,7 +73,7 @@ from_push x [] t all h = (h, tt)
 from_push x (u ∷ ts) t all h = (all.0, from_push x ts t all.1 h)
 
 -- nothing happens
-pub grown_same : (n hi start at : ℕ) (threads : ThreadList) (entered : Members) → IsSound n hi at threads entered →
+pub grown_same : (n hi start at : ℕ) (threads : ThreadList) (entered : Members) → HasRoom n hi at threads entered →
     IsGrown n hi start at threads entered threads entered
 grown_same n hi start at threads entered sound = record {
   sound = sound;
@@ -100,7 +100,7 @@ grown_then n hi start at threads0 threads1 threads2 entered0 entered1 entered2 a
 
 -- a place is entered, and its move may put a thread behind the others
 pub grown_by : (n hi start at p : ℕ) (slots : List (Option ℕ)) (move : Move) (threads : ThreadList) (entered : Members) (s : Search) → s.hi ≡ hi →
-    IsSound n hi at threads entered → length entered.items + 1 ≤ n → IsMove s (p, at) move → IsMoveInside n move →
+    HasRoom n hi at threads entered → length entered.items + 1 ≤ n → IsMove s (p, at) move → IsMoveInside n move →
     IsGrown n hi start at threads entered (record threads { items = threads.items ++ resting_of start slots move })
     (record entered { items = entered.items ++ p ∷ [] })
 grown_by n hi start at p slots move threads entered s bound sound few m inside = record {

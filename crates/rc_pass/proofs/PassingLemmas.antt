@@ -5,7 +5,7 @@ use Rattle.rc_walks.specs.Threads.{IsFirstOf, over}
 use Rattle.rc_program.specs.Answer.{Search, next_of, HasNoWalkFrom}
 use Rattle.rc_pass.specs.Threads.{Thread, ThreadList}
 use Rattle.rc_pass.specs.Trace.{Trace, note, starts}
-use Rattle.rc_pass.specs.Passing.{pending, Carries, AllIn, IsLined, IsPassing, IsCounted, waiting_starts, Pending, Gives, best_of}
+use Rattle.rc_pass.specs.Passing.{pending, Carries, AllIn, IsLined, IsPassing, IsCounted, waiting_starts, Pending, GivesTrace, best_of}
 use Rattle.rc_pass.specs.declared.pass.Ending.{Ending}
 use Rattle.rc_pass.proofs.MoveLemmas.{Ends}
 use Rattle.rc_pass.proofs.StartLemmas.{starts_give, waiting_over, starts_skipped}
@@ -68,7 +68,7 @@ module _ (s : Search) (n hi width from last : ℕ) where
   -- nothing is left to go on
   pub passing_done : (at insertions : ℕ) (curr : ThreadList) (best : Option Ending) (found : List (Option ℕ)) →
       IsPassing s n hi width from last at insertions curr best found → length curr.items ≡ 0 → waiting_starts (is_none best) width at last ≡ [] →
-      Gives s width from last (best_of best found)
+      GivesTrace s width from last (best_of best found)
   passing_done at insertions curr best found p none no_starts =
       p.carries (best_of best found)
       (subst (λ ts. Carries s at [] [] (map pending ts ++ waiting_starts (is_none best) width at last) (best_of best found) (best_of best found))
@@ -78,7 +78,7 @@ module _ (s : Search) (n hi width from last : ℕ) where
   -- no thread is left, and no start
   pub passing_stops : (at insertions : ℕ) (curr : ThreadList) (best : Option Ending) (found : List (Option ℕ)) →
       IsPassing s n hi width from last (at + 1) insertions curr best found → length curr.items ≡ 0 → (is_none best ≡ false) ⊎ (last ≤ at) →
-      Gives s width from last (best_of best found)
+      GivesTrace s width from last (best_of best found)
   passing_stops at insertions curr best found p none ended =
       passing_done (at + 1) insertions curr best found p none
       (⊎_elim (λ e. ap (λ b. waiting_starts b width (at + 1) last) e) (λ l. waiting_over (is_none best) width (at + 1) last (omega arith)) ended)
@@ -130,7 +130,7 @@ module _ (s : Search) (n hi width from last : ℕ) where
   -- the pass is idle, and no start is left that has a walk
   pub passing_gives_up : (at insertions : ℕ) (curr : ThreadList) (best : Option Ending) (found : List (Option ℕ)) →
       IsPassing s n hi width from last at insertions curr best found → length curr.items ≡ 0 → is_none best ≡ true → at ≤ hi → last ≤ hi →
-      ((y : ℕ) → at ≤ y → y ≤ hi → HasNoWalkFrom s y) → Gives s width from last None
+      ((y : ℕ) → at ≤ y → y ≤ hi → HasNoWalkFrom s y) → GivesTrace s width from last None
   passing_gives_up at insertions curr (Some r) found p none unmatched within high no_walk = absurd (true≢false (sym unmatched))
   passing_gives_up at insertions curr None found p none unmatched within high no_walk =
       p.carries None
@@ -141,7 +141,7 @@ module _ (s : Search) (n hi width from last : ℕ) where
 
   -- all positions are done
   pub passing_ends : (at insertions : ℕ) (curr : ThreadList) (best : Option Ending) (found : List (Option ℕ)) →
-      IsPassing s n hi width from last at insertions curr best found → hi < at → last ≤ hi → Gives s width from last (best_of best found)
+      IsPassing s n hi width from last at insertions curr best found → hi < at → last ≤ hi → GivesTrace s width from last (best_of best found)
   passing_ends at insertions curr best found p past high =
       passing_done at insertions curr best found p (ap length (none_in n at (min hi (at + 3)) curr.items p.lined.inside (omega arith)))
       (waiting_over (is_none best) width at last (omega arith))

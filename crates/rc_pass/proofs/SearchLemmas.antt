@@ -12,7 +12,7 @@ use Rattle.rc_program.specs.Program.{place_at, accept}
 use Rattle.rc_program.specs.Answer.{Search, only, next_of, IsFirstFrom, HasNoWalkFrom, IsPassed, is_allowed, last_of, Chosen, chosen, answer, groups, found, pattern_of, pattern_at, slot_of, slots_of, last_visit, Anchoring, is_anchored}
 use Rattle.rc_program.proofs.AnswerLemmas.{first_start_chosen, no_start_chosen, last_start_of, start_within_last, start_to_last, match_place_is, chosen_law, chosen_within, chosen_accepts}
 use Rattle.rc_pass.specs.Trace.{Trace, note, sets_out, done}
-use Rattle.rc_pass.specs.Passing.{Gives, best_of}
+use Rattle.rc_pass.specs.Passing.{GivesTrace, best_of}
 use Rattle.rc_pass.specs.Found.{IsChosen}
 use Rattle.rc_pass.specs.declared.pass.Ending.{Ending}
 use Rattle.rc_pass.proofs.MoveLemmas.{Ends}
@@ -30,7 +30,7 @@ pub record IsBest (s : Search) (width from last : ℕ) (e : Ending) (slots : Lis
 
 module _ (s : Search) (width from last : ℕ) where
   -- no start has a walk
-  pub none_gives : (slots : List (Option ℕ)) → Gives s width from last (best_of None slots) → (y : ℕ) → from ≤ y → y ≤ last → HasNoWalkFrom s y
+  pub none_gives : (slots : List (Option ℕ)) → GivesTrace s width from last (best_of None slots) → (y : ℕ) → from ≤ y → y ≤ last → HasNoWalkFrom s y
   none_gives slots g = ⊎_elim (λ n. n.1) (λ m. absurd (none-some _ m.6)) g
 
   best_gives : (e : Ending) (slots : List (Option ℕ)) (x : ℕ) (w : List Pair) → from ≤ x → x ≤ last → IsFirstFrom s x w →
@@ -52,7 +52,7 @@ module _ (s : Search) (width from last : ℕ) where
       }
 
   -- the least start that has a walk, and its first walk
-  pub some_gives : (e : Ending) (slots : List (Option ℕ)) → Gives s width from last (best_of (Some e) slots) →
+  pub some_gives : (e : Ending) (slots : List (Option ℕ)) → GivesTrace s width from last (best_of (Some e) slots) →
       (w : List Pair) × IsBest s width from last e slots w
   some_gives e slots g =
       ⊎_elim (λ n. absurd (none-some _ (sym n.0)))

@@ -12,7 +12,7 @@ use Rattle.rc_program.specs.Answer.{Search, ends, next_of, last_of, pattern_at}
 use Rattle.rc_program.specs.Greatest.{IsNoGreater}
 use Rattle.rc_program.proofs.WayLemmas.{same_pair, ways_onward}
 use Rattle.rc_program.proofs.AnswerLemmas.{last_pair, last_of_more}
-use Rattle.rc_pass.specs.Spread.{Runner, Spells, SomeSpells, span_of, IsTop, BeginFrom, IsGreater}
+use Rattle.rc_pass.specs.Spread.{Runner, LeadsToMatch, SomeSpells, span_of, IsTop, BeginFrom, IsGreater}
 use Rattle.rc_pass.specs.declared.pass.Ending.{Ending}
 
 pub no_greater_self : (m : Found) → IsNoGreater m m
@@ -59,7 +59,7 @@ module _ (s : Search) where
 
   -- the same walk by other pairs passed
   respelled : (v u : List Pair) (r : Runner) (m : Found) → ((w : List Pair) → IsWalk (next_of s) Ends v (r.1 ∷ []) w → IsWalk (next_of s) Ends u (r.1 ∷ []) w) →
-      Spells s v r m → Spells s u r m
+      LeadsToMatch s v r m → LeadsToMatch s u r m
   respelled v u r m f h = record { start = h.start; walk = h.walk; is_walk = f h.walk h.is_walk; pattern = h.pattern; position = h.position }
 
   pub fewer_spells : (n : Pair) (v : List Pair) (rs : List Runner) (m : Found) → SomeSpells s (n ∷ v) rs m → SomeSpells s v rs m
@@ -69,10 +69,10 @@ module _ (s : Search) where
 
   -- a match of the runner c at n that is as great
   abbrev As : List Pair → Runner → Found → Type 0
-  As v r m = (k : Found) × Spells s v r k × IsNoGreater m k
+  As v r m = (k : Found) × LeadsToMatch s v r k × IsNoGreater m k
 
   -- What a runner spells it spells past n, unless one that set out no later spells as much from n.
-  keeps_off : (c : ℕ) (n : Pair) (v : List Pair) (r : Runner) (m : Found) → c ≤ r.0 → Spells s v r m → Spells s (n ∷ v) r m ⊎ As v (c, n) m
+  keeps_off : (c : ℕ) (n : Pair) (v : List Pair) (r : Runner) (m : Found) → c ≤ r.0 → LeadsToMatch s v r m → LeadsToMatch s (n ∷ v) r m ⊎ As v (c, n) m
   keeps_off c n v r m low h =
       ⊎_elim
       (λ i. let u = from_last n h.is_walk i in
@@ -122,10 +122,10 @@ module _ (s : Search) where
   some_parts v (r ∷ rs) qs m h =
       ⊎_elim (λ a. inl (inl a)) (λ b. ⊎_elim (λ x. inl (inr x)) (λ y. inr y) (some_parts v rs qs m b)) h
 
-  one_of : (c : ℕ) (v ks : List Pair) (k : Pair) (m : Found) → IsIn k ks → Spells s v (c, k) m → SomeSpells s v (by_ways c ks) m
+  one_of : (c : ℕ) (v ks : List Pair) (k : Pair) (m : Found) → IsIn k ks → LeadsToMatch s v (c, k) m → SomeSpells s v (by_ways c ks) m
   one_of c v [] k m i h = absurd i
   one_of c v (j ∷ ks) k m i h =
-      ⊎_elim (λ e. inl (subst (λ x. Spells s v (c, x) m) (sym e) h)) (λ q. inr (one_of c v ks k m q h)) i
+      ⊎_elim (λ e. inl (subst (λ x. LeadsToMatch s v (c, x) m) (sym e) h)) (λ q. inr (one_of c v ks k m q h)) i
 
   -- a walk from some pairs is one from the first that it enters
   from_first : (p f w : List Pair) → IsWalk (next_of s) Ends p f w → (k : Pair) × IsIn k f × IsWalk (next_of s) Ends p (k ∷ []) w
@@ -152,10 +152,10 @@ module _ (s : Search) where
         }))
         (λ never. absurd never) here
 
-    pub spells_on : (m : Found) → ends s n ≡ false → Spells s v (c, n) m → SomeSpells s (n ∷ v) (by_ways c (next_of s n)) m
+    pub spells_on : (m : Found) → ends s n ≡ false → LeadsToMatch s v (c, n) m → SomeSpells s (n ∷ v) (by_ways c (next_of s n)) m
     spells_on m on h = goes_by m h.is_walk on h.start h.pattern h.position
 
-    spells_back : (k : Pair) (m : Found) → IsIn k (next_of s n) → ¬ IsIn n v → Spells s (n ∷ v) (c, k) m → Spells s v (c, n) m
+    spells_back : (k : Pair) (m : Found) → IsIn k (next_of s n) → ¬ IsIn n v → LeadsToMatch s (n ∷ v) (c, k) m → LeadsToMatch s v (c, n) m
     spells_back k m i fresh h =
         let rest = from_other (next_of s) Ends k (next_of s n) i h.is_walk in
         let last = last_of_more (next_of s) Ends n rest in
@@ -168,7 +168,7 @@ module _ (s : Search) where
         }
 
     some_back : (ks : List Pair) (m : Found) → ((k : Pair) → IsIn k ks → IsIn k (next_of s n)) → ¬ IsIn n v → SomeSpells s (n ∷ v) (by_ways c ks) m →
-        Spells s v (c, n) m
+        LeadsToMatch s v (c, n) m
     some_back [] m all fresh h = absurd h
     some_back (k ∷ ks) m all fresh h =
         ⊎_elim (λ a. spells_back k m (all k (inl refl)) fresh a) (λ b. some_back ks m (λ j i. all j (inr i)) fresh b) h
@@ -180,7 +180,7 @@ module _ (s : Search) where
         ⊎_elim (λ e. let r = from_first _ _ _ rest in absurd (last_pair s n r.0 end (subst (λ x. IsIn r.0 (next_of s x)) (sym e) r.1)))
         (λ never. absurd never) here
 
-    pub spells_here : (m : Found) (p : ℕ) → Ends n → place_at s.places n.0 ≡ accept p → Spells s v (c, n) m →
+    pub spells_here : (m : Found) (p : ℕ) → Ends n → place_at s.places n.0 ≡ accept p → LeadsToMatch s v (c, n) m →
         m ≡ (let r : Found = record { pattern = p; start = c; end = n.1 } in r)
     spells_here m p end is h =
         let last = ended_at m h.is_walk end in
@@ -191,7 +191,7 @@ module _ (s : Search) where
         same : (a b : Found) → a.pattern ≡ b.pattern → a.start ≡ b.start → a.end ≡ b.end → a ≡ b
         same a b e f g = ap₂ (λ p (q : ℕ × ℕ). let r : Found = record { pattern = p; start = q.0; end = q.1 } in r) e (ap₂ (λ x y. (x, y)) f g)
 
-    here_spells : (p : ℕ) → ¬ IsIn n v → Ends n → place_at s.places n.0 ≡ accept p → Spells s v (c, n) (record { pattern = p; start = c; end = n.1 })
+    here_spells : (p : ℕ) → ¬ IsIn n v → Ends n → place_at s.places n.0 ≡ accept p → LeadsToMatch s v (c, n) (record { pattern = p; start = c; end = n.1 })
     here_spells p fresh end is = record { start = refl; walk = n ∷ []; is_walk = stops n (inl refl) fresh end; pattern = is; position = refl }
 
     -- a pair is entered where no walk ends
@@ -208,7 +208,7 @@ module _ (s : Search) where
           (λ x. (m, inr (inr x), no_greater_self m)) b) h;
     }
       where
-        on_by : (m : Found) → Spells s v (c, n) m → SomeSpells s (n ∷ v) (by_ways c (next_of s n) ++ ts) m
+        on_by : (m : Found) → LeadsToMatch s v (c, n) m → SomeSpells s (n ∷ v) (by_ways c (next_of s n) ++ ts) m
         on_by m y = some_left (n ∷ v) (by_ways c (next_of s n)) ts m (spells_on m on y)
 
     -- a walk ends
@@ -233,10 +233,10 @@ module _ (s : Search) where
             SomeSpells s v ((c, n) ∷ ts) m ⊎ (option_map span_of best ≡ Some m)
         from_one m one e =
             ⊎_elim
-            (λ a. inl (inl (subst (λ x. Spells s v (c, n) x) (sym new_span ∙ ap span_of (sym a) ∙ same_Some _ _ e) (here_spells new.pattern fresh end is))))
+            (λ a. inl (inl (subst (λ x. LeadsToMatch s v (c, n) x) (sym new_span ∙ ap span_of (sym a) ∙ same_Some _ _ e) (here_spells new.pattern fresh end is))))
             (λ a. inr (ap (option_map span_of) a ∙ e)) one
 
-        by_new : (m : Found) → Spells s v (c, n) m → IsNoGreater m (span_of result)
+        by_new : (m : Found) → LeadsToMatch s v (c, n) m → IsNoGreater m (span_of result)
         by_new m h = subst (λ x. IsNoGreater x (span_of result)) (new_span ∙ sym (spells_here m new.pattern end is h)) g.new_is
 
         by_best : (b : Option Ending) (m : Found) → ((e : Ending) → b ≡ Some e → IsNoGreater (span_of e) (span_of result)) →

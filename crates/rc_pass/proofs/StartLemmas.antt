@@ -5,7 +5,7 @@ use Rattle.rc_walks.specs.Threads.{IsFirstOf, AllPast, passes}
 use Rattle.rc_walks.proofs.ThreadLemmas.{of_none, of_one}
 use Rattle.rc_program.specs.Answer.{Search, next_of, HasNoWalkFrom}
 use Rattle.rc_pass.specs.Trace.{Trace, note, starts, sets_out}
-use Rattle.rc_pass.specs.Passing.{waiting_starts, Gives}
+use Rattle.rc_pass.specs.Passing.{waiting_starts, GivesTrace}
 use Rattle.rc_pass.proofs.MoveLemmas.{Ends}
 
 -- the next start is first among those that wait
@@ -31,7 +31,7 @@ waiting_past false width at last = tt
 module _ (s : Search) (width from : ℕ) where
   -- of all starts the least that has a walk decides
   pub starts_give : (x count last : ℕ) (o : Option Trace) → from ≤ x → last + 1 ≡ x + count → ((y : ℕ) → from ≤ y → y < x → HasNoWalkFrom s y) →
-      IsFirstOf (next_of s) (Ends s) Trace (note s.places) [] (λ q. q ≡ None) (starts width x count) o → Gives s width from last o
+      IsFirstOf (next_of s) (Ends s) Trace (note s.places) [] (λ q. q ≡ None) (starts width x count) o → GivesTrace s width from last o
   starts_give x zero last o low sum none p =
       inl (of_none (next_of s) (Ends s) Trace (note s.places) p, λ y l h. none y l (omega arith))
   starts_give x (suc count) last o low sum none p =

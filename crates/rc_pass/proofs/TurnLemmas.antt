@@ -5,7 +5,7 @@ use Rattle.rc_program.specs.Answer.{Search}
 use Rattle.rc_pass.specs.Sparse.{Members}
 use Rattle.rc_pass.specs.Threads.{Thread, ThreadList}
 use Rattle.rc_pass.specs.Trace.{Trace, done}
-use Rattle.rc_pass.specs.Passing.{pending, Carries, AllIn, AllFrom, count_from, IsSound, IsLined, waiting_starts, Pending, best_of}
+use Rattle.rc_pass.specs.Passing.{pending, Carries, AllIn, AllFrom, count_from, HasRoom, IsLined, waiting_starts, Pending, best_of}
 use Rattle.rc_pass.specs.declared.pass.Ending.{Ending}
 use Rattle.rc_pass.proofs.MoveLemmas.{turned}
 use Rattle.rc_pass.proofs.StartLemmas.{waiting_past}
@@ -27,7 +27,7 @@ in_wider n lo hi hi2 (t ∷ ts) h all = ((all.0.0, all.0.1, omega (arith, h, all
 
 -- the threads of the next position
 pub lined_next : (n hi width at insertions insertions2 : ℕ) (curr next : ThreadList) (entered : Members) → IsLined n hi width at insertions curr →
-    IsSound n hi at next entered → next.width ≡ width → next.room ≡ 4 * n →
+    HasRoom n hi at next entered → next.width ≡ width → next.room ≡ 4 * n →
     ((q : ℕ) → count_from q next.items ≤ count_from q curr.items + length entered.items) →
     ((x : ℕ) → x ≤ at → AllFrom x curr.items → AllFrom x next.items) →
     (0 < length next.items → insertions < insertions2) → IsLined n hi width (at + 1) insertions2 next

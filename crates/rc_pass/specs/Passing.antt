@@ -80,7 +80,7 @@ count_from q [] = 0
 count_from q (t ∷ ts) = (if nat_le q t.at then 1 else 0) + count_from q ts
 
 -- There is room, and all that is there belongs to the n places; no thread goes on past hi.
-pub record IsSound (n hi at : ℕ) (threads : ThreadList) (entered : Members) : Type 0 where
+pub record HasRoom (n hi at : ℕ) (threads : ThreadList) (entered : Members) : Type 0 where
   pub capacity : entered.capacity ≡ n
   pub few : length entered.items ≤ n
   pub room : length threads.items + n ≤ threads.room + length entered.items
@@ -88,7 +88,7 @@ pub record IsSound (n hi at : ℕ) (threads : ThreadList) (entered : Members) : 
 
 -- what the closure of a thread that began at `start` adds at the position `at`
 pub record IsGrown (n hi start at : ℕ) (threads0 : ThreadList) (entered0 : Members) (threads : ThreadList) (entered : Members) : Type 0 where
-  pub sound : IsSound n hi at threads entered
+  pub sound : HasRoom n hi at threads entered
   pub same_room : threads.room ≡ threads0.room
   pub same_most : threads.most ≡ threads0.most
   pub same_width : threads.width ≡ threads0.width
@@ -111,7 +111,7 @@ pub record IsClosing (s : Search) (n hi start at root : ℕ) (threads0 : ThreadL
 pub record IsStepping (s : Search) (n hi at : ℕ) (all left : List Thread) (threads0 threads : ThreadList) (entered : Members) : Type 0 where
   pub carries : (below : List (Trace × Pair)) (best o : Option Trace) → Carries s at threads.items entered.items (map pending left ++ below) best o →
       Carries s at [] [] (map pending all ++ below) best o
-  pub sound : IsSound n hi at threads entered
+  pub sound : HasRoom n hi at threads entered
   pub same_room : threads.room ≡ threads0.room
   pub same_most : threads.most ≡ threads0.most
   pub same_width : threads.width ≡ threads0.width
@@ -124,8 +124,8 @@ abbrev pub waiting_starts : Bool → ℕ → ℕ → ℕ → List (Trace × Pair
 waiting_starts is_open width at last = if is_open then starts width at (last + 1 - at) else []
 
 -- What is noted along the first walk of the least start in from..=last that has one; None where there is no such start.
-abbrev pub Gives : Search → ℕ → ℕ → ℕ → Option Trace → Type 0
-Gives s width from last o =
+abbrev pub GivesTrace : Search → ℕ → ℕ → ℕ → Option Trace → Type 0
+GivesTrace s width from last o =
     ((o ≡ None) × ((y : ℕ) → from ≤ y → y ≤ last → HasNoWalkFrom s y))
     ⊎ ((x : ℕ) × (w : List Pair) × (from ≤ x) × (x ≤ last) × IsFirstFrom s x w × ((y : ℕ) → from ≤ y → y < x → HasNoWalkFrom s y)
     × (o ≡ Some (noted (note s.places) (sets_out width x).0 w)))
@@ -153,7 +153,7 @@ IsCounted insertions best = MatchOption best (Unit {0}) (λ (r : Ending). r.end 
 
 -- the pass from the start `from` has come to the position `at`
 pub record IsPassing (s : Search) (n hi width from last at insertions : ℕ) (curr : ThreadList) (best : Option Ending) (found : List (Option ℕ)) : Type 0 where
-  pub carries : (o : Option Trace) → Pending s width last at curr.items best found o → Gives s width from last o
+  pub carries : (o : Option Trace) → Pending s width last at curr.items best found o → GivesTrace s width from last o
   pub lined : IsLined n hi width at insertions curr
   pub ended : IsCounted insertions best
   pub few : insertions ≤ n * (at - from)

@@ -8,7 +8,7 @@ use Rattle.rc_program.specs.Answer.{Search, ends, next_of, last_of}
 use Rattle.rc_program.specs.Greatest.{IsNoGreater}
 use Rattle.rc_pass.specs.Sparse.{Members}
 use Rattle.rc_pass.specs.Threads.{Thread, ThreadList}
-use Rattle.rc_pass.specs.Passing.{pairs, AllFrom, IsSound, IsGrown, IsLined, IsCounted, AllInside, count_from}
+use Rattle.rc_pass.specs.Passing.{pairs, AllFrom, HasRoom, IsGrown, IsLined, IsCounted, AllInside, count_from}
 use Rattle.rc_pass.specs.declared.growth.Frame.{Frame}
 use Rattle.rc_pass.specs.declared.growth.Frame.TheVariants.{Explore, Restore}
 use Rattle.rc_pass.specs.declared.pass.Ending.{Ending}
@@ -21,7 +21,7 @@ abbrev pub running : Thread → Runner
 running t = (t.start, (t.place, t.at))
 
 -- A walk that keeps off the pairs passed leads from the runner to the end of the match.
-pub record Spells (s : Search) (passed : List Pair) (r : Runner) (m : Found) : Type 0 where
+pub record LeadsToMatch (s : Search) (passed : List Pair) (r : Runner) (m : Found) : Type 0 where
   pub start : m.start ≡ r.0
   pub walk : List Pair
   pub is_walk : IsWalk (next_of s) (λ n. IsTrue (ends s n)) passed (r.1 ∷ []) walk
@@ -31,7 +31,7 @@ pub record Spells (s : Search) (passed : List Pair) (r : Runner) (m : Found) : T
 -- one of the runners spells the match
 abbrev pub SomeSpells : Search → List Pair → List Runner → Found → Type 0
 SomeSpells s passed [] m = ⊥
-SomeSpells s passed (r ∷ rs) m = Spells s passed r m ⊎ SomeSpells s passed rs m
+SomeSpells s passed (r ∷ rs) m = LeadsToMatch s passed r m ⊎ SomeSpells s passed rs m
 
 -- the match of a walk that has ended
 abbrev pub span_of : Ending → Found
@@ -112,7 +112,7 @@ pub record IsSpreading (s : Search) (n hi at : ℕ) (all left : List Thread) (th
     (threads : ThreadList) (entered : Members) (best : Option Ending) : Type 0 where
   pub seeks : (below : List Runner) (o : Option Found) → BeginFrom at below →
       Seeks s at threads.items entered.items (map running left ++ below) best o → Seeks s at [] [] (map running all ++ below) best0 o
-  pub sound : IsSound n hi at threads entered
+  pub sound : HasRoom n hi at threads entered
   pub same_room : threads.room ≡ threads0.room
   pub same_most : threads.most ≡ threads0.most
   pub same_width : threads.width ≡ threads0.width

@@ -4,7 +4,7 @@ ghost use Rattle.rc_walks.specs.Walks.{Pair};
 ghost use Rattle.rc_text.specs.Text.{Searched};
 ghost use Rattle.rc_pass.specs.Near.{IsHere, seen_from, size};
 ghost use Rattle.rc_pass.specs.Trace.{Trace, trace, done};
-ghost use Rattle.rc_pass.specs.Passing.{Carries, waits, AllInside, IsSound, IsGrown, frames_of, resting_of, slots_after};
+ghost use Rattle.rc_pass.specs.Passing.{Carries, waits, AllInside, HasRoom, IsGrown, frames_of, resting_of, slots_after};
 ghost use Rattle.rc_pass.specs.Entered.{IsSkipped, IsEntered};
 ghost use Rattle.rc_pass.specs.declared.moves.Move.TheVariants.{Matches};
 
@@ -89,7 +89,7 @@ pub fn enter(spot: &Spot, place: usize, start: usize, growth: &mut Growth) -> Op
     ghost text: { Searched }
     requires here { IsHere spot.now text }
     requires place_in { place < size spot.now.course }
-    requires sound { IsSound (size spot.now.course) spot.now.course.hi spot.now.at growth.old.threads growth.old.entered }
+    requires sound { HasRoom (size spot.now.course) spot.now.course.hi spot.now.at growth.old.threads growth.old.entered }
     requires frames { AllInside (size spot.now.course) growth.old.threads.width (reverse growth.old.stack.items) }
     requires deep { vec_len growth.old.stack ≤ length growth.old.entered.items }
     ensures entered { MatchOption result
@@ -117,7 +117,7 @@ fn visit(spot: &Spot, place: usize, start: usize, growth: &mut Growth) -> Option
     ghost text: { Searched }
     requires here { IsHere spot.now text }
     requires place_in { place < size spot.now.course }
-    requires sound { IsSound (size spot.now.course) spot.now.course.hi spot.now.at growth.old.threads growth.old.entered }
+    requires sound { HasRoom (size spot.now.course) spot.now.course.hi spot.now.at growth.old.threads growth.old.entered }
     requires frames { AllInside (size spot.now.course) growth.old.threads.width (reverse growth.old.stack.items) }
     requires deep { vec_len growth.old.stack ≤ length growth.old.entered.items }
     ensures carries { (below : List (Trace × Pair)) (best o : Option Trace)
@@ -152,7 +152,7 @@ pub fn close(spot: &Spot, root: usize, start: usize, growth: &mut Growth) -> Opt
     ghost text: { Searched }
     requires here { IsHere spot.now text }
     requires root_in { root < size spot.now.course }
-    requires sound { IsSound (size spot.now.course) spot.now.course.hi spot.now.at growth.old.threads growth.old.entered }
+    requires sound { HasRoom (size spot.now.course) spot.now.course.hi spot.now.at growth.old.threads growth.old.entered }
     ensures carries { (below : List (Trace × Pair)) (best o : Option Trace)
         → MatchOption result
         (Carries (seen_from spot.now text) spot.now.at growth.new.threads.items growth.new.entered.items below best o)

@@ -7,7 +7,7 @@ ghost use Rattle.rc_program.specs.Greatest.{greatest};
 ghost use Rattle.rc_program.specs.Programs.{search_of};
 ghost use Rattle.rc_pass.specs.Near.{IsHere, seen_from, size};
 ghost use Rattle.rc_pass.specs.Moves.{IsSetting, seen};
-ghost use Rattle.rc_pass.specs.Passing.{AllIn, AllFrom, count_from, IsSound, IsLined, IsCounted};
+ghost use Rattle.rc_pass.specs.Passing.{AllIn, AllFrom, count_from, HasRoom, IsLined, IsCounted};
 ghost use Rattle.rc_pass.specs.Spread.{Runner, running, SomeSpells, IsTop, Seeks, BeginFrom, IsOrdered, span_of, starting};
 ghost use Rattle.rc_pass.specs.Caches.{IsCacheFor};
 ghost use Rattle.rc_pass.specs.Scratches.{IsSame};
@@ -40,7 +40,7 @@ fn step(spot: &Spot, curr: &Threads, best: &mut Option<Ending>, growth: &mut Gro
     ensures seeks { (below : List Runner) (o : Option Found) → BeginFrom spot.now.at below
         → Seeks (seen_from spot.now text) spot.now.at growth.new.threads.items growth.new.entered.items below best.new o
         → Seeks (seen_from spot.now text) spot.now.at [] [] (map running curr.now.items ++ below) best.old o }
-    ensures sound { IsSound (size spot.now.course) spot.now.course.hi spot.now.at growth.new.threads growth.new.entered }
+    ensures sound { HasRoom (size spot.now.course) spot.now.course.hi spot.now.at growth.new.threads growth.new.entered }
     ensures same { (growth.new.threads.room ≡ growth.old.threads.room) × (growth.new.threads.most ≡ growth.old.threads.most)
         × (growth.new.threads.width ≡ growth.old.threads.width) }
     ensures counts { (q : ℕ) → count_from q growth.new.threads.items ≤ count_from q curr.now.items + length growth.new.entered.items }
@@ -75,7 +75,7 @@ fn advance(spot: &Spot, curr: &Threads, best: &mut Option<Ending>, growth: &mut 
         (starting (spot.now.at + 1) spot.now.course.last) best.new o
         → Seeks (seen_from spot.now text) spot.now.at [] [] (map running curr.now.items ++ starting spot.now.at spot.now.course.last)
         best.old o }
-    ensures sound { IsSound (size spot.now.course) spot.now.course.hi spot.now.at growth.new.threads growth.new.entered }
+    ensures sound { HasRoom (size spot.now.course) spot.now.course.hi spot.now.at growth.new.threads growth.new.entered }
     ensures same { (growth.new.threads.room ≡ growth.old.threads.room) × (growth.new.threads.most ≡ growth.old.threads.most)
         × (growth.new.threads.width ≡ growth.old.threads.width) }
     ensures counts { (q : ℕ) → count_from q growth.new.threads.items ≤ count_from q curr.now.items + length growth.new.entered.items }

@@ -9,7 +9,7 @@ ghost use Rattle.rc_program.specs.Places.{places_of};
 ghost use Rattle.rc_pass.specs.Near.{IsHere, seen_from, size};
 ghost use Rattle.rc_pass.specs.Moves.{IsSetting, seen};
 ghost use Rattle.rc_pass.specs.Trace.{Trace, done};
-ghost use Rattle.rc_pass.specs.Passing.{Carries, pending, AllIn, AllFrom, count_from, IsSound, waiting_starts, Pending, IsLined, IsCounted, Gives, best_of};
+ghost use Rattle.rc_pass.specs.Passing.{Carries, pending, AllIn, AllFrom, count_from, HasRoom, waiting_starts, Pending, IsLined, IsCounted, GivesTrace, best_of};
 ghost use Rattle.rc_pass.specs.Scratches.{IsSame};
 
 use crate::closure::close;
@@ -53,7 +53,7 @@ fn step(spot: &Spot, curr: &Threads, growth: &mut Growth) -> Option<(usize, usiz
         (λ r. Carries (seen_from spot.now text) spot.now.at growth.new.threads.items growth.new.entered.items []
         (Some (done r.0 r.1 spot.now.at growth.new.slots.items)) o)
         → Carries (seen_from spot.now text) spot.now.at [] [] (map pending curr.now.items ++ below) best o }
-    ensures sound { IsSound (size spot.now.course) spot.now.course.hi spot.now.at growth.new.threads growth.new.entered }
+    ensures sound { HasRoom (size spot.now.course) spot.now.course.hi spot.now.at growth.new.threads growth.new.entered }
     ensures same { (growth.new.threads.room ≡ growth.old.threads.room) × (growth.new.threads.most ≡ growth.old.threads.most)
         × (growth.new.threads.width ≡ growth.old.threads.width) }
     ensures counts { (q : ℕ) → count_from q growth.new.threads.items ≤ count_from q curr.now.items + length growth.new.entered.items }
@@ -99,7 +99,7 @@ fn advance(
         (Some (done r.0 r.1 spot.now.at growth.new.slots.items)) o)
         → Carries (seen_from spot.now text) spot.now.at [] []
         (map pending curr.now.items ++ waiting_starts is_open growth.old.threads.width spot.now.at spot.now.course.last) best o }
-    ensures sound { IsSound (size spot.now.course) spot.now.course.hi spot.now.at growth.new.threads growth.new.entered }
+    ensures sound { HasRoom (size spot.now.course) spot.now.course.hi spot.now.at growth.new.threads growth.new.entered }
     ensures same { (growth.new.threads.room ≡ growth.old.threads.room) × (growth.new.threads.most ≡ growth.old.threads.most)
         × (growth.new.threads.width ≡ growth.old.threads.width) }
     ensures counts { (q : ℕ) → count_from q growth.new.threads.items ≤ count_from q curr.now.items + length growth.new.entered.items }
@@ -234,7 +234,7 @@ pub fn pass<C: Cursor>(
     requires bounds { (low text ≤ from) × (from ≤ course.last) }
     requires made { scratch.old.next.entered.capacity ≡ size course }
     ensures keeps { Keeps input.old input.new }
-    ensures gives { Gives (seen course.entry.program.now text) scratch.old.next.threads.width from course.entry.last
+    ensures gives { GivesTrace (seen course.entry.program.now text) scratch.old.next.threads.width from course.entry.last
         (best_of result scratch.new.found.items) }
     ensures counted { IsCounted scratch.new.insertions result }
     ensures few { scratch.new.insertions ≤ size course.entry * (course.entry.hi - from + 1) }

@@ -4,7 +4,7 @@ ghost use Rattle.rc_text.specs.Found.{Found};
 ghost use Rattle.rc_text.specs.Text.{Searched};
 ghost use Rattle.rc_program.specs.Greatest.{IsNoGreater};
 ghost use Rattle.rc_pass.specs.Near.{IsHere, seen_from, size};
-ghost use Rattle.rc_pass.specs.Passing.{AllInside, IsSound, IsGrown};
+ghost use Rattle.rc_pass.specs.Passing.{AllInside, HasRoom, IsGrown};
 ghost use Rattle.rc_pass.specs.Spread.{Runner, Seeks, BeginFrom, IsOrdered, IsGreater, StaysCounted, runners_of, span_of};
 
 use crate::closure::{ended, enter};
@@ -45,7 +45,7 @@ fn visit(spot: &Spot, place: usize, start: usize, best: &mut Option<Ending>, gro
     ghost text: { Searched }
     requires here { IsHere spot.now text }
     requires place_in { place < size spot.now.course }
-    requires sound { IsSound (size spot.now.course) spot.now.course.hi spot.now.at growth.old.threads growth.old.entered }
+    requires sound { HasRoom (size spot.now.course) spot.now.course.hi spot.now.at growth.old.threads growth.old.entered }
     requires ordered { IsOrdered start growth.old.threads.items }
     requires width { growth.old.threads.width ≡ 0 }
     requires frames { AllInside (size spot.now.course) 0 (reverse growth.old.stack.items) }
@@ -90,7 +90,7 @@ pub fn spread(
     ghost text: { Searched }
     requires here { IsHere spot.now text }
     requires root_in { root < size spot.now.course }
-    requires sound { IsSound (size spot.now.course) spot.now.course.hi spot.now.at growth.old.threads growth.old.entered }
+    requires sound { HasRoom (size spot.now.course) spot.now.course.hi spot.now.at growth.old.threads growth.old.entered }
     requires ordered { IsOrdered start growth.old.threads.items }
     requires width { growth.old.threads.width ≡ 0 }
     ensures seeks { (below : List Runner) (o : Option Found) → BeginFrom start below

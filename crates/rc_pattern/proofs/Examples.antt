@@ -5,7 +5,7 @@ use Rattle.rc_pattern.specs.Meaning.{cat_all, alt_all, literal_of, concat_of, al
 use Rattle.rc_pattern.specs.Dots.{dot_of}
 use Rattle.rc_pattern.specs.Weight.{weight, list_weight}
 use Rattle.rc_pattern.specs.WellFormed.{group_numbers, group_names, AreDistinct, AreAscending, depth, IsWellFormed}
-use Rattle.rc_pattern.specs.Properties.{minimum_len, maximum_len, explicit_captures_len, static_explicit_captures_len, has_look, begins_with_look, ends_with_look, is_plain, greatest}
+use Rattle.rc_pattern.specs.Properties.{minimum_len, maximum_len, explicit_captures_len, static_explicit_captures_len, has_look, begins_with_look, ends_with_look, is_plain, greatest_usize}
 use Rattle.rc_pattern.specs.declared.hir.Look.TheVariants.{Start, End, WordAscii}
 use Rattle.rc_pattern.specs.declared.hir.dots.Dot.TheVariants.{AnyChar, AnyCharExcept, AnyByteExcept}
 
@@ -156,7 +156,7 @@ most_turns : maximum_len (repeat 2 (Some 5) true bc) ≡ Some 10
 most_turns = refl
 
 -- 4294967295 turns of 4294967295 turns of 2 bytes: a minimum stays at the greatest usize, a maximum above it is none
-many_minimum : minimum_len (exactly 4294967295 (exactly 4294967295 bc)) ≡ Some greatest
+many_minimum : minimum_len (exactly 4294967295 (exactly 4294967295 bc)) ≡ Some greatest_usize
 many_minimum = refl
 
 many_maximum : maximum_len (exactly 4294967295 (exactly 4294967295 bc)) ≡ None

@@ -7,16 +7,16 @@ use Rattle.rc_pattern.specs.declared.hir.Look.{Look}
 use Rattle.rc_pattern.specs.declared.hir.Look.TheVariants.{Start, End, StartLF, EndLF, StartCRLF, EndCRLF, WordAscii, WordAsciiNegate, WordUnicode, WordUnicodeNegate, WordStartAscii, WordEndAscii, WordStartUnicode, WordEndUnicode, WordStartHalfAscii, WordEndHalfAscii, WordStartHalfUnicode, WordEndHalfUnicode}
 
 -- the greatest usize
-abbrev pub greatest : ℕ
-greatest = 2 ^ 64 - 1
+abbrev pub greatest_usize : ℕ
+greatest_usize = 2 ^ 64 - 1
 
 -- a number that stays at the greatest usize once there
 abbrev pub saturated : ℕ → ℕ
-saturated n = min n greatest
+saturated n = min n greatest_usize
 
 -- a number above the greatest usize is none
 abbrev pub capped : ℕ → Option ℕ
-capped n = if nat_le n greatest then Some n else None
+capped n = if nat_le n greatest_usize then Some n else None
 
 -- what two numbers give, and none where one of them is none
 abbrev pub both : (ℕ → ℕ → Option ℕ) → Option ℕ → Option ℕ → Option ℕ

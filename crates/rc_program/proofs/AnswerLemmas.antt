@@ -11,7 +11,7 @@ use Rattle.rc_walks.proofs.CutLemmas.{first_is_one}
 use Rattle.rc_walks.proofs.TryLemmas.{Finds, IsBounded, walk_by_finds}
 use Rattle.rc_program.specs.Text.{Text, holds, ahead}
 use Rattle.rc_program.specs.Program.{Place, choice, byte, branch, scalar, guard, slot, accept, place_at, ways, ways_out, pair_at, is_match_place, program}
-use Rattle.rc_program.specs.Answer.{Search, only, is_anchored, ends, next_of, IsFirstFrom, last_of, is_allowed, IsStart, IsPassed, Chosen, IsAnswer, HasNoAnswer, found, allowed_only, from_start, by_starts, start_count, chosen, answer, groups, slots_of, slot_of, last_visit, names, pattern_at, pattern_of, AnswerLaw}
+use Rattle.rc_program.specs.Answer.{Search, only, is_anchored, ends, next_of, IsFirstFrom, last_of, is_allowed, IsStart, IsPassed, Chosen, IsAnswer, HasNoAnswer, found, allowed_only, from_start, first_given, start_count, chosen, answer, groups, slots_of, slot_of, last_visit, names, pattern_at, pattern_of, AnswerLaw}
 use Rattle.rc_program.proofs.WayLemmas.{same_pair, ways_within, ways_onward, no_match, no_way_from, past_places}
 use Rattle.rc_program.proofs.PlaceLemmas.{accept_below}
 
@@ -81,10 +81,10 @@ one_more s n x None (Some c) g r = (
   λ y a b. ⊎_elim (λ e. subst (IsPassed s) e g) (λ ne. r.3 y (omega arith) b) (⊎_elim (λ l. inr l) (λ ge. inl (omega arith)) (cases_lt x y)),
 )
 
-by_starts_gives : (s : Search) (n x : ℕ) → x + n ≤ s.hi + 1 → GivesFirst s n x (by_starts (from_start s) n x)
+by_starts_gives : (s : Search) (n x : ℕ) → x + n ≤ s.hi + 1 → GivesFirst s n x (first_given (from_start s) n x)
 by_starts_gives s zero x h = λ y a b. absurd (omega arith)
 by_starts_gives s (suc n) x h =
-    one_more s n x (from_start s x) (by_starts (from_start s) n (x + 1)) (from_start_gives s x (omega arith))
+    one_more s n x (from_start s x) (first_given (from_start s) n (x + 1)) (from_start_gives s x (omega arith))
     (by_starts_gives s n (x + 1) (omega arith))
 
 -- what a search gives
@@ -123,7 +123,7 @@ pub chosen_answers : (s : Search) → Answers s (chosen s)
 unfolding chosen
 chosen_answers s =
     ⊎_elim (λ h. whole s _ (by_starts_gives s (start_count s) s.lo h))
-    (λ e. subst (λ n. Answers s (by_starts (from_start s) n s.lo)) (sym e)
+    (λ e. subst (λ n. Answers s (first_given (from_start s) n s.lo)) (sym e)
     (λ y h. absurd (let l = start_below s y h in omega (arith, l, e, h.0))))
     (count_in s)
 

@@ -16,7 +16,7 @@ use Rattle.rc_program.specs.Program.{Place, choice, accept, place_at, ways, ways
 use Rattle.rc_program.specs.Answer.{last_of, pattern_at}
 use Rattle.rc_program.specs.Laws.{IsChoice, EndsFor, EntryLaw}
 use Rattle.rc_program.proofs.WayLemmas.{same_pair, no_match, no_way_from}
-use Rattle.rc_program.proofs.PlaceLemmas.{IsBetween, IsSound, AnyNumber, any_groups, pattern_sound, pattern_sized, choice_sound, choice_sized, choice_some, later_suit, sound_targets, way_to}
+use Rattle.rc_program.proofs.PlaceLemmas.{IsBetween, LiesInPart, AnyNumber, any_groups, pattern_sound, pattern_sized, choice_sound, choice_sized, choice_some, later_suit, sound_targets, way_to}
 use Rattle.rc_program.proofs.AnswerLemmas.{last_of_more, walk_ends, match_place_is}
 use Rattle.rc_program.proofs.PartLemmas.{Stand, Stand-first, Stand-second}
 use Rattle.rc_program.proofs.WholeLemmas.{stand_all}
@@ -32,7 +32,7 @@ stand_each P prog start (q ∷ qs) st all n low high =
 
 -- a place's numbers lie between a and b, and so do those of all places between
 abbrev pub IsSealed : List Place → (ℕ → Type 0) → ℕ → ℕ → Type 0
-IsSealed prog Accepts a b = (n : ℕ) → a ≤ n → n < b → IsSound AnyNumber Accepts a b (place_at prog n)
+IsSealed prog Accepts a b = (n : ℕ) → a ≤ n → n < b → LiesInPart AnyNumber Accepts a b (place_at prog n)
 
 module _ (prog : List Place) (t : Text) (hi : ℕ) (Accepts : ℕ → Type 0) (a b : ℕ) (sealed : IsSealed prog Accepts a b) where
   way_inside : (n m : Pair) → IsBetween a b n.0 → IsIn m (ways prog t hi n) → IsBetween a b m.0
@@ -60,7 +60,7 @@ module _ (prog : List Place) (t : Text) (hi : ℕ) (Accepts : ℕ → Type 0) (a
       let Ends = λ (m : Pair). IsTrue (is_match_place only (place_at prog m.0)) in
       let e = match_place_is only (place_at prog (last_of w).0) (walk_ends (ways prog t hi) Ends walk) in
       let l = (walk_inside Ends walk (λ m h. ⊎_elim (λ q. subst (λ (k : Pair). IsBetween a b k.0) q i) (λ never. absurd never) h)).1 in
-      (e, subst (IsSound AnyNumber Accepts a b) e (sealed (last_of w).0 l.0 l.1))
+      (e, subst (LiesInPart AnyNumber Accepts a b) e (sealed (last_of w).0 l.0 l.1))
 
   -- pairs passed outside make no difference to walks from inside
   outside_alike : (Ends : Pair → Type 0) (n x : ℕ) (passed : List Pair) → IsBetween a b n → ((k : Pair) → IsIn k passed → k.0 < a) →
@@ -126,7 +126,7 @@ module _ (hs : List Re) (t : Text) (hi p : ℕ) where
       IsSealed (program hs) (λ r. r ≡ q) start (start + (pattern_part q s h).size)
   pattern_sealed q slots start next s h st n low high =
       let size = pattern_sized q s h slots start next in
-      stand_each (IsSound AnyNumber (λ r. r ≡ q) start (start + (pattern_part q s h).size)) (program hs) start
+      stand_each (LiesInPart AnyNumber (λ r. r ≡ q) start (start + (pattern_part q s h).size)) (program hs) start
       ((pattern_part q s h).places slots start next) st
       (pattern_sound AnyNumber (λ r. r ≡ q) q s h (any_groups s h) refl slots start next start (start + (pattern_part q s h).size) (omega arith) (omega arith))
       n low (omega (arith, size, high))
@@ -136,7 +136,7 @@ module _ (hs : List Re) (t : Text) (hi p : ℕ) where
       IsSealed (program hs) (λ r. q < r) start (start + (choice_of_patterns (q + 1) s rest).size)
   rest_sealed q slots start next s rest st n low high =
       let size = choice_sized (q + 1) s rest slots start next in
-      stand_each (IsSound AnyNumber (λ r. q < r) start (start + (choice_of_patterns (q + 1) s rest).size)) (program hs) start
+      stand_each (LiesInPart AnyNumber (λ r. q < r) start (start + (choice_of_patterns (q + 1) s rest).size)) (program hs) start
       ((choice_of_patterns (q + 1) s rest).places slots start next) st
       (choice_sound AnyNumber (λ r. q < r) (q + 1) s rest (later_suit q (q + 1) s rest (omega arith)) slots start next start
       (start + (choice_of_patterns (q + 1) s rest).size) (omega arith) (omega arith))

@@ -9,9 +9,9 @@ use Rattle.rc_walks.specs.Walks.{Pair, IsWalk, stops, goes}
 use Rattle.rc_walks.specs.Tries.{walk_by}
 use Rattle.rc_walks.proofs.TryLemmas.{Finds, IsBounded, walk_by_finds}
 use Rattle.rc_program.specs.Program.{Place, choice, byte, branch, scalar, guard, slot, accept, place_at, is_match_place, ways, program}
-use Rattle.rc_program.specs.Answer.{Search, only, ends, next_of, last_of, is_allowed, IsStart, HasNoAnswer, Chosen, IsAnswer, found, start_count, answer, pattern_at}
+use Rattle.rc_program.specs.Answer.{Search, only, ends, next_of, last_of, is_allowed, IsStart, HasNoAnswer, Chosen, IsAnswer, found, start_count, answer, pattern_at, first_given}
 use Rattle.rc_program.specs.Spells.{SpelledBy}
-use Rattle.rc_program.specs.Greatest.{IsSpelledIn, AllowsPattern, HasNoSpan, IsNoGreater, IsGreatest, ends_for, span_by, first_from, last_below, past_patterns, by_patterns, to_end, greatest, GreatestLaw}
+use Rattle.rc_program.specs.Greatest.{IsSpelledIn, AllowsPattern, HasNoSpan, IsNoGreater, IsGreatest, ends_for, span_by, last_below, past_patterns, by_patterns, to_end, greatest, GreatestLaw}
 use Rattle.rc_program.proofs.WholeLemmas.{program_law}
 use Rattle.rc_program.proofs.WayLemmas.{same_pair}
 use Rattle.rc_program.proofs.AnswerLemmas.{last_pair, is_bounded, last_of_more, walk_ends, walk_within, match_place_is, chosen_accepts, answer_law, start_from, start_below}
@@ -125,9 +125,9 @@ one_or_first gives n x None (Some m) e r = (
   λ y a b. ⊎_elim (λ l. r.4 y (omega arith) b) (λ ge. let q : x ≡ y = omega arith in subst (λ z. gives z ≡ None) q e) (cases_lt x y),
 )
 
-is_first : (gives : ℕ → Option Found) (n x : ℕ) → IsFirst gives n x (first_from gives n x)
+is_first : (gives : ℕ → Option Found) (n x : ℕ) → IsFirst gives n x (first_given gives n x)
 is_first gives zero x = λ y a b. absurd (omega arith)
-is_first gives (suc n) x = one_or_first gives n x (gives x) (first_from gives n (x + 1)) refl (is_first gives n (x + 1))
+is_first gives (suc n) x = one_or_first gives n x (gives x) (first_given gives n (x + 1)) refl (is_first gives n (x + 1))
 
 -- what the last of the numbers below n gives
 abbrev IsLast : (ℕ → Option Found) → ℕ → Option Found → Type 0

@@ -38,14 +38,14 @@ abbrev pub IsBetween : ℕ → ℕ → ℕ → Type 0
 IsBetween lo hi n = (lo ≤ n) × (n < hi)
 
 -- The numbers of places in it lie between lo and hi, its slot is such a one, and so is its pattern. Programs of patterns have no `branch`.
-abbrev pub IsSound : (ℕ → Type 0) → (ℕ → Type 0) → ℕ → ℕ → Place → Type 0
-IsSound Names Accepts lo hi (choice ns) = AllByRecursion (IsBetween lo hi) ns
-IsSound Names Accepts lo hi (byte rs n) = IsBetween lo hi n
-IsSound Names Accepts lo hi (branch ts) = ⊥
-IsSound Names Accepts lo hi (scalar rs n) = IsBetween lo hi n
-IsSound Names Accepts lo hi (guard l n) = IsBetween lo hi n
-IsSound Names Accepts lo hi (slot k n) = Names k × IsBetween lo hi n
-IsSound Names Accepts lo hi (accept p) = Accepts p
+abbrev pub LiesInPart : (ℕ → Type 0) → (ℕ → Type 0) → ℕ → ℕ → Place → Type 0
+LiesInPart Names Accepts lo hi (choice ns) = AllByRecursion (IsBetween lo hi) ns
+LiesInPart Names Accepts lo hi (byte rs n) = IsBetween lo hi n
+LiesInPart Names Accepts lo hi (branch ts) = ⊥
+LiesInPart Names Accepts lo hi (scalar rs n) = IsBetween lo hi n
+LiesInPart Names Accepts lo hi (guard l n) = IsBetween lo hi n
+LiesInPart Names Accepts lo hi (slot k n) = Names k × IsBetween lo hi n
+LiesInPart Names Accepts lo hi (accept p) = Accepts p
 
 module _ (s : ℕ) (Names : ℕ → Type 0) where
   -- the slots of group n are such ones, where group 1 has its first at s
@@ -57,10 +57,10 @@ module _ (s : ℕ) (Names : ℕ → Type 0) where
     pub some : 0 < a.size
     pub sized : (start next : ℕ) → length (a.places s start next) ≡ a.size
     pub sound : (start next lo hi : ℕ) → lo ≤ start → start + a.size ≤ hi → IsBetween lo hi next →
-        AllByRecursion (IsSound Names (λ p. ⊥) lo hi) (a.places s start next)
+        AllByRecursion (LiesInPart Names (λ p. ⊥) lo hi) (a.places s start next)
 
   one_own : (place : ℕ → ℕ → Place) →
-      ((next lo hi : ℕ) → IsBetween lo hi next → IsSound Names (λ p. ⊥) lo hi (place s next)) → IsOwn (one place)
+      ((next lo hi : ℕ) → IsBetween lo hi next → LiesInPart Names (λ p. ⊥) lo hi (place s next)) → IsOwn (one place)
   one_own place h = record {
     some = omega arith;
     sized = λ start next. refl;
@@ -102,7 +102,7 @@ module _ (s : ℕ) (Names : ℕ → Type 0) where
   }
 
   body_or_out_sound : (greedy : Bool) (body out lo hi : ℕ) → IsBetween lo hi body → IsBetween lo hi out →
-      IsSound Names (λ p. ⊥) lo hi (body_or_out greedy body out)
+      LiesInPart Names (λ p. ⊥) lo hi (body_or_out greedy body out)
   body_or_out_sound true body out lo hi h k = (h, (k, tt))
   body_or_out_sound false body out lo hi h k = (k, (h, tt))
 
@@ -225,7 +225,7 @@ choice_some p s (h ∷ hs) = omega arith
 pub length-program : (hs : List Re) → length (program hs) ≡ (choice_of_patterns 0 (2 * length hs) hs).size
 length-program hs = choice_sized 0 (2 * length hs) hs 0 0 0
 
-sound_wider : (Names Accepts : ℕ → Type 0) (lo hi : ℕ) (q : Place) → IsSound Names (λ p. ⊥) lo hi q → IsSound Names Accepts lo hi q
+sound_wider : (Names Accepts : ℕ → Type 0) (lo hi : ℕ) (q : Place) → LiesInPart Names (λ p. ⊥) lo hi q → LiesInPart Names Accepts lo hi q
 sound_wider Names Accepts lo hi (choice ns) h = h
 sound_wider Names Accepts lo hi (byte rs n) h = h
 sound_wider Names Accepts lo hi (branch ts) h = h
@@ -242,31 +242,31 @@ module _ (Names Accepts : ℕ → Type 0) where
 
   -- the places of a pattern's part, with its match place
   pub pattern_sound : (p s : ℕ) (h : Re) → AllByRecursion (NamesGroup s Names) (group_numbers h) → Accepts p → (slots start next lo hi : ℕ) → lo ≤ start →
-      start + (pattern_part p s h).size ≤ hi → AllByRecursion (IsSound Names Accepts lo hi) ((pattern_part p s h).places slots start next)
+      start + (pattern_part p s h).size ≤ hi → AllByRecursion (LiesInPart Names Accepts lo hi) ((pattern_part p s h).places slots start next)
   pattern_sound p s h groups ok slots start next lo hi low high =
       let places = (part h).places s start (start + (part h).size) in
-      each_append (IsSound Names Accepts lo hi) places (accept p ∷ [])
-      (each_weaker (IsSound Names (λ p. ⊥) lo hi) (IsSound Names Accepts lo hi) (λ q x. sound_wider Names Accepts lo hi q x) places
+      each_append (LiesInPart Names Accepts lo hi) places (accept p ∷ [])
+      (each_weaker (LiesInPart Names (λ p. ⊥) lo hi) (LiesInPart Names Accepts lo hi) (λ q x. sound_wider Names Accepts lo hi q x) places
       ((part_own s Names h groups).sound start (start + (part h).size) lo hi low (omega arith) (omega arith, omega arith)))
       (ok, tt)
 
   -- the places of a choice of patterns
   pub choice_sound : (p s : ℕ) (hs : List Re) → Suit p s hs → (slots start next lo hi : ℕ) → lo ≤ start →
       start + (choice_of_patterns p s hs).size ≤ hi →
-      AllByRecursion (IsSound Names Accepts lo hi) ((choice_of_patterns p s hs).places slots start next)
+      AllByRecursion (LiesInPart Names Accepts lo hi) ((choice_of_patterns p s hs).places slots start next)
   choice_sound p s [] suit slots start next lo hi low high = (tt, tt)
   choice_sound p s (h ∷ hs) suit slots start next lo hi low high =
       let a = pattern_part p s h in
       let b = choice_of_patterns (p + 1) (s + 2 * group_count h) hs in
       let some : 0 < b.size = choice_some (p + 1) (s + 2 * group_count h) hs in (
         ((omega arith, omega arith), ((omega arith, omega (arith, some)), tt)),
-        each_append (IsSound Names Accepts lo hi) (a.places slots (start + 1) next) (b.places slots (start + 1 + a.size) next)
+        each_append (LiesInPart Names Accepts lo hi) (a.places slots (start + 1) next) (b.places slots (start + 1 + a.size) next)
             (pattern_sound p s h suit.0 suit.1 slots (start + 1) next lo hi (omega arith) (omega arith))
             (choice_sound (p + 1) (s + 2 * group_count h) hs suit.2 slots (start + 1 + a.size) next lo hi (omega arith) (omega arith)),
       )
 
   -- each place of the program of patterns that suit
-  pub program_sound : (hs : List Re) → Suit 0 (2 * length hs) hs → AllByRecursion (IsSound Names Accepts 0 (length (program hs))) (program hs)
+  pub program_sound : (hs : List Re) → Suit 0 (2 * length hs) hs → AllByRecursion (LiesInPart Names Accepts 0 (length (program hs))) (program hs)
   program_sound hs suit =
       let e = length-program hs in choice_sound 0 (2 * length hs) hs suit 0 0 0 0 (length (program hs)) (omega arith) (omega (arith, e))
 
@@ -279,7 +279,7 @@ numbers_suit count p s (a ∷ hs) h = (
 )
 
 -- the numbers in a program's places are below its length, and its match places are those of its patterns
-pub program_numbers : (hs : List Re) → AllByRecursion (IsSound AnyNumber (λ p. p < length hs) 0 (length (program hs))) (program hs)
+pub program_numbers : (hs : List Re) → AllByRecursion (LiesInPart AnyNumber (λ p. p < length hs) 0 (length (program hs))) (program hs)
 program_numbers hs = program_sound AnyNumber (λ p. p < length hs) hs (numbers_suit (length hs) 0 (2 * length hs) hs (omega arith))
 
 -- any slot is such a one, and a later pattern's number is above
@@ -289,7 +289,7 @@ later_suit low p s (a ∷ hs) h =
     (any_groups s a, h, later_suit low (p + 1) (s + 2 * group_count a) hs (omega arith))
 
 -- the numbers in a place lie where they should
-pub sound_targets : (Names Accepts : ℕ → Type 0) (lo hi : ℕ) (q : Place) → IsSound Names Accepts lo hi q → AllByRecursion (IsBetween lo hi) (targets q)
+pub sound_targets : (Names Accepts : ℕ → Type 0) (lo hi : ℕ) (q : Place) → LiesInPart Names Accepts lo hi q → AllByRecursion (IsBetween lo hi) (targets q)
 sound_targets Names Accepts lo hi (choice ns) h = h
 sound_targets Names Accepts lo hi (byte rs n) h = (h, tt)
 sound_targets Names Accepts lo hi (branch ts) h = absurd h
@@ -302,7 +302,7 @@ sound_targets Names Accepts lo hi (accept p) h = tt
 pub program_is_closed : (hs : List Re) → IsClosed (program hs)
 program_is_closed hs =
     All-from_recursion (λ q. All (λ n. n < length (program hs)) (targets q)) (program hs)
-    (each_weaker (IsSound AnyNumber (λ p. p < length hs) 0 (length (program hs))) (λ q. All (λ n. n < length (program hs)) (targets q))
+    (each_weaker (LiesInPart AnyNumber (λ p. p < length hs) 0 (length (program hs))) (λ q. All (λ n. n < length (program hs)) (targets q))
     (λ q x. All-from_recursion (λ n. n < length (program hs)) (targets q)
     (each_weaker (IsBetween 0 (length (program hs))) (λ n. n < length (program hs)) (λ n i. i.1) (targets q)
     (sound_targets AnyNumber (λ p. p < length hs) 0 (length (program hs)) q x)))
@@ -371,8 +371,8 @@ ways_closed places closed t hi n m i =
     (subst (λ q. AllByRecursion (λ k. ⊥) (targets q)) (sym (past_places places n.0 ge)) tt) i))
     (cases_lt n.0 (length places))
 
-accepts_of : (count lo hi : ℕ) (q : Place) (p : ℕ) → IsSound AnyNumber (λ p. p < count) lo hi q → q ≡ accept p → p < count
-accepts_of count lo hi q p h e = subst (IsSound AnyNumber (λ p. p < count) lo hi) e h
+accepts_of : (count lo hi : ℕ) (q : Place) (p : ℕ) → LiesInPart AnyNumber (λ p. p < count) lo hi q → q ≡ accept p → p < count
+accepts_of count lo hi q p h e = subst (LiesInPart AnyNumber (λ p. p < count) lo hi) e h
 
 no_choice : (p : ℕ) → choice [] ≢ accept p
 no_choice p e = cc
@@ -382,7 +382,7 @@ pub accept_below : (hs : List Re) (n p : ℕ) → place_at (program hs) n ≡ ac
 accept_below hs n p e =
     ⊎_elim
     (λ l. accepts_of (length hs) 0 (length (program hs)) (place_at (program hs) n) p
-    (All-from_recursion (IsSound AnyNumber (λ p. p < length hs) 0 (length (program hs))) (program hs) (program_numbers hs) n (choice []) l) e)
+    (All-from_recursion (LiesInPart AnyNumber (λ p. p < length hs) 0 (length (program hs))) (program hs) (program_numbers hs) n (choice []) l) e)
     (λ ge. absurd (no_choice p (sym (past_places (program hs) n ge) ∙ e)))
     (cases_lt n (length (program hs)))
 
@@ -417,8 +417,8 @@ slots_suit lo hi p s (h ∷ hs) ok low high = (
   slots_suit lo hi (p + 1) (s + 2 * group_count h) hs (All-tail IsNumbered h hs ok) (omega arith) (omega arith),
 )
 
-slot_of_sound : (lo hi a b : ℕ) (q : Place) (k m : ℕ) → IsSound (IsBetween lo hi) AnyNumber a b q → q ≡ slot k m → IsBetween lo hi k
-slot_of_sound lo hi a b q k m h e = (subst (IsSound (IsBetween lo hi) AnyNumber a b) e h).0
+slot_of_sound : (lo hi a b : ℕ) (q : Place) (k m : ℕ) → LiesInPart (IsBetween lo hi) AnyNumber a b q → q ≡ slot k m → IsBetween lo hi k
+slot_of_sound lo hi a b q k m h e = (subst (LiesInPart (IsBetween lo hi) AnyNumber a b) e h).0
 
 no_slot : (k m : ℕ) → choice [] ≢ slot k m
 no_slot k m e = cc
@@ -431,6 +431,6 @@ slot_between hs ok n k m e =
     (slots_suit (2 * length hs) (slot_count hs) 0 (2 * length hs) hs ok (omega arith) (omega arith)) in
     ⊎_elim
     (λ l. slot_of_sound (2 * length hs) (slot_count hs) 0 (length (program hs)) (place_at (program hs) n) k m
-    (All-from_recursion (IsSound (IsBetween (2 * length hs) (slot_count hs)) AnyNumber 0 (length (program hs))) (program hs) all n (choice []) l) e)
+    (All-from_recursion (LiesInPart (IsBetween (2 * length hs) (slot_count hs)) AnyNumber 0 (length (program hs))) (program hs) all n (choice []) l) e)
     (λ ge. absurd (no_slot k m (sym (past_places (program hs) n ge) ∙ e)))
     (cases_lt n (length (program hs)))

@@ -8,7 +8,7 @@ use Rattle.std.proofs.lemmas.Option.{none-some, same_Some}
 use Rattle.std.proofs.lemmas.Str.{length-encode, len_utf8_bounds}
 use Rattle.std.proofs.Math.Nat.{mul-le-mul_right}
 use Rattle.rc_pattern.specs.Re.{Re, Range, empty, literal, byte_in, char_in, look, repeat, capture, cat, alt, none}
-use Rattle.rc_pattern.specs.Properties.{greatest, saturated, capped, both, least, is_zero, least_encoded, greatest_encoded, minimum_len, maximum_len, look_number, same_look, begins_with_look, ends_with_look}
+use Rattle.rc_pattern.specs.Properties.{greatest_usize, saturated, capped, both, least, is_zero, least_encoded, greatest_encoded, minimum_len, maximum_len, look_number, same_look, begins_with_look, ends_with_look}
 use Rattle.rc_pattern.specs.LookSets.{all_looks}
 use Rattle.rc_pattern.specs.declared.hir.Look.{Look}
 use Rattle.rc_pattern.specs.declared.hir.Look.TheVariants.{Start, End, StartLF, EndLF, StartCRLF, EndCRLF, WordAscii, WordAsciiNegate, WordUnicode, WordUnicodeNegate, WordStartAscii, WordEndAscii, WordStartUnicode, WordEndUnicode, WordStartHalfAscii, WordEndHalfAscii, WordStartHalfUnicode, WordEndHalfUnicode}
@@ -40,14 +40,14 @@ then_some f None n e = absurd (none-some n e)
 then_some f (Some k) n e = (k, refl, e)
 
 capped_is : (x n : ℕ) → capped x ≡ Some n → x ≡ n
-capped_is x n e = go (nat_le x greatest) e
+capped_is x n e = go (nat_le x greatest_usize) e
   where
     go : (b : Bool) → (if b then Some x else None) ≡ Some n → x ≡ n
     go true f = same_Some x n f
     go false f = absurd (none-some n f)
 
 saturated_le : (n : ℕ) → saturated n ≤ n
-saturated_le n = min_le n greatest
+saturated_le n = min_le n greatest_usize
   where
     min_le : (a b : ℕ) → min a b ≤ a
     min_le a b = omega arith

@@ -14,7 +14,7 @@ use Rattle.rc_program.specs.Program.{Place, choice, accept, place_at, ways, is_m
 use Rattle.rc_program.specs.Answer.{last_of}
 use Rattle.rc_program.specs.Laws.{IsWalkOf, ProgramLaw}
 use Rattle.rc_program.proofs.WayLemmas.{same_pair}
-use Rattle.rc_program.proofs.PlaceLemmas.{IsSound, part_is_own, part_sized, pattern_sized, AnyNumber}
+use Rattle.rc_program.proofs.PlaceLemmas.{LiesInPart, part_is_own, part_sized, pattern_sized, AnyNumber}
 use Rattle.rc_program.proofs.PartLemmas.{Leads, stays, steps, at_place, to_place, Stand, Stand-left, Stand-right, Stand-first, Stand-second, part_implements}
 
 -- the place is the match place of pattern p
@@ -79,14 +79,14 @@ module _ (t : Text) (hi : ℕ) where
           (at_place t hi prog start _ st.0 i m h)
 
 -- where such places stand, match places stand outside
-outside : (prog : List Place) (start lo hi : ℕ) (qs : List Place) → Stand prog start qs → AllByRecursion (IsSound AnyNumber (λ p. ⊥) lo hi) qs →
+outside : (prog : List Place) (start lo hi : ℕ) (qs : List Place) → Stand prog start qs → AllByRecursion (LiesInPart AnyNumber (λ p. ⊥) lo hi) qs →
     (n p : ℕ) → place_at prog n ≡ accept p → (n < start) ⊎ (start + length qs ≤ n)
 outside prog start lo hi [] st inner n p e = ⊎_elim (λ l. inl l) (λ g. inr (omega (arith, g))) (cases_lt n start)
 outside prog start lo hi (q ∷ qs) st inner n p e =
     ⊎_elim
     (λ l. ⊎_elim (λ k. inl k)
     (λ g. let same : n ≡ start = omega arith in
-    absurd (subst (IsSound AnyNumber (λ p. ⊥) lo hi) (sym st.0 ∙ ap (place_at prog) (sym same) ∙ e) inner.0))
+    absurd (subst (LiesInPart AnyNumber (λ p. ⊥) lo hi) (sym st.0 ∙ ap (place_at prog) (sym same) ∙ e) inner.0))
     (cases_lt n start))
     (λ g. inr (omega (arith, g)))
     (outside prog (suc start) lo hi qs st.1 inner.1 n p e)

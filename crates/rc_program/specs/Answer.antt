@@ -133,10 +133,10 @@ allowed_only s x w = if is_allowed s w then Some (record { start = x; walk = w }
 abbrev pub from_start : Search → ℕ → Option Chosen
 from_start s x = option_and_then (allowed_only s x) (walk_by (next_of s) (ends s) (length s.places * (s.hi + 1)) [] (0, x))
 
--- what the first of so many starts from x on gives
-abbrev pub by_starts : (ℕ → Option Chosen) → ℕ → ℕ → Option Chosen
-by_starts gives zero x = None
-by_starts gives (suc n) x = option_or (gives x) (by_starts gives n (x + 1))
+-- what the first of so many numbers from x on gives
+abbrev pub first_given : {A : Type 0} → (ℕ → Option A) → ℕ → ℕ → Option A
+first_given gives zero x = None
+first_given gives (suc n) x = option_or (gives x) (first_given gives n (x + 1))
 
 -- how many starts are tried
 abbrev pub start_count : Search → ℕ
@@ -144,7 +144,7 @@ start_count s = if is_anchored s.anchoring then min 1 (s.hi + 1 - s.lo) else s.h
 
 -- the start and the walk
 unfoldable pub chosen : Search → Option Chosen
-chosen s = by_starts (from_start s) (start_count s) s.lo
+chosen s = first_given (from_start s) (start_count s) s.lo
 
 -- the match
 unfoldable pub answer : Search → Option Found

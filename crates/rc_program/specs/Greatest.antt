@@ -8,7 +8,7 @@ use Rattle.rc_walks.specs.Walks.{Pair, IsWalk}
 use Rattle.rc_walks.specs.Tries.{walk_by}
 use Rattle.rc_program.specs.Program.{Place, accept, place_at, is_match_place, program}
 use Rattle.rc_program.specs.Spells.{SpelledBy}
-use Rattle.rc_program.specs.Answer.{Search, only, ends, next_of, last_of, IsStart, start_count, answer}
+use Rattle.rc_program.specs.Answer.{Search, only, ends, next_of, last_of, IsStart, first_given, start_count, answer}
 
 -- The search allows a walk that leads from the match's start to its end, and ends at the match place of its pattern.
 pub record IsSpelledIn (s : Search) (m : Found) : Type 0 where
@@ -48,11 +48,6 @@ span_by s e x p =
     option_map (λ (w : List Pair). let m : Found = record { pattern = p; start = x; end = e } in m)
     (walk_by (next_of s) (ends_for s p e) (length s.places * (s.hi + 1)) [] (0, x))
 
--- what the first of so many numbers from x on gives
-abbrev pub first_from : (ℕ → Option Found) → ℕ → ℕ → Option Found
-first_from gives zero x = None
-first_from gives (suc n) x = option_or (gives x) (first_from gives n (x + 1))
-
 -- what the last of the numbers below n gives
 abbrev pub last_below : (ℕ → Option Found) → ℕ → Option Found
 last_below gives zero = None
@@ -66,11 +61,11 @@ past_patterns (q ∷ places) = past_patterns places
 
 -- the least pattern from x to e
 abbrev pub by_patterns : Search → ℕ → ℕ → Option Found
-by_patterns s e x = first_from (span_by s e x) (past_patterns s.places) 0
+by_patterns s e x = first_given (span_by s e x) (past_patterns s.places) 0
 
 -- the least start to e, and there the least pattern
 abbrev pub to_end : Search → ℕ → Option Found
-to_end s e = first_from (by_patterns s e) (start_count s) s.lo
+to_end s e = first_given (by_patterns s e) (start_count s) s.lo
 
 -- the greatest end, and there the least start, and there the least pattern
 unfoldable pub greatest : Search → Option Found

@@ -4,7 +4,7 @@ use Rattle.rc_text.specs.declared.types.Anchored.{Anchored}
 use Rattle.rc_text.specs.declared.types.Anchored.TheVariants.{No, Yes, Pattern}
 use Rattle.rc_text.specs.Text.{Searched, low, high, slice_end}
 use Rattle.rc_pattern.specs.Re.{Re}
-use Rattle.rc_pattern.specs.Properties.{minimum_len}
+use Rattle.rc_pattern.specs.Properties.{is_zero, minimum_len}
 use Rattle.rc_program.specs.Text.{Text}
 use Rattle.rc_program.specs.Program.{Place, accept, place_at, program, shown}
 use Rattle.rc_program.specs.Answer.{Anchoring, anywhere, at_start, by_pattern, Search}
@@ -42,10 +42,6 @@ pub record Sought : Type 0 where
   pub grouped : Bool
   pub terminator : ℕ
   pub utf8_empty : Bool
-
-abbrev pub is_zero : Option ℕ → Bool
-is_zero None = false
-is_zero (Some n) = nat_eq n 0
 
 -- the least length of some pattern is 0
 abbrev pub may_be_empty : List Re → Bool

@@ -11,3 +11,7 @@ pub record Found : Type 0 where
 pub record HalfFound : Type 0 where
   pub pattern : ℕ
   pub offset : ℕ
+
+-- the half of a match: its pattern, and its end
+abbrev pub half_of : Found → HalfFound
+half_of m = record { pattern = m.pattern; offset = m.end }

@@ -45,9 +45,9 @@ pub record ShowsByte (s : Searched) (p : ℕ) : Type 0 where
   pub high : p < s.offset + length s.chunk
 
 -- where a new input's span ends: at the total, or at the greatest usize where it is unknown
-abbrev pub end_of : Option ℕ → ℕ
-end_of None = 18446744073709551615
-end_of (Some n) = n
+abbrev pub end_by_total : Option ℕ → ℕ
+end_by_total None = 18446744073709551615
+end_by_total (Some n) = n
 
 -- It went to p: it stands there, in the chunk with that byte, or at the content's end.
 pub record GoesTo (s t : Searched) (p : ℕ) : Type 0 where

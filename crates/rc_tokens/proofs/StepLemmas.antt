@@ -2,7 +2,7 @@
 use Rattle.std.proofs.Common.{◌≡◌, ℕ, Bool, true, false, ◌&&◌, ◌||◌, ◌==◌, ◌⊎◌, inl, inr, [], ◌∷◌, ◌++◌, Option, Some, None, drop, refl, ap, ◌∙◌, if◌then◌else◌}
 use Rattle.std.proofs.lemmas.Bool.{eqb-true, false_from_ne_true}
 use Rattle.std.proofs.lemmas.Option.{none-some, same_Some}
-use Rattle.rc_tokens.specs.Text.{Text, ◌>>=◌, ◌>>◌, is_at}
+use Rattle.rc_tokens.specs.Text.{Characters, ◌>>=◌, ◌>>◌, is_at}
 use Rattle.rc_tokens.specs.Lexer.{run, after_run}
 
 pub some_parts : {A B : Type 0} (o : Option A) (f : A → Option B) (y : B) → (o >>= f) ≡ Some y → (a : A) × (o ≡ Some a) × (f a ≡ Some y)
@@ -32,11 +32,11 @@ made_parts o f v k u h =
     let (a, e, g) = some_parts o (λ a. Some (f a, v)) (k, u) h in
     let (x, y) = pair_parts (f a) k v u g in (a, e, x, y)
 
-pub at_splits : (d : ℕ) (t : Text) → is_at d t ≡ true → t ≡ d ∷ drop 1 t
+pub at_splits : (d : ℕ) (t : Characters) → is_at d t ≡ true → t ≡ d ∷ drop 1 t
 at_splits d [] h = absurd (cc)
 at_splits d (c ∷ t) h = ap (λ x. x ∷ t) (eqb-true c d h)
 
-pub run_splits : (test : ℕ → Bool) (t : Text) → t ≡ run test t ++ after_run test t
+pub run_splits : (test : ℕ → Bool) (t : Characters) → t ≡ run test t ++ after_run test t
 run_splits test [] = refl
 run_splits test (c ∷ t) = go (test c) (run_splits test t)
   where
@@ -45,15 +45,15 @@ run_splits test (c ∷ t) = go (test c) (run_splits test t)
     go false h = refl
 
 -- each character passes
-abbrev pub Passes : (ℕ → Bool) → Text → Type 0
+abbrev pub Passes : (ℕ → Bool) → Characters → Type 0
 Passes test [] = Unit {0}
 Passes test (c ∷ t) = (test c ≡ true) × Passes test t
 
-pub run_front : (test : ℕ → Bool) (f : Text) (d : ℕ) (u : Text) → Passes test f → test d ≡ false → run test (f ++ d ∷ u) ≡ f
+pub run_front : (test : ℕ → Bool) (f : Characters) (d : ℕ) (u : Characters) → Passes test f → test d ≡ false → run test (f ++ d ∷ u) ≡ f
 run_front test [] d u h e = rw e refl
 run_front test (c ∷ f) d u h e = rw (h.0) (ap (λ s. c ∷ s) (run_front test f d u h.1 e))
 
-pub after_front : (test : ℕ → Bool) (f : Text) (d : ℕ) (u : Text) → Passes test f → test d ≡ false → after_run test (f ++ d ∷ u) ≡ d ∷ u
+pub after_front : (test : ℕ → Bool) (f : Characters) (d : ℕ) (u : Characters) → Passes test f → test d ≡ false → after_run test (f ++ d ∷ u) ≡ d ∷ u
 after_front test [] d u h e = rw e refl
 after_front test (c ∷ f) d u h e = rw (h.0) (after_front test f d u h.1 e)
 

@@ -1,6 +1,6 @@
 -- The marks of which the text of a pattern is made: how each is written, and what it says.
 use Rattle.std.specs.Prelude.{◌≡◌, ℕ, ◌^◌, Bool, true, false, not, ◌&&◌, ◌||◌, ◌==◌, nat_le, nat_lt, List, [], ◌∷◌, ◌++◌, length, Option, Some, None, if◌then◌else◌, codes, encode_utf8_all}
-use Rattle.rc_tokens.specs.Text.{Text, ◌>>=◌, ◌>>◌, is_at, is_empty, each, same_text, has_twice, is_letter, is_digit, number, is_scalar}
+use Rattle.rc_tokens.specs.Text.{Characters, ◌>>=◌, ◌>>◌, is_at, is_empty, each, same_text, has_twice, is_letter, is_digit, number, is_scalar}
 use Rattle.rc_tokens.specs.Said.{Sense, Character, Byte, Dot, PerlClass, Asserts, Members, Start, Capturing, Named, Flagged, Said, Stands, Bar, Setting, Opens, Closes, Repeats}
 use Rattle.rc_tokens.specs.declared.tokens.Set.{Set}
 use Rattle.rc_tokens.specs.declared.tokens.Set.TheVariants.{Digits, Spaces, Words}
@@ -23,11 +23,11 @@ pub data Amount : Type 0 where
   -- `?`
   maybe : Amount
   -- `{n}`
-  exactly : Text → Amount
+  exactly : Characters → Amount
   -- `{n,}`
-  from : Text → Amount
+  from : Characters → Amount
   -- `{n,m}`
-  between : Text → Text → Amount
+  between : Characters → Characters → Amount
 
 -- an amount, and whether a `?` follows it
 pub record Operator : Type 0 where
@@ -39,9 +39,9 @@ pub data Escape : Type 0 where
   -- `\c`
   short : ℕ → Escape
   -- `\xHH`, `\uHHHH`, `\UHHHHHHHH`
-  fixed : ℕ → Text → Escape
+  fixed : ℕ → Characters → Escape
   -- `\c{..}`
-  braced : ℕ → Text → Escape
+  braced : ℕ → Characters → Escape
 
 -- what stands in a list
 pub data Atom : Type 0 where
@@ -65,16 +65,16 @@ pub data Opening : Type 0 where
   -- `(`
   capturing : Opening
   -- `(?P<name>`, or without the `P`
-  naming : Bool → Text → Opening
+  naming : Bool → Characters → Opening
   -- `(?f:`
-  flagging : Text → Opening
+  flagging : Characters → Opening
 
 pub data Mark : Type 0 where
   stands : Piece → Mark
   -- `|`
   bar : Mark
   -- `(?f)`
-  setting : Text → Mark
+  setting : Characters → Mark
   opens : Opening → Mark
   -- `)`
   closes : Mark
@@ -82,7 +82,7 @@ pub data Mark : Type 0 where
 
 -- ---- how they are written
 
-abbrev pub written_amount : Amount → Text
+abbrev pub written_amount : Amount → Characters
 written_amount any = codes "*"
 written_amount some = codes "+"
 written_amount maybe = codes "?"
@@ -90,24 +90,24 @@ written_amount (exactly n) = 123 ∷ (n ++ codes "}")
 written_amount (from n) = 123 ∷ (n ++ codes ",}")
 written_amount (between n m) = 123 ∷ (n ++ 44 ∷ (m ++ codes "}"))
 
-abbrev pub written_escape : Escape → Text
+abbrev pub written_escape : Escape → Characters
 written_escape (short c) = 92 ∷ c ∷ []
 written_escape (fixed c ds) = 92 ∷ c ∷ ds
 written_escape (braced c t) = 92 ∷ c ∷ 123 ∷ (t ++ codes "}")
 
-abbrev pub written_atom : Atom → Text
+abbrev pub written_atom : Atom → Characters
 written_atom (plain c) = c ∷ []
 written_atom (escaped e) = written_escape e
 
-abbrev pub written_atoms : List Atom → Text
+abbrev pub written_atoms : List Atom → Characters
 written_atoms [] = []
 written_atoms (a ∷ xs) = written_atom a ++ written_atoms xs
 
-abbrev pub written_if : Bool → ℕ → Text
+abbrev pub written_if : Bool → ℕ → Characters
 written_if true c = c ∷ []
 written_if false c = []
 
-abbrev pub written_piece : Piece → Text
+abbrev pub written_piece : Piece → Characters
 written_piece (character c) = c ∷ []
 written_piece dot = codes "."
 written_piece caret = codes "^"
@@ -115,13 +115,13 @@ written_piece dollar = codes "$"
 written_piece (escape e) = written_escape e
 written_piece (brackets negated bracket xs) = 91 ∷ (written_if negated 94 ++ (written_if bracket 93 ++ (written_atoms xs ++ codes "]")))
 
-abbrev pub written_opening : Opening → Text
+abbrev pub written_opening : Opening → Characters
 written_opening capturing = codes "("
 written_opening (naming true name) = 40 ∷ 63 ∷ 80 ∷ 60 ∷ (name ++ codes ">")
 written_opening (naming false name) = 40 ∷ 63 ∷ 60 ∷ (name ++ codes ">")
 written_opening (flagging f) = 40 ∷ 63 ∷ (f ++ codes ":")
 
-abbrev pub written : Mark → Text
+abbrev pub written : Mark → Characters
 written (stands p) = written_piece p
 written bar = codes "|"
 written (setting f) = 40 ∷ 63 ∷ (f ++ codes ")")
@@ -138,7 +138,7 @@ is_special c = c == 92 || c == 46 || c == 43 || c == 42 || c == 63 || c == 40 ||
 abbrev pub bounds : Bool → ℕ → Option ℕ → Bounds
 bounds lazy min max = record { min = min; max = max; lazy = lazy }
 
-abbrev pub count : Text → Option ℕ
+abbrev pub count : Characters → Option ℕ
 count = number 10 (2 ^ 32)
 
 abbrev pub bounds_of : Bool → Amount → Option Bounds
@@ -169,14 +169,14 @@ letter_change c on to =
     else None
 
 -- Flags are set up to the `-`, and cleared after it. No flag stands twice, and the `-` isn't last.
-abbrev pub change_of : Bool → Change → Text → Option Change
+abbrev pub change_of : Bool → Change → Characters → Option Change
 change_of on to [] = Some to
 change_of on to (c ∷ f) =
     if c == 45 then ((on && not (is_empty f)) >> change_of false to f)
     else (letter_change c on to >>= λ next. change_of on next f)
 
 -- the flags of a setting: one or more
-abbrev pub flags_of : Text → Option Change
+abbrev pub flags_of : Characters → Option Change
 flags_of [] = None
 flags_of (c ∷ f) = change_of true unchanged (c ∷ f)
 
@@ -187,7 +187,7 @@ begins_name c = is_letter c || c == 95
 abbrev pub goes_on_name : ℕ → Bool
 goes_on_name c = is_letter c || is_digit c || c == 95 || c == 46 || c == 91 || c == 93
 
-abbrev pub is_name : Text → Bool
+abbrev pub is_name : Characters → Bool
 is_name [] = false
 is_name (c ∷ t) = begins_name c && each goes_on_name t
 
@@ -222,18 +222,18 @@ short_says c =
     else is_punctuation c >> Some (says.Character c)
 
 -- the scalar that the digits write
-abbrev pub scalar_says : Text → Option (escapes.Escape)
+abbrev pub scalar_says : Characters → Option (escapes.Escape)
 scalar_says ds = number 16 0x110000 ds >>= λ c. is_scalar c >> Some (says.Character c)
 
 -- `x`, `u` and `U` take two, four and eight digits
-abbrev pub fixed_says : ℕ → Text → Option (escapes.Escape)
+abbrev pub fixed_says : ℕ → Characters → Option (escapes.Escape)
 fixed_says c ds =
     if c == 120 then ((length ds == 2) >> (number 16 256 ds >>= λ b. Some (says.Byte b)))
     else if c == 117 then (length ds == 4) >> scalar_says ds
     else (c == 85 && length ds == 8) >> scalar_says ds
 
 -- the assertion of `\b{name}`
-abbrev pub boundary_says : Text → Option (escapes.Escape)
+abbrev pub boundary_says : Characters → Option (escapes.Escape)
 boundary_says name =
     if same_text name (codes "start") then Some (says.Assertion WordStart)
     else if same_text name (codes "end") then Some (says.Assertion WordEnd)
@@ -269,7 +269,7 @@ members_of [] = Some []
 members_of (a ∷ xs) = member_of a >>= λ m. members_of xs >>= λ ms. Some (m ∷ ms)
 
 -- A list isn't empty, one that isn't negated doesn't begin with `^`, and neither `&&` nor `~~` stands in it.
-abbrev pub is_list : Bool → Bool → Text → Bool
+abbrev pub is_list : Bool → Bool → Characters → Bool
 is_list negated bracket t =
     (bracket || not (is_empty t)) && (negated || bracket || not (is_at 94 t)) && not (has_twice 38 t) && not (has_twice 126 t)
 
@@ -304,24 +304,24 @@ said (repeats o) = bounds_of o.lazy o.amount >>= λ b. Some (Repeats b)
 -- ---- texts of marks
 
 -- a `{` that no digit follows
-abbrev pub is_brace_name : Text → Bool
+abbrev pub is_brace_name : Characters → Bool
 is_brace_name [] = false
 is_brace_name (c ∷ []) = c == 123
 is_brace_name (c ∷ d ∷ t) = c == 123 && not (is_digit d)
 
 -- What follows would belong to the mark: a `?` after `(` or after an operator without one, and a `{` that begins
 -- no count after `\b`.
-abbrev pub takes_more : Mark → Text → Bool
+abbrev pub takes_more : Mark → Characters → Bool
 takes_more (opens capturing) t = is_at 63 t
 takes_more (repeats o) t = not o.lazy && is_at 63 t
 takes_more (stands (escape (short c))) t = c == 98 && is_brace_name t
 takes_more _ t = false
 
 -- the text is the marks, written one after another
-abbrev pub AreMarks : List Mark → Text → Type 0
+abbrev pub AreMarks : List Mark → Characters → Type 0
 AreMarks [] t = t ≡ []
-AreMarks (m ∷ ms) t = (rest : Text) × (t ≡ written m ++ rest) × (takes_more m rest ≡ false) × AreMarks ms rest
+AreMarks (m ∷ ms) t = (rest : Characters) × (t ≡ written m ++ rest) × (takes_more m rest ≡ false) × AreMarks ms rest
 
 -- the text begins with a mark that says k, and u is what follows
-abbrev pub Begins : Text → Said → Text → Type 0
-Begins t k u = (m : Mark) × (said m ≡ Some k) × (t ≡ written m ++ u) × (takes_more m u ≡ false)
+abbrev pub BeginsWithMark : Characters → Said → Characters → Type 0
+BeginsWithMark t k u = (m : Mark) × (said m ≡ Some k) × (t ≡ written m ++ u) × (takes_more m u ≡ false)

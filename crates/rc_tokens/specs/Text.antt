@@ -3,8 +3,8 @@ use Rattle.std.specs.Prelude.{ℕ, ◌+◌, ◌*◌, Bool, true, false, ◌&&◌
 use Rattle.std.specs.Char.{digit_value}
 
 -- characters
-abbrev pub Text : Type 0
-Text = List ℕ
+abbrev pub Characters : Type 0
+Characters = List ℕ
 
 -- one step after another, where each may refuse
 infixl 10 ◌>>=◌
@@ -19,25 +19,25 @@ false >> rest = None
 true >> rest = rest
 
 -- the text begins with this character
-abbrev pub is_at : ℕ → Text → Bool
+abbrev pub is_at : ℕ → Characters → Bool
 is_at d [] = false
 is_at d (c ∷ t) = c == d
 
-abbrev pub is_empty : Text → Bool
+abbrev pub is_empty : Characters → Bool
 is_empty [] = true
 is_empty (c ∷ t) = false
 
-abbrev pub each : (ℕ → Bool) → Text → Bool
+abbrev pub each : (ℕ → Bool) → Characters → Bool
 each test [] = true
 each test (c ∷ t) = test c && each test t
 
-abbrev pub same_text : Text → Text → Bool
+abbrev pub same_text : Characters → Characters → Bool
 same_text [] t = is_empty t
 same_text (c ∷ s) [] = false
 same_text (c ∷ s) (d ∷ t) = c == d && same_text s t
 
 -- the character stands twice side by side
-abbrev pub has_twice : ℕ → Text → Bool
+abbrev pub has_twice : ℕ → Characters → Bool
 has_twice c [] = false
 has_twice c (d ∷ t) = (d == c && is_at c t) || has_twice c t
 
@@ -51,12 +51,12 @@ is_digit c = nat_le 48 c && nat_le c 57
 abbrev pub is_digit_of : ℕ → ℕ → Bool
 is_digit_of radix c = nat_lt (digit_value c) radix
 
-abbrev pub value_from : ℕ → ℕ → Text → ℕ
+abbrev pub value_from : ℕ → ℕ → Characters → ℕ
 value_from radix n [] = n
 value_from radix n (d ∷ ds) = value_from radix (n * radix + digit_value d) ds
 
 -- the number that the digits write: one digit or more, and below the limit
-abbrev pub number : ℕ → ℕ → Text → Option ℕ
+abbrev pub number : ℕ → ℕ → Characters → Option ℕ
 number radix limit [] = None
 number radix limit (d ∷ ds) =
     (each (is_digit_of radix) (d ∷ ds) && nat_lt (value_from radix 0 (d ∷ ds)) limit) >> Some (value_from radix 0 (d ∷ ds))

@@ -34,9 +34,9 @@ abbrev pub Lexes : {A : Type 0} → Option (A × Bor (List ℕ)) → Option (A �
 Lexes r o = MatchOption r (o ≡ None) (λ p. o ≡ Some (p.0, p.1.now))
 
 -- the result is what the definition gives, or memory ran out
-abbrev pub Gives : {A B : Type 0} → Result A Refusal → Option B → (A → B) → Type 0
-Gives r o view = MatchResult r (λ a. o ≡ Some (view a)) (λ e. (e ≡ Memory) ⊎ (o ≡ None))
+abbrev pub IsResultOf : {A B : Type 0} → Result A Refusal → Option B → (A → B) → Type 0
+IsResultOf r o view = MatchResult r (λ a. o ≡ Some (view a)) (λ e. (e ≡ Memory) ⊎ (o ≡ None))
 
 -- the reader found a token that says what the definition gives, or memory ran out
 abbrev pub LexesToken : Result (Token × Bor (List ℕ)) Refusal → Option (said.Said × List ℕ) → Type 0
-LexesToken r o = Gives r o (λ p. (said_of p.0, p.1.now))
+LexesToken r o = IsResultOf r o (λ p. (said_of p.0, p.1.now))

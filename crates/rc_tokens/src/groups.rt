@@ -4,7 +4,7 @@ ghost use Rattle.std.specs.Prelude.{◌≡◌, ◌+◌, ◌<◌, ◌≤◌, ◌-
 ghost use Rattle.rc_tokens.specs.Text.{is_at, is_empty, each};
 ghost use Rattle.rc_tokens.specs.Lexer.{run, after_run, is_before, flag, name_then, flags_then, group, opening};
 ghost use Rattle.rc_tokens.specs.Marks.{unchanged, once, letter_change, change_of, flags_of, begins_name, goes_on_name, is_name};
-ghost use Rattle.rc_tokens.specs.View.{Lexes, Gives, LexesToken};
+ghost use Rattle.rc_tokens.specs.View.{Lexes, IsResultOf, LexesToken};
 
 use crate::refusal::Refusal;
 use crate::text::{after, first, is_digit, is_letter, until};

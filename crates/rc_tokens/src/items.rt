@@ -7,7 +7,7 @@ ghost use Rattle.rc_tokens.specs.Classes.{set_ranges, perl_ranges, code_of, item
 ghost use Rattle.rc_tokens.specs.Laws.{ClassLaw, ListLaw};
 ghost use Rattle.rc_tokens.specs.Members.{MembersLaw};
 ghost use Rattle.rc_tokens.specs.Items.{Taken, is_hyphen, range_end, may_be_itself, ranged, item, more, led_more};
-ghost use Rattle.rc_tokens.specs.View.{Gives};
+ghost use Rattle.rc_tokens.specs.View.{IsResultOf};
 
 use crate::classes::{CodeRange, append, class_of, push};
 use crate::refusal::Refusal;
@@ -116,7 +116,7 @@ fn ranged<'m>(
     rest: &'m [Member],
     ranges: &mut Vec<CodeRange>,
 ) -> Result<(bool, &'m [Member]), Refusal>
-    ensures { Gives result (ranged unicode code rest.now (pairs ranges.old.items)) (λ r. (pairs ranges.new.items, (r.0, r.1.now))) }
+    ensures { IsResultOf result (ranged unicode code rest.now (pairs ranges.old.items)) (λ r. (pairs ranges.new.items, (r.0, r.1.now))) }
 {
     if let Some((end, left)) = range_end(rest) {
         let Some(high) = code_of(unicode, end) else {
@@ -141,7 +141,7 @@ fn item<'m>(
     rest: &'m [Member],
     ranges: &mut Vec<CodeRange>,
 ) -> Result<(bool, &'m [Member]), Refusal>
-    ensures { Gives result (item unicode after member rest.now (pairs ranges.old.items)) (λ r. (pairs ranges.new.items, (r.0, r.1.now))) }
+    ensures { IsResultOf result (item unicode after member rest.now (pairs ranges.old.items)) (λ r. (pairs ranges.new.items, (r.0, r.1.now))) }
 {
     match member {
         Member::Hyphen => {
@@ -180,7 +180,7 @@ fn items(
     members: &[Member],
     ranges: &mut Vec<CodeRange>,
 ) -> Result<(), Refusal>
-    ensures { Gives result (more unicode after members.now (pairs ranges.old.items)) (λ _. pairs ranges.new.items) }
+    ensures { IsResultOf result (more unicode after members.now (pairs ranges.old.items)) (λ _. pairs ranges.new.items) }
 {
     let mut after = after;
     let mut rest = members;
@@ -218,7 +218,7 @@ fn lead<'m>(
 
 /// The ranges of a list, as they are written.
 pub fn list_ranges(alloc: Global, unicode: bool, list: &List) -> Result<Vec<CodeRange>, Refusal>
-    ensures { Gives result (list_ranges unicode list.now.bracket list.now.members.items) (λ v. pairs v.items) }
+    ensures { IsResultOf result (list_ranges unicode list.now.bracket list.now.members.items) (λ v. pairs v.items) }
 {
     let mut ranges = Vec::new(alloc);
     if list.bracket {

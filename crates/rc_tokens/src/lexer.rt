@@ -1,11 +1,11 @@
 //! The first mark of a text.
 
 ghost use Rattle.std.specs.Prelude.{◌≡◌, ◌+◌, ◌<◌, ◌≤◌, ◌-◌, ◌∷◌, ◌++◌, [], None, Some, true, false, not, ◌&&◌, ◌||◌, ◌==◌, ◌↔◌, ℕ, List, drop, take, length, MatchResult};
-ghost use Rattle.rc_tokens.specs.Text.{Text, is_at, is_digit};
+ghost use Rattle.rc_tokens.specs.Text.{Characters, is_at, is_digit};
 ghost use Rattle.rc_tokens.specs.Said.{Said, Repeats};
 ghost use Rattle.rc_tokens.specs.Lexer.{run, after_run, past, repeats_then, second, counts, piece_then, lex_escape, lex_at, lex};
-ghost use Rattle.rc_tokens.specs.Marks.{bounds, count, Begins};
-ghost use Rattle.rc_tokens.specs.View.{said_of, Lexes, Gives, LexesToken};
+ghost use Rattle.rc_tokens.specs.Marks.{bounds, count, BeginsWithMark};
+ghost use Rattle.rc_tokens.specs.View.{said_of, Lexes, IsResultOf, LexesToken};
 
 use crate::escapes::escape;
 use crate::groups::opening;
@@ -124,5 +124,5 @@ pub fn first_token(alloc: Global, text: &[char]) -> Result<(Token, &[char]), Ref
 
 /// What the reader of marks gives is the mark with which the text begins, and none where none does.
 pub fn gives_the_mark()
-    ensures { (t : Text) (k : Said) (u : Text) → (lex t ≡ Some (k, u)) ↔ Begins t k u }
+    ensures { (t : Characters) (k : Said) (u : Characters) → (lex t ≡ Some (k, u)) ↔ BeginsWithMark t k u }
 {}

@@ -4,7 +4,7 @@ ghost use Rattle.std.specs.Prelude.{◌≡◌, ◌+◌, ◌<◌, ◌≤◌, ◌-
 ghost use Rattle.rc_tokens.specs.Text.{is_at, has_twice};
 ghost use Rattle.rc_tokens.specs.Lexer.{inner, after_inner, member_at, lex_member, lex_members, past, list_then, list_inside, list};
 ghost use Rattle.rc_tokens.specs.Marks.{is_list, plain_member, escaped_member};
-ghost use Rattle.rc_tokens.specs.View.{Lexes, Gives, LexesToken};
+ghost use Rattle.rc_tokens.specs.View.{Lexes, IsResultOf, LexesToken};
 
 use crate::escapes::escape;
 use crate::refusal::Refusal;
@@ -105,7 +105,7 @@ fn is_list(negated: bool, bracket: bool, text: &[char]) -> bool
 /// All members of a list's text.
 #[tactic(auto, using(crate::proofs::MemberLemmas::members_start, crate::proofs::MemberLemmas::members_end, crate::proofs::MemberLemmas::members_stuck, crate::proofs::MemberLemmas::members_step, crate::proofs::MemberLemmas::member_shorter))]
 fn members(alloc: Global, text: &[char]) -> Result<Vec<Member>, Refusal>
-    ensures { Gives result (lex_members (length text.now) text.now) (λ v. v.items) }
+    ensures { IsResultOf result (lex_members (length text.now) text.now) (λ v. v.items) }
 {
     let mut all = Vec::new(alloc);
     let mut rest = text;

@@ -10,13 +10,13 @@ use Rattle.rc_program.specs.Places.{place_of, places_of}
 use Rattle.rc_program.specs.declared.place.Place as code
 
 -- the ways lead to one of so many places, and the pattern is one of a `PatternID`
-pub record IsSound (count : ℕ) (q : code.Place) : Type 0 where
+pub record LeadsInside (count : ℕ) (q : code.Place) : Type 0 where
   pub closed : All (λ n. n < count) (targets (place_of q))
   pub numbered : (p : ℕ) → place_of q ≡ accept p → p ≤ 2147483646
 
 -- the first so many are sound
 abbrev pub AreSound : ℕ → List code.Place → ℕ → Type 0
-AreSound count places i = (k : ℕ) (d : code.Place) → k < i → IsSound count (slice_index_or places k d)
+AreSound count places i = (k : ℕ) (d : code.Place) → k < i → LeadsInside count (slice_index_or places k d)
 
 same_item : (places : List code.Place) (i : ℕ) (d e : code.Place) → i < length places → slice_index_or places i d ≡ slice_index_or places i e
 same_item [] i d e h = absurd (omega arith)
@@ -25,10 +25,10 @@ same_item (q ∷ places) (suc i) d e h = same_item places i d e (omega (arith, h
 
 -- one more place was found sound
 pub one_more_sound : (count : ℕ) (places : List code.Place) (i : ℕ) (q : code.Place) → i < length places → AreSound count places i →
-    q ≡ slice_index_or places i q → IsSound count q → AreSound count places (i + 1)
+    q ≡ slice_index_or places i q → LeadsInside count q → AreSound count places (i + 1)
 one_more_sound count places i q l before e sound k d h =
-    ⊎_elim (λ s. subst (λ j. IsSound count (slice_index_or places j d)) (sym s)
-    (subst (λ x. IsSound count x) (e ∙ same_item places i q d l) sound)) (λ ne. before k d (omega (arith, ne, h))) (cases_eq k i)
+    ⊎_elim (λ s. subst (λ j. LeadsInside count (slice_index_or places j d)) (sym s)
+    (subst (λ x. LeadsInside count x) (e ∙ same_item places i q d l) sound)) (λ ne. before k d (omega (arith, ne, h))) (cases_eq k i)
 
 no_accept : (p : ℕ) → choice [] ≢ accept p
 no_accept p e = cc

@@ -1,6 +1,6 @@
 use Rattle.std.proofs.Common.{◌<◌, ◌≤◌, length, ◌-◌}
 use Rattle.rc_text.specs.Text.{Keeps}
-use Rattle.rc_literal.specs.Tables.{needles_in, numbered, Begins}
+use Rattle.rc_literal.specs.Tables.{needles_in, numbered, BeginsWithByte}
 use Rattle.rc_literal.proofs.StandLemmas.{NoneBelow}
 use Rattle.rc_literal.proofs.literal.needle_at.Given as goal
 
@@ -8,7 +8,7 @@ abbrev pub invariant-loop-number : goal.invariant-loop-number
 invariant-loop-number g l = record {
   keeps : Keeps l.fn.input l.input;
   high : l.number ≤ length (needles_in l.table.needles.items);
-  begins : l.number < length (needles_in l.table.needles.items) → Begins (numbered (needles_in l.table.needles.items) l.number) l.byte;
+  begins : l.number < length (needles_in l.table.needles.items) → BeginsWithByte (numbered (needles_in l.table.needles.items) l.number) l.byte;
   none_below : NoneBelow (needles_in l.table.needles.items) l.fn.input.content l.end l.at l.number;
 }
 

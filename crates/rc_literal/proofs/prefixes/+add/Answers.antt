@@ -1,5 +1,5 @@
 use Rattle.std.proofs.Common.{◌∙◌, ap, subst, sym, arith, IfOk}
-use Rattle.rc_literal.specs.Extraction.{Adds, first_bytes, grown}
+use Rattle.rc_literal.specs.Extraction.{Extends, first_bytes, grown}
 use Rattle.rc_literal.specs.Tables.{needles_in}
 use Rattle.std.proofs.lemmas.Bool.Decides.{nat_tests}
 use Rattle.rc_pattern.specs.Meaning.{meaning}
@@ -8,7 +8,7 @@ use Rattle.rc_literal.proofs.prefixes.+add.Goals as goal
 
 pub add-returns-in-Some : goal.add-returns-in-Some
 add-returns-in-Some t c =
-    subst (λ found. IfOk c.add-in-Some.result (λ done. Adds done (needles_in c.args.list.now.items) (needles_in c.add-in-Some.new.list.items) found))
+    subst (λ found. IfOk c.add-in-Some.result (λ done. Extends done (needles_in c.args.list.now.items) (needles_in c.add-in-Some.new.list.items) found))
     (concat_first c.args.hir.now c.kind.result.now c.in-Concat.subs c.kind.ensures.value c.in-Concat.is c.deref-in-Concat-2.result.now
     c.deref-in-Concat.result.now c.still_count.result c.in-Some.sub.now _ c.deref-in-Concat-2.ensures.value c.deref-in-Concat.ensures.value
     c.still_count.ensures (let e = c.in-Some.ensures.lookup.0 in grind (arith, nat_tests)) c.in-Some.ensures.lookup.1)

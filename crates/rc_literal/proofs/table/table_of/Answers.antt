@@ -1,6 +1,6 @@
 use Rattle.std.proofs.Common.{arith, ◌≡◌, ◌+◌, ◌-◌, ◌<◌, length, length-set, sym, ap, subst, ◌∙◌, set, slice_get, slice_index}
 use Rattle.std.proofs.lemmas.List.{get_or_read}
-use Rattle.rc_literal.specs.Tables.{needles_in, numbered, Begins, AreHeads, AreNexts}
+use Rattle.rc_literal.specs.Tables.{needles_in, numbered, BeginsWithByte, AreHeads, AreNexts}
 use Rattle.rc_literal.proofs.StandLemmas.{numbered_in, needle_count}
 use Rattle.rc_literal.proofs.ScanLemmas.{begins_itself}
 use Rattle.rc_literal.proofs.TableLemmas.{one_more_head, one_more_next}
@@ -31,7 +31,7 @@ loop-number-preserved c =
     let bytes = c.as_slice.result.now in
     let a = c.first_of-byte.result in
     let small : a < 256 = c.first_of-byte.ensures.small in
-    let begins : Begins (numbered needles n) a =
+    let begins : BeginsWithByte (numbered needles n) a =
     rw c.first_of-byte.ensures.value (ap (λ xs. slice_get xs 0) (sym w) ∙ begins_itself bytes (let some : 0 < length (numbered needles n) = c.requires n m in let long = ap length w in omega (arith, long, some))) in
     let next = c.index-in-loop-number.result.now in
     let is : next ≡ slice_index heads a = get_or_read heads a next (omega (arith, c.loop-number.invariant.head_count, small)) c.index-in-loop-number.ensures 0 in

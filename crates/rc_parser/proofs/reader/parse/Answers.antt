@@ -1,7 +1,7 @@
 use Rattle.std.proofs.Common.{◌≡◌, ◌∙◌, ap, chars, subst, ℕ}
 use Rattle.std.proofs.lemmas.Str.{chars-nil}
 use Rattle.rc_parser.specs.Settings.{settings_of}
-use Rattle.rc_parser.specs.Pieces.{Part}
+use Rattle.rc_parser.specs.Pieces.{Subpattern}
 use Rattle.rc_parser.specs.Machine.{Has, fresh}
 use Rattle.rc_parser.specs.View.{part}
 use Rattle.rc_parser.specs.Outcome.{OnFault}
@@ -38,8 +38,8 @@ pub returns-clause-reads : goal.returns-clause-reads
 returns-clause-reads c = (
   c.byte_before-at.ensures,
   nothing_read (settings_of c.args.config.now) (chars c.args.text.now)
-      (subst (λ t. (p : Part) → Has (settings_of c.args.config.now) (fresh (settings_of c.args.config.now)) t p → ⊥)
+      (subst (λ t. (p : Subpattern) → Has (settings_of c.args.config.now) (fresh (settings_of c.args.config.now)) t p → ⊥)
       (c.deref.ensures.value ∙ c.in-Ok.ensures)
-      (of_fault c.in-Err-Syntax.field-0 c.in-Err-Syntax.left ((p : Part) → Has (settings_of c.args.config.now) (fresh (settings_of c.args.config.now)) c.deref.result.now p → ⊥)
+      (of_fault c.in-Err-Syntax.field-0 c.in-Err-Syntax.left ((p : Subpattern) → Has (settings_of c.args.config.now) (fresh (settings_of c.args.config.now)) c.deref.result.now p → ⊥)
       c.in-Err-Syntax.field-0-is c.in-Err-Syntax.ensures.reads)),
 )

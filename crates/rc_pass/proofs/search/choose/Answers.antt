@@ -6,7 +6,7 @@ use Rattle.rc_program.specs.Sought.{anchoring_of}
 use Rattle.rc_program.specs.Programs.{search_of}
 use Rattle.rc_program.proofs.AnswerLemmas.{last_start_of}
 use Rattle.rc_pass.specs.Moves.{seen}
-use Rattle.rc_pass.specs.Passing.{Gives, best_of}
+use Rattle.rc_pass.specs.Passing.{GivesTrace, best_of}
 use Rattle.rc_pass.proofs.KeptLemmas.{kept_seen}
 use Rattle.rc_pass.proofs.SearchLemmas.{none_gives, some_gives, last_found, allowed_free, allowed_boundary, not_allowed, passed_on, best_chosen, past_chosen, none_chosen, outside_chosen}
 use Rattle.rc_pass.proofs.search.choose.Given.{Over}
@@ -30,10 +30,10 @@ last_there g c =
     (omega (arith, c.if-lo-hi.false, c.bounds-lo.ensures.low, c.bounds-lo.ensures.high))
 
 gives : (g : Over) (c : After-pass g) →
-    Gives (seen c.args.program.now c.args.input.now) c.starts.scratch.next.threads.width c.starts.from c.starts_of-pattern.result.1
+    GivesTrace (seen c.args.program.now c.args.input.now) c.starts.scratch.next.threads.width c.starts.from c.starts_of-pattern.result.1
     (best_of c.pass.result c.pass.new.scratch.found.items)
 gives g c =
-    subst (λ s. Gives s c.starts.scratch.next.threads.width c.starts.from c.starts_of-pattern.result.1 (best_of c.pass.result c.pass.new.scratch.found.items))
+    subst (λ s. GivesTrace s c.starts.scratch.next.threads.width c.starts.from c.starts_of-pattern.result.1 (best_of c.pass.result c.pass.new.scratch.found.items))
     (kept_seen c.args.program.now c.args.input.now c.starts.input c.starts.invariant.keeps) c.pass.ensures.gives
 
 pub returns-then-lo-hi-clause-chosen : goal.returns-then-lo-hi-clause-chosen
@@ -47,14 +47,14 @@ returns-in_default-clause-chosen g c =
     none_chosen s c.starts.scratch.next.threads.width c.starts.from c.starts_of-pattern.result.1 c.starts.invariant.passed
     (last_there g (goal.at.returns-in_default-clause-chosen g c).After-pass)
     (none_gives s c.starts.scratch.next.threads.width c.starts.from c.starts_of-pattern.result.1 c.pass.new.scratch.found.items
-    (subst (λ r. Gives s c.starts.scratch.next.threads.width c.starts.from c.starts_of-pattern.result.1 (best_of r c.pass.new.scratch.found.items)) c.in_default.is
+    (subst (λ r. GivesTrace s c.starts.scratch.next.threads.width c.starts.from c.starts_of-pattern.result.1 (best_of r c.pass.new.scratch.found.items)) c.in_default.is
     (gives g (goal.at.returns-in_default-clause-chosen g c).After-pass)))
 
 pub returns-then-not-program-clause-chosen : goal.returns-then-not-program-clause-chosen
 returns-then-not-program-clause-chosen g c =
     let s : Search = search_of c.args.program.now c.args.input.now in
     let b = some_gives s c.starts.scratch.next.threads.width c.starts.from c.starts_of-pattern.result.1 c.in-Some.end c.pass.new.scratch.found.items
-    (subst (λ r. Gives s c.starts.scratch.next.threads.width c.starts.from c.starts_of-pattern.result.1 (best_of r c.pass.new.scratch.found.items)) c.in-Some.is
+    (subst (λ r. GivesTrace s c.starts.scratch.next.threads.width c.starts.from c.starts_of-pattern.result.1 (best_of r c.pass.new.scratch.found.items)) c.in-Some.is
     (gives g (goal.at.returns-then-not-program-clause-chosen g c).After-pass)) in
     best_chosen s c.starts.scratch.next.threads.width c.starts.from c.starts_of-pattern.result.1 c.starts.invariant.passed
     (last_there g (goal.at.returns-then-not-program-clause-chosen g c).After-pass) c.in-Some.end c.pass.new.scratch.found.items b.0
@@ -65,7 +65,7 @@ pub returns-then-is_boundary_at-clause-chosen : goal.returns-then-is_boundary_at
 returns-then-is_boundary_at-clause-chosen g c =
     let s : Search = search_of c.args.program.now c.args.input.now in
     let b = some_gives s c.starts.scratch.next.threads.width c.starts.from c.starts_of-pattern.result.1 c.in-Some.end c.pass.new.scratch.found.items
-    (subst (λ r. Gives s c.starts.scratch.next.threads.width c.starts.from c.starts_of-pattern.result.1 (best_of r c.pass.new.scratch.found.items)) c.in-Some.is
+    (subst (λ r. GivesTrace s c.starts.scratch.next.threads.width c.starts.from c.starts_of-pattern.result.1 (best_of r c.pass.new.scratch.found.items)) c.in-Some.is
     (gives g (goal.at.returns-then-is_boundary_at-clause-chosen g c).After-pass)) in
     let content = c.in-Some.ensures.keeps.content ∙ c.starts.invariant.keeps.content in
     best_chosen s c.starts.scratch.next.threads.width c.starts.from c.starts_of-pattern.result.1 c.starts.invariant.passed
@@ -78,7 +78,7 @@ pub overflow_add-from : goal.overflow_add-from
 overflow_add-from g c =
     let s : Search = search_of c.args.program.now c.args.input.now in
     let b = some_gives s c.starts.scratch.next.threads.width c.starts.from c.starts_of-pattern.result.1 c.in-Some.end c.pass.new.scratch.found.items
-    (subst (λ r. Gives s c.starts.scratch.next.threads.width c.starts.from c.starts_of-pattern.result.1 (best_of r c.pass.new.scratch.found.items)) c.in-Some.is
+    (subst (λ r. GivesTrace s c.starts.scratch.next.threads.width c.starts.from c.starts_of-pattern.result.1 (best_of r c.pass.new.scratch.found.items)) c.in-Some.is
     (gives g (goal.at.overflow_add-from g c).After-pass)) in
     omega (arith, b.1.high, c.starts.invariant.low.1, c.bounds-lo.ensures.small)
 
@@ -86,7 +86,7 @@ pub starts-smaller : goal.starts-smaller
 starts-smaller g c =
     let s : Search = search_of c.args.program.now c.args.input.now in
     let b = some_gives s c.starts.scratch.next.threads.width c.starts.from c.starts_of-pattern.result.1 c.in-Some.end c.pass.new.scratch.found.items
-    (subst (λ r. Gives s c.starts.scratch.next.threads.width c.starts.from c.starts_of-pattern.result.1 (best_of r c.pass.new.scratch.found.items)) c.in-Some.is
+    (subst (λ r. GivesTrace s c.starts.scratch.next.threads.width c.starts.from c.starts_of-pattern.result.1 (best_of r c.pass.new.scratch.found.items)) c.in-Some.is
     (gives g (goal.at.starts-smaller g c).After-pass)) in
     omega (arith, b.1.low, b.1.high, c.starts-test.true)
 
@@ -94,7 +94,7 @@ pub starts-preserved : goal.starts-preserved
 starts-preserved g c =
     let s : Search = search_of c.args.program.now c.args.input.now in
     let b = some_gives s c.starts.scratch.next.threads.width c.starts.from c.starts_of-pattern.result.1 c.in-Some.end c.pass.new.scratch.found.items
-    (subst (λ r. Gives s c.starts.scratch.next.threads.width c.starts.from c.starts_of-pattern.result.1 (best_of r c.pass.new.scratch.found.items)) c.in-Some.is
+    (subst (λ r. GivesTrace s c.starts.scratch.next.threads.width c.starts.from c.starts_of-pattern.result.1 (best_of r c.pass.new.scratch.found.items)) c.in-Some.is
     (gives g (goal.at.starts-preserved g c).After-pass)) in
     let content = c.in-Some.ensures.keeps.content ∙ c.starts.invariant.keeps.content in
     record {

@@ -2,7 +2,7 @@ use Rattle.std.proofs.Common.{arith, ap, inl, inr, ◌+◌, ◌-◌, ◌<◌, �
 use Rattle.std.proofs.lemmas.Bool.{cases_lt}
 use Rattle.rc_literal.specs.Tables.{Agrees}
 use Rattle.rc_literal.proofs.ScanLemmas.{no_whole, no_tail, tail_length}
-use Rattle.rc_literal.proofs.look.rest_candidate.Goals as goal
+use Rattle.rc_literal.proofs.candidates.rest_candidate.Goals as goal
 
 pub returns-in-Some-clause-passed : goal.returns-in-Some-clause-passed
 returns-in-Some-clause-passed c k l agrees =

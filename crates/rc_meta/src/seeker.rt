@@ -14,7 +14,7 @@ use std::alloc::{AllocError, Global};
 
 /// A regex with a cache for its searches, where the last match ended, and whether none comes any more.
 #[derive(Drop)]
-pub(crate) struct Finder<'r> {
+pub(crate) struct Seeker<'r> {
     pub(crate) regex: &'r Regex,
     pub(crate) cache: Cache,
     pub(crate) last: Option<usize>,
@@ -24,13 +24,13 @@ pub(crate) struct Finder<'r> {
 
 /// The same, with a cache for searches with all groups, and what gives the memory of captures.
 #[derive(Drop)]
-pub(crate) struct GroupFinder<'r> {
-    pub(crate) finder: Finder<'r>,
+pub(crate) struct GroupSeeker<'r> {
+    pub(crate) seeker: Seeker<'r>,
     pub(crate) alloc: Global,
-    ghost roomy: { IsEngineCache finder.regex.now.built.engine (slot_len (names_of finder.regex.now.built.info)) finder.cache },
+    ghost roomy: { IsEngineCache seeker.regex.now.built.engine (slot_len (names_of seeker.regex.now.built.info)) seeker.cache },
 }
 
-impl<'r> Finder<'r> {
+impl<'r> Seeker<'r> {
     ghost use Rattle.std.specs.Prelude.{◌≡◌, IfErr, IfNone, IfOk, IsTrue, MatchOption};
     ghost use Rattle.rc_engine.specs.Engine.{IsSameCache};
     ghost use Rattle.rc_engine.specs.Moved.{IsMoved};
@@ -88,7 +88,7 @@ impl<'r> Finder<'r> {
     }
 }
 
-impl<'r> GroupFinder<'r> {
+impl<'r> GroupSeeker<'r> {
     ghost use Rattle.std.specs.Prelude.{◌≡◌, IfErr, IsTrue, MatchOption};
     ghost use Rattle.rc_engine.specs.Moved.{IsMoved};
     ghost use Rattle.rc_meta.specs.Left.{GivesCaptures};
@@ -98,11 +98,11 @@ impl<'r> GroupFinder<'r> {
         &mut self,
         input: &mut Input<C>,
     ) -> Option<Result<Captures, AllocError>>
-        ensures steps { GivesCaptures self.old.finder input.old result self.new.finder input.new }
+        ensures steps { GivesCaptures self.old.seeker input.old result self.new.seeker input.new }
         ensures moves { IsMoved input.old input.new }
-        ensures regex { self.new.finder.regex.now ≡ self.old.finder.regex.now }
-        ensures over { MatchOption result (IsTrue self.new.finder.is_done) (λ item. IfErr item (λ _. IsTrue self.new.finder.is_done)) }
+        ensures regex { self.new.seeker.regex.now ≡ self.old.seeker.regex.now }
+        ensures over { MatchOption result (IsTrue self.new.seeker.is_done) (λ item. IfErr item (λ _. IsTrue self.new.seeker.is_done)) }
     {
-        self.finder.next_captures(self.alloc, input)
+        self.seeker.next_captures(self.alloc, input)
     }
 }

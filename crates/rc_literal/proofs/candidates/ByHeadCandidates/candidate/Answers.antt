@@ -4,7 +4,7 @@ use Rattle.rc_literal.specs.Tables.{needles_in}
 use Rattle.rc_literal.specs.Scans.{AreHeadsOf}
 use Rattle.rc_literal.proofs.ScanLemmas.{ruled_out_before, ruled_out_by_head}
 use Rattle.rc_literal.proofs.StandLemmas.{needle_count}
-use Rattle.rc_literal.proofs.look.ByHeadLook.candidate.Goals as goal
+use Rattle.rc_literal.proofs.candidates.ByHeadCandidates.candidate.Goals as goal
 
 pub returns-in-One-clause-passed : goal.returns-in-One-clause-passed
 returns-in-One-clause-passed c k l =

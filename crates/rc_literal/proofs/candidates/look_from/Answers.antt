@@ -1,6 +1,6 @@
 use Rattle.std.proofs.Common.{arith, ◌≡◌, ◌+◌, length, slice_range}
 use Rattle.rc_literal.proofs.FindLemmas.{more_placed, placed_on, keeps_on}
-use Rattle.rc_literal.proofs.look.look_from.Goals as goal
+use Rattle.rc_literal.proofs.candidates.look_from.Goals as goal
 
 pub returns-then-passed-len-clause-passed : goal.returns-then-passed-len-clause-passed
 returns-then-passed-len-clause-passed g c =
@@ -9,7 +9,7 @@ returns-then-passed-len-clause-passed g c =
     let piece = c.piece_from-piece.result.now in
     let same : c.loop-at.input.content ≡ content = c.loop-at.invariant.keeps.content in
     let is : piece ≡ slice_range content c.loop-at.at (c.loop-at.at + length piece) = rw (← same) c.piece_from-piece.ensures.bytes in
-    more_placed (g.L.Look.needles look) content piece c.args.end (g.L.Look.offset look) c.args.from c.loop-at.at
+    more_placed (g.L.Candidates.needles look) content piece c.args.end (g.L.Candidates.offset look) c.args.from c.loop-at.at
     c.candidate-passed.result c.loop-at.invariant.passed is c.candidate-passed.ensures.passed
 
 pub loop-at-preserved : goal.loop-at-preserved
@@ -24,9 +24,9 @@ loop-at-preserved g c =
     record {
       keeps = keeps_on c.args.input.now here c.chunks_passed-at.new.input keeps c.chunks_passed-at.ensures.keeps;
       from = omega (arith, c.loop-at.invariant.from, c.chunks_passed-at.ensures.low);
-      passed = placed_on (g.L.Look.needles look) content here.content c.args.end (g.L.Look.offset look) c.args.from
+      passed = placed_on (g.L.Candidates.needles look) content here.content c.args.end (g.L.Candidates.offset look) c.args.from
           (c.loop-at.at + c.candidate-passed.result) c.chunks_passed-at.result keeps.content
-          (more_placed (g.L.Look.needles look) content piece c.args.end (g.L.Look.offset look) c.args.from c.loop-at.at
+          (more_placed (g.L.Candidates.needles look) content piece c.args.end (g.L.Candidates.offset look) c.args.from c.loop-at.at
           c.candidate-passed.result c.loop-at.invariant.passed is c.candidate-passed.ensures.passed)
           c.chunks_passed-at.ensures.passed;
     }

@@ -23,7 +23,7 @@ const LONG_PIECE: usize = 8192;
 const LONG_REST: usize = 32;
 
 /// A way to look for needles in a piece of a chunk.
-trait Look {
+trait Candidates {
     /// The needles.
     ghost needles: { Self → List (List ℕ) };
 
@@ -53,7 +53,7 @@ struct ByRest<'a> {
     ghost is_second: { second ≡ slice_index rest.now 1 },
 }
 
-impl Look for ByRest<'_> {
+impl Candidates for ByRest<'_> {
     ghost needles = { λ s. needles_in s.searcher.now.table.needles.items };
 
     ghost offset = { λ s. s.searcher.now.offset };
@@ -82,7 +82,7 @@ struct ByHead<'a> {
     ghost are: { AreHeadsOf (needles_in searcher.now.table.needles.items) heads } by { AreHeadsOf-is_fact (needles_in searcher.now.table.needles.items) heads },
 }
 
-impl Look for ByHead<'_> {
+impl Candidates for ByHead<'_> {
     ghost needles = { λ s. needles_in s.searcher.now.table.needles.items };
 
     ghost offset = { λ s. s.searcher.now.offset };
@@ -147,7 +147,12 @@ fn head_candidate(table: &Table, piece: &[u8]) -> usize
 /// The first place from one on to which a needle may belong that starts the offset before it. Where
 /// there is none below `end`, it is at least `end`.
 #[inline(always)]
-fn look_from<C: Cursor, L: Look>(input: &mut Input<C>, look: &L, from: usize, end: usize) -> usize
+fn look_from<C: Cursor, L: Candidates>(
+    input: &mut Input<C>,
+    look: &L,
+    from: usize,
+    end: usize,
+) -> usize
     requires inside { end ≤ length input.old.content }
     ensures keeps { Keeps input.old input.new }
     ensures low { from ≤ result }
@@ -171,7 +176,7 @@ fn look_from<C: Cursor, L: Look>(input: &mut Input<C>, look: &L, from: usize, en
 /// Where the chunks end that follow one another from `from` on and are passed over at once, at or
 /// below `end`.
 #[inline(always)]
-fn chunks_passed<C: Cursor, L: Look>(
+fn chunks_passed<C: Cursor, L: Candidates>(
     input: &mut Input<C>,
     look: &L,
     from: usize,

@@ -1,7 +1,7 @@
 use Rattle.std.proofs.Common.{subst}
 use Rattle.rc_literal.specs.Tables.{Agrees, needles_in}
 use Rattle.rc_literal.proofs.ScanLemmas.{ruled_out_by_part}
-use Rattle.rc_literal.proofs.look.ByRestLook.candidate.Goals as goal
+use Rattle.rc_literal.proofs.candidates.ByRestCandidates.candidate.Goals as goal
 
 pub returns-then-is_between-clause-passed : goal.returns-then-is_between-clause-passed
 returns-then-is_between-clause-passed c k l =

@@ -7,7 +7,7 @@ use Rattle.rc_meta.proofs.Going.{none_left, no_walks, next_left, some_left, same
 use Rattle.rc_program.specs.Kinds.{answer_by}
 use Rattle.rc_program.specs.Sought.{search_for}
 use Rattle.rc_text.specs.declared.types.MatchKind.TheVariants.{All as all_matches}
-use Rattle.rc_meta.proofs.finder.Finder.next_captures.Goals as goal
+use Rattle.rc_meta.proofs.seeker.Seeker.next_captures.Goals as goal
 
 pub returns-in_default-clause-steps : goal.returns-in_default-clause-steps
 returns-in_default-clause-steps g c =

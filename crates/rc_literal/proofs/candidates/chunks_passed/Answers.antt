@@ -1,6 +1,6 @@
 use Rattle.std.proofs.Common.{arith, refl, ◌≡◌, ◌+◌, length, slice_range}
 use Rattle.rc_literal.proofs.FindLemmas.{more_placed, keeps_on}
-use Rattle.rc_literal.proofs.look.chunks_passed.Goals as goal
+use Rattle.rc_literal.proofs.candidates.chunks_passed.Goals as goal
 
 pub loop-input-preserved : goal.loop-input-preserved
 loop-input-preserved g c =
@@ -14,6 +14,6 @@ loop-input-preserved g c =
       keeps = keeps_on c.args.input.now c.loop-input.input c.takes_next.new.input c.loop-input.invariant.keeps c.takes_next.ensures.keeps;
       from = omega (arith, c.loop-input.invariant.from);
       passed = rw (c.chunk-in-loop-input.ensures.value, ← c.chunk.ensures.value)
-          (more_placed (g.L.Look.needles look) content chunk c.args.end (g.L.Look.offset look) c.args.from c.loop-input.at
+          (more_placed (g.L.Candidates.needles look) content chunk c.args.end (g.L.Candidates.offset look) c.args.from c.loop-input.at
           (length chunk) c.loop-input.invariant.passed is (c.if-passes.ensures refl));
     }

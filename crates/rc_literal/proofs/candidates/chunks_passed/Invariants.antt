@@ -1,13 +1,13 @@
 use Rattle.std.proofs.Common.{◌-◌, ◌≤◌}
 use Rattle.rc_text.specs.Text.{Keeps}
 use Rattle.rc_literal.proofs.FindLemmas.{NonePlaced}
-use Rattle.rc_literal.proofs.look.chunks_passed.Given as goal
+use Rattle.rc_literal.proofs.candidates.chunks_passed.Given as goal
 
 abbrev pub invariant-loop-input : goal.invariant-loop-input
 invariant-loop-input g l = record {
   keeps : Keeps l.fn.input l.input;
   from : l.from ≤ l.at;
-  passed : NonePlaced (g.L.Look.needles l.look) (g.L.Look.offset l.look) l.fn.input.content l.end l.from l.at;
+  passed : NonePlaced (g.L.Candidates.needles l.look) (g.L.Candidates.offset l.look) l.fn.input.content l.end l.from l.at;
 }
 
 abbrev pub decreases-loop-input : goal.decreases-loop-input

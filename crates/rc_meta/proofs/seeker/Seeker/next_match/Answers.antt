@@ -1,7 +1,7 @@
 use Rattle.std.proofs.Common.{◌∙◌, refl, rules, sym}
 use Rattle.rc_engine.specs.Moved.{IsMoved}
 use Rattle.rc_meta.proofs.Going.{none_left, next_left}
-use Rattle.rc_meta.proofs.finder.Finder.next_match.Goals as goal
+use Rattle.rc_meta.proofs.seeker.Seeker.next_match.Goals as goal
 
 pub returns-in_default-clause-steps : goal.returns-in_default-clause-steps
 returns-in_default-clause-steps g c =
