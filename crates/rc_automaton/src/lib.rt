@@ -1,0 +1,2 @@
+//! Searches by states: what a table or a cache of states is made of, and what its runs over a text tell.
+#![tactic(auto)]
