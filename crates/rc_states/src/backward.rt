@@ -7,7 +7,7 @@ ghost use Rattle.rc_states.specs.Steps.{HasPlace, AreBelow};
 ghost use Rattle.rc_states.specs.States.{Setting};
 ghost use Rattle.rc_states.specs.Machine.{add_all};
 ghost use Rattle.rc_states.specs.Backward.{IsPrior, IsLast, LeadsBy, still_out, ReadsTo, IsFirstRoot};
-ghost use Rattle.rc_states.specs.Reversed.{passes, reads_over, sources, into_at, range_edges, branch_edges, edges_from, IsReversed};
+ghost use Rattle.rc_states.specs.Reversed.{passes, reads_over, sources, into_at, range_edges, branch_edges, edges_from, IsReversed, AreEdges};
 ghost use Rattle.rc_states.specs.declared.place.ByteWay.{ByteWay};
 ghost use Rattle.rc_pattern.specs.Meaning.{byte_range};
 
@@ -124,7 +124,8 @@ impl Reversed {
     /// The edges of a program, by the places to which they lead. An `Err` is want of memory.
     pub fn new(alloc: Global, places: &[BytePlace]) -> Result<Reversed, AllocError>
         requires closed { IsClosed (places_of places.now) }
-        ensures { IfOk result (λ r. IsReversed (places_of places.now) r) }
+        ensures reversed { IfOk result (λ r. IsReversed (places_of places.now) r) }
+        ensures edges { IfOk result (λ r. AreEdges (places_of places.now) r) }
     {
         let mut reversed = Reversed::empty(alloc, places.len())?;
         for i in 0..places.len() {
