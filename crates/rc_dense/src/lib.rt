@@ -1,0 +1,4 @@
+//! Tables of all the states that a search can reach.
+#![tactic(auto)]
+
+pub mod table;

@@ -1,0 +1,33 @@
+//! A table of states.
+ghost use Rattle.std.specs.Prelude.{◌≡◌, ◌<◌, ◌≤◌, length, All};
+ghost use Rattle.rc_dense.specs.Cells.{IsNamed};
+
+/// A table of states, in one direction. Each state has a row of cells, one for each class of bytes. A row is named by the index of its first
+/// cell, and a cell names the row to which a byte leads; where that row needs a look, `MET` or `DEAD` or both are added to its name.
+#[derive(Drop)]
+pub struct Table {
+    /// The class of each byte.
+    pub classes: Vec<u8>,
+    /// How many classes there are: so many cells has a row.
+    pub width: usize,
+    /// The rows, one behind another. Each cell names a row, or is `QUIT`.
+    pub cells: Vec<usize>,
+    /// For each row what is met at the end of what a search sees: 0 for nothing, else one more than that.
+    pub ends: Vec<usize>,
+    /// For each row what was met on the way to it, in the same way.
+    pub tells: Vec<usize>,
+    /// The rows in which searches begin: for each way of anchoring, the class of the byte beside and the end of what is seen.
+    pub starts: Vec<usize>,
+    ghost classed: { (length classes.items ≡ 256) × All (λ c. c < width) classes.items },
+    ghost inside: { All (IsNamed width (length cells.items)) cells.items × All (IsNamed width (length cells.items)) starts.items },
+    ghost small: { length cells.items ≤ 4611686018427387904 },
+}
+
+/// Added to the name of a row where something was met on the way to it.
+pub const MET: usize = 9_223_372_036_854_775_808;
+
+/// Added to the name of a row from which nothing goes on.
+pub const DEAD: usize = 4_611_686_018_427_387_904;
+
+/// In place of a row, where a byte stands that isn't read.
+pub const QUIT: usize = 18_446_744_073_709_551_615;
