@@ -1,4 +1,5 @@
 //! Tables of all the states that a search can reach.
 #![tactic(auto)]
 
+mod states;
 pub mod table;
