@@ -1,0 +1,3 @@
+pub mod SampleLemmas
+pub mod LastLemmas
+pub mod AutomatonLemmas

@@ -1,2 +1,5 @@
 pub mod Machine
 pub mod Runs
+pub mod Samples
+pub mod Props
+pub mod Automata

@@ -1,5 +1,5 @@
 -- Runs from state to state over the bytes of a text. Whatever holds the states, a table or a cache, runs like this.
-use Rattle.std.specs.Prelude.{◌≡◌, ◌⊎◌, ℕ, ◌+◌, ◌<◌, ◌≤◌, Bool, true, Option, Some, None}
+use Rattle.std.specs.Prelude.{◌≡◌, ℕ, ◌+◌, ◌<◌, ◌≤◌, Bool, true, Option, Some, None}
 use Rattle.rc_text.specs.declared.types.Anchored.{Anchored}
 use Rattle.rc_program.specs.Text.{Text, before_at, after_at}
 use Rattle.rc_states.specs.Sides.{byte_of, IsReadable}

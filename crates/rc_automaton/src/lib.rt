@@ -1,2 +1,6 @@
 //! Searches by states: what a table or a cache of states is made of, and what its runs over a text tell.
 #![tactic(auto)]
+
+pub mod automaton;
+mod matches;
+mod samples;

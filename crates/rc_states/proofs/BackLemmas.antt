@@ -14,7 +14,7 @@ use Rattle.rc_states.specs.States.{Setting, State}
 use Rattle.rc_states.specs.Sides.{told}
 use Rattle.rc_states.specs.Backward.{LeadsBy, listed, leads, still_out, LeadsHere, ReadsTo, IsFirstRoot, IsPrior}
 use Rattle.rc_states.specs.Machine.{add_one, add_all}
-use Rattle.rc_states.specs.Reversed.{passes, reads_over, sources, into_at, IsReversed}
+use Rattle.rc_states.specs.Reversed.{passes, reads_over, sources, into_at, IsReversed, AreInside}
 use Rattle.rc_states.proofs.SparseLemmas.{has_at, index_of}
 use Rattle.rc_states.proofs.GatherLemmas.{all_added_are}
 
@@ -73,37 +73,24 @@ module _ (places : List Place) (behind ahead : Seen) (before : Option ℕ) (list
 
   -- Between two turns of the loop.
   pub record IsGoingBack (entered got : Members) (i : ℕ) : Type 0 where
-    pub entered_size : entered.capacity ≡ length places
-    pub got_size : got.capacity ≡ length places
-    pub below : AreBelow (length places) entered.items
     pub kept : (q : ℕ) → HasPlace q list → HasPlace q entered.items
     pub sound : (q : ℕ) → HasPlace q entered.items → LeadsBy out list q
     pub spent : (k : ℕ) → k < i → (k < length entered.items) × ((q : ℕ) → HasWay (stays (get_or entered.items k 0)) (out q) → HasPlace q entered.items)
     pub wants : (q : ℕ) → HasPlace q got.items ↔ ((b : ℕ) × (before ≡ Some b) × (k : ℕ) × (k < i) × ReadsTo places b q (get_or entered.items k 0))
 
-  pub sets_out : (entered got : Members) → list ≡ entered.items → entered.capacity ≡ length places → AreBelow (length places) entered.items →
-      got ≡ record { capacity = length places; items = [] } → IsGoingBack entered got 0
-  sets_out entered got is size below none = record {
-    entered_size = size;
-    got_size = ap (λ (m : Members). m.capacity) none;
-    below = below;
+  begins_back : (entered got : Members) → list ≡ entered.items → got.items ≡ [] → IsGoingBack entered got 0
+  begins_back entered got is none = record {
     kept = λ q h. subst (λ l. HasPlace q l) is h;
     sound = λ q h. listed q (subst (λ l. HasPlace q l) (sym is) h);
     spent = λ k h. absurd (omega (arith, h));
-    wants = λ q. ((λ h. absurd (subst (λ (m : Members). HasPlace q m.items) none h)), (λ h. let l = h.3 in absurd (omega (arith, l))));
+    wants = λ q. ((λ h. absurd (subst (λ l. HasPlace q l) none h)), (λ h. let l = h.3 in absurd (omega (arith, l))));
   }
 
-  pub here_below : (entered got : Members) (i : ℕ) → i < length entered.items → IsGoingBack entered got i → get_or entered.items i 0 < length places
-  here_below entered got i lt v = v.below (get_or entered.items i 0) (has_at entered.items i lt)
-
-  pub goes_back : (r : Reversed) → IsReversed places r → (entered entered2 got got2 : Members) (i : ℕ) → i < length entered.items →
+  turns_back : (r : Reversed) → IsReversed places r → (entered entered2 got got2 : Members) (i : ℕ) → i < length entered.items →
       entered2 ≡ record entered { items = add_all entered.items (sources (passes behind ahead) (into_at r (get_or entered.items i 0))) } →
       got2 ≡ record got { items = add_all got.items (sources (reads_over before) (into_at r (get_or entered.items i 0))) } →
       IsGoingBack entered got i → IsGoingBack entered2 got2 (i + 1)
-  goes_back r rev entered entered2 got got2 i lt grown more v = rw (grown, more) (record {
-    entered_size = v.entered_size;
-    got_size = v.got_size;
-    below = λ q h. ⊎_elim (v.below q) (λ y. sources_below (length places) (passes behind ahead) (into_at r p) (rev.below p) q y) ((all_added_are entered.items from q).0 h);
+  turns_back r rev entered entered2 got got2 i lt grown more v = rw (grown, more) (record {
     kept = λ q h. widened q (v.kept q h);
     sound = λ q h. ⊎_elim (v.sound q) (λ y. leads q p ((rev.still behind ahead q p).0 y) (v.sound p (has_at entered.items i lt))) ((all_added_are entered.items from q).0 h);
     spent = λ k h. ⊎_elim
@@ -167,6 +154,43 @@ module _ (places : List Place) (behind ahead : Seen) (before : Option ℕ) (list
     (λ h. let x = index_of entered.items h.2 h.4 in let lt = x.1 in
         (v.wants q).1 (h.0, h.1, x.0, omega (arith, lt, past), subst (λ n. ReadsTo places h.0 q n) (sym x.2) h.3)),
   )
+
+-- Between two turns of the loop, whatever program the edges are of.
+pub record IsTurn (r : Reversed) (behind ahead : Seen) (before : Option ℕ) (list : List ℕ) (entered got : Members) (i : ℕ) : Type 0 where
+  pub entered_size : entered.capacity ≡ length r.into.items
+  pub got_size : got.capacity ≡ length r.into.items
+  pub below : AreBelow (length r.into.items) entered.items
+  pub means : (places : List Place) → IsReversed places r → IsGoingBack places behind ahead before list entered got i
+
+pub sets_out : (r : Reversed) (behind ahead : Seen) (before : Option ℕ) (list : List ℕ) (entered got : Members) → list ≡ entered.items →
+    entered.capacity ≡ length r.into.items → AreBelow (length r.into.items) entered.items →
+    got ≡ record { capacity = length r.into.items; items = [] } → IsTurn r behind ahead before list entered got 0
+sets_out r behind ahead before list entered got is size below none = record {
+  entered_size = size;
+  got_size = ap (λ (m : Members). m.capacity) none;
+  below = below;
+  means = λ places rev. begins_back places behind ahead before list entered got is (ap (λ (m : Members). m.items) none);
+}
+
+pub here_below : (r : Reversed) (behind ahead : Seen) (before : Option ℕ) (list : List ℕ) (entered got : Members) (i : ℕ) → i < length entered.items →
+    IsTurn r behind ahead before list entered got i → get_or entered.items i 0 < length r.into.items
+here_below r behind ahead before list entered got i lt v = v.below (get_or entered.items i 0) (has_at entered.items i lt)
+
+pub goes_back : (r : Reversed) (behind ahead : Seen) (before : Option ℕ) (list : List ℕ) → AreInside r → (entered entered2 got got2 : Members) (i : ℕ) →
+    i < length entered.items →
+    entered2 ≡ record entered { items = add_all entered.items (sources (passes behind ahead) (into_at r (get_or entered.items i 0))) } →
+    got2 ≡ record got { items = add_all got.items (sources (reads_over before) (into_at r (get_or entered.items i 0))) } →
+    IsTurn r behind ahead before list entered got i → IsTurn r behind ahead before list entered2 got2 (i + 1)
+goes_back r behind ahead before list inside entered entered2 got got2 i lt grown more v =
+    let p = get_or entered.items i 0 in
+    let from = sources (passes behind ahead) (into_at r p) in
+    record {
+      entered_size = ap (λ (m : Members). m.capacity) grown ∙ v.entered_size;
+      got_size = ap (λ (m : Members). m.capacity) more ∙ v.got_size;
+      below = λ q h. ⊎_elim (v.below q) (λ y. sources_below (length r.into.items) (passes behind ahead) (into_at r p) (inside p) q y)
+          ((all_added_are entered.items from q).0 (subst (λ (m : Members). HasPlace q m.items) grown h));
+      means = λ places rev. turns_back places behind ahead before list r rev entered entered2 got got2 i lt grown more (v.means places rev);
+    }
 
 leads_same : (out : ℕ → List Way) (a b : List ℕ) → ((q : ℕ) → HasPlace q a → HasPlace q b) → {q : ℕ} → LeadsBy out a q → LeadsBy out b q
 leads_same out a b same (listed q h) = listed q (same q h)

@@ -1,5 +1,5 @@
 -- Classes of bytes.
-use Rattle.std.proofs.Common.{◌≡◌, ℕ, zero, suc, ◌+◌, ◌<◌, ◌≤◌, List, [], ◌∷◌, ◌++◌, map, length, Some, Bool, true, false, true≢false, ◌||◌, if◌then◌else◌, get_or, ⊎_elim, sym, subst, ap, ◌∙◌, refl, arith}
+use Rattle.std.proofs.Common.{◌≡◌, ◌≢◌, ◌↔◌, ℕ, zero, suc, ◌+◌, ◌<◌, ◌≤◌, List, [], ◌∷◌, ◌++◌, map, length, Some, Bool, true, false, true≢false, ◌&&◌, ◌||◌, nat_eq, eq-eqb, if◌then◌else◌, get_or, ⊎_elim, sym, subst, ap, ◌∙◌, refl, arith}
 use Rattle.std.specs.List.{AllByRecursion, list_any}
 use Rattle.std.proofs.lemmas.Bool.{cases_lt, cases_eq, cases_Bool}
 use Rattle.std.proofs.lemmas.List.{length-append, get_or_push, get_or_append_left}
@@ -11,7 +11,7 @@ use Rattle.rc_states.specs.Places.{way_of}
 use Rattle.rc_states.specs.declared.sides.Seen.{Seen}
 use Rattle.rc_states.specs.declared.sides.Needs.{Needs}
 use Rattle.rc_states.specs.Steps.{IsByBytes}
-use Rattle.rc_states.specs.Sides.{told, ranges_of, holds_both, AreAlike}
+use Rattle.rc_states.specs.Sides.{told, ranges_of, holds_both, IsReadable, AreAlike}
 use Rattle.rc_states.specs.Classes.{parts, are_parted, is_other, is_border, AreClasses, TellsAlike, ClassLaw}
 use Rattle.rc_states.proofs.SidesLemmas.{uncut}
 
@@ -52,26 +52,45 @@ same_told x y h =
     let word = same_if x.word y.word (none_right (differ x.carriage_return y.carriage_return) _ h4) in
     λ i. record { edge = edge i; terminator = terminator i; line_feed = line_feed i; carriage_return = carriage_return i; word = word i }
 
+-- a byte of ASCII with no border behind it stands before one
+both_readable : (needs : Needs) (b : ℕ) → (needs.unicode && nat_eq b 127) ≡ false → IsReadable needs (Some b) ↔ IsReadable needs (Some (b + 1))
+both_readable needs b h = (
+  (λ below u. let lt = below u in
+      let ne : b ≢ 127 = λ e. true≢false (sym (ap (λ v. v && nat_eq b 127) u ∙ eq-eqb b 127 e) ∙ h) in
+      omega (arith, lt, ne)),
+  (λ below u. let lt = below u in omega (arith, lt)),
+)
+
 -- bytes without a border between are alike
 neighbours : (places : List Place) (needs : Needs) (terminator b : ℕ) → IsByBytes places → is_border places needs terminator b ≡ false →
     AreAlike places needs terminator b (b + 1)
 neighbours places needs terminator b by_bytes h = record {
-  told_same = same_told _ _ (none_right (are_parted places b) _ h);
-  read_same = λ q test. uncut test b (b + 1) (place_at places q) (by_bytes q) (not_parted places b q (none_left _ _ h));
+  told_same = same_told _ _ (none_right (are_parted places b) _ (none_left _ _ h));
+  read_same = λ q test. uncut test b (b + 1) (place_at places q) (by_bytes q) (not_parted places b q (none_left (are_parted places b) _ (none_left _ _ h)));
+  readable = both_readable needs b (none_right (are_parted places b || is_other (told needs terminator (Some b)) (told needs terminator (Some (b + 1)))) _ h);
 }
 
 same_alike : (places : List Place) (needs : Needs) (terminator b c : ℕ) → b ≡ c → AreAlike places needs terminator b c
 same_alike places needs terminator b c e = record {
   told_same = ap (λ x. told needs terminator (Some x)) e;
   read_same = λ q test. ap (λ x. ways_out test (x ∷ []) (place_at places q)) e;
+  readable = (subst (λ x. IsReadable needs (Some x)) e, subst (λ x. IsReadable needs (Some x)) (sym e));
 }
 
 then_alike : (places : List Place) (needs : Needs) (terminator b c d : ℕ) → AreAlike places needs terminator b c → AreAlike places needs terminator c d →
     AreAlike places needs terminator b d
-then_alike places needs terminator b c d x y = record { told_same = x.told_same ∙ y.told_same; read_same = λ q test. x.read_same q test ∙ y.read_same q test }
+then_alike places needs terminator b c d x y = record {
+  told_same = x.told_same ∙ y.told_same;
+  read_same = λ q test. x.read_same q test ∙ y.read_same q test;
+  readable = (λ h. y.readable.0 (x.readable.0 h), λ h. x.readable.1 (y.readable.1 h));
+}
 
 back_alike : (places : List Place) (needs : Needs) (terminator b c : ℕ) → AreAlike places needs terminator b c → AreAlike places needs terminator c b
-back_alike places needs terminator b c x = record { told_same = sym x.told_same; read_same = λ q test. sym (x.read_same q test) }
+back_alike places needs terminator b c x = record {
+  told_same = sym x.told_same;
+  read_same = λ q test. sym (x.read_same q test);
+  readable = (x.readable.1, x.readable.0);
+}
 
 module _ (places : List Place) (needs : Needs) (terminator : ℕ) (classes : List ℕ) (by_bytes : IsByBytes places)
     (are : AreClasses places needs terminator classes) where

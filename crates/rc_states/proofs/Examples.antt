@@ -1,6 +1,6 @@
 -- Worked rows of the definitions.
 use Rattle.std.proofs.Common.{◌≡◌, List, [], ◌∷◌, Some, None, true, false, true≢false, refl, sym, ⊎_elim, arith}
-use Rattle.rc_pattern.specs.declared.hir.Look.TheVariants.{EndLF, WordAscii, StartCRLF}
+use Rattle.rc_pattern.specs.declared.hir.Look.TheVariants.{EndLF, WordAscii, WordUnicode, StartCRLF}
 use Rattle.rc_program.specs.Program.{Place, byte, guard, accept, stays}
 use Rattle.rc_states.specs.declared.sides.Seen.{Seen}
 use Rattle.rc_states.specs.declared.sides.Needs.{Needs}
@@ -74,6 +74,10 @@ past_a = refl
 -- where words are asked for, `z` stands on one too
 after_z : is_border word_a (asking WordAscii nothing) 10 122 ≡ true
 after_z = refl
+
+-- where Unicode's words are asked for, bytes up to 127 are read and the others aren't
+after_ascii : is_border word_a (asking WordUnicode nothing) 10 127 ≡ true
+after_ascii = refl
 
 -- A step: `a` stands ahead and an edge behind, so the assertion holds, and the byte leads to the match place.
 enters_word : Steps (out_seen word_a (asking WordAscii nothing) 10 none (Some 97)) (is_match word_a) [] (stays 0 ∷ []) (2 ∷ []) None (1 ∷ 0 ∷ [])

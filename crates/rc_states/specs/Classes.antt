@@ -1,5 +1,5 @@
 -- Classes of bytes: between which bytes a program can tell.
-use Rattle.std.specs.Prelude.{◌≡◌, ℕ, ◌+◌, ◌<◌, Bool, false, ◌&&◌, ◌||◌, List, [], ◌∷◌, length, Some, nat_le, slice_index, if◌then◌else◌}
+use Rattle.std.specs.Prelude.{◌≡◌, ℕ, ◌+◌, ◌<◌, Bool, false, ◌&&◌, ◌||◌, List, [], ◌∷◌, length, Some, nat_le, nat_eq, slice_index, if◌then◌else◌}
 use Rattle.std.specs.List.{list_any}
 use Rattle.rc_pattern.specs.Re.{Range}
 use Rattle.rc_program.specs.Looks.{differ}
@@ -27,9 +27,10 @@ is_other x y =
     differ x.edge y.edge || (differ x.terminator y.terminator || (differ x.line_feed y.line_feed
     || (differ x.carriage_return y.carriage_return || differ x.word y.word)))
 
--- some place or some assertion of the program may tell the byte and the next apart
+-- Some place or some assertion of the program may tell the byte and the next apart, or the one is read and the other not.
 abbrev pub is_border : List Place → Needs → ℕ → ℕ → Bool
-is_border places needs terminator b = are_parted places b || is_other (told needs terminator (Some b)) (told needs terminator (Some (b + 1)))
+is_border places needs terminator b =
+    are_parted places b || is_other (told needs terminator (Some b)) (told needs terminator (Some (b + 1))) || (needs.unicode && nat_eq b 127)
 
 -- The class of each byte, where a class ends only where a border stands.
 pub record AreClasses (places : List Place) (needs : Needs) (terminator : ℕ) (classes : List ℕ) : Type 0 where

@@ -69,6 +69,14 @@ abbrev pub all_edges : ℕ → ℕ → List Place → List Source
 all_edges p i [] = []
 all_edges p i (q ∷ qs) = edges_from p i q ++ all_edges p (i + 1) qs
 
+-- each edge begins at a place
+abbrev pub AreInside : Reversed → Type 0
+AreInside r = (p : ℕ) → AreBelow (length r.into.items) (map (λ (e : Source). e.from) (into_at r p))
+
+-- at each place all edges that lead to it, in the order of the places from which they lead
+abbrev pub AreEdges : List Place → Reversed → Type 0
+AreEdges places r = (length r.into.items ≡ length places) × ((p : ℕ) → into_at r p ≡ all_edges p 0 places)
+
 -- the edges of the place with number i are added
 abbrev pub HasAdded : (ℕ → List Source) → Reversed → Reversed → Type 0
 HasAdded more old new = (length new.into.items ≡ length old.into.items) × ((p : ℕ) → into_at new p ≡ into_at old p ++ more p)

@@ -1,5 +1,5 @@
 -- What a step needs to know of the two sides of a position: facts about one byte each.
-use Rattle.std.specs.Prelude.{◌≡◌, ℕ, Bool, true, false, not, ◌&&◌, ◌||◌, ◌<◌, List, [], ◌∷◌, map, Option, Some, None, nat_le, IsTrue}
+use Rattle.std.specs.Prelude.{◌≡◌, ◌↔◌, ℕ, Bool, true, false, not, ◌&&◌, ◌||◌, ◌<◌, List, [], ◌∷◌, map, Option, Some, None, nat_le, IsTrue}
 use Rattle.rc_pattern.specs.Re.{Range}
 use Rattle.rc_program.specs.Program.{Place, byte, branch, guard, Way, ways_out, place_at}
 use Rattle.rc_states.specs.declared.sides.Seen.{Seen}
@@ -138,10 +138,11 @@ abbrev pub IsReadable : Needs → Option ℕ → Type 0
 IsReadable needs None = Unit {0}
 IsReadable needs (Some b) = IsTrue needs.unicode → b < 128
 
--- No step can tell the bytes apart.
+-- No step can tell the bytes apart, and both are read or none.
 pub record AreAlike (places : List Place) (needs : Needs) (terminator b c : ℕ) : Type 0 where
   pub told_same : told needs terminator (Some b) ≡ told needs terminator (Some c)
   pub read_same : (q : ℕ) (test : Look → Bool) → ways_out test (b ∷ []) (place_at places q) ≡ ways_out test (c ∷ []) (place_at places q)
+  pub readable : IsReadable needs (Some b) ↔ IsReadable needs (Some c)
 
 -- the ranges of bytes that a place reads
 abbrev pub ranges_of : Place → List Range

@@ -7,7 +7,7 @@ ghost use Rattle.rc_states.specs.Steps.{HasPlace, AreBelow};
 ghost use Rattle.rc_states.specs.States.{Setting};
 ghost use Rattle.rc_states.specs.Machine.{add_all};
 ghost use Rattle.rc_states.specs.Backward.{IsPrior, IsLast, LeadsBy, still_out, ReadsTo, IsFirstRoot};
-ghost use Rattle.rc_states.specs.Reversed.{passes, reads_over, sources, into_at, range_edges, branch_edges, edges_from, IsReversed};
+ghost use Rattle.rc_states.specs.Reversed.{passes, reads_over, sources, into_at, range_edges, branch_edges, edges_from, IsReversed, AreEdges, AreInside};
 ghost use Rattle.rc_states.specs.declared.place.ByteWay.{ByteWay};
 ghost use Rattle.rc_pattern.specs.Meaning.{byte_range};
 
@@ -124,7 +124,8 @@ impl Reversed {
     /// The edges of a program, by the places to which they lead. An `Err` is want of memory.
     pub fn new(alloc: Global, places: &[BytePlace]) -> Result<Reversed, AllocError>
         requires closed { IsClosed (places_of places.now) }
-        ensures { IfOk result (λ r. IsReversed (places_of places.now) r) }
+        ensures reversed { IfOk result (λ r. IsReversed (places_of places.now) r) }
+        ensures edges { IfOk result (λ r. AreEdges (places_of places.now) r) }
     {
         let mut reversed = Reversed::empty(alloc, places.len())?;
         for i in 0..places.len() {
@@ -220,13 +221,13 @@ fn go_back(
     entered: &mut SparseSet,
     listed: &mut SparseSet,
 )
-    ghost places: { List Place }
-    requires reversed { IsReversed places reversed.now }
-    requires entered { (entered.old.capacity ≡ length places) × AreBelow (length places) entered.old.items }
-    requires listed { listed.old ≡ record { capacity = length places; items = [] } }
-    ensures sizes { (entered.new.capacity ≡ length places) × (listed.new.capacity ≡ length places) }
-    ensures entered { (q : ℕ) → HasPlace q entered.new.items ↔ LeadsBy (still_out places behind ahead) entered.old.items q }
-    ensures listed { (q : ℕ) → HasPlace q listed.new.items
+    requires edges { AreInside reversed.now }
+    requires entered { (entered.old.capacity ≡ length reversed.now.into.items) × AreBelow (length reversed.now.into.items) entered.old.items }
+    requires listed { listed.old ≡ record { capacity = length reversed.now.into.items; items = [] } }
+    ensures sizes { (entered.new.capacity ≡ length reversed.now.into.items) × (listed.new.capacity ≡ length reversed.now.into.items) }
+    ensures entered { (places : List Place) → IsReversed places reversed.now → (q : ℕ) → HasPlace q entered.new.items
+        ↔ LeadsBy (still_out places behind ahead) entered.old.items q }
+    ensures listed { (places : List Place) → IsReversed places reversed.now → (q : ℕ) → HasPlace q listed.new.items
         ↔ ((b : ℕ) × (before ≡ Some b) × (p : ℕ) × ReadsTo places b q p × HasPlace p entered.new.items) }
 {
     let mut index = 0;
@@ -253,13 +254,13 @@ pub fn prior(
     before: Option<u8>,
     to: &mut State,
 ) -> Result<(), AllocError>
-    ghost places: { List Place }
-    requires reversed { IsReversed places reversed.now }
-    requires roots { AreBelow (length places) roots.now }
-    requires below { AreBelow (length places) from.now.list.items }
-    requires scratch { scratch.old ≡ length places }
+    requires edges { AreInside reversed.now }
+    requires roots { AreBelow (length reversed.now.into.items) roots.now }
+    requires below { AreBelow (length reversed.now.into.items) from.now.list.items }
+    requires scratch { scratch.old ≡ length reversed.now.into.items }
     ensures scratch { scratch.new ≡ scratch.old }
-    ensures prior { IfOk result (λ _. IsPrior (record { places = places; needs = needs; terminator = terminator }) roots.now (state_of from.now) before (state_of to.new)) }
+    ensures prior { IfOk result (λ _. (places : List Place) → IsReversed places reversed.now
+        → IsPrior (record { places = places; needs = needs; terminator = terminator }) roots.now (state_of from.now) before (state_of to.new)) }
 {
     let behind = told(needs, terminator, before);
     scratch.entered.clear();

@@ -85,7 +85,7 @@ fn are_parted(places: &[BytePlace], byte: u8) -> bool
     false
 }
 
-/// Whether some place or some assertion of the program may tell the byte from the next.
+/// Whether some place or some assertion of the program may tell the byte from the next, or the one is read and the other not.
 fn is_border(places: &[BytePlace], needs: Needs, terminator: u8, byte: u8) -> bool
     requires { byte < 255 }
     ensures { result ≡ is_border (places_of places.now) needs terminator byte }
@@ -95,9 +95,11 @@ fn is_border(places: &[BytePlace], needs: Needs, terminator: u8, byte: u8) -> bo
             told(needs, terminator, Some(byte)),
             told(needs, terminator, Some(byte + 1)),
         )
+        || (needs.unicode && byte == 127)
 }
 
-/// The class of each byte, from 0 on: a class ends only where some place or some assertion of the program may tell a byte from the next.
+/// The class of each byte, from 0 on: a class ends only where some place or some assertion of the program may tell a byte from the next,
+/// or the one is read and the other not.
 /// An `Err` is want of memory.
 pub fn classes(
     alloc: Global,

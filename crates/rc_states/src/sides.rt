@@ -60,7 +60,7 @@ fn seen_of(terminator: u8, byte: Option<u8>) -> Seen
 }
 
 /// What is told of a byte, or of the end, as far as the program asks. Lines end at the byte `terminator`.
-pub(crate) fn told(needs: Needs, terminator: u8, byte: Option<u8>) -> Seen
+pub fn told(needs: Needs, terminator: u8, byte: Option<u8>) -> Seen
     ensures { result ≡ told needs terminator byte }
 {
     let seen = seen_of(terminator, byte);

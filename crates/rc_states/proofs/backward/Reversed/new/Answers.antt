@@ -1,4 +1,4 @@
-use Rattle.std.proofs.Common.{◌≡◌, ◌≤◌, ◌<◌, [], ◌∷◌, ◌++◌, ◌+◌, ◌∙◌, ap, sym, subst, arith, length, suc, append_assoc, drop}
+use Rattle.std.proofs.Common.{◌≡◌, ℕ, ◌≤◌, ◌<◌, [], ◌∷◌, ◌++◌, ◌+◌, ◌∙◌, ap, sym, subst, arith, length, suc, append_assoc, drop}
 use Rattle.std.proofs.lemmas.List.{length-map, append-nil}
 use Rattle.rc_program.specs.Program.{choice, place_at}
 use Rattle.rc_program.specs.Laws.{targets}
@@ -34,8 +34,9 @@ loop-i-preserved c =
 pub returns : goal.returns
 returns c =
     let past : length (places_of c.args.places.now) ≤ c.loop-i.i = let h = c.loop-i-test.false in let l = length-map c.args.places.now place_of in omega (arith, h, l) in
-    all_are_reversed (places_of c.args.places.now) c.loop-i.reversed (by_bytes c.args.places.now)
-    (c.loop-i.invariant.0 ∙ sym (length-map c.args.places.now place_of))
-    (λ p. sym (append-nil (into_at c.loop-i.reversed p))
+    let size : length c.loop-i.reversed.into.items ≡ length (places_of c.args.places.now) = c.loop-i.invariant.0 ∙ sym (length-map c.args.places.now place_of) in
+    let all : (p : ℕ) → into_at c.loop-i.reversed p ≡ all_edges p 0 (places_of c.args.places.now) =
+    λ p. sym (append-nil (into_at c.loop-i.reversed p))
     ∙ ap (λ ps. into_at c.loop-i.reversed p ++ all_edges p c.loop-i.i ps) (sym (drop_all (places_of c.args.places.now) c.loop-i.i past))
-    ∙ c.loop-i.invariant.1 p)
+    ∙ c.loop-i.invariant.1 p in
+    record { reversed = all_are_reversed (places_of c.args.places.now) c.loop-i.reversed (by_bytes c.args.places.now) size all; edges = (size, all) }

@@ -1,0 +1,37 @@
+use Rattle.std.proofs.Common.{length, ap, subst, sym, ◌∙◌}
+use Rattle.std.proofs.lemmas.List.{length-map}
+use Rattle.std.proofs.lemmas.Result.{IfOk-weaker}
+use Rattle.rc_states.specs.Places.{place_of, places_of, state_of}
+use Rattle.rc_states.specs.Steps.{AreBelow}
+use Rattle.rc_states.specs.Backward.{IsPrior}
+use Rattle.rc_states.specs.States.{Setting}
+use Rattle.rc_automaton.specs.Machine.{Leads}
+use Rattle.rc_automaton.specs.Automata.{machine_of}
+use Rattle.rc_automaton.proofs.AutomatonLemmas.{is_reversed, as_many, is_inside}
+use Rattle.rc_automaton.proofs.automaton.Automaton.step.Goals as goal
+
+pub next_by-requires-clause-below : goal.next_by-requires-clause-below
+next_by-requires-clause-below c =
+    subst (λ n. AreBelow n c.args.from.now.list.items)
+    (length-map c.args.self.now.places.items place_of ∙ sym (ap length c.deref.ensures.value)) c.requires.below
+
+pub prior-requires-clause-edges : goal.prior-requires-clause-edges
+prior-requires-clause-edges c = is_inside c.args.self.now
+
+pub prior-requires-clause-roots : goal.prior-requires-clause-roots
+prior-requires-clause-roots c =
+    subst (λ es. AreBelow (length c.args.self.now.reversed.into.items) es) (sym c.deref-in-Backwards.ensures.value)
+    (subst (λ n. AreBelow n c.args.self.now.entries.items) (sym (as_many c.args.self.now)) c.args.self.now.entered)
+
+pub prior-requires-clause-below : goal.prior-requires-clause-below
+prior-requires-clause-below c =
+    subst (λ n. AreBelow n c.args.from.now.list.items) (length-map c.args.self.now.places.items place_of ∙ sym (as_many c.args.self.now)) c.requires.below
+
+pub returns-in-Backwards-clause-leads : goal.returns-in-Backwards-clause-leads
+returns-in-Backwards-clause-leads c =
+    IfOk-weaker c.prior.result _ _
+    (λ x h. subst (λ d. Leads (machine_of c.args.self.now d) (state_of c.args.from.now) c.args.beside (state_of c.prior.new.to)) (sym c.in-Backwards.is)
+    (let g : Setting = record { places = places_of c.args.self.now.places.items; needs = c.args.self.now.needs; terminator = c.args.self.now.terminator } in
+    subst (λ es. IsPrior g es (state_of c.args.from.now) c.args.beside (state_of c.prior.new.to)) c.deref-in-Backwards.ensures.value
+    (h (places_of c.args.self.now.places.items) (is_reversed c.args.self.now))))
+    c.prior.ensures.prior
