@@ -1,3 +1,4 @@
 pub mod KeyLemmas
 pub mod ListLemmas
 pub mod NumberLemmas
+pub mod NameLemmas

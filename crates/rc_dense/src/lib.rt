@@ -1,5 +1,7 @@
 //! Tables of all the states that a search can reach.
 #![tactic(auto)]
 
+pub mod error;
+mod names;
 mod states;
 pub mod table;
