@@ -6,6 +6,7 @@ use Rattle.rc_states.specs.Sides.{IsReadable}
 use Rattle.rc_states.specs.States.{State}
 use Rattle.rc_automaton.specs.Machine.{Machine, IsMachine, Leads, Begins, IsAsked}
 use Rattle.rc_dense.specs.declared.names.Names.{Names}
+use Rattle.rc_dense.specs.declared.maker.Maker.{Maker}
 use Rattle.rc_dense.specs.Cells.{quit}
 use Rattle.rc_dense.specs.Tables.{marks, code_of, mode_of}
 use Rattle.rc_dense.specs.Makes.{AreStates, weight_by}
@@ -34,6 +35,10 @@ abbrev pub IsCell : Machine → ℕ → List State → Option ℕ → (State →
 IsCell m width states beside To cell =
     ((cell ≡ quit) × (¬ IsReadable m.setting.needs beside))
     ⊎ (IsReadable m.setting.needs beside × ((t : State) × To t × NamesBy width states cell t))
+
+pub record IsMaker (m : Machine) (k : Maker) : Type 0 where
+  pub named : AreNamed m k.names
+  pub scratch : k.scratch ≡ length m.setting.places
 
 -- Cells stand row by row, and of each it holds, by the number of its row and its column.
 pub record AreFilled (columns : ℕ) (Holds : ℕ → ℕ → ℕ → Type 0) (cells : List ℕ) : Type 0 where

@@ -2,6 +2,7 @@
 #![tactic(auto)]
 
 pub mod error;
+mod maker;
 mod names;
 mod states;
 pub mod table;
