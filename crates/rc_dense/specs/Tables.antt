@@ -1,5 +1,5 @@
 -- Tables of states.
-use Rattle.std.specs.Prelude.{◌≡◌, ℕ, ◌+◌, ◌-◌, ◌*◌, ◌<◌, ◌≤◌, ◌⊎◌, Bool, ◌||◌, is_some, IsTrue, nat_le, nat_eq, List, [], ◌∷◌, length, Option, Some, None, slice_get, slice_index_or, if◌then◌else◌}
+use Rattle.std.specs.Prelude.{◌≡◌, ℕ, ◌+◌, ◌*◌, ◌<◌, ◌⊎◌, false, is_some, List, [], ◌∷◌, length, Option, Some, None, slice_get, slice_index_or, if◌then◌else◌}
 use Rattle.rc_text.specs.declared.types.Anchored.{Anchored}
 use Rattle.rc_text.specs.declared.types.Anchored.TheVariants.{No, Yes, Pattern}
 use Rattle.rc_states.specs.Sides.{IsReadable}
@@ -69,8 +69,18 @@ pub record IsTable (m : Machine) (states : List State) (d : Table) : Type 0 wher
 
 -- THE SIZE OF A TABLE
 
--- the states that searches can reach
+-- nothing goes on from it, nothing is told of the byte beside, and nothing was met
+abbrev pub dead_state : State
+dead_state = record {
+  list = [];
+  beside = record { edge = false; terminator = false; line_feed = false; carriage_return = false; word = false };
+  goes_on = false;
+  stop = None;
+}
+
+-- the states that searches can reach, and the dead one
 pub data IsReached (m : Machine) : State → Type 0 where
+  dead_one : IsReached m dead_state
   begins : {s : State} (anchored : Anchored) (beside : Option ℕ) → IsAsked m anchored → IsByte beside → IsReadable m.setting.needs beside →
       Begins m anchored beside s → IsReached m s
   goes_on : {s : State} (r : State) (b : ℕ) → IsReached m r → b < 256 → IsReadable m.setting.needs (Some b) → Leads m r (Some b) s → IsReached m s

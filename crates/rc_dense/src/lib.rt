@@ -1,4 +1,8 @@
 //! Tables of all the states that a search can reach.
 #![tactic(auto)]
 
+pub mod error;
+mod maker;
+mod names;
+mod states;
 pub mod table;

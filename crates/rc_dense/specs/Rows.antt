@@ -1,0 +1,71 @@
+-- Only proofs use this file.
+-- A table under way.
+use Rattle.std.specs.Prelude.{◌≡◌, ◌⊎◌, ℕ, ◌+◌, ◌*◌, ◌<◌, ◌≤◌, List, length, Option, Some, None, slice_get, slice_index_or, IfSome}
+use Rattle.rc_text.specs.declared.types.Anchored.{Anchored}
+use Rattle.rc_states.specs.Sides.{IsReadable}
+use Rattle.rc_states.specs.States.{State}
+use Rattle.rc_automaton.specs.Machine.{Machine, IsMachine, Leads, Begins, IsAsked}
+use Rattle.rc_dense.specs.declared.names.Names.{Names}
+use Rattle.rc_dense.specs.declared.maker.Maker.{Maker}
+use Rattle.rc_dense.specs.Cells.{quit}
+use Rattle.rc_dense.specs.Tables.{marks, code_of, mode_of}
+use Rattle.rc_dense.specs.Makes.{AreStates, weight_by}
+
+-- The states so far, whose rows stay below the marks, and which weigh no more than the limit.
+pub record AreNamed (m : Machine) (n : Names) : Type 0 where
+  pub machine : IsMachine m
+  pub are_states : AreStates m n.states
+  pub wide : 0 < n.width
+  pub small : length n.states * n.width < 4611686018427387904
+  pub light : n.weight ≤ 18446744073709551616
+  pub weighed : IfSome n.limit (λ l. (n.weight ≡ weight_by m n.width n.states) × (n.weight ≤ l))
+
+-- states were added, and nothing else was changed
+pub record Grows (old new : Names) : Type 0 where
+  pub width : new.width ≡ old.width
+  pub limit : new.limit ≡ old.limit
+  pub kept : (id : ℕ) (s : State) → slice_get old.states id ≡ Some s → slice_get new.states id ≡ Some s
+
+-- the cell names the state, where a row has so many cells
+abbrev pub NamesBy : ℕ → List State → ℕ → State → Type 0
+NamesBy width states cell s = (id : ℕ) × (slice_get states id ≡ Some s) × (cell ≡ id * width + marks s)
+
+-- The cell names a state to which the byte leads; or it is `QUIT`, and the byte isn't read.
+abbrev pub IsCell : Machine → ℕ → List State → Option ℕ → (State → Type 0) → ℕ → Type 0
+IsCell m width states beside To cell =
+    ((cell ≡ quit) × (¬ IsReadable m.setting.needs beside))
+    ⊎ (IsReadable m.setting.needs beside × ((t : State) × To t × NamesBy width states cell t))
+
+pub record IsMaker (m : Machine) (k : Maker) : Type 0 where
+  pub named : AreNamed m k.names
+  pub scratch : k.scratch ≡ length m.setting.places
+
+-- Cells stand row by row, and of each it holds, by the number of its row and its column.
+pub record AreFilled (columns : ℕ) (Holds : ℕ → ℕ → ℕ → Type 0) (cells : List ℕ) : Type 0 where
+  pub told : (row column : ℕ) → column < columns → row * columns + column < length cells → Holds row column (slice_index_or cells (row * columns + column) quit)
+
+-- the cell of the state of this number and of the class of this one
+abbrev pub IsCellOf : Machine → List ℕ → List State → ℕ → ℕ → ℕ → Type 0
+IsCellOf m samples states id class cell = (s : State) (b : ℕ) → slice_get states id ≡ Some s → slice_get samples class ≡ Some b →
+    IsCell m (length samples) states (Some b) (Leads m s (Some b)) cell
+
+-- what stands beside where a search begins: a byte of the class, or nothing in the last column
+abbrev pub IsBeside : List ℕ → ℕ → Option ℕ → Type 0
+IsBeside samples column None = column ≡ length samples
+IsBeside samples column (Some b) = slice_get samples column ≡ Some b
+
+-- the cell of this way of anchoring, by its number, and of what stands beside
+abbrev pub IsStartOf : Machine → List ℕ → List State → ℕ → ℕ → ℕ → Type 0
+IsStartOf m samples states mode column cell = (anchored : Anchored) (beside : Option ℕ) → mode_of anchored ≡ mode → IsAsked m anchored → IsBeside samples column beside →
+    IsCell m (length samples) states beside (Begins m anchored beside) cell
+
+-- what is met at the end, for the first states
+abbrev pub AreEnds : Machine → List State → List ℕ → Type 0
+AreEnds m states ends = (id : ℕ) (s : State) → id < length ends → slice_get states id ≡ Some s →
+    (t : State) × Leads m s None t × (slice_get ends id ≡ Some (code_of t.stop))
+
+-- The cells of the rows before this one, what was met at their ends, and of this row as many cells.
+pub record AreRows (m : Machine) (samples : List ℕ) (states : List State) (row column : ℕ) (cells : List ℕ) : Type 0 where
+  pub filled : AreFilled (length samples) (IsCellOf m samples states) cells
+  pub len : length cells ≡ row * length samples + column
+  pub within : row * length samples + column ≤ length states * length samples

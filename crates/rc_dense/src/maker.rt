@@ -1,0 +1,99 @@
+//! The steps by which a table is made.
+ghost use Rattle.std.specs.Prelude.{◌≡◌, ◌<◌, length, IfOk, IfErr, Some, slice_get};
+ghost use Rattle.rc_states.specs.Places.{state_of};
+ghost use Rattle.rc_states.specs.States as states;
+ghost use Rattle.rc_automaton.specs.Machine.{Machine, IsAsked, Leads, Begins};
+ghost use Rattle.rc_automaton.specs.Automata.{machine_of};
+ghost use Rattle.rc_dense.specs.Tables.{IsByte};
+ghost use Rattle.rc_dense.specs.Makes.{IsRefused};
+ghost use Rattle.rc_dense.specs.Rows.{IsMaker, Grows, IsCell};
+
+use crate::error::TableError;
+use crate::names::Names;
+use crate::table::QUIT;
+use rc_automaton::automaton::{Automaton, Direction};
+use rc_states::scratch::Scratch;
+use rc_states::state::State;
+use rc_text::types::Anchored;
+use std::alloc::AllocError;
+
+/// What makes a table.
+#[derive(Drop)]
+pub(crate) struct Maker {
+    pub names: Names,
+    pub scratch: Scratch,
+    /// The state that was made last.
+    pub to: State,
+}
+
+impl Maker {
+    /// Makes the state to which a byte leads from the state of the number, or the end.
+    pub(crate) fn lead(
+        &mut self,
+        automaton: &Automaton,
+        direction: Direction,
+        number: usize,
+        beside: Option<u8>,
+    ) -> Result<(), AllocError>
+        requires maker { IsMaker (machine_of automaton.now direction) self.old }
+        requires number { number < length self.old.names.states }
+        ensures names { self.new.names ≡ self.old.names }
+        ensures scratch { self.new.scratch ≡ self.old.scratch }
+        ensures leads { IfOk result (λ _. (s : states.State) → slice_get self.old.names.states number ≡ Some s → Leads (machine_of automaton.now direction) s beside (state_of self.new.to)) }
+    {
+        let from = self.names.states.get(number);
+        automaton.step(direction, &mut self.scratch, from, beside, &mut self.to)
+    }
+
+    /// The cell of a state, by its number, and of a byte.
+    pub(crate) fn cell(
+        &mut self,
+        automaton: &Automaton,
+        direction: Direction,
+        number: usize,
+        byte: u8,
+    ) -> Result<usize, TableError>
+        ghost m: { Machine }
+        requires same { machine_of automaton.now direction ≡ m }
+        requires maker { IsMaker m self.old }
+        requires number { number < length self.old.names.states }
+        ensures maker { IfOk result (λ _. IsMaker m self.new) }
+        ensures grows { IfOk result (λ _. Grows self.old.names self.new.names) }
+        ensures cell { IfOk result (λ cell. (s : states.State) → slice_get self.old.names.states number ≡ Some s →
+            IsCell m self.new.names.width self.new.names.states (Some byte) (Leads m s (Some byte)) cell) }
+        ensures refused { IfErr result (IsRefused m self.old.names.width self.old.names.limit) }
+    {
+        if !automaton.may_read(Some(byte)) {
+            return Ok(QUIT);
+        }
+        self.lead(automaton, direction, number, Some(byte))?;
+        let name = self.names.name(&self.to)?;
+        Ok(name)
+    }
+
+    /// The cell of a way of anchoring and of what stands beside where a search begins.
+    pub(crate) fn start(
+        &mut self,
+        automaton: &Automaton,
+        direction: Direction,
+        anchored: Anchored,
+        beside: Option<u8>,
+    ) -> Result<usize, TableError>
+        ghost m: { Machine }
+        requires same { machine_of automaton.now direction ≡ m }
+        requires maker { IsMaker m self.old }
+        requires asked { IsAsked m anchored }
+        requires byte { IsByte beside }
+        ensures maker { IfOk result (λ _. IsMaker m self.new) }
+        ensures grows { IfOk result (λ _. Grows self.old.names self.new.names) }
+        ensures cell { IfOk result (IsCell m self.new.names.width self.new.names.states beside (Begins m anchored beside)) }
+        ensures refused { IfErr result (IsRefused m self.old.names.width self.old.names.limit) }
+    {
+        if !automaton.may_read(beside) {
+            return Ok(QUIT);
+        }
+        automaton.begin(direction, anchored, beside, &mut self.to)?;
+        let name = self.names.name(&self.to)?;
+        Ok(name)
+    }
+}
