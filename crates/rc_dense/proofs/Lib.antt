@@ -1,0 +1,4 @@
+pub mod ForwardLemmas
+pub mod MarkLemmas
+pub mod SideLemmas
+pub mod StartLemmas

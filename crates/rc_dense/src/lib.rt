@@ -1,4 +1,9 @@
 //! Tables of all the states that a search can reach.
 #![tactic(auto)]
 
+pub mod forward;
+mod look;
+pub mod run;
+mod sides;
+mod start;
 pub mod table;

@@ -20,7 +20,7 @@ pub struct Table {
     pub starts: Vec<usize>,
     ghost classed: { (length classes.items ≡ 256) × All (λ c. c < width) classes.items },
     ghost inside: { All (IsNamed width (length cells.items)) cells.items × All (IsNamed width (length cells.items)) starts.items },
-    ghost small: { length cells.items ≤ 4611686018427387904 },
+    ghost small: { length cells.items < 4611686018427387904 },
 }
 
 /// Added to the name of a row where something was met on the way to it.
