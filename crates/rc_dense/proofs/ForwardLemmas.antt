@@ -1,7 +1,6 @@
 -- What a cell means to a run forwards.
-use Rattle.std.proofs.Common.{◌≡◌, ◌≢◌, ℕ, ◌+◌, ◌-◌, ◌*◌, ◌/◌, ◌<◌, ◌≤◌, true, List, length, Option, Some, None, slice_get, slice_range, slice_index_or, if◌then◌else◌, ⊎_elim, sym, ap, subst, ◌∙◌, refl, arith, add-one}
+use Rattle.std.proofs.Common.{◌≡◌, ◌≢◌, ℕ, ◌+◌, ◌-◌, ◌*◌, ◌/◌, ◌<◌, ◌≤◌, true, List, length, Option, Some, None, slice_get, slice_range, slice_index_or, if◌then◌else◌, ⊎_elim, sym, ap, subst, ◌∙◌, refl, arith}
 use Rattle.std.proofs.lemmas.Bool.{le-leb}
-use Rattle.std.proofs.lemmas.Option.{get_or_from_slice_get}
 use Rattle.rc_text.specs.Text.{slice_end}
 use Rattle.rc_program.specs.Text.{Text}
 use Rattle.rc_program.specs.Sought.{text_of}
@@ -9,25 +8,13 @@ use Rattle.rc_states.proofs.TextLemmas.{byte_ahead}
 use Rattle.rc_states.specs.States.{State, best_at}
 use Rattle.rc_automaton.specs.Machine.{Machine, Leads, IsAsked, is_dead}
 use Rattle.rc_automaton.specs.Runs.{MayRead, ahead_at, behind_at, Runs, RunEnd, met_last, stopped_at, EndsSo, SearchEnds}
-use Rattle.rc_dense.specs.Cells.{met, dead, quit, row_of, IsNamed}
-use Rattle.rc_dense.specs.Tables.{Names, code_of, cell_at, class_at, column, mode_of, start_at, IsByte, IsTable}
-use Rattle.rc_dense.specs.Searches.{InRow, has_died, noted_by, met_by, told, IsNoted, Course, IsStanding, Stands, Ends}
+use Rattle.rc_dense.specs.Cells.{met, dead, quit, row_of}
+use Rattle.rc_dense.specs.Tables.{Names, cell_at, class_at, column, mode_of, start_at, IsByte, IsTable}
+use Rattle.rc_dense.specs.Searches.{InRow, has_died, noted_by, met_by, told, Course, IsStanding, Stands, Ends}
 use Rattle.rc_dense.specs.declared.table.Table.{Table}
 use Rattle.rc_dense.specs.declared.run.Ended.TheVariants.{Met, Quit}
 use Rattle.rc_dense.proofs.SideLemmas.{byte_of_piece}
-use Rattle.rc_dense.proofs.MarkLemmas.{named_state, died_or_not, is_read, noted_more, told_is, row_number, named_row, cell_same, cell_named, plain_row, plain_note, met_row, met_note}
-
-met_as_best : (at : ℕ) (stop : Option ℕ) (found : Option (ℕ × ℕ)) → met_by (code_of stop) at found ≡ best_at at stop found
-met_as_best at None found = refl
-met_as_best at (Some k) found = rw add-one refl
-
-met_at_end : (m : Machine) (states : List State) (d : Table) (row id at : ℕ) (stop : Option ℕ) (noted found : Option (ℕ × ℕ)) → IsTable m states d →
-    row ≡ id * d.width → IsNoted d states noted found → slice_get d.ends.items id ≡ Some (code_of stop) →
-    met_by (slice_index_or d.ends.items (row / d.width) 0) at (told d noted) ≡ best_at at stop found
-met_at_end m states d row id at stop noted found ok e h is =
-    ap (λ n. met_by (slice_index_or d.ends.items n 0) at (told d noted)) (row_number d row id e)
-    ∙ ap (λ c. met_by c at (told d noted)) (get_or_from_slice_get d.ends.items id (code_of stop) 0 is)
-    ∙ ap (met_by (code_of stop) at) (told_is m states d noted found ok h) ∙ met_as_best at stop found
+use Rattle.rc_dense.proofs.MarkLemmas.{named_state, died_or_not, is_read, noted_more, told_is, met_at_end, plain_row, plain_note, met_row, met_note, here_is, named_here}
 
 module _ (m : Machine) (states : List State) (d : Table) (t : Text) (q : Course) (ok : IsTable m states d) where
   abbrev EndsHere : RunEnd → Type 0
@@ -255,33 +242,28 @@ module _ (d : Table) (q : Course) (cells classes piece : List ℕ) (start index 
   abbrev here : ℕ
   here = slice_index_or cells (row + slice_index_or classes (slice_index_or piece index 0) 0) 0
 
-  here_is : here ≡ cell_at d (row + class_at d (slice_index_or piece index 0))
-  here_is =
-      ap (λ xs. slice_index_or xs (row + slice_index_or classes (slice_index_or piece index 0) 0) 0) same_cells
-      ∙ ap (λ xs. slice_index_or d.cells.items (row + slice_index_or xs (slice_index_or piece index 0) 0) 0) same_classes
-      ∙ cell_same d row (slice_index_or piece index 0) 0 in_row byte
+  same : here ≡ cell_at d (row + class_at d (slice_index_or piece index 0))
+  same = here_is d cells classes row (slice_index_or piece index 0) same_cells same_classes in_row byte
 
-  named_here : here ≢ quit → row_of here + d.width ≤ length d.cells.items
-  named_here ne =
-      named_row d.width (length d.cells.items) here
-      (subst (λ c. IsNamed d.width (length d.cells.items) c) (sym here_is) (cell_named d row (slice_index_or piece index 0) in_row byte)) ne
+  inside_here : here ≢ quit → row_of here + d.width ≤ length d.cells.items
+  inside_here = named_here d cells classes row (slice_index_or piece index 0) same_cells same_classes in_row byte
 
   next_at : start + index + 1 ≡ start + (index + 1)
   next_at = omega arith
 
   pub piece_plain : here < dead → InRow d here × Stands d q (start + (index + 1)) (record { row = here; noted = noted })
   piece_plain plain = (
-    subst (λ r. InRow d r) (plain_row here plain) (named_here (λ e. omega (arith, e, plain))),
+    subst (λ r. InRow d r) (plain_row here plain) (inside_here (λ e. omega (arith, e, plain))),
     subst (λ i. Stands d q i (record { row = here; noted = noted })) next_at
-        (stands_plain d q (start + index) row (slice_index_or piece index 0) noted x byte (byte_of_piece q.seen.content piece start index is lt) inside here here_is
+        (stands_plain d q (start + index) row (slice_index_or piece index 0) noted x byte (byte_of_piece q.seen.content piece start index is lt) inside here same
         (omega (arith, lt, within)) plain),
   )
 
   pub piece_met : met ≤ here → here - met < dead →
       InRow d (here - met) × Stands d q (start + (index + 1)) (record { row = here - met; noted = Some (here - met, start + index) })
   piece_met le short = (
-    subst (λ r. InRow d r) (met_row here le short) (named_here (λ e. omega (arith, e, le, short))),
+    subst (λ r. InRow d r) (met_row here le short) (inside_here (λ e. omega (arith, e, le, short))),
     subst (λ i. Stands d q i (record { row = here - met; noted = Some (here - met, start + index) })) next_at
-        (stands_met d q (start + index) row (slice_index_or piece index 0) noted x byte (byte_of_piece q.seen.content piece start index is lt) inside here here_is
+        (stands_met d q (start + index) row (slice_index_or piece index 0) noted x byte (byte_of_piece q.seen.content piece start index is lt) inside here same
         (omega (arith, lt, within)) le short),
   )

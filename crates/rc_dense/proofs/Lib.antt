@@ -1,3 +1,4 @@
+pub mod BackwardLemmas
 pub mod ForwardLemmas
 pub mod MarkLemmas
 pub mod SideLemmas

@@ -1,5 +1,5 @@
 -- What the marks of a cell say.
-use Rattle.std.proofs.Common.{◌≡◌, ◌≢◌, ℕ, ◌+◌, ◌-◌, ◌*◌, ◌/◌, ◌<◌, ◌≤◌, Bool, true, false, is_some, nat_le, if◌then◌else◌, List, length, Option, Some, None, slice_index_or, sym, ap, subst, ◌∙◌, refl, arith, add-one}
+use Rattle.std.proofs.Common.{◌≡◌, ◌≢◌, ℕ, ◌+◌, ◌-◌, ◌*◌, ◌/◌, ◌<◌, ◌≤◌, Bool, true, false, is_some, nat_le, if◌then◌else◌, List, length, Option, Some, None, slice_index_or, sym, ap, subst, ◌∙◌, refl, arith, add-one, slice_get}
 use Rattle.std.proofs.Math.Nat.{mul-le-mul_right, mul-div_cancel}
 use Rattle.std.proofs.lemmas.Bool.{le-leb, lt-leb}
 use Rattle.std.proofs.lemmas.Bool.Decides.{nat_tests}
@@ -8,7 +8,7 @@ use Rattle.rc_states.specs.States.{State, best_at}
 use Rattle.rc_automaton.specs.Machine.{Machine, is_dead}
 use Rattle.rc_dense.specs.Cells.{met, dead, quit, row_of, IsNamed}
 use Rattle.rc_dense.specs.Tables.{IsRow, Names, code_of, cell_at, class_at, IsTable}
-use Rattle.rc_dense.specs.Searches.{InRow, has_died, noted_by, told, IsNoted}
+use Rattle.rc_dense.specs.Searches.{InRow, has_died, noted_by, met_by, told, IsNoted}
 use Rattle.rc_dense.specs.declared.table.Table.{Table}
 
 -- A CELL'S NUMBER
@@ -71,14 +71,29 @@ pub classed : (d : Table) (b : ℕ) → b < 256 → slice_index_or d.classes.ite
 classed d b h = let n = d.classed.0 in d.classed.1 b 0 (omega (arith, n, h))
 
 -- a cell of the row, whatever stands for the cells past the end
-pub cell_same : (d : Table) (row b other : ℕ) → InRow d row → b < 256 → slice_index_or d.cells.items (row + class_at d b) other ≡ cell_at d (row + class_at d b)
+cell_same : (d : Table) (row b other : ℕ) → InRow d row → b < 256 → slice_index_or d.cells.items (row + class_at d b) other ≡ cell_at d (row + class_at d b)
 cell_same d row b other h byte =
     let c = classed d b byte in
     let lt : row + class_at d b < length d.cells.items = omega (arith, h, c) in
     get_or_from_slice_get d.cells.items (row + class_at d b) (cell_at d (row + class_at d b)) other (slice_get-get_or d.cells.items (row + class_at d b) quit lt)
 
-pub cell_named : (d : Table) (row b : ℕ) → InRow d row → b < 256 → IsNamed d.width (length d.cells.items) (cell_at d (row + class_at d b))
+cell_named : (d : Table) (row b : ℕ) → InRow d row → b < 256 → IsNamed d.width (length d.cells.items) (cell_at d (row + class_at d b))
 cell_named d row b h byte = let c = classed d b byte in d.inside.0 (row + class_at d b) quit (omega (arith, h, c))
+
+-- the cell that a loop reads
+module _ (d : Table) (cells classes : List ℕ) (row b : ℕ) (same_cells : cells ≡ d.cells.items) (same_classes : classes ≡ d.classes.items)
+    (in_row : InRow d row) (byte : b < 256) where
+  pub here_is : slice_index_or cells (row + slice_index_or classes b 0) 0 ≡ cell_at d (row + class_at d b)
+  here_is =
+      ap (λ xs. slice_index_or xs (row + slice_index_or classes b 0) 0) same_cells
+      ∙ ap (λ xs. slice_index_or d.cells.items (row + slice_index_or xs b 0) 0) same_classes ∙ cell_same d row b 0 in_row byte
+
+  pub named_here : slice_index_or cells (row + slice_index_or classes b 0) 0 ≢ quit →
+      row_of (slice_index_or cells (row + slice_index_or classes b 0) 0) + d.width ≤ length d.cells.items
+  named_here ne =
+      let here = slice_index_or cells (row + slice_index_or classes b 0) 0 in
+      named_row d.width (length d.cells.items) here
+      (subst (λ c. IsNamed d.width (length d.cells.items) c) (sym here_is) (cell_named d row b in_row byte)) ne
 
 row_within : (m : Machine) (states : List State) (d : Table) (row : ℕ) (s : State) → IsTable m states d → IsRow d states row s → InRow d row
 row_within m states d row s ok r =
@@ -124,7 +139,7 @@ pub noted_more : (m : Machine) (states : List State) (d : Table) (cell i : ℕ) 
 noted_more m states d cell i s noted found ok n h =
     noted_on states d cell i s s.stop noted found refl (was_met m states d cell s ok n) (named_state m states d cell s ok n) h
 
-pub row_number : (d : Table) (row id : ℕ) → row ≡ id * d.width → row / d.width ≡ id
+row_number : (d : Table) (row id : ℕ) → row ≡ id * d.width → row / d.width ≡ id
 row_number d row id e = let w = wide d in rw e (mul-div_cancel id w)
 
 -- the table tells it
@@ -136,3 +151,16 @@ told_is m states d (Some n) found ok h =
     let here = row_number d n.0 r.0 r.2 in
     let code = get_or_from_slice_get d.tells.items r.0 (code_of h.0.stop) 0 (ok.tells r.0 h.0 r.1) in
     rw (here, code, h.3, add-one) (sym h.4)
+
+met_as_best : (at : ℕ) (stop : Option ℕ) (found : Option (ℕ × ℕ)) → met_by (code_of stop) at found ≡ best_at at stop found
+met_as_best at None found = refl
+met_as_best at (Some k) found = rw add-one refl
+
+-- what is met at the end
+pub met_at_end : (m : Machine) (states : List State) (d : Table) (row id at : ℕ) (stop : Option ℕ) (noted found : Option (ℕ × ℕ)) → IsTable m states d →
+    row ≡ id * d.width → IsNoted d states noted found → slice_get d.ends.items id ≡ Some (code_of stop) →
+    met_by (slice_index_or d.ends.items (row / d.width) 0) at (told d noted) ≡ best_at at stop found
+met_at_end m states d row id at stop noted found ok e h is =
+    ap (λ n. met_by (slice_index_or d.ends.items n 0) at (told d noted)) (row_number d row id e)
+    ∙ ap (λ c. met_by c at (told d noted)) (get_or_from_slice_get d.ends.items id (code_of stop) 0 is)
+    ∙ ap (met_by (code_of stop) at) (told_is m states d noted found ok h) ∙ met_as_best at stop found

@@ -42,3 +42,8 @@ pub ahead_kept : (s t : Searched) (at : ℕ) → Keeps s t → ahead_at (text_of
 ahead_kept s t at k =
     ap (λ xs. ahead_at (record { content = xs; slice_start = t.slice.start; slice_end = min t.slice.end (length xs); terminator = 0 }) at) k.content
     ∙ ap (λ (p : Span). ahead_at (record { content = s.content; slice_start = p.start; slice_end = min p.end (length s.content); terminator = 0 }) at) k.slice
+
+pub behind_kept : (s t : Searched) (at : ℕ) → Keeps s t → behind_at (text_of 0 t) at ≡ behind_at (text_of 0 s) at
+behind_kept s t at k =
+    ap (λ xs. behind_at (record { content = xs; slice_start = t.slice.start; slice_end = min t.slice.end (length xs); terminator = 0 }) at) k.content
+    ∙ ap (λ (p : Span). behind_at (record { content = s.content; slice_start = p.start; slice_end = min p.end (length s.content); terminator = 0 }) at) k.slice

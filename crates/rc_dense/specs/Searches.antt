@@ -6,7 +6,7 @@ use Rattle.rc_program.specs.Text.{Text}
 use Rattle.rc_program.specs.Sought.{text_of}
 use Rattle.rc_states.specs.States.{State}
 use Rattle.rc_automaton.specs.Machine.{Machine, Begins, IsAsked}
-use Rattle.rc_automaton.specs.Runs.{MayRead, behind_at, Runs, RunEnd, met_last, stopped_at, SearchEnds}
+use Rattle.rc_automaton.specs.Runs.{MayRead, ahead_at, behind_at, Runs, RunsDown, RunEnd, met_last, stopped_at, SearchEnds, SearchEndsDown}
 use Rattle.rc_dense.specs.Cells.{met, dead, row_of}
 use Rattle.rc_dense.specs.Tables.{IsTable, IsRow}
 use Rattle.rc_dense.specs.declared.table.Table.{Table}
@@ -92,3 +92,35 @@ Ends d q e =
 abbrev pub IsLeg : Table → Course → ℕ → Leg → Type 0
 IsLeg d q i (Through s) = InRow d s.row × Stands d q i s
 IsLeg d q i (Over e) = Ends d q e × HasQuit q.seen.content e
+
+-- BACKWARDS
+
+-- the position first
+abbrev pub swapped : Option (ℕ × ℕ) → Option (ℕ × ℕ)
+swapped None = None
+swapped (Some n) = Some (n.1, n.0)
+
+-- The same on the way down: the search begins at `from`, as the byte there tells.
+pub record IsStandingDown (m : Machine) (states : List State) (d : Table) (t : Text) (q : Course) (i row : ℕ) (noted : Option (ℕ × ℕ)) : Type 0 where
+  pub first : State
+  pub read : MayRead m (ahead_at t q.from)
+  pub begins : Begins m q.anchored (ahead_at t q.from) first
+  pub state : State
+  pub named : IsRow d states row state
+  pub found : Option (ℕ × ℕ)
+  pub tells : IsNoted d states noted found
+  pub runs : RunsDown m t q.bound q.from first i state (swapped found)
+
+abbrev pub StandsDown : Table → Course → ℕ → Stand → Type 0
+StandsDown d q i s =
+    (m : Machine) (states : List State) (terminator : ℕ) → IsTable m states d → IsAsked m q.anchored →
+    IsStandingDown m states d (text_of terminator q.seen) q i s.row s.noted
+
+abbrev pub EndsDownSo : Table → Course → Ended → Type 0
+EndsDownSo d q e =
+    (m : Machine) (states : List State) (terminator : ℕ) → IsTable m states d → IsAsked m q.anchored →
+    SearchEndsDown m (text_of terminator q.seen) q.bound q.from q.anchored q.earliest (run_end e)
+
+abbrev pub IsLegDown : Table → Course → ℕ → Leg → Type 0
+IsLegDown d q i (Through s) = InRow d s.row × StandsDown d q i s
+IsLegDown d q i (Over e) = EndsDownSo d q e × HasQuit q.seen.content e

@@ -1,6 +1,7 @@
 //! Tables of all the states that a search can reach.
 #![tactic(auto)]
 
+pub mod backward;
 pub mod forward;
 mod look;
 pub mod run;

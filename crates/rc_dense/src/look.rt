@@ -2,7 +2,7 @@
 ghost use Rattle.std.specs.Prelude.{◌≡◌, ◌+◌, ◌/◌, ◌<◌, ◌≤◌, ◌^◌, length, slice_index_or};
 ghost use Rattle.rc_dense.specs.Cells.{IsNamed, row_of};
 ghost use Rattle.rc_dense.specs.Tables.{cell_at, class_at};
-ghost use Rattle.rc_dense.specs.Searches.{InRow, has_died, met_by, noted_by, told};
+ghost use Rattle.rc_dense.specs.Searches.{InRow, has_died, met_by, noted_by, swapped, told};
 
 use crate::table::{DEAD, MET, Table};
 
@@ -96,4 +96,14 @@ pub(crate) fn met_at_end(
         at,
         told(table, noted),
     )
+}
+
+/// The position first.
+pub(crate) fn swapped(found: Option<(usize, usize)>) -> Option<(usize, usize)>
+    ensures { result ≡ swapped found }
+{
+    match found {
+        Some((met, at)) => Some((at, met)),
+        None => None,
+    }
 }
