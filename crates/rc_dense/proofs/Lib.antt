@@ -4,3 +4,8 @@ pub mod NumberLemmas
 pub mod NameLemmas
 pub mod ReachLemmas
 pub mod MakerLemmas
+pub mod BackwardLemmas
+pub mod ForwardLemmas
+pub mod MarkLemmas
+pub mod SideLemmas
+pub mod StartLemmas

@@ -1,0 +1,219 @@
+//! Searches forwards by a table.
+ghost use Rattle.std.specs.Prelude.{◌≡◌, ◌+◌, ◌-◌, ◌<◌, ◌≤◌, IfSome, List, ℕ, length, slice_range, slice_get};
+ghost use Rattle.rc_text.specs.Text.{Keeps, high, low, slice_end};
+ghost use Rattle.rc_program.specs.Sought.{text_of};
+ghost use Rattle.rc_states.specs.States.{State};
+ghost use Rattle.rc_automaton.specs.Machine.{IsAsked, Machine};
+ghost use Rattle.rc_automaton.specs.Runs.{SearchEnds, behind_at};
+ghost use Rattle.rc_dense.specs.Tables.{IsByte, IsTable};
+ghost use Rattle.rc_dense.specs.Searches.{Course, Ends, HasQuit, InRow, IsLeg, Stands, run_end};
+
+use crate::look::{cell_of, has_died, met_at_end, noted_by, row_of, told};
+use crate::run::{Ended, Leg, Stand};
+use crate::sides::{byte_ahead, byte_behind};
+use crate::start::start;
+use crate::table::{DEAD, MET, QUIT, Table};
+use rc_text::cursor::Cursor;
+use rc_text::input::{Input, high, piece_from};
+use rc_text::types::Anchored;
+
+/// Runs over the bytes of a piece, up to one of which the cell needs a look, and answers how many bytes were read. A mark of something met
+/// needs none where `limit` is `DEAD`, and one where it is 0.
+#[inline(never)]
+fn run(table: &Table, piece: &[u8], start: usize, stand: Stand, limit: usize) -> (usize, Stand)
+    ghost course: { Course }
+    requires row { InRow table.now stand.row }
+    requires stands { Stands table.now course start stand }
+    requires bound { course.bound ≤ slice_end course.seen }
+    requires piece { piece.now ≡ slice_range course.seen.content start (start + length piece.now) }
+    requires within { start + length piece.now ≤ course.bound }
+    requires fits { start + length piece.now ≤ usize.MAX }
+    requires limit { limit ≤ 4611686018427387904 }
+    ensures read { result.0 ≤ length piece.now }
+    ensures row { InRow table.now result.1.row }
+    ensures stands { Stands table.now course (start + result.0) result.1 }
+{
+    let cells = table.cells.as_slice();
+    let classes = table.classes.as_slice();
+    let mut row = stand.row;
+    let mut noted = stand.noted;
+    for index in 0..piece.len() {
+        let cell = cells[row + classes[piece[index] as usize] as usize];
+        if cell < DEAD {
+            row = cell;
+        } else {
+            if cell < MET || cell - MET >= limit {
+                return (index, Stand { row, noted });
+            }
+            row = cell - MET;
+            noted = Some((row, start + index));
+        }
+    }
+    (piece.len(), Stand { row, noted })
+}
+
+/// Reads one byte, whatever its cell.
+fn step(table: &Table, byte: u8, at: usize, stand: Stand, earliest: bool) -> Leg
+    ghost course: { Course }
+    requires row { InRow table.now stand.row }
+    requires stands { Stands table.now course at stand }
+    requires bound { course.bound ≤ slice_end course.seen }
+    requires byte { slice_get course.seen.content at ≡ Some byte }
+    requires within { at < course.bound }
+    requires earliest { earliest ≡ course.earliest }
+    ensures { IsLeg table.now course (at + 1) result }
+{
+    let cell = cell_of(table, stand.row, byte);
+    if cell == QUIT {
+        return Leg::Over(Ended::Quit(byte, at));
+    }
+    let noted = noted_by(cell, at, stand.noted);
+    if has_died(cell) {
+        return Leg::Over(Ended::Met(told(table, noted)));
+    }
+    if earliest && cell >= MET {
+        return Leg::Over(Ended::Met(told(table, noted)));
+    }
+    let row = row_of(cell);
+    Leg::Through(Stand { row, noted })
+}
+
+/// Runs over the chunks from one position to another.
+fn cross<C: Cursor>(
+    table: &Table,
+    input: &mut Input<C>,
+    from: usize,
+    end: usize,
+    begin: Stand,
+    earliest: bool,
+) -> Leg
+    ghost course: { Course }
+    requires row { InRow table.now begin.row }
+    requires stands { Stands table.now course from begin }
+    requires seen { Keeps course.seen input.old }
+    requires bound { course.bound ≤ slice_end course.seen }
+    requires end { end ≡ course.bound }
+    requires ordered { from ≤ end }
+    requires earliest { earliest ≡ course.earliest }
+    ensures keeps { Keeps input.old input.new }
+    ensures leg { IsLeg table.now course end result }
+{
+    let limit = if earliest { 0 } else { DEAD };
+    let mut stand = begin;
+    let mut at = from;
+    while at < end {
+        let piece = piece_from(input, at, end);
+        let (read, next) = run(table, piece, at, stand, limit);
+        stand = next;
+        if read < piece.len() {
+            match step(table, piece[read], at + read, stand, earliest) {
+                Leg::Through(next) => {
+                    stand = next;
+                    at += read + 1;
+                }
+                Leg::Over(ended) => return Leg::Over(ended),
+            }
+        } else {
+            at += read;
+        }
+    }
+    Leg::Through(stand)
+}
+
+/// Where a search begins, by the byte behind the position.
+fn begin(table: &Table, anchored: Anchored, beside: Option<u8>, from: usize) -> Leg
+    ghost course: { Course }
+    requires anchored { anchored ≡ course.anchored }
+    requires from { from ≡ course.from }
+    requires beside { beside ≡ behind_at (text_of 0 course.seen) from }
+    requires small { IsByte beside }
+    requires there { IfSome beside (λ byte. (1 ≤ from) × (slice_get course.seen.content (from - 1) ≡ Some byte)) }
+    ensures { IsLeg table.now course from result }
+{
+    let cell = start(table, anchored, beside);
+    if cell == QUIT {
+        return match beside {
+            Some(byte) => Leg::Over(Ended::Quit(byte, from - 1)),
+            None => Leg::Over(Ended::Met(None)),
+        };
+    }
+    if has_died(cell) {
+        return Leg::Over(Ended::Met(None));
+    }
+    let row = row_of(cell);
+    Leg::Through(Stand { row, noted: None })
+}
+
+/// How a search ends that came to its upper bound: the byte that stands beyond decides what is met there, or the end of what is seen.
+fn finish<C: Cursor>(table: &Table, input: &mut Input<C>, end: usize, stand: Stand) -> Ended
+    ghost course: { Course }
+    requires row { InRow table.now stand.row }
+    requires stands { Stands table.now course end stand }
+    requires seen { Keeps course.seen input.old }
+    requires bound { course.bound ≤ slice_end course.seen }
+    requires end { end ≡ course.bound }
+    ensures keeps { Keeps input.old input.new }
+    ensures ends { Ends table.now course result }
+    ensures byte { HasQuit course.seen.content result }
+{
+    match byte_ahead(input, end) {
+        Some(byte) => {
+            let cell = cell_of(table, stand.row, byte);
+            if cell == QUIT {
+                return Ended::Quit(byte, end);
+            }
+            Ended::Met(told(table, noted_by(cell, end, stand.noted)))
+        }
+        None => Ended::Met(met_at_end(table, stand.row, end, stand.noted)),
+    }
+}
+
+/// Searches from one position up to another.
+fn search<C: Cursor>(
+    table: &Table,
+    input: &mut Input<C>,
+    anchored: Anchored,
+    from: usize,
+    end: usize,
+    earliest: bool,
+) -> Ended
+    ghost course: { Course }
+    requires course { course ≡ record { seen = input.old; from = from; bound = end; anchored = anchored; earliest = earliest } }
+    requires low { input.old.slice.start ≤ from }
+    requires ordered { from ≤ end }
+    requires bound { end ≤ slice_end input.old }
+    ensures keeps { Keeps input.old input.new }
+    ensures ends { Ends table.now course result }
+    ensures byte { HasQuit input.old.content result }
+{
+    let beside = byte_behind(input, from);
+    let stand = match begin(table, anchored, beside, from) {
+        Leg::Through(stand) => stand,
+        Leg::Over(ended) => return ended,
+    };
+    match cross(table, input, from, end, stand, earliest) {
+        Leg::Through(last) => finish(table, input, end, last),
+        Leg::Over(ended) => ended,
+    }
+}
+
+/// Searches forwards by the table, from the position `from` up to where the input's bounds end, in bytes of the whole content, wherever it is
+/// cut: what is met last is told, with its position; with `earliest` the first that is met, and nothing is read beyond it. A byte that the table doesn't read
+/// ends the search. Nothing is copied, and no memory is taken.
+pub fn run_forwards<C: Cursor>(
+    table: &Table,
+    input: &mut Input<C>,
+    anchored: Anchored,
+    from: usize,
+    earliest: bool,
+) -> Ended
+    requires low { low input.old ≤ from }
+    requires high { from ≤ high input.old }
+    ensures keeps { Keeps input.old input.new }
+    ensures ends { (m : Machine) (states : List State) (terminator : ℕ) → IsTable m states table.now → IsAsked m anchored
+        → SearchEnds m (text_of terminator input.old) (high input.old) from anchored earliest (run_end result) }
+    ensures byte { HasQuit input.old.content result }
+{
+    let end = high(input);
+    search(table, input, anchored, from, end, earliest)
+}

@@ -1,0 +1,109 @@
+//! What cells of a table say.
+ghost use Rattle.std.specs.Prelude.{◌≡◌, ◌+◌, ◌/◌, ◌<◌, ◌≤◌, ◌^◌, length, slice_index_or};
+ghost use Rattle.rc_dense.specs.Cells.{IsNamed, row_of};
+ghost use Rattle.rc_dense.specs.Tables.{cell_at, class_at};
+ghost use Rattle.rc_dense.specs.Searches.{InRow, has_died, met_by, noted_by, swapped, told};
+
+use crate::table::{DEAD, MET, Table};
+
+/// The row that a cell names.
+pub(crate) fn row_of(cell: usize) -> usize
+    ensures { result ≡ row_of cell }
+{
+    let row = if cell >= MET { cell - MET } else { cell };
+    if row >= DEAD { row - DEAD } else { row }
+}
+
+/// Whether nothing goes on from the row that a cell names.
+pub(crate) fn has_died(cell: usize) -> bool
+    ensures { result ≡ has_died cell }
+{
+    if cell >= MET {
+        return cell - MET >= DEAD;
+    }
+    cell >= DEAD
+}
+
+/// The cell of a row to which a byte leads.
+pub(crate) fn cell_of(table: &Table, row: usize, byte: u8) -> usize
+    requires { InRow table.now row }
+    ensures value { result ≡ cell_at table.now (row + class_at table.now byte) }
+    ensures named { IsNamed table.now.width (length table.now.cells.items) result }
+{
+    table.cells[row + table.classes[byte as usize] as usize]
+}
+
+/// What is noted once a cell was read at the position: that row, if something was met on the way to it.
+pub(crate) fn noted_by(
+    cell: usize,
+    at: usize,
+    noted: Option<(usize, usize)>,
+) -> Option<(usize, usize)>
+    ensures { result ≡ noted_by cell at noted }
+{
+    if cell >= MET {
+        return Some((row_of(cell), at));
+    }
+    noted
+}
+
+/// The code of the row in a list of codes, or 0 where it has none.
+fn code_of(codes: &[usize], row: usize, width: usize) -> usize
+    requires { 0 < width }
+    ensures { result ≡ slice_index_or codes.now (row / width) 0 }
+{
+    match codes.get(row / width) {
+        Some(code) => *code,
+        None => 0,
+    }
+}
+
+/// What was met, by its code, with the position; or the other where the code is 0.
+pub(crate) fn met_by(
+    code: usize,
+    at: usize,
+    other: Option<(usize, usize)>,
+) -> Option<(usize, usize)>
+    ensures { result ≡ met_by code at other }
+{
+    if code > 0 {
+        return Some((code - 1, at));
+    }
+    other
+}
+
+/// What was met last, with its position, by what is noted.
+pub(crate) fn told(table: &Table, noted: Option<(usize, usize)>) -> Option<(usize, usize)>
+    ensures { result ≡ told table.now noted }
+{
+    match noted {
+        Some((row, at)) => met_by(code_of(table.tells.as_slice(), row, table.width), at, None),
+        None => None,
+    }
+}
+
+/// What is met at the end of what a search sees, from this row on, and else what was met last.
+pub(crate) fn met_at_end(
+    table: &Table,
+    row: usize,
+    at: usize,
+    noted: Option<(usize, usize)>,
+) -> Option<(usize, usize)>
+    ensures { result ≡ met_by (slice_index_or table.now.ends.items (row / table.now.width) 0) at (told table.now noted) }
+{
+    met_by(
+        code_of(table.ends.as_slice(), row, table.width),
+        at,
+        told(table, noted),
+    )
+}
+
+/// The position first.
+pub(crate) fn swapped(found: Option<(usize, usize)>) -> Option<(usize, usize)>
+    ensures { result ≡ swapped found }
+{
+    match found {
+        Some((met, at)) => Some((at, met)),
+        None => None,
+    }
+}

@@ -1,0 +1,29 @@
+//! How searches by a table end.
+
+/// How a search by a table ended. Positions are in bytes of the whole content.
+#[derive(Clone, Copy)]
+pub enum Ended {
+    /// What was met last, if anything was: forwards the match place and the position at which the match ends, backwards the position at which
+    /// the match begins and the number of the entry.
+    Met(Option<(usize, usize)>),
+    /// The search came to a byte that the table doesn't read: the byte and its offset.
+    Quit(u8, usize),
+}
+
+/// Where a run stands between two bytes.
+#[derive(Clone, Copy)]
+pub(crate) struct Stand {
+    /// The row of its state.
+    pub row: usize,
+    /// The row that tells what was met last, with the position at which that was met; None where nothing was.
+    pub noted: Option<(usize, usize)>,
+}
+
+/// What became of a run over some bytes.
+#[derive(Clone, Copy)]
+pub(crate) enum Leg {
+    /// It stands behind them.
+    Through(Stand),
+    /// The search ended among them.
+    Over(Ended),
+}
