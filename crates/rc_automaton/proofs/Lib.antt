@@ -1,3 +1,12 @@
 pub mod SampleLemmas
 pub mod LastLemmas
 pub mod AutomatonLemmas
+pub mod WithinLemmas
+pub mod StartLemmas
+pub mod FirstLemmas
+pub mod GatherLemmas
+pub mod MetLemmas
+pub mod NarrowLemmas
+pub mod DownLemmas
+pub mod StopLemmas
+pub mod RunLemmas

@@ -3,3 +3,4 @@ pub mod Runs
 pub mod Samples
 pub mod Props
 pub mod Automata
+pub mod Laws

@@ -155,7 +155,8 @@ impl Automaton {
     pub fn create_scratch(&self, alloc: Global) -> Result<Scratch, AllocError>
         ensures { IfOk result (λ scratch. (direction : Direction) → scratch ≡ length (machine_of self.now direction).setting.places) }
     {
-        Scratch::new(alloc, self.places.len())
+        let places = &self.places;
+        Scratch::new(alloc, places.len())
     }
 
     /// Makes `to` the state in which a search begins, where this byte stands beside: before its start, or backwards ahead of its end; None at

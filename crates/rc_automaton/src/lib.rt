@@ -2,5 +2,6 @@
 #![tactic(auto)]
 
 pub mod automaton;
+pub mod laws;
 mod matches;
 mod samples;

@@ -1,0 +1,74 @@
+-- The states of a machine hold places of its program, each once.
+use Rattle.std.proofs.Common.{◌≡◌, ℕ, zero, suc, ◌<◌, List, [], ◌∷◌, length, Option, Some, None, IsTrue, false, true≢false, slice_get, inl, inr, ⊎_elim, sym, subst, ap, ◌∙◌, refl}
+use Rattle.std.proofs.lemmas.Bool.{cases_lt}
+use Rattle.std.proofs.lemmas.Option.{none-some, same_Some}
+use Rattle.rc_text.specs.declared.types.Anchored.{Anchored}
+use Rattle.rc_text.specs.declared.types.Anchored.TheVariants.{No, Yes, Pattern}
+use Rattle.rc_program.specs.Program.{Place, choice, place_at, is_match_place}
+use Rattle.rc_program.proofs.WayLemmas.{past_places}
+use Rattle.rc_states.specs.Steps.{HasPlace, AreOnce, AreBelow}
+use Rattle.rc_states.specs.States.{Setting, State}
+use Rattle.rc_states.proofs.LimitLemmas.{short}
+use Rattle.rc_states.proofs.KindLemmas.{kind_law, rising_once}
+use Rattle.rc_states.proofs.LawLemmas.{backward_law}
+use Rattle.rc_automaton.specs.Machine.{Direction, forwards, backwards, Machine, leads_by, begins_by, IsMachine}
+use Rattle.rc_automaton.specs.Laws.{IsWithin, MachineLaw}
+use Rattle.rc_automaton.proofs.LastLemmas.{accepts}
+
+both : (m : Machine) (s : State) → AreOnce s.list → AreBelow (length m.setting.places) s.list → IsWithin m s
+both m s once below = record { once = once; below = below; short = short (length m.setting.places) s.list once below }
+
+-- an entry is a place
+pub entry_below : (m : Machine) (p entry : ℕ) → IsMachine m → slice_get m.entries p ≡ Some entry → entry < length m.setting.places
+entry_below m p entry k e = k.entered entry (among m.entries p e)
+  where
+    among : (es : List ℕ) (i : ℕ) → slice_get es i ≡ Some entry → HasPlace entry es
+    among [] zero e = absurd (none-some entry e)
+    among [] (suc i) e = absurd (none-some entry e)
+    among (x ∷ xs) zero e = inl (same_Some x entry e)
+    among (x ∷ xs) (suc i) e = inr (among xs i e)
+
+one_root : (m : Machine) (root : ℕ) (s : State) → root < length m.setting.places → s.list ≡ root ∷ [] → IsWithin m s
+one_root m root s lt e = both m s (subst (λ l. AreOnce l) (sym e) ((λ h. h), tt))
+    (subst (λ l. AreBelow (length m.setting.places) l) (sym e) (λ q h. ⊎_elim (λ f. subst (λ k. k < length m.setting.places) f lt) (λ never. absurd never) h))
+
+match_below : (places : List Place) (q : ℕ) (only : Option ℕ) → IsTrue (is_match_place only (place_at places q)) → q < length places
+match_below places q only h = ⊎_elim (λ lt. lt)
+    (λ ge. absurd (true≢false (sym h ∙ ap (is_match_place only) (past_places places q ge) ∙ no_place only)))
+    (cases_lt q (length places))
+  where
+    no_place : (only : Option ℕ) → is_match_place only (choice []) ≡ false
+    no_place None = refl
+    no_place (Some p) = refl
+
+begin_within : (d : Direction) (g : Setting) (entries : List ℕ) (anchored : Anchored) (beside : Option ℕ) (s : State) →
+    let m : Machine = record { setting = g; entries = entries; direction = d } in
+    IsMachine m → begins_by d g entries anchored beside s → IsWithin m s
+begin_within (forwards kind) g entries No beside s k h = one_root (record { setting = g; entries = entries; direction = forwards kind }) 0 s k.rooted h.list
+begin_within (forwards kind) g entries Yes beside s k h = one_root (record { setting = g; entries = entries; direction = forwards kind }) 0 s k.rooted h.list
+begin_within (forwards kind) g entries (Pattern p) beside s k h =
+    let m : Machine = record { setting = g; entries = entries; direction = forwards kind } in
+    let f = h.2 in one_root m h.0 s (entry_below m p h.0 k h.1) f.list
+begin_within backwards g entries No beside s k h =
+    both (record { setting = g; entries = entries; direction = backwards }) s (rising_once s.list h.rising) (λ q z. match_below g.places q None ((h.list q).0 z))
+begin_within backwards g entries Yes beside s k h =
+    both (record { setting = g; entries = entries; direction = backwards }) s (rising_once s.list h.rising) (λ q z. match_below g.places q None ((h.list q).0 z))
+begin_within backwards g entries (Pattern p) beside s k h =
+    both (record { setting = g; entries = entries; direction = backwards }) s (rising_once s.list h.rising)
+    (λ q z. match_below g.places q (Some p) ((accepts p (place_at g.places q)).1 ((h.list q).0 z)))
+
+lead_within : (d : Direction) (g : Setting) (entries : List ℕ) (s t : State) (beside : Option ℕ) →
+    let m : Machine = record { setting = g; entries = entries; direction = d } in
+    IsMachine m → leads_by d g entries s beside t → IsWithin m t
+lead_within (forwards kind) g entries s t beside k h =
+    let i = kind_law.inside kind g 0 s t beside k.closed k.rooted h in
+    both (record { setting = g; entries = entries; direction = forwards kind }) t i.0 i.1
+lead_within backwards g entries s t beside k h =
+    let i = backward_law.inside g entries s t beside h in
+    both (record { setting = g; entries = entries; direction = backwards }) t i.0 i.1
+
+pub machine_law : MachineLaw
+machine_law = record {
+  begins = λ m anchored beside s k h. begin_within m.direction m.setting m.entries anchored beside s k h;
+  leads = λ m s t beside k h. lead_within m.direction m.setting m.entries s t beside k h;
+}
