@@ -1,3 +1,4 @@
+-- Only proofs use this file.
 -- Cells of a table, as numbers.
 use Rattle.std.specs.Prelude.{ℕ, ◌+◌, ◌-◌, Bool, ◌||◌, IsTrue, nat_le, nat_eq, if◌then◌else◌}
 

@@ -1,3 +1,4 @@
+-- Only proofs use this file.
 -- Searches by a table: where their runs stand, and how they end.
 use Rattle.std.specs.Prelude.{◌≡◌, ℕ, zero, suc, ◌+◌, ◌-◌, ◌/◌, ◌≤◌, Bool, List, length, Option, Some, None, slice_get, slice_index_or, nat_le, if◌then◌else◌}
 use Rattle.rc_text.specs.declared.types.Anchored.{Anchored}

@@ -1,3 +1,4 @@
+-- Only proofs use this file.
 -- Tables of states.
 use Rattle.std.specs.Prelude.{◌≡◌, ℕ, ◌+◌, ◌*◌, ◌<◌, ◌⊎◌, false, is_some, List, [], ◌∷◌, length, Option, Some, None, slice_get, slice_index_or, if◌then◌else◌}
 use Rattle.rc_text.specs.declared.types.Anchored.{Anchored}
