@@ -1,14 +1,14 @@
 //! Tables of all the states that a search can reach.
 #![tactic(auto)]
 
-pub mod error;
-mod maker;
-mod names;
-mod states;
 pub mod backward;
+pub mod error;
 pub mod forward;
 mod look;
+mod maker;
+mod names;
 pub mod run;
 mod sides;
 mod start;
+mod states;
 pub mod table;
