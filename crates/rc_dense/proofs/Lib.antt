@@ -4,3 +4,4 @@ pub mod NumberLemmas
 pub mod NameLemmas
 pub mod ReachLemmas
 pub mod MakerLemmas
+pub mod FillLemmas
