@@ -5,3 +5,4 @@ pub mod NameLemmas
 pub mod ReachLemmas
 pub mod MakerLemmas
 pub mod FillLemmas
+pub mod StartLemmas

@@ -69,3 +69,8 @@ pub record AreRows (m : Machine) (samples : List ℕ) (states : List State) (row
   pub filled : AreFilled (length samples) (IsCellOf m samples states) cells
   pub len : length cells ≡ row * length samples + column
   pub within : row * length samples + column ≤ length states * length samples
+
+-- The starts of the ways of anchoring before this one, and of this one as many.
+pub record AreStarts (m : Machine) (samples : List ℕ) (states : List State) (mode column : ℕ) (starts : List ℕ) : Type 0 where
+  pub filled : AreFilled (length samples + 1) (IsStartOf m samples states) starts
+  pub len : length starts ≡ mode * (length samples + 1) + column
