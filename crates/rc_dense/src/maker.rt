@@ -148,4 +148,28 @@ impl Maker {
         }
         Ok(())
     }
+
+    /// Adds the start of a way of anchoring where nothing stands beside.
+    pub(crate) fn start_at_end(
+        &mut self,
+        automaton: &Automaton,
+        direction: Direction,
+        anchored: &Anchored,
+        starts: &mut Vec<usize>,
+    ) -> Result<(), TableError>
+        ghost m: { Machine }
+        requires same { machine_of automaton.now direction ≡ m }
+        requires maker { IsMaker m self.old }
+        requires asked { IsAsked m anchored.now }
+        requires width { self.old.names.width ≡ length (samples_of automaton.now) }
+        requires starts { AreStarts m (samples_of automaton.now) self.old.names.states (mode_of anchored.now) (length (samples_of automaton.now)) starts.old.items }
+        ensures maker { IfOk result (λ _. IsMaker m self.new) }
+        ensures grows { IfOk result (λ _. Grows self.old.names self.new.names) }
+        ensures starts { IfOk result (λ _. AreStarts m (samples_of automaton.now) self.new.names.states (mode_of anchored.now + 1) 0 starts.new.items) }
+        ensures refused { IfErr result (IsRefused m self.old.names.width self.old.names.limit) }
+    {
+        let cell = self.start(automaton, direction, *anchored, None)?;
+        starts.push(cell)?;
+        Ok(())
+    }
 }
