@@ -1,0 +1,71 @@
+//! The making of a table.
+ghost use Rattle.std.specs.Prelude.{◌≡◌, ◌+◌, ◌*◌, ◌<◌, ◌≤◌, length, IfOk, IfErr, IfSome, Some, ℕ, slice_get, []};
+ghost use Rattle.rc_states.specs.Places.{state_of};
+ghost use Rattle.rc_states.specs.States as states;
+ghost use Rattle.rc_automaton.specs.Machine.{Machine};
+ghost use Rattle.rc_automaton.specs.Automata.{machine_of, samples_of};
+ghost use Rattle.rc_dense.specs.Tables.{code_of, mode_of};
+ghost use Rattle.rc_dense.specs.Makes.{IsMade, IsRefused};
+ghost use Rattle.rc_dense.specs.Rows.{IsMaker, Grows, AreEnds, AreRows, AreStarts};
+
+use crate::error::TableError;
+use crate::maker::Maker;
+use crate::names::{Names, dead};
+use crate::states::States;
+use crate::table::Table;
+use rc_automaton::automaton::{Automaton, Direction};
+use rc_text::types::{Anchored, PatternID};
+use std::alloc::Global;
+
+/// What was met, as a number; None where that is none.
+fn code_of(met: Option<usize>) -> Option<usize>
+    ensures { IfSome result (λ code. code ≡ code_of met) }
+{
+    match met {
+        None => Some(0),
+        Some(number) => number.checked_add(1),
+    }
+}
+
+/// The way of anchoring of this number; None where there is none.
+fn anchoring(mode: usize) -> Option<Anchored>
+    ensures { IfSome result (λ anchored. mode_of anchored ≡ mode) }
+{
+    match mode {
+        0 => Some(Anchored::No),
+        1 => Some(Anchored::Yes),
+        _ => match PatternID::new(mode - 2) {
+            Some(pattern) => Some(Anchored::Pattern(pattern)),
+            None => None,
+        },
+    }
+}
+
+/// The starts, for each way of anchoring.
+fn starts_of(
+    alloc: Global,
+    maker: &mut Maker,
+    automaton: &Automaton,
+    direction: Direction,
+    modes: usize,
+) -> Result<Vec<usize>, TableError>
+    ghost m: { Machine }
+    requires same { machine_of automaton.now direction ≡ m }
+    requires maker { IsMaker m maker.old }
+    requires width { maker.old.names.width ≡ length (samples_of automaton.now) }
+    requires modes { modes ≡ length m.entries + 2 }
+    ensures maker { IfOk result (λ _. IsMaker m maker.new) }
+    ensures grows { IfOk result (λ _. Grows maker.old.names maker.new.names) }
+    ensures starts { IfOk result (λ starts. AreStarts m (samples_of automaton.now) maker.new.names.states modes 0 starts.items) }
+    ensures refused { IfErr result (IsRefused m maker.old.names.width maker.old.names.limit) }
+{
+    let mut starts = Vec::new(alloc);
+    for mode in 0..modes {
+        let Some(anchored) = anchoring(mode) else {
+            return Err(TableError::Memory);
+        };
+        maker.starts_by(automaton, direction, &anchored, &mut starts)?;
+        maker.start_at_end(automaton, direction, &anchored, &mut starts)?;
+    }
+    Ok(starts)
+}
