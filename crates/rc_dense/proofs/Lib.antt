@@ -6,3 +6,4 @@ pub mod ReachLemmas
 pub mod MakerLemmas
 pub mod FillLemmas
 pub mod StartLemmas
+pub mod BuildLemmas

@@ -6,7 +6,8 @@ ghost use Rattle.rc_automaton.specs.Machine.{Machine};
 ghost use Rattle.rc_automaton.specs.Automata.{machine_of, samples_of};
 ghost use Rattle.rc_dense.specs.Tables.{code_of, mode_of};
 ghost use Rattle.rc_dense.specs.Makes.{IsMade, IsRefused};
-ghost use Rattle.rc_dense.specs.Rows.{IsMaker, Grows, AreEnds, AreRows, AreStarts};
+ghost use Rattle.rc_dense.specs.Rows.{IsMaker, Grows, AreEnds, AreRows, AreStarts, IsEndOf, AreTells};
+ghost use Rattle.rc_dense.specs.declared.error.TableError.TheVariants.{Memory};
 
 use crate::error::TableError;
 use crate::maker::Maker;
@@ -68,4 +69,78 @@ fn starts_of(
         maker.start_at_end(automaton, direction, &anchored, &mut starts)?;
     }
     Ok(starts)
+}
+
+/// What is met at the end, from the state of the number on.
+fn end_of(
+    maker: &mut Maker,
+    automaton: &Automaton,
+    direction: Direction,
+    number: usize,
+) -> Result<usize, TableError>
+    ghost m: { Machine }
+    requires same { machine_of automaton.now direction ≡ m }
+    requires maker { IsMaker m maker.old }
+    requires number { number < length maker.old.names.states }
+    ensures maker { IfOk result (λ _. IsMaker m maker.new) }
+    ensures names { maker.new.names ≡ maker.old.names }
+    ensures end { IfOk result (λ code. IsEndOf m maker.old.names.states number code) }
+    ensures refused { IfErr result (λ e. e ≡ Memory) }
+{
+    maker.lead(automaton, direction, number, None)?;
+    let Some(code) = code_of(maker.to.stop) else {
+        return Err(TableError::Memory);
+    };
+    Ok(code)
+}
+
+/// What was met before each row, as a number.
+fn tells_of(alloc: Global, states: &States) -> Result<Vec<usize>, TableError>
+    ensures tells { IfOk result (λ tells. (length tells.items ≡ length states.now) × AreTells states.now tells.items) }
+    ensures refused { IfErr result (λ e. e ≡ Memory) }
+{
+    let mut tells = Vec::new(alloc);
+    for number in 0..states.len() {
+        let Some(code) = code_of(states.get(number).stop) else {
+            return Err(TableError::Memory);
+        };
+        tells.push(code)?;
+    }
+    Ok(tells)
+}
+
+/// The rows of a table.
+#[derive(Drop)]
+struct Rows {
+    cells: Vec<usize>,
+    ends: Vec<usize>,
+}
+
+/// All rows, of the states so far and of those that come up.
+fn rows_of(
+    alloc: Global,
+    maker: &mut Maker,
+    automaton: &Automaton,
+    direction: Direction,
+) -> Result<Rows, TableError>
+    ghost m: { Machine }
+    requires same { machine_of automaton.now direction ≡ m }
+    requires maker { IsMaker m maker.old }
+    requires width { maker.old.names.width ≡ length (samples_of automaton.now) }
+    ensures maker { IfOk result (λ _. IsMaker m maker.new) }
+    ensures grows { IfOk result (λ _. Grows maker.old.names maker.new.names) }
+    ensures rows { IfOk result (λ rows. AreRows m (samples_of automaton.now) maker.new.names.states (length maker.new.names.states) 0 rows.cells.items) }
+    ensures ends { IfOk result (λ rows. AreEnds m maker.new.names.states rows.ends.items × (length rows.ends.items ≡ length maker.new.names.states)) }
+    ensures refused { IfErr result (IsRefused m maker.old.names.width maker.old.names.limit) }
+{
+    let mut cells = Vec::new(alloc);
+    let mut ends = Vec::new(alloc);
+    let mut number = 0;
+    while number < maker.names.states.len() {
+        maker.row(automaton, direction, number, &mut cells)?;
+        let end = end_of(maker, automaton, direction, number)?;
+        ends.push(end)?;
+        number += 1;
+    }
+    Ok(Rows { cells, ends })
 }
