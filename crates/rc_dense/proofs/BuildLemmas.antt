@@ -1,9 +1,9 @@
 -- What is told of each row.
-use Rattle.std.proofs.Common.{◌≡◌, inl, inr, ℕ, ◌*◌, ◌<◌, ◌≤◌, List, [], ◌∷◌, ◌++◌, length, Some, slice_get, slice_index_or, sym, ap, ◌∙◌, arith}
+use Rattle.std.proofs.Common.{◌≡◌, inl, inr, ℕ, ◌+◌, ◌*◌, ◌<◌, ◌≤◌, List, [], ◌∷◌, ◌++◌, length, Some, slice_get, slice_index_or, sym, ap, ◌∙◌, arith}
 use Rattle.std.proofs.Math.Nat.{mul-le-mul_left}
 use Rattle.std.proofs.lemmas.Bool.{cases_lt}
 use Rattle.std.proofs.lemmas.List.{length_push}
-use Rattle.std.proofs.lemmas.Option.{slice_get-get_or}
+use Rattle.std.proofs.lemmas.Option.{slice_get-get_or, slice_get_within}
 use Rattle.rc_states.specs.States.{State}
 use Rattle.rc_automaton.specs.Machine.{Machine}
 use Rattle.rc_dense.specs.Tables.{code_of, dead_state}
@@ -48,3 +48,11 @@ tell_more states tells s number code len a there e = λ id t lt at. elim (cases_
 -- there are no more rows than the cells below the marks
 pub few_rows : (n w : ℕ) → 0 < w → n * w < 4611686018427387904 → n < 4611686018427387904
 few_rows n w wide small = let product : n * 1 ≤ n * w = mul-le-mul_left n wide in omega (arith, product, small)
+
+-- of one state that is there, the number is 0
+pub first_of : (old new : List State) (id : ℕ) (s : State) → old ≡ [] → length new ≤ length old + 1 → slice_get new id ≡ Some s → slice_get new 0 ≡ Some s
+first_of old new id s none few e =
+    let within = slice_get_within new id s e in
+    let empty = ap length none in
+    let first : 0 ≡ id = omega (arith, within, few, empty) in
+    ap (λ i. slice_get new i) first ∙ e

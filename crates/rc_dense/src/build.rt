@@ -2,9 +2,9 @@
 ghost use Rattle.std.specs.Prelude.{◌≡◌, ◌+◌, ◌*◌, ◌<◌, ◌≤◌, length, IfOk, IfErr, IfSome, Some, ℕ, slice_get, []};
 ghost use Rattle.rc_states.specs.Places.{state_of};
 ghost use Rattle.rc_states.specs.States as states;
-ghost use Rattle.rc_automaton.specs.Machine.{Machine};
+ghost use Rattle.rc_automaton.specs.Machine.{Machine, IsMachine};
 ghost use Rattle.rc_automaton.specs.Automata.{machine_of, samples_of};
-ghost use Rattle.rc_dense.specs.Tables.{code_of, mode_of};
+ghost use Rattle.rc_dense.specs.Tables.{code_of, mode_of, dead_state};
 ghost use Rattle.rc_dense.specs.Makes.{IsMade, IsRefused};
 ghost use Rattle.rc_dense.specs.Rows.{IsMaker, Grows, AreEnds, AreRows, AreStarts, IsEndOf, AreTells};
 ghost use Rattle.rc_dense.specs.declared.error.TableError.TheVariants.{Memory};
@@ -15,6 +15,7 @@ use crate::names::{Names, dead};
 use crate::states::States;
 use crate::table::Table;
 use rc_automaton::automaton::{Automaton, Direction};
+use rc_states::scratch::Scratch;
 use rc_text::types::{Anchored, PatternID};
 use std::alloc::Global;
 
@@ -143,4 +144,29 @@ fn rows_of(
         number += 1;
     }
     Ok(Rows { cells, ends })
+}
+
+/// What makes a table, before any row: the state from which nothing goes on is the first one.
+fn maker_of(
+    alloc: Global,
+    scratch: Scratch,
+    width: usize,
+    starts: usize,
+    limit: Option<usize>,
+) -> Result<Maker, TableError>
+    ghost m: { Machine }
+    requires machine { IsMachine m }
+    requires scratch { scratch ≡ length m.setting.places }
+    requires wide { (0 < width) × (width < 9223372036854775808) }
+    requires starts { starts ≡ (length m.entries + 2) * (width + 1) }
+    ensures maker { IfOk result (IsMaker m) }
+    ensures width { IfOk result (λ k. k.names.width ≡ width) }
+    ensures limit { IfOk result (λ k. k.names.limit ≡ limit) }
+    ensures first { IfOk result (λ k. slice_get k.names.states 0 ≡ Some dead_state) }
+    ensures refused { IfErr result (IsRefused m width limit) }
+{
+    let to = dead(alloc);
+    let mut names = Names::new(alloc, width, starts, limit)?;
+    names.name(&to)?;
+    Ok(Maker { names, scratch, to })
 }
