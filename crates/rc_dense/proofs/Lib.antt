@@ -9,3 +9,6 @@ pub mod ForwardLemmas
 pub mod MarkLemmas
 pub mod SideLemmas
 pub mod StartLemmas
+pub mod ModeLemmas
+pub mod FillLemmas
+pub mod BuildLemmas

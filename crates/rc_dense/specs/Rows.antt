@@ -69,3 +69,16 @@ pub record AreRows (m : Machine) (samples : List ℕ) (states : List State) (row
   pub filled : AreFilled (length samples) (IsCellOf m samples states) cells
   pub len : length cells ≡ row * length samples + column
   pub within : row * length samples + column ≤ length states * length samples
+
+-- The starts of the ways of anchoring before this one, and of this one as many.
+pub record AreStarts (m : Machine) (samples : List ℕ) (states : List State) (mode column : ℕ) (starts : List ℕ) : Type 0 where
+  pub filled : AreFilled (length samples + 1) (IsStartOf m samples states) starts
+  pub len : length starts ≡ mode * (length samples + 1) + column
+
+-- what is met at the end, from the state of this number on
+abbrev pub IsEndOf : Machine → List State → ℕ → ℕ → Type 0
+IsEndOf m states number code = (s : State) → slice_get states number ≡ Some s → (t : State) × Leads m s None t × (code ≡ code_of t.stop)
+
+-- what was met before, for the first states
+abbrev pub AreTells : List State → List ℕ → Type 0
+AreTells states tells = (id : ℕ) (s : State) → id < length tells → slice_get states id ≡ Some s → slice_get tells id ≡ Some (code_of s.stop)

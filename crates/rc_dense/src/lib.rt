@@ -2,6 +2,7 @@
 #![tactic(auto)]
 
 pub mod backward;
+mod build;
 pub mod error;
 pub mod forward;
 mod look;

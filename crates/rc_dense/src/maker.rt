@@ -1,12 +1,12 @@
 //! The steps by which a table is made.
-ghost use Rattle.std.specs.Prelude.{◌≡◌, ◌<◌, length, IfOk, IfErr, Some, slice_get};
+ghost use Rattle.std.specs.Prelude.{◌≡◌, ◌+◌, ◌<◌, length, IfOk, IfErr, Some, slice_get};
 ghost use Rattle.rc_states.specs.Places.{state_of};
 ghost use Rattle.rc_states.specs.States as states;
 ghost use Rattle.rc_automaton.specs.Machine.{Machine, IsAsked, Leads, Begins};
-ghost use Rattle.rc_automaton.specs.Automata.{machine_of};
-ghost use Rattle.rc_dense.specs.Tables.{IsByte};
+ghost use Rattle.rc_automaton.specs.Automata.{machine_of, samples_of};
+ghost use Rattle.rc_dense.specs.Tables.{IsByte, mode_of};
 ghost use Rattle.rc_dense.specs.Makes.{IsRefused};
-ghost use Rattle.rc_dense.specs.Rows.{IsMaker, Grows, IsCell};
+ghost use Rattle.rc_dense.specs.Rows.{IsMaker, Grows, IsCell, AreRows, AreStarts};
 
 use crate::error::TableError;
 use crate::names::Names;
@@ -95,5 +95,81 @@ impl Maker {
         automaton.begin(direction, anchored, beside, &mut self.to)?;
         let name = self.names.name(&self.to)?;
         Ok(name)
+    }
+
+    /// Adds the cells of the row of the number, one for each class.
+    pub(crate) fn row(
+        &mut self,
+        automaton: &Automaton,
+        direction: Direction,
+        number: usize,
+        cells: &mut Vec<usize>,
+    ) -> Result<(), TableError>
+        ghost m: { Machine }
+        requires same { machine_of automaton.now direction ≡ m }
+        requires maker { IsMaker m self.old }
+        requires number { number < length self.old.names.states }
+        requires width { self.old.names.width ≡ length (samples_of automaton.now) }
+        requires rows { AreRows m (samples_of automaton.now) self.old.names.states number 0 cells.old.items }
+        ensures maker { IfOk result (λ _. IsMaker m self.new) }
+        ensures grows { IfOk result (λ _. Grows self.old.names self.new.names) }
+        ensures rows { IfOk result (λ _. AreRows m (samples_of automaton.now) self.new.names.states (number + 1) 0 cells.new.items) }
+        ensures refused { IfErr result (IsRefused m self.old.names.width self.old.names.limit) }
+    {
+        for byte in automaton.samples() {
+            let cell = self.cell(automaton, direction, number, *byte)?;
+            cells.push(cell)?;
+        }
+        Ok(())
+    }
+
+    /// Adds the starts of a way of anchoring, one for each class of the byte beside.
+    pub(crate) fn starts_by(
+        &mut self,
+        automaton: &Automaton,
+        direction: Direction,
+        anchored: &Anchored,
+        starts: &mut Vec<usize>,
+    ) -> Result<(), TableError>
+        ghost m: { Machine }
+        requires same { machine_of automaton.now direction ≡ m }
+        requires maker { IsMaker m self.old }
+        requires asked { IsAsked m anchored.now }
+        requires width { self.old.names.width ≡ length (samples_of automaton.now) }
+        requires starts { AreStarts m (samples_of automaton.now) self.old.names.states (mode_of anchored.now) 0 starts.old.items }
+        ensures maker { IfOk result (λ _. IsMaker m self.new) }
+        ensures grows { IfOk result (λ _. Grows self.old.names self.new.names) }
+        ensures starts { IfOk result (λ _. AreStarts m (samples_of automaton.now) self.new.names.states (mode_of anchored.now) (length (samples_of automaton.now)) starts.new.items) }
+        ensures refused { IfErr result (IsRefused m self.old.names.width self.old.names.limit) }
+    {
+        for byte in automaton.samples() {
+            let cell = self.start(automaton, direction, *anchored, Some(*byte))?;
+            starts.push(cell)?;
+        }
+        Ok(())
+    }
+
+    /// Adds the start of a way of anchoring where nothing stands beside.
+    pub(crate) fn start_at_end(
+        &mut self,
+        automaton: &Automaton,
+        direction: Direction,
+        anchored: &Anchored,
+        starts: &mut Vec<usize>,
+    ) -> Result<(), TableError>
+        ghost m: { Machine }
+        requires same { machine_of automaton.now direction ≡ m }
+        requires maker { IsMaker m self.old }
+        requires asked { IsAsked m anchored.now }
+        requires width { self.old.names.width ≡ length (samples_of automaton.now) }
+        requires starts { AreStarts m (samples_of automaton.now) self.old.names.states (mode_of anchored.now) (length (samples_of automaton.now)) starts.old.items }
+        ensures maker { IfOk result (λ _. IsMaker m self.new) }
+        ensures grows { IfOk result (λ _. Grows self.old.names self.new.names) }
+        ensures starts { IfOk result (λ _. AreStarts m (samples_of automaton.now) self.new.names.states (mode_of anchored.now + 1) 0 starts.new.items) }
+        ensures refused { IfErr result (IsRefused m self.old.names.width self.old.names.limit) }
+    {
+        let cell = self.start(automaton, direction, *anchored, None)?;
+        starts.push(cell)?;
+        Ok(())
     }
 }

@@ -81,6 +81,7 @@ impl Names {
         requires reached { IsReached m (state_of state.now) }
         ensures named { IfOk result (λ _. AreNamed m self.new) }
         ensures grows { IfOk result (λ _. Grows self.old self.new) }
+        ensures few { IfOk result (λ _. length self.new.states ≤ length self.old.states + 1) }
         ensures number { IfOk result (λ number. slice_get self.new.states number ≡ Some (state_of state.now)) }
         ensures refused { IfErr result (IsRefused m self.old.width self.old.limit) }
     {
@@ -109,6 +110,7 @@ impl Names {
         requires reached { IsReached m (state_of state.now) }
         ensures named { IfOk result (λ _. AreNamed m self.new) }
         ensures grows { IfOk result (λ _. Grows self.old self.new) }
+        ensures few { IfOk result (λ _. length self.new.states ≤ length self.old.states + 1) }
         ensures name { IfOk result (λ cell. NamesBy self.new.width self.new.states cell (state_of state.now)) }
         ensures refused { IfErr result (IsRefused m self.old.width self.old.limit) }
     {
