@@ -10,3 +10,4 @@ pub mod NarrowLemmas
 pub mod DownLemmas
 pub mod StopLemmas
 pub mod RunLemmas
+pub mod EntryLemmas
