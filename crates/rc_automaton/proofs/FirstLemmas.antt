@@ -10,8 +10,8 @@ use Rattle.rc_states.specs.Steps.{Adds}
 use Rattle.rc_states.specs.States.{Setting, IsSetting, State, IsNext, IsInside, IsUnderWay, Stops, root_if}
 use Rattle.rc_states.proofs.LawLemmas.{forward_law}
 use Rattle.rc_automaton.specs.Machine.{Machine, forwards, is_empty, is_dead}
-use Rattle.rc_automaton.specs.Runs.{RunEnd, met_last, Runs, begun, goes_on, EndsSo, at_bound, dead, early, quit}
-use Rattle.rc_automaton.proofs.StartLemmas.{same_met, stop_no_met}
+use Rattle.rc_automaton.specs.Runs.{RunEnd, met_last, Runs, begun, goes_on, EndsSo, at_bound, dead, early, quit, rests}
+use Rattle.rc_automaton.proofs.StartLemmas.{same_met, stop_no_met, rest_no_met}
 
 -- where no walk may begin later, it is all the same where it would
 any_root : (g : Setting) (root : ℕ) (s next : State) (after : Option ℕ) → (root ≡ 0) ⊎ (s.goes_on ≡ false) → IsNext g 0 s after next →
@@ -68,3 +68,4 @@ module _ (g : Setting) (entries : List ℕ) (ok : IsSetting g) (t : Text) (same 
   ends earliest e r (early {met} i s t2 runs) is (inl f) = absurd (true≢false (sym t2 ∙ f))
   ends earliest e r (early {met} i s t2 runs) is (inr f) = absurd (none-some met (sym f ∙ sym (same_met is)))
   ends earliest e r (quit i s runs le unread) is k = absurd (stop_no_met is)
+  ends earliest e r (rests i s runs le idle) is k = absurd (rest_no_met is)

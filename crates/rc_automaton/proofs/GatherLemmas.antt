@@ -16,9 +16,9 @@ use Rattle.rc_states.proofs.TextLemmas.{near}
 use Rattle.rc_states.proofs.LawLemmas.{gather_law}
 use Rattle.rc_states.proofs.SpanLemmas.{greatest_span_law}
 use Rattle.rc_automaton.specs.Machine.{Machine, forwards, is_dead}
-use Rattle.rc_automaton.specs.Runs.{RunEnd, met_last, Runs, begun, goes_on, EndsSo, at_bound, dead, early, quit}
+use Rattle.rc_automaton.specs.Runs.{RunEnd, met_last, Runs, begun, goes_on, EndsSo, at_bound, dead, early, quit, rests}
 use Rattle.rc_automaton.specs.Laws.{position_of}
-use Rattle.rc_automaton.proofs.StartLemmas.{same_met, stop_no_met, starts_at, first_start, later_start, once_start}
+use Rattle.rc_automaton.proofs.StartLemmas.{same_met, stop_no_met, rest_no_met, starts_at, first_start, later_start, once_start}
 use Rattle.rc_automaton.proofs.FirstLemmas.{no_list}
 
 -- where no walk may begin later, it is all the same where it would
@@ -175,6 +175,7 @@ module _ (g : Setting) (entries : List ℕ) (ok : IsSetting g) (t : Text) (same 
   ends earliest e r (early {met} i s t2 runs) is (inl z) = absurd (true≢false (sym t2 ∙ z))
   ends earliest e r (early {met} i s t2 runs) is (inr z) = absurd (none-some met (sym z ∙ sym (same_met is)))
   ends earliest e r (quit i s runs le unread) is k = absurd (stop_no_met is)
+  ends earliest e r (rests i s runs le idle) is k = absurd (rest_no_met is)
 
   -- what is met at a position is met by a walk that ends there
   pub meets : (i q : ℕ) (s next : State) (met : Option Pair) → i ≤ hi → Runs m t hi from first i s met → IsReadable g.needs (byte_of (after_at t i)) →
@@ -198,3 +199,4 @@ module _ (g : Setting) (entries : List ℕ) (ok : IsSetting g) (t : Text) (same 
       filled f = cc
   bounded earliest e (early {met} i s t2 runs) is = absurd (none-some met (sym (same_met is)))
   bounded earliest e (quit i s runs le unread) is = absurd (stop_no_met is)
+  bounded earliest e (rests i s runs le idle) is = absurd (rest_no_met is)

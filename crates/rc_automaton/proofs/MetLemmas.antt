@@ -16,9 +16,9 @@ use Rattle.rc_states.specs.Sets as sets
 use Rattle.rc_states.proofs.RunLemmas.{reach_walks}
 use Rattle.rc_states.proofs.TextLemmas.{near, last}
 use Rattle.rc_automaton.specs.Machine.{Machine, Leads}
-use Rattle.rc_automaton.specs.Runs.{RunEnd, met_last, stopped_at, ahead_at, MayRead, Runs, EndsSo, at_bound, dead, early, quit}
+use Rattle.rc_automaton.specs.Runs.{RunEnd, met_last, stopped_at, ahead_at, MayRead, Runs, EndsSo, at_bound, dead, early, quit, rests}
 use Rattle.rc_automaton.specs.Runs as runs
-use Rattle.rc_automaton.proofs.StartLemmas.{same_met, stop_no_met}
+use Rattle.rc_automaton.proofs.StartLemmas.{same_met, stop_no_met, rest_no_met}
 
 -- WHERE IT WAS MET
 
@@ -61,6 +61,7 @@ module _ (m : Machine) (t : Text) (hi from : ℕ) (first : State) where
   end_met earliest e n (dead i s r d) is = run_met r n (same_met is)
   end_met earliest e n (early i s t2 r) is = run_met r n (same_met is)
   end_met earliest e n (quit i s r le unread) is = absurd (stop_no_met is)
+  end_met earliest e n (rests i s r le idle) is = absurd (rest_no_met is)
 
 -- WALKS WITHIN A LOWER BOUND
 

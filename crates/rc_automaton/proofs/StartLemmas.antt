@@ -8,7 +8,7 @@ use Rattle.rc_states.specs.Gives.{starts}
 use Rattle.rc_states.specs.States.{Setting, State, IsFirst, all_starts}
 use Rattle.rc_states.proofs.LawLemmas.{in_starts, starts_in}
 use Rattle.rc_automaton.specs.Machine.{Machine, forwards, begins_by}
-use Rattle.rc_automaton.specs.Runs.{RunEnd, met_last, stopped_at}
+use Rattle.rc_automaton.specs.Runs.{RunEnd, met_last, stopped_at, idle_at}
 use Rattle.rc_automaton.specs.Laws.{starts_of}
 use Rattle.rc_text.specs.declared.types.MatchKind.{MatchKind}
 
@@ -16,16 +16,21 @@ use Rattle.rc_text.specs.declared.types.MatchKind.{MatchKind}
 abbrev pub met_of : RunEnd → Option Pair
 met_of (met_last met) = met
 met_of (stopped_at p) = None
+met_of (idle_at i) = None
 
 abbrev pub has_met : RunEnd → Bool
 has_met (met_last met) = true
 has_met (stopped_at p) = false
+has_met (idle_at i) = false
 
 pub same_met : {x y : Option Pair} → met_last x ≡ met_last y → x ≡ y
 same_met e = ap (λ r. met_of r) e
 
 pub stop_no_met : {p : ℕ} {x : Option Pair} → stopped_at p ≡ met_last x → ⊥
 stop_no_met e = true≢false (sym (ap (λ r. has_met r) e))
+
+pub rest_no_met : {i : ℕ} {x : Option Pair} → idle_at i ≡ met_last x → ⊥
+rest_no_met e = true≢false (sym (ap (λ r. has_met r) e))
 
 -- A search forwards begins at some root: at the first position alone, or at the root 0 at the later ones too.
 pub record IsRoot (m : Machine) (anchored : Anchored) (beside : Option ℕ) (from hi : ℕ) (first : State) : Type 0 where

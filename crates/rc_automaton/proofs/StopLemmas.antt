@@ -1,5 +1,5 @@
 -- Where runs stop.
-use Rattle.std.proofs.Common.{◌≡◌, ℕ, ◌+◌, ◌-◌, ◌<◌, ◌≤◌, Bool, true≢false, List, [], length, take, drop, Option, Some, None, IsTrue, slice_get, ⊎_elim, sym, subst, ap, ◌∙◌, refl, arith}
+use Rattle.std.proofs.Common.{◌≡◌, ℕ, ◌+◌, ◌-◌, ◌<◌, ◌≤◌, Bool, true, false, true≢false, List, [], length, take, drop, Option, Some, None, IsTrue, slice_get, ⊎_elim, sym, subst, ap, ◌∙◌, refl, arith}
 use Rattle.std.proofs.lemmas.Bool.{cases_lt, cases_eq, cases_Bool}
 use Rattle.std.proofs.lemmas.Option.{none-some}
 use Rattle.rc_text.specs.declared.types.Anchored.{Anchored}
@@ -10,7 +10,7 @@ use Rattle.rc_states.specs.Sides.{byte_of, IsReadable}
 use Rattle.rc_states.specs.States.{State, IsInside}
 use Rattle.rc_states.proofs.TextLemmas.{get_some, byte_ahead, byte_behind}
 use Rattle.rc_automaton.specs.Machine.{Machine}
-use Rattle.rc_automaton.specs.Runs.{RunEnd, met_last, stopped_at, ahead_at, behind_at, MayRead, Runs, EndsSo, SearchEnds, RunsDown, EndsDown, SearchEndsDown}
+use Rattle.rc_automaton.specs.Runs.{RunEnd, met_last, stopped_at, idle_at, ahead_at, behind_at, MayRead, Runs, EndsSo, SearchEnds, RunsDown, EndsDown, SearchEndsDown}
 use Rattle.rc_automaton.specs.Runs as runs
 use Rattle.rc_automaton.specs.Laws.{IsUnread}
 use Rattle.rc_automaton.proofs.StartLemmas.{has_met}
@@ -18,12 +18,21 @@ use Rattle.rc_automaton.proofs.StartLemmas.{has_met}
 abbrev place_of : RunEnd → ℕ
 place_of (met_last met) = 0
 place_of (stopped_at p) = p
+place_of (idle_at i) = 0
+
+abbrev has_stopped : RunEnd → Bool
+has_stopped (met_last met) = false
+has_stopped (stopped_at p) = true
+has_stopped (idle_at i) = false
 
 same_stop : {p q : ℕ} → stopped_at p ≡ stopped_at q → p ≡ q
 same_stop e = ap (λ r. place_of r) e
 
 no_stop : {p : ℕ} {x : Option (ℕ × ℕ)} → met_last x ≡ stopped_at p → ⊥
 no_stop e = true≢false (ap (λ r. has_met r) e)
+
+no_rest : {i p : ℕ} → idle_at i ≡ stopped_at p → ⊥
+no_rest e = true≢false (sym (ap (λ r. has_stopped r) e))
 
 -- BYTES
 
@@ -75,6 +84,7 @@ module _ (m : Machine) (t : Text) (hi from : ℕ) (first : State) where
   end_stop earliest e p (runs.at_bound s next r may step) is = absurd (no_stop is)
   end_stop earliest e p (runs.dead i s r d) is = absurd (no_stop is)
   end_stop earliest e p (runs.early i s t2 r) is = absurd (no_stop is)
+  end_stop earliest e p (runs.rests i s r le d) is = absurd (no_rest is)
   end_stop earliest e p (runs.quit i s r le h) is =
       let v = all_read r in
       subst (λ k. (from ≤ k) × (k ≤ hi) × (¬ MayRead m (ahead_at t k)) × ((y : ℕ) → from ≤ y → y < k → MayRead m (ahead_at t y))) (same_stop is)

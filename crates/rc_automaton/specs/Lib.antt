@@ -4,3 +4,4 @@ pub mod Samples
 pub mod Props
 pub mod Automata
 pub mod Laws
+pub mod Ended

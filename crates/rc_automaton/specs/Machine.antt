@@ -1,5 +1,5 @@
 -- What states are made of: a byte program, the direction in which it is searched, and the kind of match that is sought.
-use Rattle.std.specs.Prelude.{◌≡◌, ◌↔◌, ℕ, ◌<◌, Bool, true, false, not, ◌&&◌, List, [], ◌∷◌, length, Option, Some, None, slice_get}
+use Rattle.std.specs.Prelude.{◌≡◌, ◌↔◌, ℕ, ◌<◌, Bool, true, false, not, ◌&&◌, List, [], ◌∷◌, length, Option, Some, None, nat_eq, slice_get}
 use Rattle.rc_text.specs.declared.types.MatchKind.{MatchKind}
 use Rattle.rc_text.specs.declared.types.Anchored.{Anchored}
 use Rattle.rc_text.specs.declared.types.Anchored.TheVariants.{No, Yes, Pattern}
@@ -64,6 +64,16 @@ is_empty (q ∷ qs) = false
 -- nothing goes on from the state
 abbrev pub is_dead : State → Bool
 is_dead s = is_empty s.list && not s.goes_on
+
+-- the list is that of the place by which the program is entered
+abbrev pub is_root_alone : List ℕ → Bool
+is_root_alone [] = false
+is_root_alone (q ∷ []) = nat_eq q 0
+is_root_alone (q ∷ p ∷ qs) = false
+
+-- nothing is under way but walks that begin at the state's position or later
+abbrev pub is_idle : State → Bool
+is_idle s = is_root_alone s.list && s.goes_on
 
 -- What makes it a machine: its places read bytes alone, it is closed, and it and its entries are entered within it.
 pub record IsMachine (m : Machine) : Type 0 where

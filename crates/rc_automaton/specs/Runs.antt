@@ -5,7 +5,7 @@ use Rattle.rc_program.specs.Text.{Text, before_at, after_at}
 use Rattle.rc_states.specs.Sides.{byte_of, IsReadable}
 use Rattle.rc_states.specs.States.{State, best_at}
 use Rattle.rc_states.specs.Backward.{least_at}
-use Rattle.rc_automaton.specs.Machine.{Machine, Leads, Begins, is_dead}
+use Rattle.rc_automaton.specs.Machine.{Machine, Leads, Begins, is_dead, is_idle}
 
 -- the byte that stands at the position, or before it, within what the search sees; none at its ends
 abbrev pub ahead_at : Text → ℕ → Option ℕ
@@ -24,10 +24,12 @@ pub data Runs (m : Machine) (t : Text) (hi from : ℕ) (first : State) : ℕ →
   goes_on : {met : Option (ℕ × ℕ)} (i : ℕ) (s next : State) → Runs m t hi from first i s met → i < hi → MayRead m (ahead_at t i) →
       Leads m s (ahead_at t i) next → Runs m t hi from first (i + 1) next (best_at i next.stop met)
 
--- How a search forwards ended: with what was met last, if anything, and its position; or at a byte that isn't read, at this offset.
+-- How a search forwards ended: with what was met last, if anything, and its position; at a byte that isn't read, at this offset; or at this
+-- position, before which nothing was met, and where nothing is under way but walks that begin there or later.
 pub data RunEnd : Type 0 where
   met_last : Option (ℕ × ℕ) → RunEnd
   stopped_at : ℕ → RunEnd
+  idle_at : ℕ → RunEnd
 
 pub data EndsSo (m : Machine) (t : Text) (hi from : ℕ) (first : State) (earliest : Bool) : RunEnd → Type 0 where
   -- at the upper bound, where the byte beyond decides what is met there
@@ -41,6 +43,8 @@ pub data EndsSo (m : Machine) (t : Text) (hi from : ℕ) (first : State) (earlie
       EndsSo m t hi from first earliest (met_last (Some met))
   quit : {met : Option (ℕ × ℕ)} (i : ℕ) (s : State) → Runs m t hi from first i s met → i ≤ hi → ¬ MayRead m (ahead_at t i) →
       EndsSo m t hi from first earliest (stopped_at i)
+  -- where the search may be taken up anew
+  rests : (i : ℕ) (s : State) → Runs m t hi from first i s None → i ≤ hi → is_idle s ≡ true → EndsSo m t hi from first earliest (idle_at i)
 
 -- A whole search forwards: it begins at `from`, as the byte before tells, if that can be read.
 pub data SearchEnds (m : Machine) (t : Text) (hi from : ℕ) (anchored : Anchored) (earliest : Bool) : RunEnd → Type 0 where

@@ -2,6 +2,8 @@
 #![tactic(auto)]
 
 pub mod automaton;
+pub mod ended;
+pub mod halves;
 pub mod laws;
 mod matches;
 mod samples;
