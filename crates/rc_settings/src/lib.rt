@@ -4,5 +4,6 @@
 pub mod error;
 pub mod meta;
 pub mod pikevm;
+pub mod states;
 pub mod thompson;
 pub mod which;
