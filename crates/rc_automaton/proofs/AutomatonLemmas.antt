@@ -7,7 +7,7 @@ use Rattle.rc_text.specs.declared.types.Anchored.{Anchored}
 use Rattle.rc_text.specs.declared.types.Anchored.TheVariants.{No, Yes, Pattern}
 use Rattle.rc_program.specs.Program.{Place}
 use Rattle.rc_states.specs.declared.sides.Needs.{Needs}
-use Rattle.rc_states.specs.Places.{place_of, places_of}
+use Rattle.rc_bytes.specs.Places.{place_of, places_of}
 use Rattle.rc_states.specs.declared.backward.Source.{Source}
 use Rattle.rc_states.specs.Reversed.{into_at, IsReversed, AreInside}
 use Rattle.rc_states.proofs.ReverseLemmas.{all_are_reversed}

@@ -11,3 +11,6 @@ pub mod DownLemmas
 pub mod StopLemmas
 pub mod RunLemmas
 pub mod EntryLemmas
+pub mod KeyLemmas
+pub mod NumberLemmas
+pub mod ListLemmas

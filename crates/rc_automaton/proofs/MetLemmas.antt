@@ -9,7 +9,8 @@ use Rattle.rc_program.specs.Program.{Place, choice, byte, branch, scalar, guard,
 use Rattle.rc_program.proofs.WayLemmas.{same_pair, ways_within}
 use Rattle.rc_states.specs.Gives.{Gives}
 use Rattle.rc_states.specs.Run.{Reaches, arrived, goes_on, IsGoal}
-use Rattle.rc_states.specs.Steps.{IsByBytes, IsBytePlace}
+use Rattle.rc_bytes.specs.Laws.{IsBytePlace}
+use Rattle.rc_states.specs.Steps.{IsByBytes}
 use Rattle.rc_states.specs.States.{State, Stops, best_at}
 use Rattle.rc_states.specs.Sets.{Comes}
 use Rattle.rc_states.specs.Sets as sets

@@ -4,7 +4,8 @@ use Rattle.rc_pattern.specs.declared.hir.Look.{Look}
 use Rattle.rc_program.specs.Text.{Text, holds, ahead}
 use Rattle.rc_program.specs.Program.{Place, choice, byte, branch, scalar, guard, slot, accept, reads, pair_at, ways_out, place_at, ways, is_match_place}
 use Rattle.rc_states.specs.Run.{Reaches, IsGoal}
-use Rattle.rc_states.specs.Steps.{HasPlace, HasWay, IsBytePlace, IsRising}
+use Rattle.rc_bytes.specs.Laws.{IsBytePlace}
+use Rattle.rc_states.specs.Steps.{HasPlace, HasWay, IsRising}
 use Rattle.rc_states.specs.Sides.{HasLook, holds_by, told}
 use Rattle.rc_states.specs.States.{Setting, IsSetting, State}
 use Rattle.rc_states.specs.Backward.{LeadsBy, LeadsHere, still_out, ReadsTo, IsFirstRoot, IsPrior, IsLast, ReachesEnd}

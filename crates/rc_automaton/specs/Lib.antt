@@ -5,3 +5,4 @@ pub mod Props
 pub mod Automata
 pub mod Laws
 pub mod Ended
+pub mod Keys

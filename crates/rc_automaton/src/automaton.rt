@@ -1,7 +1,7 @@
 //! A byte program, ready to be gone through state by state.
 ghost use Rattle.std.specs.Prelude.{◌≡◌, ◌<◌, length, IfOk};
 ghost use Rattle.rc_program.specs.Laws.{IsClosed};
-ghost use Rattle.rc_states.specs.Places.{places_of};
+ghost use Rattle.rc_bytes.specs.Places.{places_of};
 ghost use Rattle.rc_states.specs.Steps.{AreBelow};
 ghost use Rattle.rc_states.specs.Sides.{Covers};
 ghost use Rattle.rc_states.specs.Reversed.{AreEdges};
@@ -9,12 +9,12 @@ ghost use Rattle.rc_states.specs.Classes.{TellsAlike};
 ghost use Rattle.rc_automaton.specs.Samples.{AreClassesBy, AreSamples};
 ghost use Rattle.rc_automaton.specs.Props.{Covers-prop, TellsAlike-prop};
 
-use crate::matches::last_of;
+use crate::matches::{last_of, pattern_of};
 use crate::samples::samples_of;
+use rc_bytes::place::BytePlace;
 use rc_states::backward::{Reversed, last, prior};
 use rc_states::classes::{classes, single_classes};
 use rc_states::forward::{first, next_by};
-use rc_states::place::BytePlace;
 use rc_states::scratch::Scratch;
 use rc_states::sides::{Needs, needs_of};
 use rc_states::state::State;
@@ -71,13 +71,16 @@ fn classes_by(
 impl Automaton {
     ghost use Rattle.std.specs.Prelude.{◌≡◌, ◌<◌, ◌↔◌, IsTrue, length, IfOk};
     ghost use Rattle.rc_program.specs.Laws.{IsClosed};
-    ghost use Rattle.rc_states.specs.Places.{places_of, state_of};
+    ghost use Rattle.rc_bytes.specs.Places.{places_of};
+    ghost use Rattle.rc_states.specs.Places.{state_of};
     ghost use Rattle.rc_states.specs.Steps.{AreBelow};
     ghost use Rattle.rc_states.specs.Sides.{IsReadable};
     ghost use Rattle.rc_automaton.specs.declared.automaton.Direction.{Direction};
     ghost use Rattle.rc_automaton.specs.declared.automaton.Direction.TheVariants.{Forwards, Backwards};
     ghost use Rattle.rc_automaton.specs.Machine.{IsAsked, Begins, Leads, IsMachine, IsClassing};
     ghost use Rattle.rc_automaton.specs.Automata.{machine_of, IsMadeOf, classes_of, samples_of};
+    ghost use Rattle.rc_program.specs.Program.{place_at};
+    ghost use Rattle.rc_program.specs.Answer.{pattern_at};
 
     /// An automaton of a byte program whose patterns are entered at these places, and whose lines end at the byte `terminator`. Forwards
     /// it seeks matches of this kind. Unless `byte_classes` is set, each byte is a class of its own. An `Err` is want of memory.
@@ -115,6 +118,14 @@ impl Automaton {
         ensures { (direction : Direction) → result ≡ length (machine_of self.now direction).setting.places }
     {
         self.places.len()
+    }
+
+    /// The pattern whose match place this is; 0 where it is none.
+    pub fn pattern_at(&self, place: usize) -> usize
+        requires { place < length (machine_of self.now Forwards).setting.places }
+        ensures { result ≡ pattern_at (place_at (machine_of self.now Forwards).setting.places place) }
+    {
+        pattern_of(&self.places[place])
     }
 
     /// How many patterns it has.

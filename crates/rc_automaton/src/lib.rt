@@ -7,3 +7,4 @@ pub mod halves;
 pub mod laws;
 mod matches;
 mod samples;
+pub mod states;

@@ -1,10 +1,12 @@
 //! The match places of one pattern.
 ghost use Rattle.std.specs.Prelude.{◌≡◌, IfOk, Some};
 ghost use Rattle.rc_program.specs.Program.{is_match_place};
-ghost use Rattle.rc_states.specs.Places.{place_of, places_of, setting_of, state_of};
+ghost use Rattle.rc_program.specs.Answer.{pattern_at};
+ghost use Rattle.rc_bytes.specs.Places.{place_of, places_of};
+ghost use Rattle.rc_states.specs.Places.{setting_of, state_of};
 ghost use Rattle.rc_automaton.specs.Machine.{IsLastOf};
 
-use rc_states::place::BytePlace;
+use rc_bytes::place::BytePlace;
 use rc_states::sides::{Needs, told};
 use rc_states::state::State;
 use std::alloc::AllocError;
@@ -23,6 +25,23 @@ fn is_match_of(place: &BytePlace, pattern: usize) -> bool
         | BytePlace::Branch(_)
         | BytePlace::Guard(_, _)
         | BytePlace::Slot(_, _) => false,
+    }
+}
+
+/// The pattern of a match place; 0 of another.
+pub fn pattern_of(place: &BytePlace) -> usize
+    ensures { result ≡ pattern_at (place_of place.now) }
+{
+    match place {
+        BytePlace::Accept(pattern) => *pattern,
+        BytePlace::Choice(_, _)
+        | BytePlace::Pass(_)
+        | BytePlace::Dead
+        | BytePlace::Byte(_, _)
+        | BytePlace::Bytes(_, _)
+        | BytePlace::Branch(_)
+        | BytePlace::Guard(_, _)
+        | BytePlace::Slot(_, _) => 0,
     }
 }
 

@@ -9,7 +9,7 @@ use Rattle.rc_automaton.specs.Machine.{Machine}
 use Rattle.rc_dense.specs.Tables.{code_of, dead_state}
 use Rattle.rc_dense.specs.Rows.{AreEnds, AreTells, IsEndOf}
 use Rattle.rc_dense.proofs.FillLemmas.{Kept}
-use Rattle.rc_dense.proofs.ListLemmas.{get_more, get_last}
+use Rattle.rc_automaton.proofs.ListLemmas.{get_more, get_last}
 
 at_end : (xs : List ℕ) (x id : ℕ) → id ≡ length xs → slice_get (xs ++ x ∷ []) id ≡ Some x
 at_end xs x id e = ap (λ i. slice_get (xs ++ x ∷ []) i) e ∙ get_last xs x

@@ -1,6 +1,3 @@
-pub mod KeyLemmas
-pub mod ListLemmas
-pub mod NumberLemmas
 pub mod NameLemmas
 pub mod ReachLemmas
 pub mod MakerLemmas

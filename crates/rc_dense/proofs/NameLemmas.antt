@@ -8,11 +8,11 @@ use Rattle.rc_dense.specs.Cells.{met, dead}
 use Rattle.std.proofs.lemmas.List.{length_push}
 use Rattle.rc_states.specs.States.{State}
 use Rattle.rc_automaton.specs.Machine.{Machine}
-use Rattle.rc_dense.specs.Keys.{IsAbsent}
+use Rattle.rc_automaton.specs.Keys.{IsAbsent}
 use Rattle.rc_dense.specs.Tables.{IsReached, listed_by, marks}
 use Rattle.rc_dense.specs.declared.error.TableError.TheVariants.{TooBig}
 use Rattle.rc_dense.specs.Makes.{AreStates, IsRefused, weight_by}
-use Rattle.rc_dense.proofs.ListLemmas.{get_parts}
+use Rattle.rc_automaton.proofs.ListLemmas.{get_parts}
 
 listed : (ss : List State) (s : State) → listed_by (ss ++ s ∷ []) ≡ listed_by ss + length s.list
 listed [] s = omega arith

@@ -11,5 +11,4 @@ mod names;
 pub mod run;
 mod sides;
 mod start;
-mod states;
 pub mod table;

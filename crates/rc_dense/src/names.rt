@@ -7,8 +7,8 @@ ghost use Rattle.rc_dense.specs.Makes.{IsRefused, weight_by};
 ghost use Rattle.rc_dense.specs.Rows.{AreNamed, Grows, NamesBy};
 
 use crate::error::TableError;
-use crate::states::States;
 use crate::table::{DEAD, MET};
+use rc_automaton::states::States;
 use rc_states::sides::Seen;
 use rc_states::state::State;
 use std::alloc::{AllocError, Global};

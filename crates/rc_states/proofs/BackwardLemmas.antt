@@ -7,7 +7,8 @@ use Rattle.rc_pattern.specs.declared.hir.Look.{Look}
 use Rattle.rc_program.specs.Text.{Text, holds, before_at, after_at}
 use Rattle.rc_program.specs.Program.{Place, choice, byte, branch, scalar, guard, slot, accept, Way, stays, reads, ways_out, in_ranges, branch_ways, pair_at, place_at, ways}
 use Rattle.rc_program.proofs.WayLemmas.{same_pair}
-use Rattle.rc_states.specs.Steps.{HasPlace, IsBytePlace, ahead_of, still}
+use Rattle.rc_bytes.specs.Laws.{IsBytePlace}
+use Rattle.rc_states.specs.Steps.{HasPlace, ahead_of, still}
 use Rattle.rc_states.specs.Sides.{holds_by, told, byte_of, IsReadable}
 use Rattle.rc_states.proofs.Leads as run
 use Rattle.rc_states.specs.Run as reach

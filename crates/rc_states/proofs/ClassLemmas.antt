@@ -6,8 +6,8 @@ use Rattle.std.proofs.lemmas.List.{length-append, get_or_push, get_or_append_lef
 use Rattle.rc_pattern.specs.Re.{Range}
 use Rattle.rc_program.specs.Looks.{differ}
 use Rattle.rc_program.specs.Program.{Place, branch, place_at, ways_out}
-use Rattle.rc_states.specs.declared.place.ByteWay.{ByteWay}
-use Rattle.rc_states.specs.Places.{way_of}
+use Rattle.rc_bytes.specs.declared.place.ByteWay.{ByteWay}
+use Rattle.rc_bytes.specs.Places.{way_of}
 use Rattle.rc_states.specs.declared.sides.Seen.{Seen}
 use Rattle.rc_states.specs.declared.sides.Needs.{Needs}
 use Rattle.rc_states.specs.Steps.{IsByBytes}

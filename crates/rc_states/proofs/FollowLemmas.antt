@@ -10,11 +10,12 @@ use Rattle.rc_program.specs.Laws.{IsClosed, targets}
 use Rattle.rc_pattern.specs.Meaning.{byte_range}
 use Rattle.rc_program.proofs.WayLemmas.{past_places}
 use Rattle.rc_program.proofs.PlaceLemmas.{ways_out_to, goal_of}
-use Rattle.rc_states.specs.declared.place.BytePlace as code
-use Rattle.rc_states.specs.declared.place.BytePlace.TheVariants as code_variants
-use Rattle.rc_states.specs.Places.{way_of, place_of, places_of}
+use Rattle.rc_bytes.specs.declared.place.BytePlace as code
+use Rattle.rc_bytes.specs.declared.place.BytePlace.TheVariants as code_variants
+use Rattle.rc_bytes.specs.Places.{way_of, place_of, places_of}
 use Rattle.rc_states.specs.Sparse.{Members}
-use Rattle.rc_states.specs.Steps.{HasPlace, AreBelow, IsStep, IsBytePlace, ahead_of, out_by}
+use Rattle.rc_bytes.specs.Laws.{IsBytePlace}
+use Rattle.rc_states.specs.Steps.{HasPlace, AreBelow, IsStep, ahead_of, out_by}
 use Rattle.rc_states.specs.States.{is_match}
 use Rattle.rc_states.specs.Machine.{stay_places, read_places, add_one, add_all, Runs, done, adds, repeats, leaps, matches, opens, Finishes}
 use Rattle.rc_states.proofs.MachineLemmas.{makes_step, has_parts, has_left, has_right}

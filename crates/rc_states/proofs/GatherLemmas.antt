@@ -6,8 +6,8 @@ use Rattle.std.proofs.lemmas.List.{reverse-append, reverse-reverse, length-appen
 use Rattle.rc_pattern.specs.declared.hir.Look.{Look}
 use Rattle.rc_program.specs.Program.{place_at, Way, stays, reads}
 use Rattle.rc_program.specs.Laws.{IsClosed}
-use Rattle.rc_states.specs.declared.place.BytePlace as code
-use Rattle.rc_states.specs.Places.{place_of, places_of}
+use Rattle.rc_bytes.specs.declared.place.BytePlace as code
+use Rattle.rc_bytes.specs.Places.{place_of, places_of}
 use Rattle.rc_states.specs.Sparse.{Members}
 use Rattle.rc_states.specs.Steps.{HasPlace, AreBelow, IsRising, HasWay, out_by}
 use Rattle.rc_states.specs.Sets.{ComesBy, listed, follows, IsLeastMatch, IsNextOfAll}

@@ -6,8 +6,8 @@ use Rattle.std.proofs.lemmas.Bool.{cases_Bool, or_left, or_right}
 use Rattle.rc_pattern.specs.Re.{Range}
 use Rattle.rc_program.specs.Program.{branch, reads, branch_ways}
 use Rattle.rc_program.specs.Laws.{targets}
-use Rattle.rc_states.specs.declared.place.ByteWay.{ByteWay}
-use Rattle.rc_states.specs.Places.{way_of}
+use Rattle.rc_bytes.specs.declared.place.ByteWay.{ByteWay}
+use Rattle.rc_bytes.specs.Places.{way_of}
 use Rattle.rc_states.specs.Sparse.{Members}
 use Rattle.rc_states.specs.Steps.{HasPlace, Adds, all_added, adds_one, leaves_out}
 use Rattle.rc_states.specs.Machine.{stay_places, add_one, add_all}

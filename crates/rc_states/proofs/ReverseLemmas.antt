@@ -12,7 +12,8 @@ use Rattle.rc_states.specs.declared.backward.Over.TheVariants.{Nothing, Where, W
 use Rattle.rc_states.specs.declared.backward.Source.{Source}
 use Rattle.rc_states.specs.declared.backward.Reversed.{Reversed}
 use Rattle.rc_states.specs.Sides.{holds_by}
-use Rattle.rc_states.specs.Steps.{HasPlace, HasWay, IsBytePlace}
+use Rattle.rc_bytes.specs.Laws.{IsBytePlace}
+use Rattle.rc_states.specs.Steps.{HasPlace, HasWay}
 use Rattle.rc_states.specs.Reversed.{passes, reads_over, sources, into_at, choice_edges, range_edges, branch_edges, edges_from, all_edges, IsReversed}
 use Rattle.rc_states.proofs.MachineLemmas.{has_parts, has_left, has_right}
 use Rattle.rc_states.proofs.GatherLemmas.{way_stay, way_read}

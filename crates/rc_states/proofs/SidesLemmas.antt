@@ -9,7 +9,8 @@ use Rattle.rc_program.specs.Scalars.{scalar_at, whole_scalar, scalar_of_last}
 use Rattle.rc_program.specs.Looks.{Side, nothing, stands, side_before, side_after, is_word_byte, is_word_scalar, is_ascii_word, is_unicode_word, is_broken, holds_between}
 use Rattle.rc_program.specs.Program.{Place, choice, byte, branch, scalar, guard, slot, accept, Way, stays, reads, in_ranges, branch_ways, ways_out, place_at}
 use Rattle.rc_program.proofs.WordLemmas.{is_word_scalar-ascii}
-use Rattle.rc_states.specs.Steps.{still, IsBytePlace, ahead_of}
+use Rattle.rc_bytes.specs.Laws.{IsBytePlace}
+use Rattle.rc_states.specs.Steps.{still, ahead_of}
 use Rattle.rc_states.specs.declared.sides.Seen.{Seen}
 use Rattle.rc_states.specs.declared.sides.Needs.{Needs}
 use Rattle.rc_states.specs.Sides.{seen_by, seen_of, holds_by, is_unicode, IsPlain, asked, asks, byte_of, HasLook, told, out_seen, AreAlike, ranges_of, holds_both}

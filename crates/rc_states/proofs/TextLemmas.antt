@@ -9,7 +9,8 @@ use Rattle.rc_program.specs.Text.{Text, holds, ahead, before_at, after_at, behin
 use Rattle.rc_program.specs.Looks.{side_before, side_after}
 use Rattle.rc_program.specs.Program.{Place, choice, byte, branch, scalar, guard, slot, accept, Way, stays, reads, in_ranges, branch_ways, ways_out, pair_at, place_at, ways, is_match_place}
 use Rattle.rc_program.proofs.WayLemmas.{in_map, no_way_from}
-use Rattle.rc_states.specs.Steps.{still, IsBytePlace, IsByBytes, ahead_of}
+use Rattle.rc_bytes.specs.Laws.{IsBytePlace}
+use Rattle.rc_states.specs.Steps.{still, IsByBytes, ahead_of}
 use Rattle.rc_states.specs.declared.sides.Needs.{Needs}
 use Rattle.rc_states.specs.Sides.{seen_of, holds_by, byte_of, HasLook, told, Covers, out_seen, IsReadable}
 use Rattle.rc_states.proofs.SidesLemmas.{decided, asked_enough, seen_byte, plain_after, plain_before, same_ways_out, one_byte, still_are}

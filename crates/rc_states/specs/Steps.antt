@@ -2,7 +2,8 @@
 use Rattle.std.specs.Prelude.{◌≡◌, ℕ, ◌<◌, List, [], ◌∷◌, ◌++◌, Option, Some, None, map, Bool, IsTrue, ◌⊎◌}
 use Rattle.rc_walks.specs.Walks.{Pair}
 use Rattle.rc_pattern.specs.declared.hir.Look.{Look}
-use Rattle.rc_program.specs.Program.{Place, scalar, Way, stays, reads, ways_out, place_at}
+use Rattle.rc_program.specs.Program.{Place, Way, stays, reads, ways_out, place_at}
+use Rattle.rc_bytes.specs.Laws.{IsBytePlace}
 
 abbrev pub HasPlace : ℕ → List ℕ → Type 0
 HasPlace q [] = ⊥
@@ -67,12 +68,7 @@ pub record IsStep (out : ℕ → List Way) (ends : ℕ → Bool) (list next : Li
   pub steps : Steps out ends [] (map stays list) onward stop visited
   pub once : Adds [] onward next
 
--- the place reads no scalars: what it reads is decided by the next byte
-abbrev pub IsBytePlace : Place → Type 0
-IsBytePlace (scalar rs n) = ⊥
-IsBytePlace _ = Unit {0}
-
--- each place of the program does so
+-- each place of the program reads no scalars: what it reads is decided by the next byte
 abbrev pub IsByBytes : List Place → Type 0
 IsByBytes places = (q : ℕ) → IsBytePlace (place_at places q)
 

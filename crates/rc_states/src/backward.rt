@@ -2,21 +2,22 @@
 ghost use Rattle.std.specs.Prelude.{ℕ, ◌≡◌, ◌↔◌, ◌<◌, ◌≤◌, ◌++◌, [], ◌∷◌, IfOk, List, length, map, Some, None, nat_eq, if◌then◌else◌};
 ghost use Rattle.rc_program.specs.Laws.{IsClosed, targets};
 ghost use Rattle.rc_program.specs.Program.{Place};
-ghost use Rattle.rc_states.specs.Places.{way_of, place_of, places_of, setting_of, state_of};
+ghost use Rattle.rc_bytes.specs.Places.{way_of, place_of, places_of};
+ghost use Rattle.rc_states.specs.Places.{setting_of, state_of};
 ghost use Rattle.rc_states.specs.Steps.{HasPlace, AreBelow};
 ghost use Rattle.rc_states.specs.States.{Setting};
 ghost use Rattle.rc_states.specs.Machine.{add_all};
 ghost use Rattle.rc_states.specs.Backward.{IsPrior, IsLast, LeadsBy, still_out, ReadsTo, IsFirstRoot};
 ghost use Rattle.rc_states.specs.Reversed.{passes, reads_over, sources, into_at, range_edges, branch_edges, edges_from, IsReversed, AreEdges, AreInside};
-ghost use Rattle.rc_states.specs.declared.place.ByteWay.{ByteWay};
+ghost use Rattle.rc_bytes.specs.declared.place.ByteWay.{ByteWay};
 ghost use Rattle.rc_pattern.specs.Meaning.{byte_range};
 
 use crate::open::{add, is_match};
-use crate::place::{BytePlace, ByteWay};
 use crate::scratch::Scratch;
 use crate::sides::{Needs, Seen, holds_by, told};
 use crate::sparse_set::SparseSet;
 use crate::state::State;
+use rc_bytes::place::{BytePlace, ByteWay};
 use rc_pattern::hir::{ClassBytesRange, Look};
 use std::alloc::{AllocError, Global};
 

@@ -2,13 +2,13 @@
 ghost use Rattle.std.specs.Prelude.{ℕ, ◌≡◌, ◌+◌, ◌<◌, ◌≤◌, ◌||◌, IfOk, length, map, Some, slice_index, slice_index_or, false};
 ghost use Rattle.std.specs.List.{list_any};
 ghost use Rattle.rc_pattern.specs.Meaning.{byte_range};
-ghost use Rattle.rc_states.specs.Places.{place_of, places_of};
-ghost use Rattle.rc_states.specs.declared.place.ByteWay.{ByteWay};
+ghost use Rattle.rc_bytes.specs.Places.{place_of, places_of};
+ghost use Rattle.rc_bytes.specs.declared.place.ByteWay.{ByteWay};
 ghost use Rattle.rc_states.specs.Sides.{told, ranges_of};
 ghost use Rattle.rc_states.specs.Classes.{parts, are_parted, is_other, is_border, AreClasses, AreSingle};
 
-use crate::place::{BytePlace, ByteWay};
 use crate::sides::{Needs, Seen, told};
+use rc_bytes::place::{BytePlace, ByteWay};
 use rc_pattern::hir::ClassBytesRange;
 use std::alloc::{AllocError, Global};
 

@@ -2,7 +2,8 @@
 ghost use Rattle.std.specs.Prelude.{ℕ, List, ◌≡◌, ◌<◌, ◌≤◌, ◌++◌, [], ◌∷◌, IfOk, length, reverse, Some, None, ◌&&◌, is_none};
 ghost use Rattle.rc_program.specs.Laws.{IsClosed};
 ghost use Rattle.rc_program.specs.Program.{Place, place_at};
-ghost use Rattle.rc_states.specs.Places.{places_of, state_of, setting_of};
+ghost use Rattle.rc_bytes.specs.Places.{places_of};
+ghost use Rattle.rc_states.specs.Places.{state_of, setting_of};
 ghost use Rattle.rc_states.specs.Steps.{HasPlace, AreBelow, IsStep, IsRising, HasWay, out_by};
 ghost use Rattle.rc_states.specs.Sides.{holds_by};
 ghost use Rattle.rc_states.specs.States.{IsNext, IsFirst, is_match};
@@ -11,11 +12,11 @@ ghost use Rattle.rc_states.specs.Kinds.{IsNextBy};
 ghost use Rattle.rc_states.specs.Machine.{IsGathered};
 
 use crate::open::{add_root, is_match, least_with, open, place_at};
-use crate::place::BytePlace;
 use crate::scratch::Scratch;
 use crate::sides::{Needs, Seen, told};
 use crate::sparse_set::SparseSet;
 use crate::state::State;
+use rc_bytes::place::BytePlace;
 use rc_text::types::MatchKind;
 use std::alloc::AllocError;
 

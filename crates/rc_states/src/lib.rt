@@ -6,7 +6,6 @@ pub mod classes;
 pub mod forward;
 pub mod laws;
 mod open;
-pub mod place;
 pub mod scratch;
 pub mod sides;
 mod sparse_set;

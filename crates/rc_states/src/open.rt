@@ -3,16 +3,16 @@ ghost use Rattle.std.specs.Prelude.{◌≡◌, ◌<◌, ◌≤◌, ◌++◌, IfO
 ghost use Rattle.rc_pattern.specs.Meaning.{byte_range};
 ghost use Rattle.rc_program.specs.Program.{in_ranges, branch_ways, ways_out, place_at, is_match_place};
 ghost use Rattle.rc_program.specs.Laws.{targets};
-ghost use Rattle.rc_states.specs.Places.{way_of, place_of, places_of};
-ghost use Rattle.rc_states.specs.declared.place.ByteWay.{ByteWay};
+ghost use Rattle.rc_bytes.specs.Places.{way_of, place_of, places_of};
+ghost use Rattle.rc_bytes.specs.declared.place.ByteWay.{ByteWay};
 ghost use Rattle.rc_states.specs.Sides.{holds_by};
 ghost use Rattle.rc_states.specs.Steps.{AreBelow, ahead_of};
 ghost use Rattle.rc_states.specs.States.{root_if};
 ghost use Rattle.rc_states.specs.Machine.{stay_places, read_places, add_one, add_all, least_with};
 
-use crate::place::{BytePlace, ByteWay};
 use crate::sides::{Seen, holds_by};
 use crate::sparse_set::SparseSet;
+use rc_bytes::place::{BytePlace, ByteWay};
 use rc_pattern::hir::ClassBytesRange;
 use std::alloc::AllocError;
 

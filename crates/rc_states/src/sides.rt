@@ -1,10 +1,10 @@
 //! What a step knows of the two sides of a position.
 ghost use Rattle.std.specs.Prelude.{◌≡◌, IsTrue};
 ghost use Rattle.rc_program.specs.Looks.{is_word_byte};
-ghost use Rattle.rc_states.specs.Places.{place_of, places_of};
+ghost use Rattle.rc_bytes.specs.Places.{place_of, places_of};
 ghost use Rattle.rc_states.specs.Sides.{seen_of, holds_by, told, is_unicode, asking, guarded, AreNeeds};
 
-use crate::place::BytePlace;
+use rc_bytes::place::BytePlace;
 use rc_pattern::hir::Look;
 
 /// What is told of one side of a position.

@@ -1,7 +1,7 @@
 use Rattle.std.proofs.Common.{◌+◌, ◌∙◌, ap, sym, subst, refl, arith, Some}
 use Rattle.std.proofs.lemmas.List.{length-map}
 use Rattle.rc_program.specs.Program.{is_match_place}
-use Rattle.rc_states.specs.Places.{place_of, places_of}
+use Rattle.rc_bytes.specs.Places.{place_of, places_of}
 use Rattle.rc_states.proofs.PlaceLemmas.{placed}
 use Rattle.rc_states.proofs.LastLemmas.{AreMatches, one_more, not_one}
 use Rattle.rc_automaton.proofs.LastLemmas.{all_accept}

@@ -1,5 +1,5 @@
 use Rattle.std.proofs.Common.{Some}
-use Rattle.rc_states.specs.Places.{places_of}
+use Rattle.rc_bytes.specs.Places.{places_of}
 use Rattle.rc_states.proofs.LastLemmas.{AreMatches}
 use Rattle.rc_automaton.proofs.matches.last_of.Given as goal
 

@@ -1,5 +1,5 @@
 use Rattle.std.proofs.Common.{None}
-use Rattle.rc_states.specs.Places.{places_of}
+use Rattle.rc_bytes.specs.Places.{places_of}
 use Rattle.rc_states.proofs.LastLemmas.{AreMatches}
 use Rattle.rc_states.proofs.backward.last.Given as goal
 

@@ -1,5 +1,5 @@
 use Rattle.std.proofs.Common.{◌≡◌, drop}
-use Rattle.rc_states.specs.Places.{places_of}
+use Rattle.rc_bytes.specs.Places.{places_of}
 use Rattle.rc_states.specs.Classes.{are_parted}
 use Rattle.rc_states.proofs.classes.are_parted.Given as goal
 

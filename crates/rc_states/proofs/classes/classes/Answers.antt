@@ -1,5 +1,5 @@
 use Rattle.std.proofs.Common.{◌+◌, ◌∙◌, ap, sym, if◌then◌else◌}
-use Rattle.rc_states.specs.Places.{places_of}
+use Rattle.rc_bytes.specs.Places.{places_of}
 use Rattle.rc_states.proofs.ClassLemmas.{goes_on}
 use Rattle.rc_states.proofs.classes.classes.Goals as goal
 use Rattle.rc_states.proofs.classes.classes.Goals.{then-is_border, else-is_border}

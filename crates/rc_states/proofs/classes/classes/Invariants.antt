@@ -1,4 +1,4 @@
-use Rattle.rc_states.specs.Places.{places_of}
+use Rattle.rc_bytes.specs.Places.{places_of}
 use Rattle.rc_states.proofs.ClassLemmas.{AreClassesSoFar}
 use Rattle.rc_states.proofs.classes.classes.Given as goal
 

@@ -1,6 +1,6 @@
 use Rattle.std.proofs.Common.{ap, ◌∙◌, sym}
 use Rattle.std.specs.List.{list_any}
-use Rattle.rc_states.specs.Places.{place_of}
+use Rattle.rc_bytes.specs.Places.{place_of}
 use Rattle.rc_states.specs.Sides.{ranges_of}
 use Rattle.rc_states.specs.Classes.{parts}
 use Rattle.rc_states.proofs.ClassLemmas.{same_ranges}

@@ -1,7 +1,7 @@
 use Rattle.std.proofs.Common.{◌≡◌, drop, map}
 use Rattle.std.specs.List.{list_any}
 use Rattle.rc_states.specs.Classes.{parts}
-use Rattle.rc_states.specs.declared.place.ByteWay.{ByteWay}
+use Rattle.rc_bytes.specs.declared.place.ByteWay.{ByteWay}
 use Rattle.rc_states.proofs.classes.ways_part.Given as goal
 
 abbrev pub invariant-loop-way : goal.invariant-loop-way

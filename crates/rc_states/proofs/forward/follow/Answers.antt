@@ -2,7 +2,7 @@ use Rattle.std.proofs.Common.{◌<◌, ◌++◌, length, reverse, refl, sym, sub
 use Rattle.std.proofs.lemmas.List.{length-map}
 use Rattle.rc_program.specs.Program.{Place, is_match_place, place_at, ways_out}
 use Rattle.rc_program.specs.Laws.{targets}
-use Rattle.rc_states.specs.Places.{place_of, places_of}
+use Rattle.rc_bytes.specs.Places.{place_of, places_of}
 use Rattle.rc_states.specs.Sides.{holds_by}
 use Rattle.rc_states.specs.Steps.{AreBelow, ahead_of}
 use Rattle.rc_states.specs.Sparse.{Members}

@@ -1,6 +1,7 @@
 use Rattle.std.proofs.Common.{◌≡◌, ◌∙◌, sym, ap, subst, length, reverse, refl, ◌↔◌}
 use Rattle.std.proofs.lemmas.List.{reverse-reverse}
-use Rattle.rc_states.specs.Places.{places_of, setting_of, state_of}
+use Rattle.rc_bytes.specs.Places.{places_of}
+use Rattle.rc_states.specs.Places.{setting_of, state_of}
 use Rattle.rc_states.specs.Sides.{holds_by, told}
 use Rattle.rc_states.specs.Machine.{IsGathered}
 use Rattle.rc_states.specs.Sparse.{Members}

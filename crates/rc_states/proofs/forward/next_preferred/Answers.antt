@@ -1,6 +1,6 @@
 use Rattle.std.proofs.Common.{◌≡◌, ◌∙◌, sym, ap, subst, length, reverse}
 use Rattle.std.proofs.lemmas.List.{reverse-reverse}
-use Rattle.rc_states.specs.Places.{places_of}
+use Rattle.rc_bytes.specs.Places.{places_of}
 use Rattle.rc_states.specs.Sides.{holds_by, told}
 use Rattle.rc_states.specs.Sparse.{Members}
 use Rattle.rc_states.specs.States.{is_match, root_if}

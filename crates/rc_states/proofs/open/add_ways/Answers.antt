@@ -1,7 +1,7 @@
 use Rattle.std.proofs.Common.{◌≡◌, ap, sym, subst, map}
 use Rattle.rc_states.specs.Sparse.{Members}
 use Rattle.rc_states.specs.Steps.{AreBelow}
-use Rattle.rc_states.specs.declared.place.ByteWay.{ByteWay}
+use Rattle.rc_bytes.specs.declared.place.ByteWay.{ByteWay}
 use Rattle.rc_states.proofs.OpenLemmas.{next_in}
 use Rattle.rc_states.proofs.open.add_ways.Goals as goal
 

@@ -1,6 +1,6 @@
 use Rattle.std.proofs.Common.{◌≡◌, drop, map}
 use Rattle.rc_program.specs.Program.{branch_ways}
-use Rattle.rc_states.specs.Places.{way_of}
+use Rattle.rc_bytes.specs.Places.{way_of}
 use Rattle.rc_states.specs.Machine.{read_places, add_all}
 use Rattle.rc_states.proofs.open.add_ways.Given as goal
 

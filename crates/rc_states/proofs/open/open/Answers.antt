@@ -1,7 +1,7 @@
 use Rattle.std.proofs.Common.{subst, sym, inl, refl, map}
 use Rattle.std.proofs.lemmas.List.{append-nil}
 use Rattle.rc_program.specs.Laws.{targets}
-use Rattle.rc_states.specs.Places.{way_of, place_of}
+use Rattle.rc_bytes.specs.Places.{way_of, place_of}
 use Rattle.rc_states.specs.Steps.{AreBelow}
 use Rattle.rc_states.proofs.OpenLemmas.{branch_targets, no_stays}
 use Rattle.rc_states.proofs.open.open.Goals as goal

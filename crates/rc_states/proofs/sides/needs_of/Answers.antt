@@ -1,6 +1,6 @@
 use Rattle.std.proofs.Common.{ap, ◌∙◌, sym, subst, arith, ◌+◌}
 use Rattle.std.proofs.lemmas.List.{length-map}
-use Rattle.rc_states.specs.Places.{place_of, places_of}
+use Rattle.rc_bytes.specs.Places.{place_of, places_of}
 use Rattle.rc_states.specs.Sides.{guarded}
 use Rattle.rc_states.proofs.PlaceLemmas.{placed}
 use Rattle.rc_states.proofs.NeedsLemmas.{AreNeedsSoFar, asks_for, asks_nothing, all_asked}

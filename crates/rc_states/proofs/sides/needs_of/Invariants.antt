@@ -1,4 +1,4 @@
-use Rattle.rc_states.specs.Places.{places_of}
+use Rattle.rc_bytes.specs.Places.{places_of}
 use Rattle.rc_states.proofs.NeedsLemmas.{AreNeedsSoFar}
 use Rattle.rc_states.proofs.sides.needs_of.Given as goal
 

@@ -1,7 +1,8 @@
 use Rattle.std.proofs.Common.{◌≡◌, Some, length, slice_get, sym, subst, refl, arith}
 use Rattle.std.proofs.lemmas.Option.{slice_get_read}
 use Rattle.std.proofs.lemmas.Result.{IfOk-weaker}
-use Rattle.rc_states.specs.Places.{places_of, state_of}
+use Rattle.rc_bytes.specs.Places.{places_of}
+use Rattle.rc_states.specs.Places.{state_of}
 use Rattle.rc_automaton.specs.declared.automaton.Direction.TheVariants.{Forwards}
 use Rattle.rc_automaton.specs.Machine.{Begins, IsAsked}
 use Rattle.rc_automaton.specs.Automata.{machine_of}

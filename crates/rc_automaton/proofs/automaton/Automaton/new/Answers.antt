@@ -1,5 +1,5 @@
 use Rattle.std.proofs.Common.{subst}
-use Rattle.rc_states.specs.Places.{places_of}
+use Rattle.rc_bytes.specs.Places.{places_of}
 use Rattle.rc_states.specs.Reversed.{AreEdges}
 use Rattle.rc_states.specs.Sides.{Covers}
 use Rattle.rc_states.proofs.FollowLemmas.{by_bytes}

@@ -1,7 +1,8 @@
 use Rattle.std.proofs.Common.{length, ap, subst, sym, ◌∙◌}
 use Rattle.std.proofs.lemmas.List.{length-map}
 use Rattle.std.proofs.lemmas.Result.{IfOk-weaker}
-use Rattle.rc_states.specs.Places.{place_of, places_of, state_of}
+use Rattle.rc_bytes.specs.Places.{place_of, places_of}
+use Rattle.rc_states.specs.Places.{state_of}
 use Rattle.rc_states.specs.Steps.{AreBelow}
 use Rattle.rc_states.specs.Backward.{IsPrior}
 use Rattle.rc_states.specs.States.{Setting}

@@ -1,8 +1,8 @@
 use Rattle.std.proofs.Common.{◌≡◌, ◌∙◌, ◌+◌, ◌-◌, ◌*◌, ◌<◌, ◌++◌, ◌∷◌, [], ap, refl, subst, arith, length}
 use Rattle.std.proofs.lemmas.List.{length_push}
 use Rattle.rc_states.specs.Places.{state_of}
-use Rattle.rc_dense.specs.Keys.{IsAbsent, IsFound}
-use Rattle.rc_dense.proofs.ListLemmas.{get_more, get_last}
+use Rattle.rc_automaton.specs.Keys.{IsAbsent, IsFound}
+use Rattle.rc_automaton.proofs.ListLemmas.{get_more, get_last}
 use Rattle.rc_dense.proofs.NameLemmas.{more_states, weighed_more, too_heavy}
 use Rattle.rc_dense.proofs.names.Names.number.Goals as goal
 use Rattle.rc_dense.proofs.names.Names.number.Goals.{In_default-weigh, In_ok-add}

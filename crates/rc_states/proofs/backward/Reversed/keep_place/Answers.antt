@@ -1,6 +1,6 @@
 use Rattle.std.proofs.Common.{◌<◌, subst, sym, inl, inr, refl, length}
 use Rattle.rc_program.specs.Laws.{targets}
-use Rattle.rc_states.specs.Places.{place_of}
+use Rattle.rc_bytes.specs.Places.{place_of}
 use Rattle.rc_states.specs.Steps.{AreBelow}
 use Rattle.rc_states.proofs.OpenLemmas.{branch_targets}
 use Rattle.rc_states.proofs.backward.Reversed.keep_place.Goals as goal

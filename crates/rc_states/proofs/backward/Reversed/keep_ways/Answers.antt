@@ -1,6 +1,6 @@
 use Rattle.std.proofs.Common.{sym, subst, map, length}
 use Rattle.rc_states.specs.Steps.{AreBelow}
-use Rattle.rc_states.specs.declared.place.ByteWay.{ByteWay}
+use Rattle.rc_bytes.specs.declared.place.ByteWay.{ByteWay}
 use Rattle.rc_states.proofs.OpenLemmas.{next_in}
 use Rattle.rc_states.proofs.backward.Reversed.keep_ways.Goals as goal
 

@@ -1,5 +1,5 @@
 use Rattle.std.proofs.Common.{◌≡◌, ℕ, ◌++◌, length, drop, map}
-use Rattle.rc_states.specs.Places.{way_of}
+use Rattle.rc_bytes.specs.Places.{way_of}
 use Rattle.rc_states.specs.Reversed.{into_at, branch_edges}
 use Rattle.rc_states.proofs.backward.Reversed.keep_ways.Given as goal
 

@@ -2,7 +2,7 @@ use Rattle.std.proofs.Common.{◌≡◌, ℕ, ◌≤◌, ◌<◌, [], ◌∷◌,
 use Rattle.std.proofs.lemmas.List.{length-map, append-nil}
 use Rattle.rc_program.specs.Program.{choice, place_at}
 use Rattle.rc_program.specs.Laws.{targets}
-use Rattle.rc_states.specs.Places.{place_of, places_of}
+use Rattle.rc_bytes.specs.Places.{place_of, places_of}
 use Rattle.rc_states.specs.Steps.{AreBelow}
 use Rattle.rc_states.specs.Reversed.{into_at, edges_from, all_edges}
 use Rattle.rc_states.proofs.PlaceLemmas.{placed}

@@ -1,5 +1,5 @@
 use Rattle.std.proofs.Common.{◌≡◌, ℕ, ◌++◌, length, drop}
-use Rattle.rc_states.specs.Places.{places_of}
+use Rattle.rc_bytes.specs.Places.{places_of}
 use Rattle.rc_states.specs.Reversed.{into_at, all_edges}
 use Rattle.rc_states.proofs.backward.Reversed.new.Given as goal
 

@@ -10,9 +10,9 @@ use Rattle.std.proofs.lemmas.List.{map-append, length-map}
 use Rattle.rc_states.specs.States.{State}
 use Rattle.rc_states.specs.declared.state.State as code
 use Rattle.rc_states.specs.Places.{state_of}
-use Rattle.rc_dense.specs.Keys.{key_of, Numbers, number_of, IsAbsent, IsFound, AreNumbered}
-use Rattle.rc_dense.proofs.KeyLemmas.{keys_apart}
-use Rattle.rc_dense.proofs.ListLemmas.{get_more, get_last, get_parts}
+use Rattle.rc_automaton.specs.Keys.{key_of, Numbers, number_of, IsAbsent, IsFound, AreNumbered}
+use Rattle.rc_automaton.proofs.KeyLemmas.{keys_apart}
+use Rattle.rc_automaton.proofs.ListLemmas.{get_more, get_last, get_parts}
 
 there : (states : List State) (id : ℕ) (s : State) → slice_get states id ≡ Some s → slice_get (map key_of states) id ≡ Some (key_of s)
 there [] id s e = cc

@@ -1,7 +1,7 @@
 use Rattle.std.proofs.Common.{◌∙◌, map}
 use Rattle.rc_states.specs.Places.{state_of}
-use Rattle.rc_dense.proofs.NumberLemmas.{is_found}
-use Rattle.rc_dense.proofs.states.States.find.Goals as goal
+use Rattle.rc_automaton.proofs.NumberLemmas.{is_found}
+use Rattle.rc_automaton.proofs.states.States.find.Goals as goal
 
 pub returns-clause-found : goal.returns-clause-found
 returns-clause-found c =

@@ -3,10 +3,10 @@ use Rattle.std.proofs.lemmas.List.{length-map}
 use Rattle.std.proofs.lemmas.List.Elements.{same_from_all_zip}
 use Rattle.rc_states.specs.declared.state.State.{State}
 use Rattle.rc_states.specs.Places.{state_of}
-use Rattle.rc_dense.specs.Keys.{key_of, IsAbsent}
-use Rattle.rc_dense.proofs.NumberLemmas.{one_more, added}
-use Rattle.rc_dense.proofs.states.States.add.Goals as goal
-use Rattle.rc_dense.proofs.states.States.add.Goals.{After-push_reserved}
+use Rattle.rc_automaton.specs.Keys.{key_of, IsAbsent}
+use Rattle.rc_automaton.proofs.NumberLemmas.{one_more, added}
+use Rattle.rc_automaton.proofs.states.States.add.Goals as goal
+use Rattle.rc_automaton.proofs.states.States.add.Goals.{After-push_reserved}
 
 longer : (c : After-push_reserved) → map state_of c.push_reserved.new.self.items ≡ map state_of c.self.inside.list.items ++ state_of c.args.state.now ∷ []
 longer c =

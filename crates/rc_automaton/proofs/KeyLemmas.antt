@@ -3,7 +3,7 @@ use Rattle.std.proofs.Common.{◌≡◌, ℕ, Bool, true, false, is_some, List, 
 use Rattle.std.specs.Option.{unwrap_or}
 use Rattle.rc_states.specs.declared.sides.Seen.{Seen}
 use Rattle.rc_states.specs.States.{State}
-use Rattle.rc_dense.specs.Keys.{with_bit, facts_of, key_of}
+use Rattle.rc_automaton.specs.Keys.{with_bit, facts_of, key_of}
 
 bits_apart : (a b : Bool) (m n : ℕ) → with_bit a m ≡ with_bit b n → (a ≡ b) × (m ≡ n)
 bits_apart true true m n e = (refl, omega arith)

@@ -1,7 +1,7 @@
 //! States, each with a number.
 ghost use Rattle.std.specs.Prelude.{◌≡◌, ◌+◌, ◌*◌, ◌<◌, ◌≤◌, ◌++◌, ◌∷◌, [], length, slice_get, IfOk, Some};
 ghost use Rattle.rc_states.specs.Places.{state_of};
-ghost use Rattle.rc_dense.specs.Keys.{with_bit, facts_of, key_of, IsAbsent, IsFound};
+ghost use Rattle.rc_automaton.specs.Keys.{with_bit, facts_of, key_of, IsAbsent, IsFound};
 
 use rc_states::state::State;
 use std::alloc::{AllocError, Global};
@@ -42,7 +42,7 @@ fn write_key(key: &mut Vec<usize>, state: &State) -> Result<(), AllocError>
 
 /// States, none twice. The number of a state is its place in the list.
 #[derive(Drop)]
-pub(crate) struct States {
+pub struct States {
     list: Vec<State>,
     /// The number of the state of a key.
     numbers: BTreeMap<Vec<usize>, usize>,
@@ -54,7 +54,7 @@ impl Model for States {
     ghost use Rattle.std.specs.Prelude.{List, map};
     ghost use Rattle.rc_states.specs.States as states;
     ghost use Rattle.rc_states.specs.Places.{state_of};
-    ghost use Rattle.rc_dense.specs.Keys.{AreNumbered};
+    ghost use Rattle.rc_automaton.specs.Keys.{AreNumbered};
 
     ghost Value = { List states.State };
 
@@ -64,7 +64,7 @@ impl Model for States {
 }
 
 impl States {
-    pub(crate) fn new(alloc: Global) -> States
+    pub fn new(alloc: Global) -> States
         ensures { result ≡ [] }
     {
         States {
@@ -74,14 +74,14 @@ impl States {
         }
     }
 
-    pub(crate) fn len(&self) -> usize
+    pub fn len(&self) -> usize
         ensures { result ≡ length self.now }
     {
         self.list.len()
     }
 
     /// The state of the number.
-    pub(crate) fn get(&self, number: usize) -> &State
+    pub fn get(&self, number: usize) -> &State
         requires { number < length self.now }
         ensures { slice_get self.now number ≡ Some (state_of result.now) }
     {
@@ -89,7 +89,7 @@ impl States {
     }
 
     /// The number of the state, or None where it isn't there. An `Err` is want of memory.
-    pub(crate) fn find(&mut self, state: &State) -> Result<Option<usize>, AllocError>
+    pub fn find(&mut self, state: &State) -> Result<Option<usize>, AllocError>
         ensures kept { self.new ≡ self.old }
         ensures found { IfOk result (IsFound self.old (state_of state.now)) }
     {
@@ -98,7 +98,7 @@ impl States {
     }
 
     /// Adds a copy of the state, under the next number. An `Err` is want of memory; then it isn't added.
-    pub(crate) fn add(&mut self, state: &State) -> Result<(), AllocError>
+    pub fn add(&mut self, state: &State) -> Result<(), AllocError>
         requires { IsAbsent self.old (state_of state.now) }
         ensures { IfOk result (λ _. self.new ≡ self.old ++ state_of state.now ∷ []) }
     {
