@@ -1,4 +1,3 @@
--- Only proofs use this file.
 -- What an automaton is.
 use Rattle.std.specs.Prelude.{◌≡◌, ℕ, Bool, List}
 use Rattle.rc_text.specs.declared.types.MatchKind.{MatchKind}

@@ -1,5 +1,5 @@
 -- How a search by states ended, whatever holds them.
-use Rattle.std.specs.Prelude.{◌≡◌, ℕ, ◌≤◌, Bool, false, not, Some, None, IsTrue, slice_get}
+use Rattle.std.specs.Prelude.{◌≡◌, ℕ, ◌≤◌, Bool, Option, Some, None, IsTrue, slice_get}
 use Rattle.rc_text.specs.declared.types.Anchored.{Anchored}
 use Rattle.rc_program.specs.Text.{Text}
 use Rattle.rc_program.specs.Program.{place_at}
@@ -27,7 +27,7 @@ HasEndedDown m t lo end anchored earliest (Idle i) = ⊥
 HasEndedDown m t lo end anchored earliest (Quit b p) = (slice_get t.content p ≡ Some b) × SearchEndsDown m t lo end anchored earliest (stopped_at p)
 HasEndedDown m t lo end anchored earliest (GaveUp p memory) = (lo ≤ p) × (p ≤ end)
 
--- the search was given up, and not for want of memory
-abbrev pub is_full : Ended → Bool
-is_full (GaveUp p memory) = not memory
-is_full e = false
+-- whether memory was refused to the search that was given up
+abbrev pub gave_up : Ended → Option Bool
+gave_up (GaveUp p memory) = Some memory
+gave_up e = None

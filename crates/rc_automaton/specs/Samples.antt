@@ -1,4 +1,3 @@
--- Only proofs use this file.
 -- Classes of bytes, and a byte of each class.
 use Rattle.std.specs.Prelude.{◌≡◌, ◌⊎◌, ℕ, ◌+◌, ◌<◌, Bool, true, false, List, length, slice_index}
 use Rattle.rc_program.specs.Program.{Place}

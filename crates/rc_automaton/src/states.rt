@@ -1,5 +1,5 @@
 //! States, each with a number.
-ghost use Rattle.std.specs.Prelude.{◌≡◌, ◌+◌, ◌*◌, ◌<◌, ◌≤◌, ◌++◌, ◌∷◌, [], length, slice_get, IfOk, Some};
+ghost use Rattle.std.specs.Prelude.{◌≡◌, ◌+◌, ◌*◌, ◌<◌, ◌≤◌, ◌++◌, ◌∷◌, [], length, slice_get, IfOk, IfErr, Some};
 ghost use Rattle.rc_states.specs.Places.{state_of};
 ghost use Rattle.rc_automaton.specs.Keys.{with_bit, facts_of, key_of, IsAbsent, IsFound};
 
@@ -97,10 +97,19 @@ impl States {
         Ok(self.numbers.get(&self.key).copied())
     }
 
+    /// Lets all states go; the memory for them stays.
+    pub fn clear(&mut self)
+        ensures { self.new ≡ [] }
+    {
+        self.list.clear();
+        self.numbers.clear();
+    }
+
     /// Adds a copy of the state, under the next number. An `Err` is want of memory; then it isn't added.
     pub fn add(&mut self, state: &State) -> Result<(), AllocError>
         requires { IsAbsent self.old (state_of state.now) }
-        ensures { IfOk result (λ _. self.new ≡ self.old ++ state_of state.now ∷ []) }
+        ensures added { IfOk result (λ _. self.new ≡ self.old ++ state_of state.now ∷ []) }
+        ensures kept { IfErr result (λ _. self.new ≡ self.old) }
     {
         write_key(&mut self.key, state)?;
         let key = self.key.clone()?;

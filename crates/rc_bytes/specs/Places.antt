@@ -1,4 +1,3 @@
--- Only proofs use this file.
 -- The byte program that places in code are.
 use Rattle.std.specs.Prelude.{◌≡◌, ℕ, ◌+◌, ◌<◌, ◌≤◌, Bool, true, false, ◌&&◌, List, [], ◌∷◌, ◌++◌, length, map, drop, max, nat_eq}
 use Rattle.std.specs.List.{AllByRecursion}

@@ -8,7 +8,7 @@ use Rattle.rc_states.specs.States.{State, best_at}
 use Rattle.rc_states.specs.Backward.{least_at}
 use Rattle.rc_automaton.specs.Machine.{Machine, Leads, IsAsked, is_dead}
 use Rattle.rc_automaton.specs.Runs.{MayRead, ahead_at, behind_at, RunsDown, RunEnd, met_last, stopped_at, EndsDown, SearchEndsDown}
-use Rattle.rc_dense.specs.Cells.{met, dead, quit, row_of}
+use Rattle.rc_dense.specs.Cells.{met, skip, quit, row_of}
 use Rattle.rc_dense.specs.Tables.{Names, cell_at, class_at, column, mode_of, start_at, IsByte, IsTable}
 use Rattle.rc_dense.specs.Searches.{InRow, has_died, noted_by, met_by, told, Course, swapped, IsStandingDown, StandsDown, EndsDownSo}
 use Rattle.rc_dense.specs.declared.table.Table.{Table}
@@ -160,14 +160,14 @@ module _ (d : Table) (q : Course) (i row b : ℕ) (noted : Option (ℕ × ℕ)) 
       (goes m states d (text_of terminator q.seen) q ok i row b noted (x m states terminator ok asked) byte (behind_here terminator) le (λ e. ne (is ∙ e))).0
 
   -- where the cell has no mark
-  pub stands_plain : cell < dead → StandsDown d q i (record { row = cell; noted = noted })
+  pub stands_plain : cell < skip → StandsDown d q i (record { row = cell; noted = noted })
   stands_plain plain =
       subst (λ n. StandsDown d q i (record { row = cell; noted = n })) (plain_note cell (i + 1) noted plain)
       (subst (λ r. StandsDown d q i (record { row = r; noted = noted_by cell (i + 1) noted })) (plain_row cell plain)
       (stands_on (λ e. omega (arith, e, plain))))
 
   -- where it has that of something met alone
-  pub stands_met : met ≤ cell → cell - met < dead → StandsDown d q i (record { row = cell - met; noted = Some (cell - met, i + 1) })
+  pub stands_met : met ≤ cell → cell - met < skip → StandsDown d q i (record { row = cell - met; noted = Some (cell - met, i + 1) })
   stands_met high short =
       subst (λ n. StandsDown d q i (record { row = cell - met; noted = n })) (met_note cell (i + 1) noted high short)
       (subst (λ r. StandsDown d q i (record { row = r; noted = noted_by cell (i + 1) noted })) (met_row cell high short)
@@ -264,14 +264,14 @@ module _ (d : Table) (q : Course) (cells classes piece : List ℕ) (start index 
   stands : StandsDown d q (start + index + 1) (record { row = row; noted = noted })
   stands = let e : start + (index + 1) ≡ start + index + 1 = omega arith in subst (λ i. StandsDown d q i (record { row = row; noted = noted })) e x
 
-  pub piece_plain : here < dead → InRow d here × StandsDown d q (start + index) (record { row = here; noted = noted })
+  pub piece_plain : here < skip → InRow d here × StandsDown d q (start + index) (record { row = here; noted = noted })
   piece_plain plain = (
     subst (λ r. InRow d r) (plain_row here plain) (inside_here (λ e. omega (arith, e, plain))),
     stands_plain d q (start + index) row (slice_index_or piece index 0) noted stands byte (byte_of_piece q.seen.content piece start index is lt) inside
         (omega (arith, within)) here same plain,
   )
 
-  pub piece_met : met ≤ here → here - met < dead →
+  pub piece_met : met ≤ here → here - met < skip →
       InRow d (here - met) × StandsDown d q (start + index) (record { row = here - met; noted = Some (here - met, start + (index + 1)) })
   piece_met high short =
       let e : start + index + 1 ≡ start + (index + 1) = omega arith in (

@@ -46,7 +46,7 @@ tell_more states tells s number code len a there e = λ id t lt at. elim (cases_
 ]
 
 -- there are no more rows than the cells below the marks
-pub few_rows : (n w : ℕ) → 0 < w → n * w < 4611686018427387904 → n < 4611686018427387904
+pub few_rows : (n w : ℕ) → 0 < w → n * w < 2305843009213693952 → n < 2305843009213693952
 few_rows n w wide small = let product : n * 1 ≤ n * w = mul-le-mul_left n wide in omega (arith, product, small)
 
 -- of one state that is there, the number is 0

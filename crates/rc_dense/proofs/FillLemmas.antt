@@ -52,7 +52,7 @@ cell_kept m w old new beside To cell k (inl h) = inl h
 cell_kept m w old new beside To cell k (inr h) =
     let n = h.1.2 in inr (h.0, (h.1.0, h.1.1, (n.0, k n.0 h.1.0 n.1, n.2)))
 
-row_there : (n r c rows : ℕ) → r * n + c < rows * n → r < rows
+pub row_there : (n r c rows : ℕ) → r * n + c < rows * n → r < rows
 row_there n r c rows h = elim (cases_lt r rows) [
   | inl lt ↦ lt
   | inr ge ↦ let product = mul-le-mul_left n ge in absurd (omega (arith, product, h))

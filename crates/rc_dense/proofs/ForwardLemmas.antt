@@ -1,5 +1,5 @@
 -- What a cell means to a run forwards.
-use Rattle.std.proofs.Common.{◌≡◌, ◌≢◌, ℕ, ◌+◌, ◌-◌, ◌*◌, ◌/◌, ◌<◌, ◌≤◌, true, List, length, Option, Some, None, slice_get, slice_range, slice_index_or, if◌then◌else◌, ⊎_elim, sym, ap, subst, ◌∙◌, refl, arith}
+use Rattle.std.proofs.Common.{◌≡◌, ◌≢◌, ℕ, ◌+◌, ◌-◌, ◌*◌, ◌/◌, ◌<◌, ◌≤◌, true, false, is_some, List, length, Option, Some, None, slice_get, slice_range, slice_index_or, if◌then◌else◌, ⊎_elim, sym, ap, subst, ◌∙◌, refl, arith}
 use Rattle.std.proofs.lemmas.Bool.{le-leb}
 use Rattle.rc_text.specs.Text.{slice_end}
 use Rattle.rc_program.specs.Text.{Text}
@@ -7,14 +7,18 @@ use Rattle.rc_program.specs.Sought.{text_of}
 use Rattle.rc_states.proofs.TextLemmas.{byte_ahead}
 use Rattle.rc_states.specs.States.{State, best_at}
 use Rattle.rc_automaton.specs.Machine.{Machine, Leads, IsAsked, is_dead}
-use Rattle.rc_automaton.specs.Runs.{MayRead, ahead_at, behind_at, Runs, RunEnd, met_last, stopped_at, EndsSo, SearchEnds}
-use Rattle.rc_dense.specs.Cells.{met, dead, quit, row_of}
+use Rattle.rc_automaton.specs.Runs.{MayRead, ahead_at, behind_at, Runs, RunEnd, met_last, stopped_at, idle_at, EndsSo, SearchEnds}
+use Rattle.rc_dense.specs.Cells.{met, skip, quit, row_of}
 use Rattle.rc_dense.specs.Tables.{Names, cell_at, class_at, column, mode_of, start_at, IsByte, IsTable}
-use Rattle.rc_dense.specs.Searches.{InRow, has_died, noted_by, met_by, told, Course, IsStanding, Stands, Ends}
+use Rattle.rc_dense.specs.Searches.{InRow, has_died, noted_by, met_by, told, Course, IsNoted, IsStanding, Stands, Ends}
 use Rattle.rc_dense.specs.declared.table.Table.{Table}
-use Rattle.rc_dense.specs.declared.run.Ended.TheVariants.{Met, Quit}
+use Rattle.rc_dense.specs.declared.run.Ended.TheVariants.{Met, Idle, Quit}
 use Rattle.rc_dense.proofs.SideLemmas.{byte_of_piece}
-use Rattle.rc_dense.proofs.MarkLemmas.{named_state, died_or_not, is_read, noted_more, told_is, met_at_end, plain_row, plain_note, met_row, met_note, here_is, named_here}
+use Rattle.rc_dense.proofs.MarkLemmas.{named_state, died_or_not, idle_row, is_read, noted_more, told_is, met_at_end, plain_row, plain_note, met_row, met_note, here_is, named_here}
+
+none_of : (noted : Option (ℕ × ℕ)) → is_some noted ≡ false → noted ≡ None
+none_of None e = refl
+none_of (Some n) e = cc e
 
 module _ (m : Machine) (states : List State) (d : Table) (t : Text) (q : Course) (ok : IsTable m states d) where
   abbrev EndsHere : RunEnd → Type 0
@@ -86,6 +90,14 @@ module _ (m : Machine) (states : List State) (d : Table) (t : Text) (q : Course)
       SearchEnds.ran x.first x.read x.begins
       (subst (λ o. EndsSo m t q.bound q.from x.first q.earliest (met_last o)) (sym (told_is m states d noted x.found ok x.tells)) (EndsSo.dead i x.state x.runs e))
 
+  -- where nothing was met, and nothing is under way
+  pub rested : (i row : ℕ) (noted : Option (ℕ × ℕ)) (x : IsStanding m states d t q i row noted) → is_some noted ≡ false → i ≤ q.bound →
+      slice_index_or d.idles.items (row / d.width) false ≡ true → EndsHere (idle_at i)
+  rested i row noted x none le idle =
+      let nothing = subst (λ o. IsNoted d states o x.found) (none_of noted none) x.tells in
+      SearchEnds.ran x.first x.read x.begins
+      (EndsSo.rests i x.state (subst (λ o. Runs m t q.bound q.from x.first i x.state o) nothing x.runs) le (idle_row m states d row x.state ok x.named idle))
+
   some_found : (i row : ℕ) (n : ℕ × ℕ) (x : IsStanding m states d t q i row (Some n)) → (k : ℕ) × (x.found ≡ Some (k, n.1))
   some_found i row n x = let h = x.tells in (h.1, h.4)
 
@@ -146,7 +158,7 @@ module _ (d : Table) (q : Course) (i row b : ℕ) (noted : Option (ℕ × ℕ)) 
       (goes m states d (text_of terminator q.seen) q ok i row b noted (x m states terminator ok asked) byte (ahead_here terminator lt) lt (λ e. ne (is ∙ e))).0
 
   -- where the cell has no mark
-  pub stands_plain : (cell : ℕ) → cell ≡ cell_at d (row + class_at d b) → i < q.bound → cell < dead →
+  pub stands_plain : (cell : ℕ) → cell ≡ cell_at d (row + class_at d b) → i < q.bound → cell < skip →
       Stands d q (i + 1) (record { row = cell; noted = noted })
   stands_plain cell is lt plain =
       subst (λ n. Stands d q (i + 1) (record { row = cell; noted = n })) (plain_note cell i noted plain)
@@ -154,7 +166,7 @@ module _ (d : Table) (q : Course) (i row b : ℕ) (noted : Option (ℕ × ℕ)) 
       (stands_on cell is lt (λ e. omega (arith, e, plain))))
 
   -- where it has that of something met alone
-  pub stands_met : (cell : ℕ) → cell ≡ cell_at d (row + class_at d b) → i < q.bound → met ≤ cell → cell - met < dead →
+  pub stands_met : (cell : ℕ) → cell ≡ cell_at d (row + class_at d b) → i < q.bound → met ≤ cell → cell - met < skip →
       Stands d q (i + 1) (record { row = cell - met; noted = Some (cell - met, i) })
   stands_met cell is lt le short =
       subst (λ n. Stands d q (i + 1) (record { row = cell - met; noted = n })) (met_note cell i noted le short)
@@ -186,6 +198,13 @@ module _ (d : Table) (q : Course) (i row b : ℕ) (noted : Option (ℕ × ℕ)) 
       subst (λ o. SearchEnds m (text_of terminator q.seen) q.bound q.from q.anchored q.earliest (met_last (told d o))) (sym n)
       (was_early m states d (text_of terminator q.seen) q ok (i + 1) (row_of cell) (row_of cell, i)
       (subst (λ o. IsStanding m states d (text_of terminator q.seen) q (i + 1) (row_of cell) o) n y) e)
+
+  -- where nothing was met, and nothing is under way
+  pub stands_rests : (cell : ℕ) → cell ≡ cell_at d (row + class_at d b) → i < q.bound → cell ≢ quit → is_some (noted_by cell i noted) ≡ false →
+      slice_index_or d.idles.items (row_of cell / d.width) false ≡ true → Ends d q (Idle (i + 1))
+  stands_rests cell is lt ne none idle m states terminator ok asked =
+      let y = stands_on cell is lt ne m states terminator ok asked in
+      rested m states d (text_of terminator q.seen) q ok (i + 1) (row_of cell) (noted_by cell i noted) y none (omega (arith, lt)) idle
 
 -- AT THE BOUNDS
 
@@ -251,7 +270,7 @@ module _ (d : Table) (q : Course) (cells classes piece : List ℕ) (start index 
   next_at : start + index + 1 ≡ start + (index + 1)
   next_at = omega arith
 
-  pub piece_plain : here < dead → InRow d here × Stands d q (start + (index + 1)) (record { row = here; noted = noted })
+  pub piece_plain : here < skip → InRow d here × Stands d q (start + (index + 1)) (record { row = here; noted = noted })
   piece_plain plain = (
     subst (λ r. InRow d r) (plain_row here plain) (inside_here (λ e. omega (arith, e, plain))),
     subst (λ i. Stands d q i (record { row = here; noted = noted })) next_at
@@ -259,7 +278,7 @@ module _ (d : Table) (q : Course) (cells classes piece : List ℕ) (start index 
         (omega (arith, lt, within)) plain),
   )
 
-  pub piece_met : met ≤ here → here - met < dead →
+  pub piece_met : met ≤ here → here - met < skip →
       InRow d (here - met) × Stands d q (start + (index + 1)) (record { row = here - met; noted = Some (here - met, start + index) })
   piece_met le short = (
     subst (λ r. InRow d r) (met_row here le short) (inside_here (λ e. omega (arith, e, le, short))),

@@ -4,8 +4,12 @@ pub mod MakerLemmas
 pub mod BackwardLemmas
 pub mod ForwardLemmas
 pub mod MarkLemmas
+pub mod ExitLemmas
+pub mod SkipLemmas
 pub mod SideLemmas
 pub mod StartLemmas
 pub mod ModeLemmas
 pub mod FillLemmas
 pub mod BuildLemmas
+pub mod PartLemmas
+pub mod PatternLemmas

@@ -5,26 +5,26 @@ use Rattle.std.proofs.lemmas.Bool.{le-leb, lt-leb}
 use Rattle.std.proofs.lemmas.Bool.Decides.{nat_tests}
 use Rattle.std.proofs.lemmas.Option.{slice_get_within, slice_get-get_or, get_or_from_slice_get}
 use Rattle.rc_states.specs.States.{State, best_at}
-use Rattle.rc_automaton.specs.Machine.{Machine, is_dead}
-use Rattle.rc_dense.specs.Cells.{met, dead, quit, row_of, IsNamed}
-use Rattle.rc_dense.specs.Tables.{IsRow, Names, code_of, cell_at, class_at, IsTable}
+use Rattle.rc_automaton.specs.Machine.{Machine, is_dead, is_idle}
+use Rattle.rc_dense.specs.Cells.{met, dead, skip, quit, row_of, IsNamed}
+use Rattle.rc_dense.specs.Tables.{IsRow, Names, marks, code_of, cell_at, class_at, IsTable}
 use Rattle.rc_dense.specs.Searches.{InRow, has_died, noted_by, met_by, told, IsNoted}
 use Rattle.rc_dense.specs.declared.table.Table.{Table}
 
 -- A CELL'S NUMBER
 
 -- with no mark
-pub plain_row : (cell : ℕ) → cell < dead → row_of cell ≡ cell
-plain_row cell h = grind (arith, nat_tests)
+pub plain_row : (cell : ℕ) → cell < skip → row_of cell ≡ cell
+plain_row cell h = omega (arith, h)
 
-pub plain_note : (cell i : ℕ) (noted : Option (ℕ × ℕ)) → cell < dead → noted_by cell i noted ≡ noted
+pub plain_note : (cell i : ℕ) (noted : Option (ℕ × ℕ)) → cell < skip → noted_by cell i noted ≡ noted
 plain_note cell i noted h = rw (lt-leb met cell (omega arith)) refl
 
 -- with the mark of something met alone
-pub met_row : (cell : ℕ) → met ≤ cell → cell - met < dead → row_of cell ≡ cell - met
-met_row cell h k = grind (arith, nat_tests)
+pub met_row : (cell : ℕ) → met ≤ cell → cell - met < skip → row_of cell ≡ cell - met
+met_row cell h k = omega (arith, h, k)
 
-pub met_note : (cell i : ℕ) (noted : Option (ℕ × ℕ)) → met ≤ cell → cell - met < dead → noted_by cell i noted ≡ Some (cell - met, i)
+pub met_note : (cell i : ℕ) (noted : Option (ℕ × ℕ)) → met ≤ cell → cell - met < skip → noted_by cell i noted ≡ Some (cell - met, i)
 met_note cell i noted h k =
     ap (λ b. if b then Some (row_of cell, i) else noted) (le-leb met cell h) ∙ ap (λ r. Some (r, i)) (met_row cell h k)
 
@@ -37,11 +37,17 @@ pub record IsName (row cell : ℕ) (stopped died : Bool) : Type 0 where
   pub low : row + 1 < dead
   pub is : cell ≡ row + ((if stopped then met else 0) + (if died then dead else 0))
 
-pub name_row : (row cell : ℕ) (stopped died : Bool) → IsName row cell stopped died → row_of cell ≡ row
-name_row row cell false false n = let l = n.low in let e : cell ≡ row + (0 + 0) = n.is in grind (arith, nat_tests)
-name_row row cell false true n = let l = n.low in let e : cell ≡ row + (0 + dead) = n.is in grind (arith, nat_tests)
-name_row row cell true false n = let l = n.low in let e : cell ≡ row + (met + 0) = n.is in grind (arith, nat_tests)
-name_row row cell true true n = let l = n.low in let e : cell ≡ row + (met + dead) = n.is in grind (arith, nat_tests)
+-- with the mark `SKIP` or not
+pub name_row : (row cell : ℕ) (stopped died skips : Bool) → row < skip →
+    cell ≡ row + ((if stopped then met else 0) + (if died then dead else 0)) + (if skips then skip else 0) → row_of cell ≡ row
+name_row row cell false false false low is = let e : cell ≡ row + (0 + 0) + 0 = is in omega (arith, e, low)
+name_row row cell false false true low is = let e : cell ≡ row + (0 + 0) + skip = is in omega (arith, e, low)
+name_row row cell false true false low is = let e : cell ≡ row + (0 + dead) + 0 = is in omega (arith, e, low)
+name_row row cell false true true low is = let e : cell ≡ row + (0 + dead) + skip = is in omega (arith, e, low)
+name_row row cell true false false low is = let e : cell ≡ row + (met + 0) + 0 = is in omega (arith, e, low)
+name_row row cell true false true low is = let e : cell ≡ row + (met + 0) + skip = is in omega (arith, e, low)
+name_row row cell true true false low is = let e : cell ≡ row + (met + dead) + 0 = is in omega (arith, e, low)
+name_row row cell true true true low is = let e : cell ≡ row + (met + dead) + skip = is in omega (arith, e, low)
 
 pub name_died : (row cell : ℕ) (stopped died : Bool) → IsName row cell stopped died → has_died cell ≡ died
 name_died row cell false false n = let l = n.low in let e : cell ≡ row + (0 + 0) = n.is in grind (arith, nat_tests)
@@ -103,25 +109,41 @@ row_within m states d row s ok r =
     let le = mul-le-mul_right {n = length states} d.width lt in
     omega (arith, e, n, le)
 
+hint_small : (skips : Bool) → (if skips then skip else 0) ≤ skip
+hint_small true = omega arith
+hint_small false = omega arith
+
 module _ (m : Machine) (states : List State) (d : Table) (cell : ℕ) (s : State) (ok : IsTable m states d) (n : Names d states cell s) where
-  named : IsName n.0 cell (is_some s.stop) (is_dead s)
-  named =
+  below : n.0 + 1 < skip
+  below =
       let r = row_within m states d n.0 s ok n.1 in
       let w = wide d in
       let l = d.small in
-      record { low = omega (arith, r, w, l); is = n.2 }
+      omega (arith, r, w, l)
+
+  abbrev hint : ℕ
+  hint = if n.2 then skip else 0
+
+  named : IsName (n.0 + hint) cell (is_some s.stop) (is_dead s)
+  named =
+      let low = below in
+      let h : hint ≤ skip = hint_small n.2 in
+      let e : cell ≡ n.0 + marks s + hint = n.3 in
+      record { low = omega (arith, low, h); is = omega (arith, e) }
 
   pub named_state : IsRow d states (row_of cell) s
-  named_state = subst (λ r. IsRow d states r s) (sym (name_row n.0 cell (is_some s.stop) (is_dead s) named)) n.1
+  named_state =
+      let low = below in
+      subst (λ r. IsRow d states r s) (sym (name_row n.0 cell (is_some s.stop) (is_dead s) n.2 (omega (arith, low)) n.3)) n.1
 
   pub died_or_not : has_died cell ≡ is_dead s
-  died_or_not = name_died n.0 cell (is_some s.stop) (is_dead s) named
+  died_or_not = name_died (n.0 + hint) cell (is_some s.stop) (is_dead s) named
 
   pub was_met : nat_le met cell ≡ is_some s.stop
-  was_met = name_met n.0 cell (is_some s.stop) (is_dead s) named
+  was_met = name_met (n.0 + hint) cell (is_some s.stop) (is_dead s) named
 
   pub is_read : cell ≢ quit
-  is_read = name_read n.0 cell (is_some s.stop) (is_dead s) named
+  is_read = name_read (n.0 + hint) cell (is_some s.stop) (is_dead s) named
 
 -- WHAT IS NOTED
 
@@ -139,8 +161,15 @@ pub noted_more : (m : Machine) (states : List State) (d : Table) (cell i : ℕ) 
 noted_more m states d cell i s noted found ok n h =
     noted_on states d cell i s s.stop noted found refl (was_met m states d cell s ok n) (named_state m states d cell s ok n) h
 
-row_number : (d : Table) (row id : ℕ) → row ≡ id * d.width → row / d.width ≡ id
+pub row_number : (d : Table) (row id : ℕ) → row ≡ id * d.width → row / d.width ≡ id
 row_number d row id e = let w = wide d in rw e (mul-div_cancel id w)
+
+-- the row of a state in which a search may rest
+pub idle_row : (m : Machine) (states : List State) (d : Table) (row : ℕ) (s : State) → IsTable m states d → IsRow d states row s →
+    slice_index_or d.idles.items (row / d.width) false ≡ true → is_idle s ≡ true
+idle_row m states d row s ok r e =
+    sym (get_or_from_slice_get d.idles.items r.0 (is_idle s) false (ok.idles r.0 s r.1))
+    ∙ ap (λ n. slice_index_or d.idles.items n false) (sym (row_number d row r.0 r.2)) ∙ e
 
 -- the table tells it
 pub told_is : (m : Machine) (states : List State) (d : Table) (noted found : Option (ℕ × ℕ)) → IsTable m states d → IsNoted d states noted found →

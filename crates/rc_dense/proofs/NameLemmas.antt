@@ -59,7 +59,7 @@ too_heavy m w ss s old more (Some k) e a b states =
     (k, refl, ss ++ s ∷ [], states, rw g (omega (arith, same, h, f, e)))
 
 -- a row that is there stands below the marks
-pub row_below : (ss : List State) (id : ℕ) (s : State) (w : ℕ) → 0 < w → slice_get ss id ≡ Some s → length ss * w < 4611686018427387904 → id * w + w < 4611686018427387904
+pub row_below : (ss : List State) (id : ℕ) (s : State) (w : ℕ) → 0 < w → slice_get ss id ≡ Some s → length ss * w < 2305843009213693952 → id * w + w < 2305843009213693952
 row_below ss id s w wide e small =
     let within : id + 1 ≤ length ss = let h = slice_get_within ss id s e in omega arith in
     let product = mul-le-mul_left w within in

@@ -1,4 +1,3 @@
--- Only proofs use this file.
 -- What the making of a table gives.
 use Rattle.std.specs.Prelude.{◌≡◌, ℕ, ◌+◌, ◌*◌, ◌<◌, ◌≤◌, List, length, Option, Some, slice_get, IfSome}
 use Rattle.rc_states.specs.States.{State}

@@ -1,14 +1,14 @@
 -- Only proofs use this file.
 -- A table under way.
-use Rattle.std.specs.Prelude.{◌≡◌, ◌⊎◌, ℕ, ◌+◌, ◌*◌, ◌<◌, ◌≤◌, List, length, Option, Some, None, slice_get, slice_index_or, IfSome}
+use Rattle.std.specs.Prelude.{◌≡◌, ◌⊎◌, ℕ, ◌+◌, ◌*◌, ◌<◌, ◌≤◌, Bool, List, length, Option, Some, None, slice_get, slice_index_or, IfSome}
 use Rattle.rc_text.specs.declared.types.Anchored.{Anchored}
 use Rattle.rc_states.specs.Sides.{IsReadable}
 use Rattle.rc_states.specs.States.{State}
-use Rattle.rc_automaton.specs.Machine.{Machine, IsMachine, Leads, Begins, IsAsked}
+use Rattle.rc_automaton.specs.Machine.{Machine, IsMachine, Leads, Begins, IsAsked, is_idle}
 use Rattle.rc_dense.specs.declared.names.Names.{Names}
 use Rattle.rc_dense.specs.declared.maker.Maker.{Maker}
 use Rattle.rc_dense.specs.Cells.{quit}
-use Rattle.rc_dense.specs.Tables.{marks, code_of, mode_of}
+use Rattle.rc_dense.specs.Tables.{marks, code_of, mode_of, dead_state}
 use Rattle.rc_dense.specs.Makes.{AreStates, weight_by}
 
 -- The states so far, whose rows stay below the marks, and which weigh no more than the limit.
@@ -16,7 +16,7 @@ pub record AreNamed (m : Machine) (n : Names) : Type 0 where
   pub machine : IsMachine m
   pub are_states : AreStates m n.states
   pub wide : 0 < n.width
-  pub small : length n.states * n.width < 4611686018427387904
+  pub small : length n.states * n.width < 2305843009213693952
   pub light : n.weight ≤ 18446744073709551616
   pub weighed : IfSome n.limit (λ l. (n.weight ≡ weight_by m n.width n.states) × (n.weight ≤ l))
 
@@ -82,3 +82,22 @@ IsEndOf m states number code = (s : State) → slice_get states number ≡ Some 
 -- what was met before, for the first states
 abbrev pub AreTells : List State → List ℕ → Type 0
 AreTells states tells = (id : ℕ) (s : State) → id < length tells → slice_get states id ≡ Some s → slice_get tells id ≡ Some (code_of s.stop)
+
+-- whether a search may rest, in the first states
+abbrev pub AreIdles : List State → List Bool → Type 0
+AreIdles states idles = (id : ℕ) (s : State) → id < length idles → slice_get states id ≡ Some s → slice_get idles id ≡ Some (is_idle s)
+
+-- The parts of a table: every state has its row, and every way of anchoring its starts.
+pub record AreParts (m : Machine) (samples : List ℕ) (limit : Option ℕ) (n : Names) (starts cells ends tells : List ℕ) (idles : List Bool) : Type 0 where
+  pub are_named : AreNamed m n
+  pub width : n.width ≡ length samples
+  pub limited : n.limit ≡ limit
+  pub first : slice_get n.states 0 ≡ Some dead_state
+  pub are_starts : AreStarts m samples n.states (length m.entries + 2) 0 starts
+  pub are_rows : AreRows m samples n.states (length n.states) 0 cells
+  pub are_ends : AreEnds m n.states ends
+  pub all_ends : length ends ≡ length n.states
+  pub are_tells : AreTells n.states tells
+  pub all_tells : length tells ≡ length n.states
+  pub are_idles : AreIdles n.states idles
+  pub all_idles : length idles ≡ length n.states

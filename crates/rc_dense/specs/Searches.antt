@@ -1,18 +1,17 @@
--- Only proofs use this file.
 -- Searches by a table: where their runs stand, and how they end.
-use Rattle.std.specs.Prelude.{◌≡◌, ℕ, zero, suc, ◌+◌, ◌-◌, ◌/◌, ◌≤◌, Bool, List, length, Option, Some, None, slice_get, slice_index_or, nat_le, if◌then◌else◌}
+use Rattle.std.specs.Prelude.{◌≡◌, ℕ, zero, suc, ◌+◌, ◌-◌, ◌/◌, ◌≤◌, Bool, IsTrue, List, length, Option, Some, None, slice_get, slice_index_or, nat_le, if◌then◌else◌}
 use Rattle.rc_text.specs.declared.types.Anchored.{Anchored}
 use Rattle.rc_text.specs.Text.{Searched}
 use Rattle.rc_program.specs.Text.{Text}
 use Rattle.rc_program.specs.Sought.{text_of}
 use Rattle.rc_states.specs.States.{State}
 use Rattle.rc_automaton.specs.Machine.{Machine, Begins, IsAsked}
-use Rattle.rc_automaton.specs.Runs.{MayRead, ahead_at, behind_at, Runs, RunsDown, RunEnd, met_last, stopped_at, SearchEnds, SearchEndsDown}
+use Rattle.rc_automaton.specs.Runs.{MayRead, ahead_at, behind_at, Runs, RunsDown, RunEnd, met_last, stopped_at, idle_at, SearchEnds, SearchEndsDown}
 use Rattle.rc_dense.specs.Cells.{met, dead, row_of}
 use Rattle.rc_dense.specs.Tables.{IsTable, IsRow}
 use Rattle.rc_dense.specs.declared.table.Table.{Table}
 use Rattle.rc_dense.specs.declared.run.Ended.{Ended}
-use Rattle.rc_dense.specs.declared.run.Ended.TheVariants.{Met, Quit}
+use Rattle.rc_dense.specs.declared.run.Ended.TheVariants.{Met, Idle, Quit}
 use Rattle.rc_dense.specs.declared.run.Stand.{Stand}
 use Rattle.rc_dense.specs.declared.run.Leg.{Leg}
 use Rattle.rc_dense.specs.declared.run.Leg.TheVariants.{Through, Over}
@@ -20,12 +19,14 @@ use Rattle.rc_dense.specs.declared.run.Leg.TheVariants.{Through, Over}
 -- how the search ended
 abbrev pub run_end : Ended → RunEnd
 run_end (Met found) = met_last found
+run_end (Idle i) = idle_at i
 run_end (Quit b p) = stopped_at p
 
--- the byte that isn't read stands in the content
-abbrev pub HasQuit : List ℕ → Ended → Type 0
-HasQuit content (Met found) = Unit {0}
-HasQuit content (Quit b p) = slice_get content p ≡ Some b
+-- the byte that isn't read stands in the content, and the search rests only where it may
+abbrev pub MayEnd : List ℕ → Bool → Ended → Type 0
+MayEnd content may_rest (Met found) = Unit {0}
+MayEnd content may_rest (Idle i) = IsTrue may_rest
+MayEnd content may_rest (Quit b p) = slice_get content p ≡ Some b
 
 -- WHAT A RUN KEEPS
 
@@ -64,6 +65,7 @@ pub record Course : Type 0 where
   pub bound : ℕ
   pub anchored : Anchored
   pub earliest : Bool
+  pub may_rest : Bool
 
 -- FORWARDS
 
@@ -92,7 +94,7 @@ Ends d q e =
 -- the run stands at the position, or the search has ended
 abbrev pub IsLeg : Table → Course → ℕ → Leg → Type 0
 IsLeg d q i (Through s) = InRow d s.row × Stands d q i s
-IsLeg d q i (Over e) = Ends d q e × HasQuit q.seen.content e
+IsLeg d q i (Over e) = Ends d q e × MayEnd q.seen.content q.may_rest e
 
 -- BACKWARDS
 
@@ -124,4 +126,4 @@ EndsDownSo d q e =
 
 abbrev pub IsLegDown : Table → Course → ℕ → Leg → Type 0
 IsLegDown d q i (Through s) = InRow d s.row × StandsDown d q i s
-IsLegDown d q i (Over e) = EndsDownSo d q e × HasQuit q.seen.content e
+IsLegDown d q i (Over e) = EndsDownSo d q e × MayEnd q.seen.content q.may_rest e

@@ -1,12 +1,11 @@
--- Only proofs use this file.
 -- Tables of states.
-use Rattle.std.specs.Prelude.{◌≡◌, ℕ, ◌+◌, ◌*◌, ◌<◌, ◌⊎◌, false, is_some, List, [], ◌∷◌, length, Option, Some, None, slice_get, slice_index_or, if◌then◌else◌}
+use Rattle.std.specs.Prelude.{◌≡◌, ℕ, ◌+◌, ◌*◌, ◌<◌, ◌⊎◌, Bool, false, is_some, List, [], ◌∷◌, length, Option, Some, None, slice_get, slice_index_or, if◌then◌else◌}
 use Rattle.rc_text.specs.declared.types.Anchored.{Anchored}
 use Rattle.rc_text.specs.declared.types.Anchored.TheVariants.{No, Yes, Pattern}
 use Rattle.rc_states.specs.Sides.{IsReadable}
 use Rattle.rc_states.specs.States.{State}
-use Rattle.rc_automaton.specs.Machine.{Machine, Leads, Begins, IsAsked, is_dead}
-use Rattle.rc_dense.specs.Cells.{met, dead, quit}
+use Rattle.rc_automaton.specs.Machine.{Machine, Leads, Begins, IsAsked, is_dead, is_idle}
+use Rattle.rc_dense.specs.Cells.{met, dead, skip, quit}
 use Rattle.rc_dense.specs.declared.table.Table.{Table}
 
 -- the marks of a state's name
@@ -17,9 +16,9 @@ marks s = (if is_some s.stop then met else 0) + (if is_dead s then dead else 0)
 abbrev pub IsRow : Table → List State → ℕ → State → Type 0
 IsRow d states row s = (id : ℕ) × (slice_get states id ≡ Some s) × (row ≡ id * d.width)
 
--- the cell names the state's row
+-- the cell names the state's row, with its marks, and with `SKIP` or not
 abbrev pub Names : Table → List State → ℕ → State → Type 0
-Names d states cell s = (row : ℕ) × IsRow d states row s × (cell ≡ row + marks s)
+Names d states cell s = (row : ℕ) × IsRow d states row s × (skips : Bool) × (cell ≡ row + marks s + (if skips then skip else 0))
 
 -- what was met, as a number
 abbrev pub code_of : Option ℕ → ℕ
@@ -62,6 +61,8 @@ pub record IsTable (m : Machine) (states : List State) (d : Table) : Type 0 wher
       (t : State) × Leads m s None t × (slice_get d.ends.items id ≡ Some (code_of t.stop))
   -- what was met before
   pub tells : (id : ℕ) (s : State) → slice_get states id ≡ Some s → slice_get d.tells.items id ≡ Some (code_of s.stop)
+  -- where a search may rest
+  pub idles : (id : ℕ) (s : State) → slice_get states id ≡ Some s → slice_get d.idles.items id ≡ Some (is_idle s)
   -- where a search begins
   pub begins : (anchored : Anchored) (beside : Option ℕ) → IsAsked m anchored → IsByte beside →
       ((start_at d (mode_of anchored * (d.width + 1) + column d beside) ≡ quit) × (¬ IsReadable m.setting.needs beside))

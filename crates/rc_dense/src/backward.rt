@@ -1,24 +1,24 @@
 //! Searches backwards by a table.
-ghost use Rattle.std.specs.Prelude.{◌≡◌, ◌+◌, ◌<◌, ◌≤◌, IfSome, List, ℕ, length, slice_range, slice_get};
+ghost use Rattle.std.specs.Prelude.{◌≡◌, ◌+◌, ◌<◌, ◌≤◌, false, IfSome, List, ℕ, length, slice_range, slice_get};
 ghost use Rattle.rc_text.specs.Text.{Keeps, high, low, slice_end};
 ghost use Rattle.rc_program.specs.Sought.{text_of};
 ghost use Rattle.rc_states.specs.States.{State};
 ghost use Rattle.rc_automaton.specs.Machine.{IsAsked, Machine};
 ghost use Rattle.rc_automaton.specs.Runs.{SearchEndsDown, ahead_at};
 ghost use Rattle.rc_dense.specs.Tables.{IsByte, IsTable};
-ghost use Rattle.rc_dense.specs.Searches.{Course, EndsDownSo, HasQuit, InRow, IsLegDown, StandsDown, run_end};
+ghost use Rattle.rc_dense.specs.Searches.{Course, EndsDownSo, InRow, IsLegDown, MayEnd, StandsDown, run_end};
 
 use crate::look::{cell_of, has_died, met_at_end, noted_by, row_of, swapped, told};
 use crate::run::{Ended, Leg, Stand};
 use crate::sides::{byte_ahead, byte_behind};
 use crate::start::start;
-use crate::table::{DEAD, MET, QUIT, Table};
+use crate::table::{MET, QUIT, SKIP, Table};
 use rc_text::cursor::Cursor;
 use rc_text::input::{Input, piece_before};
 use rc_text::types::Anchored;
 
 /// Runs over the bytes of a piece from its end, down to one of which the cell needs a look, and answers how many bytes are left. A mark of
-/// something met needs none where `limit` is `DEAD`, and one where it is 0.
+/// something met needs none where `limit` is `SKIP`, and one where it is 0.
 #[inline(never)]
 fn run(table: &Table, piece: &[u8], start: usize, stand: Stand, limit: usize) -> (usize, Stand)
     ghost course: { Course }
@@ -28,7 +28,7 @@ fn run(table: &Table, piece: &[u8], start: usize, stand: Stand, limit: usize) ->
     requires piece { piece.now ≡ slice_range course.seen.content start (start + length piece.now) }
     requires within { course.bound ≤ start }
     requires fits { start + length piece.now ≤ usize.MAX }
-    requires limit { limit ≤ 4611686018427387904 }
+    requires limit { limit ≤ 2305843009213693952 }
     ensures left { result.0 ≤ length piece.now }
     ensures row { InRow table.now result.1.row }
     ensures stands { StandsDown table.now course (start + result.0) result.1 }
@@ -40,7 +40,7 @@ fn run(table: &Table, piece: &[u8], start: usize, stand: Stand, limit: usize) ->
     let mut left = piece.len();
     while left > 0 {
         let cell = cells[row + classes[piece[left - 1] as usize] as usize];
-        if cell < DEAD {
+        if cell < SKIP {
             row = cell;
         } else {
             if cell < MET || cell - MET >= limit {
@@ -102,7 +102,7 @@ fn cross<C: Cursor>(
     ensures keeps { Keeps input.old input.new }
     ensures leg { IsLegDown table.now course end result }
 {
-    let limit = if earliest { 0 } else { DEAD };
+    let limit = if earliest { 0 } else { SKIP };
     let mut stand = begin;
     let mut at = from;
     while at > end {
@@ -157,7 +157,7 @@ fn finish<C: Cursor>(table: &Table, input: &mut Input<C>, end: usize, stand: Sta
     requires end { end ≡ course.bound }
     ensures keeps { Keeps input.old input.new }
     ensures ends { EndsDownSo table.now course result }
-    ensures byte { HasQuit course.seen.content result }
+    ensures byte { MayEnd course.seen.content course.may_rest result }
 {
     match byte_behind(input, end) {
         Some(byte) => {
@@ -181,13 +181,13 @@ fn search<C: Cursor>(
     earliest: bool,
 ) -> Ended
     ghost course: { Course }
-    requires course { course ≡ record { seen = input.old; from = from; bound = end; anchored = anchored; earliest = earliest } }
+    requires course { course ≡ record { seen = input.old; from = from; bound = end; anchored = anchored; earliest = earliest; may_rest = false } }
     requires low { input.old.slice.start ≤ end }
     requires ordered { end ≤ from }
     requires high { from ≤ slice_end input.old }
     ensures keeps { Keeps input.old input.new }
     ensures ends { EndsDownSo table.now course result }
-    ensures byte { HasQuit input.old.content result }
+    ensures byte { MayEnd input.old.content false result }
 {
     let beside = byte_ahead(input, from);
     let stand = match begin(table, anchored, beside, from) {
@@ -218,7 +218,7 @@ pub fn run_backwards<C: Cursor>(
     ensures keeps { Keeps input.old input.new }
     ensures ends { (m : Machine) (states : List State) (terminator : ℕ) → IsTable m states table.now → IsAsked m anchored
         → SearchEndsDown m (text_of terminator input.old) least end anchored earliest (run_end result) }
-    ensures byte { HasQuit input.old.content result }
+    ensures byte { MayEnd input.old.content false result }
 {
     search(table, input, anchored, end, least, earliest)
 }

@@ -2,22 +2,25 @@
 ghost use Rattle.std.specs.Prelude.{◌≡◌, ◌+◌, ◌*◌, ◌<◌, ◌≤◌, length, IfOk, IfErr, IfSome, Some, ℕ, slice_get, []};
 ghost use Rattle.rc_states.specs.Places.{state_of};
 ghost use Rattle.rc_states.specs.States as states;
-ghost use Rattle.rc_automaton.specs.Machine.{Machine, IsMachine};
+ghost use Rattle.rc_automaton.specs.Machine.{Machine, IsMachine, is_idle};
 ghost use Rattle.rc_automaton.specs.Automata.{machine_of, samples_of};
 ghost use Rattle.rc_dense.specs.Tables.{code_of, mode_of, dead_state};
 ghost use Rattle.rc_dense.specs.Makes.{IsMade, IsRefused};
-ghost use Rattle.rc_dense.specs.Rows.{IsMaker, Grows, AreEnds, AreRows, AreStarts, IsEndOf, AreTells};
+ghost use Rattle.rc_dense.specs.Rows.{IsMaker, Grows, AreEnds, AreRows, AreStarts, IsEndOf, AreTells, AreIdles, AreParts};
 ghost use Rattle.rc_dense.specs.declared.error.TableError.TheVariants.{Memory};
 
 use crate::error::TableError;
+use crate::exits::{Exits, are_few, exits_of};
 use crate::maker::Maker;
+use crate::marks::mark;
 use crate::names::{Names, dead};
 use crate::table::Table;
 use rc_automaton::automaton::{Automaton, Direction};
 use rc_automaton::states::States;
 use rc_states::scratch::Scratch;
+use rc_states::state::State;
 use rc_text::types::{Anchored, PatternID};
-use std::alloc::Global;
+use std::alloc::{AllocError, Global};
 
 /// What was met, as a number; None where that is none.
 fn code_of(met: Option<usize>) -> Option<usize>
@@ -110,6 +113,25 @@ fn tells_of(alloc: Global, states: &States) -> Result<Vec<usize>, TableError>
     Ok(tells)
 }
 
+/// Whether nothing is under way in the state but walks that begin there or later.
+fn is_idle(state: &State) -> bool
+    ensures { result ≡ is_idle (state_of state.now) }
+{
+    state.goes_on && state.list.len() == 1 && state.list[0] == 0
+}
+
+/// The same for each row.
+fn idles_of(alloc: Global, states: &States) -> Result<Vec<bool>, TableError>
+    ensures idles { IfOk result (λ idles. (length idles.items ≡ length states.now) × AreIdles states.now idles.items) }
+    ensures refused { IfErr result (λ e. e ≡ Memory) }
+{
+    let mut idles = Vec::new(alloc);
+    for number in 0..states.len() {
+        idles.push(is_idle(states.get(number)))?;
+    }
+    Ok(idles)
+}
+
 /// The rows of a table.
 #[derive(Drop)]
 struct Rows {
@@ -169,4 +191,128 @@ fn maker_of(
     let mut names = Names::new(alloc, width, starts, limit)?;
     names.name(&to)?;
     Ok(Maker { names, scratch, to })
+}
+
+/// How many starts a table has; None where memory could not hold them.
+fn start_count(modes: usize, width: usize) -> Option<usize>
+    ensures { IfSome result (λ count. count ≡ modes * (width + 1)) }
+{
+    modes.checked_mul(width.checked_add(1)?)
+}
+
+/// What makes a table of the automaton, before any row.
+fn begun(
+    alloc: Global,
+    automaton: &Automaton,
+    direction: Direction,
+    modes: usize,
+    limit: Option<usize>,
+) -> Result<Maker, TableError>
+    ghost m: { Machine }
+    requires same { machine_of automaton.now direction ≡ m }
+    requires machine { IsMachine m }
+    requires wide { 0 < length (samples_of automaton.now) }
+    requires modes { modes ≡ length m.entries + 2 }
+    ensures maker { IfOk result (IsMaker m) }
+    ensures width { IfOk result (λ k. k.names.width ≡ length (samples_of automaton.now)) }
+    ensures limit { IfOk result (λ k. k.names.limit ≡ limit) }
+    ensures first { IfOk result (λ k. slice_get k.names.states 0 ≡ Some dead_state) }
+    ensures refused { IfErr result (IsRefused m (length (samples_of automaton.now)) limit) }
+{
+    let width = automaton.samples().len();
+    let Some(starts) = start_count(modes, width) else {
+        return Err(TableError::Memory);
+    };
+    let scratch = automaton.create_scratch(alloc)?;
+    maker_of(alloc, scratch, width, starts, limit)
+}
+
+/// The parts of a table.
+#[derive(Drop)]
+struct Parts {
+    maker: Maker,
+    starts: Vec<usize>,
+    rows: Rows,
+    tells: Vec<usize>,
+    idles: Vec<bool>,
+}
+
+/// The parts of the automaton's table.
+fn parts_of(
+    alloc: Global,
+    automaton: &Automaton,
+    direction: Direction,
+    limit: Option<usize>,
+) -> Result<Parts, TableError>
+    ghost m: { Machine }
+    requires same { machine_of automaton.now direction ≡ m }
+    requires machine { IsMachine m }
+    requires wide { 0 < length (samples_of automaton.now) }
+    ensures parts { IfOk result (λ p. AreParts m (samples_of automaton.now) limit p.maker.names p.starts.items p.rows.cells.items p.rows.ends.items p.tells.items p.idles.items) }
+    ensures refused { IfErr result (IsRefused m (length (samples_of automaton.now)) limit) }
+{
+    let Some(modes) = automaton.pattern_len().checked_add(2) else {
+        return Err(TableError::Memory);
+    };
+    let mut maker = begun(alloc, automaton, direction, modes, limit)?;
+    let starts = starts_of(alloc, &mut maker, automaton, direction, modes)?;
+    let rows = rows_of(alloc, &mut maker, automaton, direction)?;
+    let tells = tells_of(alloc, &maker.names.states)?;
+    let idles = idles_of(alloc, &maker.names.states)?;
+    Ok(Parts {
+        maker,
+        starts,
+        rows,
+        tells,
+        idles,
+    })
+}
+
+/// Which rows are marked: those with few exits, and with `rests` those at which searches may rest.
+fn hints_of(
+    alloc: Global,
+    exits: &[Exits],
+    idles: &[bool],
+    rests: bool,
+) -> Result<Vec<bool>, AllocError> {
+    let mut hints = Vec::new(alloc);
+    for number in 0..idles.len() {
+        let few = match exits.get(number) {
+            Some(exits) => are_few(*exits),
+            None => false,
+        };
+        hints.push(few || rests && idles[number])?;
+    }
+    Ok(hints)
+}
+
+/// A table of all the states that searches by the automaton can reach in this direction. The error `TooBig` comes where what holds the states
+/// weighs more than `limit` bytes, and `Memory` where memory is wanting. With `rests` searches stop to look at the rows at which they may rest.
+pub(crate) fn table_of(
+    alloc: Global,
+    automaton: &Automaton,
+    direction: Direction,
+    limit: Option<usize>,
+    rests: bool,
+) -> Result<Table, TableError>
+    ensures made { IfOk result (IsMade (machine_of automaton.now direction) (length (samples_of automaton.now)) limit) }
+    ensures refused { IfErr result (IsRefused (machine_of automaton.now direction) (length (samples_of automaton.now)) limit) }
+{
+    let shown = automaton.classes();
+    let classes = Vec::from_slice(alloc, shown)?;
+    let width = automaton.samples().len();
+    let mut parts = parts_of(alloc, automaton, direction, limit)?;
+    let exits = exits_of(alloc, &classes, &parts.rows.cells, width, direction)?;
+    let hints = hints_of(alloc, &exits, &parts.idles, rests)?;
+    mark(&mut parts.rows.cells, width, &hints);
+    Ok(Table {
+        classes,
+        width,
+        cells: parts.rows.cells,
+        ends: parts.rows.ends,
+        tells: parts.tells,
+        idles: parts.idles,
+        exits,
+        starts: parts.starts,
+    })
 }

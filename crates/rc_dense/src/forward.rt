@@ -6,29 +6,38 @@ ghost use Rattle.rc_states.specs.States.{State};
 ghost use Rattle.rc_automaton.specs.Machine.{IsAsked, Machine};
 ghost use Rattle.rc_automaton.specs.Runs.{SearchEnds, behind_at};
 ghost use Rattle.rc_dense.specs.Tables.{IsByte, IsTable};
-ghost use Rattle.rc_dense.specs.Searches.{Course, Ends, HasQuit, InRow, IsLeg, Stands, run_end};
+ghost use Rattle.rc_dense.specs.Searches.{Course, Ends, InRow, IsLeg, MayEnd, Stands, run_end};
 
-use crate::look::{cell_of, has_died, met_at_end, noted_by, row_of, told};
+use crate::exits::first_exit;
+use crate::look::{cell_of, exits_at, has_died, is_idle, met_at_end, noted_by, row_of, told};
 use crate::run::{Ended, Leg, Stand};
 use crate::sides::{byte_ahead, byte_behind};
 use crate::start::start;
-use crate::table::{DEAD, MET, QUIT, Table};
+use crate::table::{MET, QUIT, SKIP, Table};
 use rc_text::cursor::Cursor;
 use rc_text::input::{Input, high, piece_from};
 use rc_text::types::Anchored;
 
-/// Runs over the bytes of a piece, up to one of which the cell needs a look, and answers how many bytes were read. A mark of something met
-/// needs none where `limit` is `DEAD`, and one where it is 0.
+/// Runs over the bytes of a piece from an index on, up to one of which the cell needs a look, and answers how many bytes were read. A mark of something met
+/// needs none where `limit` is `SKIP`, and one where it is 0.
 #[inline(never)]
-fn run(table: &Table, piece: &[u8], start: usize, stand: Stand, limit: usize) -> (usize, Stand)
+fn run(
+    table: &Table,
+    piece: &[u8],
+    from: usize,
+    start: usize,
+    stand: Stand,
+    limit: usize,
+) -> (usize, Stand)
     ghost course: { Course }
     requires row { InRow table.now stand.row }
-    requires stands { Stands table.now course start stand }
+    requires stands { Stands table.now course (start + from) stand }
     requires bound { course.bound ≤ slice_end course.seen }
     requires piece { piece.now ≡ slice_range course.seen.content start (start + length piece.now) }
     requires within { start + length piece.now ≤ course.bound }
     requires fits { start + length piece.now ≤ usize.MAX }
-    requires limit { limit ≤ 4611686018427387904 }
+    requires limit { limit ≤ 2305843009213693952 }
+    requires from { from ≤ length piece.now }
     ensures read { result.0 ≤ length piece.now }
     ensures row { InRow table.now result.1.row }
     ensures stands { Stands table.now course (start + result.0) result.1 }
@@ -37,9 +46,9 @@ fn run(table: &Table, piece: &[u8], start: usize, stand: Stand, limit: usize) ->
     let classes = table.classes.as_slice();
     let mut row = stand.row;
     let mut noted = stand.noted;
-    for index in 0..piece.len() {
+    for index in from..piece.len() {
         let cell = cells[row + classes[piece[index] as usize] as usize];
-        if cell < DEAD {
+        if cell < SKIP {
             row = cell;
         } else {
             if cell < MET || cell - MET >= limit {
@@ -52,8 +61,8 @@ fn run(table: &Table, piece: &[u8], start: usize, stand: Stand, limit: usize) ->
     (piece.len(), Stand { row, noted })
 }
 
-/// Reads one byte, whatever its cell.
-fn step(table: &Table, byte: u8, at: usize, stand: Stand, earliest: bool) -> Leg
+/// Reads one byte, whatever its cell. With `may_rest` the search rests behind it where it may.
+fn step(table: &Table, byte: u8, at: usize, stand: Stand, earliest: bool, may_rest: bool) -> Leg
     ghost course: { Course }
     requires row { InRow table.now stand.row }
     requires stands { Stands table.now course at stand }
@@ -61,6 +70,8 @@ fn step(table: &Table, byte: u8, at: usize, stand: Stand, earliest: bool) -> Leg
     requires byte { slice_get course.seen.content at ≡ Some byte }
     requires within { at < course.bound }
     requires earliest { earliest ≡ course.earliest }
+    requires may_rest { may_rest ≡ course.may_rest }
+    requires fits { at < usize.MAX }
     ensures { IsLeg table.now course (at + 1) result }
 {
     let cell = cell_of(table, stand.row, byte);
@@ -75,7 +86,26 @@ fn step(table: &Table, byte: u8, at: usize, stand: Stand, earliest: bool) -> Leg
         return Leg::Over(Ended::Met(told(table, noted)));
     }
     let row = row_of(cell);
+    if may_rest && noted.is_none() && is_idle(table, row) {
+        return Leg::Over(Ended::Idle(at + 1));
+    }
     Leg::Through(Stand { row, noted })
+}
+
+/// How many bytes of a piece are passed over: those before the first that may lead away from the row. None are where the search is to rest.
+fn pass(table: &Table, piece: &[u8], start: usize, stand: Stand, may_rest: bool) -> usize
+    ghost course: { Course }
+    requires stands { Stands table.now course start stand }
+    requires bound { course.bound ≤ slice_end course.seen }
+    requires piece { piece.now ≡ slice_range course.seen.content start (start + length piece.now) }
+    requires within { start + length piece.now ≤ course.bound }
+    ensures within { result ≤ length piece.now }
+    ensures stands { Stands table.now course (start + result) stand }
+{
+    if may_rest && is_idle(table, stand.row) {
+        return 0;
+    }
+    first_exit(exits_at(table, stand.row), piece)
 }
 
 /// Runs over the chunks from one position to another.
@@ -86,6 +116,7 @@ fn cross<C: Cursor>(
     end: usize,
     begin: Stand,
     earliest: bool,
+    may_rest: bool,
 ) -> Leg
     ghost course: { Course }
     requires row { InRow table.now begin.row }
@@ -95,18 +126,20 @@ fn cross<C: Cursor>(
     requires end { end ≡ course.bound }
     requires ordered { from ≤ end }
     requires earliest { earliest ≡ course.earliest }
+    requires may_rest { may_rest ≡ course.may_rest }
     ensures keeps { Keeps input.old input.new }
     ensures leg { IsLeg table.now course end result }
 {
-    let limit = if earliest { 0 } else { DEAD };
+    let limit = if earliest { 0 } else { SKIP };
     let mut stand = begin;
     let mut at = from;
     while at < end {
         let piece = piece_from(input, at, end);
-        let (read, next) = run(table, piece, at, stand, limit);
+        let passed = pass(table, piece, at, stand, may_rest);
+        let (read, next) = run(table, piece, passed, at, stand, limit);
         stand = next;
         if read < piece.len() {
-            match step(table, piece[read], at + read, stand, earliest) {
+            match step(table, piece[read], at + read, stand, earliest, may_rest) {
                 Leg::Through(next) => {
                     stand = next;
                     at += read + 1;
@@ -154,7 +187,7 @@ fn finish<C: Cursor>(table: &Table, input: &mut Input<C>, end: usize, stand: Sta
     requires end { end ≡ course.bound }
     ensures keeps { Keeps input.old input.new }
     ensures ends { Ends table.now course result }
-    ensures byte { HasQuit course.seen.content result }
+    ensures byte { MayEnd course.seen.content course.may_rest result }
 {
     match byte_ahead(input, end) {
         Some(byte) => {
@@ -176,44 +209,46 @@ fn search<C: Cursor>(
     from: usize,
     end: usize,
     earliest: bool,
+    may_rest: bool,
 ) -> Ended
     ghost course: { Course }
-    requires course { course ≡ record { seen = input.old; from = from; bound = end; anchored = anchored; earliest = earliest } }
+    requires course { course ≡ record { seen = input.old; from = from; bound = end; anchored = anchored; earliest = earliest; may_rest = may_rest } }
     requires low { input.old.slice.start ≤ from }
     requires ordered { from ≤ end }
     requires bound { end ≤ slice_end input.old }
     ensures keeps { Keeps input.old input.new }
     ensures ends { Ends table.now course result }
-    ensures byte { HasQuit input.old.content result }
+    ensures byte { MayEnd input.old.content may_rest result }
 {
     let beside = byte_behind(input, from);
     let stand = match begin(table, anchored, beside, from) {
         Leg::Through(stand) => stand,
         Leg::Over(ended) => return ended,
     };
-    match cross(table, input, from, end, stand, earliest) {
+    match cross(table, input, from, end, stand, earliest, may_rest) {
         Leg::Through(last) => finish(table, input, end, last),
         Leg::Over(ended) => ended,
     }
 }
 
 /// Searches forwards by the table, from the position `from` up to where the input's bounds end, in bytes of the whole content, wherever it is
-/// cut: what is met last is told, with its position; with `earliest` the first that is met, and nothing is read beyond it. A byte that the table doesn't read
-/// ends the search. Nothing is copied, and no memory is taken.
+/// cut: what is met last is told, with its position; with `earliest` the first that is met, and nothing is read beyond it. Where `may_rest` is set, the search may end behind a byte
+/// that it read, where nothing was met and nothing is under way. A byte that the table doesn't read ends the search. Nothing is copied, and no memory is taken.
 pub fn run_forwards<C: Cursor>(
     table: &Table,
     input: &mut Input<C>,
     anchored: Anchored,
     from: usize,
     earliest: bool,
+    may_rest: bool,
 ) -> Ended
     requires low { low input.old ≤ from }
     requires high { from ≤ high input.old }
     ensures keeps { Keeps input.old input.new }
     ensures ends { (m : Machine) (states : List State) (terminator : ℕ) → IsTable m states table.now → IsAsked m anchored
         → SearchEnds m (text_of terminator input.old) (high input.old) from anchored earliest (run_end result) }
-    ensures byte { HasQuit input.old.content result }
+    ensures byte { MayEnd input.old.content may_rest result }
 {
     let end = high(input);
-    search(table, input, anchored, from, end, earliest)
+    search(table, input, anchored, from, end, earliest, may_rest)
 }

@@ -3,10 +3,13 @@
 
 pub mod backward;
 mod build;
+pub mod dense;
 pub mod error;
+pub mod exits;
 pub mod forward;
 mod look;
 mod maker;
+mod marks;
 mod names;
 pub mod run;
 mod sides;

@@ -1,17 +1,18 @@
 //! What cells of a table say.
-ghost use Rattle.std.specs.Prelude.{◌≡◌, ◌+◌, ◌/◌, ◌<◌, ◌≤◌, ◌^◌, length, slice_index_or};
+ghost use Rattle.std.specs.Prelude.{◌≡◌, ◌+◌, ◌/◌, ◌<◌, ◌≤◌, ◌^◌, false, length, slice_index_or};
 ghost use Rattle.rc_dense.specs.Cells.{IsNamed, row_of};
 ghost use Rattle.rc_dense.specs.Tables.{cell_at, class_at};
+ghost use Rattle.rc_dense.specs.declared.exits.Exits.TheVariants.{Many};
 ghost use Rattle.rc_dense.specs.Searches.{InRow, has_died, met_by, noted_by, swapped, told};
 
-use crate::table::{DEAD, MET, Table};
+use crate::exits::Exits;
+use crate::table::{DEAD, MET, SKIP, Table};
 
 /// The row that a cell names.
 pub(crate) fn row_of(cell: usize) -> usize
     ensures { result ≡ row_of cell }
 {
-    let row = if cell >= MET { cell - MET } else { cell };
-    if row >= DEAD { row - DEAD } else { row }
+    cell % SKIP
 }
 
 /// Whether nothing goes on from the row that a cell names.
@@ -45,6 +46,26 @@ pub(crate) fn noted_by(
         return Some((row_of(cell), at));
     }
     noted
+}
+
+/// Whether nothing is under way in the row's state but walks that begin there or later.
+pub(crate) fn is_idle(table: &Table, row: usize) -> bool
+    ensures { result ≡ slice_index_or table.now.idles.items (row / table.now.width) false }
+{
+    match table.idles.get(row / table.width) {
+        Some(idle) => *idle,
+        None => false,
+    }
+}
+
+/// The exits of the row.
+pub(crate) fn exits_at(table: &Table, row: usize) -> Exits
+    ensures { result ≡ slice_index_or table.now.exits.items (row / table.now.width) Many }
+{
+    match table.exits.get(row / table.width) {
+        Some(exits) => *exits,
+        None => Exits::Many,
+    }
 }
 
 /// The code of the row in a list of codes, or 0 where it has none.

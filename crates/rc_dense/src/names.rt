@@ -7,7 +7,7 @@ ghost use Rattle.rc_dense.specs.Makes.{IsRefused, weight_by};
 ghost use Rattle.rc_dense.specs.Rows.{AreNamed, Grows, NamesBy};
 
 use crate::error::TableError;
-use crate::table::{DEAD, MET};
+use crate::table::{DEAD, MET, SKIP};
 use rc_automaton::states::States;
 use rc_states::sides::Seen;
 use rc_states::state::State;
@@ -94,7 +94,7 @@ impl Names {
         let Some(weight) = weigh(self.weight, more, self.limit) else {
             return Err(TableError::TooBig);
         };
-        if self.width >= DEAD - number * self.width {
+        if self.width >= SKIP - number * self.width {
             return Err(TableError::Memory);
         }
         self.weight = weight;

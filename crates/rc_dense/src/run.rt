@@ -6,6 +6,8 @@ pub enum Ended {
     /// What was met last, if anything was: forwards the match place and the position at which the match ends, backwards the position at which
     /// the match begins and the number of the entry.
     Met(Option<(usize, usize)>),
+    /// The search rests at this position, before which nothing was met: nothing is under way but walks that begin there or later.
+    Idle(usize),
     /// The search came to a byte that the table doesn't read: the byte and its offset.
     Quit(u8, usize),
 }

@@ -10,7 +10,7 @@ use rc_captures::captures;
 use rc_captures::captures::Captures;
 use rc_literal::literal;
 use rc_pass::cache::Cache;
-use rc_pass::kinds::{find_by_kind, search_slots_by_kind};
+use rc_pass::kinds::{find_by_kind, is_match_by_kind, search_slots_by_kind};
 use rc_program::program::Program;
 use rc_text::cursor::Cursor;
 use rc_text::input::Input;
@@ -27,7 +27,7 @@ pub struct Engine {
 }
 
 impl Engine {
-    ghost use Rattle.std.specs.Prelude.{◌≡◌, ◌≤◌, IfOk, IfSome, MatchOption, Option, Some, None, length};
+    ghost use Rattle.std.specs.Prelude.{◌≡◌, ◌≤◌, is_some, IfOk, IfSome, MatchOption, Option, Some, None, length};
     ghost use Rattle.std.specs.Option.{option_map};
     ghost use Rattle.rc_text.specs.Found.{Found};
     ghost use Rattle.rc_engine.specs.Walks.{next_start};
@@ -61,6 +61,27 @@ impl Engine {
             return literal::search(input, needles);
         }
         find_by_kind(
+            cache,
+            input,
+            &self.program,
+            guards_of(&self.strategy),
+            self.kind,
+        )
+    }
+
+    /// Whether a search finds a match. It takes no memory. Unless matches are passed over, nothing is read beyond the first position at
+    /// which one ends.
+    pub fn is_match<C: Cursor>(&self, cache: &mut Cache, input: &mut Input<C>) -> bool
+        requires made { IsEngineCache self.now 0 cache.old }
+        ensures keeps { Keeps input.old input.new }
+        ensures found { result ≡ is_some (answer_by self.now.kind (engine_search self.now input.old)) }
+        ensures cache { IsSameCache cache.old cache.new }
+    {
+        if let Some(needles) = literals_of(&self.strategy, self.kind) {
+            let found = literal::search(input, needles);
+            return found.is_some();
+        }
+        is_match_by_kind(
             cache,
             input,
             &self.program,

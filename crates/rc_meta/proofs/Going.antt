@@ -1,5 +1,6 @@
 -- One step of a seeker, from what the engine finds.
 use Rattle.std.proofs.Common.{◌≡◌, ◌∙◌, ◌+◌, ◌≤◌, ◌<◌, ℕ, Bool, true, false, List, [], ◌∷◌, length, Option, Some, None, ap, sym, subst, refl, arith}
+use Rattle.std.specs.Prelude.{◌↔◌, IsSome, IsTrue, is_some}
 use Rattle.std.proofs.lemmas.List.{length-map}
 use Rattle.rc_pattern.specs.WellFormed.{group_names}
 use Rattle.rc_text.specs.Found.{Found}
@@ -36,7 +37,7 @@ search_of r i = search_for (sought r) i
 abbrev pub matches_of : Regex → Searched → Option ℕ → List Found
 matches_of r i last = matches_by_kind (regex_kind r) (search_of r i) i.span.start last
 
-finds_leftmost : (r : Regex) (i : Searched) (last : Option ℕ) (o : Option Found) → regex_kind r ≡ leftmost_first → Finds r.built.engine i last o →
+finds_leftmost : (r : Regex) (i : Searched) (last : Option ℕ) (o : Option Found) → regex_kind r ≡ leftmost_first → Finds r.engines.engine i last o →
     o ≡ next_match begin_of end_of (answer_by_from leftmost_first (search_of r i)) i.span.start last
 finds_leftmost r i last o kind f =
     finds_same r.fits i last o f ∙ ap (λ k. next_match begin_of end_of (answer_by_from k (search_of r i)) i.span.start last) kind
@@ -45,11 +46,11 @@ finds_leftmost r i last o kind f =
 pub moved : (r : Regex) (i j : Searched) → IsMoved i j → search_of r j ≡ from_on (search_of r i) j.span.start
 moved r = sought_moved (sought r)
 
-pub none_left : (r : Regex) (i : Searched) (last : Option ℕ) (done : Bool) → Finds r.built.engine i last None → unless_done done (matches_of r i last) ≡ []
+pub none_left : (r : Regex) (i : Searched) (last : Option ℕ) (done : Bool) → Finds r.engines.engine i last None → unless_done done (matches_of r i last) ≡ []
 none_left r i last true f = refl
 none_left r i last false f = engine_none r.fits i last f
 
-pub no_walks : (r : Regex) (i : Searched) (last : Option ℕ) (done : Bool) → Finds r.built.engine i last None → regex_kind r ≡ leftmost_first →
+pub no_walks : (r : Regex) (i : Searched) (last : Option ℕ) (done : Bool) → Finds r.engines.engine i last None → regex_kind r ≡ leftmost_first →
     unless_done done (walks_left (search_of r i) i.span.start last) ≡ []
 no_walks r i last true f kind = refl
 no_walks r i last false f kind = last_step (search_of r i) i.span.start last (finds_leftmost r i last None kind f)
@@ -64,14 +65,14 @@ other_walks r i j at end m a e =
     ∙ ap (λ l. walks_left (search_of r i) at (Some l)) e
 
 -- the next match, and the others from its end
-pub next_left : (r : Regex) (i j : Searched) (last : Option ℕ) (done : Bool) (m : Found) (end : ℕ) → done ≡ false → Finds r.built.engine i last (Some m) →
+pub next_left : (r : Regex) (i j : Searched) (last : Option ℕ) (done : Bool) (m : Found) (end : ℕ) → done ≡ false → Finds r.engines.engine i last (Some m) →
     IsMoved i j → j.span.start ≡ m.end → end ≡ m.end →
     unless_done done (matches_of r i last) ≡ m ∷ unless_done done (matches_of r j (Some end))
 next_left r i j last done m end going f move a e =
     rw going (engine_some r.fits i j last m move a f ∙ ap (λ k. m ∷ matches_of r j (Some k)) (sym e))
 
 -- some match is left
-pub some_left : (r : Regex) (i : Searched) (last : Option ℕ) (done : Bool) (m : Found) → done ≡ false → Finds r.built.engine i last (Some m) →
+pub some_left : (r : Regex) (i : Searched) (last : Option ℕ) (done : Bool) (m : Found) → done ≡ false → Finds r.engines.engine i last (Some m) →
     0 < length (unless_done done (matches_of r i last))
 some_left r i last done m going f =
     let h = step_some (regex_kind r) (search_of r i) i.span.start last m (finds_same r.fits i last (Some m) f) in rw going (omega (arith, ap length h))
@@ -82,24 +83,29 @@ few_left r i last true = omega arith
 few_left r i last false = let h = left_short (regex_kind r) (search_of r i) i.span.start last in omega (arith, h)
 
 -- the engine's answer is one that the search may give
-pub may_answer : (r : Regex) (i : Searched) (o : Option Found) → o ≡ answer_by r.built.engine.kind (engine_search r.built.engine i) →
+pub may_answer : (r : Regex) (i : Searched) (o : Option Found) → o ≡ answer_by r.engines.engine.kind (engine_search r.engines.engine i) →
     IsAnswerBy (regex_kind r) i.earliest (search_of r i) o
 may_answer r i o e =
     subst (IsAnswerBy (regex_kind r) i.earliest (search_of r i)) (sym (e ∙ answer_same r.fits i)) (kinds_law.best (regex_kind r) i.earliest (search_of r i))
 
+-- whether there is a match for the regex is whether there is one for its engines
+pub is_matched : (r : Regex) (i : Searched) (b : Bool) → b ≡ is_some (answer_by r.engines.engine.kind (engine_search r.engines.engine i)) →
+    IsTrue b ↔ IsSome (answer_by (regex_kind r) (search_of r i))
+is_matched r i b is = let same = is ∙ ap is_some (answer_same r.fits i) in (λ t. sym same ∙ t, λ t. same ∙ t)
+
 -- captures that tell what the engine finds tell what the regex finds
-pub told_as : (r : Regex) (i : Searched) (caps : Captures) (kind : MatchKind) → regex_kind r ≡ kind → TellsBy r.built.engine.kind (engine_search r.built.engine i) caps →
+pub told_as : (r : Regex) (i : Searched) (caps : Captures) (kind : MatchKind) → regex_kind r ≡ kind → TellsBy r.engines.engine.kind (engine_search r.engines.engine i) caps →
     TellsBy kind (search_of r i) caps
 told_as r i caps kind e told = subst (λ k. TellsBy k (search_of r i) caps) e (told_same r.fits i caps told)
 
 -- and answer the match that it finds
-pub match_made : (r : Regex) (i : Searched) (caps : Captures) → IsCapturesFor (regex_names r) caps → TellsBy r.built.engine.kind (engine_search r.built.engine i) caps →
+pub match_made : (r : Regex) (i : Searched) (caps : Captures) → IsCapturesFor (regex_names r) caps → TellsBy r.engines.engine.kind (engine_search r.engines.engine i) caps →
     match_of caps ≡ answer_by (regex_kind r) (search_of r i)
 match_made r i caps made told =
     let shows = shown (is_grouped (which_captures_of (regex_settings r))) (regex_patterns r) in
     tells_match_by (regex_kind r) shows (search_of r i) (regex_names r) caps refl (length-map shows group_names) made (told_same r.fits i caps told)
 
-pub same_match : (r : Regex) (i : Searched) (caps : Captures) → KeepsAll (regex_names r) caps → TellsBy r.built.engine.kind (engine_search r.built.engine i) caps →
+pub same_match : (r : Regex) (i : Searched) (caps : Captures) → KeepsAll (regex_names r) caps → TellsBy r.engines.engine.kind (engine_search r.engines.engine i) caps →
     match_of caps ≡ answer_by (regex_kind r) (search_of r i)
 same_match r i caps kept told = match_made r i caps (keeps_is_for (regex_names r) caps kept) told
 
@@ -111,14 +117,14 @@ pub record TellsNext (r : Regex) (i k : Searched) (last : Option ℕ) (done : Bo
       ≡ walk ∷ unless_done done (walks_left (search_of r k) k.span.start (Some end))
 
 pub tells_next : (r : Regex) (i j k : Searched) (last : Option ℕ) (done : Bool) (m : Found) (end : ℕ) (caps : Captures) → done ≡ false →
-    Finds r.built.engine i last (Some m) → IsMoved i j → j.span.start ≡ next_start r.built.engine.kind (engine_search r.built.engine i) i.span.start last →
-    TellsBy r.built.engine.kind (engine_search r.built.engine j) caps → IsMoved i k → k.span.start ≡ m.end → end ≡ m.end → regex_kind r ≡ leftmost_first →
+    Finds r.engines.engine i last (Some m) → IsMoved i j → j.span.start ≡ next_start r.engines.engine.kind (engine_search r.engines.engine i) i.span.start last →
+    TellsBy r.engines.engine.kind (engine_search r.engines.engine j) caps → IsMoved i k → k.span.start ≡ m.end → end ≡ m.end → regex_kind r ≡ leftmost_first →
     TellsNext r i k last done m end caps
 tells_next r i j k last done m end caps going f there at told move a e kind =
     let s = search_of r i in
     let step : Step s (search_of r j) i.span.start last m =
     walk_step s (search_of r j) i.span.start last m j.span.start (moved r i j there)
-    (at ∙ ap (λ x. next_start r.built.engine.kind x i.span.start last) (fits_search r.fits i) ∙ ap (λ y. next_start y s i.span.start last) (r.fits.kinded ∙ kind))
+    (at ∙ ap (λ x. next_start r.engines.engine.kind x i.span.start last) (fits_search r.fits i) ∙ ap (λ y. next_start y s i.span.start last) (r.fits.kinded ∙ kind))
     (finds_leftmost r i last (Some m) kind f) in
     let ends = ap (λ (x : Found). x.end) step.is_found in
     record {

@@ -1,4 +1,6 @@
 pub mod Weights
+pub mod Cached
 pub mod Going
 pub mod Runs
 pub mod Cuts
+pub mod Preferred

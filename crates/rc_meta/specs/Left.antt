@@ -19,9 +19,9 @@ use Rattle.rc_program.specs.Sought.{search_for}
 use Rattle.rc_engine.specs.Moved.{IsMoved}
 use Rattle.rc_engine.specs.Tells.{TellsOf, TellsSpan, AllTell, KeepsAll}
 use Rattle.rc_engine.specs.Walks.{walks_left}
+use Rattle.rc_meta.specs.Seeking.{Seeking}
 use Rattle.rc_meta.specs.Views.{regex_kind, regex_names, sought}
 use Rattle.rc_meta.specs.declared.regex.Regex.{Regex}
-use Rattle.rc_meta.specs.declared.seeker.Seeker.{Seeker}
 use Rattle.rc_meta.specs.declared.iterators.FindMatches.{FindMatches}
 use Rattle.rc_meta.specs.declared.iterators.CapturesMatches.{CapturesMatches}
 use Rattle.rc_meta.specs.declared.iterators.Pieces.{Pieces}
@@ -29,45 +29,45 @@ use Rattle.rc_meta.specs.declared.iterators.Split.{Split}
 use Rattle.rc_meta.specs.declared.iterators.SplitN.{SplitN}
 
 -- the search of an input by a regex
-abbrev pub search_by : Seeker → Searched → Search
-search_by f i = search_for (sought f.regex.now) i
+abbrev pub search_by : Seeking → Searched → Search
+search_by f i = search_for (sought f.regex) i
 
 -- nothing once it has ended
 abbrev pub unless_done : {X : Type 0} → Bool → List X → List X
 unless_done done xs = if done then [] else xs
 
 -- the kind of match that a seeker finds
-abbrev pub kind_by : Seeker → MatchKind
-kind_by f = regex_kind f.regex.now
+abbrev pub kind_by : Seeking → MatchKind
+kind_by f = regex_kind f.regex
 
 -- the matches that a seeker has left in an input
-abbrev pub left_in : Seeker → Searched → List Found
+abbrev pub left_in : Seeking → Searched → List Found
 left_in f i = unless_done f.is_done (matches_by_kind (kind_by f) (search_by f i) i.span.start f.last)
 
 -- and their walks, where they are leftmost-first
-abbrev pub walks_in : Seeker → Searched → List Chosen
+abbrev pub walks_in : Seeking → Searched → List Chosen
 walks_in f i = unless_done f.is_done (walks_left (search_by f i) i.span.start f.last)
 
 -- What a search gives: the first of the matches that are left, and the others stay left; or nothing where none is left, and then none
 -- is left.
-abbrev pub GivesNext : Seeker → Searched → Option Found → Seeker → Searched → Type 0
+abbrev pub GivesNext : Seeking → Searched → Option Found → Seeking → Searched → Type 0
 GivesNext f i r g j = MatchOption r
     ((left_in f i ≡ []) × (left_in g j ≡ []))
     (λ m. left_in f i ≡ m ∷ left_in g j)
 
 -- What a step keeps: the same regex, and the input but for its chunk, its position and the start of its span.
-abbrev pub Goes : Seeker → Searched → Seeker → Searched → Type 0
-Goes f i g j = (g.regex.now ≡ f.regex.now) × IsMoved i j
+abbrev pub Goes : Seeking → Searched → Seeking → Searched → Type 0
+Goes f i g j = (g.regex ≡ f.regex) × IsMoved i j
 
 -- The captures tell the first of the walks that are left, with all its groups, and the others stay left.
-pub record TellsWalk (f : Seeker) (i : Searched) (caps : Captures) (g : Seeker) (j : Searched) : Type 0 where
+pub record TellsWalk (f : Seeking) (i : Searched) (caps : Captures) (g : Seeking) (j : Searched) : Type 0 where
   pub walk : Chosen
   pub told : TellsOf (search_by f i) (Some walk) caps
   pub walks : walks_in f i ≡ walk ∷ walks_in g j
 
 -- The captures hold the first of the matches that are left, and the others stay left.
-pub record HoldsNext (f : Seeker) (i : Searched) (caps : Captures) (g : Seeker) (j : Searched) : Type 0 where
-  pub kept : KeepsAll (regex_names f.regex.now) caps
+pub record HoldsNext (f : Seeking) (i : Searched) (caps : Captures) (g : Seeking) (j : Searched) : Type 0 where
+  pub kept : KeepsAll (regex_names f.regex) caps
   pub found : Found
   pub matched : match_of caps ≡ Some found
   pub left : left_in f i ≡ found ∷ left_in g j
@@ -75,20 +75,20 @@ pub record HoldsNext (f : Seeker) (i : Searched) (caps : Captures) (g : Seeker) 
   pub tells : kind_by f ≡ leftmost_first → TellsWalk f i caps g j
   pub spans : kind_by f ≡ all_matches → TellsSpan (Some found) caps
   -- the same is sought in the same, from elsewhere on
-  pub regex : g.regex.now ≡ f.regex.now
+  pub regex : g.regex ≡ f.regex
   pub start : ℕ
   pub search : search_by g j ≡ from_on (search_by f i) start
 
 -- What a search with groups gives: captures of the next match; or want of memory, which comes only where a match is left, and after
 -- which none is left; or nothing where none is left, and then none is left.
-abbrev pub GivesCaptures : Seeker → Searched → Option (Result Captures AllocError) → Seeker → Searched → Type 0
+abbrev pub GivesCaptures : Seeking → Searched → Option (Result Captures AllocError) → Seeking → Searched → Type 0
 GivesCaptures f i r g j = MatchOption r
     ((left_in f i ≡ []) × (kind_by f ≡ leftmost_first → walks_in f i ≡ []) × (left_in g j ≡ []))
     (λ item. MatchResult item (λ caps. HoldsNext f i caps g j) (λ _. (0 < length (left_in f i)) × (left_in g j ≡ [])))
 
 -- whose matches they are
 abbrev pub find_regex : {C : Type 0} → FindMatches C → Regex
-find_regex s = s.seeker.regex.now
+find_regex s = s.seeker.regex
 
 -- the input that is kept
 abbrev pub find_input : {C : Type 0} → FindMatches C → Searched
@@ -119,7 +119,7 @@ abbrev pub FindRuns : {C : Type 0} → FindMatches C → Type 0
 FindRuns {C} s = YieldsInOrder (FindNext {C = C}) find_left
 
 abbrev pub captures_regex : {C : Type 0} → CapturesMatches C → Regex
-captures_regex s = s.seeker.seeker.regex.now
+captures_regex s = s.seeker.seeker.regex
 
 abbrev pub captures_input : {C : Type 0} → CapturesMatches C → Searched
 captures_input s = s.input

@@ -15,7 +15,7 @@ use Rattle.rc_meta.specs.declared.builder.Builder.{Builder}
 
 -- the patterns that the regex was built of, and its settings
 abbrev pub regex_patterns : Regex → List Re
-regex_patterns r = map meaning r.built.hirs.items
+regex_patterns r = map meaning r.hirs.items
 
 abbrev pub regex_settings : Regex → Settings
 regex_settings r = settings_of r.config

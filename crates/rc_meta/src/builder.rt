@@ -1,9 +1,18 @@
 //! What makes regexes.
 
-ghost use Rattle.std.specs.Prelude.{◌≡◌, ◌≤◌, ◌∷◌, [], IfOk, IfErr, length, map};
+ghost use Rattle.std.specs.Prelude.{◌≡◌, ◌≤◌, ◌∷◌, [], All, IfOk, IfErr, IfSome, List, length, map};
+ghost use Rattle.rc_pattern.specs.Re.{Re};
 ghost use Rattle.rc_pattern.specs.Meaning.{meaning};
+ghost use Rattle.rc_pattern.specs.WellFormed.{HasBounds};
+ghost use Rattle.rc_program.specs.Laws.{heaviness};
+ghost use Rattle.rc_program.specs.Places.{places_of};
+ghost use Rattle.rc_program.specs.Program.{program, shown};
 ghost use Rattle.rc_build.specs.Refusals.{IsBuildable, IsRefusal};
-ghost use Rattle.rc_settings.specs.Settings.{settings_of, unset, overwritten, nfa_size_limit_of};
+ghost use Rattle.rc_settings.specs.Thompson.{which_captures_of};
+ghost use Rattle.rc_settings.specs.Which.{is_grouped};
+ghost use Rattle.rc_settings.specs.Settings.{settings_of, unset, overwritten, nfa_size_limit_of, program_settings, line_terminator_of, match_kind_of, dfa_of, hybrid_of, hybrid_cache_capacity_of, byte_classes_of};
+ghost use Rattle.rc_engines.specs.Plans.{IsLazyFor};
+ghost use Rattle.rc_meta.specs.Plans.{plan_by};
 ghost use Rattle.rc_build.specs.TextRefusals.{AllRead, IsTextRefusal, texts_of};
 ghost use Rattle.rc_meta.specs.Views.{builder_settings, builder_syntax, regex_patterns, regex_settings};
 ghost use Rattle.rc_parser.specs.Settings.{default_settings, settings_of as syntax_of};
@@ -11,10 +20,13 @@ ghost use Rattle.rc_parser.specs.Settings.{default_settings, settings_of as synt
 use crate::regex::Regex;
 use rc_build::build::build_all;
 use rc_build::texts::parse_all;
+use rc_engine::engine::Engine;
+use rc_engines::engines::{Engines, Limits};
+use rc_engines::spans::Spans;
 use rc_pattern::hir::Hir;
 use rc_settings::error::BuildError;
 use rc_settings::meta::Config;
-use std::alloc::Global;
+use std::alloc::{AllocError, Global};
 
 /// Makes regexes under settings of its own: those of the regex, and those by which its text is read.
 #[derive(Drop)]
@@ -122,6 +134,56 @@ pub(crate) fn build(alloc: Global, config: &Config, hirs: &[Hir]) -> Result<Rege
         config.get_prefilter(),
         config.get_auto_prefilter(),
     )?;
+    let hirs = built.hirs;
+    let engines = engines_of(alloc, config, &hirs, built.engine)?;
     let config = config.try_clone(alloc)?;
-    Ok(Regex { config, built })
+    Ok(Regex {
+        config,
+        hirs,
+        engines,
+        info: built.info,
+    })
+}
+
+/// The engines of these patterns under these settings, whose program `engine` searches.
+fn engines_of(
+    alloc: Global,
+    config: &Config,
+    hirs: &[Hir],
+    engine: Engine,
+) -> Result<Engines, AllocError>
+    ghost shown_hirs: { List Re }
+    requires shown { shown_hirs ≡ shown (is_grouped (which_captures_of (program_settings (settings_of config.now)))) (map meaning hirs.now) }
+    requires program { places_of engine.program.places.items ≡ program shown_hirs }
+    requires light { heaviness (places_of engine.program.places.items) ≤ 2147483646 }
+    requires bounded { All HasBounds shown_hirs }
+    requires terminator { engine.program.terminator ≡ line_terminator_of (settings_of config.now) }
+    requires kind { engine.kind ≡ match_kind_of (settings_of config.now) }
+    ensures engine { IfOk result (λ engines. engines.engine ≡ engine) }
+    ensures planned { IfOk result (λ engines. IfSome engines.lazy (IsLazyFor (plan_by (map meaning hirs.now) (settings_of config.now)))) }
+{
+    Engines::new(
+        alloc,
+        engine,
+        hirs.len(),
+        Spans::of(hirs),
+        limits_of(config),
+    )
+}
+
+/// What the settings say of tables: each direction may take a quarter of the size of those of all states.
+fn limits_of(config: &Config) -> Limits
+    ensures dfa { result.dfa ≡ dfa_of (settings_of config.now) }
+    ensures hybrid { result.hybrid ≡ hybrid_of (settings_of config.now) }
+    ensures capacity { result.capacity ≡ hybrid_cache_capacity_of (settings_of config.now) }
+    ensures classes { result.byte_classes ≡ byte_classes_of (settings_of config.now) }
+{
+    Limits {
+        dfa: config.get_dfa(),
+        state_limit: config.get_dfa_state_limit(),
+        size_limit: config.get_dfa_size_limit().map(|size| size / 4),
+        byte_classes: config.get_byte_classes(),
+        hybrid: config.get_hybrid(),
+        capacity: config.get_hybrid_cache_capacity(),
+    }
 }

@@ -1,7 +1,7 @@
 //! What searches work in.
 
 use crate::regex::Regex;
-use rc_pass::cache;
+use rc_engines::cache;
 use std::alloc::{AllocError, Global};
 
 /// What searches by a regex work in: all memory that they need, made once.
@@ -33,7 +33,7 @@ impl Cache {
         Ok(())
     }
 
-    /// About how many bytes the cache has taken for its lists.
+    /// About how many bytes the cache has taken for its lists, and for the states that searches met.
     pub fn memory_usage(&self) -> usize {
         self.inner.memory_usage()
     }

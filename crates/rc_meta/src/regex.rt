@@ -1,12 +1,15 @@
 //! A regex, and its searches.
 
-ghost use Rattle.std.specs.Prelude.{◌≡◌, ◌≤◌, ◌+◌, None, false, length, map};
+ghost use Rattle.std.specs.Prelude.{◌≡◌, ◌≤◌, ◌+◌, All, IfSome, None, false, length, map};
 ghost use Rattle.rc_pattern.specs.Properties.{common};
 ghost use Rattle.rc_pattern.specs.Weight.{list_weight};
+ghost use Rattle.rc_pattern.specs.WellFormed.{IsWellFormed};
 ghost use Rattle.rc_program.specs.Laws.{all_groups};
 ghost use Rattle.rc_build.specs.Fits.{Fits};
 ghost use Rattle.rc_build.specs.Refusals.{greatest_weight};
 ghost use Rattle.rc_engine.specs.Choices.{guarding};
+ghost use Rattle.rc_engines.specs.Plans.{IsLazyFor};
+ghost use Rattle.rc_meta.specs.Plans.{plan_by};
 ghost use Rattle.rc_meta.specs.Counts.{static_groups};
 ghost use Rattle.rc_pattern.specs.Meaning.{meaning};
 ghost use Rattle.rc_settings.specs.Settings.{settings_of, program_settings, auto_prefilter_of, prefilter_of, match_kind_of};
@@ -15,11 +18,11 @@ use crate::builder::{Builder, build};
 use crate::cache::Cache;
 use crate::iterators::{CapturesMatches, FindMatches, Pieces, Split, SplitN};
 use crate::seeker::{GroupSeeker, Seeker};
-use rc_build::build::Built;
 use rc_captures::captures;
 use rc_captures::captures::Captures;
 use rc_captures::groups::GroupInfo;
-use rc_pass::cache;
+use rc_engines::cache;
+use rc_engines::engines::Engines;
 use rc_pattern::check::group_count;
 use rc_pattern::hir::Hir;
 use rc_program::place::Place;
@@ -35,14 +38,18 @@ use std::mem::size_of;
 #[derive(Drop)]
 pub struct Regex {
     pub(crate) config: Config,
-    pub(crate) built: Built,
-    ghost fits: { Fits (program_settings (settings_of config)) (match_kind_of (settings_of config)) (map meaning built.hirs.items) built.engine built.info },
+    pub(crate) hirs: Vec<Hir>,
+    pub(crate) engines: Engines,
+    pub(crate) info: GroupInfo,
+    ghost fits: { Fits (program_settings (settings_of config)) (match_kind_of (settings_of config)) (map meaning hirs.items) engines.engine info },
+    ghost planned: { ∥ IfSome engines.lazy (IsLazyFor (plan_by (map meaning hirs.items) (settings_of config))) ∥₁ },
+    ghost well_formed: { ∥ All IsWellFormed (map meaning hirs.items) ∥₁ },
     // no needles, where none are asked for
-    ghost unguarded: { auto_prefilter_of (settings_of config) ≡ false → prefilter_of (settings_of config) ≡ None → guarding built.engine.strategy ≡ None },
+    ghost unguarded: { auto_prefilter_of (settings_of config) ≡ false → prefilter_of (settings_of config) ≡ None → guarding engines.engine.strategy ≡ None },
 }
 
 impl Regex {
-    ghost use Rattle.std.specs.Prelude.{◌≡◌, ◌≤◌, ◌<◌, ◌+◌, ◌^◌, ◌↔◌, ◌∷◌, [], All, IfErr, IfOk, IfSome, OnOk, OnErr, IsSome, IsTrue, MatchOption, Some, None, false, length, map, option_map};
+    ghost use Rattle.std.specs.Prelude.{◌≡◌, is_some, ◌≤◌, ◌<◌, ◌+◌, ◌^◌, ◌↔◌, ◌∷◌, [], All, IfErr, IfOk, IfSome, OnOk, OnErr, IsSome, IsTrue, MatchOption, Some, None, false, length, map, option_map};
     ghost use Rattle.rc_captures.specs.Captures.{IsCapturesFor, captures_pattern, captures_slots, match_of};
     ghost use Rattle.rc_captures.specs.Groups.{names_of};
     ghost use Rattle.rc_captures.specs.Names.{slot_len};
@@ -63,8 +70,10 @@ impl Regex {
     ghost use Rattle.rc_build.specs.Refusals.{IsBuildable};
     ghost use Rattle.rc_build.specs.TextRefusals.{AllRead, IsTextRefusal, texts_of};
     ghost use Rattle.rc_parser.specs.Settings.{default_settings};
-    ghost use Rattle.rc_engine.specs.Engine.{IsEngineCache};
+    ghost use Rattle.rc_parses.specs.Preference.{ArePlain, IsPreferredMatch};
+    ghost use Rattle.rc_engines.specs.Caches.{IsCacheIn};
     ghost use Rattle.rc_meta.specs.Caches.{IsCacheFor};
+    ghost use Rattle.rc_meta.specs.Preferred.{HoldsPreferred};
     ghost use Rattle.rc_meta.specs.Views.{builder_settings, builder_syntax, regex_kind, regex_patterns, regex_settings, regex_names, sought};
 
     /// The regex of the pattern as which this text is read by the default settings. Nothing else is set. The `Err`s are those of
@@ -113,7 +122,8 @@ impl Regex {
     /// Under `MatchKind::All` it is the match with the greatest end, of these the one with the least start, and of these the one of
     /// the least pattern. Empty matches inside a character aren't passed over then.
     ///
-    /// The match depends on the uncut bytes of the content alone, however the cursor cuts them.
+    /// The match depends on the uncut bytes of the content alone, however the cursor cuts them. Where `is_plain` is true, the match that is
+    /// preferred is the least parse of the least start that has one.
     pub fn find<C: Cursor + Drop>(
         &self,
         alloc: Global,
@@ -121,12 +131,13 @@ impl Regex {
     ) -> Result<Option<Match>, AllocError>
         ensures found { match_kind_of (regex_settings self.now) ≡ LeftmostFirst
             → IfOk result (λ m. m ≡ answer (search_for (sought self.now) input)) }
+        ensures preferred { match_kind_of (regex_settings self.now) ≡ LeftmostFirst → ArePlain (regex_patterns self.now)
+            → IfOk result (IsPreferredMatch (sought self.now) input) }
         ensures found_by { IfOk result (λ m. m ≡ answer_by (regex_kind self.now) (search_for (sought self.now) input)) }
         ensures may { IfOk result (IsAnswerBy (regex_kind self.now) input.earliest (search_for (sought self.now) input)) }
         ensures within { IfOk result (λ o. IfSome o (λ m. (low input ≤ m.start) × (m.start ≤ m.end) × (m.end ≤ high input))) }
     {
-        let mut cache = self.built.engine.create_cache(alloc, 0)?;
-        Ok(self.built.engine.find(&mut cache, &mut input))
+        self.engines.find_once(alloc, &mut input)
     }
 
     /// As `find`.
@@ -149,26 +160,25 @@ impl Regex {
         ensures keeps { Keeps input.old input.new }
         ensures found { match_kind_of (regex_settings self.now) ≡ LeftmostFirst
             → result ≡ answer (search_for (sought self.now) input.old) }
+        ensures preferred { match_kind_of (regex_settings self.now) ≡ LeftmostFirst → ArePlain (regex_patterns self.now)
+            → IsPreferredMatch (sought self.now) input.old result }
         ensures found_by { result ≡ answer_by (regex_kind self.now) (search_for (sought self.now) input.old) }
         ensures may { IsAnswerBy (regex_kind self.now) input.old.earliest (search_for (sought self.now) input.old) result }
         ensures within { IfSome result (λ m. (low input.old ≤ m.start) × (m.start ≤ m.end) × (m.end ≤ high input.old)) }
     {
-        self.built.engine.find(&mut cache.inner, input)
+        self.engines.find(&mut cache.inner, input)
     }
 
     /// The pattern and the end of the match that `find` finds. An `Err` is want of memory.
     pub fn search_half<C: Cursor + Drop>(
         &self,
         alloc: Global,
-        input: Input<C>,
+        mut input: Input<C>,
     ) -> Result<Option<HalfMatch>, AllocError>
         ensures found_by { IfOk result (λ m. m ≡ option_map half_of (answer_by (regex_kind self.now) (search_for (sought self.now) input))) }
         ensures within { IfOk result (λ o. IfSome o (λ m. (low input ≤ m.offset) × (m.offset ≤ high input))) }
     {
-        match self.find(alloc, input)? {
-            Some(found) => Ok(Some(HalfMatch::new(found.pattern(), found.end()))),
-            None => Ok(None),
-        }
+        self.engines.find_end_once(alloc, &mut input)
     }
 
     /// As `search_half`, in a cache that was made for this regex. It takes no memory.
@@ -183,10 +193,7 @@ impl Regex {
         ensures found_by { result ≡ option_map half_of (answer_by (regex_kind self.now) (search_for (sought self.now) input.old)) }
         ensures within { IfSome result (λ m. (low input.old ≤ m.offset) × (m.offset ≤ high input.old)) }
     {
-        match self.search_with(cache, input) {
-            Some(found) => Some(HalfMatch::new(found.pattern(), found.end())),
-            None => None,
-        }
+        self.engines.find_end(&mut cache.inner, input)
     }
 
     /// Whether a search of the input finds a match. An `Err` is want of memory.
@@ -195,25 +202,25 @@ impl Regex {
     pub fn is_match<C: Cursor + Drop>(
         &self,
         alloc: Global,
-        input: Input<C>,
+        mut input: Input<C>,
     ) -> Result<bool, AllocError>
         ensures found_by { IfOk result (λ b. IsTrue b ↔ IsSome (answer_by (regex_kind self.now) (search_for (sought self.now) input))) }
     {
-        Ok(self.find(alloc, input)?.is_some())
+        self.engines.is_match_once(alloc, &mut input)
     }
 
     /// How many patterns there are.
     pub fn pattern_len(&self) -> usize
         ensures { result ≡ length (regex_patterns self.now) }
     {
-        self.built.hirs.len()
+        self.hirs.len()
     }
 
     /// How many groups the patterns have: group 0 of each, and the explicit ones, whether they are kept or not.
     pub fn captures_len(&self) -> usize
         ensures { result ≡ length (regex_patterns self.now) + all_groups (regex_patterns self.now) }
     {
-        self.pattern_len() + explicit_groups(&self.built.hirs)
+        self.pattern_len() + explicit_groups(&self.hirs)
     }
 
     /// How many groups take part in each match, group 0 among them, where that is known to be one number for all patterns. `None`
@@ -221,15 +228,28 @@ impl Regex {
     pub fn static_captures_len(&self) -> Option<usize>
         ensures { result ≡ static_captures_len (regex_patterns self.now) }
     {
-        let explicit = static_groups(&self.built.hirs)?;
+        let explicit = static_groups(&self.hirs)?;
         Some(explicit.saturating_add(1))
+    }
+
+    /// Whether no pattern repeats what may be empty. Then the patterns alone tell which match is preferred, and its groups. It takes no
+    /// memory.
+    pub fn is_plain(&self) -> bool
+        ensures { IsTrue result ↔ ArePlain (regex_patterns self.now) }
+    {
+        for hir in &self.hirs {
+            if !hir.properties().is_plain() {
+                return false;
+            }
+        }
+        true
     }
 
     /// The groups that are kept.
     pub fn group_info(&self) -> &GroupInfo
         ensures { names_of result.now ≡ regex_names self.now }
     {
-        &self.built.info
+        &self.info
     }
 
     /// The settings.
@@ -244,7 +264,7 @@ impl Regex {
         ensures patterns { IfOk result (λ r. regex_patterns r ≡ regex_patterns self.now) }
         ensures settings { IfOk result (λ r. regex_settings r ≡ regex_settings self.now) }
     {
-        match build(alloc, &self.config, &self.built.hirs) {
+        match build(alloc, &self.config, &self.hirs) {
             Ok(regex) => Ok(regex),
             // The patterns were built before, so nothing else refuses them.
             Err(_) => Err(AllocError),
@@ -256,26 +276,26 @@ impl Regex {
         ensures { auto_prefilter_of (regex_settings self.now) ≡ false → prefilter_of (regex_settings self.now) ≡ None
             → result ≡ false }
     {
-        self.built.engine.strategy.is_fast()
+        self.engines.engine.strategy.is_fast()
     }
 
-    /// About how many bytes the program, the groups and the needles of searches take.
+    /// About how many bytes the program, the groups, the needles and the tables of searches take.
     pub fn memory_usage(&self) -> usize {
         let places = self
-            .built
+            .engines
             .engine
             .program
             .places
             .len()
             .saturating_mul(size_of::<Place>());
         let slots = self
-            .built
             .info
             .slot_len()
             .saturating_mul(size_of::<Option<usize>>());
         places
             .saturating_add(slots)
-            .saturating_add(self.built.engine.strategy.memory_usage())
+            .saturating_add(self.engines.engine.strategy.memory_usage())
+            .saturating_add(self.engines.memory_usage())
     }
 
     /// A cache for searches by this regex. An `Err` is want of memory.
@@ -285,13 +305,12 @@ impl Regex {
         Cache::new(alloc, self)
     }
 
-    /// A cache for searches by the engine, with all slots.
+    /// A cache for searches by the engines, with all slots.
     pub(crate) fn engine_cache(&self, alloc: Global) -> Result<cache::Cache, AllocError>
-        ensures { IfOk result (IsEngineCache self.now.built.engine (slot_len (names_of self.now.built.info))) }
+        ensures made { IfOk result (IsCacheIn self.now.engines (slot_len (names_of self.now.info))) }
+        ensures both { IfOk result (λ c. is_some c.lazy ≡ is_some self.now.engines.lazy) }
     {
-        self.built
-            .engine
-            .create_cache(alloc, self.built.info.slot_len())
+        self.engines.create_cache(alloc, self.info.slot_len())
     }
 
     /// Captures that keep the groups of the patterns. They hold no match. An `Err` is want of memory.
@@ -300,12 +319,12 @@ impl Regex {
         ensures whole { IfOk result (KeepsAll (regex_names self.now)) }
         ensures pattern { IfOk result (λ c. captures_pattern c ≡ None) }
     {
-        Captures::all(alloc, &self.built.info)
+        Captures::all(alloc, &self.info)
     }
 
     /// The match that `find` finds, with its groups. Without a match the captures hold none. An `Err` is want of memory.
     ///
-    /// Under `MatchKind::All` explicit groups hold nothing.
+    /// Under `MatchKind::All` explicit groups hold nothing. Else, where `is_plain` is true, the groups are those of the least parse.
     pub fn captures<C: Cursor + Drop>(
         &self,
         alloc: Global,
@@ -317,6 +336,8 @@ impl Regex {
             → IfOk result (Tells (search_for (sought self.now) input)) }
         ensures matched { match_kind_of (regex_settings self.now) ≡ LeftmostFirst
             → IfOk result (λ c. match_of c ≡ answer (search_for (sought self.now) input)) }
+        ensures preferred { match_kind_of (regex_settings self.now) ≡ LeftmostFirst → ArePlain (regex_patterns self.now)
+            → IfOk result (HoldsPreferred (sought self.now) input) }
         ensures told_by { IfOk result (TellsBy (regex_kind self.now) (search_for (sought self.now) input)) }
         ensures matched_by { IfOk result (λ c. match_of c ≡ answer_by (regex_kind self.now) (search_for (sought self.now) input)) }
         ensures within { IfOk result (λ c. IfSome (match_of c) (λ m. (low input ≤ m.start) × (m.start ≤ m.end) × (m.end ≤ high input))) }
@@ -366,14 +387,14 @@ impl Regex {
             → Tells (search_for (sought self.now) input.old) caps.new }
         ensures matched { match_kind_of (regex_settings self.now) ≡ LeftmostFirst
             → match_of caps.new ≡ answer (search_for (sought self.now) input.old) }
+        ensures preferred { match_kind_of (regex_settings self.now) ≡ LeftmostFirst → ArePlain (regex_patterns self.now)
+            → HoldsPreferred (sought self.now) input.old caps.new }
         ensures told_by { TellsBy (regex_kind self.now) (search_for (sought self.now) input.old) caps.new }
         ensures matched_by { match_of caps.new ≡ answer_by (regex_kind self.now) (search_for (sought self.now) input.old) }
         ensures within { IfSome (match_of caps.new)
             (λ m. (low input.old ≤ m.start) × (m.start ≤ m.end) × (m.end ≤ high input.old)) }
     {
-        self.built
-            .engine
-            .find_captures(&mut cache.inner, input, caps);
+        self.engines.find_captures(&mut cache.inner, input, caps);
     }
 
     /// The pattern of the match that `find` finds, and its slots in `slots`, which may be fewer than the regex has. Without a match
@@ -393,8 +414,8 @@ impl Regex {
             (slots.new ≡ slots.old)
             (λ _. Some slots.new ≡ slots_by (regex_kind self.now) (search_for (sought self.now) input) (length slots.old))) }
     {
-        let mut cache = self.built.engine.create_cache(alloc, slots.len())?;
-        Ok(self.built.engine.find_slots(&mut cache, &mut input, slots))
+        let mut cache = self.engines.create_cache(alloc, slots.len())?;
+        Ok(self.engines.find_slots(&mut cache, &mut input, slots))
     }
 
     /// As `search_slots`, in a cache that was made for this regex. It takes no memory.
@@ -413,7 +434,7 @@ impl Regex {
             (slots.new ≡ slots.old)
             (λ _. Some slots.new ≡ slots_by (regex_kind self.now) (search_for (sought self.now) input.old) (length slots.old)) }
     {
-        self.built.engine.find_slots(&mut cache.inner, input, slots)
+        self.engines.find_slots(&mut cache.inner, input, slots)
     }
 
     /// All matches in the input, from left to right.
@@ -438,7 +459,7 @@ impl Regex {
     {
         // The content is shorter than the greatest number.
         let _offset = input.chunk_offset();
-        let cache = self.built.engine.create_cache(alloc, 0)?;
+        let cache = self.engines.create_cache(alloc, 0)?;
         let seeker = Seeker {
             regex: self,
             cache,

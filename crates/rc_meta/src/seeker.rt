@@ -2,15 +2,16 @@
 
 ghost use Rattle.rc_captures.specs.Groups.{names_of};
 ghost use Rattle.rc_captures.specs.Names.{slot_len};
-ghost use Rattle.rc_engine.specs.Engine.{IsEngineCache};
+ghost use Rattle.rc_meta.specs.Caches.{IsCacheIn};
 
 use crate::regex::Regex;
 use rc_captures::captures::Captures;
-use rc_pass::cache::Cache;
+use rc_engines::cache::Cache;
 use rc_text::cursor::Cursor;
 use rc_text::input::Input;
 use rc_text::types::Match;
 use std::alloc::{AllocError, Global};
+use std::marker::Model;
 
 /// A regex with a cache for its searches, where the last match ended, and whether none comes any more.
 #[derive(Drop)]
@@ -19,7 +20,22 @@ pub(crate) struct Seeker<'r> {
     pub(crate) cache: Cache,
     pub(crate) last: Option<usize>,
     pub(crate) is_done: bool,
-    ghost made: { IsEngineCache regex.now.built.engine 0 cache },
+}
+
+impl<'r> Model for Seeker<'r> {
+    ghost use Rattle.rc_meta.specs.Caches.{IsCacheIn};
+    ghost use Rattle.rc_meta.specs.Seeking.{Seeking};
+    ghost use Rattle.rc_engines.specs.contracts.cache.Cache as caches;
+    ghost use Rattle.rc_meta.specs.contracts.regex.Regex as regexes;
+    ghost use Rattle.std.specs.Coded.{codes};
+
+    ghost Value = { Seeking };
+
+    ghost coded = { Prim.hlevel (codes, regexes.the_row.coded, caches.the_row.coded) };
+
+    ghost view = { λ s. record { regex = s.regex.now; cache = s.cache; last = s.last; is_done = s.is_done } };
+
+    ghost invariant = { λ s. IsCacheIn s.regex.now 0 s.cache };
 }
 
 /// The same, with a cache for searches with all groups, and what gives the memory of captures.
@@ -27,12 +43,28 @@ pub(crate) struct Seeker<'r> {
 pub(crate) struct GroupSeeker<'r> {
     pub(crate) seeker: Seeker<'r>,
     pub(crate) alloc: Global,
-    ghost roomy: { IsEngineCache seeker.regex.now.built.engine (slot_len (names_of seeker.regex.now.built.info)) seeker.cache },
+}
+
+impl<'r> Model for GroupSeeker<'r> {
+    ghost use Rattle.rc_captures.specs.Groups.{names_of};
+    ghost use Rattle.rc_captures.specs.Names.{slot_len};
+    ghost use Rattle.rc_meta.specs.Caches.{IsCacheIn};
+    ghost use Rattle.rc_meta.specs.Seeking.{GroupSeeking};
+    ghost use Rattle.rc_engines.specs.contracts.cache.Cache as caches;
+    ghost use Rattle.rc_meta.specs.contracts.regex.Regex as regexes;
+    ghost use Rattle.std.specs.Coded.{codes};
+
+    ghost Value = { GroupSeeking };
+
+    ghost coded = { Prim.hlevel (codes, regexes.the_row.coded, caches.the_row.coded) };
+
+    ghost view = { λ s. record { seeker = s.seeker } };
+
+    ghost invariant = { λ s. IsCacheIn s.seeker.regex (slot_len (names_of s.seeker.regex.info)) s.seeker.cache };
 }
 
 impl<'r> Seeker<'r> {
     ghost use Rattle.std.specs.Prelude.{◌≡◌, IfErr, IfNone, IfOk, IsTrue, MatchOption};
-    ghost use Rattle.rc_engine.specs.Engine.{IsSameCache};
     ghost use Rattle.rc_engine.specs.Moved.{IsMoved};
     ghost use Rattle.rc_meta.specs.Left.{GivesNext, GivesCaptures};
 
@@ -40,14 +72,14 @@ impl<'r> Seeker<'r> {
     pub(crate) fn next_match<C: Cursor>(&mut self, input: &mut Input<C>) -> Option<Match>
         ensures steps { GivesNext self.old input.old result self.new input.new }
         ensures moves { IsMoved input.old input.new }
-        ensures regex { self.new.regex.now ≡ self.old.regex.now }
+        ensures regex { self.new.regex ≡ self.old.regex }
         ensures over { IfNone result (IsTrue self.new.is_done) }
     {
         if self.is_done {
             return None;
         }
-        let engine = &self.regex.built.engine;
-        let Some(found) = engine.next_match(&mut self.cache, input, self.last) else {
+        let engines = &self.regex.engines;
+        let Some(found) = engines.next_match(&mut self.cache, input, self.last) else {
             self.is_done = true;
             return None;
         };
@@ -62,18 +94,18 @@ impl<'r> Seeker<'r> {
         alloc: Global,
         input: &mut Input<C>,
     ) -> Option<Result<Captures, AllocError>>
-        requires made { IsEngineCache self.old.regex.now.built.engine (slot_len (names_of self.old.regex.now.built.info)) self.old.cache }
-        ensures still_made { IsEngineCache self.new.regex.now.built.engine (slot_len (names_of self.new.regex.now.built.info)) self.new.cache }
+        requires made { IsCacheIn self.old.regex (slot_len (names_of self.old.regex.info)) self.old.cache }
+        ensures still_made { IsCacheIn self.new.regex (slot_len (names_of self.new.regex.info)) self.new.cache }
         ensures steps { GivesCaptures self.old input.old result self.new input.new }
         ensures moves { IsMoved input.old input.new }
-        ensures regex { self.new.regex.now ≡ self.old.regex.now }
+        ensures regex { self.new.regex ≡ self.old.regex }
         ensures over { MatchOption result (IsTrue self.new.is_done) (λ item. IfErr item (λ _. IsTrue self.new.is_done)) }
     {
         if self.is_done {
             return None;
         }
-        let engine = &self.regex.built.engine;
-        let Some(found) = engine.next_match(&mut self.cache, input, self.last) else {
+        let engines = &self.regex.engines;
+        let Some(found) = engines.next_match(&mut self.cache, input, self.last) else {
             self.is_done = true;
             return None;
         };
@@ -81,7 +113,7 @@ impl<'r> Seeker<'r> {
             self.is_done = true;
             return Some(Err(AllocError));
         };
-        engine.find_captures(&mut self.cache, input, &mut caps);
+        engines.find_captures(&mut self.cache, input, &mut caps);
         input.set_start(found.end());
         self.last = Some(found.end());
         Some(Ok(caps))
@@ -100,7 +132,7 @@ impl<'r> GroupSeeker<'r> {
     ) -> Option<Result<Captures, AllocError>>
         ensures steps { GivesCaptures self.old.seeker input.old result self.new.seeker input.new }
         ensures moves { IsMoved input.old input.new }
-        ensures regex { self.new.seeker.regex.now ≡ self.old.seeker.regex.now }
+        ensures regex { self.new.seeker.regex ≡ self.old.seeker.regex }
         ensures over { MatchOption result (IsTrue self.new.seeker.is_done) (λ item. IfErr item (λ _. IsTrue self.new.seeker.is_done)) }
     {
         self.seeker.next_captures(self.alloc, input)

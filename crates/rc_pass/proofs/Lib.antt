@@ -1,3 +1,4 @@
+pub mod EarlyLemmas
 pub mod EnteredLemmas
 pub mod GrownLemmas
 pub mod KeptLemmas

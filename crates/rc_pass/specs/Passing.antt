@@ -130,6 +130,11 @@ GivesTrace s width from last o =
     ⊎ ((x : ℕ) × (w : List Pair) × (from ≤ x) × (x ≤ last) × IsFirstFrom s x w × ((y : ℕ) → from ≤ y → y < x → HasNoWalkFrom s y)
     × (o ≡ Some (noted (note s.places) (sets_out width x).0 w)))
 
+-- Whether one of the starts has a walk.
+abbrev pub Tells : Search → ℕ → ℕ → Option Ending → Type 0
+Tells s from last None = (y : ℕ) → from ≤ y → y ≤ last → HasNoWalkFrom s y
+Tells s from last (Some r) = (x : ℕ) × (w : List Pair) × (from ≤ x) × (x ≤ last) × IsFirstFrom s x w
+
 -- what was noted along the best walk so far
 abbrev pub best_of : Option Ending → List (Option ℕ) → Option Trace
 best_of best found = option_map (λ (r : Ending). done r.pattern r.start r.end found) best

@@ -1,5 +1,5 @@
 //! Searches by the kind of match.
-ghost use Rattle.std.specs.Prelude.{◌≡◌, ◌+◌, ◌-◌, ◌*◌, ◌<◌, ◌≤◌, ⊤, length, Option, None, Some, MatchOption, Bool};
+ghost use Rattle.std.specs.Prelude.{◌≡◌, is_some, ◌+◌, ◌-◌, ◌*◌, ◌<◌, ◌≤◌, ⊤, length, Option, None, Some, MatchOption, Bool};
 ghost use Rattle.std.specs.Option.{option_map};
 ghost use Rattle.rc_text.specs.Found.{Found};
 ghost use Rattle.rc_text.specs.Text.{Keeps, low, high};
@@ -14,7 +14,7 @@ ghost use Rattle.rc_pass.specs.KindSlots.{span_slots, slots_by};
 
 use crate::cache::Cache;
 use crate::greatest::find_greatest;
-use crate::search::{find, search_slots};
+use crate::search::{find, meets_any, search_slots};
 use rc_literal::prefilter::Prefilter;
 use rc_program::program::Program;
 use rc_text::cursor::Cursor;
@@ -46,6 +46,36 @@ pub fn find_by_kind<C: Cursor>(
     match kind {
         MatchKind::All => find_greatest(cache, input, program),
         MatchKind::LeftmostFirst => { find(cache, input, program, prefilter) }
+    }
+}
+
+/// Whether a search of the input finds a match of the kind. The earliest flag is not read: unless matches are passed over,
+/// nothing is read beyond the first position at which one ends. The program says whether matches that end off a boundary are
+/// passed over; where each match counts, none is.
+///
+/// The cache has to be made for programs of as many places; it stays so. No memory is taken.
+pub fn is_match_by_kind<C: Cursor>(
+    cache: &mut Cache,
+    input: &mut Input<C>,
+    program: &Program,
+    prefilter: Option<&Prefilter>,
+    kind: MatchKind,
+) -> bool
+    requires guarded { MatchOption prefilter ⊤ (λ p. Guards (places_of program.now.places.items) program.now.terminator (needles_of p.now)) }
+    requires made { IsCacheFor (length program.now.places.items) 0 cache.old }
+    ensures keeps { Keeps input.old input.new }
+    ensures found { result ≡ is_some (answer_by kind (search_of program.now input.old)) }
+    ensures cache { cache.new ≡ record cache.old { insertions = cache.new.insertions } }
+{
+    match kind {
+        MatchKind::All => meets_any(cache, input, program, prefilter),
+        MatchKind::LeftmostFirst => {
+            if program.passes_over {
+                let found = find(cache, input, program, prefilter);
+                return found.is_some();
+            }
+            meets_any(cache, input, program, prefilter)
+        }
     }
 }
 

@@ -9,7 +9,7 @@ ghost use Rattle.rc_program.specs.Places.{places_of};
 ghost use Rattle.rc_pass.specs.Near.{IsHere, seen_from, size};
 ghost use Rattle.rc_pass.specs.Moves.{IsSetting, seen};
 ghost use Rattle.rc_pass.specs.Trace.{Trace, done};
-ghost use Rattle.rc_pass.specs.Passing.{Carries, pending, AllIn, AllFrom, count_from, HasRoom, waiting_starts, Pending, IsLined, IsCounted, GivesTrace, best_of};
+ghost use Rattle.rc_pass.specs.Passing.{Carries, pending, AllIn, AllFrom, count_from, HasRoom, waiting_starts, Pending, IsLined, IsCounted, GivesTrace, Tells, best_of};
 ghost use Rattle.rc_pass.specs.Scratches.{IsSame};
 
 use crate::closure::close;
@@ -218,12 +218,14 @@ fn next_position<C: Cursor>(
 /// walk, and its first walk, with its slots in `found`. Without a match, `found` is left as it was.
 ///
 /// A place is entered once at a position, and `insertions` says how many were. With a prefilter,
-/// starts at which no needle stands are left out, as far as no thread is alive there.
+/// starts at which no needle stands are left out, as far as no thread is alive there. With `earliest`
+/// it is only told whether some start has a walk: the pass ends at the first position at which one ends.
 pub fn pass<C: Cursor>(
     input: &mut Input<C>,
     course: Course,
     prefilter: Option<&Prefilter>,
     from: usize,
+    earliest: bool,
     scratch: &mut Scratch,
 ) -> Option<Ending>
     ghost text: { Searched }
@@ -234,8 +236,9 @@ pub fn pass<C: Cursor>(
     requires bounds { (low text ≤ from) × (from ≤ course.last) }
     requires made { scratch.old.next.entered.capacity ≡ size course }
     ensures keeps { Keeps input.old input.new }
-    ensures gives { GivesTrace (seen course.entry.program.now text) scratch.old.next.threads.width from course.entry.last
+    ensures gives { earliest ≡ false → GivesTrace (seen course.entry.program.now text) scratch.old.next.threads.width from course.entry.last
         (best_of result scratch.new.found.items) }
+    ensures tells { Tells (seen course.entry.program.now text) from course.entry.last result }
     ensures counted { IsCounted scratch.new.insertions result }
     ensures few { scratch.new.insertions ≤ size course.entry * (course.entry.hi - from + 1) }
     ensures same { IsSame scratch.old scratch.new }
@@ -253,6 +256,9 @@ pub fn pass<C: Cursor>(
         at = next_at;
         reach(&mut window, input, at);
         best = turn(&spot_at(course, &window, at), best, scratch);
+        if earliest && best.is_some() {
+            return best;
+        }
         if is_done(&scratch.curr, best, at, course.last) {
             return best;
         }

@@ -1,9 +1,10 @@
 //! Searches by ordered passes.
-ghost use Rattle.std.specs.Prelude.{◌≡◌, ℕ, ◌+◌, ◌-◌, ◌*◌, ◌<◌, ◌≤◌, ◌^◌, List, length, vec_len, vec_capacity, Option, None, Some, MatchOption, if◌then◌else◌, slice_set, IfNone, ⊤};
+ghost use Rattle.std.specs.Prelude.{◌≡◌, is_some, ℕ, ◌+◌, ◌-◌, ◌*◌, ◌<◌, ◌≤◌, ◌^◌, List, length, vec_len, vec_capacity, Option, None, Some, MatchOption, if◌then◌else◌, slice_set, IfNone, ⊤};
 ghost use Rattle.std.specs.Option.{option_map};
 ghost use Rattle.rc_text.specs.Found.{Found};
 ghost use Rattle.rc_text.specs.Text.{Keeps, low, high};
 ghost use Rattle.rc_program.specs.Answer.{only, is_anchored, answer, groups};
+ghost use Rattle.rc_program.specs.Greatest.{greatest};
 ghost use Rattle.rc_program.specs.Sought.{anchoring_of};
 ghost use Rattle.rc_program.specs.Programs.{search_of};
 ghost use Rattle.rc_literal.specs.Guards.{Guards};
@@ -94,7 +95,7 @@ fn choose<C: Cursor>(
     };
     let mut from = lo;
     'starts: while from <= last {
-        let Some(end) = pass(input, course, prefilter, from, scratch) else {
+        let Some(end) = pass(input, course, prefilter, from, false, scratch) else {
             return None;
         };
         if !program.passes_over {
@@ -204,4 +205,54 @@ pub fn find<C: Cursor>(
         end: end.end,
     };
     Some(Match::new(pattern, span))
+}
+
+/// Whether some walk begins at one of the starts of a search. Nothing is read beyond the first position at which one ends.
+fn meets<C: Cursor>(
+    input: &mut Input<C>,
+    program: &Program,
+    prefilter: Option<&Prefilter>,
+    scratch: &mut Scratch,
+) -> bool
+    requires guarded { MatchOption prefilter ⊤ (λ p. Guards (places_of program.now.places.items) program.now.terminator (needles_of p.now)) }
+    requires made { scratch.old.next.entered.capacity ≡ length program.now.places.items }
+    ensures keeps { Keeps input.old input.new }
+    ensures found { result ≡ is_some (greatest (search_of program.now input.old)) }
+    ensures same { IsSame scratch.old scratch.new }
+{
+    scratch.insertions = 0;
+    let (lo, hi) = bounds(input);
+    if lo > hi {
+        return false;
+    }
+    let (pattern, last) = starts_of(input.get_anchored(), lo, hi);
+    let course = Course {
+        program,
+        hi,
+        pattern,
+        last,
+    };
+    let met = pass(input, course, prefilter, lo, true, scratch);
+    met.is_some()
+}
+
+/// Whether some walk begins at one of the starts of a search of the input, wherever it ends. The earliest flag is not read:
+/// nothing is read beyond the first position at which a walk ends. With a prefilter, the search goes from needle to needle
+/// where no walk is under way.
+///
+/// The cache has to be made for programs of as many places; it stays so. No memory is taken.
+pub fn meets_any<C: Cursor>(
+    cache: &mut Cache,
+    input: &mut Input<C>,
+    program: &Program,
+    prefilter: Option<&Prefilter>,
+) -> bool
+    requires guarded { MatchOption prefilter ⊤ (λ p. Guards (places_of program.now.places.items) program.now.terminator (needles_of p.now)) }
+    requires made { IsCacheFor (length program.now.places.items) 0 cache.old }
+    ensures keeps { Keeps input.old input.new }
+    ensures found { result ≡ is_some (greatest (search_of program.now input.old)) }
+    ensures cache { cache.new ≡ record cache.old { insertions = cache.new.insertions } }
+{
+    cache.scratch.widen(0);
+    meets(input, program, prefilter, &mut cache.scratch)
 }

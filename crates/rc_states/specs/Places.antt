@@ -1,4 +1,3 @@
--- Only proofs use this file.
 -- What states in code are, and the setting of a program.
 use Rattle.std.specs.Prelude.{List, ℕ}
 use Rattle.rc_bytes.specs.Places.{places_of}

@@ -1,5 +1,6 @@
 -- The matches that are listed for a whole content.
-use Rattle.std.proofs.Common.{◌≡◌, ℕ, List, [], ◌∷◌, Bool, Option, None, Some, Result, Ok, Err, IfErr, ap, subst, ◌∙◌}
+use Rattle.std.proofs.Common.{◌≡◌, ◌≢◌, Some, refl, ℕ, List, [], ◌∷◌, Bool, Option, None, Some, Result, Ok, Err, IfErr, ap, subst, ◌∙◌}
+use Rattle.std.specs.Io.KnownBytes.{Keeps}
 use Rattle.std.specs.Result.{IsErrAnd}
 use Rattle.std.specs.Borrow.{Bor}
 use Rattle.rc_text.specs.Joined.{IsTooLong}
@@ -15,7 +16,7 @@ use Rattle.rc_build.specs.Refusals.{IsBuildable}
 use Rattle.rc_build.specs.TextRefusals.{AllRead}
 use Rattle.rc_build.proofs.TextLemmas.{one_read}
 use Rattle.regex_cursor.specs.declared.run.error.RunError.{RunError}
-use Rattle.regex_cursor.specs.declared.run.error.RunError.TheVariants.{Memory, Write}
+use Rattle.regex_cursor.specs.declared.run.error.RunError.TheVariants.{Memory, TooLong, Write}
 use Rattle.regex_cursor.specs.Faults.{IsBuilt, IsFault}
 use Rattle.rc_settings.specs.Settings.{Settings, program_settings, unset}
 use Rattle.regex_cursor.specs.Output.{IsPut, IsWhole, matches_in, whole}
@@ -47,3 +48,21 @@ pub write_fault : (r : Result Bool RunError) (e : RunError) (text : List ℕ) (c
     IsBuilt text → ¬ IsTooLong chunks → IfErr r (IsFault text chunks)
 write_fault (Ok b) e text chunks same told ok short = tt
 write_fault (Err f) e text chunks same told ok short = rw (same ∙ told) (ok, short)
+
+-- an error that is this one
+pub err_is : {X E : Type 0} (r : Result X E) (e : E) → IsErrAnd r (λ f. f ≡ e) → r ≡ Err e
+err_is (Ok x) e h = absurd h
+err_is (Err f) e h = ap Err h
+
+-- nothing was put
+kept : (a : Option (List ℕ)) → Keeps a a
+kept None = tt
+kept (Some x) = refl
+
+pub put_nothing : (r : Result Bool RunError) (a : Option (List ℕ)) → IfErr r (λ e. e ≢ Write → Keeps a a)
+put_nothing (Ok b) a = tt
+put_nothing (Err e) a = λ other. kept a
+
+pub long_fault : (r : Result Bool RunError) (text : List ℕ) (chunks : List (Bor (List ℕ))) → r ≡ Err TooLong → IsBuilt text → IsTooLong chunks →
+    IfErr r (IsFault text chunks)
+long_fault r text chunks is ok long = rw is (ok, long)

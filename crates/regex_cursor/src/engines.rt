@@ -1,4 +1,6 @@
 //! What searches.
 
+pub mod dfa;
+pub mod hybrid;
 pub mod meta;
 pub mod pikevm;

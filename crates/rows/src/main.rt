@@ -2,51 +2,16 @@
 //! otherwise over some cutting of the text.
 #![tactic(auto)]
 
-mod cursors;
-mod engines;
-mod faults;
-mod row;
-mod searches;
-mod settings;
-
-use crate::cursors::{Cutting, Recut};
-use crate::engines::{Engines, MOST_PATTERNS};
-use crate::faults::{Fault, same};
-use crate::row::{Row, Want, is_refused};
+use engines_alike::faults::Fault;
+use engines_alike::judge::judge;
+use engines_alike::row::Row;
 use std::alloc::Global;
 use std::io;
 
 /// The row of a line is answered as it wants to be.
 fn run(alloc: Global, line: &str) -> Result<(), Fault> {
     let row = Row::read(alloc, line)?;
-    if row.patterns.len() > MOST_PATTERNS {
-        return Err(Fault::UnreadPattern);
-    }
-    match Engines::build(alloc, &row.patterns, &row.settings) {
-        Ok(engines) => over_all_cuttings(alloc, &engines, &row),
-        Err(error) => same(is_refused(&error, row.want), Fault::Refusal),
-    }
-}
-
-/// The engines answer the row over every cutting of its text.
-fn over_all_cuttings(alloc: Global, engines: &Engines, row: &Row) -> Result<(), Fault> {
-    for cutting in [
-        Cutting::Whole,
-        Cutting::Bytes,
-        Cutting::Ring,
-        Cutting::Untold,
-    ] {
-        let cursor = Recut::new(&row.text, cutting);
-        match row.want {
-            Want::First => searches::first(alloc, engines, row, cursor)?,
-            Want::All => searches::all(alloc, engines, row, cursor)?,
-            Want::Groups => searches::groups(alloc, engines, row, cursor)?,
-            Want::Pieces => searches::pieces(alloc, engines, row, cursor)?,
-            Want::Refused(word) => same(word == "no", Fault::Refusal)?,
-            Want::Nothing => return Err(Fault::UnreadWant),
-        }
-    }
-    Ok(())
+    judge(alloc, &row)
 }
 
 fn main(rt: HostRuntime) -> io::Result<()> {

@@ -1,5 +1,7 @@
-//! Tests of single calls of `Regex` and `PikeVM`, which no row of the program `rows` can name.
+//! Tests of single calls of `Regex`, `PikeVM` and `engines::dfa`, which no row of the program `rows` can name.
 #![tactic(auto)]
 
+#[cfg(test)]
+mod tables;
 #[cfg(test)]
 mod tests;

@@ -49,6 +49,23 @@ fn plain_bytes_by_two_patterns(rt: HostRuntime) -> Result<(), Fail> {
     Ok(())
 }
 
+#[test]
+fn plain_patterns(rt: HostRuntime) -> Result<(), Fail> {
+    let alloc = rt.alloc();
+    for (text, is_plain) in [
+        ("a*", true),
+        ("(?:a{1,2}?){2}", true),
+        ("(?:a*)*", false),
+        ("(?:a?)+", false),
+        ("(|a)+", false),
+    ] {
+        assert_eq!(rt; Regex::new(alloc, text)?.is_plain(), is_plain, "{text}");
+    }
+    let two = Regex::new_many(alloc, &["a*", "(|a)+"])?;
+    assert!(rt; !two.is_plain());
+    Ok(())
+}
+
 /// Whether the `PikeVM` finds a match in a plain slice of bytes.
 fn matches(alloc: Global, vm: &PikeVM, text: &[u8]) -> Result<bool, AllocError> {
     let mut cache = vm.create_cache(alloc)?;

@@ -40,7 +40,7 @@ fn needles_found_fast(rt: HostRuntime) -> Result<(), Fail> {
     let re = Regex::builder().build_from_hir(alloc, &word)?;
     assert!(rt; re.is_accelerated() && !Regex::new(alloc, "a*")?.is_accelerated());
     let mut builder = Regex::builder();
-    builder.configure(Config::new().auto_prefilter(false));
+    builder.configure(Config::new().auto_prefilter(false).dfa(false));
     let plain = builder.build_from_hir(alloc, &word)?.memory_usage();
     assert!(rt; 0 < plain && plain < re.memory_usage());
     builder.configure(Config::new().prefilter(needle(alloc, b"ab")?));

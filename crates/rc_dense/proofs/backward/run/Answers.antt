@@ -2,7 +2,7 @@ use Rattle.std.proofs.Common.{◌≡◌, ℕ, ◌+◌, ◌-◌, ◌<◌, Some, l
 use Rattle.rc_dense.specs.Searches.{InRow, StandsDown}
 use Rattle.rc_dense.proofs.BackwardLemmas.{piece_plain, piece_met}
 use Rattle.rc_dense.proofs.backward.run.Goals as goal
-use Rattle.rc_dense.proofs.backward.run.Goals.{then-cell-lt-DEAD, else-cell-lt-DEAD+else-cell-lt-MET+else-cell-limit}
+use Rattle.rc_dense.proofs.backward.run.Goals.{then-cell-lt-SKIP, else-cell-lt-SKIP+else-cell-lt-MET+else-cell-limit}
 
 pub loop-left-preserved : goal.loop-left-preserved
 loop-left-preserved g c =
@@ -20,17 +20,17 @@ loop-left-preserved g c =
     let same : left ≡ left - 1 + 1 = omega (arith, c.loop-left-test.true) in
     let here = subst (λ n. StandsDown d g.course (c.args.start + n) (record { row = row; noted = noted })) same c.loop-left.invariant.stands in
     let lt : left - 1 < length piece = omega (arith, c.loop-left-test.true, c.loop-left.invariant.left) in
-    elim c.if-cell-lt-DEAD.branch [
-      | then-cell-lt-DEAD w ↦
+    elim c.if-cell-lt-SKIP.branch [
+      | then-cell-lt-SKIP w ↦
           let on = piece_plain d g.course cells classes piece c.args.start (left - 1) row noted c.as_slice-cells.ensures.value c.as_slice-classes.ensures.value
-          c.loop-left.invariant.row here given.0 given.1.0 given.1.1.0 lt byte w.if-cell-lt-DEAD.true in
+          c.loop-left.invariant.row here given.0 given.1.0 given.1.1.0 lt byte w.if-cell-lt-SKIP.true in
           record {
             left = omega (arith, c.loop-left.invariant.left);
             row = subst (λ r. InRow d r) (sym w.row-is) on.0;
-            stands = subst (λ n. StandsDown d g.course (c.args.start + (left - 1)) (record { row = c.if-cell-lt-DEAD.row; noted = n })) (sym w.noted-is)
+            stands = subst (λ n. StandsDown d g.course (c.args.start + (left - 1)) (record { row = c.if-cell-lt-SKIP.row; noted = n })) (sym w.noted-is)
                 (subst (λ r. StandsDown d g.course (c.args.start + (left - 1)) (record { row = r; noted = noted })) (sym w.row-is) on.1);
           }
-      | else-cell-lt-DEAD+else-cell-lt-MET+else-cell-limit w ↦
+      | else-cell-lt-SKIP+else-cell-lt-MET+else-cell-limit w ↦
           let cell = slice_index_or cells (row + slice_index_or classes (slice_index_or piece (left - 1) 0) 0) 0 in
           let on = piece_met d g.course cells classes piece c.args.start (left - 1) row noted c.as_slice-cells.ensures.value c.as_slice-classes.ensures.value
           c.loop-left.invariant.row here given.0 given.1.0 given.1.1.0 lt byte w.if-cell-lt-MET.false
@@ -38,7 +38,7 @@ loop-left-preserved g c =
           record {
             left = omega (arith, c.loop-left.invariant.left);
             row = subst (λ r. InRow d r) (sym w.row-is) on.0;
-            stands = subst (λ n. StandsDown d g.course (c.args.start + (left - 1)) (record { row = c.if-cell-lt-DEAD.row; noted = n })) (sym w.noted-is)
+            stands = subst (λ n. StandsDown d g.course (c.args.start + (left - 1)) (record { row = c.if-cell-lt-SKIP.row; noted = n })) (sym w.noted-is)
                 (subst (λ r. StandsDown d g.course (c.args.start + (left - 1)) (record { row = r; noted = Some (cell - 9223372036854775808, c.args.start + left) }))
                 (sym w.row-is)
                 (subst (λ n. StandsDown d g.course (c.args.start + (left - 1))

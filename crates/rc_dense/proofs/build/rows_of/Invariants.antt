@@ -20,4 +20,4 @@ invariant-loop-number g l = record {
 }
 
 abbrev pub decreases-loop-number : goal.decreases-loop-number
-decreases-loop-number g l = 4611686018427387904 - l.number
+decreases-loop-number g l = 2305843009213693952 - l.number

@@ -6,6 +6,9 @@ use Rattle.rc_dense.proofs.forward.cross.Given as goal
 abbrev pub ghost-run : goal.ghost-run
 ghost-run g a = g.course
 
+abbrev pub ghost-pass : goal.ghost-pass
+ghost-pass g a = g.course
+
 abbrev pub ghost-step : goal.ghost-step
 ghost-step g a = g.course
 

@@ -2,12 +2,11 @@ use Rattle.std.proofs.Common.{◌≡◌, ◌+◌, ◌-◌, ◌<◌, Some, length
 use Rattle.rc_dense.specs.Searches.{InRow, Stands}
 use Rattle.rc_dense.proofs.ForwardLemmas.{piece_plain, piece_met}
 use Rattle.rc_dense.proofs.forward.run.Goals as goal
-use Rattle.rc_dense.proofs.forward.run.Goals.{then-cell-lt-DEAD, else-cell-lt-DEAD+else-cell-lt-MET+else-cell-limit}
+use Rattle.rc_dense.proofs.forward.run.Goals.{then-cell-lt-SKIP, else-cell-lt-SKIP+else-cell-lt-MET+else-cell-limit}
 
 pub loop-index-init : goal.loop-index-init
 loop-index-init g c =
-    let at : c.args.start ≡ c.args.start + 0 = omega arith in
-    record { row = c.requires.0; stands = subst (λ i. Stands c.args.table.now g.course i c.args.stand) at c.requires.1.0 }
+    record { row = c.requires.0; stands = c.requires.1.0 }
 
 pub loop-index-preserved : goal.loop-index-preserved
 loop-index-preserved g c =
@@ -21,23 +20,23 @@ loop-index-preserved g c =
     let at = c.args.start + (index + 1) in
     let byte : slice_index_or piece index 0 < 256 = omega (arith, c.type_inv.piece index) in
     let given = c.requires.1.1 in
-    elim c.if-cell-lt-DEAD.branch [
-      | then-cell-lt-DEAD w ↦
+    elim c.if-cell-lt-SKIP.branch [
+      | then-cell-lt-SKIP w ↦
           let on = piece_plain d g.course cells classes piece c.args.start index row noted c.as_slice-cells.ensures.value c.as_slice-classes.ensures.value
-          c.loop-index.invariant.row c.loop-index.invariant.stands given.0 given.1.0 given.1.1.0 c.loop-index-test.true byte w.if-cell-lt-DEAD.true in
+          c.loop-index.invariant.row c.loop-index.invariant.stands given.0 given.1.0 given.1.1.0 c.loop-index-test.true byte w.if-cell-lt-SKIP.true in
           record {
             row = subst (λ r. InRow d r) (sym w.row-is) on.0;
-            stands = subst (λ n. Stands d g.course at (record { row = c.if-cell-lt-DEAD.row; noted = n })) (sym w.noted-is)
+            stands = subst (λ n. Stands d g.course at (record { row = c.if-cell-lt-SKIP.row; noted = n })) (sym w.noted-is)
                 (subst (λ r. Stands d g.course at (record { row = r; noted = noted })) (sym w.row-is) on.1);
           }
-      | else-cell-lt-DEAD+else-cell-lt-MET+else-cell-limit w ↦
+      | else-cell-lt-SKIP+else-cell-lt-MET+else-cell-limit w ↦
           let cell = slice_index_or cells (row + slice_index_or classes (slice_index_or piece index 0) 0) 0 in
           let on = piece_met d g.course cells classes piece c.args.start index row noted c.as_slice-cells.ensures.value c.as_slice-classes.ensures.value
           c.loop-index.invariant.row c.loop-index.invariant.stands given.0 given.1.0 given.1.1.0 c.loop-index-test.true byte w.if-cell-lt-MET.false
-          (omega (arith, w.if-cell-limit.false, c.requires.1.1.1.1.1.1)) in
+          (omega (arith, w.if-cell-limit.false, c.requires.1.1.1.1.1.1.0)) in
           record {
             row = subst (λ r. InRow d r) (sym w.row-is) on.0;
-            stands = subst (λ n. Stands d g.course at (record { row = c.if-cell-lt-DEAD.row; noted = n })) (sym w.noted-is)
+            stands = subst (λ n. Stands d g.course at (record { row = c.if-cell-lt-SKIP.row; noted = n })) (sym w.noted-is)
                 (subst (λ r. Stands d g.course at (record { row = r; noted = Some (cell - 9223372036854775808, c.args.start + index) })) (sym w.row-is) on.1);
           }
     ]

@@ -1,9 +1,9 @@
-use Rattle.std.proofs.Common.{◌+◌, ◌∙◌, sym, subst}
+use Rattle.std.proofs.Common.{◌≡◌, ◌/◌, is_some, not, ap, true, false, slice_index_or, ◌+◌, ◌∙◌, sym, subst, arith}
 use Rattle.rc_dense.specs.Cells.{row_of}
 use Rattle.rc_dense.specs.Searches.{InRow, Stands, Ends, told}
 use Rattle.rc_dense.specs.declared.run.Ended.TheVariants.{Met}
 use Rattle.rc_dense.proofs.MarkLemmas.{named_row}
-use Rattle.rc_dense.proofs.ForwardLemmas.{stands_on, stands_quits, stands_died, stands_early}
+use Rattle.rc_dense.proofs.ForwardLemmas.{stands_on, stands_quits, stands_died, stands_early, stands_rests}
 use Rattle.rc_dense.proofs.forward.step.Goals as goal
 
 pub returns-then-cell : goal.returns-then-cell
@@ -34,8 +34,22 @@ returns-then-cell-ge-MET g c =
           (subst (λ n. Ends d g.course (Met (told d n))) (sym c.noted_by-noted.ensures)
           (stands_early d g.course c.args.at c.args.stand.row c.args.byte c.args.stand.noted given.0 c.ranges.byte.fits given.1.1.0
           given.1.0 c.cell_of-cell.result c.cell_of-cell.ensures.value given.1.1.1.0 c.if-cell.false
-          (sym given.1.1.1.1 ∙ c.if-earliest.true) c.if-cell-ge-MET.true)),
+          (sym given.1.1.1.1.0 ∙ c.if-earliest.true) c.if-cell-ge-MET.true)),
       tt,
+    )
+
+pub overflow_add-result : goal.overflow_add-result
+overflow_add-result g c = let fits = c.requires.1.1.1.1.1.1.1 in omega (arith, fits)
+
+pub returns-then-is_idle : goal.returns-then-is_idle
+returns-then-is_idle g c =
+    let d = c.args.table.now in
+    let given = c.requires.1 in (
+      stands_rests d g.course c.args.at c.args.stand.row c.args.byte c.args.stand.noted given.0 c.ranges.byte.fits given.1.1.0
+          given.1.0 c.cell_of-cell.result c.cell_of-cell.ensures.value given.1.1.1.0 c.if-cell.false
+          (subst (λ n. is_some n ≡ false) c.noted_by-noted.ensures (c.is_none.ensures ∙ ap not c.if-is_none.true))
+          (subst (λ r. slice_index_or d.idles.items (r / d.width) false ≡ true) c.row_of-row.ensures (sym c.is_idle.ensures ∙ c.if-is_idle.true)),
+      sym given.1.1.1.1.1.0 ∙ c.if-may_rest.true,
     )
 
 pub returns : goal.returns

@@ -1,4 +1,4 @@
-use Rattle.std.proofs.Common.{ℕ, ◌+◌, ◌*◌, refl, sym, ap, subst, ◌∙◌, arith, ◌-◌, ◌≤◌}
+use Rattle.std.proofs.Common.{ℕ, None, ◌+◌, ◌*◌, refl, sym, ap, subst, ◌∙◌, arith, ◌-◌, ◌≤◌}
 use Rattle.rc_program.specs.Answer.{HasNoWalkFrom}
 use Rattle.rc_text.specs.Text.{Keeps}
 use Rattle.rc_pass.specs.Threads.{ThreadList}
@@ -7,6 +7,7 @@ use Rattle.rc_pass.specs.Near.{size}
 use Rattle.rc_pass.specs.Passing.{Pending, IsLined, IsPassing}
 use Rattle.rc_pass.proofs.KeptLemmas.{kept_back, kept_then, kept_seen, kept_window, kept_begun, kept_around, begun_from, begun_later}
 use Rattle.rc_pass.proofs.PassingLemmas.{GoesOn, counts_fit, counted_at_last, passing_begins, passing_goes_on, passing_gives_up, passing_turns, passing_stops, passing_ends}
+use Rattle.rc_pass.proofs.EarlyLemmas.{early_tells_if, whole_tells}
 use Rattle.rc_pass.proofs.pass.pass.Given.{Over}
 use Rattle.rc_pass.proofs.pass.pass.Goals as goal
 use Rattle.rc_pass.proofs.pass.pass.Goals.{After-next_position, After-turn-best}
@@ -64,13 +65,21 @@ positions-init g c = record {
 }
 
 pub returns-clause-gives : goal.returns-clause-gives
-returns-clause-gives g c =
+returns-clause-gives g c = λ _.
     passing_ends (seen c.args.course.program.now g.text) (size c.args.course) c.args.course.hi c.args.scratch.now.next.threads.width
     c.args.from c.args.course.last c.positions.at c.positions.scratch.insertions c.positions.scratch.curr c.positions.best c.positions.scratch.found.items c.positions.invariant.passing
     (omega (arith, c.positions-test.false)) c.args.course.ordered
 
+pub returns-clause-tells : goal.returns-clause-tells
+returns-clause-tells g c =
+    whole_tells (seen c.args.course.program.now g.text) (size c.args.course) c.args.course.hi c.args.scratch.now.next.threads.width
+    c.args.from c.args.course.last c.positions.best c.positions.scratch.found.items
+    (passing_ends (seen c.args.course.program.now g.text) (size c.args.course) c.args.course.hi c.args.scratch.now.next.threads.width
+    c.args.from c.args.course.last c.positions.at c.positions.scratch.insertions c.positions.scratch.curr c.positions.best c.positions.scratch.found.items c.positions.invariant.passing
+    (omega (arith, c.positions-test.false)) c.args.course.ordered)
+
 pub returns-in_default-clause-gives : goal.returns-in_default-clause-gives
-returns-in_default-clause-gives g c =
+returns-in_default-clause-gives g c = λ _.
     let on = c.in_default.ensures.next c.requires.1.1.1.0 in
     let alone = c.is_idle-idle.ensures on.0 in
     passing_gives_up (seen c.args.course.program.now g.text) (size c.args.course) c.args.course.hi c.args.scratch.now.next.threads.width
@@ -78,6 +87,18 @@ returns-in_default-clause-gives g c =
     c.positions.invariant.passing alone.0 alone.1 c.positions-test.true c.args.course.ordered
     (subst (λ s. (y : ℕ) → c.positions.at ≤ y → y ≤ c.args.course.hi → HasNoWalkFrom s y)
     (kept_seen c.args.course.program.now g.text c.positions.input c.positions.invariant.keeps) on.1)
+
+pub returns-in_default-clause-tells : goal.returns-in_default-clause-tells
+returns-in_default-clause-tells g c =
+    let on = c.in_default.ensures.next c.requires.1.1.1.0 in
+    let alone = c.is_idle-idle.ensures on.0 in
+    whole_tells (seen c.args.course.program.now g.text) (size c.args.course) c.args.course.hi c.args.scratch.now.next.threads.width
+    c.args.from c.args.course.last None c.positions.scratch.found.items
+    (passing_gives_up (seen c.args.course.program.now g.text) (size c.args.course) c.args.course.hi c.args.scratch.now.next.threads.width
+    c.args.from c.args.course.last c.positions.at c.positions.scratch.insertions c.positions.scratch.curr c.positions.best c.positions.scratch.found.items
+    c.positions.invariant.passing alone.0 alone.1 c.positions-test.true c.args.course.ordered
+    (subst (λ s. (y : ℕ) → c.positions.at ≤ y → y ≤ c.args.course.hi → HasNoWalkFrom s y)
+    (kept_seen c.args.course.program.now g.text c.positions.input c.positions.invariant.keeps) on.1))
 
 pub reach-requires-clause-inside : goal.reach-requires-clause-inside
 reach-requires-clause-inside g c =
@@ -134,8 +155,24 @@ turn-best-requires g c =
       ),
     )
 
+pub returns-then-is_some-clause-tells : goal.returns-then-is_some-clause-tells
+returns-then-is_some-clause-tells g c =
+    let on = c.in-Some.ensures.next c.requires.1.1.1.0 in
+    early_tells_if (seen c.args.course.program.now g.text) (size c.args.course) c.args.course.hi c.args.scratch.now.next.threads.width
+    c.args.from c.args.course.last (c.in-Some.next_at + 1) c.turn-best.new.scratch.insertions c.turn-best.new.scratch.curr c.turn-best.result c.turn-best.new.scratch.found.items
+    c.requires.1.1.0.bound (sym c.is_some.ensures ∙ c.if-is_some.true)
+    (turned g (goal.at.returns-then-is_some-clause-tells g c).After-turn-best
+    (moved g (goal.at.returns-then-is_some-clause-tells g c).After-next_position c.in-Some.next_at on))
+
+pub returns-then-is_some-clause-few : goal.returns-then-is_some-clause-few
+returns-then-is_some-clause-few g c =
+    let on = c.in-Some.ensures.next c.requires.1.1.1.0 in
+    let here = moved g (goal.at.returns-then-is_some-clause-few g c).After-next_position c.in-Some.next_at on in
+    counted_at_last (size c.args.course) c.in-Some.next_at c.args.from c.args.course.hi c.positions.scratch.insertions c.turn-best.new.scratch.insertions
+    here.few (rw c.spot_at.ensures.course at c.turn-best.ensures.few) (omega (arith, on.1)) here.reached
+
 pub returns-then-is_done-clause-gives : goal.returns-then-is_done-clause-gives
-returns-then-is_done-clause-gives g c =
+returns-then-is_done-clause-gives g c = λ _.
     let ended = c.is_done.ensures c.if-is_done.true in
     let on = c.in-Some.ensures.next c.requires.1.1.1.0 in
     passing_stops (seen c.args.course.program.now g.text) (size c.args.course) c.args.course.hi c.args.scratch.now.next.threads.width
@@ -143,6 +180,18 @@ returns-then-is_done-clause-gives g c =
     (turned g (goal.at.returns-then-is_done-clause-gives g c).After-turn-best
     (moved g (goal.at.returns-then-is_done-clause-gives g c).After-next_position c.in-Some.next_at on))
     ended.0 ended.1
+
+pub returns-then-is_done-clause-tells : goal.returns-then-is_done-clause-tells
+returns-then-is_done-clause-tells g c =
+    let ended = c.is_done.ensures c.if-is_done.true in
+    let on = c.in-Some.ensures.next c.requires.1.1.1.0 in
+    whole_tells (seen c.args.course.program.now g.text) (size c.args.course) c.args.course.hi c.args.scratch.now.next.threads.width
+    c.args.from c.args.course.last c.turn-best.result c.turn-best.new.scratch.found.items
+    (passing_stops (seen c.args.course.program.now g.text) (size c.args.course) c.args.course.hi c.args.scratch.now.next.threads.width
+    c.args.from c.args.course.last c.in-Some.next_at c.turn-best.new.scratch.insertions c.turn-best.new.scratch.curr c.turn-best.result c.turn-best.new.scratch.found.items
+    (turned g (goal.at.returns-then-is_done-clause-tells g c).After-turn-best
+    (moved g (goal.at.returns-then-is_done-clause-tells g c).After-next_position c.in-Some.next_at on))
+    ended.0 ended.1)
 
 pub returns-then-is_done-clause-few : goal.returns-then-is_done-clause-few
 returns-then-is_done-clause-few g c =

@@ -1,4 +1,4 @@
-use Rattle.std.proofs.Common.{◌≡◌, ◌+◌, ◌-◌, ◌≤◌, length, sym, ap, subst, ◌∙◌, arith, rules}
+use Rattle.std.proofs.Common.{◌≡◌, ◌+◌, ◌-◌, ◌≤◌, length, refl, sym, ap, subst, ◌∙◌, arith, rules}
 use Rattle.std.proofs.Math.Nat.{mul-le-mul_left}
 use Rattle.rc_text.specs.Text.{is_boundary}
 use Rattle.rc_program.specs.Answer.{Search}
@@ -34,7 +34,7 @@ gives : (g : Over) (c : After-pass g) →
     (best_of c.pass.result c.pass.new.scratch.found.items)
 gives g c =
     subst (λ s. GivesTrace s c.starts.scratch.next.threads.width c.starts.from c.starts_of-pattern.result.1 (best_of c.pass.result c.pass.new.scratch.found.items))
-    (kept_seen c.args.program.now c.args.input.now c.starts.input c.starts.invariant.keeps) c.pass.ensures.gives
+    (kept_seen c.args.program.now c.args.input.now c.starts.input c.starts.invariant.keeps) (c.pass.ensures.gives refl)
 
 pub returns-then-lo-hi-clause-chosen : goal.returns-then-lo-hi-clause-chosen
 returns-then-lo-hi-clause-chosen g c =

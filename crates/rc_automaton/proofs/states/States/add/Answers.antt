@@ -27,5 +27,5 @@ invariant_of-self-2 c =
     rw (longer (goal.at.invariant_of-self-2 c).After-push_reserved)
     (one_more states a.numbers c.insert.new.self c.in_ok-key.key s c.len.result c.self.invariant absent key next c.in_ok-insert.ensures.updates.0)
 
-pub returns : goal.returns
-returns c = longer (goal.at.returns c).After-push_reserved ∙ ap (λ xs. xs ++ state_of c.args.state.now ∷ []) c.self.view_is
+pub returns-clause-added : goal.returns-clause-added
+returns-clause-added c = longer (goal.at.returns-clause-added c).After-push_reserved ∙ ap (λ xs. xs ++ state_of c.args.state.now ∷ []) c.self.view_is

@@ -4,7 +4,7 @@ use Rattle.rc_dense.proofs.NameLemmas.{row_below, marks_bound}
 use Rattle.rc_dense.proofs.names.Names.name.Goals as goal
 use Rattle.rc_dense.proofs.names.Names.name.Goals.{In_ok-number}
 
-below : (g : _) (c : In_ok-number g) → c.in_ok-number.number * c.number.new.self.width + c.number.new.self.width < 4611686018427387904
+below : (g : _) (c : In_ok-number g) → c.in_ok-number.number * c.number.new.self.width + c.number.new.self.width < 2305843009213693952
 below g c =
     let n = c.in_ok-number.ensures.named in
     row_below c.number.new.self.states c.in_ok-number.number (state_of c.args.state.now) c.number.new.self.width n.wide c.in_ok-number.ensures.number n.small

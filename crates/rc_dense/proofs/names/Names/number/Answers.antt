@@ -17,7 +17,7 @@ returns-in_default-weigh-clause-refused g c =
     c.requires.0.weighed c.in_default-weigh.ensures.weight (more_states g.m n.states s c.requires.0.are_states c.requires.1 absent)
 
 longer : (g : _) (c : In_ok-add g) → c.add.new.self ≡ c.args.self.now.states ++ state_of c.args.state.now ∷ []
-longer g c = c.in_ok-add.ensures ∙ ap (λ ss. ss ++ state_of c.args.state.now ∷ []) c.in_ok-number.ensures.kept
+longer g c = c.in_ok-add.ensures.added ∙ ap (λ ss. ss ++ state_of c.args.state.now ∷ []) c.in_ok-number.ensures.kept
 
 pub returns-clause-named : goal.returns-clause-named
 returns-clause-named g c =
@@ -26,7 +26,7 @@ returns-clause-named g c =
     let absent : IsAbsent n.states s = subst (IsFound n.states s) c.in_default.is c.in_ok-number.ensures.found in
     let len : c.len.result ≡ length s.list = c.len.ensures ∙ c.args.state.now.list.ok.0 in
     let number : c.len-number.result ≡ length n.states = c.len-number.ensures ∙ ap length c.in_ok-number.ensures.kept in
-    let room : n.width < 4611686018427387904 - length n.states * n.width = subst (λ k. n.width < 4611686018427387904 - k * n.width) number c.if-self-number.false in
+    let room : n.width < 2305843009213693952 - length n.states * n.width = subst (λ k. n.width < 2305843009213693952 - k * n.width) number c.if-self-number.false in
     let small = c.requires.0.small in
     rw (longer g (goal.at.returns-clause-named g c).In_ok-add) (record {
       machine = c.requires.0.machine;

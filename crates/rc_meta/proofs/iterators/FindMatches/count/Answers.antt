@@ -6,7 +6,7 @@ use Rattle.rc_meta.proofs.iterators.FindMatches.count.Goals as goal
 pub count-requires-clause-fits : goal.count-requires-clause-fits
 count-requires-clause-fits g c =
     let s = c.args.self in
-    let few = few_left s.seeker.regex.now s.input s.seeker.last s.seeker.is_done in
+    let few = few_left s.seeker.regex s.input s.seeker.last s.seeker.is_done in
     inl (omega (arith, few, c.chunk_offset-offset.ensures.shows.small))
 
 pub returns : goal.returns

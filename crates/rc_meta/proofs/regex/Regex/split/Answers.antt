@@ -16,14 +16,14 @@ returns-clause-left_by g c =
 pub returns-clause-few : goal.returns-clause-few
 returns-clause-few g c =
     let m = c.in_ok-matches.matches in
-    let few = few_left m.seeker.regex.now m.input m.seeker.last m.seeker.is_done in
+    let few = few_left m.seeker.regex m.input m.seeker.last m.seeker.is_done in
     let pieces = length-pieces_from 0 (high m.input) (find_left m) in
     omega (arith, few, pieces, ap high c.in_ok-matches.ensures.input)
 
 pub returns-clause-short : goal.returns-clause-short
 returns-clause-short g c = λ small.
     let m = c.in_ok-matches.matches in
-    let few = few_left m.seeker.regex.now m.input m.seeker.last m.seeker.is_done in
+    let few = few_left m.seeker.regex m.input m.seeker.last m.seeker.is_done in
     let pieces = length-pieces_from 0 (high m.input) (find_left m) in
     omega (arith, small, few, pieces, ap high c.in_ok-matches.ensures.input)
 

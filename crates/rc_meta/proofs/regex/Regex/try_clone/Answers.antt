@@ -6,5 +6,5 @@ use Rattle.rc_meta.proofs.regex.Regex.try_clone.Goals as goal
 
 pub build-requires : goal.build-requires
 build-requires c =
-    let hs = c.args.self.now.built.hirs.items in
+    let hs = c.args.self.now.hirs.items in
     omega (arith, groups_light (map meaning hs), length-map hs meaning, c.args.self.now.fits.light, ap length c.deref.ensures.value)

@@ -11,7 +11,8 @@ use Rattle.rc_meta.proofs.seeker.Seeker.next_captures.Goals as goal
 
 pub returns-in_default-clause-steps : goal.returns-in_default-clause-steps
 returns-in_default-clause-steps g c =
-    let f = c.args.self.now in (
+    let f = c.self.inside in
+    rw (← c.self.view_is) (
       none_left f.regex.now c.args.input.now f.last f.is_done (sym c.in_default.is ∙ c.next_match.ensures.found),
       λ kind. no_walks f.regex.now c.args.input.now f.last f.is_done (sym c.in_default.is ∙ c.next_match.ensures.found) kind,
       refl {a = []},
@@ -19,12 +20,13 @@ returns-in_default-clause-steps g c =
 
 pub returns-in_default-create_captures-clause-steps : goal.returns-in_default-create_captures-clause-steps
 returns-in_default-create_captures-clause-steps g c =
-    let f = c.args.self.now in
+    let f = c.self.inside in
+    rw (← c.self.view_is)
     (some_left f.regex.now c.args.input.now f.last f.is_done c.in-Some.found c.if-self.false (sym c.in-Some.is ∙ c.next_match.ensures.found), refl {a = []})
 
 pub returns-clause-steps : goal.returns-clause-steps
 returns-clause-steps g c =
-    let f = c.args.self.now in
+    let f = c.self.inside in
     let r = f.regex.now in
     let i = c.args.input.now in
     let j = c.next_match.new.input in
@@ -40,7 +42,8 @@ returns-clause-steps g c =
     let matched =
     same_match r j caps kept c.find_captures.ensures.found
     ∙ sym (answer_same r.fits j) ∙ sym c.next_match.ensures.there ∙ c.in-Some.is in
-    record {
+    rw (← c.self.view_is)
+    (record {
       kept = kept;
       found = c.in-Some.found;
       matched = matched;
@@ -56,4 +59,4 @@ returns-clause-steps g c =
       regex = refl;
       start = k.span.start;
       search = moved r i k moves;
-    }
+    })

@@ -5,12 +5,13 @@ use Rattle.rc_meta.proofs.seeker.Seeker.next_match.Goals as goal
 
 pub returns-in_default-clause-steps : goal.returns-in_default-clause-steps
 returns-in_default-clause-steps g c =
-    let f = c.args.self.now in
-    (none_left f.regex.now c.args.input.now f.last f.is_done (sym c.in_default.is ∙ c.next_match.ensures.found), refl)
+    let f = c.self.inside in
+    rw (← c.self.view_is) (none_left f.regex.now c.args.input.now f.last f.is_done (sym c.in_default.is ∙ c.next_match.ensures.found), refl)
 
 pub returns-clause-steps : goal.returns-clause-steps
 returns-clause-steps g c =
-    let f = c.args.self.now in
+    let f = c.self.inside in
     let moves : IsMoved c.args.input.now c.set_start.new.self = search rules in
-    next_left f.regex.now c.args.input.now c.set_start.new.self f.last f.is_done c.in-Some.found c.end-2.result c.if-self.false
-    (sym c.in-Some.is ∙ c.next_match.ensures.found) moves (c.set_start.ensures.start ∙ c.end.ensures.value) c.end-2.ensures.value
+    rw (← c.self.view_is)
+    (next_left f.regex.now c.args.input.now c.set_start.new.self f.last f.is_done c.in-Some.found c.end-2.result c.if-self.false
+    (sym c.in-Some.is ∙ c.next_match.ensures.found) moves (c.set_start.ensures.start ∙ c.end.ensures.value) c.end-2.ensures.value)

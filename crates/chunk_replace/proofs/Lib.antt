@@ -1,0 +1,8 @@
+pub mod Grown
+pub mod Reading
+pub mod Replacing
+pub mod Groups
+pub mod Rewriting
+pub mod OneWay
+mod Examples
+pub mod Whole

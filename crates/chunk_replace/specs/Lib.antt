@@ -1,0 +1,8 @@
+pub mod Template
+pub mod Marks
+pub mod Put
+pub mod Spans
+pub mod Told
+pub mod Replaced
+pub mod Words
+pub mod Laws

@@ -1,0 +1,35 @@
+-- The words that the program is called with, and what it does.
+use Rattle.std.specs.Prelude.{◌≡◌, ◌↔◌, ℕ, ◌<◌, Bool, List, [], ◌∷◌, length, map, Option, IfSome, IsTrue, true}
+use Rattle.std.specs.Borrow.{Bor}
+use Rattle.std.specs.Io.KnownBytes.{Appends}
+use Rattle.rc_pattern.specs.Re.{Re}
+use Rattle.rc_parser.specs.Settings.{default_settings}
+use Rattle.rc_build.specs.Names.{names_shown}
+use Rattle.rc_build.specs.TextRefusals.{IsReadAs as IsPattern}
+use Rattle.regex_cursor.specs.Output.{matches_in, sought_by_default}
+use Rattle.regex_cursor.specs.Words.{IsLength}
+use Rattle.chunk_replace.specs.Replaced.{replaced}
+use Rattle.chunk_replace.specs.Template.{Item, IsReadAs}
+
+-- The words are a text, a template and the length of a chunk.
+abbrev pub AreWords : List (Bor (List ℕ)) → List ℕ → List ℕ → Type 0
+AreWords words text template = (chunk : List ℕ) × (map (λ w. w.now) words ≡ text ∷ template ∷ chunk ∷ []) × IsLength chunk
+
+abbrev pub HasWords : List (Bor (List ℕ)) → Type 0
+HasWords words = (text template : List ℕ) × AreWords words text template
+
+-- The text is read as a pattern, by the default settings, and the content was put with its matches replaced.
+pub record IsSubstituted (text : List ℕ) (items : List Item) (content : List ℕ) (old new : Option (List ℕ)) (any : Bool) : Type 0 where
+  pub pattern : Re
+  pub read : IsPattern default_settings text pattern
+  pub put : Appends old new (replaced (names_shown true (pattern ∷ [])) (sought_by_default pattern) items content)
+  pub told : IsTrue any ↔ (0 < length (matches_in pattern content))
+
+-- The words are a pattern, a template and a length, and the known bytes of the input were put with the matches replaced.
+pub record IsDone (words : List (Bor (List ℕ))) (input old new : Option (List ℕ)) (any : Bool) : Type 0 where
+  pub text : List ℕ
+  pub template : List ℕ
+  pub words_are : AreWords words text template
+  pub items : List Item
+  pub read : IsReadAs items template
+  pub put : IfSome input (λ bytes. IsSubstituted text items bytes old new any)

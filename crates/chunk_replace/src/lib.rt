@@ -1,0 +1,15 @@
+//! Rewriting of text in chunks: each match of a regex is replaced by a template.
+#![tactic(auto)]
+
+pub mod error;
+mod marks;
+mod put;
+pub mod replace;
+mod rewrite;
+pub mod shell;
+pub mod template;
+
+pub use error::ReplaceError;
+pub use replace::replace_all;
+pub use shell::program;
+pub use template::{Template, TemplateError};

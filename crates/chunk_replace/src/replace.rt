@@ -1,0 +1,68 @@
+//! The replaced text of some chunks.
+ghost use Rattle.std.specs.Prelude.{◌≡◌, ◌≢◌, ◌↔◌, false, length, true, Err, IfErr, IfOk, MatchResult, OnOk};
+ghost use Rattle.std.specs.Io.KnownBytes.{Keeps};
+ghost use Rattle.rc_text.specs.Joined.{IsTooLong, joined};
+ghost use Rattle.rc_text.specs.declared.types.MatchKind.TheVariants.{LeftmostFirst};
+ghost use Rattle.rc_meta.specs.Views.{regex_kind};
+ghost use Rattle.regex_cursor.specs.Output.{IsWhole};
+ghost use Rattle.chunk_replace.specs.declared.error.ReplaceError.TheVariants.{TooLong, Write};
+ghost use Rattle.chunk_replace.specs.Put.{Puts};
+ghost use Rattle.chunk_replace.specs.Replaced.{matches_of, replaced_by};
+ghost use Rattle.chunk_replace.specs.Template.{template_items};
+
+use crate::error::ReplaceError;
+use crate::rewrite::put_replaced;
+use crate::template::Template;
+use regex_cursor::cursor::ChunkCursor;
+use regex_cursor::engines::meta::Regex;
+use regex_cursor::run::Sink;
+use regex_cursor::{Cursor, Input, cursor};
+use std::alloc::Global;
+
+/// The chunks, as an input and as a text to read from.
+fn input_over<'a>(
+    chunks: &'a [&'a [u8]],
+) -> Result<(Input<ChunkCursor<'a>>, ChunkCursor<'a>), cursor::TooLong>
+    ensures whole { MatchResult result (λ r. IsWhole (joined chunks.now) r.0) (λ _. IsTooLong chunks.now) }
+    ensures text { IfOk result (λ r. ⟦<ChunkCursor<'static> as Cursor>⟧.content r.1 ≡ joined chunks.now) }
+    ensures short { OnOk result (¬ IsTooLong chunks.now) }
+{
+    let cursor = ChunkCursor::new(chunks)?;
+    Ok((Input::new(cursor), cursor))
+}
+
+/// Puts the chunks' bytes, one chunk after another, with each match of the regex replaced by the template. It tells how many matches
+/// there were.
+///
+/// The matches are those of `Regex::captures_iter`: what was replaced isn't searched again. A group's bytes are those of the chunks, and
+/// a group that took no part, or that the match's pattern doesn't have, gives none. The bytes go out a piece of a chunk at a time. It
+/// takes the memory of the search's cache and of the captures of one match at a time, however long the text is. The sink has not failed
+/// before.
+///
+/// `TooLong` comes exactly where the number of bytes reaches the greatest `usize`, and nothing was put then. `Write` comes only where
+/// the sink failed in this call. After `Memory` and `Write` what was put is a beginning of the replaced text.
+pub fn replace_all<W: Sink>(
+    alloc: Global,
+    regex: &Regex,
+    chunks: &[&[u8]],
+    template: &Template<'_>,
+    out: &mut W,
+) -> Result<usize, ReplaceError>
+    requires { W.has_failed out.old ≡ false }
+    ensures replaced { regex_kind regex.now ≡ LeftmostFirst
+        → Puts result (W.taken out.old) (W.taken out.new) (replaced_by regex.now (template_items template.now) (joined chunks.now)) }
+    ensures count { IfOk result (λ n. n ≡ length (matches_of regex.now (joined chunks.now))) }
+    ensures too_long { (result ≡ Err TooLong) ↔ IsTooLong chunks.now }
+    ensures nothing_put { result ≡ Err TooLong → Keeps (W.taken out.old) (W.taken out.new) }
+    ensures ok { OnOk result (W.has_failed out.new ≡ false) }
+    ensures unfailed { IfErr result (λ e. e ≢ Write → W.has_failed out.new ≡ false) }
+    ensures write_failed { result ≡ Err Write → W.has_failed out.new ≡ true }
+{
+    let Ok((input, mut text)) = input_over(chunks) else {
+        return Err(ReplaceError::TooLong);
+    };
+    let Ok(mut matches) = regex.captures_iter(alloc, input) else {
+        return Err(ReplaceError::Memory);
+    };
+    put_replaced(out, &mut text, &mut matches, template)
+}

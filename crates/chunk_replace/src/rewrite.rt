@@ -1,0 +1,84 @@
+//! A text with its matches replaced, as it is put into a writer.
+ghost use Rattle.std.specs.Prelude.{◌≡◌, ◌≢◌, ◌++◌, ◌<◌, ◌^◌, drop, false, length, slice_range, true, Err, IfErr, IfOk, OnOk};
+ghost use Rattle.rc_text.specs.declared.types.MatchKind.TheVariants.{LeftmostFirst};
+ghost use Rattle.rc_meta.specs.Left.{captures_left, captures_regex, captures_walks};
+ghost use Rattle.rc_meta.specs.Views.{regex_kind, regex_names};
+ghost use Rattle.chunk_replace.specs.declared.error.ReplaceError.TheVariants.{Memory, Write};
+ghost use Rattle.chunk_replace.specs.Put.{Puts};
+ghost use Rattle.chunk_replace.specs.Replaced.{replaced_from, replacement};
+ghost use Rattle.chunk_replace.specs.Template.{template_items};
+ghost use Rattle.chunk_replace.specs.Told.{searched, told_parts};
+
+use crate::error::ReplaceError;
+use crate::put::{put_parts, put_range};
+use crate::template::Template;
+use regex_cursor::Cursor;
+use regex_cursor::engines::meta::{Captures, CapturesMatches};
+use regex_cursor::run::Sink;
+use regex_cursor::types::Span;
+
+/// Puts the content's bytes before a match, and the template for it.
+fn put_match<W: Sink, C: Cursor>(
+    out: &mut W,
+    text: &mut C,
+    gap: Span,
+    template: &Template<'_>,
+    caps: &Captures,
+) -> Result<(), ReplaceError>
+    ensures content { C.content text.new ≡ C.content text.old }
+    ensures put { Puts result (W.taken out.old) (W.taken out.new)
+        (slice_range (C.content text.old) gap.start gap.end ++ told_parts (C.content text.old) caps.now template.now.parts.items) }
+    ensures ok { OnOk result (W.has_failed out.new ≡ W.has_failed out.old) }
+    ensures err { IfErr result (λ e. (e ≡ Write) × (W.has_failed out.new ≡ true)) }
+{
+    put_range(out, text, gap.start, gap.end)?;
+    put_parts(out, text, &template.parts, caps)
+}
+
+/// Puts the content's bytes from `from` on.
+fn put_rest<W: Sink, C: Cursor>(out: &mut W, text: &mut C, from: usize) -> Result<(), ReplaceError>
+    ensures put { Puts result (W.taken out.old) (W.taken out.new) (drop from (C.content text.old)) }
+    ensures ok { OnOk result (W.has_failed out.new ≡ W.has_failed out.old) }
+    ensures err { IfErr result (λ e. (e ≡ Write) × (W.has_failed out.new ≡ true)) }
+{
+    // The content is shorter than the greatest number.
+    let _offset = text.offset();
+    put_range(out, text, from, usize::MAX)
+}
+
+/// Puts the text with the matches replaced, and tells how many there were.
+pub(crate) fn put_replaced<W: Sink, C: Cursor + Drop, T: Cursor>(
+    out: &mut W,
+    text: &mut T,
+    matches: &mut CapturesMatches<'_, C>,
+    template: &Template<'_>,
+) -> Result<usize, ReplaceError>
+    requires sound { W.has_failed out.old ≡ false }
+    requires short { length (captures_left matches.old) < 2 ^ 64 }
+    ensures put { regex_kind (captures_regex matches.old) ≡ LeftmostFirst → Puts result (W.taken out.old) (W.taken out.new)
+        (replaced_from (T.content text.old)
+        (replacement (T.content text.old) (regex_names (captures_regex matches.old)) (searched matches.old) (template_items template.now)) 0
+        (captures_walks matches.old)) }
+    ensures count { IfOk result (λ n. n ≡ length (captures_left matches.old)) }
+    ensures ok { OnOk result (W.has_failed out.new ≡ false) }
+    ensures unfailed { IfErr result (λ e. e ≢ Write → (e ≡ Memory) × (W.has_failed out.new ≡ false)) }
+    ensures write_failed { result ≡ Err Write → W.has_failed out.new ≡ true }
+{
+    let mut from = 0;
+    let mut count = 0;
+    while let Some(item) = matches.next() {
+        let Ok(caps) = item else {
+            return Err(ReplaceError::Memory);
+        };
+        let found = caps.get_match().unwrap();
+        let gap = Span {
+            start: from,
+            end: found.start(),
+        };
+        put_match(out, text, gap, template, &caps)?;
+        from = found.end();
+        count += 1;
+    }
+    put_rest(out, text, from)?;
+    Ok(count)
+}

@@ -1,0 +1,77 @@
+//! What a match is replaced by: text, and marks for its groups.
+ghost use Rattle.std.specs.Prelude.{◌≡◌, MatchResult};
+ghost use Rattle.chunk_replace.specs.Template.{IsReadAs, IsTemplateError, template_items};
+ghost use Rattle.chunk_replace.specs.Laws.{TemplateLaw};
+
+use crate::marks::marked;
+use std::alloc::{AllocFailed, Global};
+use thiserror::Error;
+
+/// A part of a template.
+#[derive(Clone, Copy)]
+pub(crate) enum Part<'t> {
+    /// Text that stands for itself.
+    Literal(&'t str),
+    /// The group of this number.
+    Group(usize),
+    /// The group of this name.
+    Name(&'t str),
+}
+
+/// What a match is replaced by: text that stands for itself, and groups of the match. It keeps its text.
+#[derive(Drop)]
+pub struct Template<'t> {
+    pub(crate) parts: Vec<Part<'t>>,
+}
+
+/// Why a text is no template.
+#[derive(Clone, Copy, Debug, PartialEq, Eq, Error)]
+pub enum TemplateError {
+    /// A `$` begins neither `$$` nor the mark of a group. It is the first such one, and `at` is its place in bytes.
+    #[error("error parsing template at byte {at}")]
+    Syntax { at: usize },
+    /// Memory was refused.
+    #[error("out of memory")]
+    Memory,
+}
+
+impl<'t> Template<'t> {
+    /// Reads a template.
+    ///
+    /// `$$` is a `$`, `${n}` is the group of the number `n`, in decimal digits, and `${name}` is the group of that name. All else
+    /// stands for itself. The text is refused where a `$` begins none of these, also where a number is above the greatest `usize`.
+    pub fn parse(alloc: Global, text: &'t str) -> Result<Template<'t>, TemplateError>
+        ensures { MatchResult result (λ t. IsReadAs (template_items t) text.now) (IsTemplateError text.now) }
+    {
+        let mut parts = Vec::new(alloc);
+        let mut rest = text;
+        while let Some((literal, mark)) = rest.split_once('$') {
+            parts.push(Part::Literal(literal))?;
+            let Some((part, after)) = marked(mark) else {
+                return Err(TemplateError::Syntax {
+                    at: text.len() - mark.len() - 1,
+                });
+            };
+            parts.push(part)?;
+            rest = after;
+        }
+        parts.push(Part::Literal(rest))?;
+        Ok(Template { parts })
+    }
+}
+
+/// A text is read in one way, or is refused at one place. A law: it does nothing.
+pub fn templates_are_read_in_one_way()
+    ensures { TemplateLaw }
+{}
+
+impl<T: Drop> From<AllocFailed<T>> for TemplateError {
+    ghost use Rattle.std.specs.Prelude.{◌≡◌};
+    ghost use Rattle.chunk_replace.specs.declared.template.TemplateError.TheVariants.{Memory};
+
+    ghost from_gives = { λ _ r. r ≡ Memory };
+
+    fn from(_: AllocFailed<T>) -> TemplateError {
+        TemplateError::Memory
+    }
+}

@@ -1,0 +1,252 @@
+//! Patterns built for every engine, and searches that all of them answer alike.
+
+ghost use Rattle.std.specs.Prelude.{◌≤◌, length};
+ghost use Rattle.rc_program.specs.Sought.{IsRunnable};
+ghost use Rattle.rc_program.specs.Places.{places_of};
+
+use crate::cursors::Recut;
+use crate::faults::{Fault, same};
+use crate::settings::Settings;
+use crate::tables::{Hybrid, TableEngine};
+use rc_build::compile::compile_all;
+use rc_build::texts::parse_all;
+use rc_captures::captures::{Captures, slots_of};
+use rc_meta::regex::Regex;
+use rc_pattern::hir::{Hir, Look};
+use rc_pikevm::search;
+use rc_pikevm::vm::PikeVM;
+use rc_program::place::Place;
+use rc_program::program::Program;
+use rc_settings::error::BuildError;
+use rc_settings::meta::Config;
+use rc_text::input::Input;
+use rc_text::types::{HalfMatch, Match, MatchKind, PatternID};
+use rc_walker::walker;
+use std::alloc::Global;
+
+/// More patterns than this are refused by the condition of a build.
+pub const MOST_PATTERNS: usize = 2147483647;
+
+/// The assertions that are decided by characters: searches by tables can't decide them beside a byte above 127.
+const WORDS: [Look; 6] = [
+    Look::WordUnicode,
+    Look::WordUnicodeNegate,
+    Look::WordStartUnicode,
+    Look::WordEndUnicode,
+    Look::WordStartHalfUnicode,
+    Look::WordEndHalfUnicode,
+];
+
+/// A list of patterns, built for every engine.
+#[derive(Drop)]
+pub struct Engines {
+    /// The regex.
+    pub regex: Regex,
+    /// The regex that looks for no needles of its own, and has no tables.
+    pub unfiltered: Regex,
+    /// The regex that looks for no needles of its own, and has tables however large.
+    pub tabled: Regex,
+    /// The engines that search by tables.
+    pub tables: Vec<TableEngine>,
+    vm: PikeVM,
+    /// The program that the walker may go through.
+    program: Option<Program>,
+    /// Whether the walker searches too.
+    pub walks: bool,
+    /// Whether an assertion of the patterns is decided by the characters around it.
+    pub has_words: bool,
+}
+
+/// What one search told.
+#[derive(Drop)]
+struct Told {
+    found: Option<Match>,
+    slots: Vec<Option<usize>>,
+}
+
+impl Engines {
+    /// The patterns that these texts are read as.
+    pub fn build(
+        alloc: Global,
+        patterns: &[&str],
+        settings: &Settings,
+    ) -> Result<Engines, BuildError>
+        requires { length patterns.now ≤ 2147483647 }
+    {
+        let mut builder = Regex::builder();
+        builder.syntax(settings.syntax);
+        builder.configure(settings.config(alloc)?);
+        let regex = builder.build_many(alloc, patterns)?;
+        builder.configure(Config::new().auto_prefilter(false).dfa(false));
+        let unfiltered = builder.build_many(alloc, patterns)?;
+        builder.configure(
+            Config::new()
+                .dfa(true)
+                .dfa_state_limit(None)
+                .dfa_size_limit(settings.regex_dfa_limit()),
+        );
+        let tabled = builder.build_many(alloc, patterns)?;
+        Ok(Engines {
+            regex,
+            unfiltered,
+            tabled,
+            tables: tables(alloc, patterns, settings)?,
+            vm: settings.vm_builder().build_many(alloc, patterns)?,
+            program: compiled(alloc, patterns, settings)?,
+            walks: settings.walker,
+            has_words: have_words(alloc, patterns, settings)?,
+        })
+    }
+
+    /// How many places the program has.
+    pub fn states_len(&self) -> usize {
+        self.vm.states_len()
+    }
+
+    /// What a search of the input finds, by each engine alike.
+    pub fn found(&self, alloc: Global, input: &mut Input<Recut>) -> Result<Option<Match>, Fault> {
+        let told = by_regex(alloc, &self.regex, input)?;
+        by_vm(alloc, &self.vm, &told, input)?;
+        if let Some(program) = &self.program {
+            if self.walks {
+                by_walker(alloc, program, &told, input)?;
+            }
+        }
+        Ok(told.found)
+    }
+}
+
+/// Whether an assertion of these patterns is decided by the characters around it.
+fn have_words(alloc: Global, patterns: &[&str], settings: &Settings) -> Result<bool, BuildError>
+    requires { length patterns.now ≤ 2147483647 }
+{
+    let hirs = parse_all(alloc, patterns, &settings.syntax)?;
+    for hir in &hirs {
+        let looks = hir.properties().look_set();
+        if WORDS.iter().any(|look| looks.contains(*look)) {
+            return Ok(true);
+        }
+    }
+    Ok(false)
+}
+
+/// The engines that search by tables: the DFA, unless the row wants none, a hybrid, and one with the least capacity.
+fn tables(
+    alloc: Global,
+    patterns: &[&str],
+    settings: &Settings,
+) -> Result<Vec<TableEngine>, BuildError>
+    requires { length patterns.now ≤ 2147483647 }
+{
+    let mut tables = Vec::new(alloc);
+    if settings.tables {
+        let dfa = settings.dfa_builder().build_many(alloc, patterns)?;
+        tables.push(TableEngine::Dfa(dfa))?;
+    }
+    let regex = settings.hybrid_builder(None).build_many(alloc, patterns)?;
+    let least = Some(regex.minimum_cache_capacity());
+    tables.push(TableEngine::Hybrid(Hybrid::new(alloc, regex, false)?))?;
+    let regex = settings.hybrid_builder(least).build_many(alloc, patterns)?;
+    tables.push(TableEngine::Hybrid(Hybrid::new(alloc, regex, true)?))?;
+    Ok(tables)
+}
+
+/// The program of these patterns, where the walker goes through it: it finds no greatest matches.
+fn compiled(
+    alloc: Global,
+    patterns: &[&str],
+    settings: &Settings,
+) -> Result<Option<Program>, BuildError>
+    requires { length patterns.now ≤ 2147483647 }
+{
+    if !settings.walker || settings.kind == MatchKind::All {
+        return Ok(None);
+    }
+    let hirs = parse_all(alloc, patterns, &settings.syntax)?;
+    if hirs.len() > MOST_PATTERNS {
+        return Ok(None);
+    }
+    let made = compile_all(alloc, &hirs, settings.limit, settings.which)?;
+    let passes_over = settings.utf8_empty && may_be_empty(&hirs);
+    let program = program_of(made.places, settings.terminator, passes_over);
+    Ok(Some(program))
+}
+
+/// These places, under settings.
+fn program_of(places: Vec<Place>, terminator: u8, passes_over: bool) -> Program
+    requires { IsRunnable (places_of places.items) }
+{
+    Program {
+        places,
+        terminator,
+        passes_over,
+    }
+}
+
+/// Whether the least length of some pattern is 0.
+fn may_be_empty(hirs: &[Hir]) -> bool {
+    for hir in hirs {
+        if hir.properties().minimum_len() == Some(0) {
+            return true;
+        }
+    }
+    false
+}
+
+/// The searches of the regex in one cache, which all tell the same.
+fn by_regex(alloc: Global, regex: &Regex, input: &mut Input<Recut>) -> Result<Told, Fault> {
+    let mut cache = regex.create_cache(alloc)?;
+    let mut captures = regex.create_captures(alloc)?;
+    let mut slots = vec![in alloc; None; regex.group_info().slot_len()]?;
+    let found = regex.search_with(&mut cache, input);
+    let half = regex.search_half_with(&mut cache, input);
+    same(half == half_of(found), Fault::SearchHalfWith)?;
+    regex.search_captures_with(&mut cache, input, &mut captures);
+    same(captures.get_match() == found, Fault::SearchCapturesWith)?;
+    let pattern = regex.search_slots_with(&mut cache, input, slots.as_mut_slice());
+    same(pattern == pattern_of(found), Fault::SearchSlotsWith)?;
+    same(slots_of(&captures) == slots.as_slice(), Fault::Slots)?;
+    Ok(Told { found, slots })
+}
+
+/// The searches of the `PikeVM` in one cache tell what was told.
+fn by_vm(alloc: Global, vm: &PikeVM, told: &Told, input: &mut Input<Recut>) -> Result<(), Fault> {
+    let mut cache = vm.create_cache(alloc)?;
+    let mut captures = Captures::all(alloc, vm.get_group_info())?;
+    let mut slots = vec![in alloc; None; vm.get_group_info().slot_len()]?;
+    let is_match = search::is_match(vm, &mut cache, input);
+    same(is_match == told.found.is_some(), Fault::VmIsMatch)?;
+    search::search(vm, &mut cache, input, &mut captures);
+    same(captures.get_match() == told.found, Fault::Vm)?;
+    same(slots_of(&captures) == told.slots.as_slice(), Fault::VmSlots)?;
+    let pattern = search::search_slots(vm, &mut cache, input, slots.as_mut_slice());
+    same(pattern == pattern_of(told.found), Fault::VmSearchSlots)?;
+    same(slots == told.slots, Fault::VmSearchSlots)
+}
+
+/// The walker's searches tell what was told.
+fn by_walker(
+    alloc: Global,
+    program: &Program,
+    told: &Told,
+    input: &mut Input<Recut>,
+) -> Result<(), Fault> {
+    let found = walker::find(alloc, input, program)?;
+    same(found == told.found, Fault::Walker)?;
+    let mut slots = vec![in alloc; None; told.slots.len()]?;
+    let pattern = walker::find_slots(alloc, input, program, slots.as_mut_slice())?;
+    same(pattern == pattern_of(found), Fault::WalkerPattern)?;
+    same(slots == told.slots, Fault::WalkerSlots)
+}
+
+/// The pattern of a match.
+fn pattern_of(found: Option<Match>) -> Option<PatternID> {
+    let found = found?;
+    Some(found.pattern())
+}
+
+/// The pattern and the end of a match.
+pub fn half_of(found: Option<Match>) -> Option<HalfMatch> {
+    let found = found?;
+    Some(HalfMatch::new(found.pattern(), found.end()))
+}

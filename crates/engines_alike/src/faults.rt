@@ -1,0 +1,90 @@
+//! Why a row is told of.
+
+use std::alloc::{AllocError, AllocFailed};
+
+/// Why a row is told of: a part of it that isn't read, want of memory, or an answer that isn't the one wanted.
+#[derive(Clone, Copy, Debug)]
+pub enum Fault {
+    /// A field has no name.
+    UnreadField,
+    /// No field has this name, or its setting doesn't take this value.
+    UnreadSetting,
+    UnreadNumber,
+    /// A span isn't two numbers, or no input takes it.
+    UnreadSpan,
+    UnreadPattern,
+    /// A text has an escape that stands for nothing.
+    UnreadEscape,
+    /// Nothing is wanted, or two things are.
+    UnreadWant,
+    Memory,
+    /// The patterns are built or refused, or refused otherwise.
+    Refusal,
+    /// What the parses of plain patterns say of the match, and of its groups.
+    LeastParse,
+    LeastParseGroups,
+    /// A repetition has too many parses to try.
+    ManyParses,
+    InACache,
+    SearchHalfWith,
+    SearchCapturesWith,
+    SearchSlotsWith,
+    Slots,
+    Vm,
+    VmIsMatch,
+    VmSearchSlots,
+    VmSlots,
+    Walker,
+    WalkerPattern,
+    WalkerSlots,
+    /// What engines find that search by tables: a DFA, and a hybrid in a cache as large as it is by default, or as small as may be.
+    Dfa(Part),
+    Hybrid(Part),
+    SmallHybrid(Part),
+    Find,
+    FindUnfiltered,
+    FindByTables,
+    Search,
+    SearchHalf,
+    IsMatch,
+    Captures,
+    SearchCaptures,
+    CapturesUnfiltered,
+    CapturesByTables,
+    FindIter,
+    FindIterUnfiltered,
+    FindIterByTables,
+    CapturesIter,
+    InTurn,
+    Split,
+    SplitUnfiltered,
+    SplitByTables,
+}
+
+/// Which search by tables isn't answered as wanted.
+#[derive(Clone, Copy, Debug)]
+pub enum Part {
+    /// The one in both directions.
+    Find,
+    /// The one forwards alone.
+    Forward,
+    /// One of those for the matches one after another.
+    List,
+}
+
+impl From<AllocError> for Fault {
+    fn from(_: AllocError) -> Fault {
+        Fault::Memory
+    }
+}
+
+impl<T: Drop> From<AllocFailed<T>> for Fault {
+    fn from(_: AllocFailed<T>) -> Fault {
+        Fault::Memory
+    }
+}
+
+/// This fault, where an answer isn't the same.
+pub fn same(is_same: bool, fault: Fault) -> Result<(), Fault> {
+    if is_same { Ok(()) } else { Err(fault) }
+}

@@ -1,0 +1,41 @@
+//! Inputs of rows.
+
+use crate::cursors::Recut;
+use crate::faults::Fault;
+use crate::row::{Pair, Row, span_of};
+use rc_text::input::Input;
+use rc_text::types::Match;
+
+/// The input that a row asks for.
+pub fn input<'a>(row: &Row, cursor: Recut<'a>) -> Result<Input<Recut<'a>>, Fault> {
+    let mut input = Input::new(cursor);
+    if let Some(slice) = row.slice {
+        input.slice_span(span_of(slice)?);
+    }
+    if let Some(span) = row.span {
+        input.set_span(span_of(span)?);
+    }
+    input.set_anchored(row.anchored);
+    Ok(input)
+}
+
+/// Sets where the span begins, at most one above its end.
+pub fn start_at(input: &mut Input<Recut>, start: usize) {
+    if start.saturating_sub(1) <= input.end() {
+        input.set_start(start);
+    }
+}
+
+/// The span of a match.
+pub fn pair_of(found: Option<Match>) -> Option<Pair> {
+    let found = found?;
+    Some((found.start(), found.end()))
+}
+
+/// The span of a match is empty and stands where the last one ended.
+pub fn is_again(last: Option<usize>, found: Option<Pair>) -> bool {
+    match (last, found) {
+        (Some(end), Some(span)) => span == (end, end),
+        _ => false,
+    }
+}

@@ -1,0 +1,46 @@
+//! Rows that every engine answers.
+
+use crate::cursors::{Cutting, Recut};
+use crate::engines::{Engines, MOST_PATTERNS};
+use crate::faults::{Fault, same};
+use crate::row::{Row, Want, is_refused};
+use crate::{parses, searches};
+use std::alloc::Global;
+
+/// Every way in which a text is cut.
+pub const CUTTINGS: [Cutting; 4] = [
+    Cutting::Whole,
+    Cutting::Bytes,
+    Cutting::Ring,
+    Cutting::Untold,
+];
+
+/// The row is answered as it wants to be.
+pub fn judge(alloc: Global, row: &Row) -> Result<(), Fault> {
+    if row.patterns.len() > MOST_PATTERNS {
+        return Err(Fault::UnreadPattern);
+    }
+    match Engines::build(alloc, &row.patterns, &row.settings) {
+        Ok(mut engines) => {
+            parses::agree(alloc, &engines, row)?;
+            over_all_cuttings(alloc, &mut engines, row)
+        }
+        Err(error) => same(is_refused(&error, row.want), Fault::Refusal),
+    }
+}
+
+/// The engines answer the row over every cutting of its text.
+fn over_all_cuttings(alloc: Global, engines: &mut Engines, row: &Row) -> Result<(), Fault> {
+    for cutting in CUTTINGS {
+        let cursor = Recut::new(&row.text, cutting);
+        match row.want {
+            Want::First => searches::first(alloc, engines, row, cursor)?,
+            Want::All => searches::all(alloc, engines, row, cursor)?,
+            Want::Groups => searches::groups(alloc, engines, row, cursor)?,
+            Want::Pieces => searches::pieces(alloc, engines, row, cursor)?,
+            Want::Refused(word) => same(word == "no", Fault::Refusal)?,
+            Want::Nothing => return Err(Fault::UnreadWant),
+        }
+    }
+    Ok(())
+}

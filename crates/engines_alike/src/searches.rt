@@ -1,0 +1,270 @@
+//! What is found over one cursor, and whether it is what the row wants.
+
+use crate::cursors::Recut;
+use crate::engines::{Engines, half_of};
+use crate::faults::{Fault, Part, same};
+use crate::inputs::{input, is_again, pair_of, start_at};
+use crate::row::{Pair, Quits, Row, Want};
+use crate::tables::TableEngine;
+use rc_captures::captures::Captures;
+use rc_meta::regex::Regex;
+use rc_text::input::Input;
+use rc_text::types::{HalfMatch, Match};
+use std::alloc::Global;
+
+/// Spans of matches, of groups or of pieces.
+type Spans = Vec<Option<Pair>>;
+
+/// The match is the one that the row wants.
+fn is_wanted(row: &Row, found: Option<Match>) -> bool {
+    match (row.spans.first(), found) {
+        (Some(span), Some(found)) => {
+            *span == pair_of(Some(found)) && found.pattern().as_usize() == row.number.unwrap_or(0)
+        }
+        (None, None) => true,
+        _ => false,
+    }
+}
+
+/// The first match is the one wanted, by each engine: in a cache that is made once, and in one that is made for the call.
+pub fn first(alloc: Global, engines: &mut Engines, row: &Row, cursor: Recut) -> Result<(), Fault> {
+    let found = engines.found(alloc, &mut input(row, cursor)?)?;
+    same(is_wanted(row, found), Fault::InACache)?;
+    let other = engines.unfiltered.find(alloc, input(row, cursor)?)?;
+    same(other == found, Fault::FindUnfiltered)?;
+    let other = engines.tabled.find(alloc, input(row, cursor)?)?;
+    same(other == found, Fault::FindByTables)?;
+    by_tables(engines, row, cursor)?;
+    let regex = &engines.regex;
+    let other = regex.find(alloc, input(row, cursor)?)?;
+    same(other == found, Fault::Find)?;
+    let other = regex.search(alloc, input(row, cursor)?)?;
+    same(other == found, Fault::Search)?;
+    let other = regex.search_half(alloc, input(row, cursor)?)?;
+    same(other == half_of(found), Fault::SearchHalf)?;
+    let other = regex.is_match(alloc, input(row, cursor)?)?;
+    same(other == found.is_some(), Fault::IsMatch)?;
+    let other = regex.captures(alloc, input(row, cursor)?)?;
+    same(other.get_match() == found, Fault::Captures)
+}
+
+/// The engines that search by tables find the match that the row wants, or stop where it says so.
+fn by_tables(engines: &mut Engines, row: &Row, cursor: Recut) -> Result<(), Fault> {
+    for engine in &mut engines.tables {
+        by_table(engine, row, cursor)?;
+    }
+    Ok(())
+}
+
+/// The engine finds the match that the row wants, and its end, or stops where the row says so.
+fn by_table(engine: &mut TableEngine, row: &Row, cursor: Recut) -> Result<(), Fault> {
+    let mut input = input(row, cursor)?;
+    let is_same = match engine.find(&mut input) {
+        Ok(found) => is_wanted(row, found) && !has_to_quit(row),
+        Err(error) => engine.may_end_by(error, row.quits),
+    };
+    same(is_same, engine.fault(Part::Find))?;
+    let is_same = match engine.find_end(&mut input) {
+        Ok(half) => is_end_wanted(row, half) && !has_to_quit(row),
+        Err(error) => engine.may_end_by(error, row.quits),
+    };
+    same(is_same, engine.fault(Part::Forward))
+}
+
+/// The match that the row wants ends here.
+fn is_end_wanted(row: &Row, found: Option<HalfMatch>) -> bool {
+    match (row.spans.first(), found) {
+        (Some(Some((_, end))), Some(found)) => found.offset() == *end,
+        (None, None) => true,
+        _ => false,
+    }
+}
+
+/// A search for the first match has to quit at a byte.
+fn has_to_quit(row: &Row) -> bool {
+    matches!(row.quits, Quits::At(_)) && matches!(row.want, Want::First)
+}
+
+/// The matches that the engines find one after another that search by tables, up to where they stop, are those wanted.
+fn lists_by_tables(
+    alloc: Global,
+    engines: &mut Engines,
+    row: &Row,
+    cursor: Recut,
+) -> Result<(), Fault> {
+    for engine in &mut engines.tables {
+        let listed = engine.list(alloc, input(row, cursor)?, row.spans.len())?;
+        let is_same = match listed.error {
+            None => listed.spans == row.spans && !matches!(row.quits, Quits::At(_)),
+            Some(error) => {
+                row.spans.starts_with(&listed.spans) && engine.may_end_by(error, row.quits)
+            }
+        };
+        same(is_same, engine.fault(Part::List))?;
+    }
+    Ok(())
+}
+
+/// The groups of the first match are those wanted, by each engine.
+pub fn groups(alloc: Global, engines: &mut Engines, row: &Row, cursor: Recut) -> Result<(), Fault> {
+    first(alloc, engines, row, cursor)?;
+    captured_groups(alloc, engines, row, cursor)
+}
+
+/// The groups that each call of the regexes gives are those wanted.
+pub fn captured_groups(
+    alloc: Global,
+    engines: &Engines,
+    row: &Row,
+    cursor: Recut,
+) -> Result<(), Fault> {
+    let mut captures = engines.regex.captures(alloc, input(row, cursor)?)?;
+    same(spans_of(alloc, &captures)? == row.spans, Fault::Captures)?;
+    let input_again = input(row, cursor)?;
+    engines
+        .regex
+        .search_captures(alloc, input_again, &mut captures)?;
+    same(
+        spans_of(alloc, &captures)? == row.spans,
+        Fault::SearchCaptures,
+    )?;
+    let captures = engines.unfiltered.captures(alloc, input(row, cursor)?)?;
+    same(
+        spans_of(alloc, &captures)? == row.spans,
+        Fault::CapturesUnfiltered,
+    )?;
+    let captures = engines.tabled.captures(alloc, input(row, cursor)?)?;
+    same(
+        spans_of(alloc, &captures)? == row.spans,
+        Fault::CapturesByTables,
+    )
+}
+
+/// The spans of the groups, none where there is no match.
+pub fn spans_of(alloc: Global, captures: &Captures) -> Result<Spans, Fault> {
+    let mut spans = Vec::new(alloc);
+    for index in 0..captures.group_len() {
+        spans.push(captures.get_group(index).map(|s| (s.start, s.end)))?;
+    }
+    Ok(spans)
+}
+
+/// All matches are those wanted: those of `find_iter`, with and without prefilters, those of `captures_iter`, and those that each
+/// engine finds one after another.
+pub fn all(alloc: Global, engines: &mut Engines, row: &Row, cursor: Recut) -> Result<(), Fault> {
+    first(alloc, engines, row, cursor)?;
+    let spans = matches(alloc, &engines.regex, input(row, cursor)?)?;
+    same(spans == row.spans, Fault::FindIter)?;
+    let spans = matches(alloc, &engines.unfiltered, input(row, cursor)?)?;
+    same(spans == row.spans, Fault::FindIterUnfiltered)?;
+    let spans = matches(alloc, &engines.tabled, input(row, cursor)?)?;
+    same(spans == row.spans, Fault::FindIterByTables)?;
+    lists_by_tables(alloc, engines, row, cursor)?;
+    let spans = captured(alloc, &engines.regex, input(row, cursor)?)?;
+    same(spans == row.spans, Fault::CapturesIter)?;
+    let spans = matches_in_turn(alloc, engines, row, cursor)?;
+    same(spans == row.spans, Fault::InTurn)
+}
+
+/// The spans of the matches.
+pub fn matches(alloc: Global, regex: &Regex, input: Input<Recut>) -> Result<Spans, Fault> {
+    let mut spans = Vec::new(alloc);
+    for found in regex.find_iter(alloc, input)? {
+        spans.push(pair_of(Some(found)))?;
+    }
+    Ok(spans)
+}
+
+/// The spans of the matches that come with their groups.
+fn captured(alloc: Global, regex: &Regex, input: Input<Recut>) -> Result<Spans, Fault> {
+    let mut spans = Vec::new(alloc);
+    for captures in regex.captures_iter(alloc, input)? {
+        spans.push(pair_of(captures?.get_match()))?;
+    }
+    Ok(spans)
+}
+
+/// The spans of the matches that each engine finds one after another, at most one more than are wanted. Each search starts where the
+/// match before ended.
+fn matches_in_turn(
+    alloc: Global,
+    engines: &Engines,
+    row: &Row,
+    cursor: Recut,
+) -> Result<Spans, Fault> {
+    let mut input = input(row, cursor)?;
+    let mut spans = Vec::new(alloc);
+    let mut last = None;
+    for _ in 0..=row.spans.len() {
+        let Some((start, end)) = next_match(alloc, engines, &mut input, last)? else {
+            break;
+        };
+        spans.push(Some((start, end)))?;
+        start_at(&mut input, end);
+        last = Some(end);
+    }
+    Ok(spans)
+}
+
+/// The next match. One that is empty and stands where the last ended gives way to the answer from a byte later.
+fn next_match(
+    alloc: Global,
+    engines: &Engines,
+    input: &mut Input<Recut>,
+    last: Option<usize>,
+) -> Result<Option<Pair>, Fault> {
+    let found = pair_of(engines.found(alloc, input)?);
+    if !is_again(last, found) {
+        return Ok(found);
+    }
+    if let Some(end) = last {
+        start_at(input, end.saturating_add(1));
+    }
+    Ok(pair_of(engines.found(alloc, input)?))
+}
+
+/// The pieces between matches are those wanted, with and without prefilters.
+pub fn pieces(alloc: Global, engines: &Engines, row: &Row, cursor: Recut) -> Result<(), Fault> {
+    let spans = split(alloc, &engines.regex, row.number, input(row, cursor)?)?;
+    same(spans == row.spans, Fault::Split)?;
+    let spans = split(alloc, &engines.unfiltered, row.number, input(row, cursor)?)?;
+    same(spans == row.spans, Fault::SplitUnfiltered)?;
+    let spans = split(alloc, &engines.tabled, row.number, input(row, cursor)?)?;
+    same(spans == row.spans, Fault::SplitByTables)
+}
+
+/// The pieces, so many at most.
+fn split(
+    alloc: Global,
+    regex: &Regex,
+    most: Option<usize>,
+    input: Input<Recut>,
+) -> Result<Spans, Fault> {
+    match most {
+        None => all_pieces(alloc, regex, input),
+        Some(most) => first_pieces(alloc, regex, most, input),
+    }
+}
+
+/// The pieces.
+fn all_pieces(alloc: Global, regex: &Regex, input: Input<Recut>) -> Result<Spans, Fault> {
+    let mut spans = Vec::new(alloc);
+    for piece in regex.split(alloc, input)? {
+        spans.push(Some((piece.start, piece.end)))?;
+    }
+    Ok(spans)
+}
+
+/// The pieces that a limit leaves.
+fn first_pieces(
+    alloc: Global,
+    regex: &Regex,
+    most: usize,
+    input: Input<Recut>,
+) -> Result<Spans, Fault> {
+    let mut spans = Vec::new(alloc);
+    for piece in regex.splitn(alloc, input, most)? {
+        spans.push(Some((piece.start, piece.end)))?;
+    }
+    Ok(spans)
+}

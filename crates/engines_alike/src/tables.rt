@@ -1,0 +1,202 @@
+//! The engines that search by tables of states: tables that are made at the build, and tables of states that are made as they are met.
+
+ghost use Rattle.std.specs.Prelude.{ℕ};
+ghost use Rattle.rc_hybrid.specs.Caches.{IsCacheFor, capacity_of};
+
+use crate::cursors::Recut;
+use crate::faults::{Fault, Part};
+use crate::inputs::{is_again, pair_of, start_at};
+use crate::row::{Pair, Quits};
+use rc_dfa::search as dfa;
+use rc_hybrid::cache::Cache;
+use rc_hybrid::search as hybrid;
+use rc_text::input::Input;
+use rc_text::types::{HalfMatch, Match, MatchError};
+use std::alloc::{AllocError, Global};
+use std::marker::Model;
+
+/// An engine that searches by tables of states.
+#[derive(Drop)]
+pub enum TableEngine {
+    /// All tables are made at the build.
+    Dfa(rc_dfa::regex::Regex),
+    /// States are made as they are met.
+    Hybrid(Hybrid),
+}
+
+/// A regex whose states are made as they are met, and one cache for all its searches.
+#[derive(Drop)]
+pub struct Hybrid {
+    regex: rc_hybrid::regex::Regex,
+    cache: Cache,
+    is_small: bool,
+}
+
+impl Model for Hybrid {
+    ghost Value = { ℕ };
+
+    ghost view = { λ h. capacity_of h.cache };
+
+    ghost invariant = { λ h. IsCacheFor h.regex h.cache };
+}
+
+impl Hybrid {
+    /// The regex with a cache; a small one may be too small for a search.
+    pub fn new(
+        alloc: Global,
+        regex: rc_hybrid::regex::Regex,
+        is_small: bool,
+    ) -> Result<Hybrid, AllocError> {
+        let cache = regex.create_cache(alloc)?;
+        Ok(Hybrid {
+            regex,
+            cache,
+            is_small,
+        })
+    }
+
+    /// The match that a search of the input finds.
+    fn find(&mut self, input: &mut Input<Recut>) -> Result<Option<Match>, MatchError> {
+        hybrid::find(&self.regex, &mut self.cache, input)
+    }
+
+    /// Where that match ends.
+    fn find_end(&mut self, input: &mut Input<Recut>) -> Result<Option<HalfMatch>, MatchError> {
+        hybrid::try_search_fwd(&self.regex, &mut self.cache, input)
+    }
+
+    /// The span of the next match. One that is empty and stands where the last ended gives way to the answer from a byte later.
+    fn next_match(
+        &mut self,
+        input: &mut Input<Recut>,
+        last: Option<usize>,
+    ) -> Result<Option<Pair>, MatchError> {
+        let found = pair_of(self.find(input)?);
+        if !is_again(last, found) {
+            return Ok(found);
+        }
+        if let Some(end) = last {
+            start_at(input, end.saturating_add(1));
+        }
+        Ok(pair_of(self.find(input)?))
+    }
+}
+
+/// The spans of the matches that were found one after another, and why no more were looked for, unless there are none.
+#[derive(Drop)]
+pub struct Listed {
+    pub spans: Vec<Option<Pair>>,
+    pub error: Option<MatchError>,
+}
+
+impl TableEngine {
+    /// The match that a search of the input finds.
+    pub fn find(&mut self, input: &mut Input<Recut>) -> Result<Option<Match>, MatchError> {
+        match self {
+            TableEngine::Dfa(regex) => dfa::find(regex, input),
+            TableEngine::Hybrid(hybrid) => hybrid.find(input),
+        }
+    }
+
+    /// Where that match ends.
+    pub fn find_end(&mut self, input: &mut Input<Recut>) -> Result<Option<HalfMatch>, MatchError> {
+        match self {
+            TableEngine::Dfa(regex) => dfa::try_search_fwd(regex.forward(), input),
+            TableEngine::Hybrid(hybrid) => hybrid.find_end(input),
+        }
+    }
+
+    /// The matches one after another, or a beginning of them that is longer than so many.
+    pub fn list(
+        &mut self,
+        alloc: Global,
+        input: Input<Recut>,
+        many: usize,
+    ) -> Result<Listed, AllocError> {
+        match self {
+            TableEngine::Dfa(regex) => listed_by_dfa(alloc, regex, input),
+            TableEngine::Hybrid(hybrid) => listed_in_turn(alloc, hybrid, input, many),
+        }
+    }
+
+    /// This fault of a search by it.
+    pub fn fault(&self, part: Part) -> Fault {
+        match self {
+            TableEngine::Dfa(_) => Fault::Dfa(part),
+            TableEngine::Hybrid(hybrid) => {
+                if hybrid.is_small {
+                    Fault::SmallHybrid(part)
+                } else {
+                    Fault::Hybrid(part)
+                }
+            }
+        }
+    }
+
+    /// It may end a search by this error.
+    pub fn may_end_by(&self, error: MatchError, quits: Quits) -> bool {
+        match error {
+            MatchError::Quit { byte, offset } => match quits {
+                Quits::Nowhere => false,
+                Quits::At(at) => at == (usize::from(byte), offset),
+                Quits::Anywhere => true,
+            },
+            MatchError::GaveUp { memory, .. } => !memory && self.may_give_up(),
+        }
+    }
+
+    /// Its tables may be too small for a search.
+    fn may_give_up(&self) -> bool {
+        match self {
+            TableEngine::Dfa(_) => false,
+            TableEngine::Hybrid(hybrid) => hybrid.is_small,
+        }
+    }
+}
+
+/// The matches that the DFA's iterator gives.
+fn listed_by_dfa(
+    alloc: Global,
+    regex: &rc_dfa::regex::Regex,
+    input: Input<Recut>,
+) -> Result<Listed, AllocError> {
+    let mut listed = Listed {
+        spans: Vec::new(alloc),
+        error: None,
+    };
+    for item in dfa::find_iter(regex, input) {
+        match item {
+            Ok(found) => listed.spans.push(pair_of(Some(found)))?,
+            Err(error) => listed.error = Some(error),
+        }
+    }
+    Ok(listed)
+}
+
+/// The matches that are found one after another, at most one more than so many. Each search starts where the match before ended.
+fn listed_in_turn(
+    alloc: Global,
+    hybrid: &mut Hybrid,
+    mut input: Input<Recut>,
+    many: usize,
+) -> Result<Listed, AllocError> {
+    let mut spans = Vec::new(alloc);
+    let mut last = None;
+    for _ in 0..=many {
+        match hybrid.next_match(&mut input, last) {
+            Ok(None) => break,
+            Ok(Some((start, end))) => {
+                spans.push(Some((start, end)))?;
+                start_at(&mut input, end);
+                last = Some(end);
+            }
+            Err(error) => {
+                return Ok(Listed {
+                    spans,
+                    error: Some(error),
+                });
+            }
+        }
+    }
+    Ok(Listed { spans, error: None })
+}

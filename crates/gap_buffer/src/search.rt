@@ -1,0 +1,86 @@
+//! Searches in a text with a caret, as an editor makes them.
+ghost use Rattle.std.specs.Prelude.{◌≡◌, ◌≤◌, IfOk, filter, length};
+ghost use Rattle.gap_buffer.specs.Shown.{IsCacheOf, IsSearchedFrom, LeavesAll, found_from, last_before, matches_of, overlaps};
+
+use crate::buffer::GapBuffer;
+use crate::cursor::GapCursor;
+use regex_cursor::Input;
+use regex_cursor::engines::meta::{Cache, FindMatches, Regex};
+use regex_cursor::types::{Match, Span};
+use std::alloc::{AllocError, Global};
+
+/// The match that a search from the caret on finds, in a cache that was made for the regex. Assertions see the whole text. It takes no
+/// memory.
+pub fn next_match(text: &GapBuffer, regex: &Regex, cache: &mut Cache) -> Option<Match>
+    requires made { IsCacheOf regex.now cache.old }
+    ensures cache { IsCacheOf regex.now cache.new }
+    ensures found { result ≡ found_from regex.now text.now.content text.now.caret }
+{
+    let mut input = input_from(text, text.caret());
+    regex.search_with(cache, &mut input)
+}
+
+/// The last of the text's matches that begin before the caret. The matches are those of `Regex::find_iter` over the whole text, and
+/// are looked at from its start on, up to the caret. An `Err` is want of memory for the search's cache.
+pub fn previous_match(
+    alloc: Global,
+    text: &GapBuffer,
+    regex: &Regex,
+) -> Result<Option<Match>, AllocError>
+    ensures { IfOk result (λ m. m ≡ last_before text.now.caret (matches_of regex.now text.now.content)) }
+{
+    let caret = text.caret();
+    let mut last = None;
+    for found in all_matches(alloc, text, regex)? {
+        if found.start() >= caret {
+            return Ok(last);
+        }
+        last = Some(found);
+    }
+    Ok(last)
+}
+
+/// The text's matches with a byte in the window, also those that begin before it: each begins before the window's end, and ends after
+/// its start. The matches are those of `Regex::find_iter` over the whole text, in order. An `Err` is want of memory.
+pub fn matches_on_screen(
+    alloc: Global,
+    text: &GapBuffer,
+    regex: &Regex,
+    window: Span,
+) -> Result<Vec<Match>, AllocError>
+    ensures { IfOk result (λ ms. ms.items ≡ filter (overlaps window) (matches_of regex.now text.now.content)) }
+{
+    let mut shown = Vec::new(alloc);
+    for found in all_matches(alloc, text, regex)? {
+        if found.start() >= window.end {
+            return Ok(shown);
+        }
+        if found.end() > window.start {
+            shown.push(found)?;
+        }
+    }
+    Ok(shown)
+}
+
+/// The text, to be searched from a place on.
+fn input_from(text: &GapBuffer, at: usize) -> Input<GapCursor<'_>>
+    requires { at ≤ length text.now.content }
+    ensures start { result.span.start ≡ at }
+    ensures same { IsSearchedFrom text.now.content at result }
+{
+    let mut input = Input::new(text.cursor());
+    input.set_start(at);
+    input
+}
+
+/// All matches in the text.
+fn all_matches<'t>(
+    alloc: Global,
+    text: &'t GapBuffer,
+    regex: &'t Regex,
+) -> Result<FindMatches<'t, GapCursor<'t>>, AllocError>
+    ensures { IfOk result (LeavesAll regex.now text.now.content) }
+{
+    let matches = regex.find_iter(alloc, input_from(text, 0))?;
+    Ok(matches)
+}

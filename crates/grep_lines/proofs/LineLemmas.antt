@@ -1,0 +1,91 @@
+-- Only proofs use this file.
+-- A text is cut at its first newline.
+use Rattle.std.proofs.Common.{ℕ, ◌≡◌, ◌<◌, ◌-◌, ◌∙◌, ◌++◌, ◌∷◌, [], ◌==◌, Bool, false, true, List, Option, Some, None, IfSome, ap, arith, cond, refl, sym, subst, length, take, get_or, length-append, zero, suc}
+use Rattle.std.specs.Io.BufRead.{take_through, drop_through, DropsThrough}
+use Rattle.std.proofs.lemmas.Bool.{eqb-true, eqb-false}
+use Rattle.std.proofs.lemmas.List.{get_or_at, take_at}
+use Rattle.grep_lines.specs.Lines.{before_first, lines}
+use Rattle.grep_lines.specs.Selected.{TakesLine}
+
+abbrev HasNo : List ℕ → Type 0
+HasNo xs = (k : ℕ) → k < length xs → get_or xs k 0 ≡ 10 → ⊥
+
+-- A text is empty, or one line without its newline, or begins with a line that has one.
+data Parts (xs : List ℕ) : Type 0 where
+  none : xs ≡ [] → Parts xs
+  whole : lines xs ≡ xs ∷ [] → take_through 10 xs ≡ xs → drop_through 10 xs ≡ [] → HasNo xs → Parts xs
+  cut : (line : List ℕ) → take_through 10 xs ≡ line ++ 10 ∷ [] → lines xs ≡ line ∷ lines (drop_through 10 xs) → Parts xs
+
+has_no_more : (x : ℕ) (xs : List ℕ) → (x ≡ 10 → ⊥) → HasNo xs → HasNo (x ∷ xs)
+has_no_more x xs ne free zero lt e = ne e
+has_no_more x xs ne free (suc k) lt e = free k (omega (arith, lt)) e
+
+module _ (x : ℕ) (xs : List ℕ) where
+  through : Bool → List ℕ
+  through b = cond b (x ∷ []) (x ∷ take_through 10 xs)
+
+  step_other : (x == 10) ≡ false → Parts xs → Parts (x ∷ xs)
+  step_other e (none n) =
+      whole
+      (ap (λ c. cond c ([] ∷ lines xs) (before_first x (lines xs))) e ∙ ap (λ ys. before_first x (lines ys)) n ∙ ap (λ ys. (x ∷ ys) ∷ []) (sym n))
+      (ap (λ c. cond c (x ∷ []) (x ∷ take_through 10 xs)) e ∙ ap (λ ys. x ∷ take_through 10 ys) n ∙ ap (λ ys. x ∷ ys) (sym n))
+      (ap (λ c. cond c xs (drop_through 10 xs)) e ∙ ap (drop_through 10) n)
+      (has_no_more x xs (eqb-false x 10 e) (subst HasNo (sym n) (λ k lt. absurd (omega (arith, lt)))))
+  step_other e (whole l t d free) =
+      whole
+      (ap (λ c. cond c ([] ∷ lines xs) (before_first x (lines xs))) e ∙ ap (before_first x) l)
+      (ap (λ c. cond c (x ∷ []) (x ∷ take_through 10 xs)) e ∙ ap (λ ys. x ∷ ys) t)
+      (ap (λ c. cond c xs (drop_through 10 xs)) e ∙ d)
+      (has_no_more x xs (eqb-false x 10 e) free)
+  step_other e (cut line t l) =
+      cut (x ∷ line)
+      (ap (λ c. cond c (x ∷ []) (x ∷ take_through 10 xs)) e ∙ ap (λ ys. x ∷ ys) t)
+      (ap (λ c. cond c ([] ∷ lines xs) (before_first x (lines xs))) e ∙ ap (before_first x) l
+      ∙ ap (λ ys. (x ∷ line) ∷ lines ys) (sym (ap (λ c. cond c xs (drop_through 10 xs)) e)))
+
+  step_newline : (x == 10) ≡ true → Parts (x ∷ xs)
+  step_newline e =
+      cut []
+      (ap (λ c. cond c (x ∷ []) (x ∷ take_through 10 xs)) e ∙ ap (λ y. y ∷ []) (eqb-true x 10 e))
+      (ap (λ c. cond c ([] ∷ lines xs) (before_first x (lines xs))) e ∙ ap (λ ys. [] ∷ lines ys) (sym (ap (λ c. cond c xs (drop_through 10 xs)) e)))
+
+  step : (b : Bool) → (x == 10) ≡ b → Parts xs → Parts (x ∷ xs)
+  step true e p = step_newline e
+  step false e p = step_other e p
+
+parts : (xs : List ℕ) → Parts xs
+parts [] = none refl
+parts (x ∷ xs) = step x xs (x == 10) refl (parts xs)
+
+module _ (new : Option (List ℕ)) (items : List ℕ) (some : 0 < length items) where
+  -- the line was read with its newline
+  cut_at : (xs : List ℕ) → Parts xs → items ≡ take_through 10 xs → new ≡ Some (drop_through 10 xs) → get_or items (length items - 1) 0 ≡ 10 →
+      TakesLine xs true (take (length items - 1) items) new
+  cut_at xs (none n) i d last = absurd (omega (arith, some, ap length (i ∙ ap (take_through 10) n)))
+  cut_at xs (whole l t w free) i d last =
+      absurd (free (length items - 1) (omega (arith, some, ap length (i ∙ t))) (ap (λ ys. get_or ys (length items - 1) 0) (sym (i ∙ t)) ∙ last))
+  cut_at xs (cut line t l) i d last =
+      let sized : length line ≡ length items - 1 = omega (arith, ap length (i ∙ t), length-append line (10 ∷ [])) in (
+        drop_through 10 xs,
+        d,
+        l ∙ ap (λ ys. ys ∷ lines (drop_through 10 xs)) (sym (ap (take (length items - 1)) (i ∙ t) ∙ take_at line (10 ∷ []) (length items - 1) sized)),
+      )
+
+  -- it has none
+  whole_at : (xs : List ℕ) → Parts xs → items ≡ take_through 10 xs → new ≡ Some (drop_through 10 xs) → (get_or items (length items - 1) 0 ≡ 10 → ⊥) →
+      TakesLine xs true items new
+  whole_at xs (none n) i d other = absurd (omega (arith, some, ap length (i ∙ ap (take_through 10) n)))
+  whole_at xs (whole l t w free) i d other = ([], d ∙ ap Some w, l ∙ ap (λ ys. ys ∷ []) (sym (i ∙ t)))
+  whole_at xs (cut line t l) i d other =
+      let sized : length line ≡ length items - 1 = omega (arith, ap length (i ∙ t), length-append line (10 ∷ [])) in
+      absurd (other (ap (λ ys. get_or ys (length items - 1) 0) (i ∙ t) ∙ get_or_at line 10 [] 0 (length items - 1) sized))
+
+  pub takes_cut : (old : Option (List ℕ)) → IfSome old (λ xs. items ≡ take_through 10 xs) → DropsThrough old new 10 →
+      get_or items (length items - 1) 0 ≡ 10 → IfSome old (λ xs. TakesLine xs true (take (length items - 1) items) new)
+  takes_cut None i d last = tt
+  takes_cut (Some xs) i d last = cut_at xs (parts xs) i d last
+
+  pub takes_whole : (old : Option (List ℕ)) → IfSome old (λ xs. items ≡ take_through 10 xs) → DropsThrough old new 10 →
+      (get_or items (length items - 1) 0 ≡ 10 → ⊥) → IfSome old (λ xs. TakesLine xs true items new)
+  takes_whole None i d other = tt
+  takes_whole (Some xs) i d other = whole_at xs (parts xs) i d other

@@ -1,0 +1,32 @@
+-- Only proofs use this file.
+-- Lines that were skipped, one after another.
+use Rattle.std.proofs.Common.{ℕ, ◌≡◌, ◌+◌, ◌∙◌, ◌++◌, ◌∷◌, [], Bool, false, true, List, Option, Some, None, IfSome, ap, arith, append_assoc, cond, refl, sym, subst, length-append}
+use Rattle.std.specs.List.{filter}
+use Rattle.std.proofs.lemmas.List.{append-nil}
+use Rattle.std.proofs.lemmas.List.Elements.{filter-append}
+use Rattle.grep_lines.specs.Lines.{lines}
+use Rattle.grep_lines.specs.Selected.{AreSkipped, TakesLine}
+
+module _ (p : List ℕ → Bool) where
+  pub skipped_none : (old : Option (List ℕ)) → IfSome old (λ text. AreSkipped p text 0 old)
+  skipped_none None = tt
+  skipped_none (Some xs) = record { rest = xs; known = refl; skipped = []; parts = refl; counted = refl; unselected = refl }
+
+  module _ (n : ℕ) (mid new : Option (List ℕ)) (line : List ℕ) where
+    more : (xs : List ℕ) → AreSkipped p xs n mid → IfSome mid (λ text. TakesLine text true line new) → p line ≡ false → AreSkipped p xs (n + 1) new
+    more xs s t other =
+        let taken : TakesLine s.rest true line new = subst (λ o. IfSome o (λ text. TakesLine text true line new)) s.known t in
+        record {
+          rest = taken.0;
+          known = taken.1;
+          skipped = s.skipped ++ line ∷ [];
+          parts = s.parts ∙ ap (λ ls. s.skipped ++ ls) taken.2 ∙ sym (append_assoc s.skipped (line ∷ []) (lines taken.0));
+          counted = omega (arith, s.counted, length-append s.skipped (line ∷ []));
+          unselected =
+              filter-append p s.skipped (line ∷ []) ∙ ap (λ b. filter p s.skipped ++ cond b (line ∷ []) []) other ∙ append-nil (filter p s.skipped) ∙ s.unselected;
+        }
+
+    pub skip_more : (old : Option (List ℕ)) → IfSome old (λ text. AreSkipped p text n mid) → IfSome mid (λ text. TakesLine text true line new) →
+        p line ≡ false → IfSome old (λ text. AreSkipped p text (n + 1) new)
+    skip_more None s t other = tt
+    skip_more (Some xs) s t other = more xs s t other

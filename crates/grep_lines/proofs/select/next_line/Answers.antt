@@ -1,0 +1,32 @@
+use Rattle.std.proofs.Common.{◌≡◌, ◌<◌, ◌-◌, ◌++◌, ◌∙◌, true, length, take, get_or, IfSome, arith, ap, subst, sym}
+use Rattle.std.specs.Io.BufRead.{take_through}
+use Rattle.std.proofs.lemmas.List.{get_or_read}
+use Rattle.grep_lines.specs.Selected.{TakesLine}
+use Rattle.grep_lines.proofs.LineLemmas.{takes_cut, takes_whole}
+use Rattle.grep_lines.proofs.select.next_line.Goals as goal
+
+pub returns-then-index-eq10 : goal.returns-then-index-eq10
+returns-then-index-eq10 g c =
+    let old = g.R.Read.remaining c.args.reader.now in
+    let new = g.R.Read.remaining c.read_until.new.self in
+    let items = c.read_until.new.buf.items in
+    let read = c.in_ok-read_until.ensures in
+    let sized : c.len-last.result ≡ length items = c.len-last.ensures ∙ c.read_until.new.buf.ok.0 in
+    let some : 0 < length items = omega (arith, read.ok, c.if-branch-eq0.false, c.read_until.new.buf.ok.0) in
+    let told : IfSome old (λ xs. items ≡ take_through 10 xs) = subst (λ zs. IfSome old (λ xs. items ≡ zs ++ take_through 10 xs)) c.clear.ensures.items read.bytes in
+    let at_last = get_or_read items (c.len-last.result - 1) c.index.result.now (omega (arith, sized, some)) c.index.ensures 0 in
+    let last : get_or items (length items - 1) 0 ≡ 10 = ap (λ n. get_or items (n - 1) 0) (sym sized) ∙ sym at_last ∙ c.if-index-eq10.true in
+    let kept : take (length items - 1) items ≡ c.truncate.new.self.items = sym (c.truncate.ensures.items ∙ ap (λ n. take (n - 1) items) sized) in
+    subst (λ line. IfSome old (λ xs. TakesLine xs true line new)) kept (takes_cut new items some old told read.rest last)
+
+pub returns : goal.returns
+returns g c =
+    let old = g.R.Read.remaining c.args.reader.now in
+    let new = g.R.Read.remaining c.read_until.new.self in
+    let items = c.read_until.new.buf.items in
+    let read = c.in_ok-read_until.ensures in
+    let sized : c.len-last.result ≡ length items = c.len-last.ensures ∙ c.read_until.new.buf.ok.0 in
+    let some : 0 < length items = omega (arith, read.ok, c.if-branch-eq0.false, c.read_until.new.buf.ok.0) in
+    let told : IfSome old (λ xs. items ≡ take_through 10 xs) = subst (λ zs. IfSome old (λ xs. items ≡ zs ++ take_through 10 xs)) c.clear.ensures.items read.bytes in
+    let at_last = get_or_read items (c.len-last.result - 1) c.index.result.now (omega (arith, sized, some)) c.index.ensures 0 in
+    takes_whole new items some old told read.rest (λ last. c.if-index-eq10.false (at_last ∙ ap (λ n. get_or items (n - 1) 0) sized ∙ last))

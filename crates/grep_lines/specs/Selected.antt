@@ -1,0 +1,27 @@
+-- Which lines are selected.
+use Rattle.std.specs.Prelude.{◌≡◌, ℕ, ◌+◌, Bool, false, true, List, [], ◌∷◌, ◌++◌, Option, Some, filter, length}
+use Rattle.grep_lines.specs.Lines.{lines}
+
+-- The first line of a text was read, and `left` holds the others; or there is no line.
+abbrev pub TakesLine : List ℕ → Bool → (line : List ℕ) (left : Option (List ℕ)) → Type 0
+TakesLine text true line left = (rest : List ℕ) × (left ≡ Some rest) × (lines text ≡ line ∷ lines rest)
+TakesLine text false line left = lines text ≡ []
+
+-- None of the lines before what is left is selected.
+pub record AreSkipped (picks : List ℕ → Bool) (text : List ℕ) (count : ℕ) (left : Option (List ℕ)) : Type 0 where
+  pub rest : List ℕ
+  pub known : left ≡ Some rest
+  pub skipped : List (List ℕ)
+  pub parts : lines text ≡ skipped ++ lines rest
+  pub counted : count ≡ length skipped
+  pub unselected : filter picks skipped ≡ []
+
+-- The line is the first that is selected, and the n-th of all; `left` holds the text after it.
+pub record IsNextSelected (picks : List ℕ → Bool) (text line : List ℕ) (left : Option (List ℕ)) (n : ℕ) : Type 0 where
+  pub rest : List ℕ
+  pub known : left ≡ Some rest
+  pub skipped : List (List ℕ)
+  pub parts : lines text ≡ skipped ++ line ∷ lines rest
+  pub counted : n ≡ length skipped + 1
+  pub unselected : filter picks skipped ≡ []
+  pub selected : picks line ≡ true

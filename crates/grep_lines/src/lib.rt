@@ -1,0 +1,6 @@
+//! The lines of what is read, and which of them are selected.
+#![tactic(auto)]
+
+pub mod select;
+
+pub use select::{LineSelector, next_line, next_selected};

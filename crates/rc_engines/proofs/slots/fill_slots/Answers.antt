@@ -1,0 +1,10 @@
+use Rattle.std.proofs.Common.{length, arith}
+use Rattle.rc_engine.specs.Engine.{engine_search}
+use Rattle.rc_engines.proofs.SlotLemmas.{span_told}
+use Rattle.rc_engines.proofs.slots.fill_slots.Goals as goal
+
+pub returns-then-slots-saturating_mul-clause-slots : goal.returns-then-slots-saturating_mul-clause-slots
+returns-then-slots-saturating_mul-clause-slots g c =
+    span_told c.args.engine.now.kind (engine_search c.args.engine.now c.args.input.now) c.args.found (length c.args.slots.now) c.args.patterns
+    c.put_span-then-slots-saturating_mul.new.slots c.in-LeftmostFirst.is c.requires.numbered (omega arith) c.requires.found
+    c.put_span-then-slots-saturating_mul.ensures

@@ -1,0 +1,16 @@
+-- The search over the span of a match alone.
+use Rattle.std.specs.Prelude.{◌≡◌, ℕ, Some}
+use Rattle.rc_text.specs.Found.{Found}
+use Rattle.rc_program.specs.Answer.{Search, Chosen, IsAnswer, by_pattern, found, answer, groups}
+
+-- the same search over the span of a match, for the match's pattern alone
+abbrev pub narrowed : Search → Found → Search
+narrowed s m = record s { lo = m.start; hi = m.end; anchoring = by_pattern m.pattern }
+
+-- what it answers, where the match is the search's answer
+pub record NarrowLaw : Type 0 where
+  -- the same walk
+  pub walk : (s : Search) (c : Chosen) → IsAnswer s c → IsAnswer (narrowed s (found s c)) c
+  pub match : (s : Search) (m : Found) → answer s ≡ Some m → answer (narrowed s m) ≡ Some m
+  -- with the same groups
+  pub groups : (s : Search) (m : Found) (n : ℕ) → answer s ≡ Some m → groups (narrowed s m) n ≡ groups s n

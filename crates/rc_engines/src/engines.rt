@@ -1,0 +1,687 @@
+//! Patterns that can be searched for, by tables where there are some.
+ghost use Rattle.std.specs.Prelude.{◌≡◌, IfSome, IsTrue, option_map};
+ghost use Rattle.rc_text.specs.Found.{half_of};
+ghost use Rattle.rc_program.specs.Matches.{begin_of, end_of, is_again};
+ghost use Rattle.rc_program.specs.Places.{places_of};
+ghost use Rattle.rc_engines.specs.Slots.{NamesGroups};
+ghost use Rattle.rc_engines.specs.Spans.{BoundsWalks};
+ghost use Rattle.rc_engines.specs.Tables.{MayBeLazyFor, MayBeTablesFor};
+
+use crate::cache::Cache;
+use crate::slots::fill_slots;
+use crate::spans::Spans;
+use crate::tables::{fast_guards_of, tables_of};
+use rc_automaton::halves::Halves;
+use rc_captures::captures;
+use rc_captures::captures::Captures;
+use rc_dense::dense::{Dense, NoCache};
+use rc_engine::engine::Engine;
+use rc_engine::strategy::guards_of;
+use rc_lazy::lazy;
+use rc_lazy::lazy::Lazy;
+use rc_literal::prefilter::Prefilter;
+use rc_spans::guarded::{find_end_guarded, find_guarded};
+use rc_spans::search;
+use rc_spans::search::Aim;
+use rc_text::cursor::Cursor;
+use rc_text::input::{Input, high, low};
+use rc_text::types::{Anchored, HalfMatch, Match, MatchError, MatchKind, PatternID, Span};
+use std::alloc::{AllocError, Global};
+
+/// A text whose bounds lie fewer bytes apart is searched by the ordered pass where a cache would have to be made for tables: to meet their states
+/// takes longer than to pass over so few bytes.
+const SHORT: usize = 1024;
+
+/// Which tables may be made.
+#[derive(Clone, Copy, Debug, PartialEq, Eq)]
+pub struct Limits {
+    /// Whether tables of all states may.
+    pub dfa: bool,
+    /// How many places the byte program may have at most for tables of all states. With None it may have any number.
+    pub state_limit: Option<usize>,
+    /// How many bytes what holds all states of one direction may weigh at most. With None it may weigh anything.
+    pub size_limit: Option<usize>,
+    /// Whether tables may whose states are made as they are met.
+    pub hybrid: bool,
+    /// How many bytes the states that were met may weigh in each direction, before all are let go.
+    pub capacity: usize,
+    /// Whether bytes that no step tells apart are of one class.
+    pub byte_classes: bool,
+}
+
+/// The engines by which some patterns are searched for: tables of all states or of those that were met, where there are some, and the ordered
+/// pass.
+#[derive(Drop)]
+pub struct Engines {
+    /// The ordered pass, and the needles.
+    pub engine: Engine,
+    tables: Option<Dense>,
+    lazy: Option<Lazy>,
+    patterns: usize,
+    spans: Spans,
+    ghost fit: { ∥ MayBeTablesFor engine patterns tables ∥₁ },
+    ghost lazy_fit: { ∥ MayBeLazyFor engine patterns lazy ∥₁ },
+    ghost numbered: { NamesGroups patterns (places_of engine.program.places.items) },
+    ghost bound: { BoundsWalks spans (places_of engine.program.places.items) },
+}
+
+impl Engines {
+    ghost use Rattle.std.specs.Prelude.{◌≡◌, ◌⊎◌, ◌↔◌, ◌≤◌, ⊤, IsTrue, IfOk, IfSome, MatchOption, Option, Some, None, List, length, is_some};
+    ghost use Rattle.std.specs.Option.{option_map};
+    ghost use Rattle.rc_text.specs.Found.{Found, half_of};
+    ghost use Rattle.rc_pattern.specs.Re.{Re};
+    ghost use Rattle.rc_literal.specs.Guards.{Guards};
+    ghost use Rattle.rc_literal.specs.Prefilters.{needles_of};
+    ghost use Rattle.rc_engine.specs.Walks.{next_start};
+    ghost use Rattle.rc_captures.specs.Captures.{captures_names, captures_pattern, captures_slots};
+    ghost use Rattle.rc_engine.specs.Tells.{TellsBy};
+    ghost use Rattle.rc_pass.specs.KindSlots.{slots_by};
+    ghost use Rattle.rc_program.specs.Kinds.{answer_by, answer_by_from};
+    ghost use Rattle.rc_program.specs.Laws.{heaviness};
+    ghost use Rattle.rc_program.specs.Places.{places_of};
+    ghost use Rattle.rc_program.specs.Program.{program};
+    ghost use Rattle.rc_text.specs.Text.{Keeps, low, high};
+    ghost use Rattle.rc_program.specs.Matches.{begin_of, end_of, next_match};
+    ghost use Rattle.rc_engine.specs.Engine.{engine_search};
+    ghost use Rattle.rc_engine.specs.Moved.{IsMoved};
+    ghost use Rattle.rc_text.specs.declared.types.MatchKind.TheVariants.{LeftmostFirst};
+    ghost use Rattle.rc_engines.specs.Caches.{IsCacheIn, IsCacheOfBoth, IsSameCacheIn, KeepsStates};
+    ghost use Rattle.rc_engines.specs.Limits.{AreBarred, AreTooHeavy, IsLazyBarred};
+    ghost use Rattle.rc_engines.specs.Plans.{IsLazyFor, IsShortFor, plan_of};
+    ghost use Rattle.rc_engines.specs.Spans.{BoundsWalks, IsOneLength, SeeksFromEnd};
+    ghost use Rattle.rc_engines.specs.Tables.{AreHalvesFor, aim_of, bytes_taken};
+
+    /// The engines of so many patterns, whose program `engine` searches, with tables where the limits allow some. An `Err` is want of memory.
+    ///
+    /// Tables of all states are made where `dfa` is set, the byte program has no more places than `state_limit`, and in each direction what holds
+    /// the states weighs no more than `size_limit`; and none where needles alone tell each answer. Where none are, tables whose states are made
+    /// as they are met are there if `hybrid` is set and `capacity` is no less than the least that serves. `spans` is what the patterns' spans
+    /// keep to.
+    pub fn new(
+        alloc: Global,
+        engine: Engine,
+        patterns: usize,
+        spans: Spans,
+        limits: Limits,
+    ) -> Result<Engines, AllocError>
+        ghost hs: { List Re }
+        requires spans { BoundsWalks spans (places_of engine.program.places.items) }
+        requires program { places_of engine.program.places.items ≡ program hs }
+        requires patterns { patterns ≡ length hs }
+        requires light { heaviness (places_of engine.program.places.items) ≤ 2147483646 }
+        ensures engine { IfOk result (λ engines. engines.engine ≡ engine) }
+        ensures barred { AreBarred engine hs limits → IfOk result (λ engines. engines.tables ≡ None) }
+        ensures none { IfOk result (λ engines. engines.tables ≡ None → AreBarred engine hs limits ⊎ AreTooHeavy engine hs limits) }
+        ensures planned { IfOk result (λ engines. IfSome engines.lazy (IsLazyFor (plan_of engine hs limits))) }
+        ensures lazy_barred { IfOk result (λ engines. IsLazyBarred engine limits engines.tables → engines.lazy ≡ None) }
+        ensures lazy_none { IfOk result (λ engines. engines.lazy ≡ None → IsLazyBarred engine limits engines.tables ⊎ IsShortFor (plan_of engine hs limits)) }
+    {
+        let tables = tables_of(alloc, &engine, patterns, limits)?;
+        Ok(Engines {
+            engine,
+            tables: tables.dense,
+            lazy: tables.lazy,
+            patterns,
+            spans,
+        })
+    }
+
+    /// Whether there are tables of all states.
+    pub fn has_tables(&self) -> bool
+        ensures { result ≡ is_some self.now.tables }
+    {
+        self.tables.is_some()
+    }
+
+    /// How many bytes the tables of all states take, or `usize::MAX` where that is more; 0 where there are none.
+    pub fn memory_usage(&self) -> usize
+        ensures { result ≡ bytes_taken self.now.tables }
+    {
+        match &self.tables {
+            Some(tables) => tables.memory_usage(),
+            None => 0,
+        }
+    }
+
+    /// A cache for searches by these engines, with at most so many slots: for the pass, and for the tables whose states are made as they are met,
+    /// where there are some. An `Err` is want of memory.
+    pub fn create_cache(&self, alloc: Global, slots: usize) -> Result<Cache, AllocError>
+        ensures made { IfOk result (IsCacheIn self.now slots) }
+        ensures both { IfOk result (λ cache. is_some cache.lazy ≡ is_some self.now.lazy) }
+    {
+        let pass = self.engine.create_cache(alloc, slots)?;
+        let Some(tables) = &self.lazy else {
+            return Ok(Cache { pass, lazy: None });
+        };
+        let states = tables.create_cache(alloc)?;
+        Ok(Cache {
+            pass,
+            lazy: Some(states),
+        })
+    }
+
+    /// What a search by tables seeks.
+    fn aim(&self) -> Aim
+        ensures { result ≡ aim_of self.now.engine self.now.patterns }
+    {
+        Aim {
+            kind: self.engine.kind,
+            patterns: self.patterns,
+            passes_over: self.engine.program.passes_over,
+            earliest: false,
+        }
+    }
+
+    /// Whether the preferred match is sought from where the search ends: each match ends where the slice does, not each begins where it
+    /// does, and the search isn't anchored.
+    fn seeks_from_end<C: Cursor>(&self, input: &Input<C>) -> bool
+        ensures { IsTrue result ↔ SeeksFromEnd self.now.engine.kind self.now.spans input.now }
+    {
+        match (self.engine.kind, input.get_anchored()) {
+            (MatchKind::LeftmostFirst, Anchored::No) => self.spans.end_alone(),
+            _ => false,
+        }
+    }
+
+    /// The preferred match, sought from where the search ends. An `Err` says why the tables tell none.
+    fn find_from_end<H: Halves, C: Cursor>(
+        &self,
+        halves: &H,
+        cache: &mut H::Cache,
+        input: &mut Input<C>,
+    ) -> Result<Option<Match>, MatchError>
+        requires own { ∥ AreHalvesFor self.now.engine self.now.patterns (H.AreOf halves.now) ∥₁ }
+        requires cache { H.IsCache halves.now cache.old }
+        requires from_end { SeeksFromEnd self.now.engine.kind self.now.spans input.old }
+        ensures cache { H.IsCache halves.now cache.new }
+        ensures keeps { Keeps input.old input.new }
+        ensures found { IfOk result (λ found. found ≡ answer_by self.now.engine.kind (engine_search self.now.engine input.old)) }
+        ensures within { IfOk result (λ found. IfSome found (λ m. (low input.old ≤ m.start) × (m.start ≤ m.end) × (m.end ≤ high input.old))) }
+    {
+        search::find_to_end(halves, cache, input, self.aim())
+    }
+
+    /// The match that the tables tell: from where the search ends, where each match ends there; else from needle to needle where needles
+    /// guard the patterns, and without a search backwards where each match is of one length. An `Err` says why they tell none.
+    fn find_by_tables<H: Halves, C: Cursor>(
+        &self,
+        halves: &H,
+        cache: &mut H::Cache,
+        input: &mut Input<C>,
+    ) -> Result<Option<Match>, MatchError>
+        requires own { ∥ AreHalvesFor self.now.engine self.now.patterns (H.AreOf halves.now) ∥₁ }
+        requires cache { H.IsCache halves.now cache.old }
+        ensures cache { H.IsCache halves.now cache.new }
+        ensures keeps { Keeps input.old input.new }
+        ensures found { IfOk result (λ found. found ≡ answer_by self.now.engine.kind (engine_search self.now.engine input.old)) }
+        ensures within { IfOk result (λ found. IfSome found (λ m. (low input.old ≤ m.start) × (m.start ≤ m.end) × (m.end ≤ high input.old))) }
+    {
+        if self.seeks_from_end(input) {
+            return self.find_from_end(halves, cache, input);
+        }
+        if let Some(length) = self.only_length() {
+            return self.find_of_length(halves, cache, input, length);
+        }
+        let fast = fast_guards_of(&self.engine.strategy);
+        match self.find_along(halves, cache, input, fast) {
+            Ok(found) => Ok(found),
+            Err(MatchError::GaveUp { offset, memory }) => {
+                return Err(MatchError::GaveUp { offset, memory });
+            }
+            Err(MatchError::Quit { byte, offset }) => {
+                // From needle to needle fewer bytes are read, and so fewer that tables don't read.
+                let guards = guards_of(&self.engine.strategy);
+                if fast.is_some() || guards.is_none() {
+                    return Err(MatchError::Quit { byte, offset });
+                }
+                let found = self.find_along(halves, cache, input, guards)?;
+                Ok(found)
+            }
+        }
+    }
+
+    /// The match that the tables tell, from needle to needle where some are given. An `Err` says why they tell none.
+    fn find_along<H: Halves, C: Cursor>(
+        &self,
+        halves: &H,
+        cache: &mut H::Cache,
+        input: &mut Input<C>,
+        needles: Option<&Prefilter>,
+    ) -> Result<Option<Match>, MatchError>
+        requires own { ∥ AreHalvesFor self.now.engine self.now.patterns (H.AreOf halves.now) ∥₁ }
+        requires cache { H.IsCache halves.now cache.old }
+        requires guards { MatchOption needles ⊤ (λ p. Guards (places_of self.now.engine.program.places.items) self.now.engine.program.terminator (needles_of p.now)) }
+        ensures cache { H.IsCache halves.now cache.new }
+        ensures keeps { Keeps input.old input.new }
+        ensures found { IfOk result (λ found. found ≡ answer_by self.now.engine.kind (engine_search self.now.engine input.old)) }
+        ensures within { IfOk result (λ found. IfSome found (λ m. (low input.old ≤ m.start) × (m.start ≤ m.end) × (m.end ≤ high input.old))) }
+    {
+        let aim = self.aim();
+        match needles {
+            Some(needles) => find_guarded(halves, cache, input, aim, needles),
+            None => search::find(halves, cache, input, aim),
+        }
+    }
+
+    /// The end of the preferred match, and its pattern, which the tables tell by searches forwards alone. An `Err` says why they tell none.
+    fn find_first_end<H: Halves, C: Cursor>(
+        &self,
+        halves: &H,
+        cache: &mut H::Cache,
+        input: &mut Input<C>,
+    ) -> Result<Option<HalfMatch>, MatchError>
+        requires own { ∥ AreHalvesFor self.now.engine self.now.patterns (H.AreOf halves.now) ∥₁ }
+        requires cache { H.IsCache halves.now cache.old }
+        requires kind { self.now.engine.kind ≡ LeftmostFirst }
+        ensures cache { H.IsCache halves.now cache.new }
+        ensures keeps { Keeps input.old input.new }
+        ensures found { IfOk result (λ found. found ≡ option_map half_of (answer_by self.now.engine.kind (engine_search self.now.engine input.old))) }
+        ensures within { IfOk result (λ found. IfSome found (λ half. (low input.old ≤ half.offset) × (half.offset ≤ high input.old))) }
+    {
+        let aim = self.aim();
+        match fast_guards_of(&self.engine.strategy) {
+            Some(needles) => find_end_guarded(halves, cache, input, aim, needles),
+            None => search::find_end(halves, cache, input, aim),
+        }
+    }
+
+    /// The preferred match, where each is of this length: from where it ends nothing is searched backwards. An `Err` says why the tables
+    /// tell none.
+    fn find_of_length<H: Halves, C: Cursor>(
+        &self,
+        halves: &H,
+        cache: &mut H::Cache,
+        input: &mut Input<C>,
+        length: usize,
+    ) -> Result<Option<Match>, MatchError>
+        requires own { ∥ AreHalvesFor self.now.engine self.now.patterns (H.AreOf halves.now) ∥₁ }
+        requires cache { H.IsCache halves.now cache.old }
+        requires kind { self.now.engine.kind ≡ LeftmostFirst }
+        requires length { IsOneLength self.now.spans length }
+        ensures cache { H.IsCache halves.now cache.new }
+        ensures keeps { Keeps input.old input.new }
+        ensures found { IfOk result (λ found. found ≡ answer_by self.now.engine.kind (engine_search self.now.engine input.old)) }
+        ensures within { IfOk result (λ found. IfSome found (λ m. (low input.old ≤ m.start) × (m.start ≤ m.end) × (m.end ≤ high input.old))) }
+    {
+        let Some(half) = self.find_first_end(halves, cache, input)? else {
+            return Ok(None);
+        };
+        let end = half.offset();
+        let start = end.saturating_sub(length);
+        Ok(Some(Match::new(half.pattern(), Span { start, end })))
+    }
+
+    /// The length of each match, where all are of one and the preferred one is sought.
+    fn only_length(&self) -> Option<usize>
+        ensures { IfSome result (λ n. (self.now.engine.kind ≡ LeftmostFirst) × IsOneLength self.now.spans n) }
+    {
+        match self.engine.kind {
+            MatchKind::LeftmostFirst => self.spans.only_length(),
+            MatchKind::All => None,
+        }
+    }
+
+    /// The end of the match that the tables tell, and its pattern. An `Err` says why they tell none. Where each match counts, the pattern is
+    /// known once the start is; and where each match ends where the search does, the end once there is a start.
+    fn find_end_by_tables<H: Halves, C: Cursor>(
+        &self,
+        halves: &H,
+        cache: &mut H::Cache,
+        input: &mut Input<C>,
+    ) -> Result<Option<HalfMatch>, MatchError>
+        requires own { ∥ AreHalvesFor self.now.engine self.now.patterns (H.AreOf halves.now) ∥₁ }
+        requires cache { H.IsCache halves.now cache.old }
+        ensures cache { H.IsCache halves.now cache.new }
+        ensures keeps { Keeps input.old input.new }
+        ensures found { IfOk result (λ found. found ≡ option_map half_of (answer_by self.now.engine.kind (engine_search self.now.engine input.old))) }
+        ensures within { IfOk result (λ found. IfSome found (λ half. (low input.old ≤ half.offset) × (half.offset ≤ high input.old))) }
+    {
+        if self.seeks_from_end(input) {
+            return Ok(half_of(self.find_from_end(halves, cache, input)?));
+        }
+        match self.engine.kind {
+            MatchKind::LeftmostFirst => self.find_first_end(halves, cache, input),
+            MatchKind::All => Ok(half_of(self.find_by_tables(halves, cache, input)?)),
+        }
+    }
+
+    /// Whether the tables tell a match. An `Err` says why they tell nothing. Unless needles guard the patterns or matches are passed over,
+    /// nothing is read beyond the first position at which some match ends.
+    fn any_by_tables<H: Halves, C: Cursor>(
+        &self,
+        halves: &H,
+        cache: &mut H::Cache,
+        input: &mut Input<C>,
+    ) -> Result<bool, MatchError>
+        requires own { ∥ AreHalvesFor self.now.engine self.now.patterns (H.AreOf halves.now) ∥₁ }
+        requires cache { H.IsCache halves.now cache.old }
+        ensures cache { H.IsCache halves.now cache.new }
+        ensures keeps { Keeps input.old input.new }
+        ensures found { IfOk result (λ b. b ≡ is_some (answer_by self.now.engine.kind (engine_search self.now.engine input.old))) }
+    {
+        if self.seeks_from_end(input) || fast_guards_of(&self.engine.strategy).is_some() {
+            return Ok(self.find_end_by_tables(halves, cache, input)?.is_some());
+        }
+        let aim = Aim {
+            earliest: true,
+            ..self.aim()
+        };
+        let half = search::find_end(halves, cache, input, aim)?;
+        Ok(half.is_some())
+    }
+
+    /// Whether tables tell a match: those of all states, or else those whose states the cache holds. With None there are neither, or they tell nothing.
+    fn any_in<C: Cursor>(
+        &self,
+        cache: &mut Option<lazy::Cache>,
+        input: &mut Input<C>,
+    ) -> Option<bool>
+        requires made { IsCacheOfBoth self.now.lazy cache.old }
+        ensures keeps { Keeps input.old input.new }
+        ensures found { IfSome result (λ b. b ≡ is_some (answer_by self.now.engine.kind (engine_search self.now.engine input.old))) }
+        ensures cache { KeepsStates self.now.lazy cache.old cache.new }
+    {
+        if let Some(tables) = &self.tables {
+            return self.any_by_tables(tables, &mut NoCache, input).ok();
+        }
+        let Some(tables) = &self.lazy else {
+            return None;
+        };
+        let Some(states) = cache else {
+            return None;
+        };
+        self.any_by_tables(tables, states, input).ok()
+    }
+
+    /// The match that tables tell: those of all states, or else those whose states the cache holds. With None there are neither, or they tell none.
+    fn find_in<C: Cursor>(
+        &self,
+        cache: &mut Option<lazy::Cache>,
+        input: &mut Input<C>,
+    ) -> Option<Option<Match>>
+        requires made { IsCacheOfBoth self.now.lazy cache.old }
+        ensures keeps { Keeps input.old input.new }
+        ensures found { IfSome result (λ found. found ≡ answer_by self.now.engine.kind (engine_search self.now.engine input.old)) }
+        ensures within { IfSome result (λ found. IfSome found (λ m. (low input.old ≤ m.start) × (m.start ≤ m.end) × (m.end ≤ high input.old))) }
+        ensures cache { KeepsStates self.now.lazy cache.old cache.new }
+    {
+        if let Some(tables) = &self.tables {
+            return self.find_by_tables(tables, &mut NoCache, input).ok();
+        }
+        let Some(tables) = &self.lazy else {
+            return None;
+        };
+        let Some(states) = cache else {
+            return None;
+        };
+        self.find_by_tables(tables, states, input).ok()
+    }
+
+    /// The end of the match that tables tell, and its pattern, as `find_in`.
+    fn find_end_in<C: Cursor>(
+        &self,
+        cache: &mut Option<lazy::Cache>,
+        input: &mut Input<C>,
+    ) -> Option<Option<HalfMatch>>
+        requires made { IsCacheOfBoth self.now.lazy cache.old }
+        ensures keeps { Keeps input.old input.new }
+        ensures found { IfSome result (λ found. found ≡ option_map half_of (answer_by self.now.engine.kind (engine_search self.now.engine input.old))) }
+        ensures within { IfSome result (λ found. IfSome found (λ half. (low input.old ≤ half.offset) × (half.offset ≤ high input.old))) }
+        ensures cache { KeepsStates self.now.lazy cache.old cache.new }
+    {
+        if let Some(tables) = &self.tables {
+            return self.find_end_by_tables(tables, &mut NoCache, input).ok();
+        }
+        let Some(tables) = &self.lazy else {
+            return None;
+        };
+        let Some(states) = cache else {
+            return None;
+        };
+        self.find_end_by_tables(tables, states, input).ok()
+    }
+
+    /// Whether a search finds a match. It takes no memory but for states. Nothing is read beyond the first position at which some match ends,
+    /// unless matches are passed over, or tables go from needle to needle.
+    pub fn is_match<C: Cursor>(&self, cache: &mut Cache, input: &mut Input<C>) -> bool
+        requires made { IsCacheIn self.now 0 cache.old }
+        ensures keeps { Keeps input.old input.new }
+        ensures found { result ≡ is_some (answer_by self.now.engine.kind (engine_search self.now.engine input.old)) }
+        ensures cache { IsSameCacheIn self.now cache.old cache.new }
+    {
+        if self.spans.leave_none(input) {
+            return false;
+        }
+        if let Some(found) = self.any_in(&mut cache.lazy, input) {
+            return found;
+        }
+        self.engine.is_match(&mut cache.pass, input)
+    }
+
+    /// The match that a search finds. Where what is known of the patterns' spans leaves none between its bounds, nothing is searched. Else
+    /// needles tell it where they alone do, else the tables, and where there are none, or they quit or give up, the pass. The earliest flag is not
+    /// read. It takes no memory but for states that are met for the first time, within the cache's capacity; where that is refused, the pass
+    /// tells the match.
+    pub fn find<C: Cursor>(&self, cache: &mut Cache, input: &mut Input<C>) -> Option<Match>
+        requires made { IsCacheIn self.now 0 cache.old }
+        ensures keeps { Keeps input.old input.new }
+        ensures found { result ≡ answer_by self.now.engine.kind (engine_search self.now.engine input.old) }
+        ensures within { IfSome result (λ m. (low input.old ≤ m.start) × (m.start ≤ m.end) × (m.end ≤ high input.old)) }
+        ensures cache { IsSameCacheIn self.now cache.old cache.new }
+    {
+        if self.spans.leave_none(input) {
+            return None;
+        }
+        if let Some(found) = self.find_in(&mut cache.lazy, input) {
+            return found;
+        }
+        self.engine.find(&mut cache.pass, input)
+    }
+
+    /// The end of the match that `find` finds, and its pattern. It takes memory as `find` does. Where tables tell the preferred match, nothing is searched
+    /// backwards.
+    pub fn find_end<C: Cursor>(&self, cache: &mut Cache, input: &mut Input<C>) -> Option<HalfMatch>
+        requires made { IsCacheIn self.now 0 cache.old }
+        ensures keeps { Keeps input.old input.new }
+        ensures found { result ≡ option_map half_of (answer_by self.now.engine.kind (engine_search self.now.engine input.old)) }
+        ensures within { IfSome result (λ half. (low input.old ≤ half.offset) × (half.offset ≤ high input.old)) }
+        ensures cache { IsSameCacheIn self.now cache.old cache.new }
+    {
+        if self.spans.leave_none(input) {
+            return None;
+        }
+        if let Some(found) = self.find_end_in(&mut cache.lazy, input) {
+            return found;
+        }
+        half_of(self.engine.find(&mut cache.pass, input))
+    }
+
+    /// The pattern that a search finds, with the first of its slots. Without a match the slots stay. It takes memory as `find` does.
+    ///
+    /// Where tables tell the match and its groups are asked for, a pass over its span alone tells them.
+    pub fn find_slots<C: Cursor>(
+        &self,
+        cache: &mut Cache,
+        input: &mut Input<C>,
+        slots: &mut [Option<usize>],
+    ) -> Option<PatternID>
+        requires made { IsCacheIn self.now (length slots.old) cache.old }
+        ensures keeps { Keeps input.old input.new }
+        ensures pattern { result ≡ option_map (λ (m : Found). m.pattern) (answer_by self.now.engine.kind (engine_search self.now.engine input.old)) }
+        ensures long { length slots.new ≡ length slots.old }
+        ensures slots { MatchOption result
+            (slots.new ≡ slots.old)
+            (λ _. Some slots.new ≡ slots_by self.now.engine.kind (engine_search self.now.engine input.old) (length slots.old)) }
+        ensures cache { IsSameCacheIn self.now cache.old cache.new }
+    {
+        if self.spans.leave_none(input) {
+            return None;
+        }
+        if let Some(found) = self.find_in(&mut cache.lazy, input) {
+            let found = found?;
+            let pass = &mut cache.pass;
+            fill_slots(&self.engine, pass, input, self.patterns, found, slots);
+            return Some(found.pattern());
+        }
+        self.engine.find_slots(&mut cache.pass, input, slots)
+    }
+
+    /// The next match of a list: the match from where the span starts, and where that is empty and ends at `last`, the match from
+    /// a byte later. The span then starts where the match was looked for. It takes memory as `find`
+    /// does.
+    pub fn next_match<C: Cursor>(
+        &self,
+        cache: &mut Cache,
+        input: &mut Input<C>,
+        last: Option<usize>,
+    ) -> Option<Match>
+        requires made { IsCacheIn self.now 0 cache.old }
+        ensures moves { IsMoved input.old input.new }
+        ensures found { result
+            ≡ next_match begin_of end_of (answer_by_from self.now.engine.kind (engine_search self.now.engine input.old)) input.old.span.start last }
+        ensures start { input.new.span.start
+            ≡ next_start self.now.engine.kind (engine_search self.now.engine input.old) input.old.span.start last }
+        ensures there { result ≡ answer_by self.now.engine.kind (engine_search self.now.engine input.new) }
+        ensures within { IfSome result (λ m. (low input.new ≤ m.start) × (m.start ≤ m.end) × (m.end ≤ high input.new)) }
+        ensures cache { IsSameCacheIn self.now cache.old cache.new }
+    {
+        let found = self.find(cache, input)?;
+        if !is_again(last, found) {
+            return Some(found);
+        }
+        // The content is shorter than the greatest number.
+        let _offset = input.chunk_offset();
+        input.set_start(input.start() + 1);
+        self.find(cache, input)
+    }
+
+    /// Writes the match that a search finds, with its groups, into captures of the patterns of these names. Without a match they
+    /// hold none. It takes memory as `find` does.
+    pub fn find_captures<C: Cursor>(
+        &self,
+        cache: &mut Cache,
+        input: &mut Input<C>,
+        caps: &mut Captures,
+    )
+        requires made { IsCacheIn self.now (length (captures_slots caps.old)) cache.old }
+        ensures keeps { Keeps input.old input.new }
+        ensures names { captures_names caps.new ≡ captures_names caps.old }
+        ensures long { length (captures_slots caps.new) ≡ length (captures_slots caps.old) }
+        ensures found { TellsBy self.now.engine.kind (engine_search self.now.engine input.old) caps.new }
+        ensures cache { IsSameCacheIn self.now cache.old cache.new }
+    {
+        captures::clear(caps);
+        let pattern = self.find_slots(cache, input, caps.slots_mut());
+        captures::set_pattern(caps, pattern);
+    }
+
+    /// A cache for the tables whose states are made as they are met, where a search of the input is to go by them: there are none of all states,
+    /// and its bounds lie `SHORT` bytes apart, or more. An `Err` is want of memory.
+    fn states_for<C: Cursor>(
+        &self,
+        alloc: Global,
+        input: &mut Input<C>,
+    ) -> Result<Option<lazy::Cache>, AllocError>
+        ensures keeps { Keeps input.old input.new }
+        ensures made { IfOk result (IsCacheOfBoth self.now.lazy) }
+    {
+        if self.tables.is_some() {
+            return Ok(None);
+        }
+        let Some(tables) = &self.lazy else {
+            return Ok(None);
+        };
+        let low = low(input);
+        let high = high(input);
+        if high.saturating_sub(low) < SHORT {
+            return Ok(None);
+        }
+        let states = tables.create_cache(alloc)?;
+        Ok(Some(states))
+    }
+
+    /// The match that `find` finds, in a cache that is made for this search. What the search doesn't need isn't made: nothing for tables of all
+    /// states, and for the pass only where no tables tell the match. An `Err` is want of memory.
+    pub fn find_once<C: Cursor>(
+        &self,
+        alloc: Global,
+        input: &mut Input<C>,
+    ) -> Result<Option<Match>, AllocError>
+        ensures keeps { Keeps input.old input.new }
+        ensures found { IfOk result (λ found. found ≡ answer_by self.now.engine.kind (engine_search self.now.engine input.old)) }
+        ensures within { IfOk result (λ found. IfSome found (λ m. (low input.old ≤ m.start) × (m.start ≤ m.end) × (m.end ≤ high input.old))) }
+    {
+        if self.spans.leave_none(input) {
+            return Ok(None);
+        }
+        let mut states = self.states_for(alloc, input)?;
+        if let Some(found) = self.find_in(&mut states, input) {
+            return Ok(found);
+        }
+        let mut cache = self.engine.create_cache(alloc, 0)?;
+        let found = self.engine.find(&mut cache, input);
+        Ok(found)
+    }
+
+    /// The end of the match that `find_once` finds, and its pattern, in a cache that is made as there. An `Err` is want of memory.
+    pub fn find_end_once<C: Cursor>(
+        &self,
+        alloc: Global,
+        input: &mut Input<C>,
+    ) -> Result<Option<HalfMatch>, AllocError>
+        ensures keeps { Keeps input.old input.new }
+        ensures found { IfOk result (λ found. found ≡ option_map half_of (answer_by self.now.engine.kind (engine_search self.now.engine input.old))) }
+        ensures within { IfOk result (λ found. IfSome found (λ half. (low input.old ≤ half.offset) × (half.offset ≤ high input.old))) }
+    {
+        if self.spans.leave_none(input) {
+            return Ok(None);
+        }
+        let mut states = self.states_for(alloc, input)?;
+        if let Some(found) = self.find_end_in(&mut states, input) {
+            return Ok(found);
+        }
+        let mut cache = self.engine.create_cache(alloc, 0)?;
+        let found = half_of(self.engine.find(&mut cache, input));
+        Ok(found)
+    }
+
+    /// Whether `find_once` finds a match, in a cache that is made as there. An `Err` is want of memory.
+    pub fn is_match_once<C: Cursor>(
+        &self,
+        alloc: Global,
+        input: &mut Input<C>,
+    ) -> Result<bool, AllocError>
+        ensures keeps { Keeps input.old input.new }
+        ensures found { IfOk result (λ b. b ≡ is_some (answer_by self.now.engine.kind (engine_search self.now.engine input.old))) }
+    {
+        if self.spans.leave_none(input) {
+            return Ok(false);
+        }
+        let mut states = self.states_for(alloc, input)?;
+        if let Some(found) = self.any_in(&mut states, input) {
+            return Ok(found);
+        }
+        let mut cache = self.engine.create_cache(alloc, 0)?;
+        Ok(self.engine.is_match(&mut cache, input))
+    }
+}
+
+/// The half of a match, if there is one: its pattern, and its end.
+fn half_of(found: Option<Match>) -> Option<HalfMatch>
+    ensures { result ≡ option_map half_of found }
+{
+    match found {
+        Some(found) => Some(HalfMatch::new(found.pattern(), found.end())),
+        None => None,
+    }
+}
+
+/// Whether the match is empty and ends at `last`.
+fn is_again(last: Option<usize>, found: Match) -> bool
+    ensures { result ≡ is_again begin_of end_of last found }
+{
+    match last {
+        Some(last) => found.is_empty() && found.end() == last,
+        None => false,
+    }
+}

@@ -1,0 +1,9 @@
+//! The engines by which patterns are searched for: tables where there are some, else the ordered pass.
+#![tactic(auto)]
+
+pub mod cache;
+pub mod engines;
+pub mod laws;
+mod slots;
+pub mod spans;
+mod tables;

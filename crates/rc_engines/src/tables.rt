@@ -1,0 +1,162 @@
+//! The tables by which patterns are searched for.
+ghost use Rattle.std.specs.Prelude.{◌≡◌, ◌⊎◌, ◌↔◌, ◌<◌, ◌≤◌, ⊤, ℕ, Bool, IfOk, IfSome, IsSomeAnd, IsTrue, List, MatchOption, None, false, length};
+ghost use Rattle.rc_pattern.specs.Re.{Re};
+ghost use Rattle.rc_program.specs.Laws.{heaviness};
+ghost use Rattle.rc_program.specs.Places.{places_of};
+ghost use Rattle.rc_program.specs.Program.{Place as PlaceOf, program};
+ghost use Rattle.rc_literal.specs.Guards.{Guards};
+ghost use Rattle.rc_literal.specs.Prefilters.{needles_of};
+ghost use Rattle.rc_automaton.specs.Automata.{machine_of};
+ghost use Rattle.rc_automaton.specs.declared.automaton.Direction.TheVariants.{Backwards, Forwards};
+ghost use Rattle.rc_lazy.specs.Caches.{IsLazyOf, least_of};
+ghost use Rattle.rc_spans.specs.Machines.{AreMachines};
+ghost use Rattle.rc_engine.specs.Strategies.{MayGoBy};
+ghost use Rattle.rc_engines.specs.Limits.{AreOff, AreTooHeavy};
+ghost use Rattle.rc_engines.specs.Makes.{AreMade};
+ghost use Rattle.rc_engines.specs.Tables.{MayBeTablesFor};
+
+use crate::engines::Limits;
+use rc_automaton::automaton::Automaton;
+use rc_dense::dense::Dense;
+use rc_dense::error::TableError;
+use rc_engine::engine::Engine;
+use rc_engine::strategy::{Strategy, guards_of, literals_of};
+use rc_lazy::error::LazyError;
+use rc_lazy::lazy::Lazy;
+use rc_literal::prefilter::Prefilter;
+use rc_spans::build::automaton_of;
+use std::alloc::{AllocError, Global};
+
+/// Tables of all states, or tables whose states are made as they are met, or neither.
+#[derive(Drop)]
+pub(crate) struct Tables {
+    pub(crate) dense: Option<Dense>,
+    pub(crate) lazy: Option<Lazy>,
+}
+
+/// Whether a program of so many places has more than the limit allows.
+fn exceeds(places: usize, limit: Option<usize>) -> bool
+    ensures { IsTrue result ↔ IsSomeAnd limit (λ most. most < places) }
+{
+    match limit {
+        Some(most) => places > most,
+        None => false,
+    }
+}
+
+/// The needles from one to the next of which searches by tables go: those where walks begin. Where a search for them would go by a table of
+/// first bytes, there are none: the tables of states read a byte as fast, and need not begin anew at each needle.
+pub(crate) fn fast_guards_of(strategy: &Strategy) -> Option<&Prefilter>
+    ensures sound { (places : List PlaceOf) (terminator : ℕ) (over : Bool) → MayGoBy places terminator over strategy.now
+        → MatchOption result ⊤ (λ p. Guards places terminator (needles_of p.now)) }
+{
+    match guards_of(strategy) {
+        Some(needles) => {
+            if needles.is_fast() {
+                Some(needles)
+            } else {
+                None
+            }
+        }
+        None => None,
+    }
+}
+
+/// Whether searches by tables of all states are to rest between needles: where these are sought fast, and where some byte isn't read, since a
+/// search that met one goes from needle to needle.
+fn are_to_rest(strategy: &Strategy, automaton: &Automaton) -> bool {
+    match guards_of(strategy) {
+        Some(needles) => needles.is_fast() || !automaton.may_read(Some(128)),
+        None => false,
+    }
+}
+
+/// The tables of all states of the automaton, which is that of so many patterns by their engine's program, where the limits allow some. An
+/// `Err` is want of memory.
+fn dense_of(
+    alloc: Global,
+    engine: &Engine,
+    automaton: &Automaton,
+    patterns: usize,
+    limits: Limits,
+) -> Result<Option<Dense>, AllocError>
+    ghost hs: { List Re }
+    requires machines { AreMachines hs engine.now.program.terminator engine.now.kind (machine_of automaton.now Forwards) (machine_of automaton.now Backwards) }
+    requires program { places_of engine.now.program.places.items ≡ program hs }
+    requires patterns { patterns ≡ length hs }
+    requires light { heaviness (places_of engine.now.program.places.items) ≤ 2147483646 }
+    ensures fit { IfOk result (MayBeTablesFor engine.now patterns) }
+    ensures off { AreOff hs limits → IfOk result (λ tables. tables ≡ None) }
+    ensures none { IfOk result (λ tables. tables ≡ None → AreOff hs limits ⊎ AreTooHeavy engine.now hs limits) }
+{
+    if !limits.dfa {
+        return Ok(None);
+    }
+    if exceeds(automaton.places_len(), limits.state_limit) {
+        return Ok(None);
+    }
+    let rests = are_to_rest(&engine.strategy, automaton);
+    match Dense::new(alloc, automaton, limits.size_limit, rests) {
+        Ok(tables) => Ok(Some(tables)),
+        Err(TableError::TooBig) => Ok(None),
+        Err(TableError::Memory) => Err(AllocError),
+    }
+}
+
+/// The tables of the automaton whose states are made as they are met, where they are switched on and their capacity serves.
+fn lazy_of(automaton: Automaton, limits: Limits) -> Option<Lazy>
+    ensures made { IfSome result (IsLazyOf automaton limits.capacity) }
+    ensures off { limits.hybrid ≡ false → result ≡ None }
+    ensures none { result ≡ None → (limits.hybrid ≡ false) ⊎ (limits.capacity < least_of automaton) }
+{
+    if !limits.hybrid {
+        return None;
+    }
+    match Lazy::new(automaton, limits.capacity) {
+        Ok(tables) => Some(tables),
+        Err(LazyError::TooSmall { .. }) => None,
+        Err(LazyError::Memory) => None,
+    }
+}
+
+/// The tables of so many patterns by their engine's program, where the limits allow some. Where needles alone tell each answer, none are
+/// made. An `Err` is want of memory.
+pub(crate) fn tables_of(
+    alloc: Global,
+    engine: &Engine,
+    patterns: usize,
+    limits: Limits,
+) -> Result<Tables, AllocError>
+    ghost hs: { List Re }
+    requires program { places_of engine.now.program.places.items ≡ program hs }
+    requires patterns { patterns ≡ length hs }
+    requires light { heaviness (places_of engine.now.program.places.items) ≤ 2147483646 }
+    ensures { IfOk result (λ tables. AreMade engine.now patterns hs limits tables.dense tables.lazy) }
+{
+    if literals_of(&engine.strategy, engine.kind).is_some() {
+        return Ok(Tables {
+            dense: None,
+            lazy: None,
+        });
+    }
+    if !limits.dfa && !limits.hybrid {
+        return Ok(Tables {
+            dense: None,
+            lazy: None,
+        });
+    }
+    let automaton = automaton_of(
+        alloc,
+        &engine.program.places,
+        patterns,
+        engine.program.terminator,
+        engine.kind,
+        limits.byte_classes,
+    )?;
+    let dense = dense_of(alloc, engine, &automaton, patterns, limits)?;
+    if dense.is_some() {
+        return Ok(Tables { dense, lazy: None });
+    }
+    let lazy = lazy_of(automaton, limits);
+    Ok(Tables { dense, lazy })
+}

@@ -1,0 +1,5 @@
+pub mod LazyLemmas
+pub mod Asked
+pub mod Had
+pub mod Nexts
+pub mod Going

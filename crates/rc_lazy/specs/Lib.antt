@@ -1,0 +1,9 @@
+pub mod Cells
+pub mod Stores
+pub mod Moves
+pub mod Halves
+pub mod Courses
+pub mod SpendLaws
+pub mod Caches
+pub mod CacheLaws
+pub mod Errors

@@ -1,0 +1,293 @@
+//! Searches forwards by a table that grows.
+ghost use Rattle.std.specs.Prelude.{◌≡◌, ◌+◌, ◌-◌, ◌<◌, ◌≤◌, Bool, Some, IfSome, length, slice_range, slice_get};
+ghost use Rattle.rc_text.specs.Text.{Keeps, high, low, slice_end};
+ghost use Rattle.rc_automaton.specs.declared.automaton.Direction.TheVariants as direction;
+ghost use Rattle.rc_automaton.specs.Machine.{IsAsked};
+ghost use Rattle.rc_automaton.specs.Runs.{behind_at};
+ghost use Rattle.rc_lazy.specs.Stores.{Held, Spends, frame_of};
+ghost use Rattle.rc_automaton.specs.Automata.{machine_of};
+ghost use Rattle.rc_automaton.specs.Ended.{HasEnded, gave_up};
+ghost use Rattle.rc_program.specs.Sought.{text_of};
+ghost use Rattle.rc_lazy.specs.Halves.{IsHalf, IsByte};
+ghost use Rattle.rc_lazy.specs.Courses.{Course, IsAt, IsLeg, IsOver, MayGiveUp, StandsAt, text_in};
+
+use crate::cells::{MET, QUIT, UNKNOWN, has_died, row_of};
+use crate::half::Half;
+use crate::run::{Leg, Stand, found, met_by, told};
+use crate::sides::{byte_ahead, byte_behind};
+use crate::store::Store;
+use rc_automaton::automaton::{Automaton, Direction};
+use rc_automaton::ended::Ended;
+use rc_text::cursor::Cursor;
+use rc_text::input::{Input, high, piece_from};
+use rc_text::types::Anchored;
+
+/// Runs over the bytes of a piece, up to one of which the cell needs a look, and answers how many were read. A cell that tells of something
+/// met needs none where `limit` is `UNKNOWN`, and one where it is 0.
+#[inline(never)]
+fn run(
+    automaton: &Automaton,
+    store: &Store,
+    piece: &[u8],
+    start: usize,
+    stand: Stand,
+    limit: usize,
+) -> (usize, Stand)
+    ghost course: { Course }
+    requires same { frame_of automaton.now direction.Forwards ≡ course.frame }
+    requires held { Held course.frame store.now }
+    requires stands { StandsAt course store.now start stand }
+    requires bound { course.bound ≤ slice_end course.seen }
+    requires piece { piece.now ≡ slice_range course.seen.content start (start + length piece.now) }
+    requires within { start + length piece.now ≤ course.bound }
+    requires fits { start + length piece.now ≤ usize.MAX }
+    requires limit { limit ≤ 2305843009213693952 }
+    ensures read { result.0 ≤ length piece.now }
+    ensures stands { StandsAt course store.now (start + result.0) result.1 }
+{
+    let cells = store.cells.as_slice();
+    let classes = automaton.classes();
+    let before = stand.met;
+    let mut row = stand.row;
+    let mut noted = None;
+    for index in 0..piece.len() {
+        let cell = cells[row + classes[piece[index] as usize] as usize];
+        if cell < UNKNOWN {
+            row = cell;
+        } else {
+            if cell < MET || cell - MET >= limit {
+                let met = told(store, noted, before);
+                return (index, Stand { row, met });
+            }
+            row = cell - MET;
+            noted = Some((row, start + index));
+        }
+    }
+    let met = told(store, noted, before);
+    (piece.len(), Stand { row, met })
+}
+
+/// Reads one byte, whatever its cell. With `may_rest` the search rests behind it where it may.
+fn step(
+    automaton: &Automaton,
+    half: &mut Half,
+    byte: u8,
+    at: usize,
+    stand: Stand,
+    earliest: bool,
+    may_rest: bool,
+) -> Leg
+    ghost course: { Course }
+    requires same { frame_of automaton.now direction.Forwards ≡ course.frame }
+    requires at { IsAt course half.old at stand }
+    requires bound { course.bound ≤ slice_end course.seen }
+    requires byte { slice_get course.seen.content at ≡ Some byte }
+    requires within { at < course.bound }
+    requires earliest { earliest ≡ course.earliest }
+    requires may_rest { may_rest ≡ course.may_rest }
+    requires fits { at < usize.MAX }
+    ensures { IsLeg course half.new (at + 1) result }
+{
+    half.serve(1);
+    let cell = match half.next(automaton, Direction::Forwards, stand.row, Some(byte)) {
+        Ok(cell) => cell,
+        Err(refusal) => return Leg::Over(Ended::GaveUp(at, refusal.is_memory())),
+    };
+    if cell == QUIT {
+        return Leg::Over(Ended::Quit(byte, at));
+    }
+    let met = met_by(&half.store, cell, at, stand.met);
+    if has_died(cell) {
+        return Leg::Over(found(automaton, met));
+    }
+    if earliest && met.is_some() {
+        return Leg::Over(found(automaton, met));
+    }
+    let row = row_of(cell);
+    if may_rest && met.is_none() && half.store.idles_at(row) {
+        return Leg::Over(Ended::Idle(at + 1));
+    }
+    Leg::Through(Stand { row, met })
+}
+
+/// Runs over the chunks from one position to another.
+fn cross<C: Cursor>(
+    automaton: &Automaton,
+    half: &mut Half,
+    input: &mut Input<C>,
+    from: usize,
+    end: usize,
+    begin: Stand,
+    earliest: bool,
+    may_rest: bool,
+) -> Leg
+    ghost course: { Course }
+    requires same { frame_of automaton.now direction.Forwards ≡ course.frame }
+    requires at { IsAt course half.old from begin }
+    requires seen { Keeps course.seen input.old }
+    requires bound { course.bound ≤ slice_end course.seen }
+    requires end { end ≡ course.bound }
+    requires ordered { from ≤ end }
+    requires earliest { earliest ≡ course.earliest }
+    requires may_rest { may_rest ≡ course.may_rest }
+    ensures keeps { Keeps input.old input.new }
+    ensures leg { IsLeg course half.new end result }
+{
+    let limit = if earliest { 0 } else { UNKNOWN };
+    let mut stand = begin;
+    let mut at = from;
+    while at < end {
+        let piece = piece_from(input, at, end);
+        let (read, next) = run(automaton, &half.store, piece, at, stand, limit);
+        half.serve(read);
+        stand = next;
+        if read < piece.len() {
+            match step(
+                automaton,
+                half,
+                piece[read],
+                at + read,
+                stand,
+                earliest,
+                may_rest,
+            ) {
+                Leg::Through(next) => {
+                    stand = next;
+                    at += read + 1;
+                }
+                Leg::Over(ended) => return Leg::Over(ended),
+            }
+        } else {
+            at += read;
+        }
+    }
+    Leg::Through(stand)
+}
+
+/// Where a search begins, by the byte behind the position.
+fn begin(
+    automaton: &Automaton,
+    half: &mut Half,
+    anchored: &Anchored,
+    beside: Option<u8>,
+    from: usize,
+) -> Leg
+    ghost course: { Course }
+    requires same { frame_of automaton.now direction.Forwards ≡ course.frame }
+    requires half { IsHalf course.frame half.old }
+    requires begun { half.old.store ≡ course.begun }
+    requires anchored { anchored.now ≡ course.anchored }
+    requires asked { IsAsked course.frame.machine course.anchored }
+    requires from { from ≡ course.from }
+    requires ordered { course.from ≤ course.bound }
+    requires beside { beside ≡ behind_at (text_in course) from }
+    requires small { IsByte beside }
+    requires there { IfSome beside (λ byte. (1 ≤ from) × (slice_get course.seen.content (from - 1) ≡ Some byte)) }
+    ensures { IsLeg course half.new from result }
+{
+    let cell = match half.begin(automaton, Direction::Forwards, anchored, beside) {
+        Ok(cell) => cell,
+        Err(refusal) => return Leg::Over(Ended::GaveUp(from, refusal.is_memory())),
+    };
+    if cell == QUIT {
+        return match beside {
+            Some(byte) => Leg::Over(Ended::Quit(byte, from - 1)),
+            None => Leg::Over(Ended::Found(None)),
+        };
+    }
+    if has_died(cell) {
+        return Leg::Over(Ended::Found(None));
+    }
+    let row = row_of(cell);
+    Leg::Through(Stand { row, met: None })
+}
+
+/// How a search ends that came to its upper bound: the byte that stands beyond decides what is met there, or the end of what is seen.
+fn finish<C: Cursor>(
+    automaton: &Automaton,
+    half: &mut Half,
+    input: &mut Input<C>,
+    end: usize,
+    stand: Stand,
+) -> Ended
+    ghost course: { Course }
+    requires same { frame_of automaton.now direction.Forwards ≡ course.frame }
+    requires at { IsAt course half.old end stand }
+    requires seen { Keeps course.seen input.old }
+    requires bound { course.bound ≤ slice_end course.seen }
+    requires end { end ≡ course.bound }
+    ensures keeps { Keeps input.old input.new }
+    ensures over { IsOver course half.new result }
+{
+    let beside = byte_ahead(input, end);
+    let cell = match half.next(automaton, Direction::Forwards, stand.row, beside) {
+        Ok(cell) => cell,
+        Err(refusal) => return Ended::GaveUp(end, refusal.is_memory()),
+    };
+    if cell == QUIT {
+        return match beside {
+            Some(byte) => Ended::Quit(byte, end),
+            None => Ended::Found(None),
+        };
+    }
+    found(automaton, met_by(&half.store, cell, end, stand.met))
+}
+
+/// Searches from one position up to another.
+pub(crate) fn search<C: Cursor>(
+    automaton: &Automaton,
+    half: &mut Half,
+    input: &mut Input<C>,
+    anchored: &Anchored,
+    from: usize,
+    end: usize,
+    earliest: bool,
+    may_rest: bool,
+) -> Ended
+    ghost course: { Course }
+    requires course { course ≡ record { frame = frame_of automaton.now direction.Forwards; begun = half.old.store; seen = input.old; from = from; bound = end; anchored = anchored.now; earliest = earliest; may_rest = may_rest } }
+    requires half { IsHalf course.frame half.old }
+    requires asked { IsAsked course.frame.machine anchored.now }
+    requires low { input.old.slice.start ≤ from }
+    requires ordered { from ≤ end }
+    requires bound { end ≤ slice_end input.old }
+    ensures keeps { Keeps input.old input.new }
+    ensures over { IsOver course half.new result }
+{
+    let beside = byte_behind(input, from);
+    let stand = match begin(automaton, half, anchored, beside, from) {
+        Leg::Through(stand) => stand,
+        Leg::Over(ended) => return ended,
+    };
+    match cross(automaton, half, input, from, end, stand, earliest, may_rest) {
+        Leg::Through(last) => finish(automaton, half, input, end, last),
+        Leg::Over(ended) => ended,
+    }
+}
+
+/// Searches forwards from a position up to where the input's bounds end.
+pub(crate) fn run_forwards<C: Cursor>(
+    automaton: &Automaton,
+    half: &mut Half,
+    input: &mut Input<C>,
+    anchored: &Anchored,
+    from: usize,
+    earliest: bool,
+    may_rest: bool,
+) -> Ended
+    requires half { IsHalf (frame_of automaton.now direction.Forwards) half.old }
+    requires asked { IsAsked (machine_of automaton.now direction.Forwards) anchored.now }
+    requires low { low input.old ≤ from }
+    requires high { from ≤ high input.old }
+    ensures keeps { Keeps input.old input.new }
+    ensures half { IsHalf (frame_of automaton.now direction.Forwards) half.new }
+    ensures spends { Spends (frame_of automaton.now direction.Forwards) half.old.store half.new.store (high input.old - from + 2) }
+    ensures ended { HasEnded (machine_of automaton.now direction.Forwards) (text_of (machine_of automaton.now direction.Forwards).setting.terminator input.old) (high input.old) from anchored.now earliest may_rest result }
+    ensures gives_up { (memory : Bool) → gave_up result ≡ Some memory
+        → MayGiveUp (frame_of automaton.now direction.Forwards) half.old.store half.new.store (high input.old - from + 2) memory }
+{
+    let end = high(input);
+    search(
+        automaton, half, input, anchored, from, end, earliest, may_rest,
+    )
+}

@@ -1,0 +1,105 @@
+//! Where a search stands, and what is met.
+ghost use Rattle.std.specs.Prelude.{◌≡◌, ℕ, Option};
+ghost use Rattle.rc_states.specs.States.{State, best_at};
+ghost use Rattle.rc_lazy.specs.Stores.{Frame, Held, IsRow, Names};
+ghost use Rattle.rc_automaton.specs.Automata.{machine_of};
+ghost use Rattle.rc_automaton.specs.declared.automaton.Direction.TheVariants.{Forwards};
+ghost use Rattle.rc_lazy.specs.Courses.{IsNoted, SaysLeast, SaysMet};
+
+use crate::cells::{MET, row_of};
+use crate::store::Store;
+use rc_automaton::automaton::Automaton;
+use rc_automaton::ended::{Ended, Met};
+
+/// Where a search stands between two bytes.
+#[derive(Clone, Copy)]
+pub(crate) struct Stand {
+    /// The row of its state.
+    pub row: usize,
+    /// What was met last, with the position: forwards a match place, and backwards an entry.
+    pub met: Option<(usize, usize)>,
+}
+
+/// What became of a search over some bytes.
+#[derive(Clone, Copy)]
+pub(crate) enum Leg {
+    /// It stands behind them.
+    Through(Stand),
+    /// It ended among them.
+    Over(Ended),
+}
+
+/// What was met where the cell leads.
+pub(crate) fn stop_by(store: &Store, cell: usize) -> Option<usize>
+    ghost f: { Frame }
+    requires held { Held f store.now }
+    ensures { (t : State) → Names f.width store.now.states cell t → result ≡ t.stop }
+{
+    if cell >= MET {
+        return store.stop_at(row_of(cell));
+    }
+    None
+}
+
+/// What was met last, where it was met by the way to the row that is noted, at the position beside it, or else before.
+pub(crate) fn told(
+    store: &Store,
+    noted: Option<(usize, usize)>,
+    before: Option<(usize, usize)>,
+) -> Option<(usize, usize)>
+    ghost f: { Frame }
+    requires held { Held f store.now }
+    ensures { (met : Option (ℕ × ℕ)) → IsNoted f.width store.now.states noted before met → result ≡ met }
+{
+    match noted {
+        Some((row, at)) => match store.stop_at(row) {
+            Some(stop) => Some((stop, at)),
+            None => before,
+        },
+        None => before,
+    }
+}
+
+/// What is said of a search by what was met last: a match place, with the position.
+pub(crate) fn found(automaton: &Automaton, met: Option<(usize, usize)>) -> Ended
+    ensures { SaysMet (machine_of automaton.now Forwards) met result }
+{
+    match met {
+        Some((place, at)) => {
+            let pattern = if place < automaton.places_len() {
+                automaton.pattern_at(place)
+            } else {
+                0
+            };
+            Ended::Found(Some(Met { pattern, at }))
+        }
+        None => Ended::Found(None),
+    }
+}
+
+/// What is said of a search backwards by what was met last: an entry, with the position.
+pub(crate) fn found_down(met: Option<(usize, usize)>) -> Ended
+    ensures { SaysLeast met result }
+{
+    match met {
+        Some((pattern, at)) => Ended::Found(Some(Met { pattern, at })),
+        None => Ended::Found(None),
+    }
+}
+
+/// What was met last, once a cell was read at the position.
+pub(crate) fn met_by(
+    store: &Store,
+    cell: usize,
+    at: usize,
+    before: Option<(usize, usize)>,
+) -> Option<(usize, usize)>
+    ghost f: { Frame }
+    requires held { Held f store.now }
+    ensures { (t : State) → Names f.width store.now.states cell t → result ≡ best_at at t.stop before }
+{
+    match stop_by(store, cell) {
+        Some(place) => Some((place, at)),
+        None => before,
+    }
+}

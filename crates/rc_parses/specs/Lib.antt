@@ -1,0 +1,4 @@
+pub mod Parses
+pub mod Preference
+pub mod Seeks
+pub mod Laws

@@ -1,0 +1,10 @@
+pub mod Machines
+pub mod Classes
+pub mod Halves
+pub mod Reverse
+pub mod Faults
+pub mod Laws
+pub mod Aims
+pub mod Ends
+pub mod Rests
+pub mod Legs

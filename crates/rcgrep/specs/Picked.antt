@@ -1,0 +1,21 @@
+-- Which lines a regex selects.
+use Rattle.std.specs.Prelude.{◌≡◌, ℕ, Bool, not, List, if◌then◌else◌}
+use Rattle.std.specs.Option.{is_some}
+use Rattle.rc_text.specs.Text.{Searched}
+use Rattle.rc_program.specs.Kinds.{answer_by}
+use Rattle.rc_program.specs.Sought.{Sought, search_for}
+use Rattle.rc_meta.specs.Views.{regex_kind, sought}
+use Rattle.rc_meta.specs.declared.regex.Regex.{Regex}
+use Rattle.regex_cursor.specs.Output.{whole}
+
+-- the regex has a match in the line, as if there was nothing around it
+abbrev pub has_match : Regex → List ℕ → Bool
+has_match r line = is_some (answer_by (regex_kind r) (search_for (sought r) (whole line)))
+
+-- a search of the input is one of the line
+abbrev pub IsLine : List ℕ → Searched → Type 0
+IsLine line s = (q : Sought) → search_for q s ≡ search_for q (whole line)
+
+-- the lines with a match, or the others
+abbrev pub is_picked : Bool → Bool → Bool
+is_picked inverted found = if inverted then not found else found

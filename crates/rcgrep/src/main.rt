@@ -1,0 +1,108 @@
+//! Prints the lines of files, or of the standard input, in which a pattern matches.
+#![tactic(auto)]
+
+mod line_regex;
+mod options;
+mod output;
+mod search;
+
+use crate::options::{Options, WordsError, read_words};
+use crate::search::search_all;
+use regex_cursor::engines::meta::Regex;
+use regex_cursor::syntax;
+use std::alloc::{AllocError, Global};
+use std::io;
+use std::io::Write;
+use std::process::ExitCode;
+
+/// The status of a fault.
+const FAULT: u8 = 2;
+
+/// The greatest number of patterns.
+const MAX_PATTERNS: usize = 2_147_483_647;
+
+const USAGE: &str =
+    "usage: rcgrep [-n] [-c] [-o] [-i] [-v] [-l] [--color] [-e PATTERN].. PATTERN [FILE]..";
+
+const HELP: &str = "\
+Prints the lines of files, or of the standard input, in which a pattern matches.
+  -e PATTERN  a pattern; a line is printed where one of them matches
+  -n          the number of each line stands before it
+  -c          the number of lines alone
+  -o          each match alone, and no empty one
+  -i          letters match in either case
+  -v          the lines in which no pattern matches
+  -l          the names of the files with such a line alone
+  --color     matches are marked
+  --          no word after it is an option
+The status is 0 where a line was printed or counted, 1 where none was, and 2 at a fault.";
+
+/// The words after the program's name. An error is want of memory, or a word that isn't text.
+fn words_of(rt: &HostRuntime) -> io::Result<Vec<String>> {
+    let words = std::env::args(rt)?.skip(1).collect(rt.alloc())?;
+    Ok(words)
+}
+
+/// The same words, lent.
+fn lent(alloc: Global, words: &[String]) -> Result<Vec<&str>, AllocError> {
+    words.iter().map(|word| word.as_str()).collect(alloc)
+}
+
+/// Tells of a fault. A fault of the standard error is ignored.
+fn report(rt: &HostRuntime, line: &str) -> u8 {
+    let _ = writeln!(rt.stderr(), "rcgrep: {line}");
+    FAULT
+}
+
+/// Builds the regex, and searches.
+fn run(rt: &HostRuntime, options: &Options<'_>) -> u8 {
+    let alloc = rt.alloc();
+    let patterns = options.patterns.as_slice();
+    if patterns.len() > MAX_PATTERNS {
+        return report(rt, "too many patterns");
+    }
+    let mut builder = Regex::builder();
+    builder.syntax(syntax::Config::new().case_insensitive(options.ignore_case));
+    let regex = match builder.build_many(alloc, patterns) {
+        Ok(regex) => regex,
+        Err(fault) => {
+            let _ = writeln!(rt.stderr(), "rcgrep: {fault}");
+            return FAULT;
+        }
+    };
+    match search_all(rt, &regex, options) {
+        Ok(status) => status,
+        Err(fault) => {
+            let _ = writeln!(rt.stderr(), "rcgrep: {fault}");
+            FAULT
+        }
+    }
+}
+
+/// Runs the program with these words.
+fn run_with(rt: &HostRuntime, words: &[&str]) -> u8 {
+    match read_words(rt.alloc(), words) {
+        Ok(options) => run(rt, &options),
+        Err(WordsError::Help) => {
+            let _ = writeln!(rt.stdout(), "{USAGE}\n{HELP}");
+            0
+        }
+        Err(WordsError::Usage) => {
+            let _ = writeln!(rt.stderr(), "{USAGE}");
+            FAULT
+        }
+        Err(WordsError::Memory) => report(rt, "out of memory"),
+    }
+}
+
+fn main(rt: HostRuntime) -> ExitCode {
+    let status = match words_of(&rt) {
+        Ok(words) => match lent(rt.alloc(), &words) {
+            Ok(words) => run_with(&rt, &words),
+            Err(_) => report(&rt, "out of memory"),
+        },
+        Err(fault) if fault.kind() == io::ErrorKind::OutOfMemory => report(&rt, "out of memory"),
+        Err(_) => report(&rt, "a word is no text"),
+    };
+    ExitCode::from(status)
+}

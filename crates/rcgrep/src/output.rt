@@ -1,0 +1,129 @@
+//! How a selected line is printed.
+
+use crate::options::Options;
+use regex_cursor::Input;
+use regex_cursor::engines::meta::Regex;
+use std::alloc::Global;
+use std::io;
+use std::io::Write;
+
+/// What stands before a match, and after it, where matches are marked.
+const MARK: (&str, &str) = ("\x1b[01;31m", "\x1b[0m");
+
+/// Puts what stands before a line: the name of its file, where one is given, and its number, where that is asked for.
+fn put_prefix<W: Write>(
+    out: &mut W,
+    options: &Options<'_>,
+    name: Option<&str>,
+    number: u64,
+) -> io::Result<()> {
+    if let Some(name) = name {
+        write!(out, "{name}:")?;
+    }
+    if options.numbers {
+        write!(out, "{number}:")?;
+    }
+    Ok(())
+}
+
+/// The bytes of the line from `start` to `end`.
+fn part(line: &[u8], start: usize, end: usize) -> &[u8] {
+    line.get(start..end).unwrap_or(&[])
+}
+
+/// Puts a match, marked where that is asked for.
+fn put_match<W: Write>(out: &mut W, options: &Options<'_>, bytes: &[u8]) -> io::Result<()> {
+    if !options.color {
+        return out.write_all(bytes);
+    }
+    let (before, after) = MARK;
+    out.write_all(before.as_bytes())?;
+    out.write_all(bytes)?;
+    out.write_all(after.as_bytes())
+}
+
+/// Puts each match that isn't empty, as a line of its own.
+fn put_matches<W: Write>(
+    alloc: Global,
+    out: &mut W,
+    regex: &Regex,
+    options: &Options<'_>,
+    name: Option<&str>,
+    number: u64,
+    line: &[u8],
+) -> io::Result<()> {
+    for found in regex.find_iter(alloc, Input::new(line))? {
+        if !found.is_empty() {
+            put_prefix(out, options, name, number)?;
+            put_match(out, options, part(line, found.start(), found.end()))?;
+            out.write_all(b"\n")?;
+        }
+    }
+    Ok(())
+}
+
+/// Puts the line with its matches marked.
+fn put_marked<W: Write>(
+    alloc: Global,
+    out: &mut W,
+    regex: &Regex,
+    options: &Options<'_>,
+    line: &[u8],
+) -> io::Result<()> {
+    let mut from = 0;
+    for found in regex.find_iter(alloc, Input::new(line))? {
+        if !found.is_empty() {
+            out.write_all(part(line, from, found.start()))?;
+            put_match(out, options, part(line, found.start(), found.end()))?;
+            from = found.end();
+        }
+    }
+    out.write_all(part(line, from, line.len()))?;
+    out.write_all(b"\n")
+}
+
+/// Puts a selected line, as the options say.
+pub fn put_line<W: Write>(
+    alloc: Global,
+    out: &mut W,
+    regex: &Regex,
+    options: &Options<'_>,
+    name: Option<&str>,
+    number: u64,
+    line: &[u8],
+) -> io::Result<()> {
+    if options.only_matching {
+        if options.invert {
+            return Ok(());
+        }
+        return put_matches(alloc, out, regex, options, name, number, line);
+    }
+    put_prefix(out, options, name, number)?;
+    if options.color && !options.invert {
+        return put_marked(alloc, out, regex, options, line);
+    }
+    out.write_all(line)?;
+    out.write_all(b"\n")
+}
+
+/// Puts the number of a file's selected lines, or its name where it has one, as the options ask for.
+pub fn put_count<W: Write>(
+    out: &mut W,
+    options: &Options<'_>,
+    name: &str,
+    count: u64,
+) -> io::Result<()> {
+    if options.names_only {
+        if count == 0 {
+            return Ok(());
+        }
+        return writeln!(out, "{name}");
+    }
+    if !options.count {
+        return Ok(());
+    }
+    if options.files.len() > 1 {
+        return writeln!(out, "{name}:{count}");
+    }
+    writeln!(out, "{count}")
+}

@@ -1,0 +1,149 @@
+//! The search of the files, or of the standard input.
+
+use crate::line_regex::LineRegex;
+use crate::options::Options;
+use crate::output::{put_count, put_line};
+use grep_lines::next_selected;
+use regex_cursor::engines::meta::Regex;
+use std::alloc::Global;
+use std::fs::File;
+use std::io;
+use std::io::{BufRead, BufReader, BufWriter, Read, Write};
+
+/// The length of the pages in which a file is read, in bytes.
+const PAGE: usize = 65_536;
+
+/// The name of the standard input.
+const STDIN: &str = "(standard input)";
+
+/// Why the search of a file stopped.
+#[derive(Drop)]
+enum Fault {
+    /// The file wasn't read, or memory was refused.
+    Read(io::Error),
+    /// A line wasn't written.
+    Write(io::Error),
+}
+
+/// By what is searched, and how lines are printed.
+#[derive(Clone, Copy)]
+struct Job<'r, 'o, 'w> {
+    alloc: Global,
+    regex: &'r Regex,
+    options: &'o Options<'w>,
+}
+
+impl Job<'_, '_, '_> {
+    /// Prints the selected lines of a reader, where lines are asked for, and tells how many there were: at most one where names alone
+    /// are asked for.
+    fn print_lines<R: BufRead, W: Write>(
+        &self,
+        selector: &mut LineRegex<'_>,
+        reader: &mut R,
+        out: &mut W,
+        name: Option<&str>,
+    ) -> Result<u64, Fault> {
+        let mut line = Vec::new(self.alloc);
+        let mut count: u64 = 0;
+        let mut number: u64 = 0;
+        for _ in 0..u64::MAX {
+            let read = match next_selected(reader, selector, &mut line) {
+                Ok(Some(read)) => read,
+                Ok(None) => return Ok(count),
+                Err(fault) => return Err(Fault::Read(fault)),
+            };
+            number = number.saturating_add(read);
+            count = count.saturating_add(1);
+            if self.options.names_only {
+                return Ok(count);
+            }
+            if self.options.count {
+                continue;
+            }
+            if let Err(fault) = put_line(
+                self.alloc,
+                out,
+                self.regex,
+                self.options,
+                name,
+                number,
+                &line,
+            ) {
+                return Err(Fault::Write(fault));
+            }
+        }
+        Ok(count)
+    }
+
+    /// Searches one reader, in pages, and tells whether a line was selected.
+    fn search<R: Read + Drop, W: Write>(
+        &self,
+        selector: &mut LineRegex<'_>,
+        inner: R,
+        out: &mut W,
+        name: &str,
+    ) -> Result<bool, Fault> {
+        let mut reader = match BufReader::with_capacity(self.alloc, PAGE, inner) {
+            Ok(reader) => reader,
+            Err(fault) => return Err(Fault::Read(fault)),
+        };
+        let shown = if self.options.files.len() > 1 {
+            Some(name)
+        } else {
+            None
+        };
+        let count = self.print_lines(selector, &mut reader, out, shown)?;
+        match put_count(out, self.options, name, count) {
+            Ok(()) => Ok(count > 0),
+            Err(fault) => Err(Fault::Write(fault)),
+        }
+    }
+
+    /// Searches the file of a name, or the standard input.
+    fn search_named<W: Write>(
+        &self,
+        rt: &HostRuntime,
+        selector: &mut LineRegex<'_>,
+        out: &mut W,
+        name: &str,
+    ) -> Result<bool, Fault> {
+        if name == "-" {
+            return self.search(selector, rt.stdin(), out, STDIN);
+        }
+        match File::open(rt, name) {
+            Ok(file) => self.search(selector, file, out, name),
+            Err(fault) => Err(Fault::Read(fault)),
+        }
+    }
+}
+
+/// Searches all files, one after another, or the standard input, and tells the status: 0 where a line was selected, 1 where none was, and
+/// 2 where a file wasn't read. Its line goes to the standard error, and the next file is searched. An `Err` is a fault of the standard
+/// output, or want of memory.
+pub fn search_all(rt: &HostRuntime, regex: &Regex, options: &Options<'_>) -> io::Result<u8> {
+    let alloc = rt.alloc();
+    let mut selector = LineRegex::new(alloc, regex, options.invert)?;
+    let mut out = BufWriter::new(alloc, rt.stdout())?;
+    let job = Job {
+        alloc,
+        regex,
+        options,
+    };
+    let mut is_any = false;
+    let mut has_failed = false;
+    for name in &options.files {
+        match job.search_named(rt, &mut selector, &mut out, name) {
+            Ok(found) => is_any = is_any || found,
+            Err(Fault::Read(fault)) => {
+                has_failed = true;
+                let _ = writeln!(rt.stderr(), "rcgrep: {name}: {fault}");
+            }
+            Err(Fault::Write(fault)) => return Err(fault),
+        }
+    }
+    out.flush()?;
+    if has_failed {
+        return Ok(2);
+    }
+    Ok(if is_any { 0 } else { 1 })
+}

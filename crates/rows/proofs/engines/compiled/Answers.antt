@@ -1,7 +1,0 @@
-use Rattle.std.proofs.Common.{sym, subst}
-use Rattle.rc_program.specs.Sought.{IsRunnable}
-use Rattle.rc_build.proofs.Runnable.{runnable}
-use Rattle.rows.proofs.engines.compiled.Goals as goal
-
-pub program_of-program-requires : goal.program_of-program-requires
-program_of-program-requires c = subst IsRunnable (sym c.in_ok-made.ensures.places) (runnable _ _ _ c.in_ok-made.ensures.buildable)
