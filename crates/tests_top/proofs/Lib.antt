@@ -1,2 +1,0 @@
-pub mod BoundedLemmas
-pub mod RunnableLemmas

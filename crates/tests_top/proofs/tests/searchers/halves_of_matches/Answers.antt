@@ -1,7 +1,0 @@
-use Rattle.std.proofs.Common.{rules}
-use Rattle.std.proofs.lemmas.List.Sorted.{answers_always}
-use Rattle.tests_top.proofs.tests.searchers.halves_of_matches.Goals as goal
-
-pub into_half_matches_iter-halves-requires-clause-lawful : goal.into_half_matches_iter-halves-requires-clause-lawful
-into_half_matches_iter-halves-requires-clause-lawful g c =
-    answers_always _ _ _ (λ f a r t e. record { keeps = search rules; within = search rules })
