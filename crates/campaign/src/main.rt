@@ -107,8 +107,20 @@ fn search_list(rt: &HostRuntime, seed: u64, list: u64, tally: &mut Tally) -> Res
     let Some(mut engines) = engines(alloc, &mut row)? else {
         return Ok(());
     };
-    for text in 0..TEXTS {
-        search(rt, &mut engines, Place { seed, list, text }, tally)?;
+    let searched = search_texts(rt, &mut engines, first, tally);
+    drop(engines);
+    searched
+}
+
+/// Searches the texts of a list from this one on.
+fn search_texts(
+    rt: &HostRuntime,
+    engines: &mut Engines,
+    first: Place,
+    tally: &mut Tally,
+) -> Result<(), Fault> {
+    for text in first.text..TEXTS {
+        search(rt, engines, Place { text, ..first }, tally)?;
     }
     Ok(())
 }

@@ -73,29 +73,26 @@ impl Engines {
     ) -> Result<Engines, BuildError>
         requires { length patterns.now ≤ 2147483647 }
     {
-        let mut builder = Regex::builder();
-        builder.syntax(settings.syntax);
-        builder.configure(settings.config(alloc)?);
-        let regex = builder.build_many(alloc, patterns)?;
-        builder.configure(Config::new().auto_prefilter(false).dfa(false));
-        let unfiltered = builder.build_many(alloc, patterns)?;
-        builder.configure(
-            Config::new()
-                .dfa(true)
-                .dfa_state_limit(None)
-                .dfa_size_limit(settings.regex_dfa_limit()),
-        );
-        let tabled = builder.build_many(alloc, patterns)?;
-        Ok(Engines {
-            regex,
-            unfiltered,
-            tabled,
-            tables: tables(alloc, patterns, settings)?,
-            vm: settings.vm_builder().build_many(alloc, patterns)?,
-            program: compiled(alloc, patterns, settings)?,
-            walks: settings.walker,
-            has_words: have_words(alloc, patterns, settings)?,
-        })
+        let program = compiled(alloc, patterns, settings)?;
+        let has_words = have_words(alloc, patterns, settings)?;
+        let tables = tables(alloc, patterns, settings)?;
+        let vm = settings.vm_builder().build_many(alloc, patterns)?;
+        match regexes(alloc, patterns, settings) {
+            Ok((regex, unfiltered, tabled)) => Ok(Engines {
+                regex,
+                unfiltered,
+                tabled,
+                tables,
+                vm,
+                program,
+                walks: settings.walker,
+                has_words,
+            }),
+            Err(error) => {
+                drop(vm);
+                Err(error)
+            }
+        }
     }
 
     /// How many places the program has.
@@ -113,6 +110,53 @@ impl Engines {
             }
         }
         Ok(told.found)
+    }
+}
+
+/// A regex of these patterns, under the settings of the row and then these.
+fn regex_of(
+    alloc: Global,
+    patterns: &[&str],
+    settings: &Settings,
+    more: Config,
+) -> Result<Regex, BuildError>
+    requires { length patterns.now ≤ 2147483647 }
+{
+    let mut builder = Regex::builder();
+    builder.syntax(settings.syntax);
+    builder.configure(settings.config(alloc)?);
+    builder.configure(more);
+    builder.build_many(alloc, patterns)
+}
+
+/// The regex, the one that looks for no needles of its own and has no tables, and the one that has tables however large.
+fn regexes(
+    alloc: Global,
+    patterns: &[&str],
+    settings: &Settings,
+) -> Result<(Regex, Regex, Regex), BuildError>
+    requires { length patterns.now ≤ 2147483647 }
+{
+    let plain = Config::new().auto_prefilter(false).dfa(false);
+    let large = Config::new()
+        .auto_prefilter(false)
+        .dfa(true)
+        .dfa_state_limit(None)
+        .dfa_size_limit(settings.regex_dfa_limit());
+    let regex = regex_of(alloc, patterns, settings, Config::new())?;
+    match regex_of(alloc, patterns, settings, plain) {
+        Ok(unfiltered) => match regex_of(alloc, patterns, settings, large) {
+            Ok(tabled) => Ok((regex, unfiltered, tabled)),
+            Err(error) => {
+                drop(regex);
+                drop(unfiltered);
+                Err(error)
+            }
+        },
+        Err(error) => {
+            drop(regex);
+            Err(error)
+        }
     }
 }
 

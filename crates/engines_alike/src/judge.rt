@@ -1,4 +1,5 @@
 //! Rows that every engine answers.
+ghost use Rattle.std.specs.Prelude.{◌≤◌, length};
 
 use crate::cursors::{Cutting, Recut};
 use crate::engines::{Engines, MOST_PATTERNS};
@@ -22,15 +23,19 @@ pub fn judge(alloc: Global, row: &Row) -> Result<(), Fault> {
     }
     match Engines::build(alloc, &row.patterns, &row.settings) {
         Ok(mut engines) => {
-            parses::agree(alloc, &engines, row)?;
-            over_all_cuttings(alloc, &mut engines, row)
+            let answered = over_all_cuttings(alloc, &mut engines, row);
+            drop(engines);
+            answered
         }
         Err(error) => same(is_refused(&error, row.want), Fault::Refusal),
     }
 }
 
-/// The engines answer the row over every cutting of its text.
-fn over_all_cuttings(alloc: Global, engines: &mut Engines, row: &Row) -> Result<(), Fault> {
+/// The engines answer the row over every cutting of its text, and as the least parse says.
+fn over_all_cuttings(alloc: Global, engines: &mut Engines, row: &Row) -> Result<(), Fault>
+    requires { length row.now.patterns.items ≤ 2147483647 }
+{
+    parses::agree(alloc, engines, row)?;
     for cutting in CUTTINGS {
         let cursor = Recut::new(&row.text, cutting);
         match row.want {

@@ -70,7 +70,9 @@ fn run(rt: &HostRuntime, options: &Options<'_>) -> u8 {
             return FAULT;
         }
     };
-    match search_all(rt, &regex, options) {
+    let searched = search_all(rt, &regex, options);
+    drop(regex);
+    match searched {
         Ok(status) => status,
         Err(fault) => {
             let _ = writeln!(rt.stderr(), "rcgrep: {fault}");

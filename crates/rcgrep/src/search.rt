@@ -115,6 +115,28 @@ impl Job<'_, '_, '_> {
             Err(fault) => Err(Fault::Read(fault)),
         }
     }
+
+    /// Searches all files for `search_all`.
+    fn search_files(&self, rt: &HostRuntime, selector: &mut LineRegex<'_>) -> io::Result<u8> {
+        let mut out = BufWriter::new(self.alloc, rt.stdout())?;
+        let mut is_any = false;
+        let mut has_failed = false;
+        for name in &self.options.files {
+            match self.search_named(rt, selector, &mut out, name) {
+                Ok(found) => is_any = is_any || found,
+                Err(Fault::Read(fault)) => {
+                    has_failed = true;
+                    let _ = writeln!(rt.stderr(), "rcgrep: {name}: {fault}");
+                }
+                Err(Fault::Write(fault)) => return Err(fault),
+            }
+        }
+        out.flush()?;
+        if has_failed {
+            return Ok(2);
+        }
+        Ok(if is_any { 0 } else { 1 })
+    }
 }
 
 /// Searches all files, one after another, or the standard input, and tells the status: 0 where a line was selected, 1 where none was, and
@@ -123,27 +145,12 @@ impl Job<'_, '_, '_> {
 pub fn search_all(rt: &HostRuntime, regex: &Regex, options: &Options<'_>) -> io::Result<u8> {
     let alloc = rt.alloc();
     let mut selector = LineRegex::new(alloc, regex, options.invert)?;
-    let mut out = BufWriter::new(alloc, rt.stdout())?;
     let job = Job {
         alloc,
         regex,
         options,
     };
-    let mut is_any = false;
-    let mut has_failed = false;
-    for name in &options.files {
-        match job.search_named(rt, &mut selector, &mut out, name) {
-            Ok(found) => is_any = is_any || found,
-            Err(Fault::Read(fault)) => {
-                has_failed = true;
-                let _ = writeln!(rt.stderr(), "rcgrep: {name}: {fault}");
-            }
-            Err(Fault::Write(fault)) => return Err(fault),
-        }
-    }
-    out.flush()?;
-    if has_failed {
-        return Ok(2);
-    }
-    Ok(if is_any { 0 } else { 1 })
+    let searched = job.search_files(rt, &mut selector);
+    drop(selector);
+    searched
 }

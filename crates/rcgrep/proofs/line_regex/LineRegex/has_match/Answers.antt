@@ -2,9 +2,13 @@ use Rattle.std.proofs.Common.{ap, ◌∙◌}
 use Rattle.std.specs.Option.{is_some}
 use Rattle.rc_program.specs.Kinds.{answer_by}
 use Rattle.rc_meta.specs.Views.{regex_kind, sought}
+use Rattle.rcgrep.specs.Picked.{has_match}
+use Rattle.rcgrep.specs.Selecting.{Selecting}
 use Rattle.rcgrep.proofs.line_regex.LineRegex.has_match.Goals as goal
 
 pub returns-clause-value : goal.returns-clause-value
 returns-clause-value c =
-    let r = c.args.self.now.regex.now in
-    c.is_some.ensures ∙ ap is_some (c.search_with.ensures.found_by ∙ ap (answer_by (regex_kind r)) (c.input_over-input.ensures (sought r)))
+    let r = c.self.inside.regex.now in
+    c.is_some.ensures
+    ∙ ap is_some (c.search_with.ensures.found_by ∙ ap (answer_by (regex_kind r)) (c.input_over-input.ensures (sought r)))
+    ∙ ap (λ (s : Selecting). has_match s.regex c.args.line.now) c.self.view_is
