@@ -237,33 +237,93 @@ fn may_be_empty(hirs: &[Hir]) -> bool {
     false
 }
 
-/// The searches of the regex in one cache, which all tell the same.
+/// What the searches of the regex tell in caches that are lent, which is the same.
 fn by_regex(alloc: Global, regex: &Regex, input: &mut Input<Recut>) -> Result<Told, Fault> {
-    let mut cache = regex.create_cache(alloc)?;
-    let mut captures = regex.create_captures(alloc)?;
-    let mut slots = vec![in alloc; None; regex.group_info().slot_len()]?;
-    let found = regex.search_with(&mut cache, input);
-    let half = regex.search_half_with(&mut cache, input);
-    same(half == half_of(found), Fault::SearchHalfWith)?;
-    regex.search_captures_with(&mut cache, input, &mut captures);
+    let found = found_by_regex(alloc, regex, input)?;
+    let slots = slots_by_regex(alloc, regex, found, input)?;
+    let captures = captured_by_regex(alloc, regex, input)?;
     same(captures.get_match() == found, Fault::SearchCapturesWith)?;
-    let pattern = regex.search_slots_with(&mut cache, input, slots.as_mut_slice());
-    same(pattern == pattern_of(found), Fault::SearchSlotsWith)?;
     same(slots_of(&captures) == slots.as_slice(), Fault::Slots)?;
     Ok(Told { found, slots })
 }
 
-/// The searches of the `PikeVM` in one cache tell what was told.
+/// The match that the regex finds; its end is found in the same cache.
+fn found_by_regex(
+    alloc: Global,
+    regex: &Regex,
+    input: &mut Input<Recut>,
+) -> Result<Option<Match>, Fault> {
+    let mut cache = regex.create_cache(alloc)?;
+    let found = regex.search_with(&mut cache, input);
+    let half = regex.search_half_with(&mut cache, input);
+    drop(cache);
+    same(half == half_of(found), Fault::SearchHalfWith)?;
+    Ok(found)
+}
+
+/// The captures of the match that the regex finds.
+fn captured_by_regex(
+    alloc: Global,
+    regex: &Regex,
+    input: &mut Input<Recut>,
+) -> Result<Captures, Fault> {
+    let mut captures = regex.create_captures(alloc)?;
+    let mut cache = regex.create_cache(alloc)?;
+    regex.search_captures_with(&mut cache, input, &mut captures);
+    drop(cache);
+    Ok(captures)
+}
+
+/// The slots of the match that the regex finds, which is of the pattern that was told.
+fn slots_by_regex(
+    alloc: Global,
+    regex: &Regex,
+    found: Option<Match>,
+    input: &mut Input<Recut>,
+) -> Result<Vec<Option<usize>>, Fault> {
+    let mut slots = vec![in alloc; None; regex.group_info().slot_len()]?;
+    let mut cache = regex.create_cache(alloc)?;
+    let pattern = regex.search_slots_with(&mut cache, input, slots.as_mut_slice());
+    drop(cache);
+    same(pattern == pattern_of(found), Fault::SearchSlotsWith)?;
+    Ok(slots)
+}
+
+/// The searches of the `PikeVM` tell what was told.
 fn by_vm(alloc: Global, vm: &PikeVM, told: &Told, input: &mut Input<Recut>) -> Result<(), Fault> {
-    let mut cache = vm.create_cache(alloc)?;
-    let mut captures = Captures::all(alloc, vm.get_group_info())?;
-    let mut slots = vec![in alloc; None; vm.get_group_info().slot_len()]?;
-    let is_match = search::is_match(vm, &mut cache, input);
-    same(is_match == told.found.is_some(), Fault::VmIsMatch)?;
-    search::search(vm, &mut cache, input, &mut captures);
+    let captures = captured_by_vm(alloc, vm, told, input)?;
     same(captures.get_match() == told.found, Fault::Vm)?;
     same(slots_of(&captures) == told.slots.as_slice(), Fault::VmSlots)?;
+    slots_by_vm(alloc, vm, told, input)
+}
+
+/// The captures of the match that the `PikeVM` finds, where it tells that there is one if one was told; in one cache.
+fn captured_by_vm(
+    alloc: Global,
+    vm: &PikeVM,
+    told: &Told,
+    input: &mut Input<Recut>,
+) -> Result<Captures, Fault> {
+    let mut captures = Captures::all(alloc, vm.get_group_info())?;
+    let mut cache = vm.create_cache(alloc)?;
+    let is_match = search::is_match(vm, &mut cache, input);
+    search::search(vm, &mut cache, input, &mut captures);
+    drop(cache);
+    same(is_match == told.found.is_some(), Fault::VmIsMatch)?;
+    Ok(captures)
+}
+
+/// The slots of the match that the `PikeVM` finds are those that were told.
+fn slots_by_vm(
+    alloc: Global,
+    vm: &PikeVM,
+    told: &Told,
+    input: &mut Input<Recut>,
+) -> Result<(), Fault> {
+    let mut slots = vec![in alloc; None; vm.get_group_info().slot_len()]?;
+    let mut cache = vm.create_cache(alloc)?;
     let pattern = search::search_slots(vm, &mut cache, input, slots.as_mut_slice());
+    drop(cache);
     same(pattern == pattern_of(told.found), Fault::VmSearchSlots)?;
     same(slots == told.slots, Fault::VmSearchSlots)
 }

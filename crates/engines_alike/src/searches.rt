@@ -30,22 +30,72 @@ fn is_wanted(row: &Row, found: Option<Match>) -> bool {
 pub fn first(alloc: Global, engines: &mut Engines, row: &Row, cursor: Recut) -> Result<(), Fault> {
     let found = engines.found(alloc, &mut input(row, cursor)?)?;
     same(is_wanted(row, found), Fault::InACache)?;
-    let other = engines.unfiltered.find(alloc, input(row, cursor)?)?;
+    let other = found_by(alloc, &engines.unfiltered, row, cursor)?;
     same(other == found, Fault::FindUnfiltered)?;
-    let other = engines.tabled.find(alloc, input(row, cursor)?)?;
+    let other = found_by(alloc, &engines.tabled, row, cursor)?;
     same(other == found, Fault::FindByTables)?;
     by_tables(engines, row, cursor)?;
-    let regex = &engines.regex;
-    let other = regex.find(alloc, input(row, cursor)?)?;
+    by_calls(alloc, &engines.regex, found, row, cursor)
+}
+
+/// The calls of a regex that make a cache of their own tell the match.
+fn by_calls(
+    alloc: Global,
+    regex: &Regex,
+    found: Option<Match>,
+    row: &Row,
+    cursor: Recut,
+) -> Result<(), Fault> {
+    let other = found_by(alloc, regex, row, cursor)?;
     same(other == found, Fault::Find)?;
-    let other = regex.search(alloc, input(row, cursor)?)?;
+    let other = searched_by(alloc, regex, row, cursor)?;
     same(other == found, Fault::Search)?;
-    let other = regex.search_half(alloc, input(row, cursor)?)?;
+    let other = half_by(alloc, regex, row, cursor)?;
     same(other == half_of(found), Fault::SearchHalf)?;
-    let other = regex.is_match(alloc, input(row, cursor)?)?;
+    let other = is_match_by(alloc, regex, row, cursor)?;
     same(other == found.is_some(), Fault::IsMatch)?;
-    let other = regex.captures(alloc, input(row, cursor)?)?;
+    let other = captured_by(alloc, regex, row, cursor)?;
     same(other.get_match() == found, Fault::Captures)
+}
+
+/// The match that `find` finds.
+fn found_by(
+    alloc: Global,
+    regex: &Regex,
+    row: &Row,
+    cursor: Recut,
+) -> Result<Option<Match>, Fault> {
+    Ok(regex.find(alloc, input(row, cursor)?)?)
+}
+
+/// The match that `search` finds.
+fn searched_by(
+    alloc: Global,
+    regex: &Regex,
+    row: &Row,
+    cursor: Recut,
+) -> Result<Option<Match>, Fault> {
+    Ok(regex.search(alloc, input(row, cursor)?)?)
+}
+
+/// The end of the match that `search_half` finds.
+fn half_by(
+    alloc: Global,
+    regex: &Regex,
+    row: &Row,
+    cursor: Recut,
+) -> Result<Option<HalfMatch>, Fault> {
+    Ok(regex.search_half(alloc, input(row, cursor)?)?)
+}
+
+/// Whether `is_match` finds one.
+fn is_match_by(alloc: Global, regex: &Regex, row: &Row, cursor: Recut) -> Result<bool, Fault> {
+    Ok(regex.is_match(alloc, input(row, cursor)?)?)
+}
+
+/// The captures of the match that `captures` finds.
+fn captured_by(alloc: Global, regex: &Regex, row: &Row, cursor: Recut) -> Result<Captures, Fault> {
+    Ok(regex.captures(alloc, input(row, cursor)?)?)
 }
 
 /// The engines that search by tables find the match that the row wants, or stop where it says so.
@@ -118,26 +168,25 @@ pub fn captured_groups(
     row: &Row,
     cursor: Recut,
 ) -> Result<(), Fault> {
-    let mut captures = engines.regex.captures(alloc, input(row, cursor)?)?;
+    let captures = captured_by(alloc, &engines.regex, row, cursor)?;
     same(spans_of(alloc, &captures)? == row.spans, Fault::Captures)?;
-    let input_again = input(row, cursor)?;
-    engines
-        .regex
-        .search_captures(alloc, input_again, &mut captures)?;
-    same(
-        spans_of(alloc, &captures)? == row.spans,
-        Fault::SearchCaptures,
-    )?;
-    let captures = engines.unfiltered.captures(alloc, input(row, cursor)?)?;
-    same(
-        spans_of(alloc, &captures)? == row.spans,
-        Fault::CapturesUnfiltered,
-    )?;
-    let captures = engines.tabled.captures(alloc, input(row, cursor)?)?;
+    let spans = captured_again(alloc, &engines.regex, row, cursor)?;
+    same(spans == row.spans, Fault::SearchCaptures)?;
+    let captures = captured_by(alloc, &engines.unfiltered, row, cursor)?;
+    let is_same = spans_of(alloc, &captures)? == row.spans;
+    same(is_same, Fault::CapturesUnfiltered)?;
+    let captures = captured_by(alloc, &engines.tabled, row, cursor)?;
     same(
         spans_of(alloc, &captures)? == row.spans,
         Fault::CapturesByTables,
     )
+}
+
+/// The groups that a search fills in where those of the same match stand.
+fn captured_again(alloc: Global, regex: &Regex, row: &Row, cursor: Recut) -> Result<Spans, Fault> {
+    let mut captures = regex.captures(alloc, input(row, cursor)?)?;
+    regex.search_captures(alloc, input(row, cursor)?, &mut captures)?;
+    spans_of(alloc, &captures)
 }
 
 /// The spans of the groups, none where there is no match.

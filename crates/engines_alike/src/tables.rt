@@ -47,12 +47,17 @@ impl Hybrid {
         regex: rc_hybrid::regex::Regex,
         is_small: bool,
     ) -> Result<Hybrid, AllocError> {
-        let cache = regex.create_cache(alloc)?;
-        Ok(Hybrid {
-            regex,
-            cache,
-            is_small,
-        })
+        match regex.create_cache(alloc) {
+            Ok(cache) => Ok(Hybrid {
+                regex,
+                cache,
+                is_small,
+            }),
+            Err(refused) => {
+                drop(regex);
+                Err(refused)
+            }
+        }
     }
 
     /// The match that a search of the input finds.
