@@ -240,6 +240,8 @@ fn may_be_empty(hirs: &[Hir]) -> bool {
 /// What the searches of the regex tell in caches that are lent, which is the same.
 fn by_regex(alloc: Global, regex: &Regex, input: &mut Input<Recut>) -> Result<Told, Fault> {
     let found = found_by_regex(alloc, regex, input)?;
+    let half = half_by_regex(alloc, regex, input)?;
+    same(half == half_of(found), Fault::SearchHalfWith)?;
     let slots = slots_by_regex(alloc, regex, found, input)?;
     let captures = captured_by_regex(alloc, regex, input)?;
     same(captures.get_match() == found, Fault::SearchCapturesWith)?;
@@ -247,7 +249,7 @@ fn by_regex(alloc: Global, regex: &Regex, input: &mut Input<Recut>) -> Result<To
     Ok(Told { found, slots })
 }
 
-/// The match that the regex finds; its end is found in the same cache.
+/// The match that the regex finds.
 fn found_by_regex(
     alloc: Global,
     regex: &Regex,
@@ -255,10 +257,20 @@ fn found_by_regex(
 ) -> Result<Option<Match>, Fault> {
     let mut cache = regex.create_cache(alloc)?;
     let found = regex.search_with(&mut cache, input);
+    drop(cache);
+    Ok(found)
+}
+
+/// The end of the match that the regex finds.
+fn half_by_regex(
+    alloc: Global,
+    regex: &Regex,
+    input: &mut Input<Recut>,
+) -> Result<Option<HalfMatch>, Fault> {
+    let mut cache = regex.create_cache(alloc)?;
     let half = regex.search_half_with(&mut cache, input);
     drop(cache);
-    same(half == half_of(found), Fault::SearchHalfWith)?;
-    Ok(found)
+    Ok(half)
 }
 
 /// The captures of the match that the regex finds.
