@@ -615,11 +615,14 @@ impl Engines {
             return Ok(None);
         }
         let mut states = self.states_for(alloc, input)?;
-        if let Some(found) = self.find_in(&mut states, input) {
+        let told = self.find_in(&mut states, input);
+        drop(states);
+        if let Some(found) = told {
             return Ok(found);
         }
         let mut cache = self.engine.create_cache(alloc, 0)?;
         let found = self.engine.find(&mut cache, input);
+        drop(cache);
         Ok(found)
     }
 
@@ -637,11 +640,14 @@ impl Engines {
             return Ok(None);
         }
         let mut states = self.states_for(alloc, input)?;
-        if let Some(found) = self.find_end_in(&mut states, input) {
+        let told = self.find_end_in(&mut states, input);
+        drop(states);
+        if let Some(found) = told {
             return Ok(found);
         }
         let mut cache = self.engine.create_cache(alloc, 0)?;
         let found = half_of(self.engine.find(&mut cache, input));
+        drop(cache);
         Ok(found)
     }
 
@@ -658,11 +664,15 @@ impl Engines {
             return Ok(false);
         }
         let mut states = self.states_for(alloc, input)?;
-        if let Some(found) = self.any_in(&mut states, input) {
+        let told = self.any_in(&mut states, input);
+        drop(states);
+        if let Some(found) = told {
             return Ok(found);
         }
         let mut cache = self.engine.create_cache(alloc, 0)?;
-        Ok(self.engine.is_match(&mut cache, input))
+        let found = self.engine.is_match(&mut cache, input);
+        drop(cache);
+        Ok(found)
     }
 }
 

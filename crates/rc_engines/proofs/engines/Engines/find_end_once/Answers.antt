@@ -13,6 +13,6 @@ returns-then-leave_none-clause-found g c =
 
 pub returns-clause-within : goal.returns-clause-within
 returns-clause-within g c =
-    half_within_kept c.args.input.now c.find_end_in.new.input c.find.result c.half_of-found.result
-    (kept_then c.args.input.now c.states_for.new.input c.find_end_in.new.input (kept_then c.args.input.now c.leave_none.new.input c.states_for.new.input c.leave_none.ensures.keeps c.states_for.ensures.keeps) c.find_end_in.ensures.keeps)
+    half_within_kept c.args.input.now c.find_end_in-told.new.input c.find.result c.half_of-found.result
+    (kept_then c.args.input.now c.states_for.new.input c.find_end_in-told.new.input (kept_then c.args.input.now c.leave_none.new.input c.states_for.new.input c.leave_none.ensures.keeps c.states_for.ensures.keeps) c.find_end_in-told.ensures.keeps)
     c.find.ensures.within c.half_of-found.ensures

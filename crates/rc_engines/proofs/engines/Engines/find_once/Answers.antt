@@ -10,6 +10,6 @@ returns-then-leave_none-clause-found g c =
 
 pub returns-clause-within : goal.returns-clause-within
 returns-clause-within g c =
-    within_kept c.args.input.now c.find_in.new.input c.find-found.result
-    (kept_then c.args.input.now c.states_for.new.input c.find_in.new.input (kept_then c.args.input.now c.leave_none.new.input c.states_for.new.input c.leave_none.ensures.keeps c.states_for.ensures.keeps) c.find_in.ensures.keeps)
+    within_kept c.args.input.now c.find_in-told.new.input c.find-found.result
+    (kept_then c.args.input.now c.states_for.new.input c.find_in-told.new.input (kept_then c.args.input.now c.leave_none.new.input c.states_for.new.input c.leave_none.ensures.keeps c.states_for.ensures.keeps) c.find_in-told.ensures.keeps)
     c.find-found.ensures.within
