@@ -129,6 +129,24 @@ fn regex_of(
     builder.build_many(alloc, patterns)
 }
 
+/// The setting of the capacity that the row names, where it names one, and of no tables then.
+fn with_capacity(
+    alloc: Global,
+    patterns: &[&str],
+    settings: &Settings,
+) -> Result<Config, BuildError>
+    requires { length patterns.now ≤ 2147483647 }
+{
+    let Some(capacity) = settings.capacity else {
+        return Ok(Config::new());
+    };
+    let hybrid = settings.hybrid_builder(None).build_many(alloc, patterns)?;
+    let least = hybrid.minimum_cache_capacity();
+    drop(hybrid);
+    let bytes = capacity.bytes(least);
+    Ok(Config::new().dfa(false).hybrid_cache_capacity(bytes))
+}
+
 /// The regex, the one that looks for no needles of its own and has no tables, and the one that has tables however large.
 fn regexes(
     alloc: Global,
@@ -143,7 +161,12 @@ fn regexes(
         .dfa(true)
         .dfa_state_limit(None)
         .dfa_size_limit(settings.regex_dfa_limit());
-    let regex = regex_of(alloc, patterns, settings, Config::new())?;
+    let regex = regex_of(
+        alloc,
+        patterns,
+        settings,
+        with_capacity(alloc, patterns, settings)?,
+    )?;
     match regex_of(alloc, patterns, settings, plain) {
         Ok(unfiltered) => match regex_of(alloc, patterns, settings, large) {
             Ok(tabled) => Ok((regex, unfiltered, tabled)),

@@ -70,6 +70,8 @@ pub enum Part {
     Forward,
     /// One of those for the matches one after another.
     List,
+    /// Any that lets states go, where a cache is large enough for all of them.
+    Clear,
 }
 
 impl From<AllocError> for Fault {

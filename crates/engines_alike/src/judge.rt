@@ -5,7 +5,7 @@ use crate::cursors::{Cutting, Recut};
 use crate::engines::{Engines, MOST_PATTERNS};
 use crate::faults::{Fault, same};
 use crate::row::{Row, Want, is_refused};
-use crate::{parses, searches};
+use crate::{alike, parses, searches};
 use std::alloc::Global;
 
 /// Every way in which a text is cut.
@@ -16,10 +16,13 @@ pub const CUTTINGS: [Cutting; 4] = [
     Cutting::Untold,
 ];
 
-/// The row is answered as it wants to be.
-pub fn judge(alloc: Global, row: &Row) -> Result<(), Fault> {
+/// The row is answered as it wants to be. Where it wants that engines answer alike, what is wanted is set to what they find.
+pub fn judge(alloc: Global, row: &mut Row) -> Result<(), Fault> {
     if row.patterns.len() > MOST_PATTERNS {
         return Err(Fault::UnreadPattern);
+    }
+    if matches!(row.want, Want::Alike) {
+        return alike::judge(alloc, row);
     }
     match Engines::build(alloc, &row.patterns, &row.settings) {
         Ok(mut engines) => {
@@ -44,7 +47,7 @@ fn over_all_cuttings(alloc: Global, engines: &mut Engines, row: &Row) -> Result<
             Want::Groups => searches::groups(alloc, engines, row, cursor)?,
             Want::Pieces => searches::pieces(alloc, engines, row, cursor)?,
             Want::Refused(word) => same(word == "no", Fault::Refusal)?,
-            Want::Nothing => return Err(Fault::UnreadWant),
+            Want::Nothing | Want::Alike => return Err(Fault::UnreadWant),
         }
     }
     Ok(())

@@ -1,6 +1,7 @@
 //! Patterns that are built for every engine and searched over every cutting of a text, and whether all answers are those wanted.
 #![tactic(auto)]
 
+pub mod alike;
 pub mod cursors;
 pub mod engines;
 pub mod faults;

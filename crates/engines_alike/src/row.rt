@@ -26,6 +26,8 @@ pub enum Want<'a> {
     Pieces,
     /// That the patterns are refused so, or by `no` that they aren't.
     Refused(&'a str),
+    /// That all engines answer alike, whatever they answer.
+    Alike,
 }
 
 /// Where searches by tables may quit.
@@ -62,6 +64,8 @@ pub struct Row<'a> {
     pub spans: Vec<Option<Pair>>,
     /// Where searches by tables may quit.
     pub quits: Quits,
+    /// How many bytes stand before the text, each `a` where its offset has an even number of binary ones, else `b`.
+    parities: usize,
 }
 
 impl<'a> Row<'a> {
@@ -78,11 +82,13 @@ impl<'a> Row<'a> {
             number: None,
             spans: Vec::new(alloc),
             quits: Quits::Nowhere,
+            parities: 0,
         };
         for field in line.split('\t') {
             let (name, value) = field.split_once('=').ok_or(Fault::UnreadField)?;
             row.set(alloc, name, value)?;
         }
+        row.text = after_parities(alloc, row.parities, &row.text)?;
         Ok(row)
     }
 
@@ -100,6 +106,8 @@ impl<'a> Row<'a> {
             "groups" => self.wants(alloc, Want::Groups, value)?,
             "pieces" => self.wants(alloc, Want::Pieces, value)?,
             "refused" => self.wants(alloc, Want::Refused(value), "none")?,
+            "alike" => self.wants(alloc, Want::Alike, "none")?,
+            "parities" => self.parities = number(value)?,
             _ => self.settings.set(name, value)?,
         }
         Ok(())
@@ -192,6 +200,20 @@ fn is_numbered(text: &str, word: &str, wanted: usize) -> bool {
         None => false,
         Some(rest) => matches!(number(rest), Ok(found) if found == wanted),
     }
+}
+
+/// So many bytes, `a` at an offset with an even number of binary ones and else `b`, and then the text.
+fn after_parities(alloc: Global, count: usize, text: &[u8]) -> Result<Vec<u8>, Fault> {
+    let mut made = Vec::new(alloc);
+    for offset in 0..count {
+        made.push(if offset.count_ones() % 2 == 0 {
+            b'a'
+        } else {
+            b'b'
+        })?;
+    }
+    made.extend_from_slice(text)?;
+    Ok(made)
 }
 
 /// The bytes of a text, where `\n`, `\r`, `\t`, `\\` and `\x00` to `\xFF` stand for one byte each.

@@ -118,7 +118,9 @@ fn by_table(engine: &mut TableEngine, row: &Row, cursor: Recut) -> Result<(), Fa
         Ok(half) => is_end_wanted(row, half) && !has_to_quit(row),
         Err(error) => engine.may_end_by(error, row.quits),
     };
-    same(is_same, engine.fault(Part::Forward))
+    same(is_same, engine.fault(Part::Forward))?;
+    let is_same = row.settings.clears || engine.keeps_states();
+    same(is_same, engine.fault(Part::Clear))
 }
 
 /// The match that the row wants ends here.

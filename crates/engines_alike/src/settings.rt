@@ -1,6 +1,6 @@
 //! The settings of a row, under which its patterns are built.
 
-use crate::faults::Fault;
+use crate::faults::{Fault, same};
 use crate::row::number;
 use rc_literal::prefilter::Prefilter;
 use rc_parser::Config as Syntax;
@@ -37,6 +37,43 @@ pub struct Settings<'a> {
     pub dfa_limit: Option<usize>,
     /// Whether a DFA searches too, by tables that are made at the build.
     pub tables: bool,
+    /// The capacity of the regex's cache of states. Where it is set the regex has no tables.
+    pub capacity: Option<Capacity>,
+    /// Whether a cache of the capacity that it has by default may be cleared.
+    pub clears: bool,
+}
+
+/// The capacity of a cache of states.
+#[derive(Clone, Copy)]
+pub enum Capacity {
+    /// The least that serves, plus the first number and less the second.
+    Least(usize, usize),
+    /// So many bytes.
+    Bytes(usize),
+}
+
+impl Capacity {
+    /// What a word says: a number of bytes, or `least`, perhaps with `+` or `-` and a number.
+    fn read(word: &str) -> Result<Capacity, Fault> {
+        let Some(rest) = word.strip_prefix("least") else {
+            return Ok(Capacity::Bytes(number(word)?));
+        };
+        if let Some(more) = rest.strip_prefix('+') {
+            return Ok(Capacity::Least(number(more)?, 0));
+        }
+        match rest.strip_prefix('-') {
+            Some(less) => Ok(Capacity::Least(0, number(less)?)),
+            None => same(rest.is_empty(), Fault::UnreadSetting).map(|()| Capacity::Least(0, 0)),
+        }
+    }
+
+    /// The bytes, where this is the least that serves.
+    pub fn bytes(self, least: usize) -> usize {
+        match self {
+            Capacity::Least(more, less) => least.saturating_add(more).saturating_sub(less),
+            Capacity::Bytes(bytes) => bytes,
+        }
+    }
 }
 
 /// The limit on the tables of a DFA where a row sets none.
@@ -56,6 +93,8 @@ impl<'a> Settings<'a> {
             walker: true,
             dfa_limit: Some(DFA_LIMIT),
             tables: true,
+            capacity: None,
+            clears: false,
         }
     }
 
@@ -78,6 +117,8 @@ impl<'a> Settings<'a> {
             ("needle", _) => self.needle = Some(value),
             ("walker", "no") => self.walker = false,
             ("tables", "no") => self.tables = false,
+            ("capacity", _) => self.capacity = Some(Capacity::read(value)?),
+            ("clears", "may") => self.clears = true,
             ("dfa_limit", _) => self.dfa_limit = Some(number(value)?),
             _ => return Err(Fault::UnreadSetting),
         }

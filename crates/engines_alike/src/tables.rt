@@ -150,6 +150,14 @@ impl TableEngine {
         }
     }
 
+    /// It has let no states go, unless its cache is small.
+    pub fn keeps_states(&self) -> bool {
+        match self {
+            TableEngine::Dfa(_) => true,
+            TableEngine::Hybrid(hybrid) => hybrid.is_small || hybrid.cache.clear_count() == 0,
+        }
+    }
+
     /// Its tables may be too small for a search.
     fn may_give_up(&self) -> bool {
         match self {

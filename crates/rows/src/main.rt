@@ -10,8 +10,8 @@ use std::io;
 
 /// The row of a line is answered as it wants to be.
 fn run(alloc: Global, line: &str) -> Result<(), Fault> {
-    let row = Row::read(alloc, line)?;
-    judge(alloc, &row)
+    let mut row = Row::read(alloc, line)?;
+    judge(alloc, &mut row)
 }
 
 fn main(rt: HostRuntime) -> io::Result<()> {
