@@ -10,8 +10,6 @@ mod grammar;
 #[cfg(test)]
 mod programs;
 #[cfg(test)]
-mod refusals;
-#[cfg(test)]
 mod searchers;
 #[cfg(test)]
 mod shown;
