@@ -1,5 +1,5 @@
 -- What a thread's entering of a place does to the patterns that are owed.
-use Rattle.std.proofs.Common.{◌≡◌, ◌≢◌, ◌↔◌, ℕ, ◌+◌, ◌<◌, ◌≤◌, ◌⊎◌, Bool, true, false, List, [], ◌∷◌, ◌++◌, length, map, set, reverse, inl, inr, ⊎_elim, sym, subst, ap, ◌∙◌, refl, arith, IsTrue, Option}
+use Rattle.std.proofs.Common.{◌≡◌, ◌≢◌, ◌↔◌, ℕ, ◌+◌, ◌<◌, ◌≤◌, ◌⊎◌, Bool, true, false, List, [], ◌∷◌, ◌++◌, length, map, set, reverse, inl, inr, ⊎_elim, sym, subst, ap, ◌∙◌, refl, arith, IsTrue}
 use Rattle.std.proofs.lemmas.Bool.{le-ltb}
 use Rattle.std.proofs.lemmas.List.{map-append, append-nil}
 use Rattle.rc_patterns.specs.Sets.{Has as IsMember}
@@ -14,7 +14,7 @@ use Rattle.rc_pass.specs.Passing.{pairs, resting_of, frames_of}
 use Rattle.rc_pass.specs.Sparse.{Has}
 use Rattle.rc_pass.specs.Threads.{Thread}
 use Rattle.rc_pass.specs.declared.growth.Frame.{Frame}
-use Rattle.rc_pass.specs.declared.growth.Frame.TheVariants.{Explore, Restore}
+use Rattle.rc_pass.specs.declared.growth.Frame.TheVariants.{Explore}
 use Rattle.rc_pass.specs.declared.growth.Growth.{Growth}
 use Rattle.rc_pass.specs.declared.moves.Move.{Move}
 use Rattle.rc_pass.specs.declared.moves.Move.TheVariants.{Fork, Save, Matches, Stays, Reads, Stops}

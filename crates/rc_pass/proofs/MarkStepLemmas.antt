@@ -1,5 +1,5 @@
 -- The threads of one position, and all positions, of a pass that marks patterns.
-use Rattle.std.proofs.Common.{◌≡◌, ◌↔◌, ℕ, zero, suc, ◌+◌, ◌-◌, ◌*◌, ◌<◌, ◌≤◌, ◌⊎◌, Bool, true, List, [], ◌∷◌, ◌++◌, length, map, drop, min, inl, inr, ⊎_elim, sym, subst, ap, ◌∙◌, refl, arith, Option, Some, None, if◌then◌else◌, nat_le, slice_get, add-one, IsTrue}
+use Rattle.std.proofs.Common.{◌≡◌, ◌↔◌, ℕ, zero, suc, ◌+◌, ◌-◌, ◌*◌, ◌<◌, ◌≤◌, ◌⊎◌, Bool, true, List, [], ◌∷◌, ◌++◌, length, map, drop, min, inl, inr, ⊎_elim, sym, subst, ap, ◌∙◌, refl, arith, Some, if◌then◌else◌, nat_le, slice_get, add-one, IsTrue}
 use Rattle.std.proofs.Math.Nat.{mul-le-mul_right}
 use Rattle.std.proofs.lemmas.Bool.{cases_lt, le-leb}
 use Rattle.std.proofs.lemmas.List.{length_push}
@@ -7,13 +7,13 @@ use Rattle.std.proofs.lemmas.Option.{slice_get_within}
 use Rattle.rc_text.specs.Found.{Found}
 use Rattle.rc_patterns.specs.Sets.{Has}
 use Rattle.rc_walks.specs.Walks.{Pair, IsWalk}
-use Rattle.rc_program.specs.Program.{accept, place_at, is_match_place}
+use Rattle.rc_program.specs.Program.{accept, is_match_place}
 use Rattle.rc_program.specs.Answer.{Search, IsStart, only, next_of, ends, last_of}
 use Rattle.rc_program.specs.Greatest.{IsSpelledIn}
 use Rattle.rc_program.proofs.AnswerLemmas.{last_start_of, start_within_last, start_to_last, walk_ends}
 use Rattle.rc_program.proofs.GreatestLemmas.{spelled_within}
-use Rattle.rc_pass.specs.Marking.{LeadsToPattern, SomeLeads, Owed, AreSame, KeepsMarks, HasAll, going, entries, entering, IsMarkingOn, IsMarkingFrom, MarksFrom}
-use Rattle.rc_pass.specs.Passing.{AllIn, AllFrom, count_from, IsGrown, IsLined}
+use Rattle.rc_pass.specs.Marking.{SomeLeads, Owed, AreSame, KeepsMarks, HasAll, going, entries, entering, IsMarkingOn, IsMarkingFrom, MarksFrom}
+use Rattle.rc_pass.specs.Passing.{AllIn, count_from, IsGrown, IsLined}
 use Rattle.rc_pass.specs.PatternSpans.{HasSpan, AddsSpelled, AreOfFirst}
 use Rattle.rc_pass.specs.Sparse.{Members}
 use Rattle.rc_pass.specs.Threads.{Thread, ThreadList}

@@ -1,10 +1,10 @@
 use Rattle.std.proofs.Common.{ℕ, ◌+◌, sym, ap, ◌∙◌, arith, ⊎_elim, true≢false, rules, ◌-◌, ◌≤◌}
 use Rattle.rc_pass.specs.Moves.{seen}
 use Rattle.rc_pass.specs.Near.{size}
-use Rattle.rc_pass.specs.Marking.{IsMarkingFrom, HasAll}
+use Rattle.rc_pass.specs.Marking.{IsMarkingFrom}
 use Rattle.rc_pass.proofs.KeptLemmas.{kept_back, kept_window, kept_begun, kept_around}
 use Rattle.rc_pass.proofs.PassingLemmas.{counts_fit}
-use Rattle.rc_pass.proofs.MarkStepLemmas.{marking_from, marking_turns, marking_done, marking_ends, marking_full, all_then}
+use Rattle.rc_pass.proofs.MarkStepLemmas.{marking_turns, marking_done, marking_ends, marking_full, all_then}
 use Rattle.rc_pass.proofs.which.pass.Given.{Over}
 use Rattle.rc_pass.proofs.which.pass.Goals as goal
 use Rattle.rc_pass.proofs.which.pass.Goals.{After-turn}

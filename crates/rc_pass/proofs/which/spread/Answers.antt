@@ -1,4 +1,4 @@
-use Rattle.std.proofs.Common.{◌≡◌, ℕ, ◌<◌, [], ◌++◌, ◌↔◌, ◌∷◌, length, reverse, sym, subst, rules, ◌∙◌}
+use Rattle.std.proofs.Common.{◌≡◌, ℕ, [], ◌++◌, ◌↔◌, ◌∷◌, reverse, sym, subst, rules, ◌∙◌}
 use Rattle.rc_pass.specs.Near.{seen_from, size}
 use Rattle.rc_pass.specs.Marking.{Owed, explored}
 use Rattle.rc_pass.proofs.GrownLemmas.{grown_then}

@@ -1,4 +1,4 @@
-use Rattle.std.proofs.Common.{◌+◌, ◌<◌, map, ◌++◌, ◌↔◌, [], sym, arith, min, subst}
+use Rattle.std.proofs.Common.{◌+◌, ◌<◌, map, ◌++◌, ◌↔◌, [], arith, min, subst}
 use Rattle.rc_program.specs.Answer.{Search}
 use Rattle.rc_pass.specs.Near.{seen_from, size}
 use Rattle.rc_pass.specs.Threads.{thread_of}

@@ -1,8 +1,8 @@
-use Rattle.std.proofs.Common.{ℕ, ◌+◌, ◌-◌, ◌↔◌, ◌++◌, [], map, length, min, sym, ap, subst, ◌∙◌, arith}
+use Rattle.std.proofs.Common.{ℕ, ◌+◌, ◌-◌, min, sym, ap, subst, ◌∙◌, arith}
 use Rattle.rc_pass.specs.Threads.{ThreadList}
 use Rattle.rc_pass.specs.Near.{seen_from, size}
 use Rattle.rc_pass.specs.Passing.{AllIn, IsLined}
-use Rattle.rc_pass.specs.Marking.{Owed, entering, going}
+use Rattle.rc_pass.specs.Marking.{entering}
 use Rattle.rc_pass.proofs.TurnLemmas.{lined_next}
 use Rattle.rc_pass.proofs.MarkMoveLemmas.{same_then, turned_over}
 use Rattle.rc_pass.proofs.MarkStepLemmas.{entries_later}

@@ -1,8 +1,7 @@
-use Rattle.std.proofs.Common.{◌≡◌, ◌≤◌, ℕ, sym, subst, arith, true, set, length, ap, ◌∙◌}
+use Rattle.std.proofs.Common.{arith, true}
 use Rattle.std.proofs.lemmas.List.{length-set}
 use Rattle.rc_patterns.proofs.SetLemmas.{set_keeps}
 use Rattle.rc_pass.specs.Near.{seen_from}
-use Rattle.rc_pass.specs.Marking.{Owed, explored}
 use Rattle.rc_pass.proofs.MarkMoveLemmas.{skipped_owed, moved_owed, ended_owed, accepted}
 use Rattle.rc_pass.proofs.which.visit.Goals as goal
 
