@@ -63,13 +63,6 @@ impl<'r> Finder<'r> {
     ghost use Rattle.rc_text.specs.Text.{Keeps, high, low};
     ghost use Rattle.rc_text.specs.declared.types.MatchKind.TheVariants.{LeftmostFirst};
 
-    /// The regex.
-    pub fn regex(&self) -> &'r Regex
-        ensures { result.now ≡ self.now }
-    {
-        self.regex
-    }
-
     /// The match that a search of the input finds, as `Regex::search_with`. It takes no memory.
     pub fn find<C: Cursor>(&mut self, input: &mut Input<C>) -> Option<Match>
         ensures regex { self.new ≡ self.old }
