@@ -5,3 +5,4 @@ pub mod SpanLemmas
 pub mod TableLemmas
 pub mod CacheLemmas
 pub mod KeptLemmas
+pub mod PatternLemmas

@@ -14,4 +14,5 @@ pub mod sparse_set;
 mod spot;
 mod spread;
 mod threads;
+pub mod which;
 mod window;

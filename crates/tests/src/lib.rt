@@ -16,4 +16,6 @@ mod searchers;
 #[cfg(test)]
 mod shown;
 #[cfg(test)]
+mod which;
+#[cfg(test)]
 mod words;
