@@ -34,7 +34,7 @@ impl<const N: usize> Piece for [u8; N] {
     ghost bytes = { λ s. s };
 
     fn bytes(&self) -> &[u8] {
-        self
+        &self[..]
     }
 }
 
@@ -50,6 +50,6 @@ impl<A: Allocator> Piece for String<A> {
     ghost bytes = { λ s. string_bytes s };
 
     fn bytes(&self) -> &[u8] {
-        self.as_bytes()
+        self.as_str().as_bytes()
     }
 }

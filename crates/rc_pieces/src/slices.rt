@@ -30,6 +30,8 @@ pub struct SliceCursor<'a, T: Piece> {
 }
 
 impl<T: Piece> Clone for SliceCursor<'_, T> {
+    ghost is_clone = { λ c d. d ≡ c };
+
     fn clone(&self) -> Result<Self, AllocError> {
         Ok(*self)
     }
