@@ -1,0 +1,5 @@
+//! A cursor over a slice of whatever holds bytes.
+#![tactic(auto)]
+
+pub mod pieces;
+pub mod slices;
