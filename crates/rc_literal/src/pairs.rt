@@ -107,7 +107,7 @@ fn marks(piece: &[u8], at: usize, byte: u8) -> u64
 
 /// The lowest bit that is set.
 #[inline(always)]
-fn lowest(bits: u64) -> usize
+pub fn lowest(bits: u64) -> usize
     requires some { 0 < bits }
     requires small { bits < 2 ^ 32 }
     ensures low { result < 32 }

@@ -1,0 +1,15 @@
+use Rattle.std.proofs.Common.{◌≡◌, arith, inl, inr, subst}
+use Rattle.std.proofs.lemmas.Bool.{cases_lt}
+use Rattle.rc_literal.specs.Sieves.{Takes}
+use Rattle.rc_literal.proofs.SieveLemmas.{both_bits}
+use Rattle.rc_literal.proofs.sieve.Sift.taken_always.Goals as goal
+
+pub loop-byte-preserved : goal.loop-byte-preserved
+loop-byte-preserved c k e b l =
+    let parts = both_bits c.loop-byte.bits c.taken-bits.result k e in
+    elim (cases_lt b c.loop-byte.byte) [
+      | inl h ↦ c.loop-byte.invariant k parts.0 b h
+      | inr g ↦
+          let same : c.loop-byte.byte ≡ b = omega (arith, l, g) in
+          subst (λ x. Takes c.args.self.now x k) same (c.taken-bits.ensures k parts.1)
+    ]
