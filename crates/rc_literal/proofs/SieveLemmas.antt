@@ -10,7 +10,7 @@ use Rattle.std.proofs.lemmas.Nat.Bits.{bit_at_and, bit_at-zero, bit_at-trailing_
 use Rattle.std.proofs.lemmas.Simd.{bitmask_splat, bit_mask_l, mask_l-lt, length-chunk, get_or-chunk, length-zip2, get_or-zip2, get_or-replicate, length-swz_l, get_or-swz_l_below, swz_l, SwzOk, SwzOk-from_below, Each1-from_get_or}
 use Rattle.rc_literal.specs.declared.sieve.Sift.{Sift}
 use Rattle.rc_literal.specs.declared.sieve.Sieve.{Sieve}
-use Rattle.rc_literal.specs.Sieves.{AreLanes, IsSifted, MayStand, Takes, buckets, sifted}
+use Rattle.rc_literal.specs.Sieves.{AreLanes, IsSifted, MayStand, buckets, sifted}
 use Rattle.rc_literal.specs.Tables.{Agrees, IsRuledOut}
 use Rattle.rc_literal.proofs.ScanLemmas.{tail_length}
 
@@ -23,67 +23,67 @@ lanes_and u v f g p q = record {
 }
 
 -- a vector and one number
-lanes_with : (op : ℕ → ℕ → ℕ) (u : List ℕ) (f : ℕ → ℕ) (x : ℕ) → AreLanes u f → AreLanes (zip2 op u (replicate 32 x)) (λ k. op (f k) x)
+lanes_with : (op : ℕ → ℕ → ℕ) (u : List ℕ) (f : ℕ → ℕ) (x : ℕ) → AreLanes u f → AreLanes (zip2 op u (replicate 16 x)) (λ k. op (f k) x)
 lanes_with op u f x p = record {
-  long = length-zip2 op u (replicate 32 x) p.long ∙ p.long;
-  each = λ k l. get_or-zip2 op u (replicate 32 x) k 0 0 0 (omega (arith, l, p.long)) l ∙ ap (λ y. op y (get_or (replicate 32 x) k 0)) (p.each k l)
-      ∙ ap (op (f k)) (get_or-replicate 32 k x 0 l);
+  long = length-zip2 op u (replicate 16 x) p.long ∙ p.long;
+  each = λ k l. get_or-zip2 op u (replicate 16 x) k 0 0 0 (omega (arith, l, p.long)) l ∙ ap (λ y. op y (get_or (replicate 16 x) k 0)) (p.each k l)
+      ∙ ap (op (f k)) (get_or-replicate 16 k x 0 l);
 }
 
-loaded : (piece : List ℕ) (at : ℕ) → at + 32 ≤ length piece → AreLanes (chunk at 32 piece) (λ k. slice_index piece (at + k))
-loaded piece at fits = record { long = length-chunk at 32 piece fits; each = λ k l. get_or-chunk at 32 piece k 0 l }
+loaded : (piece : List ℕ) (at : ℕ) → at + 16 ≤ length piece → AreLanes (chunk at 16 piece) (λ k. slice_index piece (at + k))
+loaded piece at fits = record { long = length-chunk at 16 piece fits; each = λ k l. get_or-chunk at 16 piece k 0 l }
 
--- the low four bits of each of 32 bytes
-pub low_halves : (piece : List ℕ) (at : ℕ) → at + 32 ≤ length piece →
-    AreLanes (zip2 bit_and (chunk at 32 piece) (replicate 32 15)) (λ k. slice_index piece (at + k) % 16)
+-- the low four bits of each of 16 bytes
+pub low_halves : (piece : List ℕ) (at : ℕ) → at + 16 ≤ length piece →
+    AreLanes (zip2 bit_and (chunk at 16 piece) (replicate 16 15)) (λ k. slice_index piece (at + k) % 16)
 low_halves piece at fits =
-    let h = lanes_with bit_and (chunk at 32 piece) (λ k. slice_index piece (at + k)) 15 (loaded piece at fits) in
+    let h = lanes_with bit_and (chunk at 16 piece) (λ k. slice_index piece (at + k)) 15 (loaded piece at fits) in
     record { long = h.long; each = λ k l. h.each k l ∙ and_mask (slice_index piece (at + k)) 4 }
 
 -- and the high four
-pub high_halves : (piece : List ℕ) (at : ℕ) → at + 32 ≤ length piece →
-    AreLanes (zip2 (λ a b. a / 2 ^ b) (chunk at 32 piece) (replicate 32 4)) (λ k. slice_index piece (at + k) / 16)
-high_halves piece at fits = lanes_with (λ a b. a / 2 ^ b) (chunk at 32 piece) (λ k. slice_index piece (at + k)) 4 (loaded piece at fits)
+pub high_halves : (piece : List ℕ) (at : ℕ) → at + 16 ≤ length piece →
+    AreLanes (zip2 (λ a b. a / 2 ^ b) (chunk at 16 piece) (replicate 16 4)) (λ k. slice_index piece (at + k) / 16)
+high_halves piece at fits = lanes_with (λ a b. a / 2 ^ b) (chunk at 16 piece) (λ k. slice_index piece (at + k)) 4 (loaded piece at fits)
 
-pub halves_in : (js : List ℕ) (f : ℕ → ℕ) → AreLanes js f → ((k : ℕ) → k < 32 → f k < 16) → SwzOk w8 16 32 0 js
+pub halves_in : (js : List ℕ) (f : ℕ → ℕ) → AreLanes js f → ((k : ℕ) → k < 16 → f k < 16) → SwzOk w8 16 16 0 js
 halves_in js f p small =
     let long = p.long in
-    SwzOk-from_below w8 16 2 32 0 js refl (omega (arith, long))
+    SwzOk-from_below w8 16 1 16 0 js refl (omega (arith, long))
     (Each1-from_get_or (λ j. j < 16) js 0 (λ i l. let e = p.each i (omega (arith, l, long)) in let s = small i (omega (arith, l, long)) in omega (arith, e, s)))
 
--- what a table has for them, in the half where each is
-pub halves_looked_up : (table js : List ℕ) (f : ℕ → ℕ) → AreLanes js f → ((k : ℕ) → k < 32 → f k < 16) →
-    AreLanes (swz_l w8 16 (take 32 table) 0 js) (λ k. slice_index table (16 * (k / 16) + f k))
+-- what a table has for them
+pub halves_looked_up : (table js : List ℕ) (f : ℕ → ℕ) → AreLanes js f → ((k : ℕ) → k < 16 → f k < 16) →
+    AreLanes (swz_l w8 16 (take 16 table) 0 js) (λ k. slice_index table (f k))
 halves_looked_up table js f p small =
     let long = p.long in
     record {
-      long = length-swz_l w8 16 (take 32 table) 0 js ∙ long;
+      long = length-swz_l w8 16 (take 16 table) 0 js ∙ long;
       each = λ k l.
           let e = p.each k l in
           let s = small k l in
-          let here : 16 * ((0 + k) / 16) + get_or js k 0 ≡ 16 * (k / 16) + f k = omega (arith, e) in
-          get_or-swz_l_below w8 16 (take 32 table) 0 js k (omega (arith, l, long)) (omega (arith, e, s)) ∙ ap (λ j. get_or (take 32 table) j 0) here
-          ∙ get_or-take 32 table (16 * (k / 16) + f k) 0 (omega (arith, l, s));
+          let here : 16 * ((0 + k) / 16) + get_or js k 0 ≡ f k = omega (arith, e, l) in
+          get_or-swz_l_below w8 16 (take 16 table) 0 js k (omega (arith, l, long)) (omega (arith, e, s)) ∙ ap (λ j. get_or (take 16 table) j 0) here
+          ∙ get_or-take 16 table (f k) 0 (omega (arith, s));
     }
 
 pub small_halves : (piece : List ℕ) (at k : ℕ) → slice_index piece (at + k) < 256 → slice_index piece (at + k) / 16 < 16
 small_halves piece at k small = omega (arith, small)
 
 -- the bits of the places that aren't 0 fit
-pub nonzero_fit : (v : List ℕ) → length v ≡ 32 →
-    mask_l (map (top 7) (zip2 (λ a b. cond (not (eqb a b)) 255 0) v (replicate 32 0))) % 2 ^ 64 < 2 ^ 32
+pub nonzero_fit : (v : List ℕ) → length v ≡ 16 →
+    mask_l (map (top 7) (zip2 (λ a b. cond (not (eqb a b)) 255 0) v (replicate 16 0))) % 2 ^ 64 < 2 ^ 16
 nonzero_fit v long =
-    let all : length (map (λ x. not (eqb x 0)) v) ≡ 32 = length-map v (λ x. not (eqb x 0)) ∙ long in
+    let all : length (map (λ x. not (eqb x 0)) v) ≡ 16 = length-map v (λ x. not (eqb x 0)) ∙ long in
     let lt = mask_l-lt (map (λ x. not (eqb x 0)) v) in
-    rw (bitmask_splat w8 (λ a b. not (eqb a b)) v 32 0 long (omega arith)) (rw all at lt)
+    rw (bitmask_splat w8 (λ a b. not (eqb a b)) v 16 0 long (omega arith)) (rw all at lt)
 
 -- and each of them is set
-pub nonzero_set : (v : List ℕ) (f : ℕ → ℕ) (k : ℕ) → AreLanes v f → k < 32 → 0 < f k →
-    bit_at (mask_l (map (top 7) (zip2 (λ a b. cond (not (eqb a b)) 255 0) v (replicate 32 0))) % 2 ^ 64) k ≡ 1
+pub nonzero_set : (v : List ℕ) (f : ℕ → ℕ) (k : ℕ) → AreLanes v f → k < 16 → 0 < f k →
+    bit_at (mask_l (map (top 7) (zip2 (λ a b. cond (not (eqb a b)) 255 0) v (replicate 16 0))) % 2 ^ 64) k ≡ 1
 nonzero_set v f k p small some =
     let e = p.each k small in
     let passes : not (eqb (get_or v k 0) 0) ≡ true = let more : 0 < get_or v k 0 = omega (arith, e, some) in grind (arith, nat_tests) in
-    ap (λ m. bit_at m k) (bitmask_splat w8 (λ a b. not (eqb a b)) v 32 0 p.long (omega arith))
+    ap (λ m. bit_at m k) (bitmask_splat w8 (λ a b. not (eqb a b)) v 16 0 p.long (omega arith))
     ∙ bit_mask_l (map (λ x. not (eqb x 0)) v) k
     ∙ ap (λ b. cond b 1 0) (get_or-map (λ x. not (eqb x 0)) v k 0 false (omega (arith, small, p.long)) ∙ passes)
 
@@ -108,56 +108,35 @@ some_bit a k e =
       | inr g ↦ let zero : a ≡ 0 = omega (arith, g) in let no = ap (λ n. bit_at n k) zero ∙ bit_at-zero k in omega (arith, e, no)
     ]
 
--- a byte that both halves take
-pub takes_from : (t : Sift) (byte k : ℕ) →
-    bit_at (bit_and (bit_and (slice_index t.low (byte % 16)) (slice_index t.low (byte % 16 + 16))) (bit_and (slice_index t.high (byte / 16)) (slice_index t.high (byte / 16 + 16)))) k ≡ 1 →
-    Takes t byte k
-takes_from t byte k e half two =
-    let parts = both_bits (bit_and (slice_index t.low (byte % 16)) (slice_index t.low (byte % 16 + 16))) (bit_and (slice_index t.high (byte / 16)) (slice_index t.high (byte / 16 + 16))) k e in
-    let lows = both_bits (slice_index t.low (byte % 16)) (slice_index t.low (byte % 16 + 16)) k parts.0 in
-    let highs = both_bits (slice_index t.high (byte / 16)) (slice_index t.high (byte / 16 + 16)) k parts.1 in
-    elim (cases_lt half 1) [
-      | inl l ↦
-          let a : byte % 16 ≡ 16 * half + byte % 16 = omega (arith, l) in
-          let b : byte / 16 ≡ 16 * half + byte / 16 = omega (arith, l) in
-          bit_of_both (slice_index t.low (16 * half + byte % 16)) (slice_index t.high (16 * half + byte / 16)) k
-          (subst (λ j. bit_at (slice_index t.low j) k ≡ 1) a lows.0) (subst (λ j. bit_at (slice_index t.high j) k ≡ 1) b highs.0)
-      | inr g ↦
-          let a : byte % 16 + 16 ≡ 16 * half + byte % 16 = omega (arith, g, two) in
-          let b : byte / 16 + 16 ≡ 16 * half + byte / 16 = omega (arith, g, two) in
-          bit_of_both (slice_index t.low (16 * half + byte % 16)) (slice_index t.high (16 * half + byte / 16)) k
-          (subst (λ j. bit_at (slice_index t.low j) k ≡ 1) a lows.1) (subst (λ j. bit_at (slice_index t.high j) k ≡ 1) b highs.1)
-    ]
-
 -- each bit of the number stands for a bucket that takes what may stand at the place
 abbrev pub TakenAt : Sift → List ℕ → ℕ → ℕ → Type 0
-TakenAt t needle at bits = (k : ℕ) → bit_at bits k ≡ 1 → (byte : ℕ) → byte < 256 → MayStand needle at byte → Takes t byte k
+TakenAt t needle at bits = (k : ℕ) → bit_at bits k ≡ 1 → (byte : ℕ) → byte < 256 → MayStand needle at byte → bit_at (buckets t byte) k ≡ 1
 
 pub sifted_by_bit : (s : Sieve) (needle : List ℕ) (x y z k : ℕ) → TakenAt s.first needle 0 x → TakenAt s.second needle 1 y → TakenAt s.third needle 2 z →
     bit_at (bit_and x (bit_and y z)) k ≡ 1 → IsSifted s needle
-sifted_by_bit s needle x y z k one two three e half a b c h la lb lc ma mb mc =
+sifted_by_bit s needle x y z k one two three e a b c la lb lc ma mb mc =
     let p = both_bits x (bit_and y z) k e in
     let q = both_bits y z k p.1 in
-    some_bit (sifted s half a b c) k
-    (bit_of_both (buckets s.first half a) (bit_and (buckets s.second half b) (buckets s.third half c)) k (one k p.0 a la ma half h)
-    (bit_of_both (buckets s.second half b) (buckets s.third half c) k (two k q.0 b lb mb half h) (three k q.1 c lc mc half h)))
+    some_bit (sifted s a b c) k
+    (bit_of_both (buckets s.first a) (bit_and (buckets s.second b) (buckets s.third c)) k (one k p.0 a la ma)
+    (bit_of_both (buckets s.second b) (buckets s.third c) k (two k q.0 b lb mb) (three k q.1 c lc mc)))
 
 -- the bits say where three bytes are taken, from a place on
 abbrev pub MarksTaken : Sieve → List ℕ → ℕ → ℕ → Type 0
-MarksTaken s piece at bits = (k : ℕ) → k < 32 →
-    0 < sifted s (k / 16) (slice_index piece (at + k)) (slice_index piece (at + 1 + k)) (slice_index piece (at + 2 + k)) → bit_at bits k ≡ 1
+MarksTaken s piece at bits = (k : ℕ) → k < 16 →
+    0 < sifted s (slice_index piece (at + k)) (slice_index piece (at + 1 + k)) (slice_index piece (at + 2 + k)) → bit_at bits k ≡ 1
 
 -- no needle that is sifted agrees where no bit is set
 pub no_sifted_from : (s : Sieve) (piece needle : List ℕ) (at bits to k : ℕ) → ((i : ℕ) → slice_index piece i < 256) → IsSifted s needle → MarksTaken s piece at bits →
-    ((i : ℕ) → i < to → bit_at bits i ≡ 0) → to ≤ 32 → at + 34 ≤ length piece → at ≤ k → k < at + to → ¬ Agrees piece needle k
+    ((i : ℕ) → i < to → bit_at bits i ≡ 0) → to ≤ 16 → at + 18 ≤ length piece → at ≤ k → k < at + to → ¬ Agrees piece needle k
 no_sifted_from s piece needle at bits to k small is set zeros fits room low high agrees =
     let i : ℕ = k - at in
-    let within : i < 32 = omega (arith, low, high, fits) in
+    let within : i < 16 = omega (arith, low, high, fits) in
     let x : k + 0 ≡ at + i = omega (arith, low) in
     let y : k + 1 ≡ at + 1 + i = omega (arith, low) in
     let z : k + 2 ≡ at + 2 + i = omega (arith, low) in
-    let here : 0 < sifted s (i / 16) (slice_index piece (at + i)) (slice_index piece (at + 1 + i)) (slice_index piece (at + 2 + i)) =
-    is (i / 16) (slice_index piece (at + i)) (slice_index piece (at + 1 + i)) (slice_index piece (at + 2 + i)) (omega (arith, within)) (small (at + i)) (small (at + 1 + i)) (small (at + 2 + i))
+    let here : 0 < sifted s (slice_index piece (at + i)) (slice_index piece (at + 1 + i)) (slice_index piece (at + 2 + i)) =
+    is (slice_index piece (at + i)) (slice_index piece (at + 1 + i)) (slice_index piece (at + 2 + i)) (small (at + i)) (small (at + 1 + i)) (small (at + 2 + i))
     (λ l. ap (slice_index piece) (sym x) ∙ agrees 0 l (omega (arith, x, within, room)))
     (λ l. ap (slice_index piece) (sym y) ∙ agrees 1 l (omega (arith, y, within, room)))
     (λ l. ap (slice_index piece) (sym z) ∙ agrees 2 l (omega (arith, z, within, room))) in
@@ -170,7 +149,7 @@ abbrev pub NoneSifted : Sieve → List ℕ → ℕ → Type 0
 NoneSifted s piece to = (needle : List ℕ) → IsSifted s needle → (k : ℕ) → k < to → ¬ Agrees piece needle k
 
 pub no_sifted_there : (s : Sieve) (piece : List ℕ) (seen at bits to : ℕ) → ((i : ℕ) → slice_index piece i < 256) → NoneSifted s piece seen → at ≤ seen →
-    MarksTaken s piece at bits → ((i : ℕ) → i < to → bit_at bits i ≡ 0) → to ≤ 32 → at + 34 ≤ length piece → NoneSifted s piece (at + to)
+    MarksTaken s piece at bits → ((i : ℕ) → i < to → bit_at bits i ≡ 0) → to ≤ 16 → at + 18 ≤ length piece → NoneSifted s piece (at + to)
 no_sifted_there s piece seen at bits to small before near set zeros fits room needle is k high =
     elim (cases_lt k seen) [
       | inl l ↦ before needle is k l

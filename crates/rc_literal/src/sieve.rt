@@ -1,11 +1,14 @@
-//! A sieve that passes over the places where none of some needles begins, 32 places at a time.
+//! A sieve that passes over the places where none of some needles begins, 16 places at a time.
 ghost use Rattle.std.specs.Prelude.{◌≡◌, ◌+◌, ◌*◌, ◌/◌, ◌<◌, ◌≤◌, ◌^◌, ℕ, IfSome, IsTrue, List, length, slice_index};
 ghost use Rattle.std.specs.Int.{bit_at};
-ghost use Rattle.rc_literal.specs.Sieves.{AreLanes, AreSifted, IsSifted, Takes, buckets, sifted};
+ghost use Rattle.rc_literal.specs.Sieves.{AreLanes, AreSifted, IsSifted, buckets, sifted};
 ghost use Rattle.rc_literal.specs.Tables.{Agrees, needles_in};
 
-use crate::pairs::{LANES, lowest};
+use crate::pairs::lowest;
 use std::simd::prelude::*;
+
+/// How many places a vector covers.
+const LANES: usize = 16;
 
 /// How many bytes a piece has at least in which the sieve is used: those of a vector, and two that
 /// are read behind them.
@@ -18,11 +21,10 @@ const GREATEST_COUNT: usize = 64;
 const BUCKETS: usize = 8;
 
 /// Which buckets take a byte, each of them a bit: those that take its low four bits and its high four.
-/// Each half of a vector has a copy of both tables.
 #[derive(Clone, Copy)]
 pub struct Sift {
-    pub low: [u8; 32],
-    pub high: [u8; 32],
+    pub low: [u8; 16],
+    pub high: [u8; 16],
 }
 
 /// Which buckets take a byte as the first, the second and the third of a needle.
@@ -39,18 +41,15 @@ impl Sift {
     /// No bucket takes any byte.
     fn new() -> Sift {
         Sift {
-            low: [0; 32],
-            high: [0; 32],
+            low: [0; 16],
+            high: [0; 16],
         }
     }
 
     /// The buckets of these bits take the byte too.
     fn add(&mut self, byte: u8, bits: u8) {
-        let (low, high) = ((byte % 16) as usize, (byte / 16) as usize);
-        self.low[low] |= bits;
-        self.low[low + 16] |= bits;
-        self.high[high] |= bits;
-        self.high[high + 16] |= bits;
+        self.low[(byte % 16) as usize] |= bits;
+        self.high[(byte / 16) as usize] |= bits;
     }
 
     /// The buckets of these bits take the byte of the needle at a place too, or any byte past its end.
@@ -65,17 +64,16 @@ impl Sift {
         }
     }
 
-    /// The buckets that take the byte in both halves of a vector.
+    /// The buckets that take the byte.
     fn taken(&self, byte: u8) -> u8
-        ensures { (k : ℕ) → bit_at result k ≡ 1 → Takes self.now byte k }
+        ensures { result ≡ buckets self.now byte }
     {
-        let (low, high) = ((byte % 16) as usize, (byte / 16) as usize);
-        self.low[low] & self.low[low + 16] & (self.high[high] & self.high[high + 16])
+        self.low[(byte % 16) as usize] & self.high[(byte / 16) as usize]
     }
 
     /// The buckets that take every byte.
     fn taken_always(&self) -> u8
-        ensures { (k : ℕ) → bit_at result k ≡ 1 → (byte : ℕ) → byte < 256 → Takes self.now byte k }
+        ensures { (k : ℕ) → bit_at result k ≡ 1 → (byte : ℕ) → byte < 256 → bit_at (buckets self.now byte) k ≡ 1 }
     {
         let mut bits = 255;
         for byte in 0..256usize {
@@ -87,7 +85,7 @@ impl Sift {
     /// The buckets that take the byte of the needle at a place, or every byte past its end.
     fn taken_at(&self, needle: &[u8], at: usize) -> u8
         ensures { (k : ℕ) → bit_at result k ≡ 1 → (byte : ℕ) → byte < 256
-            → (at < length needle.now → byte ≡ slice_index needle.now at) → Takes self.now byte k }
+            → (at < length needle.now → byte ≡ slice_index needle.now at) → bit_at (buckets self.now byte) k ≡ 1 }
     {
         match needle.get(at) {
             Some(byte) => self.taken(*byte),
@@ -95,17 +93,17 @@ impl Sift {
         }
     }
 
-    /// The buckets that take each of 32 bytes.
+    /// The buckets that take each of 16 bytes.
     #[inline(always)]
-    fn lanes(&self, piece: &[u8], at: usize) -> u8x32
-        requires { at + 32 ≤ length piece.now }
-        ensures { AreLanes result (λ k. buckets self.now (k / 16) (slice_index piece.now (at + k))) }
+    fn lanes(&self, piece: &[u8], at: usize) -> u8x16
+        requires { at + 16 ≤ length piece.now }
+        ensures { AreLanes result (λ k. buckets self.now (slice_index piece.now (at + k))) }
     {
-        let bytes = u8x32::from_slice(&piece[at..]);
-        let lows = bytes & u8x32::splat(15);
-        let highs = bytes >> u8x32::splat(4);
-        let low = u8x32::from_slice(&self.low).swizzle_dyn_within::<16>(lows);
-        let high = u8x32::from_slice(&self.high).swizzle_dyn_within::<16>(highs);
+        let bytes = u8x16::from_slice(&piece[at..]);
+        let lows = bytes & u8x16::splat(15);
+        let highs = bytes >> u8x16::splat(4);
+        let low = u8x16::from_slice(&self.low).swizzle_dyn(lows);
+        let high = u8x16::from_slice(&self.high).swizzle_dyn(highs);
         low & high
     }
 }
@@ -121,19 +119,19 @@ impl Sieve {
     }
 
     /// A number whose bit k is set where a bucket takes the three bytes from `at + k` on, for each k
-    /// below 32.
+    /// below 16.
     #[inline(always)]
     fn marks(&self, piece: &[u8], at: usize) -> u64
-        requires { at + 34 ≤ length piece.now }
-        ensures small { result < 2 ^ 32 }
-        ensures set { (k : ℕ) → k < 32 → 0 < sifted self.now (k / 16) (slice_index piece.now (at + k))
+        requires { at + 18 ≤ length piece.now }
+        ensures small { result < 2 ^ 16 }
+        ensures set { (k : ℕ) → k < 16 → 0 < sifted self.now (slice_index piece.now (at + k))
             (slice_index piece.now (at + 1 + k)) (slice_index piece.now (at + 2 + k)) → bit_at result k ≡ 1 }
     {
         let first = self.first.lanes(piece, at);
         let second = self.second.lanes(piece, at + 1);
         let third = self.third.lanes(piece, at + 2);
         let bits = first & (second & third);
-        bits.simd_ne(u8x32::splat(0)).to_bitmask()
+        bits.simd_ne(u8x16::splat(0)).to_bitmask()
     }
 
     /// The first place of the piece where a bucket takes three bytes. Where there is none, the place

@@ -1,4 +1,4 @@
-use Rattle.std.proofs.Common.{◌+◌, ◌/◌, slice_index, bit_and}
+use Rattle.std.proofs.Common.{◌+◌, slice_index, bit_and}
 use Rattle.std.specs.Simd.Lanes.{zip2}
 use Rattle.rc_literal.specs.Sieves.{sifted}
 use Rattle.rc_literal.proofs.SieveLemmas.{lanes_and, nonzero_fit, nonzero_set}
@@ -16,4 +16,4 @@ returns-clause-set c k l some =
     let piece = c.args.piece.now in
     let at = c.args.at in
     nonzero_set (zip2 bit_and c.lanes-first.result (zip2 bit_and c.lanes-second.result c.lanes-third.result))
-    (λ j. sifted s (j / 16) (slice_index piece (at + j)) (slice_index piece (at + 1 + j)) (slice_index piece (at + 2 + j))) k all l some
+    (λ j. sifted s (slice_index piece (at + j)) (slice_index piece (at + 1 + j)) (slice_index piece (at + 2 + j))) k all l some
