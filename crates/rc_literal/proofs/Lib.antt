@@ -1,6 +1,7 @@
 pub mod RangeLemmas
 pub mod StandLemmas
 pub mod ScanLemmas
+pub mod SieveLemmas
 pub mod TableLemmas
 pub mod FindLemmas
 pub mod PairLemmas

@@ -14,4 +14,5 @@ mod pairs;
 pub mod prefilter;
 pub mod prefixes;
 mod scan;
+mod sieve;
 mod table;

@@ -5,7 +5,7 @@ ghost use Rattle.rc_literal.specs.Tables.{IsUsable, needles_in};
 ghost use Rattle.std.specs.Bool.{Decides};
 ghost use Rattle.rc_literal.specs.Prefilters.{needles_of};
 
-use crate::scan::{Heads, Scan, Searcher, searcher_of};
+use crate::scan::{Heads, Scan, Searcher, are_long, searcher_of};
 use rc_text::types::MatchKind;
 use std::alloc::{AllocError, Global};
 use std::fmt;
@@ -52,10 +52,12 @@ impl Prefilter {
         most
     }
 
-    /// Whether a search goes by a needle or by at most three bytes, and not by a table.
+    /// Whether a search goes by a needle, by at most three bytes, or by a sieve of needles that have all
+    /// the bytes that it reads.
     pub fn is_fast(&self) -> bool {
         match &self.searcher.scan {
             Scan::Heads(Heads::Many) => false,
+            Scan::Sieve(_) => are_long(&self.searcher.table.needles),
             _ => true,
         }
     }
