@@ -6,6 +6,8 @@ mod builds;
 #[cfg(test)]
 mod calls;
 #[cfg(test)]
+mod faults;
+#[cfg(test)]
 mod grammar;
 #[cfg(test)]
 mod programs;
