@@ -1,4 +1,5 @@
 pub mod Caches
+pub mod Early
 pub mod Limits
 pub mod Makes
 pub mod Narrow

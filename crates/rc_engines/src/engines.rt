@@ -8,6 +8,7 @@ ghost use Rattle.rc_engines.specs.Spans.{BoundsWalks};
 ghost use Rattle.rc_engines.specs.Tables.{MayBeLazyFor, MayBeTablesFor};
 
 use crate::cache::Cache;
+use crate::last::{find_greatest_from_end, seeks_greatest_from_end};
 use crate::slots::fill_slots;
 use crate::spans::Spans;
 use crate::tables::{fast_guards_of, tables_of};
@@ -57,10 +58,10 @@ pub struct Limits {
 pub struct Engines {
     /// The ordered pass, and the needles.
     pub engine: Engine,
-    tables: Option<Dense>,
-    lazy: Option<Lazy>,
-    patterns: usize,
-    spans: Spans,
+    pub(crate) tables: Option<Dense>,
+    pub(crate) lazy: Option<Lazy>,
+    pub(crate) patterns: usize,
+    pub(crate) spans: Spans,
     ghost fit: { ∥ MayBeTablesFor engine patterns tables ∥₁ },
     ghost lazy_fit: { ∥ MayBeLazyFor engine patterns lazy ∥₁ },
     ghost numbered: { NamesGroups patterns (places_of engine.program.places.items) },
@@ -163,7 +164,7 @@ impl Engines {
     }
 
     /// What a search by tables seeks.
-    fn aim(&self) -> Aim
+    pub(crate) fn aim(&self) -> Aim
         ensures { result ≡ aim_of self.now.engine self.now.patterns }
     {
         Aim {
@@ -176,7 +177,7 @@ impl Engines {
 
     /// Whether the preferred match is sought from where the search ends: each match ends where the slice does, not each begins where it
     /// does, and the search isn't anchored.
-    fn seeks_from_end<C: Cursor>(&self, input: &Input<C>) -> bool
+    pub(crate) fn seeks_from_end<C: Cursor>(&self, input: &Input<C>) -> bool
         ensures { IsTrue result ↔ SeeksFromEnd self.now.engine.kind self.now.spans input.now }
     {
         match (self.engine.kind, input.get_anchored()) {
@@ -186,7 +187,7 @@ impl Engines {
     }
 
     /// The preferred match, sought from where the search ends. An `Err` says why the tables tell none.
-    fn find_from_end<H: Halves, C: Cursor>(
+    pub(crate) fn find_from_end<H: Halves, C: Cursor>(
         &self,
         halves: &H,
         cache: &mut H::Cache,
@@ -220,6 +221,9 @@ impl Engines {
     {
         if self.seeks_from_end(input) {
             return self.find_from_end(halves, cache, input);
+        }
+        if seeks_greatest_from_end(self, input) {
+            return find_greatest_from_end(self, halves, cache, input);
         }
         if let Some(length) = self.only_length() {
             return self.find_of_length(halves, cache, input, length);
@@ -361,7 +365,10 @@ impl Engines {
         ensures keeps { Keeps input.old input.new }
         ensures found { IfOk result (λ b. b ≡ is_some (answer_by self.now.engine.kind (engine_search self.now.engine input.old))) }
     {
-        if self.seeks_from_end(input) || fast_guards_of(&self.engine.strategy).is_some() {
+        if self.seeks_from_end(input)
+            || seeks_greatest_from_end(self, input)
+            || fast_guards_of(&self.engine.strategy).is_some()
+        {
             return Ok(self.find_end_by_tables(halves, cache, input)?.is_some());
         }
         let aim = Aim {
@@ -579,7 +586,7 @@ impl Engines {
 
     /// A cache for the tables whose states are made as they are met, where a search of the input is to go by them: there are none of all states,
     /// and its bounds lie `SHORT` bytes apart, or more. An `Err` is want of memory.
-    fn states_for<C: Cursor>(
+    pub(crate) fn states_for<C: Cursor>(
         &self,
         alloc: Global,
         input: &mut Input<C>,
@@ -709,7 +716,7 @@ impl Engines {
 }
 
 /// The half of a match, if there is one: its pattern, and its end.
-fn half_of(found: Option<Match>) -> Option<HalfMatch>
+pub(crate) fn half_of(found: Option<Match>) -> Option<HalfMatch>
     ensures { result ≡ option_map half_of found }
 {
     match found {

@@ -2,7 +2,9 @@
 #![tactic(auto)]
 
 pub mod cache;
+pub mod early;
 pub mod engines;
+mod last;
 pub mod laws;
 mod slots;
 pub mod spans;

@@ -3,6 +3,7 @@
 
 pub mod cache;
 mod closure;
+pub mod early;
 pub mod greatest;
 mod growth;
 pub mod kinds;

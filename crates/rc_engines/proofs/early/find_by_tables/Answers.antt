@@ -1,0 +1,25 @@
+use Rattle.std.proofs.Common.{IfOk, subst}
+use Rattle.std.proofs.lemmas.Result.{IfOk-weaker}
+use Rattle.rc_program.specs.Kinds.{IsAnswerBy}
+use Rattle.rc_engine.specs.Engine.{engine_search}
+use Rattle.rc_engines.proofs.EarlyLemmas.{may_by}
+use Rattle.rc_engines.proofs.TableLemmas.{tables_tell_by}
+use Rattle.rc_engines.proofs.early.find_by_tables.Goals as goal
+
+pub returns-clause-may : goal.returns-clause-may
+returns-clause-may g c =
+    let e = c.args.engines.now in
+    subst (λ b. IfOk c.find.result (IsAnswerBy e.engine.kind b (engine_search e.engine c.args.input.now))) c.get_earliest.ensures
+    (tables_tell_by e.engine e.patterns c.args.input.now c.aim.result c.requires.own c.aim.ensures c.get_earliest.result
+    c.find.result (λ hs same h. c.find.ensures.found hs e.engine.program.terminator h))
+
+pub returns-then-seeks_from_end-clause-may : goal.returns-then-seeks_from_end-clause-may
+returns-then-seeks_from_end-clause-may g c =
+    let e = c.args.engines.now.engine in
+    IfOk-weaker c.find_from_end.result _ _ (λ o h. may_by e.kind c.args.input.now.earliest (engine_search e c.args.input.now) o h) c.find_from_end.ensures.found
+
+pub returns-then-seeks_greatest_from_end-clause-may : goal.returns-then-seeks_greatest_from_end-clause-may
+returns-then-seeks_greatest_from_end-clause-may g c =
+    let e = c.args.engines.now.engine in
+    IfOk-weaker c.find_greatest_from_end.result _ _ (λ o h. may_by e.kind c.args.input.now.earliest (engine_search e c.args.input.now) o h)
+    c.find_greatest_from_end.ensures.found
