@@ -8,6 +8,8 @@ mod calls;
 #[cfg(test)]
 mod grammar;
 #[cfg(test)]
+mod moves;
+#[cfg(test)]
 mod programs;
 #[cfg(test)]
 mod searchers;
