@@ -49,7 +49,7 @@ impl Regex {
 }
 
 impl<'r> Finder<'r> {
-    ghost use Rattle.std.specs.Prelude.{◌≡◌, ◌↔◌, ◌≤◌, IfOk, IfSome, IsSome, IsTrue};
+    ghost use Rattle.std.specs.Prelude.{◌≡◌, ◌↔◌, ◌≤◌, false, IfOk, IfSome, IsSome, IsTrue};
     ghost use Rattle.rc_captures.specs.Captures.{IsCapturesFor, match_of};
     ghost use Rattle.rc_engine.specs.Tells.{KeepsAll, Tells, TellsBy};
     ghost use Rattle.rc_meta.specs.Preferred.{HoldsPreferred};
@@ -57,7 +57,7 @@ impl<'r> Finder<'r> {
     ghost use Rattle.rc_parses.specs.Preference.{ArePlain, IsPreferredMatch};
     ghost use Rattle.rc_pass.specs.PatternSpans.{AddsSpelled};
     ghost use Rattle.rc_program.specs.Answer.{answer};
-    ghost use Rattle.rc_program.specs.Kinds.{IsAnswerBy, answer_by};
+    ghost use Rattle.rc_program.specs.Kinds.{IsAnswerBy, answer_by, is_early};
     ghost use Rattle.rc_program.specs.Sought.{search_for};
     ghost use Rattle.rc_settings.specs.Settings.{match_kind_of};
     ghost use Rattle.rc_text.specs.Text.{Keeps, high, low};
@@ -67,10 +67,12 @@ impl<'r> Finder<'r> {
     pub fn find<C: Cursor>(&mut self, input: &mut Input<C>) -> Option<Match>
         ensures regex { self.new ≡ self.old }
         ensures keeps { Keeps input.old input.new }
-        ensures found { match_kind_of (regex_settings self.old) ≡ LeftmostFirst → result ≡ answer (search_for (sought self.old) input.old) }
+        ensures found { match_kind_of (regex_settings self.old) ≡ LeftmostFirst → is_early input.old.earliest (search_for (sought self.old) input.old) ≡ false
+            → result ≡ answer (search_for (sought self.old) input.old) }
         ensures preferred { match_kind_of (regex_settings self.old) ≡ LeftmostFirst → ArePlain (regex_patterns self.old)
-            → IsPreferredMatch (sought self.old) input.old result }
-        ensures found_by { result ≡ answer_by (regex_kind self.old) (search_for (sought self.old) input.old) }
+            → is_early input.old.earliest (search_for (sought self.old) input.old) ≡ false → IsPreferredMatch (sought self.old) input.old result }
+        ensures found_by { is_early input.old.earliest (search_for (sought self.old) input.old) ≡ false
+            → result ≡ answer_by (regex_kind self.old) (search_for (sought self.old) input.old) }
         ensures may { IsAnswerBy (regex_kind self.old) input.old.earliest (search_for (sought self.old) input.old) result }
         ensures within { IfSome result (λ m. (low input.old ≤ m.start) × (m.start ≤ m.end) × (m.end ≤ high input.old)) }
     {
