@@ -153,13 +153,13 @@ fn count_captures(alloc: Global, regex: &Regex, chunks: &[&[u8]]) -> Result<usiz
 
 /// The number of chunks that have a match as texts of their own.
 fn count_texts(alloc: Global, regex: &Regex, chunks: &[&[u8]]) -> Result<usize, BenchError> {
-    let mut finder = regex.finder(alloc)?;
+    let mut cache = regex.create_cache(alloc)?;
     let mut count: usize = 0;
     for chunk in chunks {
-        let found = finder.find(&mut Input::new(*chunk));
+        let found = regex.search_with(&mut cache, &mut Input::new(*chunk));
         count = count.saturating_add(usize::from(found.is_some()));
     }
-    drop(finder);
+    drop(cache);
     Ok(count)
 }
 

@@ -3,7 +3,6 @@
 
 pub mod builder;
 pub mod cache;
-pub mod finder;
 pub mod iterators;
 pub mod laws;
 pub mod regex;

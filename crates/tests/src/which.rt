@@ -2,7 +2,7 @@
 
 use rc_text::input::Input;
 use rc_text::types::{Anchored, PatternID};
-use regex_cursor::engines::meta::{Finder, Regex};
+use regex_cursor::engines::meta::Regex;
 use regex_cursor::types::PatternSet;
 use std::alloc::{AllocError, Global};
 use std::test::Fail;
@@ -21,12 +21,14 @@ fn has(set: &PatternSet, number: usize) -> bool {
 /// Which of the three patterns have a match in the bounds, as a set of this capacity holds them.
 fn told(
     alloc: Global,
-    finder: &mut Finder,
+    regex: &Regex,
     mut input: Input<&[u8]>,
     capacity: usize,
 ) -> Result<(bool, bool, bool), AllocError> {
     let mut set = PatternSet::new(alloc, capacity)?;
-    finder.which_patterns(&mut input, &mut set);
+    let mut cache = regex.create_cache(alloc)?;
+    regex.which_patterns_with(&mut cache, &mut input, &mut set);
+    drop(cache);
     Ok((has(&set, 0), has(&set, 1), has(&set, 2)))
 }
 
@@ -35,18 +37,17 @@ fn two_of_three_patterns(rt: HostRuntime) -> Result<(), Fail> {
     let alloc = rt.alloc();
     let text = b"xab".as_slice();
     let regex = Regex::new_many(alloc, &PATTERNS)?;
-    let mut finder = regex.finder(alloc)?;
-    assert!(rt; told(alloc, &mut finder, Input::new(text), 3)? == (true, true, false));
-    assert!(rt; told(alloc, &mut finder, Input::new(text), 1)? == (true, false, false));
+    assert!(rt; told(alloc, &regex, Input::new(text), 3)? == (true, true, false));
+    assert!(rt; told(alloc, &regex, Input::new(text), 1)? == (true, false, false));
     let mut anchored = Input::new(text);
     anchored.set_anchored(Anchored::Yes);
-    assert!(rt; told(alloc, &mut finder, anchored, 3)? == (false, false, false));
+    assert!(rt; told(alloc, &regex, anchored, 3)? == (false, false, false));
     let mut second = Input::new(text);
     second.set_anchored(Anchored::Pattern(PatternID::new(1).ok_or("no number")?));
     second.set_range(1, 3);
-    assert!(rt; told(alloc, &mut finder, second, 3)? == (false, true, false));
+    assert!(rt; told(alloc, &regex, second, 3)? == (false, true, false));
     let mut short = Input::new(text);
     short.set_range(0, 2);
-    assert!(rt; told(alloc, &mut finder, short, 3)? == (true, false, false));
+    assert!(rt; told(alloc, &regex, short, 3)? == (true, false, false));
     Ok(())
 }
