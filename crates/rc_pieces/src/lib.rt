@@ -3,3 +3,4 @@
 
 pub mod pieces;
 pub mod slices;
+pub mod spans;

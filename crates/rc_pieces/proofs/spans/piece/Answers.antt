@@ -2,7 +2,7 @@ use Rattle.std.proofs.Common.{◌≡◌, ◌+◌, ◌≤◌, ◌⊎◌, inl, inr
 use Rattle.std.proofs.lemmas.Bool.{cases_lt}
 use Rattle.rc_text.specs.Piece.{Shows}
 use Rattle.rc_text.proofs.Pieces.{piece_from_is}
-use Rattle.chunk_replace.proofs.put.piece.Goals as goal
+use Rattle.rc_pieces.proofs.spans.piece.Goals as goal
 
 pub returns-clause-bytes : goal.returns-clause-bytes
 returns-clause-bytes g c =

@@ -1,10 +1,10 @@
--- How known bytes grow.
+-- How known bytes grow by steps, of which one may fail.
 use Rattle.std.proofs.Common.{◌≡◌, ◌∙◌, ℕ, ◌+◌, ◌<◌, ◌≤◌, List, [], ◌++◌, length, Option, Some, None, Result, Ok, Err, ap, subst, sym, refl, arith, append-nil, append_assoc, max, slice_range}
 use Rattle.std.specs.Result.{IsErr}
 use Rattle.std.specs.Io.KnownBytes.{Appends, Keeps}
 use Rattle.rc_text.proofs.Ranges.{slice_range-append}
 use Rattle.regex_cursor.proofs.Grown.{Appends-trans}
-use Rattle.chunk_replace.specs.Put.{AppendsBeginning, Puts}
+use Rattle.regex_cursor.specs.Put.{AppendsBeginning, Puts}
 
 pub Keeps-appends : (a b : Option (List ℕ)) → Keeps a b → Appends a b []
 Keeps-appends None b k = tt

@@ -1,5 +1,5 @@
 use Rattle.std.proofs.Common.{◌≡◌, ◌≤◌, ◌-◌, length}
-use Rattle.chunk_replace.proofs.put.seek.Given as goal
+use Rattle.rc_pieces.proofs.spans.seek.Given as goal
 
 abbrev pub invariant-loop-cursor : goal.invariant-loop-cursor
 invariant-loop-cursor g l = g.C.Cursor.content l.cursor ≡ g.C.Cursor.content l.fn.cursor
