@@ -8,3 +8,4 @@ pub mod TableLemmas
 pub mod CacheLemmas
 pub mod KeptLemmas
 pub mod EarlyLemmas
+pub mod JumpLemmas
