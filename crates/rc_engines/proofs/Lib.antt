@@ -9,3 +9,4 @@ pub mod CacheLemmas
 pub mod KeptLemmas
 pub mod PatternLemmas
 pub mod EarlyLemmas
+pub mod JumpLemmas

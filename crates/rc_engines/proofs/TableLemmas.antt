@@ -64,6 +64,14 @@ half_there kind s (Some h) w = go (answer_by kind s) refl
     go None e = absurd (some_missing kind s w.0 (is_early true s) refl w.1 e)
     go (Some m) e = refl
 
+found_there : (kind : MatchKind) (s : Search) (o : Option Found) → IsAnswerBy kind true s o → is_some o ≡ is_some (answer_by kind s)
+found_there kind s None h = sym (ap is_some ((missing_by kind true s).0 h))
+found_there kind s (Some m) h = go (answer_by kind s) refl
+  where
+    go : (o : Option Found) → answer_by kind s ≡ o → true ≡ is_some o
+    go None e = absurd (some_missing kind s m (is_early true s) refl h e)
+    go (Some n) e = refl
+
 module _ (e : Engine) (patterns : ℕ) {AreOf : Machine → Machine → Type 0} (s : Searched) (a : Aim) (own : ∥ AreHalvesFor e patterns AreOf ∥₁) (is : a ≡ aim_of e patterns) where
   -- what is told of any patterns of which they are halves is told of the engine's
   told : {R : Type 0} → IsProp R → (P : Aim → List Re → Type 0) →
@@ -106,6 +114,16 @@ module _ (e : Engine) (patterns : ℕ) {AreOf : Machine → Machine → Type 0} 
       told (hlevel props) (λ x hs. IsForwardHalf x.kind true (search_for x hs e.program.terminator s) o)
       (λ hs same h. tells hs same (record { ahead = h.ahead; back = h.back; are_of = h.are_of; machines = h.machines; counted = h.counted; few = h.few }))
       (λ hs same h. half_there e.kind (search_for (aim_of e patterns) hs e.program.terminator s) o h ∙ ap is_some (same_answer hs same))
+
+  -- and so does a match that is told early
+  pub tables_tell_any_by : (o : Option Found) →
+      ((hs : List Re) → places_of e.program.places.items ≡ program hs → AreHalvesOf AreOf (record a { earliest = true }) hs e.program.terminator →
+      IsAnswerBy a.kind true (search_for a hs e.program.terminator s) o) →
+      is_some o ≡ is_some (answer_by e.kind (engine_search e s))
+  tables_tell_any_by o tells =
+      told (hlevel props) (λ x hs. IsAnswerBy x.kind true (search_for x hs e.program.terminator s) o)
+      (λ hs same h. tells hs same (record { ahead = h.ahead; back = h.back; are_of = h.are_of; machines = h.machines; counted = h.counted; few = h.few }))
+      (λ hs same h. found_there e.kind (search_for (aim_of e patterns) hs e.program.terminator s) o h ∙ ap is_some (same_answer hs same))
 
   -- under the earliest flag a search tells what may be answered
   pub tables_tell_by : (earliest : Bool) (r : Result (Option Found) MatchError) →

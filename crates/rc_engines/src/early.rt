@@ -12,6 +12,8 @@ ghost use Rattle.rc_engines.specs.Tables.{AreHalvesFor};
 use crate::cache::Cache;
 use crate::engines::{Engines, half_of};
 use crate::last::{find_greatest_from_end, seeks_greatest_from_end};
+use crate::needles::find_early_guarded;
+use crate::tables::fast_guards_of;
 use rc_automaton::halves::Halves;
 use rc_dense::dense::NoCache;
 use rc_engine::engine::Engine;
@@ -104,7 +106,10 @@ fn find_by_tables<H: Halves, C: Cursor>(
         earliest: input.get_earliest(),
         ..engines.aim()
     };
-    find(halves, cache, input, aim)
+    match fast_guards_of(&engines.engine.strategy) {
+        Some(needles) => find_early_guarded(halves, cache, input, aim, needles),
+        None => find(halves, cache, input, aim),
+    }
 }
 
 /// A match that tables tell, under the input's flag: those of all states, or else those whose states the cache holds. With None there are neither,

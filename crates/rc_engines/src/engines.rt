@@ -9,6 +9,7 @@ ghost use Rattle.rc_engines.specs.Tables.{MayBeLazyFor, MayBeTablesFor};
 
 use crate::cache::Cache;
 use crate::last::{find_greatest_from_end, seeks_greatest_from_end};
+use crate::needles::find_early_guarded;
 use crate::slots::fill_slots;
 use crate::spans::Spans;
 use crate::tables::{fast_guards_of, tables_of};
@@ -365,16 +366,17 @@ impl Engines {
         ensures keeps { Keeps input.old input.new }
         ensures found { IfOk result (λ b. b ≡ is_some (answer_by self.now.engine.kind (engine_search self.now.engine input.old))) }
     {
-        if self.seeks_from_end(input)
-            || seeks_greatest_from_end(self, input)
-            || fast_guards_of(&self.engine.strategy).is_some()
-        {
+        if self.seeks_from_end(input) || seeks_greatest_from_end(self, input) {
             return Ok(self.find_end_by_tables(halves, cache, input)?.is_some());
         }
         let aim = Aim {
             earliest: true,
             ..self.aim()
         };
+        if let Some(needles) = fast_guards_of(&self.engine.strategy) {
+            let found = find_early_guarded(halves, cache, input, aim, needles)?;
+            return Ok(found.is_some());
+        }
         let half = search::find_end(halves, cache, input, aim)?;
         Ok(half.is_some())
     }

@@ -6,6 +6,7 @@ pub mod early;
 pub mod engines;
 mod last;
 pub mod laws;
+mod needles;
 mod slots;
 pub mod spans;
 mod tables;
