@@ -176,6 +176,16 @@ fn faults_are_explained(rt: HostRuntime) -> Result<(), Fail> {
     ] {
         are_explained(&rt, rt.alloc(), &config, rows)?;
     }
-    is_shown(&rt, rt.alloc(), "é[z-a]b", "range out of order:\n    é[z-a]b\n      ^^^")?;
-    is_shown(&rt, rt.alloc(), "a\n\t(b\nc", "unclosed group in line 2:\n    \t(b\n    \t^")
+    is_shown(
+        &rt,
+        rt.alloc(),
+        "é[z-a]b",
+        "range out of order:\n    é[z-a]b\n      ^^^",
+    )?;
+    is_shown(
+        &rt,
+        rt.alloc(),
+        "a\n\t(b\nc",
+        "unclosed group in line 2:\n    \t(b\n    \t^",
+    )
 }
