@@ -352,8 +352,8 @@ impl Engines {
         }
     }
 
-    /// Whether the tables tell a match. An `Err` says why they tell nothing. Unless needles guard the patterns or matches are passed over,
-    /// nothing is read beyond the first position at which some match ends.
+    /// Whether the tables tell a match, from needle to needle where needles guard the patterns. An `Err` says why they tell nothing. Unless matches
+    /// are passed over, nothing is read beyond the first position at which some match ends.
     fn any_by_tables<H: Halves, C: Cursor>(
         &self,
         halves: &H,
@@ -453,7 +453,7 @@ impl Engines {
     }
 
     /// Whether a search finds a match. It takes no memory but for states. Nothing is read beyond the first position at which some match ends,
-    /// unless matches are passed over, or tables go from needle to needle.
+    /// unless matches are passed over.
     pub fn is_match<C: Cursor>(&self, cache: &mut Cache, input: &mut Input<C>) -> bool
         requires made { IsCacheIn self.now 0 cache.old }
         ensures keeps { Keeps input.old input.new }
