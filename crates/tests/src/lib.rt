@@ -10,8 +10,6 @@ mod faults;
 #[cfg(test)]
 mod grammar;
 #[cfg(test)]
-mod moves;
-#[cfg(test)]
 mod programs;
 #[cfg(test)]
 mod refusals;
