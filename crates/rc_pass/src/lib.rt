@@ -6,6 +6,7 @@ mod closure;
 pub mod greatest;
 mod growth;
 pub mod kinds;
+pub mod longest;
 mod moves;
 mod pass;
 mod scratch;

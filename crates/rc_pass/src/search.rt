@@ -92,6 +92,7 @@ fn choose<C: Cursor>(
         hi,
         pattern,
         last,
+        until: None,
     };
     let mut from = lo;
     'starts: while from <= last {
@@ -231,6 +232,7 @@ fn meets<C: Cursor>(
         hi,
         pattern,
         last,
+        until: None,
     };
     let met = pass(input, course, prefilter, lo, true, scratch);
     met.is_some()
