@@ -120,7 +120,8 @@ impl Regex {
     /// The match that a search of the input finds. An `Err` is want of memory.
     ///
     /// Under `MatchKind::All` it is the match with the greatest end, of these the one with the least start, and of these the one of
-    /// the least pattern. Empty matches inside a character aren't passed over then.
+    /// the least pattern. Empty matches inside a character aren't passed over then. Under `MatchKind::LeftmostLongest` it is, of the
+    /// matches of the least start, the longest; no tables are made for it then.
     ///
     /// The match depends on the uncut bytes of the content alone, however the cursor cuts them. Where `is_plain` is true, the match that is
     /// preferred is the least parse of the least start that has one.
@@ -324,7 +325,8 @@ impl Regex {
 
     /// The match that `find` finds, with its groups. Without a match the captures hold none. An `Err` is want of memory.
     ///
-    /// Under `MatchKind::All` explicit groups hold nothing. Else, where `is_plain` is true, the groups are those of the least parse.
+    /// Under `MatchKind::All` explicit groups hold nothing. Under `MatchKind::LeftmostLongest` they are those of the walk that is
+    /// preferred of those that are that long. Else, where `is_plain` is true, the groups are those of the least parse.
     pub fn captures<C: Cursor + Drop>(
         &self,
         alloc: Global,
