@@ -1,7 +1,8 @@
 -- What tables are made from whose states are made as they are met.
 use Rattle.std.specs.Prelude.{◌≡◌, ℕ, ◌+◌, ◌<◌, Bool, List, length}
 use Rattle.rc_pattern.specs.Re.{Re}
-use Rattle.rc_text.specs.declared.types.MatchKind.{MatchKind}
+use Rattle.rc_states.specs.TableKinds.{table_kind_of}
+use Rattle.rc_states.specs.declared.kind.TableKind.{TableKind}
 use Rattle.rc_automaton.specs.declared.automaton.Direction.TheVariants.{Backwards, Forwards}
 use Rattle.rc_automaton.specs.Automata.{machine_of, classes_of}
 use Rattle.rc_automaton.specs.Machine.{Machine}
@@ -20,7 +21,7 @@ use Rattle.rc_engines.specs.declared.engines.Limits.{Limits}
 pub record LazyPlan : Type 0 where
   pub patterns : List Re
   pub terminator : ℕ
-  pub kind : MatchKind
+  pub kind : TableKind
   pub byte_classes : Bool
   pub capacity : ℕ
 
@@ -29,7 +30,7 @@ abbrev pub plan_of : Engine → List Re → Limits → LazyPlan
 plan_of e hs limits = record {
   patterns = hs;
   terminator = e.program.terminator;
-  kind = e.kind;
+  kind = table_kind_of e.kind;
   byte_classes = limits.byte_classes;
   capacity = limits.capacity;
 }
