@@ -5,6 +5,8 @@ pub mod SieveLemmas
 pub mod TableLemmas
 pub mod FindLemmas
 pub mod PairLemmas
+pub mod NodeLemmas
+pub mod TrieLemmas
 pub mod ReadLemmas
 pub mod WayLemmas
 pub mod RelationLemmas

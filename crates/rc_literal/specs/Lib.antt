@@ -8,3 +8,4 @@ pub mod Prefixes
 pub mod Scans
 pub mod Sieves
 pub mod Tables
+pub mod Tries

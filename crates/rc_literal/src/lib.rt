@@ -16,3 +16,4 @@ pub mod prefixes;
 mod scan;
 mod sieve;
 mod table;
+mod trie;
