@@ -124,6 +124,13 @@ narrow_told leftmost_first s t m p before after n k same e q told =
     let groups_there : Some after ≡ groups t n = subst (λ o. MatchOption o (after ≡ before) (λ _. Some after ≡ groups t n)) some told in
     groups_there ∙ ap (λ x. groups x n) same ∙ narrow_law.groups s m n e
 
+-- slots that are told where there is a match
+pub slots_there : (o : Option Found) (m : Found) (p : Option ℕ) (before after : List (Option ℕ)) (slots : Option (List (Option ℕ))) → o ≡ Some m →
+    p ≡ option_map (λ (f : Found). f.pattern) o → MatchOption p (after ≡ before) (λ _. Some after ≡ slots) → Some after ≡ slots
+slots_there o m p before after slots e q told =
+    let some : p ≡ Some m.pattern = q ∙ ap (λ x. option_map (λ (f : Found). f.pattern) x) e in
+    subst (λ x. MatchOption x (after ≡ before) (λ _. Some after ≡ slots)) some told
+
 -- the search of an input whose span is the match's, and whose anchoring is for its pattern
 pub narrow_input : (e : Engine) (a b : Searched) (m : Found) → low a ≤ m.start → m.start ≤ m.end → m.end ≤ high a → KeepsText a b →
     b.span.start ≡ m.start → b.span.end ≡ m.end → b.slice ≡ a.slice →
