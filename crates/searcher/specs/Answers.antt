@@ -9,7 +9,7 @@ use Rattle.rc_build.specs.TextRefusals.{AllRead, IsTextRefusal, texts_of}
 use Rattle.rc_meta.specs.Views.{regex_kind, regex_patterns, regex_settings, sought}
 use Rattle.rc_meta.specs.declared.regex.Regex.{Regex}
 use Rattle.searcher.specs.Flags.{search_settings, syntax_settings}
-use Rattle.searcher.specs.Ranges.{IsFirstBroken, in_range}
+use Rattle.searcher.specs.Ranges.{IsBroken, in_range}
 use Rattle.searcher.specs.Searching.{Searching}
 use Rattle.searcher.specs.declared.answers.Refusal.{Refusal}
 use Rattle.searcher.specs.declared.answers.Refusal.TheVariants.{Build, Memory, NotUtf8, TooMany}
@@ -40,9 +40,9 @@ pub record IsBuilt (settings : Settings) (patterns : List (Bor (List ℕ))) (s :
   pub from : s.from ≡ 0
   pub last : s.last ≡ None
 
--- The refusal is the first one that applies to the texts. Want of memory may come at any time.
+-- The refusal applies to the texts. Want of memory may come at any time.
 abbrev pub IsRefused : Settings → List (Bor (List ℕ)) → Refusal → Type 0
 IsRefused settings patterns TooMany = 2147483647 < length patterns
-IsRefused settings patterns (NotUtf8 p) = IsFirstBroken (texts_of patterns) p
+IsRefused settings patterns (NotUtf8 p) = IsBroken patterns p
 IsRefused settings patterns (Build e) = IsTextRefusal (Some 10485760) (syntax_settings settings) (texts_of patterns) e
 IsRefused settings patterns Memory = Unit {0}

@@ -1,7 +1,7 @@
 -- What is searched of a text, and what can't be.
-use Rattle.std.specs.Prelude.{◌≡◌, ℕ, ◌<◌, List, All, IsUtf8, length, min, take, slice_get, Some}
+use Rattle.std.specs.Prelude.{◌≡◌, ℕ, ◌<◌, List, IsUtf8, length, min}
 use Rattle.std.specs.Borrow.{Bor}
-use Rattle.rc_text.specs.Joined.{IsTooLong, joined}
+use Rattle.rc_text.specs.Joined.{IsTooLong, chunk_at, joined}
 use Rattle.rc_text.specs.Text.{Searched}
 use Rattle.rc_program.specs.Sought.{Sought, search_for}
 use Rattle.regex_cursor.specs.Output.{whole}
@@ -23,16 +23,13 @@ abbrev pub IsFault : List (Bor (List ℕ)) → ℕ → ℕ → Fault → Type 0
 IsFault chunks start end TooLong = IsTooLong chunks
 IsFault chunks start end Outside = min end (length (joined chunks)) < start
 
--- p is the least number of a text that isn't UTF-8
-pub record IsFirstBroken (texts : List (List ℕ)) (p : ℕ) : Type 0 where
-  pub before : All IsUtf8 (take p texts)
-  pub text : List ℕ
-  pub here : slice_get texts p ≡ Some text
-  pub broken : ¬ IsUtf8 text
+-- the text with this number isn't UTF-8
+abbrev pub IsBroken : List (Bor (List ℕ)) → ℕ → Type 0
+IsBroken texts p = ¬ IsUtf8 (chunk_at texts p)
 
 -- some of these bytes are no text, or memory was refused
-abbrev pub IsNotText : List (List ℕ) → Refusal → Type 0
+abbrev pub IsNotText : List (Bor (List ℕ)) → Refusal → Type 0
 IsNotText texts TooMany = ⊥
-IsNotText texts (NotUtf8 p) = IsFirstBroken texts p
+IsNotText texts (NotUtf8 p) = IsBroken texts p
 IsNotText texts (Build e) = ⊥
 IsNotText texts Memory = Unit {0}

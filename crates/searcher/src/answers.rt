@@ -40,7 +40,7 @@ pub enum Fault {
 pub enum Refusal {
     /// There are more than 2,147,483,647 patterns.
     TooMany,
-    /// The pattern with this number isn't UTF-8, the least such number.
+    /// The pattern with this number isn't UTF-8.
     NotUtf8(usize),
     /// The patterns weren't built.
     Build(BuildError),

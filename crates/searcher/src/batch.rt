@@ -58,22 +58,22 @@ fn next_match<C: Cursor>(
     regex.search_with(cache, input)
 }
 
-/// Fills the batch with the next matches of the list, where the one before ended at `last`.
+/// Fills the batch with the next matches of the list, where the one before ended at `before`.
 pub(crate) fn fill<C: Cursor>(
     regex: &Regex,
     cache: &mut Cache,
     input: &mut Input<C>,
-    last: Option<usize>,
+    before: Option<usize>,
     batch: &mut [MatchAt],
 ) -> Filled
     requires made { IsCacheFor (regex_patterns regex.now) (regex_settings regex.now) cache.old }
     ensures cache { IsCacheFor (regex_patterns regex.now) (regex_settings regex.now) cache.new }
     ensures filled { IsFilled
-        (matches_by_kind (regex_kind regex.now) (search_for (sought regex.now) input.old) input.old.span.start last)
+        (matches_by_kind (regex_kind regex.now) (search_for (sought regex.now) input.old) input.old.span.start before)
         (matches_by_kind (regex_kind regex.now) (search_for (sought regex.now) input.old) result.from result.last)
         batch.new result.count }
 {
-    let mut last = last;
+    let mut last = before;
     for count in 0..batch.len() {
         let from = input.start();
         let Some(found) = next_match(regex, cache, input, last) else {

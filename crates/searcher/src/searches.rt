@@ -58,7 +58,7 @@ impl Searcher {
 
     /// A searcher for the patterns as which these texts are read, each in UTF-8. Its iteration stands before the text's first byte.
     ///
-    /// An `Err` is the first of these that applies: too many texts; the least text that isn't UTF-8; what the build refuses. Want of memory
+    /// An `Err` is the first of these that applies: too many texts; a text that isn't UTF-8; what the build refuses. Want of memory
     /// may come at any time.
     pub fn new(
         alloc: Global,
@@ -104,8 +104,7 @@ impl Searcher {
         ensures fault { IfErr result (IsFault chunks.now start end) }
         ensures kept { self.new ≡ self.old }
     {
-        let mut input = input_over(chunks, start, end)?;
-        let found = self.regex.search_half_with(&mut self.cache, &mut input);
+        let found = self.find(chunks, start, end)?;
         Ok(found.is_some())
     }
 
@@ -137,7 +136,7 @@ impl Searcher {
         ensures found { IfOk result (λ m. m ≡ answer_in self.old.regex (joined chunks.now) start end) }
         ensures fault { IfErr result (IsFault chunks.now start end) }
         ensures refused { OnErr result (self.new ≡ self.old) }
-        ensures whole { KeepsAll (regex_names self.old.regex) self.new.captures }
+        ensures whole { OnOk result (KeepsAll (regex_names self.old.regex) self.new.captures) }
         ensures kept { IsSame self.old self.new }
     {
         let mut input = input_over(chunks, start, end)?;
@@ -190,7 +189,7 @@ impl Searcher {
 /// The texts that these bytes are.
 fn texts_of<'p>(alloc: Global, patterns: &[&'p [u8]]) -> Result<Vec<&'p str>, Refusal>
     ensures same { IfOk result (λ v. texts_of v.items ≡ texts_of patterns.now) }
-    ensures refused { IfErr result (IsNotText (texts_of patterns.now)) }
+    ensures refused { IfErr result (IsNotText patterns.now) }
 {
     let mut texts = Vec::new(alloc);
     for i in 0..patterns.len() {

@@ -9,7 +9,7 @@ use regex_cursor::types::MatchKind;
 /// How patterns are read, and which match is sought. Each field is a flag, off at 0 and on at each other number. With all of them off, the
 /// settings are the default ones.
 #[repr(C)]
-#[derive(Clone, Copy, Debug)]
+#[derive(Clone, Copy)]
 pub struct Settings {
     /// Letters match in either case: the flag `i`.
     pub case_insensitive: u8,
