@@ -76,7 +76,7 @@ struct zf_settings {
 /* Why patterns were refused. */
 struct zf_refused {
     uint32_t status;
-    size_t pattern; /* with ZF_NOT_UTF8 and ZF_SYNTAX: the number of the pattern, the least that is at fault; else 0 */
+    size_t pattern; /* with ZF_NOT_UTF8: a pattern that is not UTF-8; with ZF_SYNTAX: the least that is not read; else 0 */
     size_t at;      /* with ZF_SYNTAX: a byte of that pattern, from 0 to its length, at which the fault was met; else 0 */
 };
 
