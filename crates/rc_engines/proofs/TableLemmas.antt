@@ -67,8 +67,8 @@ half_there kind s (Some h) w = go (answer_by kind s) refl
     go None e = absurd (some_missing kind s w.0 (is_early true s) refl w.1 e)
     go (Some m) e = refl
 
-found_there : (kind : MatchKind) (s : Search) (o : Option Found) → IsAnswerBy kind true s o → is_some o ≡ is_some (answer_by kind s)
-found_there kind s None h = sym (ap is_some ((missing_by kind true s).0 h))
+found_there : (kind : TableKind) (s : Search) (o : Option Found) → IsAnswerBy kind true s o → is_some o ≡ is_some (answer_by kind s)
+found_there kind s None h = sym (ap is_some ((missing_by (kind_of kind) true s).0 h))
 found_there kind s (Some m) h = go (answer_by kind s) refl
   where
     go : (o : Option Found) → answer_by kind s ≡ o → true ≡ is_some o
@@ -125,25 +125,26 @@ module _ (e : Engine) (patterns : ℕ) {AreOf : Machine → Machine → Type 0} 
   pub tables_tell_any_by : (o : Option Found) →
       ((hs : List Re) → places_of e.program.places.items ≡ program hs → AreHalvesOf AreOf (record a { earliest = true }) hs e.program.terminator →
       IsAnswerBy a.kind true (search_for a hs e.program.terminator s) o) →
-      is_some o ≡ is_some (answer_by e.kind (engine_search e s))
+      is_some o ≡ is_some (kinds.answer_by e.kind (engine_search e s))
   tables_tell_any_by o tells =
       told (hlevel props) (λ x hs. IsAnswerBy x.kind true (search_for x hs e.program.terminator s) o)
       (λ hs same h. tells hs same (record { ahead = h.ahead; back = h.back; are_of = h.are_of; machines = h.machines; counted = h.counted; few = h.few }))
-      (λ hs same h. found_there e.kind (search_for (aim_of e patterns) hs e.program.terminator s) o h ∙ ap is_some (same_answer hs same))
+      (λ hs tabled same h. found_there (table_kind_of e.kind) (search_for (aim_of e patterns) hs e.program.terminator s) o h ∙ ap is_some (same_answer hs tabled same))
 
   -- under the earliest flag a search tells what may be answered
   pub tables_tell_by : (earliest : Bool) (r : Result (Option Found) MatchError) →
       ((hs : List Re) → places_of e.program.places.items ≡ program hs → AreHalvesOf AreOf (record a { earliest = earliest }) hs e.program.terminator →
       IfOk r (IsAnswerBy a.kind earliest (search_for a hs e.program.terminator s))) →
-      IfOk r (IsAnswerBy e.kind earliest (engine_search e s))
+      IfOk r (kinds.IsAnswerBy e.kind earliest (engine_search e s))
   tables_tell_by earliest (Err x) tells = tt
   tables_tell_by earliest (Ok found) tells =
       let early = is_early earliest (engine_search e s) in
       answers_so early e.kind (engine_search e s) found
       (told (settled_prop early e.kind (engine_search e s) found) (λ x hs. IsAnswerBy x.kind earliest (search_for x hs e.program.terminator s) found)
       (λ hs same h. tells hs same (record { ahead = h.ahead; back = h.back; are_of = h.are_of; machines = h.machines; counted = h.counted; few = h.few }))
-      (λ hs same h. settled_by early e.kind (engine_search e s) found
-      (subst (λ places. IsAnswerBy e.kind earliest (search_over places e.program.terminator e.program.passes_over s) found) (sym same) h)))
+      (λ hs tabled same h. settled_by early e.kind (engine_search e s) found
+      (subst (λ places. kinds.IsAnswerBy e.kind earliest (search_over places e.program.terminator e.program.passes_over s) found) (sym same)
+      (subst (λ k. kinds.IsAnswerBy k earliest (search_for (aim_of e patterns) hs e.program.terminator s) found) tabled h))))
 
   -- and one from where the search ends, where each match ends there
   pub tables_tell_from_end : (k : Spans) → BoundsWalks k (places_of e.program.places.items) → SeeksFromEnd e.kind k s → (r : Result (Option Found) MatchError) →
@@ -162,16 +163,16 @@ module _ (e : Engine) (patterns : ℕ) {AreOf : Machine → Machine → Type 0} 
   pub tables_tell_greatest_from_end : (k : Spans) → BoundsWalks k (places_of e.program.places.items) → SeeksGreatestFromEnd e.kind k s → (r : Result (Option Found) MatchError) →
       ((hs : List Re) → places_of e.program.places.items ≡ program hs → AreHalvesOf AreOf (record a { passes_over = false }) hs e.program.terminator →
       IfOk r (IsMatchToEnd a.earliest (search_over (program hs) e.program.terminator false s))) →
-      IfOk r (λ found. found ≡ answer_by e.kind (engine_search e s))
+      IfOk r (λ found. found ≡ kinds.answer_by e.kind (engine_search e s))
   tables_tell_greatest_from_end k bound from_end (Err x) tells = tt
   tables_tell_greatest_from_end k bound from_end (Ok found) tells =
       told (hlevel props) (λ x hs. IsMatchToEnd x.earliest (search_over (program hs) e.program.terminator false s) found)
       (λ hs same h. tells hs same (record { ahead = h.ahead; back = h.back; are_of = h.are_of; machines = h.machines; counted = h.counted; few = h.few }))
-      (λ hs same h.
+      (λ hs tabled same h.
       let last = ends_at_bound k (program hs) e.program.terminator false s (subst (BoundsWalks k) same bound) from_end.2.0 in
       greatest_to_end (search_over (program hs) e.program.terminator false s) (ap anchoring_of from_end.1) last refl found h
       ∙ greatest_law.regardless (search_for (aim_of e patterns) hs e.program.terminator s) false
-      ∙ ap (λ x. answer_by x (search_for (aim_of e patterns) hs e.program.terminator s)) (sym from_end.0) ∙ same_answer hs same)
+      ∙ ap (λ x. answer_by x (search_for (aim_of e patterns) hs e.program.terminator s)) (sym (ap table_kind_of from_end.0)) ∙ same_answer hs tabled same)
 
 -- the places of so many patterns name slots of groups alone
 pub names_groups : (e : Engine) (patterns : ℕ) (hs : List Re) → places_of e.program.places.items ≡ program hs → patterns ≡ length hs →
