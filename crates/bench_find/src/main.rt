@@ -1,7 +1,9 @@
 //! Times searches: counts the matches of a pattern in the standard input, cut into chunks, in rounds.
 //!
-//! The words are the pattern, the length of a chunk in bytes (0 for one chunk) and the number of
-//! rounds (3 where it is left out). With no words it prints nothing.
+//! The words are the pattern, the length of a chunk in bytes (0 for one chunk), the number of
+//! rounds (3 where it is left out) and what is timed: `matches`, which is the default, `captures` (the
+//! matches with their groups), `texts` (each chunk is searched as a text of its own, in one cache, and
+//! those with a match are counted) or `build` (the pattern is built). With no words it prints nothing.
 #![tactic(auto)]
 
 use regex_cursor::Input;
@@ -19,7 +21,20 @@ const FAULT: u8 = 2;
 /// The rounds where the words name no number.
 const ROUNDS: u32 = 3;
 
-const USAGE: &str = "usage: bench_find PATTERN CHUNK [ROUNDS]";
+const USAGE: &str = "usage: bench_find PATTERN CHUNK [ROUNDS [matches|captures|texts|build]]";
+
+/// What is timed.
+#[derive(Clone, Copy)]
+enum What {
+    /// All matches.
+    Matches,
+    /// All matches with their groups.
+    Captures,
+    /// A search of each chunk as a text of its own.
+    Texts,
+    /// A build of the pattern.
+    Build,
+}
 
 /// What the words ask for.
 #[derive(Drop)]
@@ -27,6 +42,7 @@ struct Job<'a> {
     pattern: &'a str,
     chunk_len: usize,
     rounds: u32,
+    what: What,
 }
 
 /// Why the benchmark stopped, once the pattern was built.
@@ -69,11 +85,25 @@ fn lent(alloc: Global, words: &[String]) -> Result<Vec<&str>, AllocError> {
     words.iter().map(|word| word.as_str()).collect(alloc)
 }
 
+/// What the word names.
+fn what_of(word: &str) -> Option<What> {
+    match word {
+        "matches" => Some(What::Matches),
+        "captures" => Some(What::Captures),
+        "texts" => Some(What::Texts),
+        "build" => Some(What::Build),
+        _ => None,
+    }
+}
+
 /// What these words ask for, where they ask for at least one round.
 fn job_of<'a>(words: &[&'a str]) -> Option<Job<'a>> {
-    let (pattern, chunk, rounds) = match words {
-        [pattern, chunk] => (pattern, chunk, ROUNDS),
-        [pattern, chunk, rounds] => (pattern, chunk, rounds.parse::<u32>().ok()?),
+    let (pattern, chunk, rounds, what) = match words {
+        [pattern, chunk] => (pattern, chunk, ROUNDS, What::Matches),
+        [pattern, chunk, rounds] => (pattern, chunk, rounds.parse::<u32>().ok()?, What::Matches),
+        [pattern, chunk, rounds, what] => {
+            (pattern, chunk, rounds.parse::<u32>().ok()?, what_of(what)?)
+        }
         _ => return None,
     };
     if rounds == 0 {
@@ -83,6 +113,7 @@ fn job_of<'a>(words: &[&'a str]) -> Option<Job<'a>> {
         pattern,
         chunk_len: chunk.parse::<usize>().ok()?,
         rounds,
+        what,
     })
 }
 
@@ -109,21 +140,77 @@ fn count_in(alloc: Global, regex: &Regex, chunks: &[&[u8]]) -> Result<usize, Ben
     Ok(count)
 }
 
-/// Counts the matches once, and writes their number and the time. The answer is the time.
-fn round(rt: &HostRuntime, regex: &Regex, chunks: &[&[u8]]) -> Result<Duration, BenchError> {
+/// The number of matches in the chunks, each with its groups.
+fn count_captures(alloc: Global, regex: &Regex, chunks: &[&[u8]]) -> Result<usize, BenchError> {
+    let input = Input::new(ChunkCursor::new(chunks)?);
+    let mut count: usize = 0;
+    for captures in regex.captures_iter(alloc, input)? {
+        captures?;
+        count = count.saturating_add(1);
+    }
+    Ok(count)
+}
+
+/// The number of chunks that have a match as texts of their own.
+fn count_texts(alloc: Global, regex: &Regex, chunks: &[&[u8]]) -> Result<usize, BenchError> {
+    let mut cache = regex.create_cache(alloc)?;
+    let mut count: usize = 0;
+    for chunk in chunks {
+        let found = regex.search_with(&mut cache, &mut Input::new(*chunk));
+        count = count.saturating_add(usize::from(found.is_some()));
+    }
+    drop(cache);
+    Ok(count)
+}
+
+/// The number of patterns that are built, which is one unless memory is refused.
+fn count_built(alloc: Global, pattern: &str) -> usize {
+    let built = Regex::new(alloc, pattern);
+    let count = usize::from(built.is_ok());
+    drop(built);
+    count
+}
+
+/// What is timed, and its count.
+fn count(
+    alloc: Global,
+    regex: &Regex,
+    chunks: &[&[u8]],
+    job: &Job<'_>,
+) -> Result<usize, BenchError> {
+    match job.what {
+        What::Matches => count_in(alloc, regex, chunks),
+        What::Captures => count_captures(alloc, regex, chunks),
+        What::Texts => count_texts(alloc, regex, chunks),
+        What::Build => Ok(count_built(alloc, job.pattern)),
+    }
+}
+
+/// Counts once, and writes the number and the time. The answer is the time.
+fn round(
+    rt: &HostRuntime,
+    regex: &Regex,
+    chunks: &[&[u8]],
+    job: &Job<'_>,
+) -> Result<Duration, BenchError> {
     let start = Instant::now(rt)?;
-    let count = count_in(rt.alloc(), regex, chunks)?;
+    let count = count(rt.alloc(), regex, chunks, job)?;
     let time = start.elapsed(rt)?;
     let micros = time.as_micros();
     writeln!(rt.stdout(), "{count} matches, {micros} us")?;
     Ok(time)
 }
 
-/// Counts the matches in so many rounds, and writes the least time at the end.
-fn rounds(rt: &HostRuntime, regex: &Regex, chunks: &[&[u8]], n: u32) -> Result<(), BenchError> {
+/// Counts in so many rounds, and writes the least time at the end.
+fn rounds(
+    rt: &HostRuntime,
+    regex: &Regex,
+    chunks: &[&[u8]],
+    job: &Job<'_>,
+) -> Result<(), BenchError> {
     let mut least = Duration::MAX;
-    for _ in 0..n {
-        let time = round(rt, regex, chunks)?;
+    for _ in 0..job.rounds {
+        let time = round(rt, regex, chunks, job)?;
         least = least.min(time);
     }
     let micros = least.as_micros();
@@ -131,12 +218,12 @@ fn rounds(rt: &HostRuntime, regex: &Regex, chunks: &[&[u8]], n: u32) -> Result<(
     Ok(())
 }
 
-/// Reads the text, cuts it, and counts its matches in rounds.
+/// Reads the text, cuts it, and counts in rounds.
 fn bench(rt: &HostRuntime, regex: &Regex, job: &Job<'_>) -> Result<(), BenchError> {
     let mut bytes = Vec::new(rt.alloc());
     rt.stdin().read_to_end(&mut bytes)?;
     let chunks = cut(rt.alloc(), &bytes, job.chunk_len)?;
-    rounds(rt, regex, &chunks, job.rounds)
+    rounds(rt, regex, &chunks, job)
 }
 
 /// Writes the line of a fault. A fault of the standard error is ignored.
@@ -158,16 +245,19 @@ fn run_with(rt: &HostRuntime, words: &[&str]) -> u8 {
         let _ = writeln!(rt.stderr(), "{USAGE}");
         return FAULT;
     };
-    let regex = match Regex::new(rt.alloc(), job.pattern) {
-        Ok(regex) => regex,
+    match Regex::new(rt.alloc(), job.pattern) {
+        Ok(regex) => {
+            let done = bench(rt, &regex, &job);
+            drop(regex);
+            match done {
+                Ok(()) => 0,
+                Err(error) => report(rt, &error),
+            }
+        }
         Err(error) => {
             let _ = writeln!(rt.stderr(), "{error}");
-            return FAULT;
+            FAULT
         }
-    };
-    match bench(rt, &regex, &job) {
-        Ok(()) => 0,
-        Err(error) => report(rt, &error),
     }
 }
 

@@ -1,4 +1,3 @@
-pub mod Grown
 pub mod Reading
 pub mod Replacing
 pub mod Groups

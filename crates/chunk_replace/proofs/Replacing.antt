@@ -9,10 +9,10 @@ use Rattle.rc_captures.specs.declared.captures.Captures.{Captures}
 use Rattle.chunk_replace.specs.declared.template.Part.{Part}
 use Rattle.chunk_replace.specs.declared.template.Part.TheVariants.{Literal}
 use Rattle.chunk_replace.specs.Template.{byte, items_of}
-use Rattle.chunk_replace.specs.Put.{AppendsBeginning}
+use Rattle.regex_cursor.specs.Put.{AppendsBeginning}
 use Rattle.chunk_replace.specs.Told.{told, told_part, told_parts}
 use Rattle.regex_cursor.proofs.Grown.{Appends-trans}
-use Rattle.chunk_replace.proofs.Grown.{begun_less, begun_more}
+use Rattle.regex_cursor.proofs.Puts.{begun_less, begun_more}
 
 told_bytes : (content : List ℕ) (caps : Captures) (text : List ℕ) → text ≡ flat_map (told content caps) (map byte text)
 told_bytes content caps [] = refl

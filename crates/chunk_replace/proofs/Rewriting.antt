@@ -17,13 +17,13 @@ use Rattle.std.specs.declared.alloc.AllocError.{AllocError}
 use Rattle.rc_meta.specs.Left.{GivesCaptures, HoldsNext, TellsWalk, captures_left, captures_regex, captures_walks, unless_done}
 use Rattle.rc_meta.specs.Views.{regex_kind, regex_names}
 use Rattle.rc_meta.specs.declared.iterators.CapturesMatches.{CapturesMatches}
-use Rattle.chunk_replace.specs.Put.{AppendsBeginning, Puts}
+use Rattle.regex_cursor.specs.Put.{AppendsBeginning, Puts}
 use Rattle.chunk_replace.specs.Replaced.{replaced_from, replacement}
 use Rattle.chunk_replace.specs.declared.template.Part.{Part}
 use Rattle.chunk_replace.specs.Template.{Item, items_of}
 use Rattle.chunk_replace.specs.Told.{searched, told, told_parts}
 use Rattle.regex_cursor.proofs.Grown.{Appends-nil, Appends-trans}
-use Rattle.chunk_replace.proofs.Grown.{begun, begun_less, begun_more, puts_as, puts_then}
+use Rattle.regex_cursor.proofs.Puts.{begun, begun_less, begun_more, puts_as, puts_then}
 use Rattle.chunk_replace.proofs.Groups.{items_told}
 
 -- The text was put up to the place `from`; these matches are left of all.

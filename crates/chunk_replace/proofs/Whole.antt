@@ -22,13 +22,13 @@ use Rattle.rc_meta.specs.Views.{regex_kind, regex_names, regex_patterns, regex_s
 use Rattle.rc_meta.specs.declared.iterators.CapturesMatches.{CapturesMatches}
 use Rattle.rc_meta.specs.declared.regex.Regex.{Regex}
 use Rattle.regex_cursor.specs.Output.{IsWhole, matches_in, sought_by_default, whole}
-use Rattle.chunk_replace.specs.Put.{Puts}
+use Rattle.regex_cursor.specs.Put.{Puts}
 use Rattle.chunk_replace.specs.Replaced.{matches_of, replaced, replaced_by, replaced_from, replacement}
 use Rattle.chunk_replace.specs.Template.{Item, template_items}
 use Rattle.chunk_replace.specs.Told.{searched}
 use Rattle.chunk_replace.specs.Words.{IsSubstituted}
 use Rattle.chunk_replace.specs.declared.template.Template.{Template}
-use Rattle.chunk_replace.proofs.Grown.{puts_as}
+use Rattle.regex_cursor.proofs.Puts.{puts_as}
 
 -- what is searched is the whole content
 searched_whole : {C : Type 0} (r : Regex) (s : CapturesMatches C) (i : Searched) (content : List ℕ) → IsWhole content i → captures_regex s ≡ r → captures_input s ≡ i →

@@ -1,6 +1,5 @@
 pub mod Template
 pub mod Marks
-pub mod Put
 pub mod Spans
 pub mod Told
 pub mod Replaced

@@ -6,7 +6,7 @@ ghost use Rattle.rc_text.specs.declared.types.MatchKind.TheVariants.{LeftmostFir
 ghost use Rattle.rc_meta.specs.Views.{regex_kind};
 ghost use Rattle.regex_cursor.specs.Output.{IsWhole};
 ghost use Rattle.chunk_replace.specs.declared.error.ReplaceError.TheVariants.{TooLong, Write};
-ghost use Rattle.chunk_replace.specs.Put.{Puts};
+ghost use Rattle.regex_cursor.specs.Put.{Puts};
 ghost use Rattle.chunk_replace.specs.Replaced.{matches_of, replaced_by};
 ghost use Rattle.chunk_replace.specs.Template.{template_items};
 

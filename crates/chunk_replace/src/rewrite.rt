@@ -4,7 +4,7 @@ ghost use Rattle.rc_text.specs.declared.types.MatchKind.TheVariants.{LeftmostFir
 ghost use Rattle.rc_meta.specs.Left.{captures_left, captures_regex, captures_walks};
 ghost use Rattle.rc_meta.specs.Views.{regex_kind, regex_names};
 ghost use Rattle.chunk_replace.specs.declared.error.ReplaceError.TheVariants.{Memory, Write};
-ghost use Rattle.chunk_replace.specs.Put.{Puts};
+ghost use Rattle.regex_cursor.specs.Put.{Puts};
 ghost use Rattle.chunk_replace.specs.Replaced.{replaced_from, replacement};
 ghost use Rattle.chunk_replace.specs.Template.{template_items};
 ghost use Rattle.chunk_replace.specs.Told.{searched, told_parts};

@@ -6,6 +6,7 @@ use crate::engines::{Engines, MOST_PATTERNS};
 use crate::faults::{Fault, same};
 use crate::row::{Row, Want, is_refused};
 use crate::{alike, parses, searches};
+use rc_settings::error::BuildError;
 use std::alloc::Global;
 
 /// Every way in which a text is cut.
@@ -30,6 +31,7 @@ pub fn judge(alloc: Global, row: &mut Row) -> Result<(), Fault> {
             drop(engines);
             answered
         }
+        Err(BuildError::Memory) => Err(Fault::Memory),
         Err(error) => same(is_refused(&error, row.want), Fault::Refusal),
     }
 }

@@ -57,8 +57,9 @@ pub fn agree(alloc: Global, engines: &Engines, row: &Row) -> Result<(), Fault>
     if settings.kind == MatchKind::All || !settings.walker || !engines.regex.is_plain() {
         return Ok(());
     }
+    // The patterns were read when the engines were built.
     let Ok(hirs) = parse_all(alloc, &row.patterns, &settings.syntax) else {
-        return Err(Fault::UnreadPattern);
+        return Err(Fault::Memory);
     };
     let whole = view_of(row);
     for start in whole.bounds.0..whole.bounds.1.saturating_add(1) {

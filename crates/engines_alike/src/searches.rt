@@ -111,12 +111,12 @@ fn by_table(engine: &mut TableEngine, row: &Row, cursor: Recut) -> Result<(), Fa
     let mut input = input(row, cursor)?;
     let is_same = match engine.find(&mut input) {
         Ok(found) => is_wanted(row, found) && !has_to_quit(row),
-        Err(error) => engine.may_end_by(error, row.quits),
+        Err(error) => engine.may_end_by(error, row.quits)?,
     };
     same(is_same, engine.fault(Part::Find))?;
     let is_same = match engine.find_end(&mut input) {
         Ok(half) => is_end_wanted(row, half) && !has_to_quit(row),
-        Err(error) => engine.may_end_by(error, row.quits),
+        Err(error) => engine.may_end_by(error, row.quits)?,
     };
     same(is_same, engine.fault(Part::Forward))?;
     let is_same = row.settings.clears || engine.keeps_states();
@@ -149,7 +149,7 @@ fn lists_by_tables(
         let is_same = match listed.error {
             None => listed.spans == row.spans && !matches!(row.quits, Quits::At(_)),
             Some(error) => {
-                row.spans.starts_with(&listed.spans) && engine.may_end_by(error, row.quits)
+                row.spans.starts_with(&listed.spans) && engine.may_end_by(error, row.quits)?
             }
         };
         same(is_same, engine.fault(Part::List))?;

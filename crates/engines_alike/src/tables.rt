@@ -138,16 +138,17 @@ impl TableEngine {
         }
     }
 
-    /// It may end a search by this error.
-    pub fn may_end_by(&self, error: MatchError, quits: Quits) -> bool {
-        match error {
+    /// It may end a search by this error, which may also be want of memory.
+    pub fn may_end_by(&self, error: MatchError, quits: Quits) -> Result<bool, Fault> {
+        Ok(match error {
             MatchError::Quit { byte, offset } => match quits {
                 Quits::Nowhere => false,
                 Quits::At(at) => at == (usize::from(byte), offset),
                 Quits::Anywhere => true,
             },
-            MatchError::GaveUp { memory, .. } => !memory && self.may_give_up(),
-        }
+            MatchError::GaveUp { memory: true, .. } => return Err(Fault::Memory),
+            MatchError::GaveUp { memory: false, .. } => self.may_give_up(),
+        })
     }
 
     /// It has let no states go, unless its cache is small.

@@ -1,5 +1,5 @@
 //! Searches in a text with a caret, as an editor makes them.
-ghost use Rattle.std.specs.Prelude.{◌≡◌, ◌≤◌, IfOk, filter, length};
+ghost use Rattle.std.specs.Prelude.{◌≡◌, ◌≤◌, IfOk, false, filter, length};
 ghost use Rattle.gap_buffer.specs.Shown.{IsCacheOf, IsSearchedFrom, LeavesAll, found_from, last_before, matches_of, overlaps};
 
 use crate::buffer::GapBuffer;
@@ -67,6 +67,7 @@ fn input_from(text: &GapBuffer, at: usize) -> Input<GapCursor<'_>>
     requires { at ≤ length text.now.content }
     ensures start { result.span.start ≡ at }
     ensures same { IsSearchedFrom text.now.content at result }
+    ensures late { result.earliest ≡ false }
 {
     let mut input = Input::new(text.cursor());
     input.set_start(at);

@@ -1,7 +1,12 @@
 pub mod NarrowLemmas
+pub mod SettleLemmas
 pub mod SlotLemmas
 pub mod LimitLemmas
 pub mod SpanLemmas
+pub mod ToEndLemmas
 pub mod TableLemmas
 pub mod CacheLemmas
 pub mod KeptLemmas
+pub mod PatternLemmas
+pub mod EarlyLemmas
+pub mod JumpLemmas

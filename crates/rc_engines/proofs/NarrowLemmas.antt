@@ -38,14 +38,14 @@ module _ (low : ℕ) (wide slim : Pair → List Pair) (leaves : (n : Pair) → L
   left_alive n m here = ⊎_elim (λ e. e) (λ r. absurd (subst (λ ms. IsIn m ms) r.0 here)) (leaves n)
 
   -- a walk within the bound is one without it
-  widens : (Ends Others : Pair → Type 0) → ((n : Pair) → Others n → Ends n) → {p f w : List Pair} → IsWalk slim Others p f w → IsWalk wide Ends p f w
+  pub widens : (Ends Others : Pair → Type 0) → ((n : Pair) → Others n → Ends n) → {p f w : List Pair} → IsWalk slim Others p f w → IsWalk wide Ends p f w
   widens Ends Others weaker (stops n here fresh stop) = stops n here fresh (weaker n stop)
   widens Ends Others weaker (goes {passed = p} {w = w} n here fresh rest) =
       let m = first_in slim Others rest in
       goes n here fresh (subst (λ ms. IsWalk wide Ends (n ∷ p) ms w) (left_alive n m.0 m.1) (widens Ends Others weaker rest))
 
   -- a walk that stays within the bound is one under it
-  narrows : (Ends Others : Pair → Type 0) → {p f w : List Pair} → IsWalk wide Ends p f w → ((k : Pair) → IsIn k w → k.1 ≤ low) → Others (last_of w) →
+  pub narrows : (Ends Others : Pair → Type 0) → {p f w : List Pair} → IsWalk wide Ends p f w → ((k : Pair) → IsIn k w → k.1 ≤ low) → Others (last_of w) →
       IsWalk slim Others p f w
   narrows Ends Others (stops n here fresh stop) within end = stops n here fresh end
   narrows Ends Others (goes {passed = p} {w = w} n here fresh rest) within end =
@@ -183,11 +183,11 @@ place_leaves test xs i low hi le (guard l n) = inl refl
 place_leaves test xs i low hi le (slot k n) = inl refl
 place_leaves test xs i low hi le (accept p) = inl refl
 
-ways_leave : (places : List Place) (t : Text) (low hi : ℕ) → low ≤ hi → (n : Pair) → Leaves low (ways places t hi n) (ways places t low n)
+pub ways_leave : (places : List Place) (t : Text) (low hi : ℕ) → low ≤ hi → (n : Pair) → Leaves low (ways places t hi n) (ways places t low n)
 ways_leave places t low hi le n = place_leaves (λ l. holds t l n.1) (drop n.1 t.content) n.1 low hi le (place_at places n.0)
 
 -- a place at which only this pattern's walks may end is its match place
-that_place : (p : ℕ) (q : Place) → IsTrue (is_match_place (Some p) q) → q ≡ accept p
+pub that_place : (p : ℕ) (q : Place) → IsTrue (is_match_place (Some p) q) → q ≡ accept p
 that_place p q h = let e = match_place_is (Some p) q h in e ∙ ap accept (eqb-true (pattern_at q) p (subst (λ x. IsTrue (is_match_place (Some p) x)) e h))
 
 -- the answer is that of the search over its span, for its pattern alone

@@ -27,11 +27,13 @@ use Rattle.rc_spans.specs.declared.search.Aim.{Aim}
 use Rattle.rc_engine.specs.Engine.{engine_search}
 use Rattle.rc_engine.specs.declared.engine.Engine.{Engine}
 use Rattle.rc_engines.specs.Slots.{NamesGroups}
-use Rattle.rc_engines.specs.Spans.{BoundsWalks, SeeksFromEnd}
+use Rattle.rc_engines.specs.Spans.{BoundsWalks, SeeksFromEnd, SeeksGreatestFromEnd}
 use Rattle.rc_engines.specs.declared.spans.Spans.{Spans}
 use Rattle.rc_engines.specs.Tables.{AreHalvesFor, aim_of}
+use Rattle.rc_engines.proofs.SettleLemmas.{answers_so, settled_by, settled_prop}
 use Rattle.rc_engines.proofs.SlotLemmas.{program_names}
 use Rattle.rc_engines.proofs.SpanLemmas.{ends_at_bound}
+use Rattle.rc_engines.proofs.ToEndLemmas.{greatest_to_end}
 
 -- the half that a search forwards tells is that of the preferred match
 half_told : (s : Search) (o : Option HalfFound) → IsForwardHalf leftmost_first false s o → o ≡ option_map half_of (answer s)
@@ -61,6 +63,14 @@ half_there kind s (Some h) w = go (answer_by kind s) refl
     go : (o : Option Found) → answer_by kind s ≡ o → true ≡ is_some o
     go None e = absurd (some_missing kind s w.0 (is_early true s) refl w.1 e)
     go (Some m) e = refl
+
+found_there : (kind : MatchKind) (s : Search) (o : Option Found) → IsAnswerBy kind true s o → is_some o ≡ is_some (answer_by kind s)
+found_there kind s None h = sym (ap is_some ((missing_by kind true s).0 h))
+found_there kind s (Some m) h = go (answer_by kind s) refl
+  where
+    go : (o : Option Found) → answer_by kind s ≡ o → true ≡ is_some o
+    go None e = absurd (some_missing kind s m (is_early true s) refl h e)
+    go (Some n) e = refl
 
 module _ (e : Engine) (patterns : ℕ) {AreOf : Machine → Machine → Type 0} (s : Searched) (a : Aim) (own : ∥ AreHalvesFor e patterns AreOf ∥₁) (is : a ≡ aim_of e patterns) where
   -- what is told of any patterns of which they are halves is told of the engine's
@@ -105,6 +115,30 @@ module _ (e : Engine) (patterns : ℕ) {AreOf : Machine → Machine → Type 0} 
       (λ hs same h. tells hs same (record { ahead = h.ahead; back = h.back; are_of = h.are_of; machines = h.machines; counted = h.counted; few = h.few }))
       (λ hs same h. half_there e.kind (search_for (aim_of e patterns) hs e.program.terminator s) o h ∙ ap is_some (same_answer hs same))
 
+  -- and so does a match that is told early
+  pub tables_tell_any_by : (o : Option Found) →
+      ((hs : List Re) → places_of e.program.places.items ≡ program hs → AreHalvesOf AreOf (record a { earliest = true }) hs e.program.terminator →
+      IsAnswerBy a.kind true (search_for a hs e.program.terminator s) o) →
+      is_some o ≡ is_some (answer_by e.kind (engine_search e s))
+  tables_tell_any_by o tells =
+      told (hlevel props) (λ x hs. IsAnswerBy x.kind true (search_for x hs e.program.terminator s) o)
+      (λ hs same h. tells hs same (record { ahead = h.ahead; back = h.back; are_of = h.are_of; machines = h.machines; counted = h.counted; few = h.few }))
+      (λ hs same h. found_there e.kind (search_for (aim_of e patterns) hs e.program.terminator s) o h ∙ ap is_some (same_answer hs same))
+
+  -- under the earliest flag a search tells what may be answered
+  pub tables_tell_by : (earliest : Bool) (r : Result (Option Found) MatchError) →
+      ((hs : List Re) → places_of e.program.places.items ≡ program hs → AreHalvesOf AreOf (record a { earliest = earliest }) hs e.program.terminator →
+      IfOk r (IsAnswerBy a.kind earliest (search_for a hs e.program.terminator s))) →
+      IfOk r (IsAnswerBy e.kind earliest (engine_search e s))
+  tables_tell_by earliest (Err x) tells = tt
+  tables_tell_by earliest (Ok found) tells =
+      let early = is_early earliest (engine_search e s) in
+      answers_so early e.kind (engine_search e s) found
+      (told (settled_prop early e.kind (engine_search e s) found) (λ x hs. IsAnswerBy x.kind earliest (search_for x hs e.program.terminator s) found)
+      (λ hs same h. tells hs same (record { ahead = h.ahead; back = h.back; are_of = h.are_of; machines = h.machines; counted = h.counted; few = h.few }))
+      (λ hs same h. settled_by early e.kind (engine_search e s) found
+      (subst (λ places. IsAnswerBy e.kind earliest (search_over places e.program.terminator e.program.passes_over s) found) (sym same) h)))
+
   -- and one from where the search ends, where each match ends there
   pub tables_tell_from_end : (k : Spans) → BoundsWalks k (places_of e.program.places.items) → SeeksFromEnd e.kind k s → (r : Result (Option Found) MatchError) →
       ((hs : List Re) → places_of e.program.places.items ≡ program hs → AreHalvesOf AreOf a hs e.program.terminator →
@@ -116,6 +150,21 @@ module _ (e : Engine) (patterns : ℕ) {AreOf : Machine → Machine → Type 0} 
       (λ hs same h.
       let last = ends_at_bound k (program hs) e.program.terminator e.program.passes_over s (subst (BoundsWalks k) same bound) from_end.2.0 in
       reverse_end_law.preferred hs (search_for (aim_of e patterns) hs e.program.terminator s) found refl (ap anchoring_of from_end.1) last h
+      ∙ ap (λ x. answer_by x (search_for (aim_of e patterns) hs e.program.terminator s)) (sym from_end.0) ∙ same_answer hs same)
+
+  -- the greatest too, whether or not matches are passed over
+  pub tables_tell_greatest_from_end : (k : Spans) → BoundsWalks k (places_of e.program.places.items) → SeeksGreatestFromEnd e.kind k s → (r : Result (Option Found) MatchError) →
+      ((hs : List Re) → places_of e.program.places.items ≡ program hs → AreHalvesOf AreOf (record a { passes_over = false }) hs e.program.terminator →
+      IfOk r (IsMatchToEnd a.earliest (search_over (program hs) e.program.terminator false s))) →
+      IfOk r (λ found. found ≡ answer_by e.kind (engine_search e s))
+  tables_tell_greatest_from_end k bound from_end (Err x) tells = tt
+  tables_tell_greatest_from_end k bound from_end (Ok found) tells =
+      told (hlevel props) (λ x hs. IsMatchToEnd x.earliest (search_over (program hs) e.program.terminator false s) found)
+      (λ hs same h. tells hs same (record { ahead = h.ahead; back = h.back; are_of = h.are_of; machines = h.machines; counted = h.counted; few = h.few }))
+      (λ hs same h.
+      let last = ends_at_bound k (program hs) e.program.terminator false s (subst (BoundsWalks k) same bound) from_end.2.0 in
+      greatest_to_end (search_over (program hs) e.program.terminator false s) (ap anchoring_of from_end.1) last refl found h
+      ∙ greatest_law.regardless (search_for (aim_of e patterns) hs e.program.terminator s) false
       ∙ ap (λ x. answer_by x (search_for (aim_of e patterns) hs e.program.terminator s)) (sym from_end.0) ∙ same_answer hs same)
 
 -- the places of so many patterns name slots of groups alone

@@ -1,4 +1,6 @@
 pub mod Caches
+pub mod Early
+pub mod Jumps
 pub mod Limits
 pub mod Makes
 pub mod Narrow

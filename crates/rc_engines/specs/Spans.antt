@@ -6,7 +6,7 @@ use Rattle.rc_text.specs.Plain.{is_anchored}
 use Rattle.rc_text.specs.Text.{Searched, low, high, slice_end}
 use Rattle.rc_text.specs.declared.types.Anchored.TheVariants.{No}
 use Rattle.rc_text.specs.declared.types.MatchKind.{MatchKind}
-use Rattle.rc_text.specs.declared.types.MatchKind.TheVariants.{LeftmostFirst}
+use Rattle.rc_text.specs.declared.types.MatchKind.TheVariants.{All, LeftmostFirst}
 use Rattle.rc_pattern.specs.Re.{Re}
 use Rattle.rc_pattern.specs.Properties.{both}
 use Rattle.rc_pattern.specs.declared.hir.Look.TheVariants.{Start, End}
@@ -78,6 +78,10 @@ EndAlone k = (k.ends ≡ true) × (k.begins ≡ false)
 -- the preferred match is sought from the upper bound
 abbrev pub SeeksFromEnd : MatchKind → Spans → Searched → Type 0
 SeeksFromEnd kind k s = (kind ≡ LeftmostFirst) × (s.anchored ≡ No) × EndAlone k
+
+-- so is the greatest one
+abbrev pub SeeksGreatestFromEnd : MatchKind → Spans → Searched → Type 0
+SeeksGreatestFromEnd kind k s = (kind ≡ All) × (s.anchored ≡ No) × EndAlone k
 
 -- each is of this length
 abbrev pub IsOneLength : Spans → ℕ → Type 0

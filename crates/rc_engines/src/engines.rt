@@ -8,6 +8,8 @@ ghost use Rattle.rc_engines.specs.Spans.{BoundsWalks};
 ghost use Rattle.rc_engines.specs.Tables.{MayBeLazyFor, MayBeTablesFor};
 
 use crate::cache::Cache;
+use crate::last::{find_greatest_from_end, seeks_greatest_from_end};
+use crate::needles::find_early_guarded;
 use crate::slots::fill_slots;
 use crate::spans::Spans;
 use crate::tables::{fast_guards_of, tables_of};
@@ -20,6 +22,8 @@ use rc_engine::strategy::guards_of;
 use rc_lazy::lazy;
 use rc_lazy::lazy::Lazy;
 use rc_literal::prefilter::Prefilter;
+use rc_pass::which::which_patterns;
+use rc_patterns::sets::PatternSet;
 use rc_spans::guarded::{find_end_guarded, find_guarded};
 use rc_spans::search;
 use rc_spans::search::Aim;
@@ -55,10 +59,10 @@ pub struct Limits {
 pub struct Engines {
     /// The ordered pass, and the needles.
     pub engine: Engine,
-    tables: Option<Dense>,
-    lazy: Option<Lazy>,
-    patterns: usize,
-    spans: Spans,
+    pub(crate) tables: Option<Dense>,
+    pub(crate) lazy: Option<Lazy>,
+    pub(crate) patterns: usize,
+    pub(crate) spans: Spans,
     ghost fit: { ∥ MayBeTablesFor engine patterns tables ∥₁ },
     ghost lazy_fit: { ∥ MayBeLazyFor engine patterns lazy ∥₁ },
     ghost numbered: { NamesGroups patterns (places_of engine.program.places.items) },
@@ -161,7 +165,7 @@ impl Engines {
     }
 
     /// What a search by tables seeks.
-    fn aim(&self) -> Aim
+    pub(crate) fn aim(&self) -> Aim
         ensures { result ≡ aim_of self.now.engine self.now.patterns }
     {
         Aim {
@@ -174,7 +178,7 @@ impl Engines {
 
     /// Whether the preferred match is sought from where the search ends: each match ends where the slice does, not each begins where it
     /// does, and the search isn't anchored.
-    fn seeks_from_end<C: Cursor>(&self, input: &Input<C>) -> bool
+    pub(crate) fn seeks_from_end<C: Cursor>(&self, input: &Input<C>) -> bool
         ensures { IsTrue result ↔ SeeksFromEnd self.now.engine.kind self.now.spans input.now }
     {
         match (self.engine.kind, input.get_anchored()) {
@@ -184,7 +188,7 @@ impl Engines {
     }
 
     /// The preferred match, sought from where the search ends. An `Err` says why the tables tell none.
-    fn find_from_end<H: Halves, C: Cursor>(
+    pub(crate) fn find_from_end<H: Halves, C: Cursor>(
         &self,
         halves: &H,
         cache: &mut H::Cache,
@@ -218,6 +222,9 @@ impl Engines {
     {
         if self.seeks_from_end(input) {
             return self.find_from_end(halves, cache, input);
+        }
+        if seeks_greatest_from_end(self, input) {
+            return find_greatest_from_end(self, halves, cache, input);
         }
         if let Some(length) = self.only_length() {
             return self.find_of_length(halves, cache, input, length);
@@ -345,8 +352,8 @@ impl Engines {
         }
     }
 
-    /// Whether the tables tell a match. An `Err` says why they tell nothing. Unless needles guard the patterns or matches are passed over,
-    /// nothing is read beyond the first position at which some match ends.
+    /// Whether the tables tell a match, from needle to needle where needles guard the patterns. An `Err` says why they tell nothing. Unless matches
+    /// are passed over, nothing is read beyond the first position at which some match ends.
     fn any_by_tables<H: Halves, C: Cursor>(
         &self,
         halves: &H,
@@ -359,13 +366,17 @@ impl Engines {
         ensures keeps { Keeps input.old input.new }
         ensures found { IfOk result (λ b. b ≡ is_some (answer_by self.now.engine.kind (engine_search self.now.engine input.old))) }
     {
-        if self.seeks_from_end(input) || fast_guards_of(&self.engine.strategy).is_some() {
+        if self.seeks_from_end(input) || seeks_greatest_from_end(self, input) {
             return Ok(self.find_end_by_tables(halves, cache, input)?.is_some());
         }
         let aim = Aim {
             earliest: true,
             ..self.aim()
         };
+        if let Some(needles) = fast_guards_of(&self.engine.strategy) {
+            let found = find_early_guarded(halves, cache, input, aim, needles)?;
+            return Ok(found.is_some());
+        }
         let half = search::find_end(halves, cache, input, aim)?;
         Ok(half.is_some())
     }
@@ -442,7 +453,7 @@ impl Engines {
     }
 
     /// Whether a search finds a match. It takes no memory but for states. Nothing is read beyond the first position at which some match ends,
-    /// unless matches are passed over, or tables go from needle to needle.
+    /// unless matches are passed over.
     pub fn is_match<C: Cursor>(&self, cache: &mut Cache, input: &mut Input<C>) -> bool
         requires made { IsCacheIn self.now 0 cache.old }
         ensures keeps { Keeps input.old input.new }
@@ -577,7 +588,7 @@ impl Engines {
 
     /// A cache for the tables whose states are made as they are met, where a search of the input is to go by them: there are none of all states,
     /// and its bounds lie `SHORT` bytes apart, or more. An `Err` is want of memory.
-    fn states_for<C: Cursor>(
+    pub(crate) fn states_for<C: Cursor>(
         &self,
         alloc: Global,
         input: &mut Input<C>,
@@ -676,8 +687,38 @@ impl Engines {
     }
 }
 
+impl Engines {
+    ghost use Rattle.rc_program.specs.Places.{places_of};
+    ghost use Rattle.rc_engine.specs.Engine.{engine_search};
+    ghost use Rattle.rc_engines.specs.Caches.{IsCacheIn, IsSameCacheIn};
+    ghost use Rattle.rc_pass.specs.PatternSpans.{AddsSpelled, AreOfFirst};
+    ghost use Rattle.rc_text.specs.Text.{Keeps};
+
+    /// Puts into the set each of so many patterns, all that there are, that has a match within the bounds, as far as the set can hold it.
+    /// What the set has stays. Where what is known of the patterns' spans leaves none between the bounds, nothing is searched; else the
+    /// pass tells. It takes no memory.
+    pub fn which_patterns<C: Cursor>(
+        &self,
+        cache: &mut Cache,
+        input: &mut Input<C>,
+        patterns: usize,
+        set: &mut PatternSet,
+    )
+        requires made { IsCacheIn self.now 0 cache.old }
+        requires first { AreOfFirst patterns (places_of self.now.engine.program.places.items) }
+        ensures keeps { Keeps input.old input.new }
+        ensures adds { AddsSpelled (engine_search self.now.engine input.old) set.old set.new }
+        ensures cache { IsSameCacheIn self.now cache.old cache.new }
+    {
+        if self.spans.leave_none(input) {
+            return;
+        }
+        which_patterns(&mut cache.pass, input, &self.engine.program, patterns, set);
+    }
+}
+
 /// The half of a match, if there is one: its pattern, and its end.
-fn half_of(found: Option<Match>) -> Option<HalfMatch>
+pub(crate) fn half_of(found: Option<Match>) -> Option<HalfMatch>
     ensures { result ≡ option_map half_of found }
 {
     match found {

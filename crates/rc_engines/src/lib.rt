@@ -2,8 +2,11 @@
 #![tactic(auto)]
 
 pub mod cache;
+pub mod early;
 pub mod engines;
+mod last;
 pub mod laws;
+mod needles;
 mod slots;
 pub mod spans;
 mod tables;

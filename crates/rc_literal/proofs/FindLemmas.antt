@@ -9,7 +9,7 @@ use Rattle.rc_program.specs.Answer.{first_given}
 use Rattle.rc_literal.specs.declared.hit.Hit.{Hit}
 use Rattle.rc_literal.specs.Needles.{stands_within, first_from, needle_at, find_needle, prefix_needle}
 use Rattle.rc_literal.specs.declared.scan.Scan.{Scan}
-use Rattle.rc_literal.specs.declared.scan.Scan.TheVariants.{Needle, Heads}
+use Rattle.rc_literal.specs.declared.scan.Scan.TheVariants.{Needle, Heads, Sieve}
 use Rattle.rc_literal.specs.Scans.{IsScanOf}
 use Rattle.rc_literal.specs.Tables.{numbered, Agrees, IsRuledOut, AreSome}
 use Rattle.rc_literal.proofs.StandLemmas.{stands_parts, false_if_not, none_from}
@@ -46,6 +46,7 @@ are_past needles offset (Needle rest) some is k l =
     let past : offset < length (numbered needles 0) = omega (arith, is.long, ap length is.is, length-drop offset (numbered needles 0)) in
     subst (λ n. offset < length (numbered needles n)) zero past
 are_past needles offset (Heads heads) some is k l = let long = some k l in let zero = is.0 in omega (arith, long, zero)
+are_past needles offset (Sieve sieve) some is k l = let long = some k l in let zero = is.0 in omega (arith, long, zero)
 
 -- no needle stands whose offset is at the end
 pub none_past : (needles : List (List ℕ)) (content : List ℕ) (hi offset i : ℕ) → ArePast needles offset → hi ≤ i + offset →

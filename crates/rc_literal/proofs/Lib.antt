@@ -1,9 +1,12 @@
 pub mod RangeLemmas
 pub mod StandLemmas
 pub mod ScanLemmas
+pub mod SieveLemmas
 pub mod TableLemmas
 pub mod FindLemmas
 pub mod PairLemmas
+pub mod NodeLemmas
+pub mod TrieLemmas
 pub mod ReadLemmas
 pub mod WayLemmas
 pub mod RelationLemmas

@@ -6,4 +6,6 @@ pub mod Pairs
 pub mod Prefilters
 pub mod Prefixes
 pub mod Scans
+pub mod Sieves
 pub mod Tables
+pub mod Tries

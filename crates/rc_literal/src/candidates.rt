@@ -3,10 +3,12 @@ ghost use Rattle.std.specs.Prelude.{◌≡◌, ◌+◌, ◌<◌, ◌≤◌, ℕ,
 ghost use Rattle.rc_text.specs.Text.{Keeps};
 ghost use Rattle.rc_literal.specs.Needles.{needle_at};
 ghost use Rattle.rc_literal.specs.Scans.{AreHeadsOf, AreHeadsOf-is_fact, IsRestOf};
+ghost use Rattle.rc_literal.specs.Sieves.{AreSifted};
 ghost use Rattle.rc_literal.specs.Tables.{Agrees, IsRuledOut, needles_in};
 
 use crate::pairs::{LANES, are_nowhere, first_place};
 use crate::scan::{Heads, Scan, Searcher};
+use crate::sieve::{LEAST_PIECE, Sieve};
 use crate::table::Table;
 use memchr::memmem::Finder;
 use memchr::{memchr, memchr2, memchr3};
@@ -100,8 +102,33 @@ impl Candidates for ByHead<'_> {
             Heads::Three(one, two, three) => {
                 memchr3(one, two, three, piece).unwrap_or(piece.len())
             }
-            Heads::Many => head_candidate(&self.searcher.table, piece),
+            Heads::Many => trie_candidate(&self.searcher.table, piece),
         }
+    }
+}
+
+/// Looks for the first three bytes of needles.
+#[derive(Drop)]
+struct BySieve<'a> {
+    searcher: &'a Searcher,
+    sieve: &'a Sieve,
+    ghost from_start: { searcher.now.offset ≡ 0 },
+    ghost are: { AreSifted sieve.now (needles_in searcher.now.table.needles.items) },
+}
+
+impl Candidates for BySieve<'_> {
+    ghost needles = { λ s. needles_in s.searcher.now.table.needles.items };
+
+    ghost offset = { λ s. s.searcher.now.offset };
+
+    #[inline(always)]
+    fn passes(&self, piece: &[u8]) -> bool {
+        is_between(piece, LANES, SHORT_PIECE) && self.candidate(piece) == piece.len()
+    }
+
+    #[inline(always)]
+    fn candidate(&self, piece: &[u8]) -> usize {
+        sieve_candidate(self.sieve, &self.searcher.table, piece)
     }
 }
 
@@ -142,6 +169,42 @@ fn head_candidate(table: &Table, piece: &[u8]) -> usize
         }
     }
     piece.len()
+}
+
+/// The first place where a needle of the trie may begin. Where there is no trie, the first with a byte
+/// with which a needle begins.
+fn trie_candidate(table: &Table, piece: &[u8]) -> usize
+    ensures within { result ≤ length piece.now }
+    ensures passed { (k : ℕ) → k < result → IsRuledOut (needles_in table.now.needles.items) 0 piece.now k }
+{
+    let Some(trie) = &table.trie else {
+        return head_candidate(table, piece);
+    };
+    let count = table.needles.len();
+    for at in 0..piece.len() {
+        if trie.may_begin(&piece[at..], count) {
+            return at;
+        }
+    }
+    piece.len()
+}
+
+/// The first place where a bucket of the sieve takes three bytes. Where the sieve reads too much, the
+/// first with a byte with which a needle begins.
+fn sieve_candidate(sieve: &Sieve, table: &Table, piece: &[u8]) -> usize
+    requires { AreSifted sieve.now (needles_in table.now.needles.items) }
+    ensures within { result ≤ length piece.now }
+    ensures passed { (k : ℕ) → k < result → IsRuledOut (needles_in table.now.needles.items) 0 piece.now k }
+{
+    if piece.len() < LEAST_PIECE {
+        return head_candidate(table, piece);
+    }
+    let at = sieve.place(piece);
+    let last = piece.len() - 2;
+    if at < last {
+        return at;
+    }
+    last + head_candidate(table, &piece[last..])
 }
 
 /// The first place from one on to which a needle may belong that starts the offset before it. Where
@@ -215,6 +278,7 @@ pub fn place_from<C: Cursor>(
             let heads = *heads;
             look_from(input, &ByHead { searcher, heads }, from, end)
         }
+        Scan::Sieve(sieve) => look_from(input, &BySieve { searcher, sieve }, from, end),
     }
 }
 

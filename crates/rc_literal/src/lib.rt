@@ -14,4 +14,6 @@ mod pairs;
 pub mod prefilter;
 pub mod prefixes;
 mod scan;
+mod sieve;
 mod table;
+mod trie;

@@ -1,15 +1,17 @@
 //! The search for needles.
-ghost use Rattle.std.specs.Prelude.{◌≡◌, ◌+◌, ◌<◌, ◌≤◌, IfSome, bytes_eq, length, slice_range};
+ghost use Rattle.std.specs.Prelude.{◌≡◌, ◌+◌, ◌<◌, ◌≤◌, ℕ, IfSome, IsTrue, List, Some, bytes_eq, false, length, slice_get, slice_range, true};
 ghost use Rattle.rc_text.specs.Text.{Keeps, high, low};
-ghost use Rattle.rc_literal.specs.Needles.{find_needle, needle_at, prefix_needle};
+ghost use Rattle.rc_literal.specs.Needles.{find_needle, needle_at, prefix_needle, stands_within};
 ghost use Rattle.rc_literal.specs.Literals.{literal_answer};
 ghost use Rattle.rc_literal.specs.Prefilters.{needles_of};
-ghost use Rattle.rc_literal.specs.Tables.{needles_in};
+ghost use Rattle.rc_literal.specs.Tables.{BeginsWithByte, needles_in, numbered};
+ghost use Rattle.rc_literal.specs.Tries.{IsCarried};
 
 use crate::candidates::place_from;
 use crate::hit::Hit;
 use crate::prefilter::Prefilter;
 use crate::table::Table;
+use crate::trie::{ROOT, Trie};
 use rc_text::cursor::Cursor;
 use rc_text::input::{Input, byte_at, high, low, piece_from};
 use rc_text::types::{Anchored, Match, PatternID, Span};
@@ -33,6 +35,79 @@ fn stands<C: Cursor>(input: &mut Input<C>, needle: &[u8], at: usize, to: usize) 
     true
 }
 
+/// The least number of a needle that may stand at `at`, as far as the trie tells. Where none does, how
+/// many needles there are.
+fn least_number<C: Cursor>(
+    input: &mut Input<C>,
+    trie: &Trie,
+    at: usize,
+    end: usize,
+    count: usize,
+) -> usize
+    requires { end ≤ length input.old.content }
+    ensures keeps { Keeps input.old input.new }
+    ensures least { (needle : List ℕ) (n : ℕ) → IsCarried trie.now.nodes.items needle n → 0 < length needle
+        → stands_within input.old.content end at needle ≡ true → result ≤ n }
+{
+    let mut best = count;
+    let mut node = ROOT;
+    let mut place = at;
+    while place < end {
+        let Some(byte) = byte_at(input, place) else {
+            return 0;
+        };
+        node = trie.step(node, byte);
+        if node == 0 {
+            return best;
+        }
+        best = best.min(trie.number(node));
+        place += 1;
+    }
+    best
+}
+
+/// Whether the needle begins with the byte.
+fn begins_with(needle: &[u8], byte: u8) -> bool
+    ensures { IsTrue result → BeginsWithByte needle.now byte }
+{
+    match needle.get(0) {
+        Some(first) => *first == byte,
+        None => false,
+    }
+}
+
+/// A number below which no needle stands at `at`, where the content has this byte: that of a needle
+/// that begins with it, or how many needles there are.
+fn start_number<C: Cursor>(
+    input: &mut Input<C>,
+    table: &Table,
+    at: usize,
+    end: usize,
+    byte: u8,
+) -> usize
+    requires high { end ≤ length input.old.content }
+    requires here { slice_get input.old.content at ≡ Some byte }
+    ensures keeps { Keeps input.old input.new }
+    ensures high { result ≤ length (needles_in table.now.needles.items) }
+    ensures begins { result < length (needles_in table.now.needles.items) → BeginsWithByte (numbered (needles_in table.now.needles.items) result) byte }
+    ensures none_below { (k : ℕ) → k < result → k < length (needles_in table.now.needles.items)
+        → stands_within input.old.content end at (numbered (needles_in table.now.needles.items) k) ≡ false }
+{
+    let head = table.heads[byte as usize];
+    let Some(trie) = &table.trie else {
+        return head;
+    };
+    let count = table.needles.len();
+    let least = least_number(input, trie, at, end, count);
+    if least >= count {
+        return count;
+    }
+    if begins_with(table.needles[least].as_slice(), byte) {
+        return least;
+    }
+    head
+}
+
 /// The first of the needles that stands at `at`, wholly at or below `end`.
 fn needle_at<C: Cursor>(input: &mut Input<C>, table: &Table, at: usize, end: usize) -> Option<Hit>
     requires low { at < end }
@@ -41,7 +116,7 @@ fn needle_at<C: Cursor>(input: &mut Input<C>, table: &Table, at: usize, end: usi
     ensures value { result ≡ needle_at (needles_in table.now.needles.items) input.old.content end at }
 {
     let byte = byte_at(input, at)?;
-    let mut number = table.heads[byte as usize];
+    let mut number = start_number(input, table, at, end, byte);
     while number < table.needles.len() {
         let needle = table.needles[number].as_slice();
         let len = needle.len();

@@ -107,10 +107,11 @@ fn marks(piece: &[u8], at: usize, byte: u8) -> u64
 
 /// The lowest bit that is set.
 #[inline(always)]
-fn lowest(bits: u64) -> usize
+pub fn lowest(bits: u64) -> usize
     requires some { 0 < bits }
     requires small { bits < 2 ^ 32 }
     ensures low { result < 32 }
+    ensures within { (n : ℕ) → bits < 2 ^ n → result ≤ n }
     ensures none_below { (k : ℕ) → k < result → bit_at bits k ≡ 0 }
 {
     bits.trailing_zeros() as usize

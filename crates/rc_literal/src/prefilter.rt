@@ -5,7 +5,7 @@ ghost use Rattle.rc_literal.specs.Tables.{IsUsable, needles_in};
 ghost use Rattle.std.specs.Bool.{Decides};
 ghost use Rattle.rc_literal.specs.Prefilters.{needles_of};
 
-use crate::scan::{Heads, Scan, Searcher, searcher_of};
+use crate::scan::{Heads, Scan, Searcher, are_long, searcher_of};
 use rc_text::types::MatchKind;
 use std::alloc::{AllocError, Global};
 use std::fmt;
@@ -14,9 +14,10 @@ use std::fmt;
 ///
 /// A search for one needle passes over short chunks by two of its bytes that stand side by side, and
 /// goes by those behind them too; one for needles that begin with at most three bytes goes by these.
-/// Where they begin with more, each byte of the content is looked up in a table. Where a needle may
-/// stand, those alone are compared that begin with the byte there: so the work for each byte grows
-/// with how many share a first byte, and not with how many there are.
+/// Several needles of at least three bytes, and up to 64 others that begin with more, go by a sieve
+/// of their first three bytes; more go by a trie, so that the work at a place grows with the bytes that
+/// are read there, and not with how many needles there are. Fewer than 16 needles have no trie: of
+/// those alone are compared that begin with the byte there.
 #[derive(Drop)]
 pub struct Prefilter {
     pub searcher: Searcher,
@@ -52,10 +53,12 @@ impl Prefilter {
         most
     }
 
-    /// Whether a search goes by a needle or by at most three bytes, and not by a table.
+    /// Whether a search goes by a needle, by at most three bytes, or by a sieve of needles that have all
+    /// the bytes that it reads.
     pub fn is_fast(&self) -> bool {
         match &self.searcher.scan {
             Scan::Heads(Heads::Many) => false,
+            Scan::Sieve(_) => are_long(&self.searcher.table.needles),
             _ => true,
         }
     }
@@ -66,7 +69,10 @@ impl Prefilter {
         for needle in &self.searcher.table.needles {
             bytes = bytes.saturating_add(needle.len()).saturating_add(32);
         }
-        bytes
+        match &self.searcher.table.trie {
+            Some(trie) => bytes.saturating_add(trie.nodes.len().saturating_mul(12)),
+            None => bytes,
+        }
     }
 }
 

@@ -4,6 +4,7 @@ ghost use Rattle.memchr.specs.Find.{IsFirst};
 ghost use Rattle.rc_literal.specs.Tables.{AreSome, needles_in};
 ghost use Rattle.rc_literal.specs.Scans.{AreHeadsOf, IsScanOf, IsScanOf-is_fact};
 
+use crate::sieve::{Sieve, sieve_of};
 use crate::table::{Table, table_of};
 use memchr::arch::all::packedpair::{DefaultFrequencyRank, HeuristicFrequencyRank};
 use memchr::memmem::Finder;
@@ -29,6 +30,8 @@ pub enum Scan {
     Needle(Finder<'static>),
     /// The bytes with which needles begin.
     Heads(Heads),
+    /// The first three bytes of needles.
+    Sieve(Sieve),
 }
 
 /// A table of needles, how a piece is searched for them, and how many bytes behind a needle's start
@@ -57,12 +60,31 @@ pub fn searcher_of(alloc: Global, needles: Vec<Vec<u8>>) -> Result<Searcher, All
             offset,
         });
     }
-    let heads = heads_of(&table);
+    let scan = scan_of(&table);
     Ok(Searcher {
         table,
-        scan: Scan::Heads(heads),
+        scan,
         offset: 0,
     })
+}
+
+/// What a piece is searched for where there are several needles, or one of a byte.
+fn scan_of(table: &Table) -> Scan
+    ensures { IsScanOf (needles_in table.now.needles.items) 0 result }
+{
+    let heads = heads_of(table);
+    let is_many = matches!(heads, Heads::Many);
+    if is_many || (table.needles.len() > 1 && are_long(&table.needles)) {
+        if let Some(sieve) = sieve_of(&table.needles) {
+            return Scan::Sieve(sieve);
+        }
+    }
+    Scan::Heads(heads)
+}
+
+/// Whether each of the needles has at least the three bytes that a sieve reads.
+pub fn are_long(needles: &[Vec<u8>]) -> bool {
+    needles.iter().all(|needle| needle.len() >= 3)
 }
 
 /// Where in the needle its two bytes side by side stand that are rarest in typical text.

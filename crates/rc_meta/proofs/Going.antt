@@ -1,26 +1,27 @@
 -- One step of a seeker, from what the engine finds.
 use Rattle.std.proofs.Common.{◌≡◌, ◌∙◌, ◌+◌, ◌≤◌, ◌<◌, ℕ, Bool, true, false, List, [], ◌∷◌, length, Option, Some, None, ap, sym, subst, refl, arith}
 use Rattle.std.specs.Prelude.{◌↔◌, IsSome, IsTrue, is_some}
+use Rattle.std.specs.Option.{option_map}
 use Rattle.std.proofs.lemmas.List.{length-map}
 use Rattle.rc_pattern.specs.WellFormed.{group_names}
-use Rattle.rc_text.specs.Found.{Found}
+use Rattle.rc_text.specs.Found.{Found, HalfFound, half_of}
 use Rattle.rc_text.specs.Text.{Searched, high}
 use Rattle.rc_text.specs.declared.types.MatchKind.{MatchKind}
 use Rattle.rc_text.specs.declared.types.MatchKind.TheVariants.{LeftmostFirst as leftmost_first}
 use Rattle.rc_captures.specs.Captures.{IsCapturesFor, match_of}
 use Rattle.rc_captures.specs.declared.captures.Captures.{Captures}
-use Rattle.rc_program.specs.Answer.{Search, Chosen}
-use Rattle.rc_program.specs.Kinds.{IsAnswerBy, answer_by, answer_by_from, matches_by_kind}
+use Rattle.rc_program.specs.Answer.{Search, Chosen, answer}
+use Rattle.rc_program.specs.Kinds.{IsAnswerBy, IsAnswerWhere, answer_by, answer_by_from, is_early, matches_by_kind}
 use Rattle.rc_program.specs.Matches.{begin_of, end_of, from_on, next_match}
 use Rattle.rc_program.specs.Program.{shown}
 use Rattle.rc_program.specs.Sought.{search_for}
-use Rattle.rc_program.proofs.KindLemmas.{kinds_law}
 use Rattle.rc_engine.specs.Engine.{engine_search}
 use Rattle.rc_engine.specs.Moved.{IsMoved}
 use Rattle.rc_engine.specs.Tells.{TellsBy, TellsOf, KeepsAll}
 use Rattle.rc_engine.specs.Walks.{next_start, walks_left, walk_end}
 use Rattle.rc_engine.proofs.Steps.{left_short, step_some}
 use Rattle.rc_engine.proofs.Walked.{Step, last_step, tells_there, walk_step, walks_from}
+use Rattle.rc_engines.specs.Early.{IsHalfBy}
 use Rattle.rc_settings.specs.Which.{is_grouped}
 use Rattle.rc_settings.specs.Settings.{which_captures_of}
 use Rattle.rc_meta.specs.Left.{unless_done}
@@ -82,11 +83,30 @@ pub few_left : (r : Regex) (i : Searched) (last : Option ℕ) (done : Bool) → 
 few_left r i last true = omega arith
 few_left r i last false = let h = left_short (regex_kind r) (search_of r i) i.span.start last in omega (arith, h)
 
--- the engine's answer is one that the search may give
-pub may_answer : (r : Regex) (i : Searched) (o : Option Found) → o ≡ answer_by r.engines.engine.kind (engine_search r.engines.engine i) →
+-- what the engines may answer, the regex may
+pub may_answer : (r : Regex) (i : Searched) (o : Option Found) → IsAnswerBy r.engines.engine.kind i.earliest (engine_search r.engines.engine i) o →
     IsAnswerBy (regex_kind r) i.earliest (search_of r i) o
-may_answer r i o e =
-    subst (IsAnswerBy (regex_kind r) i.earliest (search_of r i)) (sym (e ∙ answer_same r.fits i)) (kinds_law.best (regex_kind r) i.earliest (search_of r i))
+may_answer r i o h =
+    subst (λ k. IsAnswerBy k i.earliest (search_of r i) o) r.fits.kinded
+    (subst (λ s. IsAnswerBy r.engines.engine.kind i.earliest s o) (fits_search r.fits i) h)
+
+-- with the flag off it is the match of the kind
+pub late_answer : (r : Regex) (i : Searched) (o : Option Found) → is_early i.earliest (search_of r i) ≡ false →
+    IsAnswerBy r.engines.engine.kind i.earliest (engine_search r.engines.engine i) o → o ≡ answer_by (regex_kind r) (search_of r i)
+late_answer r i o late h = subst (λ b. IsAnswerWhere b (regex_kind r) (search_of r i) o) late (may_answer r i o h)
+
+pub leftmost_answer : (r : Regex) (i : Searched) (o : Option Found) → regex_kind r ≡ leftmost_first → is_early i.earliest (search_of r i) ≡ false →
+    IsAnswerBy r.engines.engine.kind i.earliest (engine_search r.engines.engine i) o → o ≡ answer (search_of r i)
+leftmost_answer r i o kind late h = late_answer r i o late h ∙ ap (λ k. answer_by k (search_of r i)) kind
+
+-- and so with the halves
+pub may_half : (r : Regex) (i : Searched) (o : Option HalfFound) → IsHalfBy r.engines.engine.kind i.earliest (engine_search r.engines.engine i) o →
+    IsHalfBy (regex_kind r) i.earliest (search_of r i) o
+may_half r i o h = (h.0, may_answer r i h.0 h.1, h.2)
+
+pub late_half : (r : Regex) (i : Searched) (o : Option HalfFound) → is_early i.earliest (search_of r i) ≡ false →
+    IsHalfBy r.engines.engine.kind i.earliest (engine_search r.engines.engine i) o → o ≡ option_map half_of (answer_by (regex_kind r) (search_of r i))
+late_half r i o late h = h.2 ∙ ap (option_map half_of) (late_answer r i h.0 late h.1)
 
 -- whether there is a match for the regex is whether there is one for its engines
 pub is_matched : (r : Regex) (i : Searched) (b : Bool) → b ≡ is_some (answer_by r.engines.engine.kind (engine_search r.engines.engine i)) →

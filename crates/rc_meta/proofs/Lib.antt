@@ -4,3 +4,4 @@ pub mod Going
 pub mod Runs
 pub mod Cuts
 pub mod Preferred
+pub mod PatternSpans

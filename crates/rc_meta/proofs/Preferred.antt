@@ -27,10 +27,8 @@ use Rattle.rc_parses.specs.Parses.{Parse, group_of}
 use Rattle.rc_parses.specs.Preference.{ArePlain, IsPreferred, IsPreferredMatch, MayBegin, IsPassedBy, match_by}
 use Rattle.rc_parses.specs.Laws.{HasGroups, SeeksPlain, first_slot as group_slot, group_end, group_start}
 use Rattle.rc_parses.proofs.LawLemmas.{preference_law}
-use Rattle.rc_engine.specs.Engine.{engine_search}
 use Rattle.rc_engine.specs.Tells.{TellsBy, TellsOf}
 use Rattle.rc_build.specs.Names.{names_shown}
-use Rattle.rc_build.proofs.Fitted.{answer_same}
 use Rattle.rc_build.proofs.NamesLemmas.{length-group_names, no_names}
 use Rattle.rc_meta.specs.Preferred.{HoldsGroups, HoldsPreferred, KeepsGroup, span_between}
 use Rattle.rc_meta.specs.Views.{regex_kind, regex_names, regex_patterns, sought}
@@ -127,11 +125,11 @@ module _ (q : Sought) (s : Searched) (caps : Captures) (named : captures_names c
       rw matched (r.0, r.1, ap₂ (λ k j. match_at k c.start j) r.2.pattern r.2.end, groups_held r.0 c (sym r.2.pattern) r.3 told)
 
 module _ (r : Regex) (i : Searched) (kind : regex_kind r ≡ leftmost_first) (plain : ArePlain (regex_patterns r)) where
-  -- what its engine finds is the preferred match
-  pub prefers : (o : Option Found) → o ≡ answer_by r.engines.engine.kind (engine_search r.engines.engine i) → IsPreferredMatch (sought r) i o
+  -- its answer is the preferred match
+  pub prefers : (o : Option Found) → o ≡ answer_by (regex_kind r) (search_for (sought r) i) → IsPreferredMatch (sought r) i o
   prefers o e =
       (preference_law.answered (sought r) i (seeks (sought r) r.well_formed plain) o).0
-      (sym (e ∙ answer_same r.fits i ∙ ap (λ k. answer_by k (search_for (sought r) i)) kind))
+      (sym (e ∙ ap (λ k. answer_by k (search_for (sought r) i)) kind))
 
   -- captures that tell what it finds hold it, with its groups
   pub holds_groups : (caps : Captures) → captures_names caps ≡ regex_names r → TellsBy (regex_kind r) (search_for (sought r) i) caps →

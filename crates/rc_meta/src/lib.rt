@@ -7,3 +7,4 @@ pub mod iterators;
 pub mod laws;
 pub mod regex;
 mod seeker;
+pub mod which;

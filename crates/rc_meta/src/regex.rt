@@ -21,8 +21,8 @@ use crate::seeker::{GroupSeeker, Seeker};
 use rc_captures::captures;
 use rc_captures::captures::Captures;
 use rc_captures::groups::GroupInfo;
-use rc_engines::cache;
 use rc_engines::engines::Engines;
+use rc_engines::{cache, early};
 use rc_pattern::check::group_count;
 use rc_pattern::hir::Hir;
 use rc_program::place::Place;
@@ -63,7 +63,7 @@ impl Regex {
     ghost use Rattle.rc_text.specs.Text.{Keeps, low, high};
     ghost use Rattle.rc_text.specs.declared.types.MatchKind.TheVariants.{LeftmostFirst};
     ghost use Rattle.rc_program.specs.Answer.{answer, groups};
-    ghost use Rattle.rc_program.specs.Kinds.{IsAnswerBy, answer_by, matches_by_kind};
+    ghost use Rattle.rc_program.specs.Kinds.{IsAnswerBy, answer_by, is_early, matches_by_kind};
     ghost use Rattle.rc_pass.specs.KindSlots.{slots_by};
     ghost use Rattle.rc_program.specs.Sought.{search_for};
     ghost use Rattle.rc_settings.specs.Settings.{unset, auto_prefilter_of, prefilter_of, match_kind_of, nfa_size_limit_of};
@@ -72,6 +72,7 @@ impl Regex {
     ghost use Rattle.rc_parser.specs.Settings.{default_settings};
     ghost use Rattle.rc_parses.specs.Preference.{ArePlain, IsPreferredMatch};
     ghost use Rattle.rc_engines.specs.Caches.{IsCacheIn};
+    ghost use Rattle.rc_engines.specs.Early.{IsHalfBy};
     ghost use Rattle.rc_meta.specs.Caches.{IsCacheFor};
     ghost use Rattle.rc_meta.specs.Preferred.{HoldsPreferred};
     ghost use Rattle.rc_meta.specs.Views.{builder_settings, builder_syntax, regex_kind, regex_patterns, regex_settings, regex_names, sought};
@@ -122,6 +123,9 @@ impl Regex {
     /// Under `MatchKind::All` it is the match with the greatest end, of these the one with the least start, and of these the one of
     /// the least pattern. Empty matches inside a character aren't passed over then.
     ///
+    /// With the input's earliest flag on, unless matches are passed over, any span that a pattern spells may be the answer, and there is
+    /// one where there is one with the flag off. The search then stops at the first position at which some match ends.
+    ///
     /// The match depends on the uncut bytes of the content alone, however the cursor cuts them. Where `is_plain` is true, the match that is
     /// preferred is the least parse of the least start that has one.
     pub fn find<C: Cursor + Drop>(
@@ -129,15 +133,16 @@ impl Regex {
         alloc: Global,
         mut input: Input<C>,
     ) -> Result<Option<Match>, AllocError>
-        ensures found { match_kind_of (regex_settings self.now) ≡ LeftmostFirst
+        ensures found { match_kind_of (regex_settings self.now) ≡ LeftmostFirst → is_early input.earliest (search_for (sought self.now) input) ≡ false
             → IfOk result (λ m. m ≡ answer (search_for (sought self.now) input)) }
         ensures preferred { match_kind_of (regex_settings self.now) ≡ LeftmostFirst → ArePlain (regex_patterns self.now)
-            → IfOk result (IsPreferredMatch (sought self.now) input) }
-        ensures found_by { IfOk result (λ m. m ≡ answer_by (regex_kind self.now) (search_for (sought self.now) input)) }
+            → is_early input.earliest (search_for (sought self.now) input) ≡ false → IfOk result (IsPreferredMatch (sought self.now) input) }
+        ensures found_by { is_early input.earliest (search_for (sought self.now) input) ≡ false
+            → IfOk result (λ m. m ≡ answer_by (regex_kind self.now) (search_for (sought self.now) input)) }
         ensures may { IfOk result (IsAnswerBy (regex_kind self.now) input.earliest (search_for (sought self.now) input)) }
         ensures within { IfOk result (λ o. IfSome o (λ m. (low input ≤ m.start) × (m.start ≤ m.end) × (m.end ≤ high input))) }
     {
-        self.engines.find_once(alloc, &mut input)
+        early::search_once(&self.engines, alloc, &mut input)
     }
 
     /// As `find`.
@@ -146,7 +151,9 @@ impl Regex {
         alloc: Global,
         input: Input<C>,
     ) -> Result<Option<Match>, AllocError>
-        ensures found_by { IfOk result (λ m. m ≡ answer_by (regex_kind self.now) (search_for (sought self.now) input)) }
+        ensures found_by { is_early input.earliest (search_for (sought self.now) input) ≡ false
+            → IfOk result (λ m. m ≡ answer_by (regex_kind self.now) (search_for (sought self.now) input)) }
+        ensures may { IfOk result (IsAnswerBy (regex_kind self.now) input.earliest (search_for (sought self.now) input)) }
         ensures within { IfOk result (λ o. IfSome o (λ m. (low input ≤ m.start) × (m.start ≤ m.end) × (m.end ≤ high input))) }
     {
         let found = self.find(alloc, input)?;
@@ -158,15 +165,16 @@ impl Regex {
         requires made { IsCacheFor (regex_patterns self.now) (regex_settings self.now) cache.old }
         ensures cache { IsCacheFor (regex_patterns self.now) (regex_settings self.now) cache.new }
         ensures keeps { Keeps input.old input.new }
-        ensures found { match_kind_of (regex_settings self.now) ≡ LeftmostFirst
+        ensures found { match_kind_of (regex_settings self.now) ≡ LeftmostFirst → is_early input.old.earliest (search_for (sought self.now) input.old) ≡ false
             → result ≡ answer (search_for (sought self.now) input.old) }
         ensures preferred { match_kind_of (regex_settings self.now) ≡ LeftmostFirst → ArePlain (regex_patterns self.now)
-            → IsPreferredMatch (sought self.now) input.old result }
-        ensures found_by { result ≡ answer_by (regex_kind self.now) (search_for (sought self.now) input.old) }
+            → is_early input.old.earliest (search_for (sought self.now) input.old) ≡ false → IsPreferredMatch (sought self.now) input.old result }
+        ensures found_by { is_early input.old.earliest (search_for (sought self.now) input.old) ≡ false
+            → result ≡ answer_by (regex_kind self.now) (search_for (sought self.now) input.old) }
         ensures may { IsAnswerBy (regex_kind self.now) input.old.earliest (search_for (sought self.now) input.old) result }
         ensures within { IfSome result (λ m. (low input.old ≤ m.start) × (m.start ≤ m.end) × (m.end ≤ high input.old)) }
     {
-        self.engines.find(&mut cache.inner, input)
+        early::search(&self.engines, &mut cache.inner, input)
     }
 
     /// The pattern and the end of the match that `find` finds. An `Err` is want of memory.
@@ -175,10 +183,12 @@ impl Regex {
         alloc: Global,
         mut input: Input<C>,
     ) -> Result<Option<HalfMatch>, AllocError>
-        ensures found_by { IfOk result (λ m. m ≡ option_map half_of (answer_by (regex_kind self.now) (search_for (sought self.now) input))) }
+        ensures found_by { is_early input.earliest (search_for (sought self.now) input) ≡ false
+            → IfOk result (λ m. m ≡ option_map half_of (answer_by (regex_kind self.now) (search_for (sought self.now) input))) }
+        ensures may { IfOk result (IsHalfBy (regex_kind self.now) input.earliest (search_for (sought self.now) input)) }
         ensures within { IfOk result (λ o. IfSome o (λ m. (low input ≤ m.offset) × (m.offset ≤ high input))) }
     {
-        self.engines.find_end_once(alloc, &mut input)
+        early::search_end_once(&self.engines, alloc, &mut input)
     }
 
     /// As `search_half`, in a cache that was made for this regex. It takes no memory.
@@ -190,10 +200,12 @@ impl Regex {
         requires made { IsCacheFor (regex_patterns self.now) (regex_settings self.now) cache.old }
         ensures cache { IsCacheFor (regex_patterns self.now) (regex_settings self.now) cache.new }
         ensures keeps { Keeps input.old input.new }
-        ensures found_by { result ≡ option_map half_of (answer_by (regex_kind self.now) (search_for (sought self.now) input.old)) }
+        ensures found_by { is_early input.old.earliest (search_for (sought self.now) input.old) ≡ false
+            → result ≡ option_map half_of (answer_by (regex_kind self.now) (search_for (sought self.now) input.old)) }
+        ensures may { IsHalfBy (regex_kind self.now) input.old.earliest (search_for (sought self.now) input.old) result }
         ensures within { IfSome result (λ m. (low input.old ≤ m.offset) × (m.offset ≤ high input.old)) }
     {
-        self.engines.find_end(&mut cache.inner, input)
+        early::search_end(&self.engines, &mut cache.inner, input)
     }
 
     /// Whether a search of the input finds a match. An `Err` is want of memory.

@@ -19,3 +19,6 @@ pub mod StartLemmas
 pub mod StepLemmas
 pub mod TurnLemmas
 pub mod VisitLemmas
+pub mod MarkLemmas
+pub mod MarkMoveLemmas
+pub mod MarkStepLemmas

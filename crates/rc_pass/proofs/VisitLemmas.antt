@@ -17,13 +17,13 @@ use Rattle.rc_pass.specs.declared.pass.Ending.{Ending}
 use Rattle.rc_pass.proofs.MoveLemmas.{skipped, matched, moved}
 use Rattle.rc_pass.proofs.SpreadMoveLemmas.{begin_more, passed_over, ended_here, moved_on, ordered_by}
 
-no_slots : (slots : List (Option ℕ)) → length slots ≡ 0 → slots ≡ []
+pub no_slots : (slots : List (Option ℕ)) → length slots ≡ 0 → slots ≡ []
 no_slots [] e = refl
 no_slots (k ∷ slots) e = absurd (omega arith)
 
 module _ (s : Search) (at p start : ℕ) (g0 g : Growth) where
   -- where a walk ends, no thread is put behind the others
-  same_threads : (move : Move) (q : ℕ) → move ≡ Matches q → IsEntered s at p start move g0 g → g.threads.items ≡ g0.threads.items
+  pub same_threads : (move : Move) (q : ℕ) → move ≡ Matches q → IsEntered s at p start move g0 g → g.threads.items ≡ g0.threads.items
   same_threads move q is m =
       ap (λ (l : ThreadList). l.items) m.threads ∙ ap (λ (v : Move). g0.threads.items ++ resting_of start g0.slots.items v) is ∙ append-nil g0.threads.items
 

@@ -11,3 +11,5 @@ pub mod Spread
 pub mod KindSlots
 pub mod Scratches
 pub mod Entered
+pub mod PatternSpans
+pub mod Marking

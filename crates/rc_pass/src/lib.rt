@@ -3,6 +3,7 @@
 
 pub mod cache;
 mod closure;
+pub mod early;
 pub mod greatest;
 mod growth;
 pub mod kinds;
@@ -14,4 +15,5 @@ pub mod sparse_set;
 mod spot;
 mod spread;
 mod threads;
+pub mod which;
 mod window;

@@ -207,23 +207,24 @@ pub fn find<C: Cursor>(
     Some(Match::new(pattern, span))
 }
 
-/// Whether some walk begins at one of the starts of a search. Nothing is read beyond the first position at which one ends.
-fn meets<C: Cursor>(
+/// The first walk of the starts of a search that was seen to end, if any does. Nothing is read beyond the first position at which one ends.
+pub(crate) fn meets<C: Cursor>(
     input: &mut Input<C>,
     program: &Program,
     prefilter: Option<&Prefilter>,
     scratch: &mut Scratch,
-) -> bool
+) -> Option<Ending>
     requires guarded { MatchOption prefilter ⊤ (λ p. Guards (places_of program.now.places.items) program.now.terminator (needles_of p.now)) }
     requires made { scratch.old.next.entered.capacity ≡ length program.now.places.items }
     ensures keeps { Keeps input.old input.new }
-    ensures found { result ≡ is_some (greatest (search_of program.now input.old)) }
+    ensures found { is_some result ≡ is_some (greatest (search_of program.now input.old)) }
+    ensures bounded { MatchOption result ⊤ (λ _. low input.old ≤ high input.old) }
     ensures same { IsSame scratch.old scratch.new }
 {
     scratch.insertions = 0;
     let (lo, hi) = bounds(input);
     if lo > hi {
-        return false;
+        return None;
     }
     let (pattern, last) = starts_of(input.get_anchored(), lo, hi);
     let course = Course {
@@ -232,8 +233,7 @@ fn meets<C: Cursor>(
         pattern,
         last,
     };
-    let met = pass(input, course, prefilter, lo, true, scratch);
-    met.is_some()
+    pass(input, course, prefilter, lo, true, scratch)
 }
 
 /// Whether some walk begins at one of the starts of a search of the input, wherever it ends. The earliest flag is not read:
@@ -254,5 +254,6 @@ pub fn meets_any<C: Cursor>(
     ensures cache { cache.new ≡ record cache.old { insertions = cache.new.insertions } }
 {
     cache.scratch.widen(0);
-    meets(input, program, prefilter, &mut cache.scratch)
+    let met = meets(input, program, prefilter, &mut cache.scratch);
+    met.is_some()
 }

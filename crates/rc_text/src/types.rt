@@ -71,11 +71,19 @@ impl PatternID {
         ensures { SomeIff result (index ≤ MAX_PATTERN) index }
     {
         if index <= MAX_PATTERN as usize {
-            Some(PatternID {
-                index: index as u32,
-            })
+            Some(PatternID::must(index))
         } else {
             None
+        }
+    }
+
+    /// The pattern with this number, which has to be at most 2,147,483,646.
+    pub const fn must(index: usize) -> PatternID
+        requires { index ≤ MAX_PATTERN }
+        ensures { result ≡ index }
+    {
+        PatternID {
+            index: index as u32,
         }
     }
 

@@ -1,5 +1,5 @@
 //! A regex that selects lines.
-ghost use Rattle.std.specs.Prelude.{◌≡◌};
+ghost use Rattle.std.specs.Prelude.{◌≡◌, false};
 ghost use Rattle.rcgrep.specs.Picked.{IsLine, has_match, is_picked};
 
 use grep_lines::LineSelector;
@@ -62,7 +62,8 @@ impl<'r> LineRegex<'r> {
 
 /// The line, as a text of its own.
 fn input_over(line: &[u8]) -> Input<&[u8]>
-    ensures { IsLine line.now result }
+    ensures line { IsLine line.now result }
+    ensures late { result.earliest ≡ false }
 {
     Input::new(line)
 }

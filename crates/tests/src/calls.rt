@@ -2,10 +2,12 @@
 
 use rc_captures::captures::{Captures, copy_of};
 use rc_literal::prefilter::Prefilter;
+use rc_settings::error::BuildError;
+use rc_settings::states::Config as States;
 use rc_text::chunks::ChunkCursor;
 use rc_text::input::Input;
-use rc_text::types::MatchKind;
-use regex_cursor::engines::meta::Regex;
+use rc_text::types::{MatchError, MatchKind};
+use regex_cursor::engines::meta::{Config, Regex};
 use regex_cursor::engines::pikevm::{PikeVM, is_match};
 use regex_cursor::engines::{dfa, hybrid};
 use std::alloc::{AllocError, Global};
@@ -158,13 +160,132 @@ fn thue_morse(alloc: Global) -> Result<Vec<u8>, AllocError> {
     Ok(text)
 }
 
+/// A regex without tables of all states, whose cache of states has this capacity.
+fn with_capacity(alloc: Global, pattern: &str, capacity: usize) -> Result<Regex, BuildError> {
+    let config = Config::new().dfa(false).hybrid_cache_capacity(capacity);
+    let mut builder = Regex::builder();
+    builder.configure(config);
+    builder.build(alloc, pattern)
+}
+
+/// Whether a search of the text by states that are made as they are met, in a cache as large as it is by default, ends where it should.
+fn ends_at(
+    alloc: Global,
+    states: &hybrid::Regex,
+    text: &[u8],
+    want: Option<usize>,
+) -> Result<bool, AllocError> {
+    let mut cache = states.create_cache(alloc)?;
+    let found = hybrid::find(states, &mut cache, &mut Input::new(text));
+    drop(cache);
+    Ok(match found {
+        Ok(Some(found)) => Some(found.end()) == want,
+        Ok(None) => want.is_none(),
+        Err(_) => false,
+    })
+}
+
+/// Whether a search in the text by states in a cache as small as may be ends where it should or is given up, within that capacity twice.
+fn ends_within(
+    alloc: Global,
+    pattern: &str,
+    least: usize,
+    text: &[u8],
+    want: Option<usize>,
+) -> Result<bool, BuildError> {
+    let mut builder = hybrid::Regex::builder();
+    builder.dfa(States::new().cache_capacity(least));
+    let states = builder.build(alloc, pattern)?;
+    let mut cache = states.create_cache(alloc)?;
+    let found = hybrid::find(&states, &mut cache, &mut Input::new(text));
+    let bytes = cache.memory_usage();
+    drop(cache);
+    drop(states);
+    let is_right = match found {
+        Ok(Some(found)) => Some(found.end()) == want,
+        Ok(None) => want.is_none(),
+        Err(error) => matches!(error, MatchError::GaveUp { memory: false, .. }),
+    };
+    Ok(is_right && bytes <= least.saturating_mul(2))
+}
+
+/// The first search that ends elsewhere: by states in a large cache, in one as small as may be, or by a regex of some capacity.
+fn ends_elsewhere(
+    alloc: Global,
+    pattern: &str,
+    text: &[u8],
+    want: Option<usize>,
+) -> Result<Option<usize>, BuildError> {
+    let states = hybrid::Regex::new(alloc, pattern)?;
+    let least = states.minimum_cache_capacity();
+    let is_right = ends_at(alloc, &states, text, want);
+    drop(states);
+    if !is_right? || !ends_within(alloc, pattern, least, text, want)? {
+        return Ok(Some(usize::MAX));
+    }
+    for capacity in [0, least.saturating_sub(1), least, least.saturating_add(8)] {
+        let regex = with_capacity(alloc, pattern, capacity)?;
+        let end = end_of(alloc, &regex, text);
+        drop(regex);
+        if end? != want {
+            return Ok(Some(capacity));
+        }
+    }
+    Ok(None)
+}
+
 #[test]
 fn long_searches_end(rt: HostRuntime) -> Result<(), Fail> {
     let alloc = rt.alloc();
     let text = thue_morse(alloc)?;
     for (pattern, want) in [("[ab]*a[ab]{12}c", Some(65537)), ("[ab]*a[ab]{13}c", None)] {
-        let regex = Regex::new(alloc, pattern)?;
-        assert!(rt; end_of(alloc, &regex, &text)? == want, "{pattern}");
+        let elsewhere = ends_elsewhere(alloc, pattern, &text, want)?;
+        assert!(rt; elsewhere.is_none(), "{pattern}: {elsewhere:?}");
     }
+    Ok(())
+}
+
+/// Whether the first search meets states that the same search again has, and a reset lets them go and counts from 0.
+fn keeps_states(alloc: Global, states: &hybrid::Regex) -> Result<bool, AllocError> {
+    let mut cache = states.create_cache(alloc)?;
+    let fresh = cache.memory_usage();
+    let first = hybrid::find(states, &mut cache, &mut Input::new(b"aba".as_slice()));
+    let met = cache.memory_usage();
+    let second = hybrid::find(states, &mut cache, &mut Input::new(b"aba".as_slice()));
+    let again = cache.memory_usage();
+    let reset = cache.reset(states);
+    let clears = cache.clear_count();
+    drop(cache);
+    reset?;
+    Ok(first == second && fresh < met && again == met && clears == 0)
+}
+
+/// Whether the least capacity serves, and one byte less is refused with both told.
+fn needs(alloc: Global, pattern: &str, least: usize) -> Result<bool, BuildError> {
+    let mut builder = hybrid::Regex::builder();
+    builder.dfa(States::new().cache_capacity(least));
+    let states = builder.build(alloc, pattern)?;
+    drop(states);
+    builder.dfa(States::new().cache_capacity(least.saturating_sub(1)));
+    match builder.build(alloc, pattern) {
+        Ok(states) => {
+            drop(states);
+            Ok(false)
+        }
+        Err(BuildError::CacheTooSmall { minimum, given }) => {
+            Ok(minimum == least && given == least.saturating_sub(1))
+        }
+        Err(error) => Err(error),
+    }
+}
+
+#[test]
+fn states_are_kept(rt: HostRuntime) -> Result<(), Fail> {
+    let alloc = rt.alloc();
+    let states = hybrid::Regex::new(alloc, "[ab]*a")?;
+    let least = states.minimum_cache_capacity();
+    let keeps = keeps_states(alloc, &states);
+    drop(states);
+    assert!(rt; keeps? && needs(alloc, "[ab]*a", least)?);
     Ok(())
 }

@@ -6,12 +6,18 @@ mod builds;
 #[cfg(test)]
 mod calls;
 #[cfg(test)]
+mod faults;
+#[cfg(test)]
 mod grammar;
 #[cfg(test)]
 mod programs;
 #[cfg(test)]
+mod refusals;
+#[cfg(test)]
 mod searchers;
 #[cfg(test)]
 mod shown;
+#[cfg(test)]
+mod which;
 #[cfg(test)]
 mod words;

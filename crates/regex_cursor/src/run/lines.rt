@@ -2,21 +2,27 @@
 ghost use Rattle.std.specs.Prelude.{◌≡◌, true, OnOk, OnErr};
 ghost use Rattle.std.specs.Io.KnownBytes.{Appends};
 ghost use Rattle.regex_cursor.specs.Output.{line_of};
+ghost use Rattle.regex_cursor.specs.Put.{Puts};
 
 use super::line::Line;
 use crate::run::Sink;
 use rc_text::types::Match;
 use std::io;
 
-/// Puts all bytes of a piece, in as many calls as it takes.
+/// Puts all bytes of a piece, in as many calls as it takes. After an error a beginning of them was
+/// put.
 pub fn put_all<W: Sink>(out: &mut W, bytes: &[u8]) -> io::Result<()>
     ensures appended { OnOk result (Appends (W.taken out.old) (W.taken out.new) bytes.now) }
+    ensures put { Puts result (W.taken out.old) (W.taken out.new) bytes.now }
     ensures ok { OnOk result (W.has_failed out.new ≡ W.has_failed out.old) }
     ensures err { OnErr result (W.has_failed out.new ≡ true) }
 {
     let mut rest = bytes;
     while !rest.is_empty() {
-        let n = out.put(rest)?;
+        let n = match out.put(rest) {
+            Ok(n) => n,
+            Err(error) => return Err(error),
+        };
         rest = &rest[n..];
     }
     Ok(())

@@ -1,5 +1,5 @@
 use Rattle.std.proofs.Common.{rules, ◌∙◌}
-use Rattle.chunk_replace.proofs.Grown.{err_puts}
+use Rattle.regex_cursor.proofs.Puts.{err_puts}
 use Rattle.chunk_replace.proofs.Replacing.{parts_begun, parts_more}
 use Rattle.chunk_replace.proofs.put.put_parts.Goals as goal
 

@@ -1,6 +1,6 @@
 use Rattle.std.proofs.Common.{ap, ◌∙◌}
 use Rattle.chunk_replace.specs.Told.{told_parts}
-use Rattle.chunk_replace.proofs.Grown.{begun_less, err_puts, puts_as, puts_then}
+use Rattle.regex_cursor.proofs.Puts.{begun_less, err_puts, puts_as, puts_then}
 use Rattle.chunk_replace.proofs.rewrite.put_match.Goals as goal
 
 pub returns-in_err-put_range-clause-put : goal.returns-in_err-put_range-clause-put

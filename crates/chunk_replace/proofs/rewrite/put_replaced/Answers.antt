@@ -3,7 +3,7 @@ use Rattle.rc_text.specs.Found.{Found}
 use Rattle.chunk_replace.specs.declared.error.ReplaceError.{ReplaceError}
 use Rattle.rc_captures.specs.Captures.{match_of}
 use Rattle.rc_meta.specs.Left.{HoldsNext, captures_left}
-use Rattle.chunk_replace.proofs.Grown.{err_puts}
+use Rattle.regex_cursor.proofs.Puts.{err_puts}
 use Rattle.chunk_replace.proofs.Rewriting.{going_begun, going_init, going_more, going_rest, going_stopped, holds_next, same_found}
 use Rattle.chunk_replace.proofs.rewrite.put_replaced.Goals as goal
 

@@ -2,6 +2,7 @@ use Rattle.std.proofs.Common.{rules, arith, ◌≡◌, ◌+◌, ◌<◌, true, f
 use Rattle.std.proofs.lemmas.List.{get_or_read}
 use Rattle.rc_literal.specs.Needles.{stands_within}
 use Rattle.rc_literal.specs.Tables.{needles_in, numbered, IsNextWith}
+use Rattle.rc_literal.proofs.FindLemmas.{keeps_on}
 use Rattle.rc_literal.proofs.StandLemmas.{none_to_next, none_one_more, none_here, first_here, numbered_in, needle_count, stands_from, stands_parts, false_if_not}
 use Rattle.std.proofs.lemmas.Slice.Eq.{bytes_eq-Decides}
 use Rattle.std.specs.Prelude.{bytes_eq, slice_range}
@@ -10,19 +11,13 @@ use Rattle.rc_literal.proofs.literal.needle_at.Goals.{then-len-end+else-stands, 
 
 pub loop-number-init : goal.loop-number-init
 loop-number-init g c =
-    let table = c.args.table.now in
-    let needles = needles_in table.needles.items in
-    let b = c.in_ok-byte.byte in
-    let head = c.index-number.result.now in
-    let small : b < 256 = omega arith in
-    let e : head ≡ get_or table.heads.items b 0 = get_or_read table.heads.items b head (omega (arith, table.head_count, small)) c.index-number.ensures 0 in
-    let next : IsNextWith needles b 0 head = rw e (table.headed b small) in
-    let at : slice_get c.args.input.now.content c.args.at ≡ Some b = sym c.in_ok-byte.ensures.value in
+    let same : c.byte_at.new.input.content ≡ c.args.input.now.content = c.byte_at.ensures.keeps.content in
+    let start = c.start_number-number.ensures in
     record {
-      keeps = c.byte_at.ensures.keeps;
-      high = next.high;
-      begins = next.begins;
-      none_below = none_to_next needles c.args.input.now.content c.args.end c.args.at b 0 head table.some at (λ k l m. absurd (omega arith)) next;
+      keeps = keeps_on c.args.input.now c.byte_at.new.input c.start_number-number.new.input c.byte_at.ensures.keeps start.keeps;
+      high = start.high;
+      begins = start.begins;
+      none_below = rw (← same) start.none_below;
     }
 
 pub returns-then-stands-clause-value : goal.returns-then-stands-clause-value
@@ -50,10 +45,10 @@ loop-number-preserved g c =
     let needles = needles_in vs in
     let n = c.loop-number.number in
     let b = c.in_ok-byte.byte in
-    let next = c.index-number-in-loop-number.result.now in
+    let next = c.index-number.result.now in
     let count : length needles ≡ length vs = needle_count vs in
     let l : n < length vs = omega (arith, c.loop-number-test.true, c.len.ensures) in
-    let e : next ≡ get_or table.nexts.items n 0 = get_or_read table.nexts.items n next (omega (arith, table.next_count, l)) c.index-number-in-loop-number.ensures 0 in
+    let e : next ≡ get_or table.nexts.items n 0 = get_or_read table.nexts.items n next (omega (arith, table.next_count, l)) c.index-number.ensures 0 in
     let is : IsNextWith needles b (n + 1) next =
     rw e (table.linked n b (omega arith) (omega (arith, count, l)) (c.loop-number.invariant.begins (omega (arith, count, l)))) in
     let w : c.index.result.now.items ≡ numbered needles n = numbered_in vs n c.index.result.now l c.index.ensures in

@@ -1,6 +1,7 @@
 use Rattle.std.proofs.Common.{arith, ◌≡◌, ◌+◌, ◌-◌, ◌<◌, length, length-set, sym, ap, subst, ◌∙◌, set, slice_get, slice_index}
 use Rattle.std.proofs.lemmas.List.{get_or_read}
 use Rattle.rc_literal.specs.Tables.{needles_in, numbered, BeginsWithByte, AreHeads, AreNexts}
+use Rattle.rc_literal.specs.Tries.{AreCarriedBy}
 use Rattle.rc_literal.proofs.StandLemmas.{numbered_in, needle_count}
 use Rattle.rc_literal.proofs.ScanLemmas.{begins_itself}
 use Rattle.rc_literal.proofs.TableLemmas.{one_more_head, one_more_next}
@@ -56,4 +57,5 @@ invariant_of-result c =
       next_count = c.loop-number.invariant.next_count;
       headed = subst (λ n. AreHeads (needles_in vs) n c.loop-number.heads.items) e c.loop-number.invariant.headed;
       linked = subst (λ n. AreNexts (needles_in vs) n c.loop-number.nexts.items) e c.loop-number.invariant.linked;
+      carried = subst (λ ws. AreCarriedBy c.in_ok-trie.trie (needles_in ws)) c.deref.ensures.value c.in_ok-trie.ensures;
     }

@@ -1,5 +1,9 @@
-use Rattle.std.proofs.Common.{◌∙◌}
-use Rattle.rc_engines.proofs.TableLemmas.{tables_tell_any}
+use Rattle.std.proofs.Common.{MatchOption, ◌∙◌, subst}
+use Rattle.std.specs.Bool.{⊤}
+use Rattle.rc_program.specs.Places.{places_of}
+use Rattle.rc_literal.specs.Guards.{Guards}
+use Rattle.rc_literal.specs.Prefilters.{needles_of}
+use Rattle.rc_engines.proofs.TableLemmas.{tables_tell_any, tables_tell_any_by}
 use Rattle.rc_engines.proofs.engines.Engines.any_by_tables.Goals as goal
 
 pub returns-clause-found : goal.returns-clause-found
@@ -8,3 +12,14 @@ returns-clause-found g c =
     c.is_some-2.ensures
     ∙ tables_tell_any e.engine e.patterns c.args.input.now c.aim.result c.requires.own c.aim.ensures c.in_ok-half.half
     (λ hs same h. c.in_ok-half.ensures.found hs e.engine.program.terminator h)
+
+pub returns-in-Some-clause-found : goal.returns-in-Some-clause-found
+returns-in-Some-clause-found g c =
+    let e = c.args.self.now in
+    let p = e.engine.program in
+    let guards =
+    subst (λ o. MatchOption o ⊤ (λ q. Guards (places_of p.places.items) p.terminator (needles_of q.now))) c.in-Some.is
+    (c.fast_guards_of.ensures.sound (places_of p.places.items) p.terminator p.passes_over e.engine.sound) in
+    c.is_some-in-Some.ensures
+    ∙ tables_tell_any_by e.engine e.patterns c.args.input.now c.aim.result c.requires.own c.aim.ensures c.in_ok-found.found
+    (λ hs same h. c.in_ok-found.ensures.found hs p.terminator h (subst (λ ps. Guards ps p.terminator (needles_of c.in-Some.needles.now)) same guards))

@@ -1,9 +1,8 @@
-use Rattle.std.proofs.Common.{subst, arith, ◌<◌}
+use Rattle.std.proofs.Common.{subst, sym, arith, ◌<◌}
 use Rattle.memchr.specs.Find.{is_byte, is_byte2, is_byte3}
-use Rattle.rc_literal.specs.Tables.{needles_in}
+use Rattle.rc_literal.specs.Tables.{IsRuledOut, needles_in}
 use Rattle.rc_literal.specs.Scans.{AreHeadsOf}
-use Rattle.rc_literal.proofs.ScanLemmas.{ruled_out_before, ruled_out_by_head}
-use Rattle.rc_literal.proofs.StandLemmas.{needle_count}
+use Rattle.rc_literal.proofs.ScanLemmas.{ruled_out_before}
 use Rattle.rc_literal.proofs.candidates.ByHeadCandidates.candidate.Goals as goal
 
 pub returns-in-One-clause-passed : goal.returns-in-One-clause-passed
@@ -42,8 +41,4 @@ returns-in-Many-clause-passed c k l =
     let searcher = look.searcher.now in
     let piece = c.args.piece.now in
     let needles = needles_in searcher.table.needles.items in
-    let count = needle_count searcher.table.needles.items in
-    let none = c.head_candidate.ensures.passed k l in
-    ruled_out_by_head needles searcher.offset searcher.table.heads.items piece k look.from_start searcher.table.some
-    searcher.table.headed (omega (arith, l, c.head_candidate.ensures.within)) (let fits = c.type_inv.piece k in omega (arith, fits))
-    (omega (arith, none, count))
+    subst (λ offset. IsRuledOut needles offset piece k) (sym look.from_start) (c.trie_candidate.ensures.passed k l)

@@ -1,6 +1,7 @@
 use Rattle.std.proofs.Common.{ap, ◌∙◌}
 use Rattle.std.specs.Option.{is_some}
-use Rattle.rc_program.specs.Kinds.{answer_by}
+use Rattle.rc_program.specs.Kinds.{answer_by, is_early}
+use Rattle.rc_program.specs.Sought.{search_for}
 use Rattle.rc_meta.specs.Views.{regex_kind, sought}
 use Rattle.rcgrep.specs.Picked.{has_match}
 use Rattle.rcgrep.specs.Selecting.{Selecting}
@@ -10,5 +11,6 @@ pub returns-clause-value : goal.returns-clause-value
 returns-clause-value c =
     let r = c.self.inside.regex.now in
     c.is_some.ensures
-    ∙ ap is_some (c.search_with.ensures.found_by ∙ ap (answer_by (regex_kind r)) (c.input_over-input.ensures (sought r)))
+    ∙ ap is_some (c.search_with.ensures.found_by (ap (λ b. is_early b (search_for (sought r) c.input_over-input.result)) c.input_over-input.ensures.late)
+    ∙ ap (answer_by (regex_kind r)) (c.input_over-input.ensures.line (sought r)))
     ∙ ap (λ (s : Selecting). has_match s.regex c.args.line.now) c.self.view_is

@@ -14,5 +14,5 @@ pub loop-rest-preserved : goal.loop-rest-preserved
 loop-rest-preserved g c =
     let (done, split, appended, same) = c.loop-rest.invariant in
     let rest = c.loop-rest.rest.now in
-    let n = c.in_ok-n.n in
-    (done ++ take n rest, moves_front _ done rest n split, Appends-trans _ _ _ _ _ appended c.in_ok-n.ensures.appended, c.in_ok-n.ensures.ok ∙ same)
+    let n = c.in-Ok.n in
+    (done ++ take n rest, moves_front _ done rest n split, Appends-trans _ _ _ _ _ appended c.in-Ok.ensures.appended, c.in-Ok.ensures.ok ∙ same)

@@ -1,0 +1,53 @@
+//! Says what is wrong with a text.
+
+ghost use Rattle.std.specs.Prelude.{chars, IfOk, IfSome, IfNone, MatchOption};
+ghost use Rattle.rc_parser.specs.Settings.{settings_of};
+ghost use Rattle.rc_explain.specs.Explained.{IsRead, IsUnread, IsWithin};
+
+use crate::faults::Fault;
+use crate::marks::fault_at;
+use crate::places::{byte_after, characters_before};
+use rc_parser::{Config, Error, parse};
+use rc_text::types::Span;
+use std::alloc::{AllocError, Global};
+
+/// What is wrong with a text from which `parse` may read no pattern, and with which part of it.
+///
+/// It is `None` exactly where a pattern is read from the text. An `Err` is want of memory.
+pub fn explain(alloc: Global, text: &str, config: &Config) -> Result<Option<Fault>, AllocError>
+    ensures answer { IfOk result (λ found. MatchOption found
+        (IsRead (settings_of config.now) (chars text.now))
+        (λ _. IsUnread (settings_of config.now) (chars text.now))) }
+    ensures place { IfOk result (λ found. IfSome found (λ fault. IsWithin fault.span text.now)) }
+{
+    match parse(alloc, text, config) {
+        Ok(hir) => {
+            drop(hir);
+            Ok(None)
+        }
+        Err(Error::Memory) => Err(AllocError),
+        Err(Error::Syntax { at }) => Ok(Some(fault_met_at(alloc, text, config, at)?)),
+    }
+}
+
+/// What is wrong with a text that is refused at this byte.
+fn fault_met_at(alloc: Global, text: &str, config: &Config, at: usize) -> Result<Fault, AllocError>
+    ensures { IfOk result (λ fault. IsWithin fault.span text.now) }
+{
+    let characters: Vec<char> = text.chars().collect(alloc)?;
+    let stop = characters_before(&characters, at);
+    let found = fault_at(alloc, config, &characters, stop)?;
+    let start = byte_after(text, found.start);
+    let end = byte_after(text, found.end);
+    let kind = found.kind;
+    if end < start {
+        return Ok(Fault {
+            kind,
+            span: Span { start, end: start },
+        });
+    }
+    Ok(Fault {
+        kind,
+        span: Span { start, end },
+    })
+}

@@ -1,0 +1,179 @@
+//! What may be wrong with the text of a pattern.
+
+use rc_text::types::Span;
+use std::fmt;
+
+/// What is wrong with the text of a pattern, and where.
+#[derive(Clone, Copy, Debug, PartialEq, Eq)]
+pub struct Fault {
+    /// What is wrong.
+    pub kind: FaultKind,
+    /// The part of the text that the kind speaks of, in bytes: the opening `(`, `[`, `{` or `<` of what isn't closed, and else
+    /// what can't stand there.
+    pub span: Span,
+}
+
+/// What is wrong with the text of a pattern.
+#[derive(Clone, Copy, Debug, PartialEq, Eq)]
+pub enum FaultKind {
+    /// `(a`: the span is the `(`.
+    UnclosedGroup,
+    /// `a)`
+    UnopenedGroup,
+    /// `(?>a)`, `(?#a)`, `(?P>a)`
+    UnknownGroup,
+    /// `(?=a)`, `(?!a)`, `(?<=a)`, `(?<!a)`
+    LookAround,
+    /// `(?)`
+    MissingFlags,
+    /// `(?q)`
+    UnknownFlag,
+    /// `(?x)`, where blanks and comments in a pattern would count for nothing.
+    VerboseFlag,
+    /// `(?ii)`, `(?i-i)`
+    RepeatedFlag,
+    /// `(?i--s)`
+    RepeatedNegation,
+    /// `(?i-)`
+    DanglingNegation,
+    /// `(?<>a)`
+    EmptyName,
+    /// `(?<1>a)`, `(?<a b>a)`: names are ASCII letters, digits, `_`, `.`, `[` and `]`, and begin with a letter or `_`.
+    NameCharacter,
+    /// `(?<a`: the span is the `<`.
+    UnclosedName,
+    /// `(?<a>)(?<a>)`
+    DuplicateName,
+    /// `*`, `a|+`, `(?i)?`
+    RepetitionOfNothing,
+    /// `a{`, `a{,2}`, `a{2x}`: a plain `{` is written `\{`.
+    UncountedRepetition,
+    /// `a{2`: the span is the `{`.
+    UnclosedRepetition,
+    /// `a{4294967296}`
+    LargeNumber,
+    /// `a{3,2}`
+    BoundsOutOfOrder,
+    /// `[a`: the span is the `[`.
+    UnclosedList,
+    /// `[]`, `[^]`, where a `]` that stands first is a member, and no other closes the list.
+    EmptyList,
+    /// `[a[b]]`
+    NestedList,
+    /// `[[:alpha:]]`
+    PosixClass,
+    /// `[a&&b]`, `[a--b]`, `[a~~b]`
+    SetOperation,
+    /// `[\b]`, `[\A]`
+    AssertionInList,
+    /// `[a-\d]`, `[\d-a]`
+    ClassInRange,
+    /// `[z-a]`
+    RangeOutOfOrder,
+    /// `(?-u)[é]`: among bytes it is written as `\xHH`.
+    MemberPastAscii,
+    /// `a\`
+    DanglingBackslash,
+    /// `\y`
+    UnknownEscape,
+    /// `\pL`, `\p{Greek}`
+    UnicodeClass,
+    /// `\1`, `\k<a>`, `(?P=a)`
+    Backreference,
+    /// `\xZ`, `\u12`, `\x{}`
+    HexadecimalDigit,
+    /// `\x{D800}`, `\x{110000}`
+    NoScalar,
+    /// `\x{41`, `\b{start`: the span is the `{`.
+    UnclosedBrace,
+    /// `\b{word}`
+    UnknownBoundary,
+    /// `(?-u).`, `(?-u)\xFF`, `(?-u)[^a]`, where a pattern may match nothing but UTF-8.
+    NotUtf8,
+    /// `.`, where a line terminator past ASCII is to be left out of the characters.
+    LineTerminator,
+    /// The nest limit is passed. The span is what is nested too deeply, from the opener of the innermost open group on.
+    NestedTooDeeply,
+}
+
+/// What is wrong with a group that isn't read.
+fn group_line(kind: FaultKind) -> Option<&'static str> {
+    match kind {
+        FaultKind::UnclosedGroup => Some("unclosed group"),
+        FaultKind::UnopenedGroup => Some("unopened group"),
+        FaultKind::UnknownGroup => Some("unknown kind of group"),
+        FaultKind::LookAround => Some("look-around isn't supported"),
+        FaultKind::MissingFlags => Some("missing flags"),
+        FaultKind::UnknownFlag => Some("unknown flag"),
+        FaultKind::VerboseFlag => Some("the flag x isn't supported"),
+        FaultKind::RepeatedFlag => Some("repeated flag"),
+        FaultKind::RepeatedNegation => Some("flags are cleared twice"),
+        FaultKind::DanglingNegation => Some("no flag is cleared"),
+        FaultKind::EmptyName => Some("empty group name"),
+        FaultKind::NameCharacter => Some("not allowed in a group name"),
+        FaultKind::UnclosedName => Some("unclosed group name"),
+        FaultKind::DuplicateName => Some("duplicate group name"),
+        _ => None,
+    }
+}
+
+/// What is wrong with a list that isn't read.
+fn list_line(kind: FaultKind) -> Option<&'static str> {
+    match kind {
+        FaultKind::UnclosedList => Some("unclosed list"),
+        FaultKind::EmptyList => Some("empty list"),
+        FaultKind::NestedList => Some("nested lists aren't supported"),
+        FaultKind::PosixClass => Some("POSIX classes aren't supported"),
+        FaultKind::SetOperation => Some("set operations aren't supported"),
+        FaultKind::AssertionInList => Some("an assertion in a list"),
+        FaultKind::ClassInRange => Some("a class as an end of a range"),
+        FaultKind::RangeOutOfOrder => Some("range out of order"),
+        FaultKind::MemberPastAscii => Some("a character past ASCII in a list of bytes"),
+        _ => None,
+    }
+}
+
+/// What is wrong with an escape that isn't read.
+fn escape_line(kind: FaultKind) -> Option<&'static str> {
+    match kind {
+        FaultKind::DanglingBackslash => Some("nothing is escaped"),
+        FaultKind::UnknownEscape => Some("unknown escape"),
+        FaultKind::UnicodeClass => Some("Unicode classes aren't supported"),
+        FaultKind::Backreference => Some("backreferences aren't supported"),
+        FaultKind::HexadecimalDigit => Some("missing hexadecimal digit"),
+        FaultKind::NoScalar => Some("no character has this code"),
+        FaultKind::UnclosedBrace => Some("unclosed brace"),
+        FaultKind::UnknownBoundary => Some("unknown kind of word boundary"),
+        _ => None,
+    }
+}
+
+/// What is wrong with a repetition, or a pattern as a whole.
+fn other_line(kind: FaultKind) -> &'static str {
+    match kind {
+        FaultKind::RepetitionOfNothing => "repetition of nothing",
+        FaultKind::UncountedRepetition => "no counted repetition",
+        FaultKind::UnclosedRepetition => "unclosed repetition",
+        FaultKind::LargeNumber => "number too large",
+        FaultKind::BoundsOutOfOrder => "repetition bounds out of order",
+        FaultKind::NotUtf8 => "bytes past ASCII where UTF-8 is asked for",
+        FaultKind::LineTerminator => "a line terminator past ASCII is no character",
+        _ => "patterns nest too deeply",
+    }
+}
+
+impl FaultKind {
+    /// A line that says what is wrong.
+    pub fn line(self) -> &'static str {
+        group_line(self)
+            .or(list_line(self))
+            .or(escape_line(self))
+            .unwrap_or(other_line(self))
+    }
+}
+
+impl fmt::Display for FaultKind {
+    fn fmt<W: fmt::Write>(&self, f: &mut fmt::Formatter<W>) -> fmt::Result {
+        f.write_str(self.line())
+    }
+}

@@ -1,0 +1,177 @@
+//! Lists that aren't read.
+
+use crate::escapes::escape_fault;
+use crate::faults::FaultKind;
+use crate::marks::{first_mark, from};
+use crate::places::Found;
+use rc_tokens::tokens::{List, Member, Token};
+use std::alloc::{AllocError, Global};
+
+/// Where the members of a list begin, and whether a `]` is the first.
+fn front(mark: &[char]) -> (usize, bool) {
+    match mark {
+        ['[', '^', ']', ..] => (3, true),
+        ['[', '^', ..] => (2, false),
+        ['[', ']', ..] => (2, true),
+        _ => (1, false),
+    }
+}
+
+/// Whether two characters that stand side by side are an operation on sets.
+fn is_operation(before: char, c: char) -> bool {
+    before == c && (c == '&' || c == '~')
+}
+
+/// What is wrong with a list that is no mark. Its first fault counts.
+pub fn list_fault(alloc: Global, mark: &[char]) -> Result<Found, AllocError> {
+    let (start, has_bracket) = front(mark);
+    let mut at = start;
+    for i in start..mark.len() {
+        let c = mark[i];
+        if i > start && is_operation(mark[i - 1], c) {
+            return Ok(Found::new(FaultKind::SetOperation, i - 1, i + 1));
+        }
+        if i < at {
+            continue;
+        }
+        if c == '[' {
+            return Ok(nested_fault(mark, i));
+        }
+        at = i + 1;
+        if c == '\\' {
+            match escape_in_list(alloc, from(mark, i))? {
+                Ok(count) => at = i.saturating_add(count),
+                Err(fault) => return Ok(fault.after(i)),
+            }
+        }
+    }
+    if has_bracket {
+        return Ok(Found::new(FaultKind::EmptyList, 0, start));
+    }
+    Ok(Found::new(FaultKind::UnclosedList, 0, 1))
+}
+
+/// A `[` in a list.
+fn nested_fault(mark: &[char], at: usize) -> Found {
+    match from(mark, at) {
+        ['[', ':', ..] => Found::new(FaultKind::PosixClass, at, at.saturating_add(2)),
+        _ => Found::new(FaultKind::NestedList, at, at.saturating_add(1)),
+    }
+}
+
+/// How many characters an escape in a list takes, or what is wrong with it.
+fn escape_in_list(alloc: Global, mark: &[char]) -> Result<Result<usize, Found>, AllocError> {
+    match first_mark(alloc, mark)? {
+        Some((Token::Assertion(_), count)) => {
+            Ok(Err(Found::new(FaultKind::AssertionInList, 0, count)))
+        }
+        Some((_, count)) => Ok(Ok(count)),
+        None => Ok(Err(escape_fault(mark))),
+    }
+}
+
+/// The code of a character of a list; `None` for one that has none there.
+fn code_of(is_unicode: bool, member: Member) -> Option<u32> {
+    match member {
+        Member::Character(c) if is_unicode || c.is_ascii() => Some(c as u32),
+        Member::Byte(byte) => Some(byte as u32),
+        _ => None,
+    }
+}
+
+/// What is wrong with the range that begins with this member, counted in members.
+fn range_fault(is_unicode: bool, first: Member, last: Member, at: usize) -> Option<Found> {
+    let (from, end) = (at.saturating_add(2), at.saturating_add(3));
+    match last {
+        Member::Hyphen => Some(Found::new(FaultKind::SetOperation, at.saturating_add(1), end)),
+        Member::Perl(_) => Some(Found::new(FaultKind::ClassInRange, at, end)),
+        _ => match code_of(is_unicode, last) {
+            None => Some(Found::new(FaultKind::MemberPastAscii, from, end)),
+            high if high < code_of(is_unicode, first) => {
+                Some(Found::new(FaultKind::RangeOutOfOrder, at, end))
+            }
+            _ => None,
+        },
+    }
+}
+
+/// What is wrong with a hyphen that stands for itself, counted in members.
+fn hyphen_fault(after_range: bool, following: Option<Member>, at: usize) -> Option<Found> {
+    match following {
+        Some(Member::Hyphen) => Some(Found::new(FaultKind::SetOperation, at, at.saturating_add(2))),
+        Some(_) if !after_range => Some(Found::new(
+            FaultKind::ClassInRange,
+            at.saturating_sub(1),
+            at.saturating_add(2),
+        )),
+        _ => None,
+    }
+}
+
+/// What is wrong with members that are no items, counted in members.
+fn items_fault(is_unicode: bool, list: &List) -> Option<Found> {
+    let members = list.members.as_slice();
+    let mut past = 0;
+    let mut is_leading = !list.bracket;
+    let mut after_range = list.bracket;
+    for i in 0..members.len() {
+        let is_hyphen = matches!(members[i], Member::Hyphen);
+        is_leading = is_leading && is_hyphen;
+        if i < past || is_leading {
+            continue;
+        }
+        let following = members.get(i + 1).copied();
+        if is_hyphen {
+            let fault = hyphen_fault(after_range, following, i);
+            if fault.is_some() {
+                return fault;
+            }
+        }
+        after_range = false;
+        if is_hyphen || matches!(members[i], Member::Perl(_)) {
+            continue;
+        }
+        if code_of(is_unicode, members[i]).is_none() {
+            return Some(Found::new(FaultKind::MemberPastAscii, i, i + 1));
+        }
+        if let (Some(Member::Hyphen), Some(last)) = (following, members.get(i + 2).copied()) {
+            let fault = range_fault(is_unicode, members[i], last, i);
+            if fault.is_some() {
+                return fault;
+            }
+            past = i + 3;
+            after_range = true;
+        }
+    }
+    None
+}
+
+/// The place of the member with this number.
+fn place_of(alloc: Global, mark: &[char], number: usize) -> Result<usize, AllocError> {
+    let (mut at, _) = front(mark);
+    for _ in 0..number {
+        let mut count = 1;
+        if let ['\\', ..] = from(mark, at) {
+            if let Some((_, length)) = first_mark(alloc, from(mark, at))? {
+                count = length;
+            }
+        }
+        at = at.saturating_add(count);
+    }
+    Ok(at)
+}
+
+/// What is wrong with the members of a list that is a mark; `None` where they are its items.
+pub fn members_fault(
+    alloc: Global,
+    is_unicode: bool,
+    list: &List,
+    mark: &[char],
+) -> Result<Option<Found>, AllocError> {
+    let Some(fault) = items_fault(is_unicode, list) else {
+        return Ok(None);
+    };
+    let start = place_of(alloc, mark, fault.start)?;
+    let end = place_of(alloc, mark, fault.end)?;
+    Ok(Some(Found::new(fault.kind, start, end)))
+}

@@ -1,0 +1,176 @@
+//! The marks of a text up to the one at which it isn't read.
+
+use crate::escapes::escape_fault;
+use crate::faults::FaultKind;
+use crate::lists::{list_fault, members_fault};
+use crate::openings::{name_of, opening_fault};
+use crate::places::Found;
+use crate::repetitions::counted_fault;
+use rc_parser::Config;
+use rc_tokens::lexer::first_token;
+use rc_tokens::refusal::Refusal;
+use rc_tokens::tokens::{Opening, Token};
+use std::alloc::{AllocError, Global};
+
+/// The first mark of a text, and of how many characters it is; `None` where no mark begins the text.
+pub fn first_mark(alloc: Global, text: &[char]) -> Result<Option<(Token, usize)>, AllocError> {
+    match first_token(alloc, text) {
+        Ok((token, rest)) => Ok(Some((token, text.len().saturating_sub(rest.len())))),
+        Err(Refusal::Syntax) => Ok(None),
+        Err(Refusal::Memory) => Err(AllocError),
+    }
+}
+
+/// The text from there on.
+pub fn from(text: &[char], at: usize) -> &[char] {
+    text.get(at..).unwrap_or(&[])
+}
+
+/// A group that is open.
+#[derive(Clone, Copy)]
+struct OpenGroup {
+    /// Where its `(` stands.
+    at: usize,
+    /// The flag `u` outside.
+    is_unicode_outside: bool,
+}
+
+/// What the marks so far leave.
+#[derive(Drop)]
+struct Standing {
+    groups: Vec<OpenGroup>,
+    /// The flag `u`.
+    is_unicode: bool,
+    /// Whether there is something that an operator may repeat.
+    has_item: bool,
+}
+
+impl Standing {
+    /// Goes past a mark that stands at this place.
+    fn pass(&mut self, token: &Token, at: usize) -> Result<(), AllocError> {
+        self.has_item = match token {
+            Token::Bar | Token::Setting(_) | Token::Opens(_) => false,
+            _ => true,
+        };
+        match token {
+            Token::Setting(to) => self.is_unicode = to.unicode.unwrap_or(self.is_unicode),
+            Token::Opens(opening) => {
+                let is_unicode_outside = self.is_unicode;
+                self.groups.push(OpenGroup {
+                    at,
+                    is_unicode_outside,
+                })?;
+                if let Opening::Flagged(to) = opening {
+                    self.is_unicode = to.unicode.unwrap_or(is_unicode_outside);
+                }
+            }
+            Token::Closes => {
+                if let Some(group) = self.groups.pop() {
+                    self.is_unicode = group.is_unicode_outside;
+                }
+            }
+            _ => {}
+        }
+        Ok(())
+    }
+
+    /// The innermost open group goes too deep, or the whole pattern.
+    fn too_deep(&self, end: usize) -> Found {
+        let start = match self.groups.last() {
+            Some(group) => group.at,
+            None => 0,
+        };
+        Found::new(FaultKind::NestedTooDeeply, start, end)
+    }
+
+    /// What is wrong at the end of the text.
+    fn end_fault(&self, end: usize) -> Found {
+        match self.groups.last() {
+            Some(group) => Found::new(
+                FaultKind::UnclosedGroup,
+                group.at,
+                group.at.saturating_add(1),
+            ),
+            None => Found::new(FaultKind::NestedTooDeeply, 0, end),
+        }
+    }
+
+    /// What is wrong with a mark that can't stand at this place.
+    fn mark_fault(
+        &self,
+        alloc: Global,
+        config: &Config,
+        token: &Token,
+        mark: &[char],
+        at: usize,
+        end: usize,
+    ) -> Result<Found, AllocError> {
+        let fault = match token {
+            Token::Byte(_) | Token::Perl(_) => Found::new(FaultKind::NotUtf8, at, end),
+            Token::Dot if self.is_unicode => Found::new(FaultKind::LineTerminator, at, end),
+            Token::Dot => Found::new(FaultKind::NotUtf8, at, end),
+            Token::Opens(_) => {
+                let (start, end) = name_of(mark);
+                Found::new(FaultKind::DuplicateName, start, end).after(at)
+            }
+            Token::Closes if self.groups.is_empty() => Found::new(
+                FaultKind::UnopenedGroup,
+                at,
+                end,
+            ),
+            Token::Repeats(_) if !self.has_item => Found::new(
+                FaultKind::RepetitionOfNothing,
+                at,
+                end,
+            ),
+            Token::List(list) => match members_fault(alloc, self.is_unicode, list, mark)? {
+                Some(fault) => fault.after(at),
+                None if self.is_unicode || !config.get_utf8() => self.too_deep(end),
+                None => Found::new(FaultKind::NotUtf8, at, end),
+            },
+            _ => self.too_deep(end),
+        };
+        Ok(fault)
+    }
+}
+
+/// What is wrong with a text that begins with no mark.
+fn unread_mark(alloc: Global, mark: &[char]) -> Result<Found, AllocError> {
+    match mark.first().copied() {
+        Some('[') => list_fault(alloc, mark),
+        Some('\\') => Ok(escape_fault(mark)),
+        Some('{') => Ok(counted_fault(mark)),
+        _ => Ok(opening_fault(mark)),
+    }
+}
+
+/// What is wrong with a text that is read up to the character at `stop`, and not with it.
+pub fn fault_at(
+    alloc: Global,
+    config: &Config,
+    text: &[char],
+    stop: usize,
+) -> Result<Found, AllocError> {
+    let mut standing = Standing {
+        groups: Vec::new(alloc),
+        is_unicode: config.get_unicode(),
+        has_item: false,
+    };
+    let mut at = 0;
+    for _ in 0..text.len() {
+        let mark = from(text, at);
+        let Some((token, count)) = first_mark(alloc, mark)? else {
+            return Ok(unread_mark(alloc, mark)?.after(at));
+        };
+        let end = at.saturating_add(count);
+        if at >= stop {
+            return standing.mark_fault(alloc, config, &token, mark, at, end);
+        }
+        standing.pass(&token, at)?;
+        at = end;
+        if at >= text.len() {
+            break;
+        }
+    }
+    Ok(standing.end_fault(text.len()))
+}

@@ -1,0 +1,53 @@
+//! Counted repetitions that aren't read.
+
+use crate::faults::FaultKind;
+use crate::places::Found;
+
+/// The digits from there on, as a number, and where they end.
+fn number_at(mark: &[char], from: usize) -> (u64, usize) {
+    let mut number: u64 = 0;
+    for i in from..mark.len() {
+        let Some(digit) = mark[i].to_digit(10) else {
+            return (number, i);
+        };
+        number = number.saturating_mul(10).saturating_add(digit as u64);
+    }
+    (number, mark.len().max(from))
+}
+
+/// Whether a character stands there.
+fn is_at(mark: &[char], at: usize, c: char) -> bool {
+    mark.get(at).copied() == Some(c)
+}
+
+/// What is wrong with a `{` that begins no repetition.
+pub fn counted_fault(mark: &[char]) -> Found {
+    let (min, end) = number_at(mark, 1);
+    if end > 1 && min > u32::MAX as u64 {
+        return Found::new(FaultKind::LargeNumber, 1, end);
+    }
+    if end > 1 && is_at(mark, end, ',') {
+        return second_fault(mark, min, end.saturating_add(1));
+    }
+    unended_fault(mark, end)
+}
+
+/// What is wrong with a second number that begins there.
+fn second_fault(mark: &[char], min: u64, from: usize) -> Found {
+    let (max, end) = number_at(mark, from);
+    if max > u32::MAX as u64 {
+        return Found::new(FaultKind::LargeNumber, from, end);
+    }
+    if is_at(mark, end, '}') && max < min {
+        return Found::new(FaultKind::BoundsOutOfOrder, 0, end.saturating_add(1));
+    }
+    unended_fault(mark, end)
+}
+
+/// No repetition ends there.
+fn unended_fault(mark: &[char], end: usize) -> Found {
+    if end >= mark.len() && end > 1 {
+        return Found::new(FaultKind::UnclosedRepetition, 0, 1);
+    }
+    Found::new(FaultKind::UncountedRepetition, 0, 1)
+}

@@ -1,0 +1,20 @@
+use Rattle.std.proofs.Common.{◌≡◌, ◌∙◌, arith, inl, inr, ap, refl, subst}
+use Rattle.std.proofs.lemmas.Bool.{cases_lt}
+use Rattle.rc_literal.specs.Tables.{needles_in, numbered}
+use Rattle.rc_literal.specs.Tries.{IsCarried}
+use Rattle.rc_literal.proofs.StandLemmas.{numbered_in, needle_count}
+use Rattle.rc_literal.proofs.trie.trie_of.Goals as goal
+
+pub loop-number-preserved : goal.loop-number-preserved
+loop-number-preserved c n l =
+    let vs = c.args.needles.now in
+    let nodes = c.in_ok-trie.trie.nodes.items in
+    let i = c.loop-number.number in
+    elim (cases_lt n i) [
+      | inl h ↦ c.loop-number.invariant n h
+      | inr g ↦
+          let same : i ≡ n = omega (arith, l, g) in
+          let w : c.as_slice.result.now ≡ numbered (needles_in vs) i =
+          c.as_slice.ensures.value ∙ numbered_in vs i c.index-needles-number.result (omega (arith, c.loop-number-test.true)) c.index-needles-number.is in
+          subst (λ k. IsCarried nodes (numbered (needles_in vs) k) k) same (subst (λ bytes. IsCarried nodes bytes i) w (c.if-not-carries.ensures refl))
+    ]

@@ -1,0 +1,215 @@
+//! A sieve that passes over the places where none of some needles begins, 16 places at a time.
+ghost use Rattle.std.specs.Prelude.{◌≡◌, ◌+◌, ◌*◌, ◌/◌, ◌<◌, ◌≤◌, ◌^◌, ℕ, IfSome, IsTrue, List, length, slice_index};
+ghost use Rattle.std.specs.Int.{bit_at};
+ghost use Rattle.rc_literal.specs.Sieves.{AreLanes, AreSifted, IsSifted, buckets, sifted};
+ghost use Rattle.rc_literal.specs.Tables.{Agrees, needles_in};
+
+use crate::pairs::lowest;
+use std::simd::prelude::*;
+
+/// How many places a vector covers.
+const LANES: usize = 16;
+
+/// How many bytes a piece has at least in which the sieve is used: those of a vector, and two that
+/// are read behind them.
+pub const LEAST_PIECE: usize = LANES + 2;
+
+/// How many needles a sieve is made for at most.
+const GREATEST_COUNT: usize = 64;
+
+/// How many buckets there are.
+const BUCKETS: usize = 8;
+
+/// Which buckets take a byte, each of them a bit: those that take its low four bits and its high four.
+#[derive(Clone, Copy)]
+pub struct Sift {
+    pub low: [u8; 16],
+    pub high: [u8; 16],
+}
+
+/// Which buckets take a byte as the first, the second and the third of a needle.
+///
+/// Each needle is in a bucket. It takes any byte past the needle's end.
+#[derive(Clone, Copy)]
+pub struct Sieve {
+    pub first: Sift,
+    pub second: Sift,
+    pub third: Sift,
+}
+
+impl Sift {
+    /// No bucket takes any byte.
+    fn new() -> Sift {
+        Sift {
+            low: [0; 16],
+            high: [0; 16],
+        }
+    }
+
+    /// The buckets of these bits take the byte too.
+    fn add(&mut self, byte: u8, bits: u8) {
+        self.low[(byte % 16) as usize] |= bits;
+        self.high[(byte / 16) as usize] |= bits;
+    }
+
+    /// The buckets of these bits take the byte of the needle at a place too, or any byte past its end.
+    fn add_at(&mut self, needle: &[u8], at: usize, bits: u8) {
+        match needle.get(at) {
+            Some(byte) => self.add(*byte, bits),
+            None => {
+                for byte in 0..256usize {
+                    self.add(byte as u8, bits);
+                }
+            }
+        }
+    }
+
+    /// The buckets that take the byte.
+    fn taken(&self, byte: u8) -> u8
+        ensures { result ≡ buckets self.now byte }
+    {
+        self.low[(byte % 16) as usize] & self.high[(byte / 16) as usize]
+    }
+
+    /// The buckets that take every byte.
+    fn taken_always(&self) -> u8
+        ensures { (k : ℕ) → bit_at result k ≡ 1 → (byte : ℕ) → byte < 256 → bit_at (buckets self.now byte) k ≡ 1 }
+    {
+        let mut bits = 255;
+        for byte in 0..256usize {
+            bits &= self.taken(byte as u8);
+        }
+        bits
+    }
+
+    /// The buckets that take the byte of the needle at a place, or every byte past its end.
+    fn taken_at(&self, needle: &[u8], at: usize) -> u8
+        ensures { (k : ℕ) → bit_at result k ≡ 1 → (byte : ℕ) → byte < 256
+            → (at < length needle.now → byte ≡ slice_index needle.now at) → bit_at (buckets self.now byte) k ≡ 1 }
+    {
+        match needle.get(at) {
+            Some(byte) => self.taken(*byte),
+            None => self.taken_always(),
+        }
+    }
+
+    /// The buckets that take each of 16 bytes.
+    #[inline(always)]
+    fn lanes(&self, piece: &[u8], at: usize) -> u8x16
+        requires { at + 16 ≤ length piece.now }
+        ensures { AreLanes result (λ k. buckets self.now (slice_index piece.now (at + k))) }
+    {
+        let bytes = u8x16::from_slice(&piece[at..]);
+        let lows = bytes & u8x16::splat(15);
+        let highs = bytes >> u8x16::splat(4);
+        let low = u8x16::from_slice(&self.low).swizzle_dyn(lows);
+        let high = u8x16::from_slice(&self.high).swizzle_dyn(highs);
+        low & high
+    }
+}
+
+impl Sieve {
+    /// Whether a bucket takes the needle, whatever follows it.
+    fn takes(&self, needle: &[u8]) -> bool
+        ensures { IsTrue result → IsSifted self.now needle.now }
+    {
+        let bits = self.first.taken_at(needle, 0)
+            & (self.second.taken_at(needle, 1) & self.third.taken_at(needle, 2));
+        bits != 0
+    }
+
+    /// A number whose bit k is set where a bucket takes the three bytes from `at + k` on, for each k
+    /// below 16.
+    #[inline(always)]
+    fn marks(&self, piece: &[u8], at: usize) -> u64
+        requires { at + 18 ≤ length piece.now }
+        ensures small { result < 2 ^ 16 }
+        ensures set { (k : ℕ) → k < 16 → 0 < sifted self.now (slice_index piece.now (at + k))
+            (slice_index piece.now (at + 1 + k)) (slice_index piece.now (at + 2 + k)) → bit_at result k ≡ 1 }
+    {
+        let first = self.first.lanes(piece, at);
+        let second = self.second.lanes(piece, at + 1);
+        let third = self.third.lanes(piece, at + 2);
+        let bits = first & (second & third);
+        bits.simd_ne(u8x16::splat(0)).to_bitmask()
+    }
+
+    /// The first place of the piece where a bucket takes three bytes. Where there is none, the place
+    /// of the last two bytes.
+    #[inline(never)]
+    pub fn place(&self, piece: &[u8]) -> usize
+        requires { LEAST_PIECE ≤ length piece.now }
+        ensures within { result + 2 ≤ length piece.now }
+        ensures passed { (needle : List ℕ) → IsSifted self.now needle → (k : ℕ) → k < result → ¬ Agrees piece.now needle k }
+    {
+        let last = piece.len() - LEAST_PIECE;
+        let mut at = 0;
+        while at < last {
+            let marks = self.marks(piece, at);
+            if marks != 0 {
+                return at + lowest(marks);
+            }
+            at += LANES;
+        }
+        let marks = self.marks(piece, last);
+        if marks != 0 {
+            return last + lowest(marks);
+        }
+        piece.len() - 2
+    }
+}
+
+/// A sieve for these needles, where they are few enough.
+pub fn sieve_of(needles: &[Vec<u8>]) -> Option<Sieve>
+    ensures { IfSome result (λ s. AreSifted s (needles_in needles.now)) }
+{
+    if needles.len() > GREATEST_COUNT {
+        return None;
+    }
+    let sieve = filled(needles);
+    for needle in needles {
+        if !sieve.takes(needle.as_slice()) {
+            return None;
+        }
+    }
+    Some(sieve)
+}
+
+/// A sieve with each of the needles in a bucket: those that come one after another by their first
+/// three bytes share one.
+fn filled(needles: &[Vec<u8>]) -> Sieve {
+    let mut sieve = Sieve {
+        first: Sift::new(),
+        second: Sift::new(),
+        third: Sift::new(),
+    };
+    for needle in needles {
+        let needle = needle.as_slice();
+        let bits = bucket_of(needles, needle);
+        sieve.first.add_at(needle, 0, bits);
+        sieve.second.add_at(needle, 1, bits);
+        sieve.third.add_at(needle, 2, bits);
+    }
+    sieve
+}
+
+/// The bit of a needle's bucket.
+fn bucket_of(needles: &[Vec<u8>], needle: &[u8]) -> u8 {
+    let mut rank: usize = 0;
+    for other in needles {
+        if beginning(other.as_slice()) < beginning(needle) {
+            rank = rank.saturating_add(1);
+        }
+    }
+    let bucket = rank.saturating_mul(BUCKETS) / needles.len().max(1);
+    1 << (bucket % BUCKETS)
+}
+
+/// The first three bytes as one number, which orders needles by them.
+fn beginning(needle: &[u8]) -> [u8; 3] {
+    let mut bytes = [0; 3];
+    for (i, byte) in needle.iter().take(3).enumerate() {
+        bytes[i] = *byte;
+    }
+    bytes
+}

@@ -1,0 +1,4 @@
+//! Sets of patterns.
+#![tactic(auto)]
+
+pub mod sets;
