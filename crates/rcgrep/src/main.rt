@@ -54,17 +54,6 @@ fn report(rt: &HostRuntime, line: &str) -> u8 {
     FAULT
 }
 
-/// Shows a pattern that isn't read, and what is wrong with it. Nothing is shown where memory is refused.
-fn show_fault(rt: &HostRuntime, config: &syntax::Config, pattern: &str) {
-    if let Ok(Some(fault)) = syntax::explain(rt.alloc(), pattern, config) {
-        let explained = syntax::Explained {
-            text: pattern,
-            fault,
-        };
-        let _ = writeln!(rt.stderr(), "{explained}");
-    }
-}
-
 /// Builds the regex, and searches.
 fn run(rt: &HostRuntime, options: &Options<'_>) -> u8 {
     let alloc = rt.alloc();
@@ -73,17 +62,11 @@ fn run(rt: &HostRuntime, options: &Options<'_>) -> u8 {
         return report(rt, "too many patterns");
     }
     let mut builder = Regex::builder();
-    let config = syntax::Config::new().case_insensitive(options.ignore_case);
-    builder.syntax(config);
+    builder.syntax(syntax::Config::new().case_insensitive(options.ignore_case));
     let regex = match builder.build_many(alloc, patterns) {
         Ok(regex) => regex,
         Err(fault) => {
             let _ = writeln!(rt.stderr(), "rcgrep: {fault}");
-            if let Some(number) = fault.pattern() {
-                if let Some(pattern) = patterns.get(number.as_usize()) {
-                    show_fault(rt, &config, pattern);
-                }
-            }
             return FAULT;
         }
     };
