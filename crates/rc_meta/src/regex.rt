@@ -121,7 +121,11 @@ impl Regex {
     /// The match that a search of the input finds. An `Err` is want of memory.
     ///
     /// Under `MatchKind::All` it is the match with the greatest end, of these the one with the least start, and of these the one of
-    /// the least pattern. Empty matches inside a character aren't passed over then.
+    /// the least pattern. Empty matches inside a character aren't passed over then. Under `MatchKind::LeftmostLongest` it is, of the
+    /// matches of the least start, the longest; no tables are made for it then.
+    ///
+    /// With the input's earliest flag on, unless matches are passed over, any span that a pattern spells may be the answer, and there is
+    /// one where there is one with the flag off. The search then stops at the first position at which some match ends.
     ///
     /// With the input's earliest flag on, unless matches are passed over, any span that a pattern spells may be the answer, and there is
     /// one where there is one with the flag off. The search then stops at the first position at which some match ends.
@@ -336,7 +340,8 @@ impl Regex {
 
     /// The match that `find` finds, with its groups. Without a match the captures hold none. An `Err` is want of memory.
     ///
-    /// Under `MatchKind::All` explicit groups hold nothing. Else, where `is_plain` is true, the groups are those of the least parse.
+    /// Under `MatchKind::All` explicit groups hold nothing. Under `MatchKind::LeftmostLongest` they are those of the walk that is
+    /// preferred of those that are that long. Else, where `is_plain` is true, the groups are those of the least parse.
     pub fn captures<C: Cursor + Drop>(
         &self,
         alloc: Global,

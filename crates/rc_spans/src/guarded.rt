@@ -6,7 +6,7 @@ ghost use Rattle.rc_text.specs.Text.{Keeps, low, high};
 ghost use Rattle.rc_text.specs.declared.types.Anchored.TheVariants.{No};
 ghost use Rattle.rc_pattern.specs.Re.{Re};
 ghost use Rattle.rc_program.specs.Answer.{answer};
-ghost use Rattle.rc_program.specs.Kinds.{IsAnswerBy};
+ghost use Rattle.rc_states.specs.TableKinds.{IsAnswerBy};
 ghost use Rattle.rc_program.specs.Program.{program};
 ghost use Rattle.rc_program.specs.Sought.{text_of};
 ghost use Rattle.rc_literal.specs.Guards.{Guards};
@@ -18,6 +18,7 @@ ghost use Rattle.rc_spans.specs.Faults.{IsFault};
 ghost use Rattle.rc_spans.specs.Halves.{IsForwardHalf};
 ghost use Rattle.rc_spans.specs.Legs.{ComesOn, GoesByNeedles, HasRun, IsGiven, leg_of};
 
+use rc_states::kind::TableKind;
 use crate::search::{Aim, Bounds, bounds_of, find, find_end, id_of, run_backwards, run_forwards};
 use rc_automaton::ended::{Ended, Met};
 use rc_automaton::halves::Halves;
@@ -25,7 +26,7 @@ use rc_literal::literal::find_from;
 use rc_literal::prefilter::Prefilter;
 use rc_text::cursor::Cursor;
 use rc_text::input::Input;
-use rc_text::types::{Anchored, HalfMatch, Match, MatchError, MatchKind, Span};
+use rc_text::types::{Anchored, HalfMatch, Match, MatchError, Span};
 
 /// How far a run forwards came.
 #[derive(Clone, Copy)]
@@ -41,7 +42,7 @@ fn goes_by_needles(aim: Aim, anchored: Anchored) -> bool
     ensures { IsTrue result ↔ GoesByNeedles aim anchored }
 {
     match (aim.kind, anchored) {
-        (MatchKind::LeftmostFirst, Anchored::No) => !aim.earliest && !aim.passes_over,
+        (TableKind::LeftmostFirst, Anchored::No) => !aim.earliest && !aim.passes_over,
         _ => false,
     }
 }
