@@ -9,17 +9,17 @@ ghost use Rattle.rc_states.specs.Classes.{TellsAlike};
 ghost use Rattle.rc_automaton.specs.Samples.{AreClassesBy, AreSamples};
 ghost use Rattle.rc_automaton.specs.Props.{Covers-prop, TellsAlike-prop};
 
-use rc_states::kind::TableKind;
 use crate::matches::{last_of, pattern_of};
 use crate::samples::samples_of;
 use rc_bytes::place::BytePlace;
 use rc_states::backward::{Reversed, last, prior};
 use rc_states::classes::{classes, single_classes};
 use rc_states::forward::{first, next_by};
+use rc_states::kind::TableKind;
 use rc_states::scratch::Scratch;
 use rc_states::sides::{Needs, needs_of};
 use rc_states::state::State;
-use rc_text::types::{Anchored};
+use rc_text::types::Anchored;
 use std::alloc::{AllocError, Global};
 
 /// In which direction a search reads.

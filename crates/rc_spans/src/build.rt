@@ -9,10 +9,10 @@ ghost use Rattle.rc_automaton.specs.declared.automaton.Direction.TheVariants.{Ba
 ghost use Rattle.rc_spans.specs.Classes.{AreClassesOf};
 ghost use Rattle.rc_spans.specs.Machines.{AreMachines, entries_of};
 
-use rc_states::kind::TableKind;
 use rc_automaton::automaton::Automaton;
 use rc_bytes::program::byte_program;
 use rc_program::place::Place;
+use rc_states::kind::TableKind;
 use std::alloc::{AllocError, Global};
 
 /// The places by which the patterns of a program are entered, in their order: each choice, from place 0 on, leads to a pattern or on to the

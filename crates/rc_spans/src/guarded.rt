@@ -18,12 +18,12 @@ ghost use Rattle.rc_spans.specs.Faults.{IsFault};
 ghost use Rattle.rc_spans.specs.Halves.{IsForwardHalf};
 ghost use Rattle.rc_spans.specs.Legs.{ComesOn, GoesByNeedles, HasRun, IsGiven, leg_of};
 
-use rc_states::kind::TableKind;
 use crate::search::{Aim, Bounds, bounds_of, find, find_end, id_of, run_backwards, run_forwards};
 use rc_automaton::ended::{Ended, Met};
 use rc_automaton::halves::Halves;
 use rc_literal::literal::find_from;
 use rc_literal::prefilter::Prefilter;
+use rc_states::kind::TableKind;
 use rc_text::cursor::Cursor;
 use rc_text::input::Input;
 use rc_text::types::{Anchored, HalfMatch, Match, MatchError, Span};

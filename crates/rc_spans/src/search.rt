@@ -15,9 +15,9 @@ ghost use Rattle.rc_spans.specs.Faults.{IsFault};
 ghost use Rattle.rc_spans.specs.Halves.{IsForwardHalf};
 ghost use Rattle.rc_spans.specs.Reverse.{IsMatchToEnd, IsReverseHalf};
 
-use rc_states::kind::TableKind;
 use rc_automaton::ended::{Ended, Met};
 use rc_automaton::halves::Halves;
+use rc_states::kind::TableKind;
 use rc_text::cursor::Cursor;
 use rc_text::input::{Input, high, is_boundary_at, low};
 use rc_text::types::{Anchored, HalfMatch, Match, MatchError, PatternID, Span};
