@@ -1,14 +1,13 @@
 -- The prefixes of patterns: the loops that gather them, and what they are good for.
 use Rattle.std.proofs.Common.{◌≡◌, ℕ, zero, suc, ◌+◌, ◌-◌, ◌<◌, ◌≤◌, List, [], ◌∷◌, ◌++◌, length, map, min, take, drop, Bool, true, false, get_or, Vec, Global, option_map, take-append-drop, ◌&&◌, ◌||◌, nat_le, nat_lt, IsTrue, Option, Some, None, All, sym, ap, subst, ◌∙◌, refl, arith, inl, inr, ⊎_elim, slice_get}
-use Rattle.std.specs.Prelude.{encode_utf8, if◌then◌else◌}
+use Rattle.std.specs.Prelude.{encode_utf8, if◌then◌else◌, unwrap_or, IfSome, IfNone}
 use Rattle.std.specs.List.{filter, flat_map, range_with_len}
-use Rattle.std.specs.Option.{option_and_then}
 use Rattle.std.specs.Char.{IsScalar}
 use lib.Utf8.{scalar}
 use Rattle.std.proofs.lemmas.Bool.{cases_Bool, cases_lt, and_parts, false≢true}
 use Rattle.std.proofs.lemmas.Bool.Decides.{nat_tests}
 use Rattle.std.proofs.lemmas.Option.{none-some, same_Some, slice_get-map, slice_get-get_or}
-use Rattle.std.proofs.lemmas.List.{length-append, length-map, get_or-map, take_all, take_min, drop_all, at_drop_more}
+use Rattle.std.proofs.lemmas.List.{length-append, length-drop, take_all, take_min, drop_all, at_drop_more}
 use Rattle.std.proofs.Math.Nat.{min_comm}
 use Rattle.std.proofs.lemmas.List.Elements.{All-more, All-weaker}
 use Rattle.rc_pattern.specs.Re.{Re, Range, empty, literal, byte_in, char_in, look, repeat, capture, cat, alt, none}
@@ -22,9 +21,9 @@ use Rattle.rc_program.specs.Program.{in_ranges}
 use Rattle.rc_program.specs.Spells.{Stands, Turns, Spells, SpelledBy}
 use Rattle.rc_literal.specs.Literals.{Covers}
 use Rattle.rc_literal.specs.Needles.{StandsAt}
-use Rattle.rc_literal.specs.Extraction.{greatest_count, greatest_length, range_bytes, range_chars, is_still, both, first_bytes, filled, grown, Extends}
+use Rattle.rc_literal.specs.Extraction.{greatest_count, greatest_length, range_bytes, range_chars, is_still, both, whole_bytes, crossed, may_cross, lengthened, begun_by, first_bytes, filled, grown, Extends}
 use Rattle.rc_literal.specs.Prefixes.{ArePrefixes}
-use Rattle.rc_literal.specs.Tables.{IsUsable}
+use Rattle.rc_literal.specs.Tables.{IsUsable, needles_in}
 use Rattle.rc_literal.proofs.RelationLemmas.{range_of}
 use Rattle.rc_literal.proofs.CoverLemmas.{stands_first}
 
@@ -171,6 +170,131 @@ still_spells (cat a rest) is t i j s = absurd (false≢true is)
 still_spells (alt a rest) is t i j s = absurd (false≢true is)
 still_spells none is t i j s = absurd (false≢true is)
 
+-- A list that is filled.
+
+append-nil-more : (xs : List (List ℕ)) (w : List ℕ) (ws : List (List ℕ)) → (xs ++ w ∷ []) ++ ws ≡ xs ++ w ∷ ws
+append-nil-more [] w ws = refl
+append-nil-more (x ∷ xs) w ws = ap (λ zs. x ∷ zs) (append-nil-more xs w ws)
+
+no_more : (xs : List (List ℕ)) → xs ≡ xs ++ []
+no_more [] = refl
+no_more (x ∷ xs) = ap (λ zs. x ∷ zs) (no_more xs)
+
+-- where there was room, they were added, and there are no more than are kept
+pub filled_some : (list ws new : List (List ℕ)) → length list ≤ greatest_count → filled list ws ≡ Some new →
+    (new ≡ list ++ ws) × (length new ≤ greatest_count)
+filled_some list [] new le e =
+    let same : list ≡ new = same_Some list new e in (sym same ∙ no_more list, subst (λ z. length z ≤ greatest_count) same le)
+filled_some list (w ∷ ws) new le e =
+    ⊎_elim
+    (λ t.
+    let room : length list < greatest_count = let r = t in grind (arith, nat_tests) in
+    let long = length-append list (w ∷ []) in
+    let h = filled_some (list ++ w ∷ []) ws new (omega (arith, room, long)) (rw t at e) in
+    (h.0 ∙ append-nil-more list w ws, h.1))
+    (λ f. absurd (none-some new (rw f at e)))
+    (cases_Bool (nat_lt (length list) greatest_count))
+
+-- What is spelled whole, and what lengthens it.
+
+-- the content from i to j is a needle
+abbrev pub IsWhole : List (List ℕ) → List ℕ → ℕ → ℕ → Type 0
+IsWhole needles content i j =
+    (k : ℕ) × (needle : List ℕ) × (slice_get needles k ≡ Some needle) × StandsAt content needle i × (i + length needle ≡ j)
+
+-- each text that the pattern spells is a needle
+abbrev pub AreWhole : List (List ℕ) → Re → Type 0
+AreWhole needles h = (t : Text) (i j : ℕ) → Spells t h i j → IsWhole needles t.content i j
+
+whole_bytes_in : (rs : List Range) → AreWhole (flat_map range_bytes rs) (byte_in rs)
+whole_bytes_in rs t i j s = let a = byte_among rs s.0 s.2 in let e = s.3 in (a.0, s.0 ∷ [], a.1, (s.1, omega arith), omega (arith, e))
+
+whole_chars_in : (rs : List Range) → AreWhole (flat_map range_chars rs) (char_in rs)
+whole_chars_in rs t i j s =
+    let a = char_among rs s.0 s.1 s.2 in
+    let r = (range_of t.content (encode_utf8 s.0) i j s.3).0 in
+    (a.0, encode_utf8 s.0, a.1, subst (Stands t.content (encode_utf8 s.0) i) r s.3, omega (arith, r))
+
+whole_literal : (bs : List ℕ) → AreWhole (bs ∷ []) (literal bs)
+whole_literal bs t i j s =
+    let r = (range_of t.content bs i j s).0 in
+    (0, bs, refl, subst (Stands t.content bs i) r s, omega (arith, r))
+
+kept_whole : (xs vs : List (List ℕ)) (h : Re) → filled [] xs ≡ Some vs → AreWhole xs h → AreWhole vs h
+kept_whole xs vs h e whole = subst (λ z. AreWhole z h) (sym (filled_some [] xs vs (omega arith) e).0) whole
+
+are_whole : (a : Re) (vs : List (List ℕ)) → whole_bytes a ≡ Some vs → AreWhole vs a
+are_whole empty vs e = absurd (none-some vs e)
+are_whole (literal bs) vs e =
+    ⊎_elim (λ y. subst (λ z. AreWhole z (literal bs)) (same_Some (bs ∷ []) vs (rw y at e)) (whole_literal bs))
+    (λ f. absurd (none-some vs (rw f at e))) (cases_Bool (nat_le (length bs) greatest_length))
+are_whole (byte_in rs) vs e = kept_whole (flat_map range_bytes rs) vs (byte_in rs) e (whole_bytes_in rs)
+are_whole (char_in rs) vs e = kept_whole (flat_map range_chars rs) vs (char_in rs) e (whole_chars_in rs)
+are_whole (look l) vs e = absurd (none-some vs e)
+are_whole (repeat min max greedy a) vs e = absurd (none-some vs e)
+are_whole (capture n name a) vs e = absurd (none-some vs e)
+are_whole (cat a rest) vs e = absurd (none-some vs e)
+are_whole (alt a rest) vs e = absurd (none-some vs e)
+are_whole none vs e = absurd (none-some vs e)
+
+among_map : (f : List ℕ → List ℕ) (vs : List (List ℕ)) (v : List ℕ) → IsAmong vs v → IsAmong (map f vs) (f v)
+among_map f vs v a = (a.0, slice_get-map f vs a.0 ∙ ap (option_map f) a.1)
+
+among_crossed : (ws vs : List (List ℕ)) (w v : List ℕ) → IsAmong ws w → IsAmong vs v → IsAmong (crossed ws vs) (w ++ v)
+among_crossed ws vs w v a b = at_number ws a.0 a.1
+  where
+    at_number : (xs : List (List ℕ)) (k : ℕ) → slice_get xs k ≡ Some w → IsAmong (crossed xs vs) (w ++ v)
+    at_number [] k e = absurd (none-some w e)
+    at_number (x ∷ xs) zero e =
+        among_left (map (λ u. x ++ u) vs) (crossed xs vs) (w ++ v)
+        (subst (λ z. IsAmong (map (λ u. z ++ u) vs) (w ++ v)) (sym (same_Some x w e)) (among_map (λ u. w ++ u) vs v b))
+    at_number (x ∷ xs) (suc k) e = among_right (map (λ u. x ++ u) vs) (crossed xs vs) (w ++ v) (at_number xs k e)
+
+stands_joined : (content w v : List ℕ) (i m j : ℕ) → Stands content w i m → Stands content v m j → Stands content (w ++ v) i j
+stands_joined content [] v i m j a b = subst (λ z. Stands content v z j) (sym a) b
+stands_joined content (x ∷ xs) v i m j a b = (a.0, stands_joined content xs v (i + 1) m j a.1 b)
+
+whole_crossed : (ws vs : List (List ℕ)) (content : List ℕ) (i m j : ℕ) → IsWhole ws content i m → IsWhole vs content m j → IsWhole (crossed ws vs) content i j
+whole_crossed ws vs content i m j a b =
+    let c = among_crossed ws vs a.1 b.1 (a.0, a.2) (b.0, b.2) in
+    let long = length-append a.1 b.1 in
+    let one = a.4 in
+    let two = b.4 in
+    let end : m + length b.1 ≡ i + length (a.1 ++ b.1) = omega (arith, long, one) in (
+      c.0,
+      a.1 ++ b.1,
+      c.1,
+      subst (Stands content (a.1 ++ b.1) i) end (stands_joined content a.1 b.1 i m (m + length b.1) (subst (Stands content a.1 i) one a.3) b.3),
+      omega (arith, long, one, two),
+    )
+
+begun_whole : (ws : List (List ℕ)) (content : List ℕ) (i m j : ℕ) → m ≤ j → IsWhole ws content i m → IsBegun ws content i j
+begun_whole ws content i m j le a = let e = a.4 in (a.0, a.1, a.2, a.3, omega (arith, le, e))
+
+may_whole : (ws : List (List ℕ)) (a : Re) (o : Option (List (List ℕ))) → whole_bytes a ≡ o → may_cross ws o ≡ true → AreWhole (unwrap_or o []) a
+may_whole ws a None is may = absurd (false≢true may)
+may_whole ws a (Some vs) is may = are_whole a vs is
+
+-- what is lengthened by what is read behind still begins each text
+lengthened_begin : (rest : Re) (ws : List (List ℕ)) (t : Text) (i m j : ℕ) → IsWhole ws t.content i m → Spells t rest m j →
+    IsBegun (lengthened ws rest) t.content i j
+lengthened_begin empty ws t i m j a s = begun_whole ws t.content i m j (spells_on t empty m j s) a
+lengthened_begin (literal bs) ws t i m j a s = begun_whole ws t.content i m j (spells_on t (literal bs) m j s) a
+lengthened_begin (byte_in rs) ws t i m j a s = begun_whole ws t.content i m j (spells_on t (byte_in rs) m j s) a
+lengthened_begin (char_in rs) ws t i m j a s = begun_whole ws t.content i m j (spells_on t (char_in rs) m j s) a
+lengthened_begin (look l) ws t i m j a s = begun_whole ws t.content i m j (spells_on t (look l) m j s) a
+lengthened_begin (repeat min max greedy h) ws t i m j a s = begun_whole ws t.content i m j (spells_on t (repeat min max greedy h) m j s) a
+lengthened_begin (capture n name h) ws t i m j a s = begun_whole ws t.content i m j (spells_on t (capture n name h) m j s) a
+lengthened_begin (cat h rest) ws t i m j a s =
+    ⊎_elim
+    (λ y.
+    rw y (lengthened_begin rest (crossed ws (unwrap_or (whole_bytes h) [])) t i s.0 j
+    (whole_crossed ws (unwrap_or (whole_bytes h) []) t.content i m s.0 a (may_whole ws h (whole_bytes h) refl y t m s.0 s.1)) s.2))
+    (λ f. rw f (begun_whole ws t.content i m j (spells_on t (cat h rest) m j s) a))
+    (cases_Bool (may_cross ws (whole_bytes h)))
+lengthened_begin (alt h rest) ws t i m j a s = begun_whole ws t.content i m j (spells_on t (alt h rest) m j s) a
+lengthened_begin none ws t i m j a s = absurd s
+
 holds_either : (ws : List (List ℕ)) (a rest : Re) → Holds ws a → Holds ws rest → Holds ws (alt a rest)
 holds_either ws a rest one other t i j (inl s) = one t i j s
 holds_either ws a rest one other t i j (inr s) = other t i j s
@@ -192,8 +316,15 @@ first_hold (cat a rest) ws e =
     (λ y t i j s.
     let same : i ≡ s.0 = still_spells a y t i s.0 s.1 in
     subst (λ z. IsBegun ws t.content z j) (sym same) (first_hold rest ws (rw y at e) t s.0 j s.2))
-    (λ f t i j s. begun_later ws t.content i s.0 j (spells_on t rest s.0 j s.2) (first_hold a ws (rw f at e) t i s.0 s.1))
+    (λ f. by_whole (whole_bytes a) refl (λ begun. first_hold a ws begun) (rw f at e))
     (cases_Bool (is_still a))
+  where
+    by_whole : (o : Option (List (List ℕ))) → whole_bytes a ≡ o → (first_bytes a ≡ Some ws → Holds ws a) →
+        begun_by o (first_bytes a) rest ≡ Some ws → Holds ws (cat a rest)
+    by_whole None is first begun t i j s = begun_later ws t.content i s.0 j (spells_on t rest s.0 j s.2) (first begun t i s.0 s.1)
+    by_whole (Some vs) is first begun t i j s =
+        subst (λ z. IsBegun z t.content i j) (same_Some (lengthened vs rest) ws begun)
+        (lengthened_begin rest vs t i s.0 j (are_whole a vs is t i s.0 s.1) s.2)
 first_hold (alt a rest) ws e =
     by_both (first_bytes a) (first_bytes rest) (λ vs. first_hold a vs) (λ vs. first_hold rest vs) e
   where
@@ -242,29 +373,6 @@ grown_both : (list : List (List ℕ)) (o p : Option (List (List ℕ))) → grown
 grown_both list None p = refl
 grown_both list (Some ws) None = then_none (filled list ws)
 grown_both list (Some ws) (Some vs) = filled_append list ws vs
-
-append-nil-more : (xs : List (List ℕ)) (w : List ℕ) (ws : List (List ℕ)) → (xs ++ w ∷ []) ++ ws ≡ xs ++ w ∷ ws
-append-nil-more [] w ws = refl
-append-nil-more (x ∷ xs) w ws = ap (λ zs. x ∷ zs) (append-nil-more xs w ws)
-
-no_more : (xs : List (List ℕ)) → xs ≡ xs ++ []
-no_more [] = refl
-no_more (x ∷ xs) = ap (λ zs. x ∷ zs) (no_more xs)
-
--- where there was room, they were added, and there are no more than are kept
-pub filled_some : (list ws new : List (List ℕ)) → length list ≤ greatest_count → filled list ws ≡ Some new →
-    (new ≡ list ++ ws) × (length new ≤ greatest_count)
-filled_some list [] new le e =
-    let same : list ≡ new = same_Some list new e in (sym same ∙ no_more list, subst (λ z. length z ≤ greatest_count) same le)
-filled_some list (w ∷ ws) new le e =
-    ⊎_elim
-    (λ t.
-    let room : length list < greatest_count = let r = t in grind (arith, nat_tests) in
-    let long = length-append list (w ∷ []) in
-    let h = filled_some (list ++ w ∷ []) ws new (omega (arith, room, long)) (rw t at e) in
-    (h.0 ∙ append-nil-more list w ws, h.1))
-    (λ f. absurd (none-some new (rw f at e)))
-    (cases_Bool (nat_lt (length list) greatest_count))
 
 -- where there was none, they are too many
 pub filled_none : (list ws : List (List ℕ)) → filled list ws ≡ None → greatest_count < length list + length ws
@@ -315,6 +423,10 @@ module _ {X : Type 0} (f : X → Option (List (List ℕ))) where
 pub each_alt : (hs : List Hir) → each (λ h. first_bytes (meaning h)) hs ≡ first_bytes (alt_all (map meaning hs))
 each_alt [] = refl
 each_alt (h ∷ hs) = ap (both (first_bytes (meaning h))) (each_alt hs)
+
+pub each_needle : (vs : List (Vec ℕ Global)) → each (λ v. Some (v.items ∷ [])) vs ≡ Some (needles_in vs)
+each_needle [] = refl
+each_needle (v ∷ vs) = ap (both (Some (v.items ∷ []))) (each_needle vs)
 
 pub each_some : {X : Type 0} (r : X → Range) (g : Range → List (List ℕ)) (xs : List X) →
     each (λ x. Some (g (r x))) xs ≡ Some (flat_map g (map r xs))
@@ -381,62 +493,61 @@ scalar_passed number end inside never =
 -- The first member of a concatenation that may read.
 
 module _ (f : Hir → Re) where
-  one_on : (xs : List Hir) (i : ℕ) (x : Hir) → i < length xs → x ≡ get_or xs i x →
-      first_bytes (cat_all (drop i (map f xs))) ≡ first_bytes (cat (f x) (cat_all (drop (i + 1) (map f xs))))
-  one_on xs i x inside is =
-      let long = length-map xs f in
-      at_drop_more (λ ys. first_bytes (cat_all ys)) (map f xs) i (f x) (omega (arith, inside, long))
-      ∙ ap (λ y. first_bytes (cat y (cat_all (drop (i + 1) (map f xs))))) (get_or-map f xs i x (f x) inside ∙ ap f (sym is))
+  -- the prefixes of a concatenation
+  abbrev pub of_members : List Hir → Option (List (List ℕ))
+  of_members xs = first_bytes (cat_all (map f xs))
 
-  pub still_passed : (xs : List Hir) (i : ℕ) (x : Hir) → i < length xs → x ≡ get_or xs i x →
-      first_bytes (cat_all (map f xs)) ≡ first_bytes (cat_all (drop i (map f xs))) → is_still (f x) ≡ true →
-      first_bytes (cat_all (map f xs)) ≡ first_bytes (cat_all (drop (i + 1) (map f xs)))
-  still_passed xs i x inside is inv here =
-      inv ∙ one_on xs i x inside is ∙ rw here refl
+  one_on : (xs : List Hir) (i : ℕ) (x d : Hir) → i < length xs → x ≡ get_or xs i d →
+      of_members (drop i xs) ≡ first_bytes (cat (f x) (cat_all (map f (drop (i + 1) xs))))
+  one_on xs i x d inside is =
+      at_drop_more of_members xs i d inside ∙ ap (λ y. first_bytes (cat (f y) (cat_all (map f (drop (i + 1) xs))))) (sym is)
 
-  pub still_ends : (xs : List Hir) (i : ℕ) (x : Hir) → i < length xs → x ≡ get_or xs i x →
-      first_bytes (cat_all (map f xs)) ≡ first_bytes (cat_all (drop i (map f xs))) → is_still (f x) ≡ false →
-      first_bytes (cat_all (map f xs)) ≡ option_and_then first_bytes (slice_get (map f xs) i)
-  still_ends xs i x inside is inv here =
-      inv ∙ one_on xs i x inside is ∙ rw here refl
-      ∙ sym (ap (option_and_then first_bytes) (slice_get-map f xs i ∙ ap (option_map f) (slice_get-get_or xs i x inside ∙ ap Some (sym is))))
+  pub still_passed : (xs : List Hir) (i : ℕ) (x d : Hir) → i < length xs → x ≡ get_or xs i d → of_members xs ≡ of_members (drop i xs) →
+      is_still (f x) ≡ true → of_members xs ≡ of_members (drop (i + 1) xs)
+  still_passed xs i x d inside is inv here = inv ∙ one_on xs i x d inside is ∙ rw here refl
 
-nothing_past : (xs : List Re) (k : ℕ) → length xs ≤ k → slice_get xs k ≡ None
-nothing_past [] k l = refl
-nothing_past (x ∷ xs) zero l = absurd (omega (arith, l))
-nothing_past (x ∷ xs) (suc k) l = nothing_past xs k (omega (arith, l))
+  pub still_ends : (xs : List Hir) (i : ℕ) (x d : Hir) → i < length xs → x ≡ get_or xs i d → of_members xs ≡ of_members (drop i xs) →
+      is_still (f x) ≡ false →
+      IfSome (slice_get xs i) (λ y. of_members xs ≡ begun_by (whole_bytes (f y)) (first_bytes (f y)) (cat_all (map f (drop (i + 1) xs))))
+  still_ends xs i x d inside is inv here =
+      subst (λ o. IfSome o (λ y. of_members xs ≡ begun_by (whole_bytes (f y)) (first_bytes (f y)) (cat_all (map f (drop (i + 1) xs)))))
+      (sym (slice_get-get_or xs i d inside ∙ ap Some (sym is))) (inv ∙ one_on xs i x d inside is ∙ rw here refl)
 
-pub still_all : (xs : List Hir) (i : ℕ) → length xs ≤ i → first_bytes (cat_all (map meaning xs)) ≡ first_bytes (cat_all (drop i (map meaning xs))) →
-    first_bytes (cat_all (map meaning xs)) ≡ option_and_then first_bytes (slice_get (map meaning xs) (length xs))
-still_all xs i le inv =
-    let long = length-map xs meaning in
-    inv ∙ ap (λ ys. first_bytes (cat_all ys)) (drop_all i (map meaning xs) (omega (arith, le, long)))
-    ∙ sym (ap (option_and_then first_bytes) (nothing_past (map meaning xs) (length xs) (omega (arith, long))))
+  pub still_all : (xs : List Hir) (i : ℕ) → length xs ≤ i → of_members xs ≡ of_members (drop i xs) → of_members xs ≡ None
+  still_all xs i le inv = inv ∙ ap of_members (drop_all i xs le)
 
--- The prefixes of a concatenation are those of the member at its place.
+-- what stands from a place on
+pub rest_taken : (xs : List Hir) (n : ℕ) → take (length xs - n) (drop n xs) ≡ drop n xs
+rest_taken xs n = take_all (length xs - n) (drop n xs) (omega (arith, length-drop n xs))
+
+-- The prefixes of a concatenation are those of the member at its place, and what is behind it.
 
 module _ (h : Hir) (k : HirKind) (subs : Vec Hir Global) (value : kind_meaning k ≡ meaning h) (is : k ≡ HirKind.Concat subs) where
-  whole : (xs : List Hir) → xs ≡ subs.items → first_bytes (meaning h) ≡ first_bytes (cat_all (map meaning xs))
+  whole : (xs : List Hir) → xs ≡ subs.items → first_bytes (meaning h) ≡ of_members meaning xs
   whole xs same =
-      ap first_bytes (sym value ∙ ap kind_meaning is ∙ kind_Concat subs) ∙ ap (λ (ys : List Hir). first_bytes (cat_all (map meaning ys))) (sym same)
+      ap first_bytes (sym value ∙ ap kind_meaning is ∙ kind_Concat subs) ∙ ap (of_members meaning) (sym same)
 
-  pub concat_first : (xs ys : List Hir) (n : ℕ) (sub d : Hir) → xs ≡ subs.items → ys ≡ subs.items →
-      first_bytes (cat_all (map meaning xs)) ≡ option_and_then first_bytes (slice_get (map meaning xs) n) → n < length ys → sub ≡ get_or ys n d →
-      first_bytes (meaning sub) ≡ first_bytes (meaning h)
-  concat_first xs ys n sub d first second still inside at =
-      let got : slice_get (map meaning xs) n ≡ Some (meaning sub) =
-      ap (λ zs. slice_get (map meaning zs) n) (first ∙ sym second) ∙ slice_get-map meaning ys n
-      ∙ ap (option_map meaning) (slice_get-get_or ys n d inside ∙ ap Some (sym at)) in
-      sym (whole xs first ∙ still ∙ ap (option_and_then first_bytes) got)
+  pub concat_first : (xs ys zs : List Hir) (n : ℕ) (sub d : Hir) → xs ≡ subs.items → ys ≡ subs.items → zs ≡ drop (n + 1) xs →
+      IfSome (slice_get xs n) (λ y. of_members meaning xs
+      ≡ begun_by (whole_bytes (meaning y)) (first_bytes (meaning y)) (cat_all (map meaning (drop (n + 1) xs)))) →
+      n < length ys → sub ≡ get_or ys n d →
+      begun_by (whole_bytes (meaning sub)) (first_bytes (meaning sub)) (cat_all (map meaning zs)) ≡ first_bytes (meaning h)
+  concat_first xs ys zs n sub d first second rest still inside at =
+      let got : slice_get xs n ≡ Some sub = ap (λ us. slice_get us n) (first ∙ sym second) ∙ slice_get-get_or ys n d inside ∙ ap Some (sym at) in
+      let here = subst (λ o. IfSome o (λ y. of_members meaning xs
+      ≡ begun_by (whole_bytes (meaning y)) (first_bytes (meaning y)) (cat_all (map meaning (drop (n + 1) xs))))) got still in
+      ap (λ us. begun_by (whole_bytes (meaning sub)) (first_bytes (meaning sub)) (cat_all (map meaning us))) rest ∙ sym (whole xs first ∙ here)
 
-  pub concat_none : (xs ys : List Hir) (n : ℕ) → xs ≡ subs.items → ys ≡ subs.items →
-      first_bytes (cat_all (map meaning xs)) ≡ option_and_then first_bytes (slice_get (map meaning xs) n) → length ys ≤ n →
-      first_bytes (meaning h) ≡ None
+  pub concat_none : (xs ys : List Hir) (n : ℕ) → xs ≡ subs.items → ys ≡ subs.items → IfNone (slice_get xs n) (of_members meaning xs ≡ None) →
+      length ys ≤ n → first_bytes (meaning h) ≡ None
   concat_none xs ys n first second still past =
-      let long = ap length first in
-      let longer = ap length second in
-      let more = length-map xs meaning in
-      whole xs first ∙ still ∙ ap (option_and_then first_bytes) (nothing_past (map meaning xs) n (omega (arith, past, long, longer, more)))
+      let long : length xs ≤ n = omega (arith, past, ap length first, ap length second) in
+      whole xs first ∙ subst (λ o. IfNone o (of_members meaning xs ≡ None)) (nothing_past xs n long) still
+    where
+      nothing_past : (us : List Hir) (m : ℕ) → length us ≤ m → slice_get us m ≡ None
+      nothing_past [] m l = refl
+      nothing_past (u ∷ us) zero l = absurd (omega (arith, l))
+      nothing_past (u ∷ us) (suc m) l = nothing_past us m (omega (arith, l))
 
 -- The prefixes of patterns.
 

@@ -17,3 +17,4 @@ pub mod KindLemmas
 pub mod CoverLemmas
 pub mod ExtractionLemmas
 pub mod BeginLemmas
+pub mod ExtractionExamples

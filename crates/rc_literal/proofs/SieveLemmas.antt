@@ -1,5 +1,5 @@
 -- Places that a sieve passes over.
-use Rattle.std.proofs.Common.{◌≡◌, ℕ, ◌+◌, ◌*◌, ◌/◌, ◌%◌, ◌^◌, ◌<◌, ◌≤◌, ◌-◌, List, map, take, drop, length, eqb, not, true, false, get_or, replicate, cond, slice_index, bit_and, subst, inl, inr, ap, sym, refl, ◌∙◌, arith, w8}
+use Rattle.std.proofs.Common.{◌≡◌, ℕ, ◌+◌, ◌*◌, ◌/◌, ◌%◌, ◌^◌, ◌<◌, ◌≤◌, ◌-◌, List, map, take, drop, length, eqb, not, true, false, get_or, replicate, cond, slice_index, bit_and, inl, inr, ap, sym, refl, ◌∙◌, arith, w8}
 use Rattle.std.specs.Int.{bit_at, trailing_zeros}
 use Rattle.std.specs.Simd.Lanes.{chunk, mask_l, top, zip2}
 use Rattle.std.proofs.lemmas.Bool.{cases_lt}

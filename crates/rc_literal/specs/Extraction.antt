@@ -1,5 +1,5 @@
 -- The prefixes that are taken from a pattern.
-use Rattle.std.specs.Prelude.{◌≡◌, ℕ, zero, suc, ◌+◌, ◌-◌, Bool, true, false, List, [], ◌∷◌, ◌++◌, length, map, take, Option, Some, None, nat_lt, encode_utf8, if◌then◌else◌}
+use Rattle.std.specs.Prelude.{◌≡◌, ℕ, zero, suc, ◌+◌, ◌-◌, ◌*◌, Bool, true, false, ◌&&◌, ◌||◌, List, [], ◌∷◌, ◌++◌, length, map, take, Option, Some, None, unwrap_or, nat_lt, nat_le, encode_utf8, if◌then◌else◌}
 use Rattle.std.specs.List.{filter, flat_map, range_with_len}
 use lib.Utf8.{scalar}
 use Rattle.rc_pattern.specs.Re.{Re, Range, empty, literal, byte_in, char_in, look, repeat, capture, cat, alt, none}
@@ -7,6 +7,14 @@ use Rattle.rc_pattern.specs.Re.{Re, Range, empty, literal, byte_in, char_in, loo
 -- how many prefixes are kept at most
 abbrev pub greatest_count : ℕ
 greatest_count = 64
+
+-- needles that are shorter are lengthened by what is read behind them
+abbrev pub short_length : ℕ
+short_length = 3
+
+-- how many needles lengthening makes at most
+abbrev pub greatest_variants : ℕ
+greatest_variants = 32
 
 -- how many bytes of a literal are kept at most
 abbrev pub greatest_length : ℕ
@@ -36,6 +44,43 @@ both None ws = None
 both (Some vs) None = None
 both (Some vs) (Some ws) = Some (vs ++ ws)
 
+-- the list with these at its end, one after another, where there is room for each
+abbrev pub filled : List (List ℕ) → List (List ℕ) → Option (List (List ℕ))
+filled list [] = Some list
+filled list (w ∷ ws) = if nat_lt (length list) greatest_count then filled (list ++ w ∷ []) ws else None
+
+-- what each text is that a literal or a class spells, where all of it can be kept
+abbrev pub whole_bytes : Re → Option (List (List ℕ))
+whole_bytes (literal bs) = if nat_le (length bs) greatest_length then Some (bs ∷ []) else None
+whole_bytes (byte_in rs) = filled [] (flat_map range_bytes rs)
+whole_bytes (char_in rs) = filled [] (flat_map range_chars rs)
+whole_bytes _ = None
+
+-- each of the one list with each of the other behind it
+abbrev pub crossed : List (List ℕ) → List (List ℕ) → List (List ℕ)
+crossed ws vs = flat_map (λ w. map (λ v. w ++ v) vs) ws
+
+-- one of the needles is short
+abbrev pub has_short : List (List ℕ) → Bool
+has_short [] = false
+has_short (w ∷ ws) = nat_lt (length w) short_length || has_short ws
+
+-- one of them is short, and there are few enough once each has each of the others behind it
+abbrev pub may_cross : List (List ℕ) → Option (List (List ℕ)) → Bool
+may_cross ws None = false
+may_cross ws (Some vs) = has_short ws && nat_le (length ws * length vs) greatest_variants
+
+-- the needles with what is read behind them, by one literal or class after another, while one of them is short and there are few enough
+abbrev pub lengthened : List (List ℕ) → Re → List (List ℕ)
+lengthened ws (cat a rest) =
+    if may_cross ws (whole_bytes a) then lengthened (crossed ws (unwrap_or (whole_bytes a) [])) rest else ws
+lengthened ws _ = ws
+
+-- the needles of what is read first with what is read behind them, or the prefixes of what is read first, where it is none that is kept whole
+abbrev pub begun_by : Option (List (List ℕ)) → Option (List (List ℕ)) → Re → Option (List (List ℕ))
+begun_by None first rest = first
+begun_by (Some ws) first rest = Some (lengthened ws rest)
+
 -- what each text begins with that the pattern spells: the literals and classes that may be read first. None where a body that may be
 -- left out, or nothing but assertions, may be read first.
 abbrev pub first_bytes : Re → Option (List (List ℕ))
@@ -47,14 +92,9 @@ first_bytes (look l) = None
 first_bytes (repeat zero max greedy a) = None
 first_bytes (repeat (suc min) max greedy a) = first_bytes a
 first_bytes (capture n name a) = first_bytes a
-first_bytes (cat a rest) = if is_still a then first_bytes rest else first_bytes a
+first_bytes (cat a rest) = if is_still a then first_bytes rest else begun_by (whole_bytes a) (first_bytes a) rest
 first_bytes (alt a rest) = both (first_bytes a) (first_bytes rest)
 first_bytes none = Some []
-
--- the list with these at its end, one after another, where there is room for each
-abbrev pub filled : List (List ℕ) → List (List ℕ) → Option (List (List ℕ))
-filled list [] = Some list
-filled list (w ∷ ws) = if nat_lt (length list) greatest_count then filled (list ++ w ∷ []) ws else None
 
 abbrev pub grown : List (List ℕ) → Option (List (List ℕ)) → Option (List (List ℕ))
 grown list None = None

@@ -1,5 +1,5 @@
 -- Needles, and where they stand in a content.
-use Rattle.std.specs.Prelude.{◌≡◌, ◌↔◌, ℕ, zero, suc, ◌+◌, ◌-◌, ◌<◌, ◌≤◌, Bool, ◌&&◌, List, [], ◌∷◌, length, max, Option, Some, None, nat_le, bytes_eq, slice_get, slice_range, if◌then◌else◌}
+use Rattle.std.specs.Prelude.{◌≡◌, ◌↔◌, ℕ, ◌+◌, ◌-◌, ◌<◌, ◌≤◌, Bool, ◌&&◌, List, [], ◌∷◌, length, max, Option, Some, None, nat_le, bytes_eq, slice_get, slice_range, if◌then◌else◌}
 use Rattle.rc_program.specs.Answer.{first_given}
 use Rattle.rc_program.specs.Spells.{Stands}
 use Rattle.rc_literal.specs.declared.hit.Hit.{Hit}

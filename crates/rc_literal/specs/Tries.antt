@@ -1,6 +1,6 @@
 -- Only proofs use this file.
 -- Needles as paths of nodes.
-use Rattle.std.specs.Prelude.{◌≡◌, ◌≢◌, ℕ, ◌+◌, ◌<◌, ◌≤◌, ◌==◌, List, [], ◌∷◌, Option, Some, None, ⊤, length, slice_get, take, if◌then◌else◌}
+use Rattle.std.specs.Prelude.{◌≢◌, ℕ, ◌+◌, ◌<◌, ◌≤◌, ◌==◌, List, [], ◌∷◌, Option, Some, None, ⊤, length, slice_get, take, if◌then◌else◌}
 use denote.Struct.Props.{props}
 use Rattle.rc_literal.specs.Tables.{numbered}
 use Rattle.rc_literal.specs.declared.trie.Node.{Node}

@@ -1,11 +1,10 @@
 //! Prefixes with which each text that patterns spell begins.
-ghost use Rattle.std.specs.Prelude.{◌≡◌, ℕ, ◌∷◌, [], List, Some, IfOk, IfSome, MatchOption, map, slice_get};
+ghost use Rattle.std.specs.Prelude.{◌≡◌, ◌+◌, ℕ, ◌∷◌, ◌++◌, [], List, Some, None, true, false, IfOk, IfSome, IfNone, MatchOption, drop, map, option_map, slice_get, unwrap_or};
 ghost use Rattle.std.specs.Bool.{Decides};
-ghost use Rattle.std.specs.Option.{option_and_then};
 ghost use Rattle.rc_pattern.specs.Meaning.{alt_all, byte_range, cat_all, char_range, class_meaning, meaning};
 ghost use Rattle.rc_pattern.specs.Re.{byte_in, char_in, literal};
 ghost use Rattle.rc_program.specs.Text.{Text};
-ghost use Rattle.rc_literal.specs.Extraction.{Extends, first_bytes, is_still, range_bytes, range_chars};
+ghost use Rattle.rc_literal.specs.Extraction.{Extends, begun_by, crossed, first_bytes, has_short, is_still, lengthened, may_cross, range_bytes, range_chars, whole_bytes};
 ghost use Rattle.rc_literal.specs.Literals.{Covers};
 ghost use Rattle.rc_literal.specs.Prefilters.{needles_of};
 ghost use Rattle.rc_literal.specs.Prefixes.{ArePrefixes, BeginsWithOne, EachBegins};
@@ -21,10 +20,17 @@ const GREATEST_COUNT: usize = 64;
 /// How many bytes of a literal are kept at most.
 const GREATEST_LENGTH: usize = 32;
 
+/// Needles that are shorter are lengthened by what is read behind them.
+const SHORT_LENGTH: usize = 3;
+
+/// How many needles lengthening makes at most.
+const GREATEST_VARIANTS: usize = 32;
+
 /// Prefixes with one of which each text begins that one of the patterns spells, none of them empty.
 ///
 /// They are what may be read first: a literal, of which at most 32 bytes are taken, or each byte or
-/// character of a class. None where in some pattern a body that may be left out, or nothing but
+/// character of a class. Where one of these has fewer than 3 bytes, they are lengthened by the literals and
+/// classes behind it, one after another, as long as that makes no more than 32 of them. None where in some pattern a body that may be left out, or nothing but
 /// assertions, is read first, where there are more than 64, and where there is none. An `Err` is want
 /// of memory. It takes time linear in the patterns' size, and calls itself as deep as a pattern is.
 pub fn prefixes(alloc: Global, hirs: &[Hir]) -> Result<Option<Vec<Vec<u8>>>, AllocError>
@@ -56,10 +62,13 @@ fn add(alloc: Global, hir: &Hir, list: &mut Vec<Vec<u8>>) -> Result<bool, AllocE
             add(alloc, &repetition.sub, list)
         }
         HirKind::Capture(capture) => add(alloc, &capture.sub, list),
-        HirKind::Concat(subs) => match subs.get(still_count(subs)) {
-            Some(sub) => add(alloc, sub, list),
-            None => Ok(false),
-        },
+        HirKind::Concat(subs) => {
+            let count = still_count(subs);
+            match subs.get(count) {
+                Some(first) => add_begun(alloc, first, &subs[count + 1..], list),
+                None => Ok(false),
+            }
+        }
         HirKind::Alternation(subs) => add_alternation(alloc, subs, list),
     }
 }
@@ -77,9 +86,171 @@ fn add_alternation(alloc: Global, subs: &[Hir], list: &mut Vec<Vec<u8>>) -> Resu
     Ok(true)
 }
 
+/// Adds the prefixes of what may be read first: where that is a literal or a class, and short, with what is read behind it. False where it
+/// has none of use.
+#[cycle(add)]
+fn add_begun(
+    alloc: Global,
+    first: &Hir,
+    rest: &[Hir],
+    list: &mut Vec<Vec<u8>>,
+) -> Result<bool, AllocError>
+    ensures { IfOk result (λ done. Extends done (needles_in list.old.items) (needles_in list.new.items)
+        (begun_by (whole_bytes (meaning first.now)) (first_bytes (meaning first.now)) (cat_all (map meaning rest.now)))) }
+{
+    match whole_bytes(alloc, first)? {
+        Some(needles) => {
+            let longer = lengthened(alloc, needles, rest)?;
+            add_needles(alloc, &longer, list)
+        }
+        None => add(alloc, first, list),
+    }
+}
+
+/// What a literal or a class spells, each text of it. None for other patterns, and where that is too much to be kept.
+fn whole_bytes(alloc: Global, hir: &Hir) -> Result<Option<Vec<Vec<u8>>>, AllocError>
+    ensures { IfOk result (λ found. option_map (λ v. needles_in v.items) found ≡ whole_bytes (meaning hir.now)) }
+{
+    match hir.kind() {
+        HirKind::Literal(bytes) => whole_literal(alloc, bytes),
+        HirKind::Class(class) => whole_class(alloc, class),
+        HirKind::Empty
+        | HirKind::Look(_)
+        | HirKind::Repetition(_)
+        | HirKind::Capture(_)
+        | HirKind::Concat(_)
+        | HirKind::Alternation(_) => Ok(None),
+    }
+}
+
+/// The bytes of a literal; None where they are too many.
+fn whole_literal(alloc: Global, bytes: &[u8]) -> Result<Option<Vec<Vec<u8>>>, AllocError>
+    ensures { IfOk result (λ found. option_map (λ v. needles_in v.items) found ≡ whole_bytes (literal bytes.now)) }
+{
+    if bytes.len() > GREATEST_LENGTH {
+        return Ok(None);
+    }
+    let mut list = Vec::with_capacity(alloc, 1)?;
+    list.push(bytes.to_vec(alloc)?)?;
+    Ok(Some(list))
+}
+
+/// Each member of a class; None where they are too many.
+fn whole_class(alloc: Global, class: &Class) -> Result<Option<Vec<Vec<u8>>>, AllocError>
+    ensures { IfOk result (λ found. option_map (λ v. needles_in v.items) found ≡ whole_bytes (class_meaning class.now)) }
+{
+    let mut list = Vec::new(alloc);
+    if add_class(alloc, class, &mut list)? {
+        return Ok(Some(list));
+    }
+    Ok(None)
+}
+
+/// The needles with what is read behind them.
+fn lengthened(
+    alloc: Global,
+    needles: Vec<Vec<u8>>,
+    rest: &[Hir],
+) -> Result<Vec<Vec<u8>>, AllocError>
+    ensures { IfOk result (λ longer. needles_in longer.items ≡ lengthened (needles_in needles.items) (cat_all (map meaning rest.now))) }
+{
+    let mut longer = needles;
+    for sub in rest {
+        match crossed_with(alloc, &longer, sub)? {
+            Some(next) => longer = next,
+            None => return Ok(longer),
+        }
+    }
+    Ok(longer)
+}
+
+/// Each needle with each text behind it that a literal or a class spells. None where no needle is short, or they would be too many.
+fn crossed_with(
+    alloc: Global,
+    needles: &[Vec<u8>],
+    hir: &Hir,
+) -> Result<Option<Vec<Vec<u8>>>, AllocError>
+    ensures { IfOk result (λ found. MatchOption found (may_cross (needles_in needles.now) (whole_bytes (meaning hir.now)) ≡ false)
+        (λ v. (may_cross (needles_in needles.now) (whole_bytes (meaning hir.now)) ≡ true)
+        × (needles_in v.items ≡ crossed (needles_in needles.now) (unwrap_or (whole_bytes (meaning hir.now)) [])))) }
+{
+    if !has_short(needles) {
+        return Ok(None);
+    }
+    let Some(behind) = whole_bytes(alloc, hir)? else {
+        return Ok(None);
+    };
+    if needles.len().saturating_mul(behind.len()) > GREATEST_VARIANTS {
+        return Ok(None);
+    }
+    Ok(Some(crossed(alloc, needles, &behind)?))
+}
+
+/// Whether one of the needles is short.
+fn has_short(needles: &[Vec<u8>]) -> bool
+    ensures { result ≡ has_short (needles_in needles.now) }
+{
+    for needle in needles {
+        if needle.len() < SHORT_LENGTH {
+            return true;
+        }
+    }
+    false
+}
+
+/// Each needle with each of the others behind it.
+fn crossed(
+    alloc: Global,
+    needles: &[Vec<u8>],
+    behind: &[Vec<u8>],
+) -> Result<Vec<Vec<u8>>, AllocError>
+    ensures { IfOk result (λ list. needles_in list.items ≡ crossed (needles_in needles.now) (needles_in behind.now)) }
+{
+    let mut list = Vec::new(alloc);
+    for needle in needles {
+        add_joined(alloc, needle, behind, &mut list)?;
+    }
+    Ok(list)
+}
+
+/// Adds the needle with each of the others behind it.
+fn add_joined(
+    alloc: Global,
+    needle: &[u8],
+    behind: &[Vec<u8>],
+    list: &mut Vec<Vec<u8>>,
+) -> Result<(), AllocError>
+    ensures { IfOk result (λ _. needles_in list.new.items ≡ needles_in list.old.items ++ map (λ v. needle.now ++ v) (needles_in behind.now)) }
+{
+    for rest in behind {
+        let mut joined = needle.to_vec(alloc)?;
+        joined.extend_from_slice(rest)?;
+        list.push(joined)?;
+    }
+    Ok(())
+}
+
+/// Adds each of the needles; false where there is no room for one.
+fn add_needles(
+    alloc: Global,
+    needles: &[Vec<u8>],
+    list: &mut Vec<Vec<u8>>,
+) -> Result<bool, AllocError>
+    ensures { IfOk result (λ done. Extends done (needles_in list.old.items) (needles_in list.new.items) (Some (needles_in needles.now))) }
+{
+    for needle in needles {
+        if !add_needle(alloc, needle, list)? {
+            return Ok(false);
+        }
+    }
+    Ok(true)
+}
+
 /// How many members stand before the first that may read.
 fn still_count(subs: &[Hir]) -> usize
-    ensures { first_bytes (cat_all (map meaning subs.now)) ≡ option_and_then first_bytes (slice_get (map meaning subs.now) result) }
+    ensures first { IfSome (slice_get subs.now result) (λ first. first_bytes (cat_all (map meaning subs.now))
+        ≡ begun_by (whole_bytes (meaning first)) (first_bytes (meaning first)) (cat_all (map meaning (drop (result + 1) subs.now)))) }
+    ensures none { IfNone (slice_get subs.now result) (first_bytes (cat_all (map meaning subs.now)) ≡ None) }
 {
     for (i, sub) in subs.iter().enumerate() {
         if !is_still(sub) {

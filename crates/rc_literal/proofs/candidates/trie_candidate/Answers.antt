@@ -1,4 +1,4 @@
-use Rattle.std.proofs.Common.{◌≡◌, arith, inl, inr, refl, length, subst}
+use Rattle.std.proofs.Common.{◌≡◌, arith, inl, inr, refl, subst}
 use Rattle.std.proofs.lemmas.Bool.{cases_lt}
 use Rattle.rc_literal.specs.Tables.{IsRuledOut, needles_in, numbered}
 use Rattle.rc_literal.specs.Tries.{AreCarriedBy}

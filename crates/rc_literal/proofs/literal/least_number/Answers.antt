@@ -1,4 +1,4 @@
-use Rattle.std.proofs.Common.{◌≡◌, ◌≤◌, ◌<◌, ◌+◌, ◌-◌, ◌∙◌, Some, arith, ap, sym, subst, refl, drop, slice_get}
+use Rattle.std.proofs.Common.{◌≡◌, ◌+◌, ◌-◌, ◌∙◌, Some, arith, ap, sym, subst, drop, slice_get}
 use Rattle.rc_literal.specs.Tries.{number_at, step}
 use Rattle.rc_literal.proofs.FindLemmas.{keeps_on}
 use Rattle.rc_literal.proofs.TrieLemmas.{IsWalked, agrees_behind, died, ended_behind, read_behind, walked_more}

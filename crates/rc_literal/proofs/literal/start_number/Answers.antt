@@ -1,4 +1,4 @@
-use Rattle.std.proofs.Common.{◌≡◌, ◌≤◌, ◌<◌, ℕ, arith, subst, Some, get_or, length}
+use Rattle.std.proofs.Common.{◌≡◌, ◌<◌, arith, subst, get_or}
 use Rattle.std.proofs.lemmas.List.{get_or_read}
 use Rattle.rc_literal.specs.Tables.{IsNextWith, needles_in}
 use Rattle.rc_literal.specs.Tries.{AreCarriedBy}

@@ -1,25 +1,29 @@
-use Rattle.std.proofs.Common.{◌∙◌, ap, subst, sym, arith, IfOk}
+use Rattle.std.proofs.Common.{◌∙◌, ◌+◌, ap, drop, subst, sym, arith, IfOk}
 use Rattle.rc_literal.specs.Extraction.{Extends, first_bytes, grown}
 use Rattle.rc_literal.specs.Tables.{needles_in}
 use Rattle.std.proofs.lemmas.Bool.Decides.{nat_tests}
 use Rattle.rc_pattern.specs.Meaning.{meaning}
-use Rattle.rc_literal.proofs.ExtractionLemmas.{concat_first, concat_none, each_alt, turn_failed, turn_taken, turns_done}
+use Rattle.rc_literal.proofs.ExtractionLemmas.{concat_first, concat_none, rest_taken, each_alt, turn_failed, turn_taken, turns_done}
 use Rattle.rc_literal.proofs.prefixes.+add.Goals as goal
 
 pub add-returns-in-Some : goal.add-returns-in-Some
 add-returns-in-Some t c =
-    subst (λ found. IfOk c.add-in-Some.result (λ done. Extends done (needles_in c.args.list.now.items) (needles_in c.add-in-Some.new.list.items) found))
-    (concat_first c.args.hir.now c.kind.result.now c.in-Concat.subs c.kind.ensures.value c.in-Concat.is c.deref-in-Concat-2.result.now
-    c.deref-in-Concat.result.now c.still_count.result c.in-Some.sub.now _ c.deref-in-Concat-2.ensures.value c.deref-in-Concat.ensures.value
-    c.still_count.ensures (let e = c.in-Some.ensures.lookup.0 in grind (arith, nat_tests)) c.in-Some.ensures.lookup.1)
-    c.add-in-Some.ensures
+    let n = c.still_count-count.result in
+    subst (λ found. IfOk c.add_begun.result (λ done. Extends done (needles_in c.args.list.now.items) (needles_in c.add_begun.new.list.items) found))
+    (concat_first c.args.hir.now c.kind.result.now c.in-Concat.subs c.kind.ensures.value c.in-Concat.is c.deref-in-Concat.result.now
+    c.deref-in-Concat-2.result.now _ n c.in-Some.first.now c.in-Some.first.now
+    c.deref-in-Concat.ensures.value c.deref-in-Concat-2.ensures.value
+    (rest_taken c.deref-in-Some.result.now (n + 1) ∙ ap (drop (n + 1)) (c.deref-in-Some.ensures.value ∙ sym c.deref-in-Concat.ensures.value))
+    c.still_count-count.ensures.first
+    (let e = c.in-Some.ensures.lookup.0 in grind (arith, nat_tests)) c.in-Some.ensures.lookup.1)
+    c.add_begun.ensures
 
 pub add-returns-in-None : goal.add-returns-in-None
 add-returns-in-None t c =
     ap (grown (needles_in c.args.list.now.items))
-    (concat_none c.args.hir.now c.kind.result.now c.in-Concat.subs c.kind.ensures.value c.in-Concat.is c.deref-in-Concat-2.result.now
-    c.deref-in-Concat.result.now c.still_count.result c.deref-in-Concat-2.ensures.value c.deref-in-Concat.ensures.value c.still_count.ensures
-    (let e = c.in-None.ensures.lookup.0 in grind (arith, nat_tests)))
+    (concat_none c.args.hir.now c.kind.result.now c.in-Concat.subs c.kind.ensures.value c.in-Concat.is c.deref-in-Concat.result.now
+    c.deref-in-Concat-2.result.now c.still_count-count.result c.deref-in-Concat.ensures.value c.deref-in-Concat-2.ensures.value
+    c.still_count-count.ensures.none (let e = c.in-None.ensures.lookup.0 in grind (arith, nat_tests)))
 
 pub add_alternation-returns-then-not-branch : goal.add_alternation-returns-then-not-branch
 add_alternation-returns-then-not-branch t c =

@@ -1,7 +1,7 @@
-use Rattle.std.proofs.Common.{◌≡◌, drop, map}
-use Rattle.rc_pattern.specs.Meaning.{cat_all, meaning}
-use Rattle.rc_literal.specs.Extraction.{first_bytes}
+use Rattle.std.proofs.Common.{◌≡◌, drop}
+use Rattle.rc_pattern.specs.Meaning.{meaning}
+use Rattle.rc_literal.proofs.ExtractionLemmas.{of_members}
 use Rattle.rc_literal.proofs.prefixes.still_count.Given as goal
 
 abbrev pub invariant-loop-i : goal.invariant-loop-i
-invariant-loop-i l = first_bytes (cat_all (map meaning l.subs)) ≡ first_bytes (cat_all (drop l.i (map meaning l.subs)))
+invariant-loop-i l = of_members meaning l.subs ≡ of_members meaning (drop l.i l.subs)

@@ -1,8 +1,8 @@
-use Rattle.std.proofs.Common.{◌≡◌, ◌∙◌, arith, inl, inr, ap, refl, subst}
+use Rattle.std.proofs.Common.{◌≡◌, ◌∙◌, arith, inl, inr, refl, subst}
 use Rattle.std.proofs.lemmas.Bool.{cases_lt}
 use Rattle.rc_literal.specs.Tables.{needles_in, numbered}
 use Rattle.rc_literal.specs.Tries.{IsCarried}
-use Rattle.rc_literal.proofs.StandLemmas.{numbered_in, needle_count}
+use Rattle.rc_literal.proofs.StandLemmas.{numbered_in}
 use Rattle.rc_literal.proofs.trie.trie_of.Goals as goal
 
 pub loop-number-preserved : goal.loop-number-preserved

@@ -1,4 +1,4 @@
-use Rattle.std.proofs.Common.{◌≡◌, ◌+◌, ◌∙◌, arith, inl, inr, ap, sym, subst, refl, take}
+use Rattle.std.proofs.Common.{◌≡◌, ◌+◌, ◌∙◌, arith, inl, inr, ap, sym, refl, take}
 use Rattle.std.proofs.lemmas.Bool.{cases_lt}
 use Rattle.rc_literal.specs.Tries.{walk}
 use Rattle.rc_literal.proofs.TrieLemmas.{walk_more}

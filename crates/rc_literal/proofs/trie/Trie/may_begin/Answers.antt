@@ -1,5 +1,5 @@
-use Rattle.std.proofs.Common.{◌≡◌, ◌≤◌, ◌∙◌, arith, ap, sym, refl}
-use Rattle.rc_literal.specs.Tries.{number_at, step}
+use Rattle.std.proofs.Common.{◌≤◌, ◌∙◌, arith, ap, sym, refl}
+use Rattle.rc_literal.specs.Tries.{number_at}
 use Rattle.rc_literal.proofs.TrieLemmas.{died, walked_more}
 use Rattle.rc_literal.proofs.trie.Trie.may_begin.Goals as goal
 
