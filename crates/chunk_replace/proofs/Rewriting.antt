@@ -1,16 +1,15 @@
 -- The replaced text, match by match.
-use Rattle.std.proofs.Common.{◌≡◌, ◌∙◌, ℕ, List, [], ◌∷◌, ◌++◌, Bool, true, false, map, drop, Option, Some, None, Result, Ok, ap, subst, sym, refl, append_assoc, slice_range}
+use Rattle.std.proofs.Common.{◌≡◌, ◌≢◌, ◌∙◌, ℕ, List, [], ◌∷◌, ◌++◌, Bool, true, false, map, drop, Option, Some, None, Result, Ok, ap, subst, sym, refl, append_assoc, slice_range}
 use Rattle.std.specs.Io.KnownBytes.{Appends}
 use Rattle.std.specs.List.{flat_map}
 use Rattle.rc_text.specs.Found.{Found}
 use Rattle.rc_text.specs.declared.types.MatchKind.{MatchKind}
-use Rattle.rc_text.specs.declared.types.MatchKind.TheVariants.{LeftmostFirst as leftmost_first}
+use Rattle.rc_text.specs.declared.types.MatchKind.TheVariants.{All as all_matches}
 use Rattle.rc_captures.specs.Captures.{HasMatch}
 use Rattle.rc_captures.specs.declared.captures.Captures.{Captures}
 use Rattle.rc_program.specs.Answer.{Chosen, Search, found, last_of, pattern_of, slot_of}
 use Rattle.rc_program.specs.Kinds.{matches_by_kind}
 use Rattle.rc_program.specs.Matches.{from_on}
-use Rattle.rc_program.proofs.KindLemmas.{kinds_law}
 use Rattle.rc_engine.specs.Walks.{walks_left}
 use Rattle.rc_engine.proofs.Walked.{walks_law}
 use Rattle.std.specs.declared.alloc.AllocError.{AllocError}
@@ -76,10 +75,10 @@ module _ (content : List ℕ) (by : Chosen → List ℕ) where
       (sym (w.split ∙ ap (λ l. w.done ++ replaced_from content by from l) e)) (puts_then r a b d w.done (drop from content) w.appended p)
 
 -- The matches that are left are those of the walks that are left.
-found_left : (done : Bool) (kind : MatchKind) (s : Search) (k : ℕ) (last : Option ℕ) → kind ≡ leftmost_first →
-    map (found s) (unless_done done (walks_left s k last)) ≡ unless_done done (matches_by_kind kind s k last)
+found_left : (done : Bool) (kind : MatchKind) (s : Search) (k : ℕ) (last : Option ℕ) → kind ≢ all_matches →
+    map (found s) (unless_done done (walks_left kind s k last)) ≡ unless_done done (matches_by_kind kind s k last)
 found_left true kind s k last e = refl
-found_left false kind s k last e = walks_law s k last ∙ sym (kinds_law.leftmost s k last) ∙ ap (λ y. matches_by_kind y s k last) (sym e)
+found_left false kind s k last e = walks_law kind s k last e
 
 first_found : (s : Search) (ws rest : List Chosen) (w : Chosen) (ms others : List Found) (m : Found) → map (found s) ws ≡ ms → ws ≡ w ∷ rest → ms ≡ m ∷ others → m ≡ found s w
 first_found s ws rest w ms others m e f g = let h : found s w ∷ map (found s) rest ≡ m ∷ others = ap (map (found s)) (sym f) ∙ e ∙ g in cc
@@ -92,7 +91,7 @@ pub record Steps {C : Type 0} (s t : CapturesMatches C) (all : Search) (caps : C
   pub end : m.end ≡ (last_of walk.walk).1
   pub told : (content : List ℕ) (items : List Item) → flat_map (told content caps) items ≡ replacement content (regex_names (captures_regex s)) all items walk
 
-pub steps : {C : Type 0} (s t : CapturesMatches C) (all : Search) (k : ℕ) (caps : Captures) (m : Found) → regex_kind (captures_regex s) ≡ leftmost_first →
+pub steps : {C : Type 0} (s t : CapturesMatches C) (all : Search) (k : ℕ) (caps : Captures) (m : Found) → regex_kind (captures_regex s) ≢ all_matches →
     searched s ≡ from_on all k → (h : HoldsNext s.seeker.seeker s.input caps t.seeker.seeker t.input) → m ≡ h.found → Steps s t all caps m
 steps s t all k caps m kind same h is =
     let w : TellsWalk s.seeker.seeker s.input caps t.seeker.seeker t.input = h.tells kind in
@@ -120,7 +119,7 @@ pub record Going {C : Type 0} (content : List ℕ) (items : List Item) (s t : Ca
   pub regex : captures_regex t ≡ captures_regex s
   pub start : ℕ
   pub search : searched t ≡ from_on (searched s) start
-  pub put : regex_kind (captures_regex s) ≡ leftmost_first →
+  pub put : regex_kind (captures_regex s) ≢ all_matches →
       Rewrites content (replacement content (regex_names (captures_regex s)) (searched s) items) (captures_walks s) (captures_walks t) from a b
 
 pub going_init : {C : Type 0} (content : List ℕ) (items : List Item) (s t : CapturesMatches C) (a : Option (List ℕ)) → t ≡ s → Going content items s t 0 a a
@@ -147,10 +146,10 @@ module _ {C : Type 0} (content other : List ℕ) (parts : List Part) (s t u : Ca
     (going : Going content (flat_map items_of parts) s t from a b) (next : HoldsNext t.seeker.seeker t.input caps u.seeker.seeker u.input) (is : m ≡ next.found)
     (same : other ≡ content) (to : at ≡ m.start) where
   -- the next match's walk, and what it is replaced by
-  one : regex_kind (captures_regex s) ≡ leftmost_first → Steps t u (searched s) caps m
-  one kind = steps t u (searched s) going.start caps m (ap regex_kind going.regex ∙ kind) going.search next is
+  one : regex_kind (captures_regex s) ≢ all_matches → Steps t u (searched s) caps m
+  one kind = steps t u (searched s) going.start caps m (λ all. kind (sym (ap regex_kind going.regex) ∙ all)) going.search next is
 
-  bytes : (kind : regex_kind (captures_regex s) ≡ leftmost_first) → slice_range other from at ++ told_parts other caps parts
+  bytes : (kind : regex_kind (captures_regex s) ≢ all_matches) → slice_range other from at ++ told_parts other caps parts
       ≡ slice_range content from (one kind).walk.start ++ replacement content (regex_names (captures_regex s)) (searched s) (flat_map items_of parts) (one kind).walk
   bytes kind =
       let w = one kind in
@@ -173,7 +172,7 @@ module _ {C : Type 0} (content other : List ℕ) (parts : List Part) (s t u : Ca
         (subst (Appends b d) (bytes kind) p));
   }
 
-  pub going_begun : AppendsBeginning b d (slice_range other from at ++ told_parts other caps parts) → regex_kind (captures_regex s) ≡ leftmost_first →
+  pub going_begun : AppendsBeginning b d (slice_range other from at ++ told_parts other caps parts) → regex_kind (captures_regex s) ≢ all_matches →
       AppendsBeginning a d
       (replaced_from content (replacement content (regex_names (captures_regex s)) (searched s) (flat_map items_of parts)) 0 (captures_walks s))
   going_begun p kind =
@@ -183,7 +182,7 @@ module _ {C : Type 0} (content other : List ℕ) (parts : List Part) (s t u : Ca
       (subst (AppendsBeginning b d) (bytes kind) p)
 
 module _ {C : Type 0} (content : List ℕ) (items : List Item) (s t : CapturesMatches C) (from : ℕ) (a b : Option (List ℕ)) (going : Going content items s t from a b)
-    (kind : regex_kind (captures_regex s) ≡ leftmost_first) where
+    (kind : regex_kind (captures_regex s) ≢ all_matches) where
   pub going_stopped : AppendsBeginning a b (replaced_from content (replacement content (regex_names (captures_regex s)) (searched s) items) 0 (captures_walks s))
   going_stopped =
       rewrites_stopped content (replacement content (regex_names (captures_regex s)) (searched s) items) (captures_walks s) (captures_walks t) from a b (going.put kind)
@@ -194,4 +193,4 @@ module _ {C : Type 0} (content : List ℕ) (items : List Item) (s t : CapturesMa
       Puts r a d (replaced_from content (replacement content (regex_names (captures_regex s)) (searched s) items) 0 (captures_walks s))
   going_rest r u d other same none p =
       rewrites_rest content (replacement content (regex_names (captures_regex s)) (searched s) items) r (captures_walks s) (captures_walks t) from a b d
-      (none.1 (ap regex_kind going.regex ∙ kind)) (going.put kind) (puts_as r b d (drop from other) (drop from content) (ap (drop from) same) p)
+      (none.1 (λ all. kind (sym (ap regex_kind going.regex) ∙ all))) (going.put kind) (puts_as r b d (drop from other) (drop from content) (ap (drop from) same) p)

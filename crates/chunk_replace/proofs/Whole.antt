@@ -4,6 +4,8 @@ use Rattle.std.specs.Io.KnownBytes.{Appends}
 use Rattle.std.proofs.lemmas.Bool.{lt-ltb, ltb-true}
 use Rattle.rc_text.specs.Text.{Searched}
 use Rattle.rc_text.specs.Found.{Found}
+use Rattle.rc_text.specs.declared.types.MatchKind.{MatchKind}
+use Rattle.rc_text.specs.declared.types.MatchKind.TheVariants.{LeftmostFirst as leftmost_first}
 use Rattle.rc_pattern.specs.Re.{Re}
 use Rattle.rc_parser.specs.Settings.{default_settings}
 use Rattle.rc_program.specs.Kinds.{matches_by_kind}
@@ -36,12 +38,14 @@ searched_whole : {C : Type 0} (r : Regex) (s : CapturesMatches C) (i : Searched)
 searched_whole r s i content w f e =
     ap (λ x. search_for (sought x) (captures_input s)) f ∙ ap (search_for (sought r)) e ∙ w.same (sought r)
 
-walks_whole : (q : Sought) (i : Searched) (content : List ℕ) → IsWhole content i → walks_left (search_for q i) i.span.start None ≡ walks_left (search_for q (whole content)) 0 None
-walks_whole q i content w = ap (λ x. walks_left x i.span.start None) (w.same q) ∙ ap (λ k. walks_left (search_for q (whole content)) k None) w.start
+walks_whole : (kind : MatchKind) (q : Sought) (i : Searched) (content : List ℕ) → IsWhole content i →
+    walks_left kind (search_for q i) i.span.start None ≡ walks_left kind (search_for q (whole content)) 0 None
+walks_whole kind q i content w =
+    ap (λ x. walks_left kind x i.span.start None) (w.same q) ∙ ap (λ k. walks_left kind (search_for q (whole content)) k None) w.start
 
 pub whole_replaced : {C T E : Type 0} (o : Result T E) (a b : Option (List ℕ)) (r : Regex) (content : List ℕ) (s : CapturesMatches C) (i : Searched) (t : Template)
     (text : List ℕ) → IsWhole content i → text ≡ content → captures_regex s ≡ r → captures_input s ≡ i →
-    captures_walks s ≡ walks_left (search_for (sought r) i) i.span.start None →
+    captures_walks s ≡ walks_left (regex_kind r) (search_for (sought r) i) i.span.start None →
     Puts o a b (replaced_from text (replacement text (regex_names (captures_regex s)) (searched s) (template_items t)) 0 (captures_walks s)) →
     Puts o a b (replaced_by r (template_items t) content)
 whole_replaced o a b r content s i t text w same f e walks p =
@@ -51,7 +55,7 @@ whole_replaced o a b r content s i t text w same f e walks p =
     ∙ ap (λ x. replaced_from content (replacement content (regex_names x) (searched s) (template_items t)) 0 (captures_walks s)) f
     ∙ ap (λ x. replaced_from content (replacement content (regex_names r) x (template_items t)) 0 (captures_walks s)) (searched_whole r s i content w f e)
     ∙ ap (replaced_from content (replacement content (regex_names r) (search_for (sought r) (whole content)) (template_items t)) 0)
-    (walks ∙ walks_whole (sought r) i content w))
+    (walks ∙ walks_whole (regex_kind r) (sought r) i content w))
     p
 
 pub counted : {C E : Type 0} (o : Result ℕ E) (r : Regex) (s : CapturesMatches C) (i : Searched) (content : List ℕ) → IsWhole content i →
@@ -88,8 +92,9 @@ substituted text content items r a b n e reads p count =
       pattern = pattern;
       read = read;
       put =
-          subst (λ q. Appends a b (replaced (names_shown true (pattern ∷ [])) q items content)) (sought_default r pattern e is)
-          (subst (λ ns. Appends a b (replaced ns (sought r) items content)) (names_default r pattern e is) p);
+          subst (λ q. Appends a b (replaced leftmost_first (names_shown true (pattern ∷ [])) q items content)) (sought_default r pattern e is)
+          (subst (λ ns. Appends a b (replaced leftmost_first ns (sought r) items content)) (names_default r pattern e is)
+          (subst (λ k. Appends a b (replaced k (regex_names r) (sought r) items content)) (ap match_kind_of e) p));
       told = some_told n (length (matches_in pattern content)) many;
     }
   where

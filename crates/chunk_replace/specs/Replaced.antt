@@ -2,6 +2,7 @@
 use Rattle.std.specs.Prelude.{ℕ, List, [], ◌∷◌, ◌++◌, drop, None, Option, option_and_then, slice_range}
 use Rattle.std.specs.List.{flat_map}
 use Rattle.rc_text.specs.Found.{Found}
+use Rattle.rc_text.specs.declared.types.MatchKind.{MatchKind}
 use Rattle.rc_text.specs.declared.types.Span.{Span}
 use Rattle.rc_captures.specs.Captures.{span_of}
 use Rattle.rc_captures.specs.Names.{Names, slots, to_index}
@@ -39,14 +40,14 @@ abbrev pub replaced_from : List ℕ → (Chosen → List ℕ) → ℕ → List C
 replaced_from content by from [] = drop from content
 replaced_from content by from (c ∷ cs) = slice_range content from c.start ++ (by c ++ replaced_from content by (last_of c.walk).1 cs)
 
--- the content with each leftmost-first match of what is sought replaced; these are the names of the groups
-abbrev pub replaced : Names → Sought → List Item → List ℕ → List ℕ
-replaced names q items content =
-    replaced_from content (replacement content names (search_for q (whole content)) items) 0 (walks_left (search_for q (whole content)) 0 None)
+-- the content with each match of the kind of what is sought replaced, where that isn't the greatest one; these are the names of the groups
+abbrev pub replaced : MatchKind → Names → Sought → List Item → List ℕ → List ℕ
+replaced kind names q items content =
+    replaced_from content (replacement content names (search_for q (whole content)) items) 0 (walks_left kind (search_for q (whole content)) 0 None)
 
--- the content with each leftmost-first match of a regex replaced
+-- the content with each match of a regex replaced
 abbrev pub replaced_by : Regex → List Item → List ℕ → List ℕ
-replaced_by r items content = replaced (regex_names r) (sought r) items content
+replaced_by r items content = replaced (regex_kind r) (regex_names r) (sought r) items content
 
 -- the matches that a regex finds in a content
 abbrev pub matches_of : Regex → List ℕ → List Found

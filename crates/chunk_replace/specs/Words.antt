@@ -2,6 +2,7 @@
 use Rattle.std.specs.Prelude.{◌≡◌, ◌↔◌, ℕ, ◌<◌, Bool, List, [], ◌∷◌, length, map, Option, IfSome, IsTrue, true}
 use Rattle.std.specs.Borrow.{Bor}
 use Rattle.std.specs.Io.KnownBytes.{Appends}
+use Rattle.rc_text.specs.declared.types.MatchKind.TheVariants.{LeftmostFirst}
 use Rattle.rc_pattern.specs.Re.{Re}
 use Rattle.rc_parser.specs.Settings.{default_settings}
 use Rattle.rc_build.specs.Names.{names_shown}
@@ -22,7 +23,7 @@ HasWords words = (text template : List ℕ) × AreWords words text template
 pub record IsSubstituted (text : List ℕ) (items : List Item) (content : List ℕ) (old new : Option (List ℕ)) (any : Bool) : Type 0 where
   pub pattern : Re
   pub read : IsPattern default_settings text pattern
-  pub put : Appends old new (replaced (names_shown true (pattern ∷ [])) (sought_by_default pattern) items content)
+  pub put : Appends old new (replaced LeftmostFirst (names_shown true (pattern ∷ [])) (sought_by_default pattern) items content)
   pub told : IsTrue any ↔ (0 < length (matches_in pattern content))
 
 -- The words are a pattern, a template and a length, and the known bytes of the input were put with the matches replaced.

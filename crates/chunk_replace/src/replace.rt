@@ -2,7 +2,7 @@
 ghost use Rattle.std.specs.Prelude.{◌≡◌, ◌≢◌, ◌↔◌, false, length, true, Err, IfErr, IfOk, MatchResult, OnOk};
 ghost use Rattle.std.specs.Io.KnownBytes.{Keeps};
 ghost use Rattle.rc_text.specs.Joined.{IsTooLong, joined};
-ghost use Rattle.rc_text.specs.declared.types.MatchKind.TheVariants.{LeftmostFirst};
+ghost use Rattle.rc_text.specs.declared.types.MatchKind.TheVariants.{All as greatest_matches};
 ghost use Rattle.rc_meta.specs.Views.{regex_kind};
 ghost use Rattle.regex_cursor.specs.Output.{IsWhole};
 ghost use Rattle.chunk_replace.specs.declared.error.ReplaceError.TheVariants.{TooLong, Write};
@@ -49,7 +49,7 @@ pub fn replace_all<W: Sink>(
     out: &mut W,
 ) -> Result<usize, ReplaceError>
     requires { W.has_failed out.old ≡ false }
-    ensures replaced { regex_kind regex.now ≡ LeftmostFirst
+    ensures replaced { regex_kind regex.now ≢ greatest_matches
         → Puts result (W.taken out.old) (W.taken out.new) (replaced_by regex.now (template_items template.now) (joined chunks.now)) }
     ensures count { IfOk result (λ n. n ≡ length (matches_of regex.now (joined chunks.now))) }
     ensures too_long { (result ≡ Err TooLong) ↔ IsTooLong chunks.now }

@@ -1,6 +1,6 @@
 //! A text with its matches replaced, as it is put into a writer.
 ghost use Rattle.std.specs.Prelude.{◌≡◌, ◌≢◌, ◌++◌, ◌<◌, ◌^◌, drop, false, length, slice_range, true, Err, IfErr, IfOk, OnOk};
-ghost use Rattle.rc_text.specs.declared.types.MatchKind.TheVariants.{LeftmostFirst};
+ghost use Rattle.rc_text.specs.declared.types.MatchKind.TheVariants.{All as greatest_matches};
 ghost use Rattle.rc_meta.specs.Left.{captures_left, captures_regex, captures_walks};
 ghost use Rattle.rc_meta.specs.Views.{regex_kind, regex_names};
 ghost use Rattle.chunk_replace.specs.declared.error.ReplaceError.TheVariants.{Memory, Write};
@@ -55,7 +55,7 @@ pub(crate) fn put_replaced<W: Sink, C: Cursor + Drop, T: Cursor>(
 ) -> Result<usize, ReplaceError>
     requires sound { W.has_failed out.old ≡ false }
     requires short { length (captures_left matches.old) < 2 ^ 64 }
-    ensures put { regex_kind (captures_regex matches.old) ≡ LeftmostFirst → Puts result (W.taken out.old) (W.taken out.new)
+    ensures put { regex_kind (captures_regex matches.old) ≢ greatest_matches → Puts result (W.taken out.old) (W.taken out.new)
         (replaced_from (T.content text.old)
         (replacement (T.content text.old) (regex_names (captures_regex matches.old)) (searched matches.old) (template_items template.now)) 0
         (captures_walks matches.old)) }

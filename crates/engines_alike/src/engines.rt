@@ -197,7 +197,8 @@ fn have_words(alloc: Global, patterns: &[&str], settings: &Settings) -> Result<b
     Ok(false)
 }
 
-/// The engines that search by tables: the DFA, unless the row wants none, a hybrid, and one with the least capacity.
+/// The engines that search by tables: the DFA, unless the row wants none, a hybrid, and one with the least capacity. None finds longest
+/// matches.
 fn tables(
     alloc: Global,
     patterns: &[&str],
@@ -206,6 +207,9 @@ fn tables(
     requires { length patterns.now ≤ 2147483647 }
 {
     let mut tables = Vec::new(alloc);
+    if settings.kind == MatchKind::LeftmostLongest {
+        return Ok(tables);
+    }
     if settings.tables {
         let dfa = settings.dfa_builder().build_many(alloc, patterns)?;
         tables.push(TableEngine::Dfa(dfa))?;
@@ -218,7 +222,7 @@ fn tables(
     Ok(tables)
 }
 
-/// The program of these patterns, where the walker goes through it: it finds no greatest matches.
+/// The program of these patterns, where the walker goes through it: it finds preferred matches alone.
 fn compiled(
     alloc: Global,
     patterns: &[&str],
@@ -226,7 +230,7 @@ fn compiled(
 ) -> Result<Option<Program>, BuildError>
     requires { length patterns.now ≤ 2147483647 }
 {
-    if !settings.walker || settings.kind == MatchKind::All {
+    if !settings.walker || settings.kind != MatchKind::LeftmostFirst {
         return Ok(None);
     }
     let hirs = parse_all(alloc, patterns, &settings.syntax)?;

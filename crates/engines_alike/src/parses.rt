@@ -54,7 +54,7 @@ pub fn agree(alloc: Global, engines: &Engines, row: &Row) -> Result<(), Fault>
     requires { length row.now.patterns.items ≤ 2147483647 }
 {
     let settings = &row.settings;
-    if settings.kind == MatchKind::All || !settings.walker || !engines.regex.is_plain() {
+    if settings.kind != MatchKind::LeftmostFirst || !settings.walker || !engines.regex.is_plain() {
         return Ok(());
     }
     // The patterns were read when the engines were built.

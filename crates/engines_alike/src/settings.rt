@@ -106,6 +106,7 @@ impl<'a> Settings<'a> {
             ("nocase", "yes") => self.syntax = self.syntax.case_insensitive(true),
             ("lines", "yes") => self.syntax = self.syntax.multi_line(true),
             ("kind", "all") => self.kind = MatchKind::All,
+            ("kind", "longest") => self.kind = MatchKind::LeftmostLongest,
             ("utf8_empty", "no") => self.utf8_empty = false,
             ("captures", "implicit") => self.which = WhichCaptures::Implicit,
             ("captures", "none") => self.which = WhichCaptures::None,

@@ -15,10 +15,11 @@ use rc_bytes::place::BytePlace;
 use rc_states::backward::{Reversed, last, prior};
 use rc_states::classes::{classes, single_classes};
 use rc_states::forward::{first, next_by};
+use rc_states::kind::TableKind;
 use rc_states::scratch::Scratch;
 use rc_states::sides::{Needs, needs_of};
 use rc_states::state::State;
-use rc_text::types::{Anchored, MatchKind};
+use rc_text::types::Anchored;
 use std::alloc::{AllocError, Global};
 
 /// In which direction a search reads.
@@ -39,7 +40,7 @@ pub struct Automaton {
     entries: Vec<usize>,
     needs: Needs,
     terminator: u8,
-    kind: MatchKind,
+    kind: TableKind,
     classes: Vec<u8>,
     samples: Vec<u8>,
     ghost closed: { IsClosed (places_of places.items) },
@@ -89,7 +90,7 @@ impl Automaton {
         places: Vec<BytePlace>,
         entries: Vec<usize>,
         terminator: u8,
-        kind: MatchKind,
+        kind: TableKind,
         byte_classes: bool,
     ) -> Result<Automaton, AllocError>
         requires closed { IsClosed (places_of places.items) }

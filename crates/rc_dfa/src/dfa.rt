@@ -6,6 +6,7 @@ ghost use Rattle.rc_program.specs.Laws.{heaviness};
 ghost use Rattle.rc_program.specs.Places.{places_of};
 ghost use Rattle.rc_program.specs.Program.{program, shown};
 ghost use Rattle.rc_program.specs.Sought.{Sought, passes_over as is_passing};
+ghost use Rattle.rc_states.specs.TableKinds.{table_kind_of};
 ghost use Rattle.rc_settings.specs.SearchSettings.{match_kind_of, search_settings_of};
 ghost use Rattle.rc_settings.specs.Thompson.{settings_of};
 ghost use Rattle.rc_build.specs.Fits.{sought_by};
@@ -21,7 +22,7 @@ use rc_settings::pikevm::Config;
 use rc_settings::thompson;
 use rc_spans::build::automaton_of;
 use rc_spans::search::Aim;
-use rc_text::types::MatchKind;
+use rc_states::kind::{TableKind, table_kind};
 use std::alloc::Global;
 
 /// A list of patterns, built to tables of all the states that a search can reach, forwards and backwards.
@@ -36,13 +37,13 @@ pub struct DFA {
     pub(crate) tables: Dense,
     pub(crate) passes_over: bool,
     ghost passing: { passes_over ≡ is_passing (sought_by (settings_of thompson) (map meaning hirs.items)) },
-    ghost made: { ∥ AreTables (sought_by (settings_of thompson) (map meaning hirs.items)) (match_kind_of (search_settings_of config)) tables ∥₁ },
+    ghost made: { ∥ AreTables (sought_by (settings_of thompson) (map meaning hirs.items)) (table_kind_of (match_kind_of (search_settings_of config))) tables ∥₁ },
 }
 
 impl DFA {
     ghost use Rattle.std.specs.Prelude.{◌≡◌, length};
     ghost use Rattle.rc_dfa.specs.Aims.{aim_for};
-    ghost use Rattle.rc_dfa.specs.Views.{dfa_kind, dfa_patterns, sought};
+    ghost use Rattle.rc_dfa.specs.Views.{dfa_patterns, sought, table_kind};
 
     /// How many patterns it was built of.
     pub fn pattern_len(&self) -> usize
@@ -53,10 +54,10 @@ impl DFA {
 
     /// What its searches seek, with the earliest flag on or off.
     pub(crate) fn aim(&self, earliest: bool) -> Aim
-        ensures { result ≡ aim_for (sought self.now) (dfa_kind self.now) earliest }
+        ensures { result ≡ aim_for (sought self.now) (table_kind self.now) earliest }
     {
         Aim {
-            kind: self.config.get_match_kind(),
+            kind: table_kind(self.config.get_match_kind()),
             patterns: self.pattern_len(),
             passes_over: self.passes_over,
             earliest,
@@ -70,7 +71,7 @@ pub(crate) fn tables_of(
     hirs: &[Hir],
     settings: thompson::Config,
     places: &[Place],
-    kind: MatchKind,
+    kind: TableKind,
     byte_classes: bool,
     limit: Option<usize>,
 ) -> Result<Dense, BuildError>

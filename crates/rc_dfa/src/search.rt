@@ -11,7 +11,7 @@ ghost use Rattle.rc_spans.specs.Halves.{IsForwardHalf};
 ghost use Rattle.rc_spans.specs.Reverse.{IsReverseHalf};
 ghost use Rattle.rc_dfa.specs.Faults.{IsFaultOf, IsNextFault};
 ghost use Rattle.rc_dfa.specs.Left.{FindRuns, find_input, find_left, find_regex, matches_in};
-ghost use Rattle.rc_dfa.specs.Views.{dfa_kind, dfa_of, sought};
+ghost use Rattle.rc_dfa.specs.Views.{dfa_kind, dfa_of, sought, table_kind};
 
 use crate::dfa::DFA;
 use crate::iterators::FindMatches;
@@ -24,7 +24,8 @@ use rc_text::types::{HalfMatch, Match, MatchError};
 
 /// The match that a search of the input finds.
 ///
-/// Under `MatchKind::LeftmostFirst` it is the one that is preferred of the least start. Under `MatchKind::All` it is the one with the
+/// Under `MatchKind::LeftmostFirst` it is the one that is preferred of the least start, and under `LeftmostLongest` too, whose matches no
+/// tables find. Under `MatchKind::All` it is the one with the
 /// greatest end, then the least start, then the least pattern, and no match is passed over. With the input's earliest flag on it may be
 /// any match, unless matches are passed over.
 ///
@@ -57,7 +58,7 @@ pub fn try_search_fwd<C: Cursor>(
     input: &mut Input<C>,
 ) -> Result<Option<HalfMatch>, MatchError>
     ensures keeps { Keeps input.old input.new }
-    ensures found { IfOk result (IsForwardHalf (dfa_kind dfa.now) input.old.earliest (search_for (sought dfa.now) input.old)) }
+    ensures found { IfOk result (IsForwardHalf (table_kind dfa.now) input.old.earliest (search_for (sought dfa.now) input.old)) }
     ensures within { IfOk result (λ o. IfSome o (λ h. (low input.old ≤ h.offset) × (h.offset ≤ high input.old))) }
     ensures fault { IfErr result (IsFaultOf (sought dfa.now) input.old) }
 {

@@ -9,11 +9,12 @@ use Rattle.std.proofs.lemmas.Option.{same_Some, none-some, slice_get-get_or}
 use Rattle.std.proofs.lemmas.List.FromFn.{get_or-map-range_with_len, length-map-range_with_len}
 use Rattle.rc_text.specs.Found.{Found}
 use Rattle.rc_text.specs.declared.types.MatchKind.{MatchKind}
-use Rattle.rc_text.specs.declared.types.MatchKind.TheVariants.{All as all_matches, LeftmostFirst as leftmost_first}
+use Rattle.rc_text.specs.declared.types.MatchKind.TheVariants.{All as all_matches, LeftmostFirst as leftmost_first, LeftmostLongest as leftmost_longest}
 use Rattle.rc_captures.specs.Captures.{captures_pattern, captures_slots}
 use Rattle.rc_captures.specs.declared.captures.Captures.{Captures}
 use Rattle.rc_program.specs.Answer.{Search, Chosen, chosen, answer, groups, found, slot_of, slots_of}
 use Rattle.rc_program.specs.Greatest.{greatest}
+use Rattle.rc_program.specs.Longest.{longest, longest_chosen, longest_groups}
 use Rattle.rc_program.specs.Kinds.{answer_by}
 use Rattle.rc_pass.specs.KindSlots.{slots_by, span_slots}
 use Rattle.rc_engine.specs.Tells.{Tells, TellsOf, TellsSpan, TellsBy, span_slot}
@@ -43,6 +44,14 @@ pub tells : (s : Search) (caps : Captures) (p : Option ℕ) (before after : List
     captures_pattern caps ≡ p → captures_slots caps ≡ after → length after ≡ length before → Tells s caps
 unfolding answer groups
 tells s caps p before after q m c w l = tells_of s (chosen s) caps p before after (length before) q m c w (sym l)
+
+-- they hold the longest match of the search
+tells_longest : (s : Search) (caps : Captures) (p : Option ℕ) (before after : List (Option ℕ)) →
+    p ≡ option_map (λ (m : Found). m.pattern) (longest s) →
+    MatchOption p (after ≡ before) (λ _. Some after ≡ longest_groups s (length before)) →
+    captures_pattern caps ≡ p → captures_slots caps ≡ after → length after ≡ length before → TellsOf s (longest_chosen s) caps
+unfolding longest longest_groups
+tells_longest s caps p before after q m c w l = tells_of s (longest_chosen s) caps p before after (length before) q m c w (sym l)
 
 -- what stands in the slots of a match of which the whole alone is told
 span_at : (m : Found) (n k : ℕ) → k < n → slice_index_or (span_slots n m) k None ≡ span_slot m k
@@ -93,4 +102,5 @@ pub tells_by : (kind : MatchKind) (s : Search) (caps : Captures) (p : Option ℕ
     MatchOption p (after ≡ before) (λ _. Some after ≡ slots_by kind s (length before)) →
     captures_pattern caps ≡ p → captures_slots caps ≡ after → length after ≡ length before → TellsBy kind s caps
 tells_by leftmost_first s caps p before after q m c w l = tells s caps p before after q m c w l
+tells_by leftmost_longest s caps p before after q m c w l = tells_longest s caps p before after q m c w l
 tells_by all_matches s caps p before after q m c w l = tells_span (greatest s) caps p before after (length before) q m c w (sym l)

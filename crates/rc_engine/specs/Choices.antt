@@ -5,7 +5,7 @@ use Rattle.rc_literal.specs.Literals.{literals_of}
 use Rattle.rc_literal.specs.Prefilters.{needles_of}
 use Rattle.rc_literal.specs.Prefixes.{ArePrefixes, EachBegins}
 use Rattle.rc_text.specs.declared.types.MatchKind.{MatchKind}
-use Rattle.rc_text.specs.declared.types.MatchKind.TheVariants.{All as all_matches, LeftmostFirst as leftmost_first}
+use Rattle.rc_text.specs.declared.types.MatchKind.TheVariants.{All as all_matches, LeftmostFirst as leftmost_first, LeftmostLongest as leftmost_longest}
 use Rattle.rc_engine.specs.declared.strategy.Strategy.{Strategy}
 use Rattle.rc_engine.specs.declared.strategy.Strategy.TheVariants.{Pass, Guarded, Literal}
 
@@ -30,6 +30,7 @@ answering (Literal p) = Some (needles_of p)
 abbrev pub answering_for : MatchKind → Strategy → Option (List (List ℕ))
 answering_for leftmost_first s = answering s
 answering_for all_matches s = None
+answering_for leftmost_longest s = None
 
 -- none is asked for with which each of the prefixes begins
 abbrev pub NoneServes : List (List ℕ) → Option (List (List ℕ)) → Type 0

@@ -2,11 +2,12 @@
 use Rattle.std.specs.Prelude.{◌≡◌, ℕ, ◌+◌, ◌*◌, List, [], ◌∷◌, length, Option, Some, None, nat_eq, if◌then◌else◌}
 use Rattle.rc_text.specs.Found.{Found}
 use Rattle.rc_text.specs.declared.types.MatchKind.{MatchKind}
-use Rattle.rc_text.specs.declared.types.MatchKind.TheVariants.{All as all_matches, LeftmostFirst as leftmost_first}
+use Rattle.rc_text.specs.declared.types.MatchKind.TheVariants.{All as all_matches, LeftmostFirst as leftmost_first, LeftmostLongest as leftmost_longest}
 use Rattle.rc_captures.specs.Captures.{captures_names, captures_pattern, captures_slots, HasMatch}
 use Rattle.rc_captures.specs.Names.{Names, slot_len}
 use Rattle.rc_captures.specs.declared.captures.Captures.{Captures}
 use Rattle.rc_program.specs.Greatest.{greatest}
+use Rattle.rc_program.specs.Longest.{longest_chosen}
 use Rattle.rc_program.specs.Answer.{Search, Chosen, chosen, pattern_of, slot_of}
 
 -- The captures are of patterns with these names, and keep all their groups.
@@ -32,10 +33,11 @@ abbrev pub TellsSpan : Option Found → Captures → Type 0
 TellsSpan None caps = captures_pattern caps ≡ None
 TellsSpan (Some m) caps = HasMatch caps m.pattern (span_slot m)
 
--- the match of a kind; its groups where it is a first walk
+-- the match of a kind; its groups where it is a walk
 abbrev pub TellsBy : MatchKind → Search → Captures → Type 0
 TellsBy all_matches s caps = TellsSpan (greatest s) caps
 TellsBy leftmost_first s caps = Tells s caps
+TellsBy leftmost_longest s caps = TellsOf s (longest_chosen s) caps
 
 -- each of the captures holds the match of one of the walks, in order
 abbrev pub AllTell : Search → List Chosen → List Captures → Type 0

@@ -7,20 +7,20 @@ use Rattle.rc_text.specs.Text.{Searched, Keeps, KeepsText, low, high}
 use Rattle.rc_text.specs.declared.types.Anchored.{Anchored}
 use Rattle.rc_text.specs.declared.types.Anchored.TheVariants.{No}
 use Rattle.rc_text.specs.declared.types.MatchError.{MatchError}
-use Rattle.rc_text.specs.declared.types.MatchKind.{MatchKind}
-use Rattle.rc_text.specs.declared.types.MatchKind.TheVariants.{LeftmostFirst as leftmost_first}
+use Rattle.rc_text.specs.declared.types.MatchKind.TheVariants.{LeftmostFirst}
 use Rattle.rc_pattern.specs.Re.{Re}
 use Rattle.rc_walks.specs.Walks.{Pair}
 use Rattle.rc_program.specs.Text.{Text}
 use Rattle.rc_program.specs.Program.{place_at, program}
 use Rattle.rc_program.specs.Answer.{Search, HasNoWalkFrom, anywhere, answer, ends, is_anchored, last_of, next_of, only, pattern_at}
 use Rattle.rc_program.specs.Greatest.{HasNoSpan, IsSpelledIn}
-use Rattle.rc_program.specs.Kinds.{IsAnswerBy, answer_by}
 use Rattle.rc_program.specs.Sought.{anchoring_of, text_of}
 use Rattle.rc_program.proofs.AnswerLemmas.{answer_law, match_place_is, walk_ends}
 use Rattle.rc_program.proofs.GreatestLemmas.{no_answer_no_span, no_span_no_answer, spelled_within}
 use Rattle.rc_program.proofs.KindLemmas.{kinds_law, missing_by}
 use Rattle.rc_states.specs.States.{State}
+use Rattle.rc_states.specs.TableKinds.{IsAnswerBy, kind_of}
+use Rattle.rc_states.specs.declared.kind.TableKind.TheVariants.{LeftmostFirst as leftmost_first}
 use Rattle.rc_automaton.specs.Machine.{Machine, IsAsked}
 use Rattle.rc_automaton.specs.Runs.{RunEnd, met_last, stopped_at, idle_at, EndsSo, at_bound, dead, early, quit, rests, SearchEnds, ran, unread}
 use Rattle.rc_automaton.specs.Ended.{HasEnded}
@@ -174,7 +174,7 @@ module _ (AreOf : Machine → Machine → Type 0) (aim : Aim) (hs : List Re) (te
   late_goes = record { kind = goes.kind; late = refl; all = goes.all; free = goes.free }
 
   nothing_may : answer S ≡ None → IsAnswerBy aim.kind aim.earliest S None
-  nothing_may e = subst (λ k. IsAnswerBy k aim.earliest S None) (sym goes.kind) ((missing_by leftmost_first aim.earliest S).1 e)
+  nothing_may e = subst (λ k. IsAnswerBy k aim.earliest S None) (sym goes.kind) ((missing_by LeftmostFirst aim.earliest S).1 e)
 
   -- a search without a position
   pub void_may : high s < low s → IsAnswerBy aim.kind aim.earliest S None
@@ -194,11 +194,11 @@ module _ (AreOf : Machine → Machine → Type 0) (aim : Aim) (hs : List Re) (te
 
       answers_on : (o : Option Found) → IsAnswerBy aim.kind aim.earliest (record S { lo = from }) o → IsAnswerBy aim.kind aim.earliest S o
       answers_on (Some m) h =
-          spelled_may aim.kind aim.earliest S m (ap₂ (λ a b. a && not b) goes.early goes.all)
-          (spelled_before S (ap anchoring_of goes.free) from (omega (arith, above, is_lo)) m (kinds_law.spelled aim.kind aim.earliest (record S { lo = from }) m h))
+          spelled_may (kind_of aim.kind) aim.earliest S m (ap₂ (λ a b. a && not b) goes.early goes.all)
+          (spelled_before S (ap anchoring_of goes.free) from (omega (arith, above, is_lo)) m (kinds_law.spelled (kind_of aim.kind) aim.earliest (record S { lo = from }) m h))
       answers_on None h =
           let none = no_answer_no_span (record S { lo = from }) goes.all
-          ((answer_law.answer_none (record S { lo = from })).0 ((kinds_law.missing aim.kind aim.earliest (record S { lo = from }) goes.all).0 h)) in
+          ((answer_law.answer_none (record S { lo = from })).0 ((kinds_law.missing (kind_of aim.kind) aim.earliest (record S { lo = from }) goes.all).0 h)) in
           none_may (given None (rest_law.nowhere hs of.ahead of.back S from case (omega (arith, below, is_hi))
           (λ z a b. no_walk_on S (ap anchoring_of goes.free) from (omega (arith, above, is_lo)) none z a (omega (arith, b)))))
 

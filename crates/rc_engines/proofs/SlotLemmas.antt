@@ -20,7 +20,7 @@ use Rattle.rc_program.specs.Kinds.{answer_by}
 use Rattle.rc_text.specs.Text.{Searched, KeepsText, high, low}
 use Rattle.rc_text.specs.declared.types.Anchored.TheVariants.{Pattern}
 use Rattle.rc_text.specs.declared.types.MatchKind.{MatchKind}
-use Rattle.rc_text.specs.declared.types.MatchKind.TheVariants.{All as all_matches, LeftmostFirst as leftmost_first}
+use Rattle.rc_text.specs.declared.types.MatchKind.TheVariants.{All as all_matches, LeftmostFirst as leftmost_first, LeftmostLongest as leftmost_longest}
 use Rattle.rc_engine.specs.Engine.{engine_search}
 use Rattle.rc_engine.specs.declared.engine.Engine.{Engine}
 use Rattle.rc_engines.specs.Narrow.{narrowed}
@@ -109,6 +109,7 @@ span_groups s m n patterns numbered le e =
 pub span_told : (kind : MatchKind) (s : Search) (m : Found) (n patterns : ℕ) (slots : List (Option ℕ)) → kind ≡ leftmost_first → NamesGroups patterns s.places →
     n ≤ 2 * patterns → answer_by kind s ≡ Some m → slots ≡ span_slots n m → Some slots ≡ slots_by kind s n
 span_told all_matches s m n patterns slots k numbered le e w = cc
+span_told leftmost_longest s m n patterns slots k numbered le e w = cc
 span_told leftmost_first s m n patterns slots k numbered le e w = ap (λ xs. Some xs) w ∙ span_groups s m n patterns numbered le e
 
 -- the groups that the search over the match's span tells are those of the match
@@ -116,11 +117,19 @@ pub narrow_told : (kind : MatchKind) (s t : Search) (m : Found) (p : Option ℕ)
     answer s ≡ Some m → p ≡ option_map (λ (f : Found). f.pattern) (answer_by kind t) →
     MatchOption p (after ≡ before) (λ _. Some after ≡ slots_by kind t n) → Some after ≡ groups s n
 narrow_told all_matches s t m p before after n k same e q told = cc
+narrow_told leftmost_longest s t m p before after n k same e q told = cc
 narrow_told leftmost_first s t m p before after n k same e q told =
     let there : answer t ≡ Some m = ap answer same ∙ narrow_law.match s m e in
     let some : p ≡ Some m.pattern = q ∙ ap (λ o. option_map (λ (f : Found). f.pattern) o) there in
     let groups_there : Some after ≡ groups t n = subst (λ o. MatchOption o (after ≡ before) (λ _. Some after ≡ groups t n)) some told in
     groups_there ∙ ap (λ x. groups x n) same ∙ narrow_law.groups s m n e
+
+-- slots that are told where there is a match
+pub slots_there : (o : Option Found) (m : Found) (p : Option ℕ) (before after : List (Option ℕ)) (slots : Option (List (Option ℕ))) → o ≡ Some m →
+    p ≡ option_map (λ (f : Found). f.pattern) o → MatchOption p (after ≡ before) (λ _. Some after ≡ slots) → Some after ≡ slots
+slots_there o m p before after slots e q told =
+    let some : p ≡ Some m.pattern = q ∙ ap (λ x. option_map (λ (f : Found). f.pattern) x) e in
+    subst (λ x. MatchOption x (after ≡ before) (λ _. Some after ≡ slots)) some told
 
 -- the search of an input whose span is the match's, and whose anchoring is for its pattern
 pub narrow_input : (e : Engine) (a b : Searched) (m : Found) → low a ≤ m.start → m.start ≤ m.end → m.end ≤ high a → KeepsText a b →

@@ -14,7 +14,7 @@ use Rattle.rc_text.specs.Text.{Searched, low, high, slice_end}
 use Rattle.rc_text.specs.declared.types.Anchored.{Anchored}
 use Rattle.rc_text.specs.declared.types.Anchored.TheVariants.{No, Yes, Pattern}
 use Rattle.rc_text.specs.declared.types.MatchKind.{MatchKind}
-use Rattle.rc_text.specs.declared.types.MatchKind.TheVariants.{All as all_matches, LeftmostFirst as leftmost_first}
+use Rattle.rc_text.specs.declared.types.MatchKind.TheVariants.{All as all_matches, LeftmostFirst as leftmost_first, LeftmostLongest as leftmost_longest}
 use Rattle.rc_text.proofs.Ranges.{length-slice_range}
 use Rattle.rc_pattern.specs.Re.{Re}
 use Rattle.rc_pattern.specs.Properties.{both, minimum_len, maximum_len, begins_with_look, ends_with_look}
@@ -24,14 +24,15 @@ use Rattle.rc_pattern.specs.declared.hir.Hir.{Hir}
 use Rattle.rc_pattern.specs.declared.hir.Look.TheVariants.{Start, End}
 use Rattle.rc_program.specs.Looks.{side_after, side_before, is_edge}
 use Rattle.rc_program.specs.Text.{Text, holds, behind, beyond}
-use Rattle.rc_program.specs.Program.{Place, program, shown}
+use Rattle.rc_program.specs.Program.{Place, place_at, program, shown}
 use Rattle.rc_program.specs.Spells.{SpelledBy}
 use Rattle.rc_program.specs.Answer.{Search, IsStart, answer}
 use Rattle.rc_program.specs.Answer as answers
 use Rattle.rc_program.specs.Greatest.{IsSpelledIn, HasNoSpan}
 use Rattle.rc_program.specs.Kinds.{answer_by}
 use Rattle.rc_program.specs.Sought.{anchoring_of, search_over}
-use Rattle.rc_program.proofs.AnswerLemmas.{answer_law}
+use Rattle.rc_program.proofs.AnswerLemmas.{answer_law, match_place_is, walk_ends}
+use Rattle.rc_program.proofs.ReachLemmas.{longest_law}
 use Rattle.rc_program.proofs.GreatestLemmas.{greatest_law, no_span_no_answer, spelled_within}
 use Rattle.rc_program.proofs.GroupLemmas.{group_law}
 use Rattle.rc_program.proofs.PropertyLemmas.{property_law}
@@ -251,9 +252,22 @@ module _ (k : Spans) (places : List Place) (terminator : ℕ) (over : Bool) (s :
       let l = a.lower in let least = a.keeps.least in let most = a.keeps.greatest n one.1 in let is = one.0 in
       let start : m.end - n ≡ m.start = omega (arith, least, most, is) in (omega (arith, l, start), omega arith, start)
 
+-- where nothing is spelled no start has a walk
+no_walk_here : (s : Search) → HasNoSpan s → (y : ℕ) → IsStart s y → answers.HasNoWalkFrom s y
+no_walk_here s none y start w h =
+    none (answers.found s (record { start = y; walk = w })) (record {
+      is_start = start;
+      walk = w;
+      is_walk = h;
+      pattern = match_place_is (answers.only s.anchoring) (place_at s.places (answers.last_of w).0)
+          (walk_ends (answers.next_of s) (λ n. IsTrue (answers.ends s n)) h);
+      position = refl;
+    })
+
 -- where nothing is spelled there is no match of any kind
 pub no_match : (kind : MatchKind) (s : Search) → HasNoSpan s → None ≡ answer_by kind s
 no_match all_matches s none = sym ((greatest_law.none s).1 none)
+no_match leftmost_longest s none = sym ((longest_law.answer_none s).1 (λ y h. inl (no_walk_here s none y h)))
 no_match leftmost_first s none = sym ((answer_law.answer_none s).1 (no_span_no_answer s none))
 
 -- so it is with an engine's search

@@ -9,10 +9,13 @@ use Rattle.rc_pattern.specs.Re.{Re}
 use Rattle.rc_text.specs.Found.{Found, HalfFound, half_of}
 use Rattle.rc_text.specs.Text.{Searched}
 use Rattle.rc_text.specs.declared.types.MatchError.{MatchError}
-use Rattle.rc_text.specs.declared.types.MatchKind.{MatchKind}
-use Rattle.rc_text.specs.declared.types.MatchKind.TheVariants.{All as all_matches, LeftmostFirst as leftmost_first}
+use Rattle.rc_text.specs.declared.types.MatchKind.TheVariants.{LeftmostFirst as leftmost_first}
 use Rattle.rc_program.specs.Answer.{Search, answer}
-use Rattle.rc_program.specs.Kinds.{IsAnswerBy, IsAnswerWhere, answer_by, is_early}
+use Rattle.rc_program.specs.Kinds as kinds
+use Rattle.rc_program.specs.Kinds.{is_early}
+use Rattle.rc_states.specs.TableKinds.{IsAnswerBy, IsAnswerWhere, answer_by, kind_of, table_kind_of}
+use Rattle.rc_states.specs.declared.kind.TableKind.{TableKind}
+use Rattle.rc_states.specs.declared.kind.TableKind.TheVariants as table
 use Rattle.rc_program.proofs.GreatestLemmas.{greatest_law}
 use Rattle.rc_program.proofs.KindLemmas.{missing_by}
 use Rattle.rc_program.specs.Places.{places_of}
@@ -36,12 +39,12 @@ use Rattle.rc_engines.proofs.SpanLemmas.{ends_at_bound}
 use Rattle.rc_engines.proofs.ToEndLemmas.{greatest_to_end}
 
 -- the half that a search forwards tells is that of the preferred match
-half_told : (s : Search) (o : Option HalfFound) → IsForwardHalf leftmost_first false s o → o ≡ option_map half_of (answer s)
+half_told : (s : Search) (o : Option HalfFound) → IsForwardHalf table.LeftmostFirst false s o → o ≡ option_map half_of (answer s)
 half_told s None h = ap (option_map half_of) h
 half_told s (Some h) w =
     ap₂ (λ (p x : ℕ). let f : HalfFound = record { pattern = p; offset = x } in Some f) w.3 w.2 ∙ ap (option_map half_of) w.1
 
-half_by : (kind : MatchKind) (s : Search) (o : Option HalfFound) → kind ≡ leftmost_first → IsForwardHalf kind false s o → o ≡ option_map half_of (answer_by kind s)
+half_by : (kind : TableKind) (s : Search) (o : Option HalfFound) → kind ≡ table.LeftmostFirst → IsForwardHalf kind false s o → o ≡ option_map half_of (answer_by kind s)
 half_by kind s o is h =
     subst (λ k. o ≡ option_map half_of (answer_by k s)) (sym is) (half_told s o (subst (λ k. IsForwardHalf k false s o) is h))
 
@@ -50,22 +53,22 @@ not_so true e = absurd (true≢false (sym e))
 not_so false e = refl
 
 -- what may be answered isn't missing
-some_missing : (kind : MatchKind) (s : Search) (m : Found) (b : Bool) → is_early true s ≡ b → IsAnswerWhere b kind s (Some m) → answer_by kind s ≡ None → ⊥
+some_missing : (kind : TableKind) (s : Search) (m : Found) (b : Bool) → is_early true s ≡ b → IsAnswerWhere b kind s (Some m) → answer_by kind s ≡ None → ⊥
 some_missing kind s m false is h e = none-some m (sym (h ∙ e))
-some_missing all_matches s m true is h e = (greatest_law.none s).0 e m h
-some_missing leftmost_first s m true is h e = (greatest_law.none s).0 ((greatest_law.same_none s (not_so s.passes_over is)).1 e) m h
+some_missing table.All s m true is h e = (greatest_law.none s).0 e m h
+some_missing table.LeftmostFirst s m true is h e = (greatest_law.none s).0 ((greatest_law.same_none s (not_so s.passes_over is)).1 e) m h
 
 -- where any match is enough, an end is told exactly where there is a match
-half_there : (kind : MatchKind) (s : Search) (o : Option HalfFound) → IsForwardHalf kind true s o → is_some o ≡ is_some (answer_by kind s)
-half_there kind s None h = sym (ap is_some ((missing_by kind true s).0 h))
+half_there : (kind : TableKind) (s : Search) (o : Option HalfFound) → IsForwardHalf kind true s o → is_some o ≡ is_some (answer_by kind s)
+half_there kind s None h = sym (ap is_some ((missing_by (kind_of kind) true s).0 h))
 half_there kind s (Some h) w = go (answer_by kind s) refl
   where
     go : (o : Option Found) → answer_by kind s ≡ o → true ≡ is_some o
     go None e = absurd (some_missing kind s w.0 (is_early true s) refl w.1 e)
     go (Some m) e = refl
 
-found_there : (kind : MatchKind) (s : Search) (o : Option Found) → IsAnswerBy kind true s o → is_some o ≡ is_some (answer_by kind s)
-found_there kind s None h = sym (ap is_some ((missing_by kind true s).0 h))
+found_there : (kind : TableKind) (s : Search) (o : Option Found) → IsAnswerBy kind true s o → is_some o ≡ is_some (answer_by kind s)
+found_there kind s None h = sym (ap is_some ((missing_by (kind_of kind) true s).0 h))
 found_there kind s (Some m) h = go (answer_by kind s) refl
   where
     go : (o : Option Found) → answer_by kind s ≡ o → true ≡ is_some o
@@ -76,96 +79,100 @@ module _ (e : Engine) (patterns : ℕ) {AreOf : Machine → Machine → Type 0} 
   -- what is told of any patterns of which they are halves is told of the engine's
   told : {R : Type 0} → IsProp R → (P : Aim → List Re → Type 0) →
       ((hs : List Re) → places_of e.program.places.items ≡ program hs → AreHalvesOf AreOf a hs e.program.terminator → P a hs) →
-      ((hs : List Re) → places_of e.program.places.items ≡ program hs → P (aim_of e patterns) hs → R) → R
+      ((hs : List Re) → kind_of (table_kind_of e.kind) ≡ e.kind → places_of e.program.places.items ≡ program hs → P (aim_of e patterns) hs → R) → R
   told {R} fact P tells so =
       ∥∥₁_elim own fact
-      (λ (f : AreHalvesFor e patterns AreOf). so f.hs f.program
+      (λ (f : AreHalvesFor e patterns AreOf). so f.hs f.tabled f.program
       (subst (λ x. AreHalvesOf AreOf x f.hs e.program.terminator → P x f.hs) is (tells f.hs f.program) f.halves))
 
-  same_answer : (hs : List Re) → places_of e.program.places.items ≡ program hs →
-      answer_by e.kind (search_for (aim_of e patterns) hs e.program.terminator s) ≡ answer_by e.kind (engine_search e s)
-  same_answer hs same = ap (λ places. answer_by e.kind (search_over places e.program.terminator e.program.passes_over s)) (sym same)
+  same_answer : (hs : List Re) → kind_of (table_kind_of e.kind) ≡ e.kind → places_of e.program.places.items ≡ program hs →
+      kinds.answer_by (kind_of (table_kind_of e.kind)) (search_for (aim_of e patterns) hs e.program.terminator s) ≡ kinds.answer_by e.kind (engine_search e s)
+  same_answer hs tabled same =
+      ap (λ k. kinds.answer_by k (search_for (aim_of e patterns) hs e.program.terminator s)) tabled
+      ∙ ap (λ places. kinds.answer_by e.kind (search_over places e.program.terminator e.program.passes_over s)) (sym same)
 
   -- a search by them tells the match of the engine's kind
   pub tables_tell : (r : Result (Option Found) MatchError) →
       ((hs : List Re) → places_of e.program.places.items ≡ program hs → AreHalvesOf AreOf a hs e.program.terminator →
       IfOk r (IsAnswerBy a.kind a.earliest (search_for a hs e.program.terminator s))) →
-      IfOk r (λ found. found ≡ answer_by e.kind (engine_search e s))
+      IfOk r (λ found. found ≡ kinds.answer_by e.kind (engine_search e s))
   tables_tell (Err x) tells = tt
   tables_tell (Ok found) tells =
-      told (hlevel props) (λ x hs. IsAnswerBy x.kind x.earliest (search_for x hs e.program.terminator s) found) tells (λ hs same h. h ∙ same_answer hs same)
+      told (hlevel props) (λ x hs. IsAnswerBy x.kind x.earliest (search_for x hs e.program.terminator s) found) tells (λ hs tabled same h. h ∙ same_answer hs tabled same)
 
   -- and a search forwards its end, where it is the preferred one
   pub tables_tell_end : e.kind ≡ leftmost_first → (r : Result (Option HalfFound) MatchError) →
       ((hs : List Re) → places_of e.program.places.items ≡ program hs → AreHalvesOf AreOf a hs e.program.terminator →
       IfOk r (IsForwardHalf a.kind a.earliest (search_for a hs e.program.terminator s))) →
-      IfOk r (λ found. found ≡ option_map half_of (answer_by e.kind (engine_search e s)))
+      IfOk r (λ found. found ≡ option_map half_of (kinds.answer_by e.kind (engine_search e s)))
   tables_tell_end kind (Err x) tells = tt
   tables_tell_end kind (Ok found) tells =
       told (hlevel props) (λ x hs. IsForwardHalf x.kind x.earliest (search_for x hs e.program.terminator s) found) tells
-      (λ hs same h. half_by e.kind (search_for (aim_of e patterns) hs e.program.terminator s) found kind h ∙ ap (option_map half_of) (same_answer hs same))
+      (λ hs tabled same h.
+      half_by (table_kind_of e.kind) (search_for (aim_of e patterns) hs e.program.terminator s) found (ap table_kind_of kind) h ∙ ap (option_map half_of) (same_answer hs tabled same))
 
   -- one forwards that stops early tells whether there is a match
   pub tables_tell_any : (o : Option HalfFound) →
       ((hs : List Re) → places_of e.program.places.items ≡ program hs → AreHalvesOf AreOf (record a { earliest = true }) hs e.program.terminator →
       IsForwardHalf a.kind true (search_for a hs e.program.terminator s) o) →
-      is_some o ≡ is_some (answer_by e.kind (engine_search e s))
+      is_some o ≡ is_some (kinds.answer_by e.kind (engine_search e s))
   tables_tell_any o tells =
       told (hlevel props) (λ x hs. IsForwardHalf x.kind true (search_for x hs e.program.terminator s) o)
       (λ hs same h. tells hs same (record { ahead = h.ahead; back = h.back; are_of = h.are_of; machines = h.machines; counted = h.counted; few = h.few }))
-      (λ hs same h. half_there e.kind (search_for (aim_of e patterns) hs e.program.terminator s) o h ∙ ap is_some (same_answer hs same))
+      (λ hs tabled same h. half_there (table_kind_of e.kind) (search_for (aim_of e patterns) hs e.program.terminator s) o h ∙ ap is_some (same_answer hs tabled same))
 
   -- and so does a match that is told early
   pub tables_tell_any_by : (o : Option Found) →
       ((hs : List Re) → places_of e.program.places.items ≡ program hs → AreHalvesOf AreOf (record a { earliest = true }) hs e.program.terminator →
       IsAnswerBy a.kind true (search_for a hs e.program.terminator s) o) →
-      is_some o ≡ is_some (answer_by e.kind (engine_search e s))
+      is_some o ≡ is_some (kinds.answer_by e.kind (engine_search e s))
   tables_tell_any_by o tells =
       told (hlevel props) (λ x hs. IsAnswerBy x.kind true (search_for x hs e.program.terminator s) o)
       (λ hs same h. tells hs same (record { ahead = h.ahead; back = h.back; are_of = h.are_of; machines = h.machines; counted = h.counted; few = h.few }))
-      (λ hs same h. found_there e.kind (search_for (aim_of e patterns) hs e.program.terminator s) o h ∙ ap is_some (same_answer hs same))
+      (λ hs tabled same h. found_there (table_kind_of e.kind) (search_for (aim_of e patterns) hs e.program.terminator s) o h ∙ ap is_some (same_answer hs tabled same))
 
   -- under the earliest flag a search tells what may be answered
   pub tables_tell_by : (earliest : Bool) (r : Result (Option Found) MatchError) →
       ((hs : List Re) → places_of e.program.places.items ≡ program hs → AreHalvesOf AreOf (record a { earliest = earliest }) hs e.program.terminator →
       IfOk r (IsAnswerBy a.kind earliest (search_for a hs e.program.terminator s))) →
-      IfOk r (IsAnswerBy e.kind earliest (engine_search e s))
+      IfOk r (kinds.IsAnswerBy e.kind earliest (engine_search e s))
   tables_tell_by earliest (Err x) tells = tt
   tables_tell_by earliest (Ok found) tells =
       let early = is_early earliest (engine_search e s) in
       answers_so early e.kind (engine_search e s) found
       (told (settled_prop early e.kind (engine_search e s) found) (λ x hs. IsAnswerBy x.kind earliest (search_for x hs e.program.terminator s) found)
       (λ hs same h. tells hs same (record { ahead = h.ahead; back = h.back; are_of = h.are_of; machines = h.machines; counted = h.counted; few = h.few }))
-      (λ hs same h. settled_by early e.kind (engine_search e s) found
-      (subst (λ places. IsAnswerBy e.kind earliest (search_over places e.program.terminator e.program.passes_over s) found) (sym same) h)))
+      (λ hs tabled same h. settled_by early e.kind (engine_search e s) found
+      (subst (λ places. kinds.IsAnswerBy e.kind earliest (search_over places e.program.terminator e.program.passes_over s) found) (sym same)
+      (subst (λ k. kinds.IsAnswerBy k earliest (search_for (aim_of e patterns) hs e.program.terminator s) found) tabled h))))
 
   -- and one from where the search ends, where each match ends there
   pub tables_tell_from_end : (k : Spans) → BoundsWalks k (places_of e.program.places.items) → SeeksFromEnd e.kind k s → (r : Result (Option Found) MatchError) →
       ((hs : List Re) → places_of e.program.places.items ≡ program hs → AreHalvesOf AreOf a hs e.program.terminator →
       IfOk r (IsMatchToEnd a.earliest (search_for a hs e.program.terminator s))) →
-      IfOk r (λ found. found ≡ answer_by e.kind (engine_search e s))
+      IfOk r (λ found. found ≡ kinds.answer_by e.kind (engine_search e s))
   tables_tell_from_end k bound from_end (Err x) tells = tt
   tables_tell_from_end k bound from_end (Ok found) tells =
       told (hlevel props) (λ x hs. IsMatchToEnd x.earliest (search_for x hs e.program.terminator s) found) tells
-      (λ hs same h.
+      (λ hs tabled same h.
       let last = ends_at_bound k (program hs) e.program.terminator e.program.passes_over s (subst (BoundsWalks k) same bound) from_end.2.0 in
       reverse_end_law.preferred hs (search_for (aim_of e patterns) hs e.program.terminator s) found refl (ap anchoring_of from_end.1) last h
-      ∙ ap (λ x. answer_by x (search_for (aim_of e patterns) hs e.program.terminator s)) (sym from_end.0) ∙ same_answer hs same)
+      ∙ ap (λ x. answer_by x (search_for (aim_of e patterns) hs e.program.terminator s)) (sym (ap table_kind_of from_end.0)) ∙ same_answer hs tabled same)
 
   -- the greatest too, whether or not matches are passed over
   pub tables_tell_greatest_from_end : (k : Spans) → BoundsWalks k (places_of e.program.places.items) → SeeksGreatestFromEnd e.kind k s → (r : Result (Option Found) MatchError) →
       ((hs : List Re) → places_of e.program.places.items ≡ program hs → AreHalvesOf AreOf (record a { passes_over = false }) hs e.program.terminator →
       IfOk r (IsMatchToEnd a.earliest (search_over (program hs) e.program.terminator false s))) →
-      IfOk r (λ found. found ≡ answer_by e.kind (engine_search e s))
+      IfOk r (λ found. found ≡ kinds.answer_by e.kind (engine_search e s))
   tables_tell_greatest_from_end k bound from_end (Err x) tells = tt
   tables_tell_greatest_from_end k bound from_end (Ok found) tells =
       told (hlevel props) (λ x hs. IsMatchToEnd x.earliest (search_over (program hs) e.program.terminator false s) found)
       (λ hs same h. tells hs same (record { ahead = h.ahead; back = h.back; are_of = h.are_of; machines = h.machines; counted = h.counted; few = h.few }))
-      (λ hs same h.
+      (λ hs tabled same h.
       let last = ends_at_bound k (program hs) e.program.terminator false s (subst (BoundsWalks k) same bound) from_end.2.0 in
       greatest_to_end (search_over (program hs) e.program.terminator false s) (ap anchoring_of from_end.1) last refl found h
       ∙ greatest_law.regardless (search_for (aim_of e patterns) hs e.program.terminator s) false
-      ∙ ap (λ x. answer_by x (search_for (aim_of e patterns) hs e.program.terminator s)) (sym from_end.0) ∙ same_answer hs same)
+      ∙ ap (λ x. answer_by x (search_for (aim_of e patterns) hs e.program.terminator s)) (sym (ap table_kind_of from_end.0)) ∙ same_answer hs tabled same)
 
 -- the places of so many patterns name slots of groups alone
 pub names_groups : (e : Engine) (patterns : ℕ) (hs : List Re) → places_of e.program.places.items ≡ program hs → patterns ≡ length hs →

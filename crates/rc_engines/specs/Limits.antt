@@ -4,6 +4,7 @@ use Rattle.std.specs.Prelude.{◌≡◌, ◌⊎◌, ℕ, ◌<◌, false, List, l
 use Rattle.rc_pattern.specs.Re.{Re}
 use Rattle.rc_program.specs.Program.{program}
 use Rattle.rc_bytes.specs.Bytes.{bytes_of}
+use Rattle.rc_states.specs.TableKinds.{table_kind_of}
 use Rattle.rc_automaton.specs.Machine.{Machine, IsClassing}
 use Rattle.rc_dense.specs.Makes.{IsRefused}
 use Rattle.rc_dense.specs.declared.dense.Dense.{Dense}
@@ -11,30 +12,33 @@ use Rattle.rc_dense.specs.declared.error.TableError.TheVariants.{TooBig}
 use Rattle.rc_spans.specs.Machines.{AreMachines}
 use Rattle.rc_engine.specs.Choices.{answering_for}
 use Rattle.rc_engine.specs.declared.engine.Engine.{Engine}
+use Rattle.rc_engines.specs.Tables.{is_tabled}
 use Rattle.rc_engines.specs.declared.engines.Limits.{Limits}
 
 -- None of all states may be made: they are switched off, or the byte program has more places than the limit allows.
 abbrev pub AreOff : List Re → Limits → Type 0
 AreOff hs limits = (limits.dfa ≡ false) ⊎ IsSomeAnd limits.state_limit (λ most. most < length (bytes_of (program hs)))
 
--- None of all states may be made of the patterns: they are switched off, or needles alone tell each answer, or the byte program has more places than the
--- limit allows.
+-- No tables serve: needles alone tell each answer, or no tables find matches of the kind.
+abbrev pub NoneServe : Engine → Type 0
+NoneServe e = IsSome (answering_for e.kind e.strategy) ⊎ (is_tabled e.kind ≡ false)
+
+-- None of all states may be made of the patterns: they are switched off, or none serve, or the byte program has more places than the limit allows.
 abbrev pub AreBarred : Engine → List Re → Limits → Type 0
 AreBarred e hs limits =
-    (limits.dfa ≡ false) ⊎ (IsSome (answering_for e.kind e.strategy) ⊎ IsSomeAnd limits.state_limit (λ most. most < length (bytes_of (program hs))))
+    (limits.dfa ≡ false) ⊎ (NoneServe e ⊎ IsSomeAnd limits.state_limit (λ most. most < length (bytes_of (program hs))))
 
 -- In one of the directions what holds some of the states that searches can reach, none twice, weighs more than the limit.
 pub record AreTooHeavy (e : Engine) (hs : List Re) (limits : Limits) : Type 0 where
   pub ahead : Machine
   pub behind : Machine
-  pub machines : AreMachines hs e.program.terminator e.kind ahead behind
+  pub machines : AreMachines hs e.program.terminator (table_kind_of e.kind) ahead behind
   pub classes : List ℕ
   pub samples : List ℕ
   pub classed_ahead : IsClassing ahead classes samples
   pub classed_behind : IsClassing behind classes samples
   pub heavy : IsRefused ahead (length samples) limits.size_limit TooBig ⊎ IsRefused behind (length samples) limits.size_limit TooBig
 
--- None are made whose states are made as they are met: they are switched off, or there are tables of all states, or needles alone tell each
--- answer.
+-- None are made whose states are made as they are met: they are switched off, or there are tables of all states, or none serve.
 abbrev pub IsLazyBarred : Engine → Limits → Option Dense → Type 0
-IsLazyBarred e limits tables = (limits.hybrid ≡ false) ⊎ (IsSome tables ⊎ IsSome (answering_for e.kind e.strategy))
+IsLazyBarred e limits tables = (limits.hybrid ≡ false) ⊎ (IsSome tables ⊎ NoneServe e)

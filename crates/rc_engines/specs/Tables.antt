@@ -1,9 +1,12 @@
 -- Only proofs use this file.
 -- The tables by which an engine's program may be searched.
-use Rattle.std.specs.Prelude.{◌≡◌, ℕ, ◌+◌, ◌*◌, false, List, length, Option, Some, None, IfSome, min}
+use Rattle.std.specs.Prelude.{◌≡◌, ℕ, ◌+◌, ◌*◌, Bool, true, false, List, length, Option, Some, None, IfSome, min}
 use Rattle.rc_pattern.specs.Re.{Re}
 use Rattle.rc_program.specs.Places.{places_of}
 use Rattle.rc_program.specs.Program.{program}
+use Rattle.rc_text.specs.declared.types.MatchKind.{MatchKind}
+use Rattle.rc_text.specs.declared.types.MatchKind.TheVariants.{All as all_matches, LeftmostFirst as leftmost_first, LeftmostLongest as leftmost_longest}
+use Rattle.rc_states.specs.TableKinds.{kind_of, table_kind_of}
 use Rattle.rc_automaton.specs.Machine.{Machine}
 use Rattle.rc_dense.specs.Halves.{AreHalves, bytes_of}
 use Rattle.rc_dense.specs.declared.dense.Dense.{Dense}
@@ -13,18 +16,25 @@ use Rattle.rc_spans.specs.Aims.{AreHalvesOf}
 use Rattle.rc_spans.specs.declared.search.Aim.{Aim}
 use Rattle.rc_engine.specs.declared.engine.Engine.{Engine}
 
+-- tables find matches of the kind
+abbrev pub is_tabled : MatchKind → Bool
+is_tabled all_matches = true
+is_tabled leftmost_first = true
+is_tabled leftmost_longest = false
+
 -- what a search by tables seeks: the match of the engine's kind
 abbrev pub aim_of : Engine → ℕ → Aim
 aim_of engine patterns = record {
-  kind = engine.kind;
+  kind = table_kind_of engine.kind;
   patterns = patterns;
   passes_over = engine.program.passes_over;
   earliest = false;
 }
 
--- They are halves of searches for so many patterns, whose program is the engine's.
+-- They are halves of searches for so many patterns, whose program is the engine's, and find matches of its kind.
 pub record AreHalvesFor (engine : Engine) (patterns : ℕ) (AreOf : Machine → Machine → Type 0) : Type 0 where
   pub hs : List Re
+  pub tabled : kind_of (table_kind_of engine.kind) ≡ engine.kind
   pub program : places_of engine.program.places.items ≡ program hs
   pub halves : AreHalvesOf AreOf (aim_of engine patterns) hs engine.program.terminator
 

@@ -27,6 +27,7 @@ use rc_patterns::sets::PatternSet;
 use rc_spans::guarded::{find_end_guarded, find_guarded};
 use rc_spans::search;
 use rc_spans::search::Aim;
+use rc_states::kind::table_kind;
 use rc_text::cursor::Cursor;
 use rc_text::input::{Input, high, low};
 use rc_text::types::{Anchored, HalfMatch, Match, MatchError, MatchKind, PatternID, Span};
@@ -169,7 +170,7 @@ impl Engines {
         ensures { result ≡ aim_of self.now.engine self.now.patterns }
     {
         Aim {
-            kind: self.engine.kind,
+            kind: table_kind(self.engine.kind),
             patterns: self.patterns,
             passes_over: self.engine.program.passes_over,
             earliest: false,
@@ -324,7 +325,7 @@ impl Engines {
     {
         match self.engine.kind {
             MatchKind::LeftmostFirst => self.spans.only_length(),
-            MatchKind::All => None,
+            MatchKind::All | MatchKind::LeftmostLongest => None,
         }
     }
 
@@ -348,7 +349,9 @@ impl Engines {
         }
         match self.engine.kind {
             MatchKind::LeftmostFirst => self.find_first_end(halves, cache, input),
-            MatchKind::All => Ok(half_of(self.find_by_tables(halves, cache, input)?)),
+            MatchKind::All | MatchKind::LeftmostLongest => {
+                Ok(half_of(self.find_by_tables(halves, cache, input)?))
+            }
         }
     }
 

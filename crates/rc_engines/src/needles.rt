@@ -3,10 +3,10 @@ ghost use Rattle.std.specs.Prelude.{◌≡◌, ◌↔◌, ◌≤◌, ℕ, List, 
 ghost use Rattle.rc_text.specs.Text.{Keeps, low, high};
 ghost use Rattle.rc_text.specs.declared.types.Anchored.TheVariants.{No};
 ghost use Rattle.rc_pattern.specs.Re.{Re};
-ghost use Rattle.rc_program.specs.Kinds.{IsAnswerBy};
 ghost use Rattle.rc_program.specs.Program.{program};
 ghost use Rattle.rc_literal.specs.Guards.{Guards};
 ghost use Rattle.rc_literal.specs.Prefilters.{needles_of};
+ghost use Rattle.rc_states.specs.TableKinds.{IsAnswerBy};
 ghost use Rattle.rc_spans.specs.Aims.{AreHalvesOf, search_for};
 ghost use Rattle.rc_spans.specs.Legs.{GoesByNeedles};
 ghost use Rattle.rc_spans.specs.Rests.{GivesToo, StartsGive};
@@ -17,9 +17,10 @@ use rc_automaton::halves::Halves;
 use rc_literal::literal::find_from;
 use rc_literal::prefilter::Prefilter;
 use rc_spans::search::{Aim, find};
+use rc_states::kind::TableKind;
 use rc_text::cursor::Cursor;
 use rc_text::input::{Input, high, low};
-use rc_text::types::{Anchored, Match, MatchError, MatchKind};
+use rc_text::types::{Anchored, Match, MatchError};
 
 /// What a run from a needle tells of where a match is to be sought.
 #[derive(Clone, Copy)]
@@ -133,7 +134,7 @@ fn goes_early(aim: Aim, anchored: Anchored) -> bool
     ensures { IsTrue result ↔ GoesEarly aim anchored }
 {
     match (aim.kind, anchored) {
-        (MatchKind::LeftmostFirst, Anchored::No) => aim.earliest && !aim.passes_over,
+        (TableKind::LeftmostFirst, Anchored::No) => aim.earliest && !aim.passes_over,
         _ => false,
     }
 }

@@ -81,5 +81,8 @@ pub(crate) fn fill_slots<C: Cursor>(
                 search_span(engine, cache, input, found, slots);
             }
         }
+        MatchKind::LeftmostLongest => {
+            engine.find_slots(cache, input, slots);
+        }
     }
 }

@@ -1,5 +1,5 @@
 //! The tables by which patterns are searched for.
-ghost use Rattle.std.specs.Prelude.{◌≡◌, ◌⊎◌, ◌↔◌, ◌<◌, ◌≤◌, ⊤, ℕ, Bool, IfOk, IfSome, IsSomeAnd, IsTrue, List, MatchOption, None, false, length};
+ghost use Rattle.std.specs.Prelude.{◌≡◌, ◌⊎◌, ◌↔◌, ◌<◌, ◌≤◌, ⊤, ℕ, Bool, IfOk, IfSome, IsSomeAnd, IsTrue, List, MatchOption, None, true, false, length};
 ghost use Rattle.rc_pattern.specs.Re.{Re};
 ghost use Rattle.rc_program.specs.Laws.{heaviness};
 ghost use Rattle.rc_program.specs.Places.{places_of};
@@ -13,7 +13,8 @@ ghost use Rattle.rc_spans.specs.Machines.{AreMachines};
 ghost use Rattle.rc_engine.specs.Strategies.{MayGoBy};
 ghost use Rattle.rc_engines.specs.Limits.{AreOff, AreTooHeavy};
 ghost use Rattle.rc_engines.specs.Makes.{AreMade};
-ghost use Rattle.rc_engines.specs.Tables.{MayBeTablesFor};
+ghost use Rattle.rc_engines.specs.Tables.{MayBeTablesFor, is_tabled};
+ghost use Rattle.rc_states.specs.TableKinds.{table_kind_of};
 
 use crate::engines::Limits;
 use rc_automaton::automaton::Automaton;
@@ -25,6 +26,8 @@ use rc_lazy::error::LazyError;
 use rc_lazy::lazy::Lazy;
 use rc_literal::prefilter::Prefilter;
 use rc_spans::build::automaton_of;
+use rc_states::kind::table_kind;
+use rc_text::types::MatchKind;
 use std::alloc::{AllocError, Global};
 
 /// Tables of all states, or tables whose states are made as they are met, or neither.
@@ -71,6 +74,16 @@ fn are_to_rest(strategy: &Strategy, automaton: &Automaton) -> bool {
     }
 }
 
+/// Whether tables find matches of the kind.
+fn is_tabled(kind: MatchKind) -> bool
+    ensures { result ≡ is_tabled kind }
+{
+    match kind {
+        MatchKind::All | MatchKind::LeftmostFirst => true,
+        MatchKind::LeftmostLongest => false,
+    }
+}
+
 /// The tables of all states of the automaton, which is that of so many patterns by their engine's program, where the limits allow some. An
 /// `Err` is want of memory.
 fn dense_of(
@@ -81,10 +94,11 @@ fn dense_of(
     limits: Limits,
 ) -> Result<Option<Dense>, AllocError>
     ghost hs: { List Re }
-    requires machines { AreMachines hs engine.now.program.terminator engine.now.kind (machine_of automaton.now Forwards) (machine_of automaton.now Backwards) }
+    requires machines { AreMachines hs engine.now.program.terminator (table_kind_of engine.now.kind) (machine_of automaton.now Forwards) (machine_of automaton.now Backwards) }
     requires program { places_of engine.now.program.places.items ≡ program hs }
     requires patterns { patterns ≡ length hs }
     requires light { heaviness (places_of engine.now.program.places.items) ≤ 2147483646 }
+    requires tabled { is_tabled engine.now.kind ≡ true }
     ensures fit { IfOk result (MayBeTablesFor engine.now patterns) }
     ensures off { AreOff hs limits → IfOk result (λ tables. tables ≡ None) }
     ensures none { IfOk result (λ tables. tables ≡ None → AreOff hs limits ⊎ AreTooHeavy engine.now hs limits) }
@@ -120,7 +134,7 @@ fn lazy_of(automaton: Automaton, limits: Limits) -> Option<Lazy>
 }
 
 /// The tables of so many patterns by their engine's program, where the limits allow some. Where needles alone tell each answer, none are
-/// made. An `Err` is want of memory.
+/// made, nor for the longest match of the least start, which no tables find. An `Err` is want of memory.
 pub(crate) fn tables_of(
     alloc: Global,
     engine: &Engine,
@@ -139,6 +153,12 @@ pub(crate) fn tables_of(
             lazy: None,
         });
     }
+    if !is_tabled(engine.kind) {
+        return Ok(Tables {
+            dense: None,
+            lazy: None,
+        });
+    }
     if !limits.dfa && !limits.hybrid {
         return Ok(Tables {
             dense: None,
@@ -150,7 +170,7 @@ pub(crate) fn tables_of(
         &engine.program.places,
         patterns,
         engine.program.terminator,
-        engine.kind,
+        table_kind(engine.kind),
         limits.byte_classes,
     )?;
     let dense = dense_of(alloc, engine, &automaton, patterns, limits)?;

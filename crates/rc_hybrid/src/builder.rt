@@ -17,6 +17,7 @@ use rc_build::texts::parse_all;
 use rc_pattern::hir::Hir;
 use rc_settings::error::BuildError;
 use rc_settings::{states, thompson};
+use rc_states::kind::table_kind;
 use std::alloc::Global;
 
 /// The settings of searches by states that are made as they are met, with how many bytes the states of each direction may weigh.
@@ -141,7 +142,7 @@ impl Builder {
             &hirs,
             self.thompson,
             &engine.program.places,
-            engine.kind,
+            table_kind(engine.kind),
             self.config.get_byte_classes(),
             self.config.get_limit().unwrap_or(2_097_152),
         )?;

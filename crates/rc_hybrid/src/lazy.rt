@@ -18,7 +18,7 @@ use rc_program::place::Place;
 use rc_settings::error::BuildError;
 use rc_settings::thompson;
 use rc_spans::build::automaton_of;
-use rc_text::types::MatchKind;
+use rc_states::kind::TableKind;
 use std::alloc::Global;
 
 /// What searches for patterns are made of, by their program, for matches of this kind. The states of each direction may weigh `capacity` bytes.
@@ -27,7 +27,7 @@ pub(crate) fn lazy_of(
     hirs: &[Hir],
     settings: thompson::Config,
     places: &[Place],
-    kind: MatchKind,
+    kind: TableKind,
     byte_classes: bool,
     capacity: usize,
 ) -> Result<Lazy, BuildError>

@@ -12,7 +12,7 @@ ghost use Rattle.rc_spans.specs.Reverse.{IsReverseHalf};
 ghost use Rattle.rc_hybrid.specs.Caches.{IsCacheFor};
 ghost use Rattle.rc_hybrid.specs.Faults.{ClearsWhereShort, ClearsWhereShortNext, GrowsWhereRoomy, IsFaultOf, IsNextFault};
 ghost use Rattle.rc_hybrid.specs.Left.{FindRuns, HasItsCache, find_cache, find_input, find_left, find_lender, find_regex, matches_in};
-ghost use Rattle.rc_hybrid.specs.Views.{regex_kind, sought};
+ghost use Rattle.rc_hybrid.specs.Views.{regex_kind, sought, table_kind};
 
 use crate::cache::Cache;
 use crate::finder::Finder;
@@ -25,7 +25,8 @@ use rc_text::types::{HalfMatch, Match, MatchError};
 
 /// The match that a search of the input finds, in a cache that was made for this regex. The cache stays so, also after an `Err`.
 ///
-/// Under `MatchKind::LeftmostFirst` it is the one that is preferred of the least start. Under `MatchKind::All` it is the one with the
+/// Under `MatchKind::LeftmostFirst` it is the one that is preferred of the least start, and under `LeftmostLongest` too, whose matches no
+/// tables find. Under `MatchKind::All` it is the one with the
 /// greatest end, then the least start, then the least pattern, and no match is passed over. With the input's earliest flag on it may be
 /// any match, unless matches are passed over.
 ///
@@ -79,7 +80,7 @@ pub fn try_search_fwd<C: Cursor>(
     requires made { IsCacheFor re.now cache.old }
     ensures cache { IsCacheFor re.now cache.new }
     ensures keeps { Keeps input.old input.new }
-    ensures found { IfOk result (IsForwardHalf (regex_kind re.now) input.old.earliest (search_for (sought re.now) input.old)) }
+    ensures found { IfOk result (IsForwardHalf (table_kind re.now) input.old.earliest (search_for (sought re.now) input.old)) }
     ensures within { IfOk result (λ o. IfSome o (λ h. (low input.old ≤ h.offset) × (h.offset ≤ high input.old))) }
     ensures fault { IfErr result (IsFaultOf re.now input.old cache.old cache.new) }
     ensures clears { ClearsWhereShort re.now input.old cache.old cache.new }

@@ -1,5 +1,5 @@
 -- One step of a seeker, from what the engine finds.
-use Rattle.std.proofs.Common.{◌≡◌, ◌∙◌, ◌+◌, ◌≤◌, ◌<◌, ℕ, Bool, true, false, List, [], ◌∷◌, length, Option, Some, None, ap, sym, subst, refl, arith}
+use Rattle.std.proofs.Common.{◌≡◌, ◌≢◌, ◌∙◌, ◌+◌, ◌≤◌, ◌<◌, ℕ, Bool, true, false, List, [], ◌∷◌, length, Option, Some, None, ap, sym, subst, refl, arith}
 use Rattle.std.specs.Prelude.{◌↔◌, IsSome, IsTrue, is_some}
 use Rattle.std.specs.Option.{option_map}
 use Rattle.std.proofs.lemmas.List.{length-map}
@@ -7,7 +7,7 @@ use Rattle.rc_pattern.specs.WellFormed.{group_names}
 use Rattle.rc_text.specs.Found.{Found, HalfFound, half_of}
 use Rattle.rc_text.specs.Text.{Searched, high}
 use Rattle.rc_text.specs.declared.types.MatchKind.{MatchKind}
-use Rattle.rc_text.specs.declared.types.MatchKind.TheVariants.{LeftmostFirst as leftmost_first}
+use Rattle.rc_text.specs.declared.types.MatchKind.TheVariants.{All as all_matches, LeftmostFirst as leftmost_first}
 use Rattle.rc_captures.specs.Captures.{IsCapturesFor, match_of}
 use Rattle.rc_captures.specs.declared.captures.Captures.{Captures}
 use Rattle.rc_program.specs.Answer.{Search, Chosen, answer}
@@ -38,11 +38,6 @@ search_of r i = search_for (sought r) i
 abbrev pub matches_of : Regex → Searched → Option ℕ → List Found
 matches_of r i last = matches_by_kind (regex_kind r) (search_of r i) i.span.start last
 
-finds_leftmost : (r : Regex) (i : Searched) (last : Option ℕ) (o : Option Found) → regex_kind r ≡ leftmost_first → Finds r.engines.engine i last o →
-    o ≡ next_match begin_of end_of (answer_by_from leftmost_first (search_of r i)) i.span.start last
-finds_leftmost r i last o kind f =
-    finds_same r.fits i last o f ∙ ap (λ k. next_match begin_of end_of (answer_by_from k (search_of r i)) i.span.start last) kind
-
 -- the search from where the span starts now
 pub moved : (r : Regex) (i j : Searched) → IsMoved i j → search_of r j ≡ from_on (search_of r i) j.span.start
 moved r = sought_moved (sought r)
@@ -51,19 +46,19 @@ pub none_left : (r : Regex) (i : Searched) (last : Option ℕ) (done : Bool) →
 none_left r i last true f = refl
 none_left r i last false f = engine_none r.fits i last f
 
-pub no_walks : (r : Regex) (i : Searched) (last : Option ℕ) (done : Bool) → Finds r.engines.engine i last None → regex_kind r ≡ leftmost_first →
-    unless_done done (walks_left (search_of r i) i.span.start last) ≡ []
+pub no_walks : (r : Regex) (i : Searched) (last : Option ℕ) (done : Bool) → Finds r.engines.engine i last None → regex_kind r ≢ all_matches →
+    unless_done done (walks_left (regex_kind r) (search_of r i) i.span.start last) ≡ []
 no_walks r i last true f kind = refl
-no_walks r i last false f kind = last_step (search_of r i) i.span.start last (finds_leftmost r i last None kind f)
+no_walks r i last false f kind = last_step (regex_kind r) (search_of r i) i.span.start last kind (finds_same r.fits i last None f)
 
 -- the other walks, from where the match ends
 other_walks : (r : Regex) (i j : Searched) (at end : ℕ) → IsMoved i j → j.span.start ≡ at → end ≡ at →
-    walks_left (search_of r j) j.span.start (Some end) ≡ walks_left (search_of r i) at (Some at)
+    walks_left (regex_kind r) (search_of r j) j.span.start (Some end) ≡ walks_left (regex_kind r) (search_of r i) at (Some at)
 other_walks r i j at end m a e =
-    ap (λ x. walks_left x j.span.start (Some end)) (moved r i j m)
-    ∙ walks_from (search_of r i) j.span.start j.span.start (Some end)
-    ∙ ap (λ k. walks_left (search_of r i) k (Some end)) a
-    ∙ ap (λ l. walks_left (search_of r i) at (Some l)) e
+    ap (λ x. walks_left (regex_kind r) x j.span.start (Some end)) (moved r i j m)
+    ∙ walks_from (regex_kind r) (search_of r i) j.span.start j.span.start (Some end)
+    ∙ ap (λ k. walks_left (regex_kind r) (search_of r i) k (Some end)) a
+    ∙ ap (λ l. walks_left (regex_kind r) (search_of r i) at (Some l)) e
 
 -- the next match, and the others from its end
 pub next_left : (r : Regex) (i j : Searched) (last : Option ℕ) (done : Bool) (m : Found) (end : ℕ) → done ≡ false → Finds r.engines.engine i last (Some m) →
@@ -133,22 +128,24 @@ same_match r i caps kept told = match_made r i caps (keeps_is_for (regex_names r
 pub record TellsNext (r : Regex) (i k : Searched) (last : Option ℕ) (done : Bool) (m : Found) (end : ℕ) (caps : Captures) : Type 0 where
   pub walk : Chosen
   pub told : TellsOf (search_of r i) (Some walk) caps
-  pub walks : unless_done done (walks_left (search_of r i) i.span.start last)
-      ≡ walk ∷ unless_done done (walks_left (search_of r k) k.span.start (Some end))
+  pub walks : unless_done done (walks_left (regex_kind r) (search_of r i) i.span.start last)
+      ≡ walk ∷ unless_done done (walks_left (regex_kind r) (search_of r k) k.span.start (Some end))
 
 pub tells_next : (r : Regex) (i j k : Searched) (last : Option ℕ) (done : Bool) (m : Found) (end : ℕ) (caps : Captures) → done ≡ false →
     Finds r.engines.engine i last (Some m) → IsMoved i j → j.span.start ≡ next_start r.engines.engine.kind (engine_search r.engines.engine i) i.span.start last →
-    TellsBy r.engines.engine.kind (engine_search r.engines.engine j) caps → IsMoved i k → k.span.start ≡ m.end → end ≡ m.end → regex_kind r ≡ leftmost_first →
+    TellsBy r.engines.engine.kind (engine_search r.engines.engine j) caps → IsMoved i k → k.span.start ≡ m.end → end ≡ m.end → regex_kind r ≢ all_matches →
     TellsNext r i k last done m end caps
 tells_next r i j k last done m end caps going f there at told move a e kind =
     let s = search_of r i in
-    let step : Step s (search_of r j) i.span.start last m =
-    walk_step s (search_of r j) i.span.start last m j.span.start (moved r i j there)
-    (at ∙ ap (λ x. next_start r.engines.engine.kind x i.span.start last) (fits_search r.fits i) ∙ ap (λ y. next_start y s i.span.start last) (r.fits.kinded ∙ kind))
-    (finds_leftmost r i last (Some m) kind f) in
+    let step : Step (regex_kind r) s (search_of r j) i.span.start last m =
+    walk_step (regex_kind r) s (search_of r j) i.span.start last m j.span.start kind (moved r i j there)
+    (at ∙ ap (λ x. next_start r.engines.engine.kind x i.span.start last) (fits_search r.fits i) ∙ ap (λ y. next_start y s i.span.start last) r.fits.kinded)
+    (finds_same r.fits i last (Some m) f) in
     let ends = ap (λ (x : Found). x.end) step.is_found in
     record {
       walk = step.walk;
-      told = tells_there s (search_of r j) j.span.start caps step.walk (moved r i j there) step.is_chosen (told_as r j caps leftmost_first kind told);
+      told =
+          tells_there (regex_kind r) s (search_of r j) j.span.start caps step.walk kind (moved r i j there) step.is_chosen
+          (told_as r j caps (regex_kind r) refl told);
       walks = rw going (step.left ∙ ap (λ ws. step.walk ∷ ws) (sym (other_walks r i k (walk_end step.walk) end move (a ∙ ends) (e ∙ ends))));
     }

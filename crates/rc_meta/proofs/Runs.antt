@@ -1,18 +1,18 @@
 -- What calls of `next` give of a list of matches with their groups.
-use Rattle.std.proofs.Common.{◌≡◌, ◌∙◌, ℕ, zero, suc, All, List, [], ◌∷◌, ◌++◌, length, map, Some, None, Ok, ap, sym, subst, arith}
+use Rattle.std.proofs.Common.{◌≡◌, ◌≢◌, ◌∙◌, ℕ, zero, suc, All, List, [], ◌∷◌, ◌++◌, length, map, Some, None, Ok, ap, sym, subst, arith}
 use Rattle.std.proofs.iter.runs.Sources.{as_is, from_front}
 use Rattle.std.proofs.lemmas.List.{append-nil}
 use Rattle.std.specs.Iterator.{Drains, Yields}
 use Rattle.std.specs.Iterator.Runs.{YieldsInOrder}
 use Rattle.rc_text.specs.Found.{Found}
 use Rattle.rc_text.specs.declared.types.MatchKind.{MatchKind}
-use Rattle.rc_text.specs.declared.types.MatchKind.TheVariants.{All as all_matches, LeftmostFirst as leftmost_first}
+use Rattle.rc_text.specs.declared.types.MatchKind.TheVariants.{All as all_matches}
 use Rattle.rc_captures.specs.Captures.{match_of}
 use Rattle.rc_captures.specs.Names.{Names}
 use Rattle.rc_captures.specs.declared.captures.Captures.{Captures}
 use Rattle.rc_program.specs.Answer.{Search, Chosen}
 use Rattle.rc_program.specs.Kinds.{matches_by_kind}
-use Rattle.rc_program.specs.Matches.{from_on, matches_left}
+use Rattle.rc_program.specs.Matches.{from_on}
 use Rattle.rc_engine.specs.Tells.{TellsOf, TellsSpan, AllTell, KeepsAll}
 use Rattle.rc_engine.specs.Walks.{walks_left}
 use Rattle.rc_meta.specs.Left.{captures_input, captures_left, captures_regex, captures_walks, CapturesLaw, CapturesNext, FindNext, find_left, MatchedLaw, SplitNext, split_left, SplitnNext, splitn_left}
@@ -62,20 +62,20 @@ record Walked {C : Type 0} (search : Search) (s : CapturesMatches C) (items : Li
   pub walks : List Chosen
   pub told : AllTell search walks items
   pub others : captures_walks s ≡ walks ++ captures_walks t
-  pub kinded : regex_kind (captures_regex t) ≡ leftmost_first
+  pub kinded : regex_kind (captures_regex t) ≢ all_matches
 
-walked : {C : Type 0} (search : Search) (x : ℕ) (items : List Captures) (s t : CapturesMatches C) → regex_kind (captures_regex s) ≡ leftmost_first →
+walked : {C : Type 0} (search : Search) (x : ℕ) (items : List Captures) (s t : CapturesMatches C) → regex_kind (captures_regex s) ≢ all_matches →
     searched s ≡ from_on search x → Yields CapturesNext s (map Ok items) t → Walked search s items t
 walked search x [] s t kinded same e = record {
   walks = [];
   told = tt;
   others = ap captures_walks e;
-  kinded = ap (λ u. regex_kind (captures_regex u)) (sym e) ∙ kinded;
+  kinded = λ all. kinded (ap (λ u. regex_kind (captures_regex u)) e ∙ all);
 }
 walked search x (caps ∷ items) s t kinded same (j, went, ys) =
     let step = went.0 in
     let next = step.tells kinded in
-    let rest = walked search step.start items j t (ap regex_kind step.regex ∙ kinded) (step.search ∙ ap (λ y. from_on y step.start) same) ys in
+    let rest = walked search step.start items j t (λ all. kinded (sym (ap regex_kind step.regex) ∙ all)) (step.search ∙ ap (λ y. from_on y step.start) same) ys in
     record {
       walks = next.walk ∷ rest.walks;
       told = (subst (λ y. TellsOf y (Some next.walk) caps) same next.told, rest.told);
@@ -95,19 +95,19 @@ matched_law kind names search start s kinded named left = record {
       sym (ap (map Some) (sym left) ∙ c.matched ∙ ap (λ ms. map match_of items ++ map Some ms) ys.2.0.0 ∙ append-nil (map match_of items));
 }
 
-pub captures_law : {C : Type 0} (names : Names) (search : Search) (start : ℕ) (s : CapturesMatches C) → regex_kind (captures_regex s) ≡ leftmost_first →
-    regex_names (captures_regex s) ≡ names → searched s ≡ from_on search start → captures_walks s ≡ walks_left search start None →
-    captures_left s ≡ matches_left search start None → CapturesLaw names search start s
-captures_law names search start s kinded named same walks left = record {
-  kept = λ items t ys. let c = came leftmost_first names items s t kinded named ys in c.kept;
-  told = λ items t ys. let w = walked search start items s t kinded same ys in (w.walks, w.told, sym walks ∙ w.others);
-  matched = λ items t ys. let c = came leftmost_first names items s t kinded named ys in ap (map Some) (sym left) ∙ c.matched;
+pub captures_law : {C : Type 0} (kind : MatchKind) (names : Names) (search : Search) (start : ℕ) (s : CapturesMatches C) → kind ≢ all_matches →
+    regex_kind (captures_regex s) ≡ kind → regex_names (captures_regex s) ≡ names → searched s ≡ from_on search start →
+    captures_walks s ≡ walks_left kind search start None → captures_left s ≡ matches_by_kind kind search start None → CapturesLaw kind names search start s
+captures_law kind names search start s one kinded named same walks left = record {
+  kept = λ items t ys. let c = came kind names items s t kinded named ys in c.kept;
+  told = λ items t ys. let w = walked search start items s t (λ all. one (sym kinded ∙ all)) same ys in (w.walks, w.told, sym walks ∙ w.others);
+  matched = λ items t ys. let c = came kind names items s t kinded named ys in ap (map Some) (sym left) ∙ c.matched;
   all_told = λ items t ys.
-      let w = walked search start items s ys.0 kinded same ys.1 in
+      let w = walked search start items s ys.0 (λ all. one (sym kinded ∙ all)) same ys.1 in
       subst (λ ws. AllTell search ws items)
       (sym (sym walks ∙ w.others ∙ ap (λ ws. w.walks ++ ws) (ys.2.0.1 w.kinded) ∙ append-nil w.walks)) w.told;
   all_matched = λ items t ys.
-      let c = came leftmost_first names items s ys.0 kinded named ys.1 in
+      let c = came kind names items s ys.0 kinded named ys.1 in
       sym (ap (map Some) (sym left) ∙ c.matched ∙ ap (λ ms. map match_of items ++ map Some ms) ys.2.0.0 ∙ append-nil (map match_of items));
 }
 

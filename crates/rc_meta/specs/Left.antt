@@ -1,5 +1,5 @@
 -- What the iterators have still to give, from what they stand at.
-use Rattle.std.specs.Prelude.{◌≡◌, ◌-◌, ◌<◌, ℕ, List, [], ◌∷◌, ◌++◌, All, length, map, Bool, Option, Some, None, Result, IfErr, IfNone, IsTrue, MatchOption, MatchResult, if◌then◌else◌}
+use Rattle.std.specs.Prelude.{◌≡◌, ◌≢◌, ◌-◌, ◌<◌, ℕ, List, [], ◌∷◌, ◌++◌, All, length, map, Bool, Option, Some, None, Result, IfErr, IfNone, IsTrue, MatchOption, MatchResult, if◌then◌else◌}
 use Rattle.std.specs.declared.result.Result.TheVariants.{Ok}
 use Rattle.std.specs.declared.alloc.AllocError.{AllocError}
 use Rattle.std.specs.Iterator.{Yields, YieldsFirst, YieldsThen}
@@ -7,14 +7,14 @@ use Rattle.std.specs.Iterator.Runs.{YieldsInOrder}
 use Rattle.rc_text.specs.Found.{Found}
 use Rattle.rc_text.specs.Text.{Searched, high}
 use Rattle.rc_text.specs.declared.types.MatchKind.{MatchKind}
-use Rattle.rc_text.specs.declared.types.MatchKind.TheVariants.{All as all_matches, LeftmostFirst as leftmost_first}
+use Rattle.rc_text.specs.declared.types.MatchKind.TheVariants.{All as all_matches}
 use Rattle.rc_text.specs.declared.types.Span.{Span}
 use Rattle.rc_captures.specs.Captures.{match_of}
 use Rattle.rc_captures.specs.Names.{Names}
 use Rattle.rc_captures.specs.declared.captures.Captures.{Captures}
 use Rattle.rc_program.specs.Answer.{Search, Chosen}
 use Rattle.rc_program.specs.Kinds.{matches_by_kind}
-use Rattle.rc_program.specs.Matches.{from_on, matches_left, pieces_from, pieces_left}
+use Rattle.rc_program.specs.Matches.{from_on, pieces_from, pieces_left}
 use Rattle.rc_program.specs.Sought.{search_for}
 use Rattle.rc_engine.specs.Moved.{IsMoved}
 use Rattle.rc_engine.specs.Tells.{TellsOf, TellsSpan, AllTell, KeepsAll}
@@ -44,9 +44,9 @@ kind_by f = regex_kind f.regex
 abbrev pub left_in : Seeking → Searched → List Found
 left_in f i = unless_done f.is_done (matches_by_kind (kind_by f) (search_by f i) i.span.start f.last)
 
--- and their walks, where they are leftmost-first
+-- and their walks, where they aren't the greatest
 abbrev pub walks_in : Seeking → Searched → List Chosen
-walks_in f i = unless_done f.is_done (walks_left (search_by f i) i.span.start f.last)
+walks_in f i = unless_done f.is_done (walks_left (kind_by f) (search_by f i) i.span.start f.last)
 
 -- What a search gives: the first of the matches that are left, and the others stay left; or nothing where none is left, and then none
 -- is left.
@@ -71,8 +71,8 @@ pub record HoldsNext (f : Seeking) (i : Searched) (caps : Captures) (g : Seeking
   pub found : Found
   pub matched : match_of caps ≡ Some found
   pub left : left_in f i ≡ found ∷ left_in g j
-  -- they hold all groups of a leftmost-first match, and none of a greatest one
-  pub tells : kind_by f ≡ leftmost_first → TellsWalk f i caps g j
+  -- they hold all groups of the match, and none of a greatest one
+  pub tells : kind_by f ≢ all_matches → TellsWalk f i caps g j
   pub spans : kind_by f ≡ all_matches → TellsSpan (Some found) caps
   -- the same is sought in the same, from elsewhere on
   pub regex : g.regex ≡ f.regex
@@ -83,7 +83,7 @@ pub record HoldsNext (f : Seeking) (i : Searched) (caps : Captures) (g : Seeking
 -- which none is left; or nothing where none is left, and then none is left.
 abbrev pub GivesCaptures : Seeking → Searched → Option (Result Captures AllocError) → Seeking → Searched → Type 0
 GivesCaptures f i r g j = MatchOption r
-    ((left_in f i ≡ []) × (kind_by f ≡ leftmost_first → walks_in f i ≡ []) × (left_in g j ≡ []))
+    ((left_in f i ≡ []) × (kind_by f ≢ all_matches → walks_in f i ≡ []) × (left_in g j ≡ []))
     (λ item. MatchResult item (λ caps. HoldsNext f i caps g j) (λ _. (0 < length (left_in f i)) × (left_in g j ≡ [])))
 
 -- whose matches they are
@@ -148,21 +148,21 @@ CapturesNext s r t = GivesCaptures s.seeker.seeker s.input r t.seeker.seeker t.i
     × CapturesKeeps s t
     × MatchOption r (IsCapturesOver t) (λ item. IfErr item (λ _. IsCapturesOver t))
 
--- What calls of `next` give of a search's list of matches, from the span's start `start` on.
-pub record CapturesLaw {C : Type 0} (names : Names) (search : Search) (start : ℕ) (s : CapturesMatches C) : Type 0 where
+-- What calls of `next` give of a search's list of matches of a kind, but for the greatest ones, from the span's start `start` on.
+pub record CapturesLaw {C : Type 0} (kind : MatchKind) (names : Names) (search : Search) (start : ℕ) (s : CapturesMatches C) : Type 0 where
   -- captures that came keep all groups,
   pub kept : (items : List Captures) (t : CapturesMatches C) → Yields CapturesNext s (map Ok items) t → All (KeepsAll names) items
   -- tell the first walks of the list,
   pub told : (items : List Captures) (t : CapturesMatches C) → Yields CapturesNext s (map Ok items) t →
-      (walks : List Chosen) × AllTell search walks items × (walks_left search start None ≡ walks ++ captures_walks t)
+      (walks : List Chosen) × AllTell search walks items × (walks_left kind search start None ≡ walks ++ captures_walks t)
   -- and are of its first matches;
   pub matched : (items : List Captures) (t : CapturesMatches C) → Yields CapturesNext s (map Ok items) t →
-      map Some (matches_left search start None) ≡ map match_of items ++ map Some (captures_left t)
+      map Some (matches_by_kind kind search start None) ≡ map match_of items ++ map Some (captures_left t)
   -- and once nothing comes after them, of all.
   pub all_told : (items : List Captures) (t : CapturesMatches C) → YieldsThen CapturesNext s (map Ok items) None t →
-      AllTell search (walks_left search start None) items
+      AllTell search (walks_left kind search start None) items
   pub all_matched : (items : List Captures) (t : CapturesMatches C) → YieldsThen CapturesNext s (map Ok items) None t →
-      map match_of items ≡ map Some (matches_left search start None)
+      map match_of items ≡ map Some (matches_by_kind kind search start None)
 
 -- What calls of `next` give of the list of matches of a kind, from the span's start `start` on.
 pub record MatchedLaw {C : Type 0} (kind : MatchKind) (names : Names) (search : Search) (start : ℕ) (s : CapturesMatches C) : Type 0 where

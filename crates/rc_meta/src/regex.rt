@@ -49,7 +49,7 @@ pub struct Regex {
 }
 
 impl Regex {
-    ghost use Rattle.std.specs.Prelude.{◌≡◌, is_some, ◌≤◌, ◌<◌, ◌+◌, ◌^◌, ◌↔◌, ◌∷◌, [], All, IfErr, IfOk, IfSome, OnOk, OnErr, IsSome, IsTrue, MatchOption, Some, None, false, length, map, option_map};
+    ghost use Rattle.std.specs.Prelude.{◌≡◌, ◌≢◌, is_some, ◌≤◌, ◌<◌, ◌+◌, ◌^◌, ◌↔◌, ◌∷◌, [], All, IfErr, IfOk, IfSome, OnOk, OnErr, IsSome, IsTrue, MatchOption, Some, None, false, length, map, option_map};
     ghost use Rattle.rc_captures.specs.Captures.{IsCapturesFor, captures_pattern, captures_slots, match_of};
     ghost use Rattle.rc_captures.specs.Groups.{names_of};
     ghost use Rattle.rc_captures.specs.Names.{slot_len};
@@ -61,7 +61,7 @@ impl Regex {
     ghost use Rattle.rc_program.specs.Laws.{all_groups};
     ghost use Rattle.rc_meta.specs.Counts.{static_captures_len};
     ghost use Rattle.rc_text.specs.Text.{Keeps, low, high};
-    ghost use Rattle.rc_text.specs.declared.types.MatchKind.TheVariants.{LeftmostFirst};
+    ghost use Rattle.rc_text.specs.declared.types.MatchKind.TheVariants.{All as greatest_matches, LeftmostFirst};
     ghost use Rattle.rc_program.specs.Answer.{answer, groups};
     ghost use Rattle.rc_program.specs.Kinds.{IsAnswerBy, answer_by, is_early, matches_by_kind};
     ghost use Rattle.rc_pass.specs.KindSlots.{slots_by};
@@ -121,7 +121,8 @@ impl Regex {
     /// The match that a search of the input finds. An `Err` is want of memory.
     ///
     /// Under `MatchKind::All` it is the match with the greatest end, of these the one with the least start, and of these the one of
-    /// the least pattern. Empty matches inside a character aren't passed over then.
+    /// the least pattern. Empty matches inside a character aren't passed over then. Under `MatchKind::LeftmostLongest` it is, of the
+    /// matches of the least start, the longest; no tables are made for it then.
     ///
     /// With the input's earliest flag on, unless matches are passed over, any span that a pattern spells may be the answer, and there is
     /// one where there is one with the flag off. The search then stops at the first position at which some match ends.
@@ -336,7 +337,8 @@ impl Regex {
 
     /// The match that `find` finds, with its groups. Without a match the captures hold none. An `Err` is want of memory.
     ///
-    /// Under `MatchKind::All` explicit groups hold nothing. Else, where `is_plain` is true, the groups are those of the least parse.
+    /// Under `MatchKind::All` explicit groups hold nothing. Under `MatchKind::LeftmostLongest` they are those of the walk that is
+    /// preferred of those that are that long. Else, where `is_plain` is true, the groups are those of the least parse.
     pub fn captures<C: Cursor + Drop>(
         &self,
         alloc: Global,
@@ -454,7 +456,7 @@ impl Regex {
     /// Each search starts where the match before ended. A match that is empty and ends there gives way to the answer from a byte
     /// later. An `Err` is want of memory for the cache; the items take none.
     ///
-    /// Under `MatchKind::All` each search finds the match with the greatest end, as `find` does.
+    /// Each search finds the match of the regex's kind, as `find` does.
     pub fn find_iter<'r, C: Cursor + Drop>(
         &'r self,
         alloc: Global,
@@ -493,10 +495,9 @@ impl Regex {
         ensures left { match_kind_of (regex_settings self.now) ≡ LeftmostFirst
             → IfOk result (λ s. captures_left s ≡ matches_left (search_for (sought self.now) input) input.span.start None) }
         ensures left_by { IfOk result (λ s. captures_left s ≡ matches_by_kind (regex_kind self.now) (search_for (sought self.now) input) input.span.start None) }
-        ensures walks { match_kind_of (regex_settings self.now) ≡ LeftmostFirst
-            → IfOk result (λ s. captures_walks s ≡ walks_left (search_for (sought self.now) input) input.span.start None) }
-        ensures law { match_kind_of (regex_settings self.now) ≡ LeftmostFirst
-            → IfOk result (CapturesLaw (regex_names self.now) (search_for (sought self.now) input) input.span.start) }
+        ensures walks { IfOk result (λ s. captures_walks s ≡ walks_left (regex_kind self.now) (search_for (sought self.now) input) input.span.start None) }
+        ensures law { regex_kind self.now ≢ greatest_matches
+            → IfOk result (CapturesLaw (regex_kind self.now) (regex_names self.now) (search_for (sought self.now) input) input.span.start) }
         ensures law_by { IfOk result (MatchedLaw (regex_kind self.now) (regex_names self.now) (search_for (sought self.now) input) input.span.start) }
         ensures short { IfOk result (λ s. length (captures_left s) < 2 ^ 64) }
         ensures regex { IfOk result (λ s. captures_regex s ≡ self.now) }

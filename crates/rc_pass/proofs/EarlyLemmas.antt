@@ -7,18 +7,20 @@ use Rattle.rc_walks.specs.Threads.{IsFirstOf, over, found, passes, noted}
 use Rattle.rc_walks.proofs.TryLemmas.{Finds, walk_by_finds}
 use Rattle.rc_text.specs.Found.{Found}
 use Rattle.rc_program.specs.Program.{place_at}
-use Rattle.rc_program.specs.Answer.{Search, Chosen, ends, next_of, only, last_of, IsFirstFrom, answer, found as found_of}
+use Rattle.rc_program.specs.Answer as whole
+use Rattle.rc_program.specs.Answer.{Search, Chosen, only, last_of, answer, found as found_of}
+use Rattle.rc_pass.specs.Sights.{Sight, sight_of, ends, next_of}
 use Rattle.rc_program.specs.Greatest.{IsSpelledIn, greatest}
 use Rattle.rc_program.proofs.GreatestLemmas.{greatest_none, spelled_within, answer_spelled, no_answer_no_span}
-use Rattle.rc_program.proofs.AnswerLemmas.{last_pair, is_bounded, last_start_of, start_within_last, start_to_last, match_place_is, walk_ends, answer_law}
+use Rattle.rc_program.proofs.AnswerLemmas.{last_start_of, start_within_last, start_to_last, match_place_is, walk_ends, answer_law}
 use Rattle.rc_program.proofs.WayLemmas.{same_pair}
 use Rattle.rc_pass.specs.Threads.{Thread, ThreadList}
 use Rattle.rc_pass.specs.Trace.{Trace, note, done}
 use Rattle.rc_pass.specs.Passing.{pending, AllIn, GivesTrace, Tells, IsPassing, best_of}
 use Rattle.rc_pass.specs.declared.pass.Ending.{Ending}
-use Rattle.rc_pass.proofs.SearchLemmas.{none_gives}
+use Rattle.rc_pass.proofs.SightLemmas.{last_pair, is_bounded, first_whole, none_whole}
 
-module _ (s : Search) where
+module _ (s : Sight) where
   abbrev Ends : Pair → Type 0
   Ends n = IsTrue (ends s n)
 
@@ -63,17 +65,17 @@ module _ (s : Search) where
 
     -- what a whole pass gives tells it too
     pub whole_tells : (best : Option Ending) (slots : List (Option ℕ)) → GivesTrace s width from last (best_of best slots) → Tells s from last best
-    whole_tells None slots g = none_gives s width from last slots g
+    whole_tells None slots g = ⊎_elim (λ n. n.1) (λ m. absurd (none-some _ m.6)) g
     whole_tells (Some r) slots g = tells_some r (done r.pattern r.start r.end slots) g
 
 -- what is told of all starts of a search says whether something is spelled
 module _ (s : Search) where
-  spelled_there : (x : ℕ) (w : List Pair) → s.lo ≤ x → x ≤ last_start_of s → IsFirstFrom s x w → IsSpelledIn s (found_of s (record { start = x; walk = w }))
+  spelled_there : (x : ℕ) (w : List Pair) → s.lo ≤ x → x ≤ last_start_of s → whole.IsFirstFrom s x w → IsSpelledIn s (found_of s (record { start = x; walk = w }))
   spelled_there x w low high first = record {
     is_start = start_within_last s x low (omega (arith, high));
     walk = w;
     is_walk = first.is_walk;
-    pattern = match_place_is (only s.anchoring) (place_at s.places (last_of w).0) (walk_ends (next_of s) (λ n. IsTrue (ends s n)) first.is_walk);
+    pattern = match_place_is (only s.anchoring) (place_at s.places (last_of w).0) (walk_ends (whole.next_of s) (λ n. IsTrue (whole.ends s n)) first.is_walk);
     position = refl;
   }
 
@@ -81,13 +83,13 @@ module _ (s : Search) where
   is_greatest None e m h = absurd ((greatest_none s).0 e m h)
   is_greatest (Some n) e m h = refl
 
-  pub tells_greatest : (last : ℕ) (best : Option Ending) → last ≡ last_start_of s → Tells s s.lo last best → is_some best ≡ is_some (greatest s)
+  pub tells_greatest : (last : ℕ) (best : Option Ending) → last ≡ last_start_of s → Tells (sight_of None s) s.lo last best → is_some best ≡ is_some (greatest s)
   tells_greatest last None e t =
       sym (ap is_some ((greatest_none s).1 (λ m h.
       let below : m.start < last_start_of s + 1 = start_to_last s m.start h.is_start in
-      t m.start h.is_start.0 (omega (arith, below, e)) h.walk h.is_walk)))
+      none_whole s m.start (t m.start h.is_start.0 (omega (arith, below, e))) h.walk h.is_walk)))
   tells_greatest last (Some r) e t =
-      sym (is_greatest (greatest s) refl (found_of s (record { start = t.0; walk = t.1 })) (spelled_there t.0 t.1 t.2 (omega (arith, t.3, e)) t.4))
+      sym (is_greatest (greatest s) refl (found_of s (record { start = t.0; walk = t.1 })) (spelled_there t.0 t.1 t.2 (omega (arith, t.3, e)) (first_whole s t.0 t.1 t.4)))
 
   pub outside_greatest : s.hi < s.lo → false ≡ is_some (greatest s)
   outside_greatest h =

@@ -5,7 +5,7 @@ use Rattle.std.proofs.lemmas.List.{length_push, append-nil}
 use Rattle.rc_walks.specs.Walks.{IsIn}
 use Rattle.rc_program.specs.Program.{ways_out, pair_at}
 use Rattle.rc_program.specs.Text.{holds, ahead}
-use Rattle.rc_program.specs.Answer.{Search}
+use Rattle.rc_pass.specs.Sights.{Sight}
 use Rattle.rc_program.specs.Laws.{IsClosed}
 use Rattle.rc_program.proofs.PlaceLemmas.{ways_closed}
 use Rattle.rc_pass.specs.Sparse.{Members}
@@ -17,7 +17,7 @@ use Rattle.rc_pass.specs.declared.moves.Move.TheVariants.{Fork, Save, Matches, S
 use Rattle.rc_pass.specs.declared.growth.Frame.{Frame}
 
 -- the places that a move names are places of the program
-pub move_inside : (s : Search) (p at : ℕ) (move : Move) → IsClosed s.places → IsMove s (p, at) move → IsMoveInside (length s.places) move
+pub move_inside : (s : Sight) (p at : ℕ) (move : Move) → IsClosed s.places → IsMove s (p, at) move → IsMoveInside (length s.places) move
 move_inside s p at (Fork a b) closed m = (
   ways_closed s.places closed s.text s.hi (p, at) (a, at) (subst (λ ms. IsIn (a, at) ms) (sym m.0) (inl refl)),
   ways_closed s.places closed s.text s.hi (p, at) (b, at) (subst (λ ms. IsIn (b, at) ms) (sym m.0) (inr (inl refl))),
@@ -99,7 +99,7 @@ grown_then n hi start at threads0 threads1 threads2 entered0 entered1 entered2 a
 }
 
 -- a place is entered, and its move may put a thread behind the others
-pub grown_by : (n hi start at p : ℕ) (slots : List (Option ℕ)) (move : Move) (threads : ThreadList) (entered : Members) (s : Search) → s.hi ≡ hi →
+pub grown_by : (n hi start at p : ℕ) (slots : List (Option ℕ)) (move : Move) (threads : ThreadList) (entered : Members) (s : Sight) → s.hi ≡ hi →
     HasRoom n hi at threads entered → length entered.items + 1 ≤ n → IsMove s (p, at) move → IsMoveInside n move →
     IsGrown n hi start at threads entered (record threads { items = threads.items ++ resting_of start slots move })
     (record entered { items = entered.items ++ p ∷ [] })

@@ -1,13 +1,22 @@
 -- A search is that of an input whose shown chunk and position alone have changed.
-use Rattle.std.proofs.Common.{◌≡◌, ℕ, ◌+◌, ◌≤◌, refl, sym, ◌∙◌, arith, inl, inr, ⊎_elim}
+use Rattle.std.proofs.Common.{◌≡◌, ℕ, ◌+◌, ◌≤◌, refl, sym, ap, ◌∙◌, arith, inl, inr, ⊎_elim}
 use Rattle.rc_text.specs.Text.{Searched, Keeps}
 use Rattle.rc_program.specs.declared.program.Program.{Program}
-use Rattle.rc_pass.specs.Moves.{seen}
+use Rattle.rc_program.specs.Programs.{search_of}
+use Rattle.rc_pass.specs.Sights.{sight_of}
+use Rattle.rc_pass.specs.Moves.{seen, seen_by}
+use Rattle.rc_pass.specs.declared.spot.Course.{Course}
 use Rattle.rc_pass.specs.Windows.{IsWindow, IsBegun, IsAround}
 use Rattle.rc_pass.specs.declared.window.Window.{Window}
 
 pub kept_seen : (p : Program) (a b : Searched) → Keeps a b → seen p b ≡ seen p a
 kept_seen p a b k = rw (k.content, k.span, k.slice, k.anchored) refl
+
+pub kept_search : (p : Program) (a b : Searched) → Keeps a b → search_of p b ≡ search_of p a
+kept_search p a b k = rw (k.content, k.span, k.slice, k.anchored) refl
+
+pub kept_seen_by : (c : Course) (a b : Searched) → Keeps a b → seen_by c b ≡ seen_by c a
+kept_seen_by c a b k = ap (sight_of c.until) (kept_seen c.program.now a b k)
 
 pub kept_back : (a b : Searched) → Keeps a b → Keeps b a
 kept_back a b k = record {

@@ -9,11 +9,13 @@ pub mod NotedLemmas
 pub mod PassLemmas
 pub mod PassingLemmas
 pub mod RowLemmas
+pub mod SightLemmas
 pub mod SearchLemmas
 pub mod SparseLemmas
 pub mod SpreadLemmas
 pub mod SpreadMoveLemmas
 pub mod SpreadPassLemmas
+pub mod ReachLemmas
 pub mod SpreadStepLemmas
 pub mod StartLemmas
 pub mod StepLemmas

@@ -1,11 +1,12 @@
 -- The moves over a byte and over a scalar.
-use Rattle.std.proofs.Common.{◌≡◌, ℕ, ◌+◌, ◌-◌, ◌≤◌, ◌<◌, List, [], ◌∷◌, length, drop, map, slice_range, slice_get, sym, ap, ◌∙◌, refl, arith, true, false, Option, Some, None, length-take, get_or, if◌then◌else◌}
+use Rattle.std.proofs.Common.{◌≡◌, ℕ, ◌+◌, ◌-◌, ◌≤◌, ◌<◌, List, [], ◌∷◌, length, drop, map, slice_range, slice_get, sym, ap, ◌∙◌, refl, arith, true, false, ◌&&◌, Option, Some, None, length-take, get_or, if◌then◌else◌}
 use Rattle.std.proofs.lemmas.Bool.{or_left, and_from, le-leb}
 use Rattle.std.proofs.lemmas.List.{get_or-map}
 use Rattle.rc_program.specs.Program.{Way, choice, byte, scalar, over_byte, place_at, ways_out, pair_at, in_ranges, is_match_place, over_scalar, reads}
 use Rattle.rc_program.specs.Scalars.{scalar_at}
 use Rattle.rc_program.specs.Text.{holds, ahead}
-use Rattle.rc_program.specs.Answer.{Search, only}
+use Rattle.rc_program.specs.Answer.{only}
+use Rattle.rc_pass.specs.Sights.{Sight, is_there}
 use Rattle.std.proofs.lemmas.Option.{none-some, same_Some, slice_get_within}
 use Rattle.rc_program.proofs.WayLemmas.{scalar_at_short, length-ahead}
 use Rattle.rc_program.specs.Places.{place_of, places_of}
@@ -30,7 +31,7 @@ scalar_size content at hi c count e =
     let l = length-take (hi - at) (drop at content) in
     (r.0, r.2, omega (arith, r.0, r.1, l))
 
-pub scalar_move : (s : Search) (p at c count n : ℕ) (rs : List (ℕ × ℕ)) → place_at s.places p ≡ scalar rs n →
+pub scalar_move : (s : Sight) (p at c count n : ℕ) (rs : List (ℕ × ℕ)) → place_at s.places p ≡ scalar rs n →
     scalar_at (ahead s.text s.hi at) ≡ Some (c, count) → in_ranges rs c ≡ true → IsMove s (p, at) (Reads n (at + count))
 scalar_move s p at c count n rs is here inside =
     let r = scalar_size s.text.content at s.hi c count here in (
@@ -39,7 +40,7 @@ scalar_move s p at c count n rs is here inside =
           ∙ ap (λ b. map (pair_at at) (if b then reads count n ∷ [] else [])) inside,
       record {
         silent = λ h. ap (λ q. note_at q h at) is;
-        on = ap (is_match_place (only s.anchoring)) is ∙ no_end (only s.anchoring) rs n;
+        on = ap (λ b. b && is_there s.until at) (ap (is_match_place (only s.anchoring)) is ∙ no_end (only s.anchoring) rs n);
       },
       omega (arith, r),
       omega (arith, r),
@@ -54,7 +55,7 @@ byte_no_end : (pattern : Option ℕ) (rs : List (ℕ × ℕ)) (n : ℕ) → is_m
 byte_no_end None rs n = refl
 byte_no_end (Some p) rs n = refl
 
-module _ (s : Search) (p at : ℕ) where
+module _ (s : Sight) (p at : ℕ) where
   module _ (rs : List (ℕ × ℕ)) (n : ℕ) (is : place_at s.places p ≡ byte rs n) where
     pub byte_move : (b : ℕ) → slice_get (ahead s.text s.hi at) 0 ≡ Some b → in_ranges rs b ≡ true → IsMove s (p, at) (Reads n (at + 1))
     byte_move b here inside =
@@ -65,7 +66,7 @@ module _ (s : Search) (p at : ℕ) where
               ∙ ap (λ t. map (pair_at at) (if t then reads 1 n ∷ [] else [])) inside,
           record {
             silent = λ h. ap (λ q. note_at q h at) is;
-            on = ap (is_match_place (only s.anchoring)) is ∙ byte_no_end (only s.anchoring) rs n;
+            on = ap (λ b. b && is_there s.until at) (ap (is_match_place (only s.anchoring)) is ∙ byte_no_end (only s.anchoring) rs n);
           },
           omega arith,
           omega arith,

@@ -7,12 +7,14 @@ use Rattle.rc_walks.proofs.CutLemmas.{avoids, loosen, from_other, is_in_or_not}
 use Rattle.rc_walks.proofs.StackLemmas.{dead_if_passed}
 use Rattle.rc_walks.proofs.ThreadLemmas.{AllUpTo, Alike, past_alike, fewer_passed}
 use Rattle.rc_program.specs.Program.{accept, place_at}
-use Rattle.rc_program.specs.Answer.{Search, ends, next_of, last_of, pattern_at}
+use Rattle.rc_program.specs.Answer.{last_of, pattern_at}
 use Rattle.rc_program.proofs.WayLemmas.{same_pair, ways_onward}
-use Rattle.rc_program.proofs.AnswerLemmas.{last_pair, last_of_more}
+use Rattle.rc_program.proofs.AnswerLemmas.{last_of_more}
+use Rattle.rc_pass.specs.Sights.{Sight, ends, next_of}
+use Rattle.rc_pass.proofs.SightLemmas.{last_pair}
 use Rattle.rc_pass.specs.Marking.{LeadsToPattern, SomeLeads}
 
-module _ (s : Search) (p : ℕ) where
+module _ (s : Sight) (p : ℕ) where
   abbrev Ends : Pair → Type 0
   Ends n = IsTrue (ends s n)
 

@@ -1,12 +1,13 @@
 -- What a thread's entering of a place does to the patterns that are owed.
-use Rattle.std.proofs.Common.{◌≡◌, ◌≢◌, ◌↔◌, ℕ, ◌+◌, ◌<◌, ◌≤◌, ◌⊎◌, Bool, true, false, List, [], ◌∷◌, ◌++◌, length, map, set, reverse, inl, inr, ⊎_elim, sym, subst, ap, ◌∙◌, refl, arith, IsTrue}
+use Rattle.std.proofs.Common.{◌≡◌, ◌≢◌, ◌↔◌, ℕ, ◌+◌, ◌<◌, ◌≤◌, ◌⊎◌, ◌&&◌, Bool, true, false, List, [], ◌∷◌, ◌++◌, length, map, set, reverse, inl, inr, ⊎_elim, sym, subst, ap, ◌∙◌, refl, arith, IsTrue}
 use Rattle.std.proofs.lemmas.Bool.{le-ltb}
 use Rattle.std.proofs.lemmas.List.{map-append, append-nil}
 use Rattle.rc_patterns.specs.Sets.{Has as IsMember}
 use Rattle.rc_walks.specs.Walks.{Pair, IsIn}
 use Rattle.rc_program.specs.Program.{accept, place_at, ways_out, pair_at, is_match_place}
 use Rattle.rc_program.specs.Text.{holds, ahead}
-use Rattle.rc_program.specs.Answer.{Search, only, ends, next_of}
+use Rattle.rc_program.specs.Answer.{only}
+use Rattle.rc_pass.specs.Sights.{Sight, is_there, ends, next_of}
 use Rattle.rc_pass.specs.Entered.{IsSkipped, IsEntered}
 use Rattle.rc_pass.specs.Marking.{SomeLeads, Owed, going, explored}
 use Rattle.rc_pass.specs.Moves.{IsMove}
@@ -36,7 +37,7 @@ middle f = (
 last_two : {R A B : Type 0} → A ↔ B → (R ⊎ A) ↔ (R ⊎ B)
 last_two f = (λ h. ⊎_elim (λ a. inl a) (λ b. inr (f.0 b)) h, λ h. ⊎_elim (λ a. inl a) (λ b. inr (f.1 b)) h)
 
-module _ (s : Search) (p at : ℕ) (marks : List Bool) where
+module _ (s : Sight) (p at : ℕ) (marks : List Bool) where
   low_pairs : (items : List ℕ) (k : Pair) → IsIn k (pairs at items) → k.1 ≤ at
   low_pairs items k i = let e : k.1 ≡ at = pairs_at at items k i in omega arith
 
@@ -111,9 +112,9 @@ module _ (s : Search) (p at : ℕ) (marks : List Bool) where
           ↔ Owed s at rest (items ++ q ∷ []) (explored at (fs ++ frames) ++ below) marks p) (sym e)
           (ways_on ((n, at) ∷ []) (explored at frames ++ below)
           (ap (λ q. map (pair_at at) (ways_out (λ l. holds s.text l at) (ahead s.text s.hi at) q)) m)
-          (ap (is_match_place (only s.anchoring)) m ∙ slot_on (only s.anchoring) k n)))
+          (ap (λ b. b && is_there s.until at) (ap (is_match_place (only s.anchoring)) m ∙ slot_on (only s.anchoring) k n))))
 
-module _ (s : Search) (at q start : ℕ) (g0 g : Growth) (below : List Pair) (marks : List Bool) (p : ℕ) where
+module _ (s : Sight) (at q start : ℕ) (g0 g : Growth) (below : List Pair) (marks : List Bool) (p : ℕ) where
   abbrev Before : Type 0
   Before = Owed s at g0.threads.items g0.entered.items ((q, at) ∷ (explored at (reverse g0.stack.items) ++ below)) marks p
 
@@ -141,7 +142,7 @@ module _ (s : Search) (at q start : ℕ) (g0 g : Growth) (below : List Pair) (ma
       (ended_here s p at marks g0.threads.items g0.entered.items q start m.fresh number (explored at (reverse g0.stack.items) ++ below) i.1 i.0 low)
 
 -- the pattern of a walk that ends has a number of `PatternID`
-pub accepted : (s : Search) (at q start : ℕ) (g0 g : Growth) (move : Move) (number : ℕ) → IsEntered s at q start move g0 g → move ≡ Matches number →
+pub accepted : (s : Sight) (at q start : ℕ) (g0 g : Growth) (move : Move) (number : ℕ) → IsEntered s at q start move g0 g → move ≡ Matches number →
     ((n p : ℕ) → place_at s.places n ≡ accept p → p ≤ 2147483646) → number ≤ 2147483646
 accepted s at q start g0 g move number m is numbered = numbered q number (subst (IsMove s (q, at)) is m.is_move).0
 

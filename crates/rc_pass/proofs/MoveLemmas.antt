@@ -1,5 +1,5 @@
 -- What a thread's entering of a place does to what pends.
-use Rattle.std.proofs.Common.{◌≡◌, ◌≢◌, ℕ, zero, suc, ◌+◌, ◌<◌, ◌≤◌, List, [], ◌∷◌, ◌++◌, length, map, ⊎_elim, sym, subst, ap, ◌∙◌, refl, arith, false, true≢false, IsTrue, Option, Some, None, slice_index_or, slice_set}
+use Rattle.std.proofs.Common.{◌≡◌, ◌≢◌, ℕ, zero, suc, ◌+◌, ◌<◌, ◌≤◌, List, [], ◌∷◌, ◌++◌, length, map, ⊎_elim, sym, subst, ap, ◌∙◌, refl, arith, false, true≢false, IsTrue, Option, Some, None, ◌&&◌, slice_index_or, slice_set}
 use Rattle.std.proofs.lemmas.Bool.{cases_lt, lt-ltb, le-ltb}
 use Rattle.std.proofs.lemmas.List.{set-get_or, set-set, map-append, append-nil}
 use Rattle.rc_walks.specs.Walks.{Pair, IsIn}
@@ -7,9 +7,10 @@ use Rattle.rc_walks.specs.Threads.{Pends, threads, AllPast}
 use Rattle.rc_walks.proofs.ThreadLemmas.{of_none, of_rest, skips_pends, enters_pends, matches_pends}
 use Rattle.rc_program.specs.Program.{slot, accept, place_at, ways_out, pair_at, is_match_place}
 use Rattle.rc_program.specs.Text.{holds, ahead}
-use Rattle.rc_program.specs.Answer.{Search, only, ends, next_of}
+use Rattle.rc_program.specs.Answer.{only}
+use Rattle.rc_pass.specs.Sights.{Sight, is_there, ends, next_of}
 use Rattle.rc_program.proofs.WayLemmas.{same_pair, ways_onward}
-use Rattle.rc_program.proofs.AnswerLemmas.{last_pair}
+use Rattle.rc_pass.proofs.SightLemmas.{last_pair}
 use Rattle.rc_pass.specs.Sparse.{Has}
 use Rattle.rc_pass.specs.Threads.{Thread}
 use Rattle.rc_pass.specs.Trace.{Trace, note, note_at, trace, done}
@@ -48,7 +49,7 @@ pub slot_on : (pattern : Option ℕ) (k n : ℕ) → is_match_place pattern (slo
 slot_on None k n = refl
 slot_on (Some p) k n = refl
 
-module _ (s : Search) where
+module _ (s : Sight) where
   abbrev pub Ends : Pair → Type 0
   Ends n = IsTrue (ends s n)
 
@@ -133,7 +134,7 @@ module _ (s : Search) where
           (waited at rest (items ++ p ∷ []) best o (record { place = n; at = to; start = start; slots = slots }) (waits start at frames slots ++ below) m.2 x)
       moved (Save k n) frames below m other x =
           entered_on p (trace start slots) (waits start at frames slots ++ below) fresh
-          (ap (is_match_place (only s.anchoring)) m ∙ slot_on (only s.anchoring) k n)
+          (ap (λ b. b && is_there s.until at) (ap (is_match_place (only s.anchoring)) m ∙ slot_on (only s.anchoring) k n))
           (subst (λ q. Carries s at rest (items ++ p ∷ [])
           (threads (note_at q (trace start slots) at) (map (pair_at at) (ways_out (λ l. holds s.text l at) (ahead s.text s.hi at) q))
           ++ (waits start at frames slots ++ below)) best o) (sym m)

@@ -2,7 +2,7 @@
 use Rattle.std.proofs.Common.{◌≡◌, ℕ, suc, ◌+◌, ◌-◌, ◌*◌, ◌^◌, ◌<◌, ◌≤◌, ◌⊎◌, List, [], ◌∷◌, ◌++◌, length, map, min, ⊎_elim, sym, subst, ap, refl, arith, Bool, true, false, true≢false, IsTrue, Option, Some, None, is_none}
 use Rattle.std.proofs.Math.Nat.{mul-le-mul_left, mul-le-mul_right}
 use Rattle.rc_walks.specs.Threads.{IsFirstOf, over}
-use Rattle.rc_program.specs.Answer.{Search, next_of, HasNoWalkFrom}
+use Rattle.rc_pass.specs.Sights.{Sight, next_of, HasNoWalkFrom}
 use Rattle.rc_pass.specs.Threads.{Thread, ThreadList}
 use Rattle.rc_pass.specs.Trace.{Trace, note, starts}
 use Rattle.rc_pass.specs.Passing.{pending, Carries, AllIn, IsLined, IsPassing, IsCounted, waiting_starts, Pending, GivesTrace, best_of}
@@ -22,10 +22,10 @@ none_before : (x y : ℕ) → x ≤ y → y < x → ⊥
 none_before x y l h = omega arith
 
 -- a pass at `at` goes on at x: there, or, where it is idle, at a later position, and no start between has a walk
-abbrev pub GoesOn : Search → ℕ → Bool → ℕ → ℕ → Type 0
+abbrev pub GoesOn : Sight → ℕ → Bool → ℕ → ℕ → Type 0
 GoesOn s hi idle at x = (at ≤ x) × (x ≤ hi) × ((x ≡ at) ⊎ (IsTrue idle × ((y : ℕ) → at ≤ y → y < x → HasNoWalkFrom s y)))
 
-module _ (s : Search) (n hi width from last : ℕ) where
+module _ (s : Sight) (n hi width from last : ℕ) where
   all_starts : (o : Option Trace) → Carries s from [] [] (starts width from (last + 1 - from)) None o →
       IsFirstOf (next_of s) (Ends s) Trace (note s.places) [] (λ q. q ≡ None) (starts width from (last + 1 - from)) o
   all_starts o (over x) = x

@@ -1,21 +1,22 @@
 -- From passes to the answer of a search.
-use Rattle.std.proofs.Common.{◌≡◌, ◌≢◌, ℕ, ◌+◌, ◌*◌, ◌<◌, ◌≤◌, List, length, inl, inr, ⊎_elim, sym, subst, ap, ap₂, ◌∙◌, refl, arith, true, false, Option, Some, None, not, slice_index_or, slice_set, get_or-set_same, get_or-set_other, length-set, nat_eq, if◌then◌else◌, eq-eqb, ne_eqb}
+use Rattle.std.proofs.Common.{◌≡◌, ◌≢◌, ℕ, ◌+◌, ◌*◌, ◌<◌, ◌≤◌, List, [], ◌∷◌, length, inl, inr, ⊎_elim, sym, subst, ap, ap₂, ◌∙◌, refl, arith, true, false, IsTrue, Option, Some, None, not, slice_index_or, slice_set, get_or-set_same, get_or-set_other, length-set, nat_eq, if◌then◌else◌, eq-eqb, ne_eqb}
 use Rattle.std.specs.Option.{option_map}
 use Rattle.std.proofs.lemmas.Bool.{cases_lt, cases_eq, or_right}
 use Rattle.std.proofs.lemmas.List.FromFn.{fill_by_all}
 use Rattle.std.proofs.lemmas.Option.{none-some, same_Some}
 use Rattle.rc_text.specs.Text.{is_boundary}
 use Rattle.rc_text.specs.Found.{Found}
-use Rattle.rc_walks.specs.Walks.{Pair}
+use Rattle.rc_walks.specs.Walks.{Pair, IsWalk}
 use Rattle.rc_walks.specs.Threads.{noted}
 use Rattle.rc_program.specs.Program.{place_at, accept}
-use Rattle.rc_program.specs.Answer.{Search, only, next_of, IsFirstFrom, HasNoWalkFrom, IsPassed, is_allowed, last_of, Chosen, chosen, answer, groups, found, pattern_of, pattern_at, slot_of, slots_of, last_visit, Anchoring, is_anchored}
+use Rattle.rc_program.specs.Answer.{Search, only, ends, next_of, IsFirstFrom, HasNoWalkFrom, IsPassed, is_allowed, last_of, Chosen, chosen, answer, groups, found, pattern_of, pattern_at, slot_of, slots_of, last_visit, Anchoring, is_anchored}
 use Rattle.rc_program.proofs.AnswerLemmas.{first_start_chosen, no_start_chosen, last_start_of, start_within_last, start_to_last, match_place_is, chosen_law, chosen_within, chosen_accepts}
 use Rattle.rc_pass.specs.Trace.{Trace, note, sets_out, done}
 use Rattle.rc_pass.specs.Passing.{GivesTrace, best_of}
 use Rattle.rc_pass.specs.Found.{IsChosen}
 use Rattle.rc_pass.specs.declared.pass.Ending.{Ending}
-use Rattle.rc_pass.proofs.MoveLemmas.{Ends}
+use Rattle.rc_pass.specs.Sights.{sight_of}
+use Rattle.rc_pass.proofs.SightLemmas.{first_whole, none_whole}
 use Rattle.rc_pass.proofs.NotedLemmas.{noted_start, noted_visit, noted_end}
 
 -- what a pass that found a walk has shown of it
@@ -30,33 +31,51 @@ pub record IsBest (s : Search) (width from last : ℕ) (e : Ending) (slots : Lis
 
 module _ (s : Search) (width from last : ℕ) where
   -- no start has a walk
-  pub none_gives : (slots : List (Option ℕ)) → GivesTrace s width from last (best_of None slots) → (y : ℕ) → from ≤ y → y ≤ last → HasNoWalkFrom s y
-  none_gives slots g = ⊎_elim (λ n. n.1) (λ m. absurd (none-some _ m.6)) g
+  pub none_gives : (slots : List (Option ℕ)) → GivesTrace (sight_of None s) width from last (best_of None slots) → (y : ℕ) → from ≤ y → y ≤ last → HasNoWalkFrom s y
+  none_gives slots g = ⊎_elim (λ n. λ y a b. none_whole s y (n.1 y a b)) (λ m. absurd (none-some _ m.6)) g
 
-  best_gives : (e : Ending) (slots : List (Option ℕ)) (x : ℕ) (w : List Pair) → from ≤ x → x ≤ last → IsFirstFrom s x w →
-      ((y : ℕ) → from ≤ y → y < x → HasNoWalkFrom s y) → done e.pattern e.start e.end slots ≡ noted (note s.places) (sets_out width x).0 w →
-      IsBest s width from last e slots w
-  best_gives e slots x w low high first before same =
-      let begun : e.start ≡ x = ap (λ (t : Trace). t.start) same ∙ noted_start s.places (sets_out width x).0 w in
+  -- what is told of a walk along which that was noted
+  pub record IsTold (x : ℕ) (e : Ending) (slots : List (Option ℕ)) (w : List Pair) : Type 0 where
+    pub start : e.start ≡ x
+    pub pattern : e.pattern ≡ pattern_at (place_at s.places (last_of w).0)
+    pub end : e.end ≡ (last_of w).1
+    pub visits : (k : ℕ) → k < width → slice_index_or slots k None ≡ last_visit s.places k w
+
+  pub told_by : (e : Ending) (slots : List (Option ℕ)) (x : ℕ) (w : List Pair) → IsWalk (next_of s) (λ n. IsTrue (ends s n)) [] ((0, x) ∷ []) w →
+      done e.pattern e.start e.end slots ≡ noted (note s.places) (sets_out width x).0 w → IsTold x e slots w
+  told_by e slots x w is_walk same =
       let stop = same_Some (e.pattern, e.end) (pattern_at (place_at s.places (last_of w).0), (last_of w).1)
       (ap (λ (t : Trace). t.ended) same
-      ∙ noted_end s.places (next_of s) (Ends s) (λ n h. match_place_is (only s.anchoring) (place_at s.places n.0) h) (sets_out width x).0 first.is_walk) in
+      ∙ noted_end s.places (next_of s) (λ n. IsTrue (ends s n)) (λ n h. match_place_is (only s.anchoring) (place_at s.places n.0) h) (sets_out width x).0 is_walk) in
       record {
-        low = omega (arith, begun, low);
-        high = omega (arith, begun, high);
-        first = subst (λ y. IsFirstFrom s y w) (sym begun) first;
-        before = λ y l h. before y l (omega (arith, begun, h));
+        start = ap (λ (t : Trace). t.start) same ∙ noted_start s.places (sets_out width x).0 w;
         pattern = ap (λ (z : ℕ × ℕ). z.0) stop;
         end = ap (λ (z : ℕ × ℕ). z.1) stop;
         visits = λ k l. ap (λ (t : Trace). slice_index_or t.slots k None) same ∙ noted_visit s.places (sets_out width x).0 w width k refl l;
       }
 
+  best_gives : (e : Ending) (slots : List (Option ℕ)) (x : ℕ) (w : List Pair) → from ≤ x → x ≤ last → IsFirstFrom s x w →
+      ((y : ℕ) → from ≤ y → y < x → HasNoWalkFrom s y) → done e.pattern e.start e.end slots ≡ noted (note s.places) (sets_out width x).0 w →
+      IsBest s width from last e slots w
+  best_gives e slots x w low high first before same =
+      let told = told_by e slots x w first.is_walk same in
+      let begun = told.start in
+      record {
+        low = omega (arith, begun, low);
+        high = omega (arith, begun, high);
+        first = subst (λ y. IsFirstFrom s y w) (sym begun) first;
+        before = λ y l h. before y l (omega (arith, begun, h));
+        pattern = told.pattern;
+        end = told.end;
+        visits = told.visits;
+      }
+
   -- the least start that has a walk, and its first walk
-  pub some_gives : (e : Ending) (slots : List (Option ℕ)) → GivesTrace s width from last (best_of (Some e) slots) →
+  pub some_gives : (e : Ending) (slots : List (Option ℕ)) → GivesTrace (sight_of None s) width from last (best_of (Some e) slots) →
       (w : List Pair) × IsBest s width from last e slots w
   some_gives e slots g =
       ⊎_elim (λ n. absurd (none-some _ (sym n.0)))
-      (λ m. (m.1, best_gives e slots m.0 m.1 m.2 m.3 m.4 m.5 (same_Some _ _ m.6))) g
+      (λ m. (m.1, best_gives e slots m.0 m.1 m.2 m.3 (first_whole s m.0 m.1 m.4) (λ y a b. none_whole s y (m.5 y a b)) (same_Some _ _ m.6))) g
 
 -- the last start, as the code finds it
 pub last_found : (s : Search) (last lo hi : ℕ) (anchoring : Anchoring) → last ≡ (if is_anchored anchoring then lo else hi) → lo ≡ s.lo → hi ≡ s.hi →
@@ -95,7 +114,7 @@ module _ (s : Search) where
 
     -- the found walk is the answer's
     pub best_chosen : (e : Ending) (slots : List (Option ℕ)) (w : List Pair) → length slots ≡ width → s.lo ≤ from → IsBest s width from last e slots w →
-        is_allowed s w ≡ true → (c : Chosen) × IsChosen s e slots c
+        is_allowed s w ≡ true → (c : Chosen) × IsChosen s (chosen s) e slots c
     best_chosen e slots w wide low best allowed = (
       record { start = e.start; walk = w },
       record {
@@ -129,27 +148,19 @@ module _ (s : Search) where
   unfolding answer
   answer_none e = ap (option_map (found s)) e
 
-  -- The answer, once the walk is chosen.
-  module _ (e : Ending) (slots : List (Option ℕ)) (c : Chosen) (is : IsChosen s e slots c) where
-    pub answer_is : answer s ≡ Some (record { pattern = e.pattern; start = e.start; end = e.end })
-    unfolding answer
-    answer_is =
+  -- The answer, once the walk is picked.
+  module _ (picked : Option Chosen) (e : Ending) (slots : List (Option ℕ)) (c : Chosen) (is : IsChosen s picked e slots c) where
+    pub found_is : option_map (found s) picked ≡ Some (record { pattern = e.pattern; start = e.start; end = e.end })
+    found_is =
         ap (option_map (found s)) is.is_chosen
         ∙ ap Some (ap₂ (λ (p : ℕ) (z : ℕ × ℕ). let f : Found = record { pattern = p; start = z.0; end = z.1 } in f) (sym is.pattern)
         (ap₂ (λ x y. (x, y)) (sym is.start) (sym is.end)))
 
-    pub within : (s.lo ≤ e.start) × (e.start ≤ e.end) × (e.end ≤ s.hi)
-    within = let r = chosen_within s c ((chosen_law s c).0 is.is_chosen) in
-        (omega (arith, is.start, r.0), omega (arith, is.start, is.end, r.1), omega (arith, is.end, r.2))
-
-    pub pattern_place : place_at s.places (last_of c.walk).0 ≡ accept e.pattern
-    pattern_place = chosen_accepts s c ((chosen_law s c).0 is.is_chosen) ∙ ap accept (sym is.pattern)
-
     -- with the whole match in its two slots, they are the groups
-    pub groups_are : (slots2 : List (Option ℕ)) →
-        slots2 ≡ slice_set (slice_set slots (2 * e.pattern) (Some e.start)) (2 * e.pattern + 1) (Some e.end) → Some slots2 ≡ groups s (length slots)
-    unfolding groups
-    groups_are slots2 same =
+    pub slots_are : (slots2 : List (Option ℕ)) →
+        slots2 ≡ slice_set (slice_set slots (2 * e.pattern) (Some e.start)) (2 * e.pattern + 1) (Some e.end) →
+        Some slots2 ≡ option_map (slots_of s (length slots)) picked
+    slots_are slots2 same =
         ap Some (fill_by_all (slot_of s c) slots2 (length slots) None (ap length same ∙ length-set _ (2 * e.pattern + 1) (Some e.end) ∙ length-set slots (2 * e.pattern) (Some e.start))
         (λ k l. ap (λ xs. slice_index_or xs k None) same ∙ at_slot k l))
         ∙ ap (option_map (slots_of s (length slots))) (sym is.is_chosen)
@@ -193,3 +204,20 @@ module _ (s : Search) where
 
         at_slot : (k : ℕ) → k < length slots → slice_index_or (slice_set first (2 * e.pattern + 1) (Some e.end)) k None ≡ slot_of s c k
         at_slot k l = written k l ∙ sym (told k)
+
+  module _ (e : Ending) (slots : List (Option ℕ)) (c : Chosen) (is : IsChosen s (chosen s) e slots c) where
+    pub answer_is : answer s ≡ Some (record { pattern = e.pattern; start = e.start; end = e.end })
+    unfolding answer
+    answer_is = found_is (chosen s) e slots c is
+
+    pub within : (s.lo ≤ e.start) × (e.start ≤ e.end) × (e.end ≤ s.hi)
+    within = let r = chosen_within s c ((chosen_law s c).0 is.is_chosen) in
+        (omega (arith, is.start, r.0), omega (arith, is.start, is.end, r.1), omega (arith, is.end, r.2))
+
+    pub pattern_place : place_at s.places (last_of c.walk).0 ≡ accept e.pattern
+    pattern_place = chosen_accepts s c ((chosen_law s c).0 is.is_chosen) ∙ ap accept (sym is.pattern)
+
+    pub groups_are : (slots2 : List (Option ℕ)) →
+        slots2 ≡ slice_set (slice_set slots (2 * e.pattern) (Some e.start)) (2 * e.pattern + 1) (Some e.end) → Some slots2 ≡ groups s (length slots)
+    unfolding groups
+    groups_are slots2 same = slots_are (chosen s) e slots c is slots2 same

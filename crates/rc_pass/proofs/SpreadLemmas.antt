@@ -8,10 +8,12 @@ use Rattle.rc_walks.proofs.CutLemmas.{avoids, loosen, from_other, is_in_or_not}
 use Rattle.rc_walks.proofs.StackLemmas.{dead_if_passed}
 use Rattle.rc_walks.proofs.ThreadLemmas.{AllUpTo, Alike, past_alike, fewer_passed}
 use Rattle.rc_program.specs.Program.{accept, place_at}
-use Rattle.rc_program.specs.Answer.{Search, ends, next_of, last_of, pattern_at}
+use Rattle.rc_program.specs.Answer.{last_of, pattern_at}
+use Rattle.rc_pass.specs.Sights.{Sight, ends, next_of}
 use Rattle.rc_program.specs.Greatest.{IsNoGreater}
 use Rattle.rc_program.proofs.WayLemmas.{same_pair, ways_onward}
-use Rattle.rc_program.proofs.AnswerLemmas.{last_pair, last_of_more}
+use Rattle.rc_program.proofs.AnswerLemmas.{last_of_more}
+use Rattle.rc_pass.proofs.SightLemmas.{last_pair}
 use Rattle.rc_pass.specs.Spread.{Runner, LeadsToMatch, SomeSpells, span_of, IsTop, BeginFrom, IsGreater}
 use Rattle.rc_pass.specs.declared.pass.Ending.{Ending}
 
@@ -43,7 +45,7 @@ pub top_back : (A B : Found → Type 0) (o : Option Found) → Narrows A B → I
 top_back A B None h none = λ m a. let r = h.enough m a in none r.0 r.1
 top_back A B (Some m) h top = (h.fewer m top.0, λ n a. let r = h.enough n a in no_greater_then n r.0 m r.2 (top.1 r.0 r.1))
 
-module _ (s : Search) where
+module _ (s : Sight) where
   abbrev Ends : Pair → Type 0
   Ends n = IsTrue (ends s n)
 

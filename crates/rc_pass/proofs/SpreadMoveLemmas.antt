@@ -1,12 +1,13 @@
 -- What a thread's entering of a place does to the greatest match on offer.
-use Rattle.std.proofs.Common.{◌≡◌, ◌≢◌, ℕ, ◌+◌, ◌<◌, ◌≤◌, List, [], ◌∷◌, ◌++◌, map, sym, subst, ap, ◌∙◌, refl, arith, false, IsTrue, Option, Some, option_map, ◌⊎◌}
+use Rattle.std.proofs.Common.{◌≡◌, ◌≢◌, ℕ, ◌+◌, ◌<◌, ◌≤◌, List, [], ◌∷◌, ◌++◌, map, sym, subst, ap, ◌∙◌, refl, arith, false, IsTrue, ◌&&◌, Option, Some, option_map, ◌⊎◌}
 use Rattle.std.proofs.lemmas.Bool.{le-ltb}
 use Rattle.std.proofs.lemmas.List.{map-append, append-nil}
 use Rattle.rc_text.specs.Found.{Found}
 use Rattle.rc_walks.specs.Walks.{Pair}
 use Rattle.rc_program.specs.Program.{accept, place_at, ways_out, pair_at, is_match_place}
 use Rattle.rc_program.specs.Text.{holds, ahead}
-use Rattle.rc_program.specs.Answer.{Search, only, ends, next_of}
+use Rattle.rc_program.specs.Answer.{only}
+use Rattle.rc_pass.specs.Sights.{Sight, is_there, ends, next_of}
 use Rattle.rc_pass.specs.Sparse.{Has}
 use Rattle.rc_pass.specs.Threads.{Thread}
 use Rattle.rc_pass.specs.Moves.{IsMove}
@@ -57,7 +58,7 @@ ordered_by start ts (Stays m) h = rw append-nil h
 ordered_by start ts Stops h = rw append-nil h
 ordered_by start ts (Reads m to) h = ordered_push ts (record { place = m; at = to; start = start; slots = [] }) h
 
-module _ (s : Search) where
+module _ (s : Sight) where
   -- a thread goes on at a later position
   pub later_waits : (at : ℕ) (rest : List Thread) (items : List ℕ) (best : Option Ending) (o : Option Found) (t : Thread) (ts : List Runner) → at < t.at →
       Seeks s at (rest ++ t ∷ []) items ts best o → Seeks s at rest items (running t ∷ ts) best o
@@ -137,6 +138,6 @@ module _ (s : Search) where
           let e : frames_of [] (Save k n) ≡ Explore n ∷ [] = rw (le-ltb k 0 (omega arith)) refl in
           ways_on ((n, at) ∷ []) (runners_of start at frames ++ below)
           (ap (λ q. map (pair_at at) (ways_out (λ l. holds s.text l at) (ahead s.text s.hi at) q)) m)
-          (ap (is_match_place (only s.anchoring)) m ∙ slot_on (only s.anchoring) k n) (begin_more start at frames below low)
+          (ap (λ b. b && is_there s.until at) (ap (is_match_place (only s.anchoring)) m ∙ slot_on (only s.anchoring) k n)) (begin_more start at frames below low)
           (subst (λ fs. Seeks s at rest (items ++ p ∷ []) (runners_of start at (fs ++ frames) ++ below) best o) e
           (subst (λ r. Seeks s at r (items ++ p ∷ []) (runners_of start at (frames_of [] (Save k n) ++ frames) ++ below) best o) (append-nil rest) x))

@@ -3,7 +3,7 @@ use Rattle.std.proofs.Common.{◌≡◌, ℕ, zero, suc, ◌+◌, ◌-◌, ◌<�
 use Rattle.std.proofs.lemmas.Bool.{le-leb}
 use Rattle.std.proofs.lemmas.List.{length_push}
 use Rattle.rc_text.specs.Found.{Found}
-use Rattle.rc_program.specs.Answer.{Search}
+use Rattle.rc_pass.specs.Sights.{Sight}
 use Rattle.rc_pass.specs.Sparse.{Members}
 use Rattle.rc_pass.specs.Threads.{Thread, ThreadList}
 use Rattle.rc_pass.specs.Passing.{AllIn, AllFrom, count_from, IsGrown}
@@ -27,7 +27,7 @@ pub setting_from : (x y count : ℕ) → x ≤ y → BeginFrom x (setting_out y 
 setting_from x y zero h = tt
 setting_from x y (suc count) h = (h, setting_from x (y + 1) count (omega (arith, h)))
 
-pub setting_later : (s : Search) (at x count : ℕ) → at < x → AllLater s at (setting_out x count)
+pub setting_later : (s : Sight) (at x count : ℕ) → at < x → AllLater s at (setting_out x count)
 setting_later s at x zero h = tt
 setting_later s at x (suc count) h = (h, setting_later s at (x + 1) count (omega (arith, h)))
 
@@ -41,7 +41,7 @@ pub all_from_zero : (ts : List Thread) → AllFrom 0 ts
 all_from_zero [] = tt
 all_from_zero (t ∷ ts) = (omega arith, all_from_zero ts)
 
-module _ (s : Search) (n hi at : ℕ) (all : List Thread) (threads0 : ThreadList) (best0 : Option Ending) where
+module _ (s : Sight) (n hi at : ℕ) (all : List Thread) (threads0 : ThreadList) (best0 : Option Ending) where
   pub spreading_begins : (entered : Members) → threads0.items ≡ [] → entered.items ≡ [] → entered.capacity ≡ n → n ≤ threads0.room → IsOrdered at all →
       IsSpreading s n hi at all all threads0 best0 threads0 entered best0
   spreading_begins entered no_threads no_places capacity room ordered = record {

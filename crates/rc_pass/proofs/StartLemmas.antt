@@ -3,7 +3,7 @@ use Rattle.std.proofs.Common.{◌≡◌, ℕ, zero, suc, ◌+◌, ◌-◌, ◌<�
 use Rattle.std.proofs.lemmas.Bool.{cases_lt}
 use Rattle.rc_walks.specs.Threads.{IsFirstOf, AllPast, passes}
 use Rattle.rc_walks.proofs.ThreadLemmas.{of_none, of_one}
-use Rattle.rc_program.specs.Answer.{Search, next_of, HasNoWalkFrom}
+use Rattle.rc_pass.specs.Sights.{Sight, next_of, HasNoWalkFrom}
 use Rattle.rc_pass.specs.Trace.{Trace, note, starts, sets_out}
 use Rattle.rc_pass.specs.Passing.{waiting_starts, GivesTrace}
 use Rattle.rc_pass.proofs.MoveLemmas.{Ends}
@@ -28,7 +28,7 @@ pub waiting_past : (is_open : Bool) (width at last : ℕ) → AllPast at (waitin
 waiting_past true width at last = starts_past width at (at + 1) (last + 1 - (at + 1)) (omega arith)
 waiting_past false width at last = tt
 
-module _ (s : Search) (width from : ℕ) where
+module _ (s : Sight) (width from : ℕ) where
   -- of all starts the least that has a walk decides
   pub starts_give : (x count last : ℕ) (o : Option Trace) → from ≤ x → last + 1 ≡ x + count → ((y : ℕ) → from ≤ y → y < x → HasNoWalkFrom s y) →
       IsFirstOf (next_of s) (Ends s) Trace (note s.places) [] (λ q. q ≡ None) (starts width x count) o → GivesTrace s width from last o
@@ -42,7 +42,7 @@ module _ (s : Search) (width from : ℕ) where
       (λ ge. let e : x ≡ y = omega arith in subst (λ z. HasNoWalkFrom s z) e f.0) (cases_lt y x)) f.1)
       (of_one (next_of s) (Ends s) Trace (note s.places) p)
 
-module _ (s : Search) (width last : ℕ) (best : Option Trace) where
+module _ (s : Sight) (width last : ℕ) (best : Option Trace) where
   -- starts without a walk decide nothing
   pub starts_skipped : (count at : ℕ) (o : Option Trace) → ((y : ℕ) → at ≤ y → y < at + count → HasNoWalkFrom s y) →
       IsFirstOf (next_of s) (Ends s) Trace (note s.places) [] (λ q. q ≡ best) (waiting_starts true width (at + count) last) o →

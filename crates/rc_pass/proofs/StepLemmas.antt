@@ -4,7 +4,7 @@ use Rattle.std.proofs.lemmas.Bool.{le-leb}
 use Rattle.std.proofs.lemmas.List.{length_push}
 use Rattle.std.proofs.lemmas.Option.{none-some}
 use Rattle.rc_walks.specs.Walks.{Pair}
-use Rattle.rc_program.specs.Answer.{Search}
+use Rattle.rc_pass.specs.Sights.{Sight}
 use Rattle.rc_pass.specs.Sparse.{Members}
 use Rattle.rc_pass.specs.Threads.{Thread, ThreadList}
 use Rattle.rc_pass.specs.Trace.{Trace, trace, done}
@@ -27,7 +27,7 @@ from_at x [] k t all e = absurd (none-some t e)
 from_at x (u ∷ ts) zero t all e = let same : u ≡ t = cc in subst (λ (y : Thread). x ≤ y.start) same all.0
 from_at x (u ∷ ts) (suc k) t all e = from_at x ts k t all.1 e
 
-module _ (s : Search) (n hi at : ℕ) (all : List Thread) (threads0 : ThreadList) where
+module _ (s : Sight) (n hi at : ℕ) (all : List Thread) (threads0 : ThreadList) where
   pub stepping_begins : (entered : Members) → threads0.items ≡ [] → entered.items ≡ [] → entered.capacity ≡ n → n ≤ threads0.room →
       IsStepping s n hi at all all threads0 threads0 entered
   stepping_begins entered no_threads no_places capacity room = record {

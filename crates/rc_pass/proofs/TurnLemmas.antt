@@ -1,7 +1,7 @@
 -- From one position to the next.
 use Rattle.std.proofs.Common.{◌≡◌, ℕ, suc, ◌+◌, ◌-◌, ◌*◌, ◌<◌, ◌≤◌, List, [], ◌∷◌, ◌++◌, length, map, min, ⊎_elim, sym, subst, ap, refl, arith, Bool, true, false, Option, Some, None, is_none, is_some, not, true≢false}
 use Rattle.std.proofs.lemmas.Bool.{cases_lt}
-use Rattle.rc_program.specs.Answer.{Search}
+use Rattle.rc_pass.specs.Sights.{Sight}
 use Rattle.rc_pass.specs.Sparse.{Members}
 use Rattle.rc_pass.specs.Threads.{Thread, ThreadList}
 use Rattle.rc_pass.specs.Trace.{Trace, done}
@@ -61,7 +61,7 @@ lined_next n hi width at insertions insertions2 curr next entered lined sound wi
         (from_earlier (at + 1 - insertions2) (at - insertions) curr.items (omega (arith, m)) lined.begun)
 
 -- no walk has ended at this position
-pub turned_on : (s : Search) (width last at : ℕ) (curr next : List Thread) (items : List ℕ) (best : Option Ending) (found : List (Option ℕ)) (o : Option Trace)
+pub turned_on : (s : Sight) (width last at : ℕ) (curr next : List Thread) (items : List ℕ) (best : Option Ending) (found : List (Option ℕ)) (o : Option Trace)
     (is_open : Bool) → is_open ≡ is_none best →
     ((best o : Option Trace) → Carries s at next items (waiting_starts is_open width (at + 1) last) best o →
     Carries s at [] [] (map pending curr ++ waiting_starts is_open width at last) best o) →
@@ -73,7 +73,7 @@ turned_on s width last at curr next items best found o is_open open_is step x =
     (turned s at next items (best_of best found) o (waiting_starts (is_none best) width (at + 1) last) (waiting_past (is_none best) width at last) x)))
 
 -- a walk has
-pub turned_ends : (s : Search) (width last at : ℕ) (curr next : List Thread) (items : List ℕ) (best : Option Ending) (found0 found : List (Option ℕ))
+pub turned_ends : (s : Sight) (width last at : ℕ) (curr next : List Thread) (items : List ℕ) (best : Option Ending) (found0 found : List (Option ℕ))
     (o : Option Trace) (is_open : Bool) (end : Ending) → is_open ≡ is_none best →
     ((best o : Option Trace) → Carries s at next items [] (Some (done end.pattern end.start end.end found)) o →
     Carries s at [] [] (map pending curr ++ waiting_starts is_open width at last) best o) →

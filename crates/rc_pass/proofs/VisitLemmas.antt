@@ -3,7 +3,7 @@ use Rattle.std.proofs.Common.{◌≡◌, ◌≢◌, ℕ, List, [], ◌∷◌, �
 use Rattle.std.proofs.lemmas.List.{append-nil}
 use Rattle.rc_text.specs.Found.{Found}
 use Rattle.rc_walks.specs.Walks.{Pair}
-use Rattle.rc_program.specs.Answer.{Search}
+use Rattle.rc_pass.specs.Sights.{Sight}
 use Rattle.rc_pass.specs.Entered.{IsSkipped, IsEntered}
 use Rattle.rc_pass.specs.Moves.{IsMove}
 use Rattle.rc_pass.specs.Threads.{ThreadList}
@@ -21,7 +21,7 @@ pub no_slots : (slots : List (Option ℕ)) → length slots ≡ 0 → slots ≡ 
 no_slots [] e = refl
 no_slots (k ∷ slots) e = absurd (omega arith)
 
-module _ (s : Search) (at p start : ℕ) (g0 g : Growth) where
+module _ (s : Sight) (at p start : ℕ) (g0 g : Growth) where
   -- where a walk ends, no thread is put behind the others
   pub same_threads : (move : Move) (q : ℕ) → move ≡ Matches q → IsEntered s at p start move g0 g → g.threads.items ≡ g0.threads.items
   same_threads move q is m =
@@ -80,7 +80,7 @@ module _ (s : Search) (at p start : ℕ) (g0 g : Growth) where
         (rw (same_threads move q is m, m.entered, frames) at x)
 
 -- the starts rise on
-pub entered_ordered : (s : Search) (at p start : ℕ) (g0 g : Growth) (move : Move) → IsEntered s at p start move g0 g → length g0.slots.items ≡ 0 →
+pub entered_ordered : (s : Sight) (at p start : ℕ) (g0 g : Growth) (move : Move) → IsEntered s at p start move g0 g → length g0.slots.items ≡ 0 →
     IsOrdered start g0.threads.items → IsOrdered start g.threads.items
 entered_ordered s at p start g0 g move m none ordered =
     subst (λ (l : ThreadList). IsOrdered start l.items) (sym m.threads) (rw (no_slots g0.slots.items none) (ordered_by start g0.threads.items move ordered))

@@ -1,7 +1,7 @@
 -- Only proofs use this file.
 -- What entering a place does.
 use Rattle.std.specs.Prelude.{◌≡◌, ℕ, [], ◌∷◌, ◌++◌, reverse}
-use Rattle.rc_program.specs.Answer.{Search}
+use Rattle.rc_pass.specs.Sights.{Sight}
 use Rattle.rc_pass.specs.Sparse.{Has}
 use Rattle.rc_pass.specs.Moves.{IsMove}
 use Rattle.rc_pass.specs.Passing.{frames_of, resting_of, slots_after}
@@ -17,7 +17,7 @@ pub record IsSkipped (place : ℕ) (g0 g : Growth) : Type 0 where
   pub slots : g.slots.items ≡ g0.slots.items
 
 -- The place is entered by a thread that began at `start`, and its move is made.
-pub record IsEntered (s : Search) (at place start : ℕ) (move : Move) (g0 g : Growth) : Type 0 where
+pub record IsEntered (s : Sight) (at place start : ℕ) (move : Move) (g0 g : Growth) : Type 0 where
   pub fresh : ¬ Has g0.entered.items place
   pub is_move : IsMove s (place, at) move
   pub threads : g.threads ≡ record g0.threads { items = g0.threads.items ++ resting_of start g0.slots.items move }

@@ -1,6 +1,7 @@
 pub mod Sparse
 pub mod Threads
 pub mod Trace
+pub mod Sights
 pub mod Moves
 pub mod Passing
 pub mod Found

@@ -4,7 +4,8 @@ use Rattle.std.specs.Prelude.{◌≡◌, ◌+◌, ◌<◌, ◌≤◌, [], ◌∷
 use Rattle.rc_text.specs.Text.{Searched, high}
 use Rattle.rc_walks.specs.Walks.{Pair}
 use Rattle.rc_program.specs.Program.{slot, accept, place_at}
-use Rattle.rc_program.specs.Answer.{Search, only, ends, next_of}
+use Rattle.rc_program.specs.Answer.{Search, only}
+use Rattle.rc_pass.specs.Sights.{Sight, sight_of, ends, next_of}
 use Rattle.rc_program.specs.Sought.{anchoring_of, search_over}
 use Rattle.rc_program.specs.Places.{places_of}
 use Rattle.rc_program.specs.declared.program.Program.{Program}
@@ -17,18 +18,22 @@ use Rattle.rc_pass.specs.declared.moves.Move.TheVariants.{Fork, Save, Matches, S
 abbrev pub seen : Program → Searched → Search
 seen p input = search_over (places_of p.places.items) p.terminator false input
 
+-- what a pass by the course sees of an input
+abbrev pub seen_by : Course → Searched → Sight
+seen_by course input = sight_of course.until (seen course.program.now input)
+
 -- the bound and the allowed pattern are those of the input
 pub record IsSetting (course : Course) (input : Searched) : Type 0 where
   pub bound : course.hi ≡ high input
   pub allowed : course.pattern ≡ only (anchoring_of input.anchored)
 
 -- nothing is noted there, and no walk ends
-pub record IsPlain (s : Search) (n : Pair) : Type 0 where
+pub record IsPlain (s : Sight) (n : Pair) : Type 0 where
   pub silent : (h : Trace) → note s.places h n ≡ h
   pub on : ends s n ≡ false
 
 -- the move is the one that the pair has
-abbrev pub IsMove : Search → Pair → Move → Type 0
+abbrev pub IsMove : Sight → Pair → Move → Type 0
 IsMove s n (Fork a b) = (next_of s n ≡ (a, n.1) ∷ (b, n.1) ∷ []) × IsPlain s n
 IsMove s n (Save k m) = place_at s.places n.0 ≡ slot k m
 IsMove s n (Matches p) = (place_at s.places n.0 ≡ accept p) × IsTrue (ends s n)

@@ -6,7 +6,8 @@ use Rattle.rc_program.specs.Looks.{side_before, side_after}
 use Rattle.rc_program.specs.Scalars.{scalar_at}
 use Rattle.rc_program.specs.Answer.{Search}
 use Rattle.rc_text.specs.Text.{Searched}
-use Rattle.rc_pass.specs.Moves.{IsSetting, seen}
+use Rattle.rc_pass.specs.Sights.{Sight}
+use Rattle.rc_pass.specs.Moves.{IsSetting, seen, seen_by}
 use Rattle.rc_pass.specs.declared.spot.Course.{Course}
 use Rattle.rc_pass.specs.declared.spot.Spot.{Spot}
 
@@ -22,11 +23,11 @@ pub record IsNear (s : Search) (at : ℕ) (before after : List ℕ) : Type 0 whe
 abbrev pub size : Course → ℕ
 size course = length course.program.now.places.items
 
--- the search of which a pass sees all but the starts and what is passed over
-abbrev pub seen_from : Spot → Searched → Search
-seen_from spot = seen spot.course.program.now
+-- what a pass sees there of an input
+abbrev pub seen_from : Spot → Searched → Sight
+seen_from spot = seen_by spot.course
 
 -- the spot is one of a pass over the input
 pub record IsHere (spot : Spot) (input : Searched) : Type 0 where
   pub setting : IsSetting spot.course input
-  pub near : IsNear (seen_from spot input) spot.at spot.before.now spot.after.now
+  pub near : IsNear (seen spot.course.program.now input) spot.at spot.before.now spot.after.now

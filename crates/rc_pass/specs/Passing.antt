@@ -3,7 +3,7 @@
 use Rattle.std.specs.Prelude.{◌≡◌, ℕ, ◌+◌, ◌-◌, ◌<◌, ◌≤◌, ◌⊎◌, Bool, List, [], ◌∷◌, ◌++◌, length, map, reverse, Option, Some, None, IsTrue, slice_set, slice_index_or, if◌then◌else◌, is_none, option_map, nat_lt, nat_le, min, ◌*◌, MatchOption}
 use Rattle.rc_walks.specs.Walks.{Pair}
 use Rattle.rc_walks.specs.Threads.{Pends, noted}
-use Rattle.rc_program.specs.Answer.{Search, ends, next_of, IsFirstFrom, HasNoWalkFrom}
+use Rattle.rc_pass.specs.Sights.{Sight, ends, next_of, IsFirstFrom, HasNoWalkFrom}
 use Rattle.rc_pass.specs.Sparse.{Members}
 use Rattle.rc_pass.specs.Threads.{Thread, ThreadList}
 use Rattle.rc_pass.specs.Trace.{Trace, note, trace, done, starts, sets_out}
@@ -60,7 +60,7 @@ IsMoveInside n (Reads m to) = m < n
 IsMoveInside n Stops = Unit {0}
 
 -- what pends at a position: the threads that wait for later ones, the places entered, and the threads still to come, in order
-abbrev pub Carries : Search → ℕ → List Thread → List ℕ → List (Trace × Pair) → Option Trace → Option Trace → Type 0
+abbrev pub Carries : Sight → ℕ → List Thread → List ℕ → List (Trace × Pair) → Option Trace → Option Trace → Type 0
 Carries s at resting entered waiting best o =
     Pends (next_of s) (λ n. IsTrue (ends s n)) Trace (note s.places) (map pending resting) (pairs at entered) waiting best o
 
@@ -98,7 +98,7 @@ pub record IsGrown (n hi start at : ℕ) (threads0 : ThreadList) (entered0 : Mem
   pub begun : (x : ℕ) → x ≤ start → AllFrom x threads0.items → AllFrom x threads.items
 
 -- a closure under way: what it gives is what the thread that it began with gives
-pub record IsClosing (s : Search) (n hi start at root : ℕ) (threads0 : ThreadList) (entered0 : Members) (slots0 : List (Option ℕ))
+pub record IsClosing (s : Sight) (n hi start at root : ℕ) (threads0 : ThreadList) (entered0 : Members) (slots0 : List (Option ℕ))
     (threads : ThreadList) (entered : Members) (frames : List Frame) (slots : List (Option ℕ)) : Type 0 where
   pub carries : (below : List (Trace × Pair)) (best o : Option Trace) →
       Carries s at threads.items entered.items (waits start at frames slots ++ below) best o →
@@ -108,7 +108,7 @@ pub record IsClosing (s : Search) (n hi start at root : ℕ) (threads0 : ThreadL
   pub frames_in : AllInside n threads.width frames
 
 -- The threads of a position have gone on so far: `left` are those still to go on.
-pub record IsStepping (s : Search) (n hi at : ℕ) (all left : List Thread) (threads0 threads : ThreadList) (entered : Members) : Type 0 where
+pub record IsStepping (s : Sight) (n hi at : ℕ) (all left : List Thread) (threads0 threads : ThreadList) (entered : Members) : Type 0 where
   pub carries : (below : List (Trace × Pair)) (best o : Option Trace) → Carries s at threads.items entered.items (map pending left ++ below) best o →
       Carries s at [] [] (map pending all ++ below) best o
   pub sound : HasRoom n hi at threads entered
@@ -124,14 +124,14 @@ abbrev pub waiting_starts : Bool → ℕ → ℕ → ℕ → List (Trace × Pair
 waiting_starts is_open width at last = if is_open then starts width at (last + 1 - at) else []
 
 -- What is noted along the first walk of the least start in from..=last that has one; None where there is no such start.
-abbrev pub GivesTrace : Search → ℕ → ℕ → ℕ → Option Trace → Type 0
+abbrev pub GivesTrace : Sight → ℕ → ℕ → ℕ → Option Trace → Type 0
 GivesTrace s width from last o =
     ((o ≡ None) × ((y : ℕ) → from ≤ y → y ≤ last → HasNoWalkFrom s y))
     ⊎ ((x : ℕ) × (w : List Pair) × (from ≤ x) × (x ≤ last) × IsFirstFrom s x w × ((y : ℕ) → from ≤ y → y < x → HasNoWalkFrom s y)
     × (o ≡ Some (noted (note s.places) (sets_out width x).0 w)))
 
 -- Whether one of the starts has a walk.
-abbrev pub Tells : Search → ℕ → ℕ → Option Ending → Type 0
+abbrev pub Tells : Sight → ℕ → ℕ → Option Ending → Type 0
 Tells s from last None = (y : ℕ) → from ≤ y → y ≤ last → HasNoWalkFrom s y
 Tells s from last (Some r) = (x : ℕ) × (w : List Pair) × (from ≤ x) × (x ≤ last) × IsFirstFrom s x w
 
@@ -140,7 +140,7 @@ abbrev pub best_of : Option Ending → List (Option ℕ) → Option Trace
 best_of best found = option_map (λ (r : Ending). done r.pattern r.start r.end found) best
 
 -- what pends before the position `at`
-abbrev pub Pending : Search → ℕ → ℕ → ℕ → List Thread → Option Ending → List (Option ℕ) → Option Trace → Type 0
+abbrev pub Pending : Sight → ℕ → ℕ → ℕ → List Thread → Option Ending → List (Option ℕ) → Option Trace → Type 0
 Pending s width last at curr best found o =
     Carries s at [] [] (map pending curr ++ waiting_starts (is_none best) width at last) (best_of best found) o
 
@@ -157,7 +157,7 @@ abbrev pub IsCounted : ℕ → Option Ending → Type 0
 IsCounted insertions best = MatchOption best (Unit {0}) (λ (r : Ending). r.end + 1 ≤ insertions + r.start)
 
 -- the pass from the start `from` has come to the position `at`
-pub record IsPassing (s : Search) (n hi width from last at insertions : ℕ) (curr : ThreadList) (best : Option Ending) (found : List (Option ℕ)) : Type 0 where
+pub record IsPassing (s : Sight) (n hi width from last at insertions : ℕ) (curr : ThreadList) (best : Option Ending) (found : List (Option ℕ)) : Type 0 where
   pub carries : (o : Option Trace) → Pending s width last at curr.items best found o → GivesTrace s width from last o
   pub lined : IsLined n hi width at insertions curr
   pub ended : IsCounted insertions best

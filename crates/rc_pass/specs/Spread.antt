@@ -4,7 +4,8 @@ use Rattle.std.specs.Prelude.{◌≡◌, ℕ, zero, suc, ◌+◌, ◌-◌, ◌*�
 use Rattle.rc_text.specs.Found.{Found}
 use Rattle.rc_walks.specs.Walks.{Pair, IsWalk}
 use Rattle.rc_program.specs.Program.{accept, place_at}
-use Rattle.rc_program.specs.Answer.{Search, ends, next_of, last_of}
+use Rattle.rc_program.specs.Answer.{last_of}
+use Rattle.rc_pass.specs.Sights.{Sight, ends, next_of}
 use Rattle.rc_program.specs.Greatest.{IsNoGreater}
 use Rattle.rc_pass.specs.Sparse.{Members}
 use Rattle.rc_pass.specs.Threads.{Thread, ThreadList}
@@ -21,7 +22,7 @@ abbrev pub running : Thread → Runner
 running t = (t.start, (t.place, t.at))
 
 -- A walk that keeps off the pairs passed leads from the runner to the end of the match.
-pub record LeadsToMatch (s : Search) (passed : List Pair) (r : Runner) (m : Found) : Type 0 where
+pub record LeadsToMatch (s : Sight) (passed : List Pair) (r : Runner) (m : Found) : Type 0 where
   pub start : m.start ≡ r.0
   pub walk : List Pair
   pub is_walk : IsWalk (next_of s) (λ n. IsTrue (ends s n)) passed (r.1 ∷ []) walk
@@ -29,7 +30,7 @@ pub record LeadsToMatch (s : Search) (passed : List Pair) (r : Runner) (m : Foun
   pub position : (last_of walk).1 ≡ m.end
 
 -- one of the runners spells the match
-abbrev pub SomeSpells : Search → List Pair → List Runner → Found → Type 0
+abbrev pub SomeSpells : Sight → List Pair → List Runner → Found → Type 0
 SomeSpells s passed [] m = ⊥
 SomeSpells s passed (r ∷ rs) m = LeadsToMatch s passed r m ⊎ SomeSpells s passed rs m
 
@@ -38,7 +39,7 @@ abbrev pub span_of : Ending → Found
 span_of e = record { pattern = e.pattern; start = e.start; end = e.end }
 
 -- under way at a position: what the resting threads, those that wait, and the best walk so far spell
-abbrev pub Offers : Search → ℕ → List Thread → List ℕ → List Runner → Option Ending → Found → Type 0
+abbrev pub Offers : Sight → ℕ → List Thread → List ℕ → List Runner → Option Ending → Found → Type 0
 Offers s at resting entered waiting best m =
     SomeSpells s [] (map running resting) m ⊎ (SomeSpells s (pairs at entered) waiting m ⊎ (option_map span_of best ≡ Some m))
 
@@ -47,7 +48,7 @@ abbrev pub IsTop : (Found → Type 0) → Option Found → Type 0
 IsTop Has None = (m : Found) → ¬ Has m
 IsTop Has (Some m) = Has m × ((n : Found) → Has n → IsNoGreater n m)
 
-abbrev pub Seeks : Search → ℕ → List Thread → List ℕ → List Runner → Option Ending → Option Found → Type 0
+abbrev pub Seeks : Sight → ℕ → List Thread → List ℕ → List Runner → Option Ending → Option Found → Type 0
 Seeks s at resting entered waiting best o = IsTop (Offers s at resting entered waiting best) o
 
 -- the runners that wait on the stack, the uppermost frame first
@@ -96,7 +97,7 @@ abbrev pub starting : ℕ → ℕ → List Runner
 starting at last = setting_out at (last + 1 - at)
 
 -- what the closure of a thread adds
-pub record IsSpread (s : Search) (n hi start at root : ℕ) (threads0 : ThreadList) (entered0 : Members) (best0 : Option Ending)
+pub record IsSpread (s : Sight) (n hi start at root : ℕ) (threads0 : ThreadList) (entered0 : Members) (best0 : Option Ending)
     (threads : ThreadList) (entered : Members) (best : Option Ending) (frames : List Frame) : Type 0 where
   pub seeks : (below : List Runner) (o : Option Found) → BeginFrom start below →
       Seeks s at threads.items entered.items (runners_of start at frames ++ below) best o →
@@ -108,7 +109,7 @@ pub record IsSpread (s : Search) (n hi start at root : ℕ) (threads0 : ThreadLi
   pub frames_in : AllInside n 0 frames
 
 -- The threads of a position have gone on so far: `left` are those still to go on.
-pub record IsSpreading (s : Search) (n hi at : ℕ) (all left : List Thread) (threads0 : ThreadList) (best0 : Option Ending)
+pub record IsSpreading (s : Sight) (n hi at : ℕ) (all left : List Thread) (threads0 : ThreadList) (best0 : Option Ending)
     (threads : ThreadList) (entered : Members) (best : Option Ending) : Type 0 where
   pub seeks : (below : List Runner) (o : Option Found) → BeginFrom at below →
       Seeks s at threads.items entered.items (map running left ++ below) best o → Seeks s at [] [] (map running all ++ below) best0 o
@@ -129,7 +130,7 @@ pub record IsSpreading (s : Search) (n hi at : ℕ) (all left : List Thread) (th
   pub counted : (k : ℕ) → AllFrom (at + 1 - k) all → IsCounted k best0 → IsCounted k best
 
 -- the pass from the start `from` has come to the position `at`
-pub record IsCovering (s : Search) (n hi from last at insertions : ℕ) (curr : ThreadList) (best : Option Ending) : Type 0 where
+pub record IsCovering (s : Sight) (n hi from last at insertions : ℕ) (curr : ThreadList) (best : Option Ending) : Type 0 where
   pub seeks : (o : Option Found) → Seeks s at [] [] (map running curr.items ++ starting at last) best o →
       Seeks s from [] [] (starting from last) None o
   pub lined : IsLined n hi 0 at insertions curr

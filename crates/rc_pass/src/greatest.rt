@@ -6,7 +6,7 @@ ghost use Rattle.rc_text.specs.Text.{Searched, Keeps, low, high};
 ghost use Rattle.rc_program.specs.Greatest.{greatest};
 ghost use Rattle.rc_program.specs.Programs.{search_of};
 ghost use Rattle.rc_pass.specs.Near.{IsHere, seen_from, size};
-ghost use Rattle.rc_pass.specs.Moves.{IsSetting, seen};
+ghost use Rattle.rc_pass.specs.Moves.{IsSetting, seen, seen_by};
 ghost use Rattle.rc_pass.specs.Passing.{AllIn, AllFrom, count_from, HasRoom, IsLined, IsCounted};
 ghost use Rattle.rc_pass.specs.Spread.{Runner, running, SomeSpells, IsTop, Seeks, BeginFrom, IsOrdered, span_of, starting};
 ghost use Rattle.rc_pass.specs.Caches.{IsCacheFor};
@@ -120,7 +120,7 @@ fn turn(spot: &Spot, best: &mut Option<Ending>, scratch: &mut Scratch)
 /// there spell.
 ///
 /// A place is entered once at a position, and `insertions` says how many were.
-fn pass<C: Cursor>(
+pub(crate) fn reach_end<C: Cursor>(
     input: &mut Input<C>,
     course: Course,
     from: usize,
@@ -133,7 +133,7 @@ fn pass<C: Cursor>(
     requires made { scratch.old.next.entered.capacity ≡ size course }
     requires width { scratch.old.next.threads.width ≡ 0 }
     ensures keeps { Keeps input.old input.new }
-    ensures top { IsTop (SomeSpells (seen course.entry.program.now text) [] (starting from course.entry.last)) (option_map span_of result) }
+    ensures top { IsTop (SomeSpells (seen_by course.entry text) [] (starting from course.entry.last)) (option_map span_of result) }
     ensures counted { IsCounted scratch.new.insertions result }
     ensures few { scratch.new.insertions ≤ size course.entry * (course.entry.hi - from + 1) }
     ensures same { IsSame scratch.old scratch.new }
@@ -178,8 +178,9 @@ fn choose<C: Cursor>(
         hi,
         pattern,
         last,
+        until: None,
     };
-    pass(input, course, lo, scratch)
+    reach_end(input, course, lo, scratch)
 }
 
 /// The greatest match of a search of the input: of all matches the one with the greatest end, then

@@ -14,6 +14,7 @@ ghost use Rattle.rc_pass.specs.KindSlots.{span_slots, slots_by};
 
 use crate::cache::Cache;
 use crate::greatest::find_greatest;
+use crate::longest::{find_longest, search_longest_slots};
 use crate::search::{find, meets_any, search_slots};
 use rc_literal::prefilter::Prefilter;
 use rc_program::program::Program;
@@ -46,6 +47,7 @@ pub fn find_by_kind<C: Cursor>(
     match kind {
         MatchKind::All => find_greatest(cache, input, program),
         MatchKind::LeftmostFirst => { find(cache, input, program, prefilter) }
+        MatchKind::LeftmostLongest => find_longest(cache, input, program, prefilter),
     }
 }
 
@@ -72,6 +74,13 @@ pub fn is_match_by_kind<C: Cursor>(
         MatchKind::LeftmostFirst => {
             if program.passes_over {
                 let found = find(cache, input, program, prefilter);
+                return found.is_some();
+            }
+            meets_any(cache, input, program, prefilter)
+        }
+        MatchKind::LeftmostLongest => {
+            if program.passes_over {
+                let found = find_longest(cache, input, program, prefilter);
                 return found.is_some();
             }
             meets_any(cache, input, program, prefilter)
@@ -151,5 +160,8 @@ pub fn search_slots_by_kind<C: Cursor>(
             Some(found.pattern())
         }
         MatchKind::LeftmostFirst => { search_slots(cache, input, program, prefilter, slots) }
+        MatchKind::LeftmostLongest => {
+            search_longest_slots(cache, input, program, prefilter, slots)
+        }
     }
 }

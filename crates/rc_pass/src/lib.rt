@@ -7,6 +7,7 @@ pub mod early;
 pub mod greatest;
 mod growth;
 pub mod kinds;
+pub mod longest;
 mod moves;
 mod pass;
 mod scratch;

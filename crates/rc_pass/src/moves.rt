@@ -6,6 +6,7 @@ ghost use Rattle.rc_pass.specs.Near.{IsHere, seen_from, size};
 ghost use Rattle.rc_program.specs.Program.{in_ranges, is_match_place, accept};
 ghost use Rattle.rc_program.specs.Scalars.{scalar_at};
 ghost use Rattle.rc_pass.specs.Moves.{IsMove};
+ghost use Rattle.rc_pass.specs.Sights.{is_there as there};
 
 use crate::spot::Spot;
 use rc_pattern::hir::{ClassBytesRange, ClassUnicodeRange, Look};
@@ -80,7 +81,7 @@ pub fn look_up(spot: &Spot, place: usize) -> Move
         }
         Place::Slot(slot, next) => Move::Save(*slot, *next),
         Place::Accept(number) => {
-            if is_allowed(spot.course.pattern, *number) {
+            if is_allowed(spot.course.pattern, *number) && is_there(spot.course.until, spot.at) {
                 return Move::Matches(*number);
             }
             Move::Stops
@@ -95,6 +96,16 @@ fn is_allowed(pattern: Option<usize>, number: usize) -> bool
     match pattern {
         None => true,
         Some(only) => number == only,
+    }
+}
+
+/// Whether walks that end at the position count.
+fn is_there(until: Option<usize>, at: usize) -> bool
+    ensures { result ≡ there until at }
+{
+    match until {
+        None => true,
+        Some(end) => at == end,
     }
 }
 

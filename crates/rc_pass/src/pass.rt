@@ -2,12 +2,12 @@
 ghost use Rattle.std.specs.Prelude.{◌≡◌, ℕ, ◌+◌, ◌-◌, ◌*◌, ◌<◌, ◌≤◌, ◌⊎◌, ⊤, List, [], ◌∷◌, ◌++◌, length, map, min, Option, None, Some, MatchOption, Bool, true, false, replicate, ◌^◌, IsTrue, is_none, vec_capacity};
 ghost use Rattle.rc_walks.specs.Walks.{Pair};
 ghost use Rattle.rc_text.specs.Text.{Searched, Keeps, low, high};
-ghost use Rattle.rc_program.specs.Answer.{HasNoWalkFrom};
+ghost use Rattle.rc_pass.specs.Sights.{HasNoWalkFrom};
 ghost use Rattle.rc_literal.specs.Guards.{Guards};
 ghost use Rattle.rc_literal.specs.Prefilters.{needles_of};
 ghost use Rattle.rc_program.specs.Places.{places_of};
 ghost use Rattle.rc_pass.specs.Near.{IsHere, seen_from, size};
-ghost use Rattle.rc_pass.specs.Moves.{IsSetting, seen};
+ghost use Rattle.rc_pass.specs.Moves.{IsSetting, seen_by};
 ghost use Rattle.rc_pass.specs.Trace.{Trace, done};
 ghost use Rattle.rc_pass.specs.Passing.{Carries, pending, AllIn, AllFrom, count_from, HasRoom, waiting_starts, Pending, IsLined, IsCounted, GivesTrace, Tells, best_of};
 ghost use Rattle.rc_pass.specs.Scratches.{IsSame};
@@ -198,9 +198,9 @@ fn next_position<C: Cursor>(
     ensures next { MatchOption prefilter.entry ⊤
         (λ p. Guards (places_of course.entry.program.now.places.items) course.entry.program.now.terminator (needles_of p.now))
         → MatchOption result
-        (IsTrue idle × ((y : ℕ) → at ≤ y → y ≤ course.entry.hi → HasNoWalkFrom (seen course.entry.program.now input.old) y))
+        (IsTrue idle × ((y : ℕ) → at ≤ y → y ≤ course.entry.hi → HasNoWalkFrom (seen_by course.entry input.old) y))
         (λ x. (at ≤ x) × (x ≤ course.entry.hi) × ((x ≡ at)
-        ⊎ (IsTrue idle × ((y : ℕ) → at ≤ y → y < x → HasNoWalkFrom (seen course.entry.program.now input.old) y)))) }
+        ⊎ (IsTrue idle × ((y : ℕ) → at ≤ y → y < x → HasNoWalkFrom (seen_by course.entry input.old) y)))) }
 {
     if !idle || at >= course.last {
         return Some(at);
@@ -236,9 +236,9 @@ pub fn pass<C: Cursor>(
     requires bounds { (low text ≤ from) × (from ≤ course.last) }
     requires made { scratch.old.next.entered.capacity ≡ size course }
     ensures keeps { Keeps input.old input.new }
-    ensures gives { earliest ≡ false → GivesTrace (seen course.entry.program.now text) scratch.old.next.threads.width from course.entry.last
+    ensures gives { earliest ≡ false → GivesTrace (seen_by course.entry text) scratch.old.next.threads.width from course.entry.last
         (best_of result scratch.new.found.items) }
-    ensures tells { Tells (seen course.entry.program.now text) from course.entry.last result }
+    ensures tells { Tells (seen_by course.entry text) from course.entry.last result }
     ensures counted { IsCounted scratch.new.insertions result }
     ensures few { scratch.new.insertions ≤ size course.entry * (course.entry.hi - from + 1) }
     ensures same { IsSame scratch.old scratch.new }

@@ -92,6 +92,7 @@ fn choose<C: Cursor>(
         hi,
         pattern,
         last,
+        until: None,
     };
     let mut from = lo;
     'starts: while from <= last {
@@ -232,6 +233,7 @@ pub(crate) fn meets<C: Cursor>(
         hi,
         pattern,
         last,
+        until: None,
     };
     pass(input, course, prefilter, lo, true, scratch)
 }

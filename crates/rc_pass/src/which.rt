@@ -8,7 +8,7 @@ ghost use Rattle.rc_program.specs.Places.{places_of};
 ghost use Rattle.rc_program.specs.Programs.{search_of};
 ghost use Rattle.rc_pass.specs.Caches.{IsCacheFor};
 ghost use Rattle.rc_pass.specs.Marking.{AreSame, Owed, SomeLeads, HasAll, KeepsMarks, MarksFrom, entering, explored, going};
-ghost use Rattle.rc_pass.specs.Moves.{IsSetting, seen};
+ghost use Rattle.rc_pass.specs.Moves.{IsSetting, seen, seen_by};
 ghost use Rattle.rc_pass.specs.Near.{IsHere, seen_from, size};
 ghost use Rattle.rc_pass.specs.Passing.{AllFrom, AllIn, AllInside, HasRoom, IsGrown, IsLined, count_from};
 ghost use Rattle.rc_pass.specs.PatternSpans.{AddsSpelled, AreOfFirst};
@@ -224,7 +224,7 @@ fn pass<C: Cursor>(
     requires made { scratch.old.next.entered.capacity ≡ size course }
     requires width { scratch.old.next.threads.width ≡ 0 }
     ensures keeps { Keeps input.old input.new }
-    ensures marks { MarksFrom (seen course.entry.program.now text) from course.entry.last first end set.old set.new }
+    ensures marks { MarksFrom (seen_by course.entry text) from course.entry.last first end set.old set.new }
     ensures kept { IsSame scratch.old scratch.new }
 {
     scratch.insertions = 0;
@@ -270,6 +270,7 @@ fn choose<C: Cursor>(
         hi,
         pattern,
         last,
+        until: None,
     };
     let (first, end) = wanted(pattern, patterns, set);
     pass(input, course, lo, first, end, set, scratch);

@@ -6,7 +6,7 @@ use Rattle.rc_text.specs.Found.{Found}
 use Rattle.rc_text.specs.Text.{Searched, high, low}
 use Rattle.std.proofs.Math.Nat.{mul-le-mul_left}
 use Rattle.std.proofs.lemmas.List.{length-map}
-use Rattle.rc_text.specs.declared.types.MatchKind.TheVariants.{All as all_matches, LeftmostFirst as leftmost_first}
+use Rattle.rc_text.specs.declared.types.MatchKind.TheVariants.{All as all_matches, LeftmostFirst as leftmost_first, LeftmostLongest as leftmost_longest}
 use Rattle.rc_text.specs.declared.types.MatchKind.{MatchKind}
 use Rattle.rc_text.specs.declared.cursor.Cursor.{Ghosts}
 use Rattle.rc_program.specs.Kinds.{answer_by_from}
@@ -34,6 +34,7 @@ same_places places e = let many = length-map places place_of in let same = ap le
 no_needles : (kind : MatchKind) (s : Strategy) → answering s ≡ None → answering_for kind s ≡ None
 no_needles leftmost_first s e = e
 no_needles all_matches s e = refl
+no_needles leftmost_longest s e = refl
 
 from_start : (b : Bool) (k : ℕ) → k ≤ (if b then k + 1 else k)
 from_start true k = omega arith

@@ -31,8 +31,9 @@ use rc_text::types::{Match, PatternID};
 
 /// Whether a search of the input finds a match, in a cache that was made for this `PikeVM`. The cache stays so.
 ///
-/// Under `MatchKind::LeftmostFirst` the match is the one that is preferred of the least start. Under `MatchKind::All` it is the one
-/// with the greatest end, then the least start, then the least pattern, and no match is passed over.
+/// Under `MatchKind::LeftmostFirst` the match is the one that is preferred of the least start, and under `LeftmostLongest` the longest of
+/// that start. Under `MatchKind::All` it is the one with the greatest end, then the least start, then the least pattern, and no match is
+/// passed over.
 pub fn is_match<C: Cursor>(vm: &PikeVM, cache: &mut Cache, input: &mut Input<C>) -> bool
     requires made { IsCacheFor (sought vm.now) cache.old }
     ensures cache { IsCacheFor (sought vm.now) cache.new }
@@ -57,8 +58,9 @@ pub fn is_match<C: Cursor>(vm: &PikeVM, cache: &mut Cache, input: &mut Input<C>)
 /// Without a match they hold none. All slots but the match's are empty afterwards. The cache has to be made for this `PikeVM`; it stays
 /// so.
 ///
-/// Under `MatchKind::LeftmostFirst` the match is the one that is preferred of the least start. Under `MatchKind::All` it is the one
-/// with the greatest end, then the least start, then the least pattern; no match is passed over, and explicit groups hold nothing.
+/// Under `MatchKind::LeftmostFirst` the match is the one that is preferred of the least start, and under `LeftmostLongest` the longest of
+/// that start, with the groups of the walk that is preferred of those that long. Under `MatchKind::All` it is the one with the greatest
+/// end, then the least start, then the least pattern; no match is passed over, and explicit groups hold nothing.
 pub fn search<C: Cursor>(vm: &PikeVM, cache: &mut Cache, input: &mut Input<C>, caps: &mut Captures)
     requires made { IsCacheFor (sought vm.now) cache.old }
     requires for_vm { IsCapturesFor (vm_names vm.now) caps.old }
@@ -92,9 +94,9 @@ pub fn search<C: Cursor>(vm: &PikeVM, cache: &mut Cache, input: &mut Input<C>, c
 /// The pattern of the match that a search of the input finds, and its slots in `slots`, which may be fewer than there are. Without
 /// a match the slots stay. The cache has to be made for this `PikeVM`; it stays so.
 ///
-/// Under `MatchKind::LeftmostFirst` the match is the one that is preferred of the least start. Under `MatchKind::All` it is the one
-/// with the greatest end, then the least start, then the least pattern; no match is passed over, and all slots but the two of the
-/// whole match are `None`.
+/// Under `MatchKind::LeftmostFirst` the match is the one that is preferred of the least start, and under `LeftmostLongest` the longest of
+/// that start, with the slots of the walk that is preferred of those that long. Under `MatchKind::All` it is the one with the greatest
+/// end, then the least start, then the least pattern; no match is passed over, and all slots but the two of the whole match are `None`.
 pub fn search_slots<C: Cursor>(
     vm: &PikeVM,
     cache: &mut Cache,

@@ -13,7 +13,7 @@ use Rattle.rc_program.specs.Kinds.{answer_by, matches_by_kind}
 use Rattle.rc_program.specs.Matches.{pieces_of}
 
 -- the search for these patterns over a content
-abbrev over : List Re → List ℕ → Search
+abbrev pub over : List Re → List ℕ → Search
 over hs content = record {
   places = program hs;
   text = record { content = content; slice_start = 0; slice_end = length content; terminator = 10 };
@@ -24,7 +24,7 @@ over hs content = record {
 }
 
 -- pattern, start and end
-abbrev triple_of : Found → ℕ × ℕ × ℕ
+abbrev pub triple_of : Found → ℕ × ℕ × ℕ
 triple_of m = (m.pattern, m.start, m.end)
 
 abbrev ends_of : Span → ℕ × ℕ

@@ -3,19 +3,21 @@ use Rattle.std.proofs.Common.{◌≡◌, ◌↔◌, ℕ, ◌+◌, ◌-◌, List,
 use Rattle.std.proofs.lemmas.Bool.{cases_Bool}
 use Rattle.rc_text.specs.Found.{Found}
 use Rattle.rc_text.specs.declared.types.MatchKind.{MatchKind}
-use Rattle.rc_text.specs.declared.types.MatchKind.TheVariants.{All as all_matches, LeftmostFirst as leftmost_first}
+use Rattle.rc_text.specs.declared.types.MatchKind.TheVariants.{All as all_matches, LeftmostFirst as leftmost_first, LeftmostLongest as leftmost_longest}
 use Rattle.rc_program.specs.Answer.{Search, answer}
 use Rattle.rc_program.specs.Greatest.{IsSpelledIn}
 use Rattle.rc_program.specs.Kinds.{answer_by, is_early, IsEarlyAnswer, IsAnswerBy, answer_by_from, matches_by_kind, KindsLaw}
 use Rattle.rc_program.specs.Matches
 use Rattle.rc_program.specs.Matches.{begin_of, end_of, from_on, matches_left}
 use Rattle.rc_program.proofs.GreatestLemmas.{spelled_within, greatest_some, greatest_law, answer_spelled}
+use Rattle.rc_program.proofs.ReachLemmas.{longest_law}
 use Rattle.rc_program.proofs.MatchLemmas.{IsAfterLast, matches_by_are, only_matches, room_left, in_order, few, IsFew}
 
 -- the match of a kind is spelled
 pub kind_spelled : (kind : MatchKind) (s : Search) (m : Found) → answer_by kind s ≡ Some m → IsSpelledIn s m
 kind_spelled all_matches s m e = ((greatest_some s m).0 e).is_spelled
 kind_spelled leftmost_first s m e = answer_spelled s m e
+kind_spelled leftmost_longest s m e = longest_law.spelled s m e
 
 early : (kind : MatchKind) (s : Search) (o : Option Found) → answer_by kind s ≡ o → IsEarlyAnswer kind s o
 early kind s None e = e
@@ -32,6 +34,7 @@ spelled kind earliest s m h =
 none_of_kind : (kind : MatchKind) (s : Search) → s.passes_over ≡ false → (answer_by kind s ≡ None) ↔ (answer s ≡ None)
 none_of_kind all_matches s off = greatest_law.same_none s off
 none_of_kind leftmost_first s off = ((λ e. e), (λ e. e))
+none_of_kind leftmost_longest s off = longest_law.same_none s off
 
 -- an answer is missing exactly where the kind has no match
 pub missing_by : (kind : MatchKind) (earliest : Bool) (s : Search) → IsAnswerBy kind earliest s None ↔ (answer_by kind s ≡ None)
@@ -93,4 +96,5 @@ kinds_law = record {
   within = kinds_lie_within;
   preferred = λ s. refl;
   leftmost = kinds_leftmost;
+  longest = λ s. refl;
 }

@@ -14,6 +14,9 @@ mod Examples
 mod LookExamples
 pub mod EntryLemmas
 pub mod GreatestLemmas
+pub mod LongestLemmas
+pub mod ReachLemmas
 pub mod KindLemmas
 mod KindExamples
+mod LongestExamples
 pub mod PropertyLemmas

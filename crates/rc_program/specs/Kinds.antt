@@ -1,16 +1,18 @@
--- The kinds of answer: the preferred match, the greatest one, or any that is spelled.
+-- The kinds of answer: the preferred match, the longest or the greatest one, or any that is spelled.
 use Rattle.std.specs.Prelude.{◌≡◌, ◌↔◌, ℕ, ◌+◌, ◌-◌, ◌≤◌, Bool, false, true, not, ◌&&◌, List, length, Option, Some, None, max}
 use Rattle.rc_text.specs.Found.{Found}
 use Rattle.rc_text.specs.declared.types.MatchKind.{MatchKind}
-use Rattle.rc_text.specs.declared.types.MatchKind.TheVariants.{All as all_matches, LeftmostFirst as leftmost_first}
+use Rattle.rc_text.specs.declared.types.MatchKind.TheVariants.{All as all_matches, LeftmostFirst as leftmost_first, LeftmostLongest as leftmost_longest}
 use Rattle.rc_program.specs.Answer.{Search, answer}
 use Rattle.rc_program.specs.Greatest.{IsSpelledIn, greatest}
+use Rattle.rc_program.specs.Longest.{longest}
 use Rattle.rc_program.specs.Matches.{begin_of, end_of, from_on, matches_by, matches_left, AreMatches, AreInOrder, LiesWithin}
 
 -- the match of a kind
 abbrev pub answer_by : MatchKind → Search → Option Found
 answer_by all_matches s = greatest s
 answer_by leftmost_first s = answer s
+answer_by leftmost_longest s = longest s
 
 -- the search may answer any span that is spelled
 abbrev pub is_early : Bool → Search → Bool
@@ -56,3 +58,5 @@ pub record KindsLaw : Type 0 where
   -- the preferred match is the answer, and its list the list of matches
   pub preferred : (s : Search) → answer_by leftmost_first s ≡ answer s
   pub leftmost : (s : Search) (k : ℕ) (last : Option ℕ) → matches_by_kind leftmost_first s k last ≡ matches_left s k last
+  -- the longest match is the longest walk of the least start
+  pub longest : (s : Search) → answer_by leftmost_longest s ≡ longest s

@@ -9,5 +9,6 @@ pub mod Laws
 pub mod Places
 pub mod Sought
 pub mod Greatest
+pub mod Longest
 pub mod Kinds
 pub mod Programs

@@ -2,6 +2,7 @@
 ghost use Rattle.rc_program.specs.Answer.{AnswerLaw};
 ghost use Rattle.rc_program.specs.Greatest.{GreatestLaw};
 ghost use Rattle.rc_program.specs.Kinds.{KindsLaw};
+ghost use Rattle.rc_program.specs.Longest.{LongestLaw};
 ghost use Rattle.rc_program.specs.Laws.{ClosedLaw, EntryLaw, GroupLaw, ProgramLaw, PropertyLaw};
 ghost use Rattle.rc_program.specs.Matches.{MatchesLaw, PiecesLaw};
 ghost use Rattle.rc_program.specs.Scalars.{ScalarLaw};
@@ -67,9 +68,17 @@ pub fn greatest_spans_are_greatest()
     ensures { GreatestLaw }
 {}
 
+/// The longest match, as contracts name it, is the longest match as it is defined: of the starts that have a walk and aren't passed
+/// over the least, and of the walks from there the first of those that reach furthest, with its pattern, its span and its slots; and
+/// nothing exactly where no start gives one. Where no match is passed over, it has the start of the preferred match, and ends no earlier.
+pub fn longest_matches_are_longest_walks()
+    ensures { LongestLaw }
+{}
+
 /// The match of each kind is an answer, with the earliest flag on or off; each answer is a span that is spelled; and an answer is
 /// missing exactly where there is no match. The list of a kind's matches is the one that the definition gives over them: they rise,
-/// lie within the bounds, and are no more than there are positions. Of `LeftmostFirst` they are the answer and the list of matches.
+/// lie within the bounds, and are no more than there are positions. Of `LeftmostFirst` they are the answer and the list of matches,
+/// and of `LeftmostLongest` the longest match.
 pub fn kinds_have_answers()
     ensures { KindsLaw }
 {}

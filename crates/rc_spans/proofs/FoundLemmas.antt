@@ -2,14 +2,14 @@
 use Rattle.std.proofs.Common.{◌≡◌, ℕ, ◌≤◌, ◌⊎◌, Bool, true, false, true≢false, List, Option, Some, None, max, min, inl, inr, sym, subst, ap, ◌∙◌, refl, arith}
 use Rattle.rc_text.specs.Found.{Found}
 use Rattle.rc_text.specs.Plain.{is_anchored as anchors}
-use Rattle.rc_text.specs.declared.types.MatchKind.{MatchKind}
-use Rattle.rc_text.specs.declared.types.MatchKind.TheVariants.{All as all_matches, LeftmostFirst as leftmost_first}
+use Rattle.rc_states.specs.declared.kind.TableKind.{TableKind}
+use Rattle.rc_states.specs.declared.kind.TableKind.TheVariants.{All as all_matches, LeftmostFirst as leftmost_first}
 use Rattle.rc_text.specs.declared.types.Anchored.{Anchored}
 use Rattle.rc_text.specs.declared.types.Anchored.TheVariants.{No, Yes, Pattern}
 use Rattle.rc_pattern.specs.Re.{Re}
 use Rattle.rc_program.specs.Answer.{Search, answer, is_anchored}
 use Rattle.rc_program.specs.Greatest.{IsSpelledIn}
-use Rattle.rc_program.specs.Kinds.{IsAnswerWhere}
+use Rattle.rc_states.specs.TableKinds.{IsAnswerWhere}
 use Rattle.rc_program.proofs.GreatestLemmas.{spelled_within, greatest_some}
 use Rattle.rc_automaton.specs.Machine.{Machine}
 use Rattle.rc_automaton.specs.Runs.{met_last, SearchEnds, SearchEndsDown}
@@ -52,15 +52,15 @@ free_start hs m n s end met h down =
     (e.0, e.1, e.3 ∙ ap (λ p. Some (span p met.at end.at)) h.pattern)
 
 module _ (hs : List Re) (m n : Machine) (anchored : Anchored) (s : Search) (end : End) where
-  abbrev IsMetEnd : MatchKind → Bool → Type 0
+  abbrev IsMetEnd : TableKind → Bool → Type 0
   IsMetEnd kind early = IsEnd hs kind early m n anchored s end
 
-  ends_low : (kind : MatchKind) (early : Bool) → IsMetEnd kind early → end.from ≡ s.lo → (place : ℕ) × (pattern_met m place ≡ end.pattern)
+  ends_low : (kind : TableKind) (early : Bool) → IsMetEnd kind early → end.from ≡ s.lo → (place : ℕ) × (pattern_met m place ≡ end.pattern)
       × SearchEnds m s.text s.hi s.lo anchored early (met_last (Some (place, end.at)))
   ends_low kind early h low = (h.place, h.pattern, from_low m s end.from anchored early (Some (h.place, end.at)) low h.ends)
 
   -- some walk of the pattern that was met leads to the end
-  pub spelled : (kind : MatchKind) (early : Bool) (h : IsMetEnd kind early) → end.from ≡ s.lo →
+  pub spelled : (kind : TableKind) (early : Bool) (h : IsMetEnd kind early) → end.from ≡ s.lo →
       (x : ℕ) × IsSpelledIn s (span end.pattern x end.at) × (anchors anchored ≡ true → x ≡ s.lo)
   spelled kind early h low =
       let l = ends_low kind early h low in
@@ -70,10 +70,10 @@ module _ (hs : List Re) (m n : Machine) (anchored : Anchored) (s : Search) (end 
 
   -- FORWARDS ALONE
 
-  abbrev HasHalf : MatchKind → Bool → Type 0
+  abbrev HasHalf : TableKind → Bool → Type 0
   HasHalf kind early = (f : Found) × IsAnswerWhere early kind s (Some f) × (end.at ≡ f.end) × IsToldWith kind s f end.pattern
 
-  pub forward_half : (kind : MatchKind) (early : Bool) → IsMetEnd kind early → HasHalf kind early
+  pub forward_half : (kind : TableKind) (early : Bool) → IsMetEnd kind early → HasHalf kind early
   forward_half leftmost_first false h =
       let st = h.stands in
       let e = first_law.ends hs m n anchored s end.from h.place end.at st.case (st.raised refl) h.ends (h.allowed refl) in
@@ -92,7 +92,7 @@ module _ (hs : List Re) (m n : Machine) (anchored : Anchored) (s : Search) (end 
 
   -- A KNOWN START
 
-  starts_low : (kind : MatchKind) (early : Bool) (h : IsMetEnd kind early) → kind ≡ leftmost_first → anchors anchored ≡ true → end.from ≡ s.lo
+  starts_low : (kind : TableKind) (early : Bool) (h : IsMetEnd kind early) → kind ≡ leftmost_first → anchors anchored ≡ true → end.from ≡ s.lo
   starts_low kind early h is so =
       let st = h.stands in
       let c = st.case in
@@ -100,7 +100,7 @@ module _ (hs : List Re) (m n : Machine) (anchored : Anchored) (s : Search) (end 
       let start = r.start in
       start.2 (ap is_anchored c.anchoring ∙ is_anchored_so anchored ∙ so)
 
-  pub known_start : (kind : MatchKind) (early : Bool) → IsMetEnd kind early → begins_there kind early (anchors anchored) ≡ true →
+  pub known_start : (kind : TableKind) (early : Bool) → IsMetEnd kind early → begins_there kind early (anchors anchored) ≡ true →
       IsAnswerWhere early kind s (Some (span end.pattern end.from end.at))
   known_start leftmost_first false h so =
       let st = h.stands in
@@ -128,14 +128,14 @@ module _ (hs : List Re) (m n : Machine) (anchored : Anchored) (s : Search) (end 
   back_low early o low h = subst (λ x. SearchEndsDown n s.text x end.at anchored early (met_last o)) low h
 
   -- a start is met
-  none_low : (kind : MatchKind) (early : Bool) → IsMetEnd kind early → (kind ≡ all_matches) ⊎ (early ≡ true) → ¬ MetBack early None
+  none_low : (kind : TableKind) (early : Bool) → IsMetEnd kind early → (kind ≡ all_matches) ⊎ (early ≡ true) → ¬ MetBack early None
   none_low kind early h alone down =
       let st = h.stands in
       let low = st.alone alone in
       let l = ends_low kind early h low in
       met_law.some_start hs kind m n anchored s early early l.0 end.at st.case l.2 (back_low early None low down)
 
-  pub some_start : (kind : MatchKind) (early : Bool) → IsMetEnd kind early → begins_there kind early (anchors anchored) ≡ false → ¬ MetBack early None
+  pub some_start : (kind : TableKind) (early : Bool) → IsMetEnd kind early → begins_there kind early (anchors anchored) ≡ false → ¬ MetBack early None
   some_start leftmost_first false h free down =
       subst (λ a. IsEnd hs leftmost_first false m n a s end → ¬ HasMetDown n s.text end.from end.at a false None) (sym (is_no anchored free))
       (free_none hs m n s end) h down
@@ -146,7 +146,7 @@ module _ (hs : List Re) (m n : Machine) (anchored : Anchored) (s : Search) (end 
   clamped : (x : ℕ) → end.from ≤ x → x ≤ end.at → x ≡ min (max x end.from) end.at
   clamped x low high = omega arith
 
-  start_early : (kind : MatchKind) → IsMetEnd kind true → anchors anchored ≡ false → (met : Met) → MetBack true (Some met) →
+  start_early : (kind : TableKind) → IsMetEnd kind true → anchors anchored ≡ false → (met : Met) → MetBack true (Some met) →
       IsSpelledIn s (span met.pattern (min (max met.at end.from) end.at) end.at)
   start_early kind h free met down =
       let st = h.stands in
@@ -157,7 +157,7 @@ module _ (hs : List Re) (m n : Machine) (anchored : Anchored) (s : Search) (end 
       let above = w.0 in
       subst (λ x. IsSpelledIn s (span met.pattern x end.at)) (clamped met.at (omega (arith, above, low)) w.1) e
 
-  pub met_start : (kind : MatchKind) (early : Bool) → IsMetEnd kind early → begins_there kind early (anchors anchored) ≡ false → (met : Met) → MetBack early (Some met) →
+  pub met_start : (kind : TableKind) (early : Bool) → IsMetEnd kind early → begins_there kind early (anchors anchored) ≡ false → (met : Met) → MetBack early (Some met) →
       IsAnswerWhere early kind s (Some (match_by end (start_by kind early end met)))
   met_start leftmost_first false h free met down =
       let e = subst (λ a. IsEnd hs leftmost_first false m n a s end → HasMetDown n s.text end.from end.at a false (Some met) → IsFirst s end met) (sym (is_no anchored free))

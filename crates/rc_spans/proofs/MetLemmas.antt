@@ -3,7 +3,7 @@ use Rattle.std.proofs.Common.{◌≡◌, ℕ, ◌+◌, ◌-◌, ◌<◌, ◌≤�
 use Rattle.std.specs.Prelude.{slice_index}
 use Rattle.std.proofs.lemmas.Bool.{cases_eq}
 use Rattle.rc_text.specs.Found.{Found}
-use Rattle.rc_text.specs.declared.types.MatchKind.{MatchKind}
+use Rattle.rc_states.specs.declared.kind.TableKind.{TableKind}
 use Rattle.rc_text.specs.declared.types.Anchored.{Anchored}
 use Rattle.rc_text.specs.declared.types.Anchored.TheVariants.{No, Yes, Pattern}
 use Rattle.rc_text.specs.Plain.{only_pattern, is_anchored as anchors}
@@ -130,7 +130,7 @@ module _ (hs : List Re) (m : Machine) (t : Text) (lo hi : ℕ) (ordered : lo ≤
 
 -- SPANS
 
-module _ (hs : List Re) (kind : MatchKind) (m n : Machine) (anchored : Anchored) (s : Search) (c : IsCase hs kind m n anchored s) where
+module _ (hs : List Re) (kind : TableKind) (m n : Machine) (anchored : Anchored) (s : Search) (c : IsCase hs kind m n anchored s) where
   places_of : m.setting.places ≡ bytes_of (program hs)
   places_of = let k = c.machines in ap (λ (x : Machine). x.setting.places) k.ahead
 

@@ -7,12 +7,12 @@ use Rattle.rc_text.specs.Text.{Searched, Keeps, low, high, is_boundary}
 use Rattle.rc_text.specs.declared.types.Anchored.{Anchored}
 use Rattle.rc_text.specs.declared.types.Anchored.TheVariants.{No}
 use Rattle.rc_text.specs.declared.types.MatchError.{MatchError}
-use Rattle.rc_text.specs.declared.types.MatchKind.{MatchKind}
-use Rattle.rc_text.specs.declared.types.MatchKind.TheVariants.{LeftmostFirst as leftmost_first}
+use Rattle.rc_states.specs.declared.kind.TableKind.{TableKind}
+use Rattle.rc_states.specs.declared.kind.TableKind.TheVariants.{LeftmostFirst as leftmost_first}
 use Rattle.rc_pattern.specs.Re.{Re}
 use Rattle.rc_program.specs.Program.{program}
 use Rattle.rc_program.specs.Answer.{Search, answer}
-use Rattle.rc_program.specs.Kinds.{IsAnswerBy}
+use Rattle.rc_states.specs.TableKinds.{IsAnswerBy}
 use Rattle.rc_program.specs.Sought.{text_of}
 use Rattle.rc_literal.specs.Guards.{Guards}
 use Rattle.rc_literal.specs.Needles.{find_needle}
@@ -244,7 +244,7 @@ none_void AreOf aim hs terminator of s void =
     void_answer hs aim.patterns leftmost_first false s.anchored (search_for aim hs terminator s) refl refl of.counted void
 
 -- for this kind of match
-answer_so : (kind : MatchKind) (earliest : Bool) (s : Search) (o : Option Found) → kind ≡ leftmost_first → earliest ≡ false → o ≡ answer s → IsAnswerBy kind earliest s o
+answer_so : (kind : TableKind) (earliest : Bool) (s : Search) (o : Option Found) → kind ≡ leftmost_first → earliest ≡ false → o ≡ answer s → IsAnswerBy kind earliest s o
 answer_so kind earliest s o is late h =
     subst (λ k. IsAnswerBy k earliest s o) (sym is) (subst (λ e. IsAnswerBy leftmost_first e s o) (sym late) h)
 
@@ -254,7 +254,7 @@ is_answer aim anchored s (Ok o) goes h = answer_so aim.kind aim.earliest s o goe
 is_answer aim anchored s (Err e) goes h = tt
 
 -- the end of the preferred match
-half_so : (kind : MatchKind) (earliest : Bool) (s : Search) (o : Option HalfFound) → kind ≡ leftmost_first → earliest ≡ false → o ≡ option_map half_of (answer s) →
+half_so : (kind : TableKind) (earliest : Bool) (s : Search) (o : Option HalfFound) → kind ≡ leftmost_first → earliest ≡ false → o ≡ option_map half_of (answer s) →
     IsForwardHalf kind earliest s o
 half_so kind earliest s o is late h =
     subst (λ k. IsForwardHalf k earliest s o) (sym is)

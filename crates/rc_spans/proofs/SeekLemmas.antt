@@ -4,8 +4,8 @@ use Rattle.std.proofs.lemmas.Bool.{eqb-true}
 use Rattle.rc_text.specs.Found.{Found}
 use Rattle.rc_text.specs.Text.{Searched, Keeps, high, is_boundary}
 use Rattle.rc_text.specs.Plain.{is_anchored as anchors}
-use Rattle.rc_text.specs.declared.types.MatchKind.{MatchKind}
-use Rattle.rc_text.specs.declared.types.MatchKind.TheVariants.{All as all_matches, LeftmostFirst as leftmost_first}
+use Rattle.rc_states.specs.declared.kind.TableKind.{TableKind}
+use Rattle.rc_states.specs.declared.kind.TableKind.TheVariants.{All as all_matches, LeftmostFirst as leftmost_first}
 use Rattle.rc_text.specs.declared.types.Anchored.{Anchored}
 use Rattle.rc_text.specs.declared.types.Anchored.TheVariants.{No, Yes, Pattern}
 use Rattle.rc_pattern.specs.Re.{Re}
@@ -14,7 +14,7 @@ use Rattle.rc_program.specs.Text.{Text}
 use Rattle.rc_program.specs.Program.{Place, accept, place_at, ways, is_match_place, program}
 use Rattle.rc_program.specs.Answer.{Search, ends, last_of, next_of, only}
 use Rattle.rc_program.specs.Greatest.{IsSpelledIn, HasNoSpan}
-use Rattle.rc_program.specs.Kinds.{answer_by, IsAnswerWhere}
+use Rattle.rc_states.specs.TableKinds.{answer_by, IsAnswerWhere}
 use Rattle.rc_program.specs.Sought.{anchoring_of, text_of}
 use Rattle.rc_program.proofs.PlaceLemmas.{accept_below}
 use Rattle.rc_program.proofs.AnswerLemmas.{answer_law, last_of_more, walk_ends, walk_within}
@@ -37,11 +37,11 @@ use Rattle.rc_spans.proofs.MetLemmas.{met_law}
 
 -- WHERE NOTHING IS FOUND
 
-pub no_answer : (kind : MatchKind) (early : Bool) (s : Search) → answer_by kind s ≡ None → IsAnswerWhere early kind s None
+pub no_answer : (kind : TableKind) (early : Bool) (s : Search) → answer_by kind s ≡ None → IsAnswerWhere early kind s None
 no_answer kind true s e = e
 no_answer kind false s e = sym e
 
-no_match : (kind : MatchKind) (s : Search) → HasNoSpan s → answer_by kind s ≡ None
+no_match : (kind : TableKind) (s : Search) → HasNoSpan s → answer_by kind s ≡ None
 no_match all_matches s none = (greatest_none s).1 none
 no_match leftmost_first s none = (answer_law.answer_none s).1 (no_span_no_answer s none)
 
@@ -79,7 +79,7 @@ void_walk : (hs : List Re) (patterns : ℕ) (anchored : Anchored) (s : Search) (
 void_walk hs patterns anchored s p x e places anchoring counted void low high h =
     ⊎_elim (λ l. omega (arith, l, low, high)) (λ n. n (subst (λ k. Asks k anchored) (sym counted) (walk_asked hs anchored s p x e places anchoring h))) void
 
-pub void_answer : (hs : List Re) (patterns : ℕ) (kind : MatchKind) (early : Bool) (anchored : Anchored) (s : Search) → s.places ≡ program hs →
+pub void_answer : (hs : List Re) (patterns : ℕ) (kind : TableKind) (early : Bool) (anchored : Anchored) (s : Search) → s.places ≡ program hs →
     s.anchoring ≡ anchoring_of anchored → patterns ≡ length hs → IsVoid patterns anchored s → IsAnswerWhere early kind s None
 void_answer hs patterns kind early anchored s places anchoring counted void =
     no_answer kind early s (no_match kind s (λ m h.
@@ -106,11 +106,11 @@ void_start hs patterns anchored s places anchoring counted void x p low h =
 
 -- FORWARDS
 
-case_as : (hs : List Re) (kind : MatchKind) (m n : Machine) (anchored : Anchored) (s : Search) (to : MatchKind) → IsCase hs kind m n anchored s → kind ≡ to →
+case_as : (hs : List Re) (kind : TableKind) (m n : Machine) (anchored : Anchored) (s : Search) (to : TableKind) → IsCase hs kind m n anchored s → kind ≡ to →
     IsCase hs to m n anchored s
 case_as hs kind m n anchored s to c e = subst (λ k. IsCase hs k m n anchored s) e c
 
-pub stands_first : (hs : List Re) (kind : MatchKind) (early : Bool) (m n : Machine) (anchored : Anchored) (s : Search) → IsCase hs kind m n anchored s →
+pub stands_first : (hs : List Re) (kind : TableKind) (early : Bool) (m n : Machine) (anchored : Anchored) (s : Search) → IsCase hs kind m n anchored s →
     Stands hs kind early m n anchored s s.lo
 stands_first hs kind early m n anchored s c = record {
   case = c;
@@ -123,7 +123,7 @@ pub from_low : (m : Machine) (s : Search) (from : ℕ) (anchored : Anchored) (ea
     SearchEnds m s.text s.hi from anchored early (met_last o) → SearchEnds m s.text s.hi s.lo anchored early (met_last o)
 from_low m s from anchored early o e h = subst (λ x. SearchEnds m s.text s.hi x anchored early (met_last o)) e h
 
-pub none_met : (hs : List Re) (kind : MatchKind) (early : Bool) (m n : Machine) (anchored : Anchored) (s : Search) (from : ℕ) →
+pub none_met : (hs : List Re) (kind : TableKind) (early : Bool) (m n : Machine) (anchored : Anchored) (s : Search) (from : ℕ) →
     Stands hs kind early m n anchored s from → HasMet m s.text s.hi from anchored early None → IsAnswerWhere early kind s None
 none_met hs leftmost_first false m n anchored s from st h = sym (first_law.none hs m n anchored s from st.case (st.raised refl) h)
 none_met hs leftmost_first true m n anchored s from st h =
@@ -132,7 +132,7 @@ none_met hs all_matches early m n anchored s from st h =
     no_answer all_matches early s
     (met_law.none hs all_matches m n anchored s early st.case (from_low m s from anchored early None (st.alone (inl refl)) h)).2
 
-pub end_met : (hs : List Re) (kind : MatchKind) (early : Bool) (m n : Machine) (anchored : Anchored) (s : Search) (from : ℕ) (met : Met) →
+pub end_met : (hs : List Re) (kind : TableKind) (early : Bool) (m n : Machine) (anchored : Anchored) (s : Search) (from : ℕ) (met : Met) →
     Stands hs kind early m n anchored s from → HasMet m s.text s.hi from anchored early (Some met) →
     may_end kind s.passes_over s.text.content met.at ≡ true → IsEnd hs kind early m n anchored s (record { from = from; pattern = met.pattern; at = met.at })
 end_met hs kind early m n anchored s from met st h ok = record {
@@ -147,7 +147,7 @@ not_alone : (leftmost_first ≡ all_matches) ⊎ (false ≡ true) → ⊥
 not_alone = ⊎_elim (λ e. cc) (λ e. cc)
 
 -- an end that is passed over
-pub raised : (hs : List Re) (kind : MatchKind) (early : Bool) (m n : Machine) (anchored : Anchored) (s : Search) (from : ℕ) (met : Met) →
+pub raised : (hs : List Re) (kind : TableKind) (early : Bool) (m n : Machine) (anchored : Anchored) (s : Search) (from : ℕ) (met : Met) →
     Stands hs kind early m n anchored s from → HasMet m s.text s.hi from anchored early (Some met) →
     may_end kind s.passes_over s.text.content met.at ≡ false → (early ≡ true → s.passes_over ≡ false) →
     (from < s.hi → anchors anchored ≡ false → Stands hs kind early m n anchored s (from + 1))
@@ -167,7 +167,7 @@ raised hs leftmost_first false m n anchored s from met st h passed none =
       ⊎_elim (λ is. sym (r.1 (inr is))) (λ le. sym (r.1 (inl le))),
     )
 
-met_within : (hs : List Re) (kind : MatchKind) (early : Bool) (m n : Machine) (anchored : Anchored) (s : Search) (end : End) →
+met_within : (hs : List Re) (kind : TableKind) (early : Bool) (m n : Machine) (anchored : Anchored) (s : Search) (end : End) →
     IsEnd hs kind early m n anchored s end → (kind ≡ all_matches) ⊎ (early ≡ true) → (end.from ≤ end.at) × (end.at ≤ s.hi)
 met_within hs kind early m n anchored s end h alone =
     let st = h.stands in
@@ -177,7 +177,7 @@ met_within hs kind early m n anchored s end h alone =
     let a = w.0 in let b = w.1 in (omega (arith, a, b, at_low), w.2)
 
 -- where the end lies
-pub end_within : (hs : List Re) (kind : MatchKind) (early : Bool) (m n : Machine) (anchored : Anchored) (s : Search) (end : End) →
+pub end_within : (hs : List Re) (kind : TableKind) (early : Bool) (m n : Machine) (anchored : Anchored) (s : Search) (end : End) →
     IsEnd hs kind early m n anchored s end → (end.from ≤ end.at) × (end.at ≤ s.hi)
 end_within hs leftmost_first false m n anchored s end h =
     let st = h.stands in

@@ -2,8 +2,8 @@
 use Rattle.std.specs.Prelude.{◌≡◌, ℕ, ◌+◌, ◌<◌, ◌≤◌, ◌⊎◌, Bool, true, false, List, Option, Some, None}
 use Rattle.rc_pattern.specs.Re.{Re}
 use Rattle.rc_text.specs.Found.{Found}
-use Rattle.rc_text.specs.declared.types.MatchKind.{MatchKind}
-use Rattle.rc_text.specs.declared.types.MatchKind.TheVariants.{All as all_matches, LeftmostFirst as leftmost_first}
+use Rattle.rc_states.specs.declared.kind.TableKind.{TableKind}
+use Rattle.rc_states.specs.declared.kind.TableKind.TheVariants.{All as all_matches, LeftmostFirst as leftmost_first}
 use Rattle.rc_text.specs.declared.types.Anchored.{Anchored}
 use Rattle.rc_text.specs.declared.types.Anchored.TheVariants.{No}
 use Rattle.rc_text.specs.Plain.{is_anchored as anchors}
@@ -64,26 +64,26 @@ pub record LastLaw : Type 0 where
 -- Whatever the kind, and whether or not the first that is met is enough.
 pub record MetLaw : Type 0 where
   -- what is met is the end of a walk of that pattern
-  pub ends : (hs : List Re) (kind : MatchKind) (m n : Machine) (anchored : Anchored) (s : Search) (earliest : Bool) (q e : ℕ) → IsCase hs kind m n anchored s →
+  pub ends : (hs : List Re) (kind : TableKind) (m n : Machine) (anchored : Anchored) (s : Search) (earliest : Bool) (q e : ℕ) → IsCase hs kind m n anchored s →
       SearchEnds m s.text s.hi s.lo anchored earliest (met_last (Some (q, e))) →
       (x : ℕ) × IsSpelledIn s (met_from m q x e) × (anchors anchored ≡ true → x ≡ s.lo)
   -- from where an entry is met a walk of its pattern leads there
-  pub starts : (hs : List Re) (kind : MatchKind) (m n : Machine) (anchored : Anchored) (s : Search) (earliest early : Bool) (q e x k : ℕ) → IsCase hs kind m n anchored s →
+  pub starts : (hs : List Re) (kind : TableKind) (m n : Machine) (anchored : Anchored) (s : Search) (earliest early : Bool) (q e x k : ℕ) → IsCase hs kind m n anchored s →
       anchors anchored ≡ false → SearchEnds m s.text s.hi s.lo anchored earliest (met_last (Some (q, e))) →
       SearchEndsDown n s.text s.lo e anchored early (met_last (Some (x, k))) → IsSpelledIn s (record { pattern = k; start = x; end = e })
-  pub some_start : (hs : List Re) (kind : MatchKind) (m n : Machine) (anchored : Anchored) (s : Search) (earliest early : Bool) (q e : ℕ) → IsCase hs kind m n anchored s →
+  pub some_start : (hs : List Re) (kind : TableKind) (m n : Machine) (anchored : Anchored) (s : Search) (earliest early : Bool) (q e : ℕ) → IsCase hs kind m n anchored s →
       SearchEnds m s.text s.hi s.lo anchored earliest (met_last (Some (q, e))) → ¬ SearchEndsDown n s.text s.lo e anchored early (met_last None)
   -- where nothing is met, nothing is spelled
-  pub none : (hs : List Re) (kind : MatchKind) (m n : Machine) (anchored : Anchored) (s : Search) (earliest : Bool) → IsCase hs kind m n anchored s →
+  pub none : (hs : List Re) (kind : TableKind) (m n : Machine) (anchored : Anchored) (s : Search) (earliest : Bool) → IsCase hs kind m n anchored s →
       SearchEnds m s.text s.hi s.lo anchored earliest (met_last None) → HasNoSpan s × (answer s ≡ None) × (greatest s ≡ None)
 
 -- Backwards from the upper bound.
 pub record ReverseLaw : Type 0 where
-  pub least : (hs : List Re) (kind : MatchKind) (m n : Machine) (anchored : Anchored) (s : Search) (x k : ℕ) → IsCase hs kind m n anchored s →
+  pub least : (hs : List Re) (kind : TableKind) (m n : Machine) (anchored : Anchored) (s : Search) (x k : ℕ) → IsCase hs kind m n anchored s →
       SearchEndsDown n s.text s.lo s.hi anchored false (met_last (Some (x, k))) → IsLeastStart s (record { pattern = k; offset = x })
-  pub met : (hs : List Re) (kind : MatchKind) (m n : Machine) (anchored : Anchored) (s : Search) (earliest : Bool) (x k : ℕ) → IsCase hs kind m n anchored s →
+  pub met : (hs : List Re) (kind : TableKind) (m n : Machine) (anchored : Anchored) (s : Search) (earliest : Bool) (x k : ℕ) → IsCase hs kind m n anchored s →
       SearchEndsDown n s.text s.lo s.hi anchored earliest (met_last (Some (x, k))) → IsSpelledToEnd s (record { pattern = k; offset = x })
-  pub none : (hs : List Re) (kind : MatchKind) (m n : Machine) (anchored : Anchored) (s : Search) (earliest : Bool) → IsCase hs kind m n anchored s →
+  pub none : (hs : List Re) (kind : TableKind) (m n : Machine) (anchored : Anchored) (s : Search) (earliest : Bool) → IsCase hs kind m n anchored s →
       SearchEndsDown n s.text s.lo s.hi anchored earliest (met_last None) → HasNoStart s
 
 -- Where each span ends at the upper bound, and the search isn't anchored, the match from the least start is the preferred one.
@@ -93,7 +93,7 @@ pub record ReverseEndLaw : Type 0 where
 -- Where bytes aren't read.
 pub record UnreadLaw : Type 0 where
   -- an assertion of the patterns speaks of Unicode's words, if the program's do
-  pub unicode : (hs : List Re) (kind : MatchKind) (m n : Machine) (anchored : Anchored) (s : Search) → IsCase hs kind m n anchored s →
+  pub unicode : (hs : List Re) (kind : TableKind) (m n : Machine) (anchored : Anchored) (s : Search) → IsCase hs kind m n anchored s →
       m.setting.needs.unicode ≡ true → SpeaksOfUnicode hs
   -- what was read forwards up to an end is read backwards
   pub read : (m n : Machine) (s : Search) (from q e p : ℕ) (anchored back : Anchored) (earliest early : Bool) → n.setting ≡ m.setting → IsInside s.text s.lo s.hi →

@@ -3,7 +3,7 @@
 use Rattle.std.specs.Prelude.{◌≡◌, ℕ, ◌≤◌, false, Option, Some, None, Result, Ok, Err, min, max}
 use Rattle.rc_text.specs.declared.types.Anchored.{Anchored}
 use Rattle.rc_text.specs.declared.types.Anchored.TheVariants.{No}
-use Rattle.rc_text.specs.declared.types.MatchKind.TheVariants.{LeftmostFirst as leftmost_first}
+use Rattle.rc_states.specs.declared.kind.TableKind.TheVariants.{LeftmostFirst as leftmost_first}
 use Rattle.rc_program.specs.Text.{Text}
 use Rattle.rc_program.specs.Answer.{Search}
 use Rattle.rc_automaton.specs.Machine.{Machine}

@@ -12,7 +12,7 @@ ghost use Rattle.rc_spans.specs.Machines.{AreMachines, entries_of};
 use rc_automaton::automaton::Automaton;
 use rc_bytes::program::byte_program;
 use rc_program::place::Place;
-use rc_text::types::MatchKind;
+use rc_states::kind::TableKind;
 use std::alloc::{AllocError, Global};
 
 /// The places by which the patterns of a program are entered, in their order: each choice, from place 0 on, leads to a pattern or on to the
@@ -42,7 +42,7 @@ pub fn automaton_of(
     program: &[Place],
     patterns: usize,
     terminator: u8,
-    kind: MatchKind,
+    kind: TableKind,
     byte_classes: bool,
 ) -> Result<Automaton, AllocError>
     ghost hs: { List Re }

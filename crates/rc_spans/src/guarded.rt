@@ -6,7 +6,7 @@ ghost use Rattle.rc_text.specs.Text.{Keeps, low, high};
 ghost use Rattle.rc_text.specs.declared.types.Anchored.TheVariants.{No};
 ghost use Rattle.rc_pattern.specs.Re.{Re};
 ghost use Rattle.rc_program.specs.Answer.{answer};
-ghost use Rattle.rc_program.specs.Kinds.{IsAnswerBy};
+ghost use Rattle.rc_states.specs.TableKinds.{IsAnswerBy};
 ghost use Rattle.rc_program.specs.Program.{program};
 ghost use Rattle.rc_program.specs.Sought.{text_of};
 ghost use Rattle.rc_literal.specs.Guards.{Guards};
@@ -23,9 +23,10 @@ use rc_automaton::ended::{Ended, Met};
 use rc_automaton::halves::Halves;
 use rc_literal::literal::find_from;
 use rc_literal::prefilter::Prefilter;
+use rc_states::kind::TableKind;
 use rc_text::cursor::Cursor;
 use rc_text::input::Input;
-use rc_text::types::{Anchored, HalfMatch, Match, MatchError, MatchKind, Span};
+use rc_text::types::{Anchored, HalfMatch, Match, MatchError, Span};
 
 /// How far a run forwards came.
 #[derive(Clone, Copy)]
@@ -41,7 +42,7 @@ fn goes_by_needles(aim: Aim, anchored: Anchored) -> bool
     ensures { IsTrue result ↔ GoesByNeedles aim anchored }
 {
     match (aim.kind, anchored) {
-        (MatchKind::LeftmostFirst, Anchored::No) => !aim.earliest && !aim.passes_over,
+        (TableKind::LeftmostFirst, Anchored::No) => !aim.earliest && !aim.passes_over,
         _ => false,
     }
 }

@@ -6,7 +6,7 @@ ghost use Rattle.rc_text.specs.Plain.{is_anchored};
 ghost use Rattle.rc_text.specs.Text.{Keeps, is_boundary, low, high};
 ghost use Rattle.rc_pattern.specs.Re.{Re};
 ghost use Rattle.rc_program.specs.Answer.{Search};
-ghost use Rattle.rc_program.specs.Kinds.{IsAnswerBy};
+ghost use Rattle.rc_states.specs.TableKinds.{IsAnswerBy};
 ghost use Rattle.rc_program.specs.Sought.{text_of};
 ghost use Rattle.rc_automaton.specs.Machine.{Machine};
 ghost use Rattle.rc_spans.specs.Aims.{AreHalvesOf, is_early, search_for, cost};
@@ -17,15 +17,16 @@ ghost use Rattle.rc_spans.specs.Reverse.{IsMatchToEnd, IsReverseHalf};
 
 use rc_automaton::ended::{Ended, Met};
 use rc_automaton::halves::Halves;
+use rc_states::kind::TableKind;
 use rc_text::cursor::Cursor;
 use rc_text::input::{Input, high, is_boundary_at, low};
-use rc_text::types::{Anchored, HalfMatch, Match, MatchError, MatchKind, PatternID, Span};
+use rc_text::types::{Anchored, HalfMatch, Match, MatchError, PatternID, Span};
 
 /// What two halves of a search seek.
 #[derive(Clone, Copy)]
 pub struct Aim {
     /// Which match is the answer.
-    pub kind: MatchKind,
+    pub kind: TableKind,
     /// How many patterns there are.
     pub patterns: usize,
     /// Whether matches that end off a boundary of characters are passed over. Where each match counts, none is.
@@ -164,8 +165,8 @@ fn may_end<C: Cursor>(input: &mut Input<C>, aim: Aim, at: usize) -> bool
     ensures value { result ≡ may_end aim.kind aim.passes_over input.old.content at }
 {
     match aim.kind {
-        MatchKind::All => true,
-        MatchKind::LeftmostFirst => is_allowed(input, aim, at),
+        TableKind::All => true,
+        TableKind::LeftmostFirst => is_allowed(input, aim, at),
     }
 }
 
@@ -216,8 +217,8 @@ fn begins_there(aim: Aim, anchored: Anchored) -> bool
     ensures { result ≡ begins_there aim.kind (is_early aim) (is_anchored anchored) }
 {
     match aim.kind {
-        MatchKind::All => is_early(aim) && anchored.is_anchored(),
-        MatchKind::LeftmostFirst => anchored.is_anchored(),
+        TableKind::All => is_early(aim) && anchored.is_anchored(),
+        TableKind::LeftmostFirst => anchored.is_anchored(),
     }
 }
 
@@ -226,8 +227,8 @@ fn keeps_pattern(aim: Aim) -> bool
     ensures { result ≡ keeps_pattern aim.kind (is_early aim) }
 {
     match aim.kind {
-        MatchKind::All => false,
-        MatchKind::LeftmostFirst => !is_early(aim),
+        TableKind::All => false,
+        TableKind::LeftmostFirst => !is_early(aim),
     }
 }
 

@@ -13,8 +13,8 @@ use Rattle.rc_states.specs.Sides.{holds_by, told, AreAlike, out_seen}
 use Rattle.rc_states.specs.States.{Setting, State, IsNext, root_if, is_match}
 use Rattle.rc_states.specs.Steps.{HasWay}
 use Rattle.rc_states.proofs.SidesLemmas.{alike_out}
-use Rattle.rc_text.specs.declared.types.MatchKind.{MatchKind}
-use Rattle.rc_text.specs.declared.types.MatchKind.TheVariants.{All as all_matches, LeftmostFirst as leftmost_first}
+use Rattle.rc_states.specs.declared.kind.TableKind.{TableKind}
+use Rattle.rc_states.specs.declared.kind.TableKind.TheVariants.{All as all_matches, LeftmostFirst as leftmost_first}
 use Rattle.rc_states.specs.Steps.{IsRising}
 use Rattle.rc_states.specs.Sets.{ComesBy, IsLeastMatch, IsNextOfAll}
 use Rattle.rc_states.specs.Kinds.{IsNextBy, longest, KindLaw}
@@ -45,7 +45,7 @@ alike_all g root b c s s2 a n =
       beside = n.beside ∙ a.told_same;
     }
 
-alike : (kind : MatchKind) (g : Setting) (root b c : ℕ) (s t : State) → AreAlike g.places g.needs g.terminator b c →
+alike : (kind : TableKind) (g : Setting) (root b c : ℕ) (s t : State) → AreAlike g.places g.needs g.terminator b c →
     IsNextBy kind g root s (Some b) t → IsNextBy kind g root s (Some c) t
 alike leftmost_first g root b c s t a n = alike_next g root b c s t a n
 alike all_matches g root b c s t a n = alike_all g root b c s t a n
@@ -83,7 +83,7 @@ read_in n q (stays k ∷ ws) h = ⊎_elim (λ e. absurd (stays_reads e)) (λ z. 
     stays_reads e = let f : 0 ≡ 1 = ap (λ w. kind_of w) e in omega (arith, f)
 read_in n q (reads m k ∷ ws) h = ⊎_elim (λ e. inl (ap (λ w. goal_of w) e)) (λ z. inr (read_in n q ws z)) h
 
-inside : (kind : MatchKind) (g : Setting) (root : ℕ) (s t : State) (after : Option ℕ) → IsClosed g.places → root < length g.places →
+inside : (kind : TableKind) (g : Setting) (root : ℕ) (s t : State) (after : Option ℕ) → IsClosed g.places → root < length g.places →
     IsNextBy kind g root s after t → AreOnce t.list × AreBelow (length g.places) t.list
 inside leftmost_first g root s t after closed rooted n =
     let f = limit.next_fits (out_seen g.places g.needs g.terminator s.beside after) (is_match g.places) (length g.places)
@@ -97,21 +97,21 @@ inside all_matches g root s t after closed rooted n = (
       ((n.list q).0 h),
 )
 
-short : (kind : MatchKind) (g : Setting) (root : ℕ) (s t : State) (after : Option ℕ) → IsClosed g.places → root < length g.places →
+short : (kind : TableKind) (g : Setting) (root : ℕ) (s t : State) (after : Option ℕ) → IsClosed g.places → root < length g.places →
     IsNextBy kind g root s after t → length t.list ≤ longest kind (length g.places)
 short leftmost_first g root s t after closed rooted n =
     let f = inside leftmost_first g root s t after closed rooted n in limit.short (length g.places) t.list f.0 f.1
 short all_matches g root s t after closed rooted n =
     let f = inside all_matches g root s t after closed rooted n in limit.short (length g.places) t.list f.0 f.1
 
-forgets : (kind : MatchKind) (g : Setting) (root : ℕ) (s t : State) (after stop : Option ℕ) →
+forgets : (kind : TableKind) (g : Setting) (root : ℕ) (s t : State) (after stop : Option ℕ) →
     IsNextBy kind g root s after t → IsNextBy kind g root (record s { stop = stop }) after t
 forgets leftmost_first g root s t after stop n =
     record { next = n.next; is_step = n.is_step; goes_on = n.goes_on; joined = n.joined; beside = n.beside }
 forgets all_matches g root s t after stop n =
     record { list = n.list; rising = n.rising; stop = n.stop; goes_on = n.goes_on; beside = n.beside }
 
-tells : (kind : MatchKind) (g : Setting) (root : ℕ) (s t : State) (after : Option ℕ) →
+tells : (kind : TableKind) (g : Setting) (root : ℕ) (s t : State) (after : Option ℕ) →
     IsNextBy kind g root s after t → t.beside ≡ told g.needs g.terminator after
 tells leftmost_first g root s t after n = n.beside
 tells all_matches g root s t after n = n.beside

@@ -11,13 +11,13 @@ ghost use Rattle.rc_states.specs.Sets.{ComesBy, IsNextOfAll};
 ghost use Rattle.rc_states.specs.Kinds.{IsNextBy};
 ghost use Rattle.rc_states.specs.Machine.{IsGathered};
 
+use crate::kind::TableKind;
 use crate::open::{add_root, is_match, least_with, open, place_at};
 use crate::scratch::Scratch;
 use crate::sides::{Needs, Seen, told};
 use crate::sparse_set::SparseSet;
 use crate::state::State;
 use rc_bytes::place::BytePlace;
-use rc_text::types::MatchKind;
 use std::alloc::AllocError;
 
 /// Puts the places onto the empty stack, the first uppermost.
@@ -183,7 +183,7 @@ fn next_of_all(
 ///
 /// No memory is taken but what the lists of `scratch` and `to` grow by. An `Err` is want of it; then `to` is some state.
 pub fn next_by(
-    kind: MatchKind,
+    kind: TableKind,
     places: &[BytePlace],
     needs: Needs,
     terminator: u8,
@@ -201,10 +201,10 @@ pub fn next_by(
     ensures next { IfOk result (λ _. IsNextBy kind (setting_of places.now needs terminator) root (state_of from.now) after (state_of to.new)) }
 {
     match kind {
-        MatchKind::LeftmostFirst => {
+        TableKind::LeftmostFirst => {
             next_preferred(places, needs, terminator, root, scratch, from, after, to)
         }
-        MatchKind::All => next_of_all(places, needs, terminator, root, scratch, from, after, to),
+        TableKind::All => next_of_all(places, needs, terminator, root, scratch, from, after, to),
     }
 }
 

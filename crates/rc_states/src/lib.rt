@@ -4,6 +4,7 @@
 pub mod backward;
 pub mod classes;
 pub mod forward;
+pub mod kind;
 pub mod laws;
 mod open;
 pub mod scratch;

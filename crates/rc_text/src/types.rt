@@ -275,6 +275,8 @@ pub enum MatchKind {
     All,
     /// The one with the least start, and there the one that the pattern prefers.
     LeftmostFirst,
+    /// The one with the least start, and there the longest; of the ways to match that much the one that the pattern prefers.
+    LeftmostLongest,
 }
 
 /// Why a search has no answer.

@@ -1,4 +1,4 @@
-use Rattle.std.proofs.Common.{◌≡◌, ◌≢◌, ◌∙◌, ℕ, Bool, false, Result, Ok, Err, ap}
+use Rattle.std.proofs.Common.{◌≡◌, ◌≢◌, ◌∙◌, ℕ, Bool, false, Result, Ok, Err, ap, sym}
 use Rattle.std.specs.Prelude.{IfErr}
 use Rattle.rc_meta.specs.Views.{regex_kind}
 use Rattle.chunk_replace.specs.declared.error.ReplaceError.{ReplaceError}
@@ -9,8 +9,8 @@ use Rattle.chunk_replace.proofs.replace.replace_all.Goals as goal
 pub returns-clause-replaced : goal.returns-clause-replaced
 returns-clause-replaced g c kind =
     whole_replaced c.put_replaced.result _ _ c.args.regex.now _ c.in-Ok-captures_iter.matches c.in-Ok.input c.args.template.now _ c.in-Ok.ensures.whole
-    c.in-Ok.ensures.text c.in-Ok-captures_iter.ensures.regex c.in-Ok-captures_iter.ensures.input (c.in-Ok-captures_iter.ensures.walks kind)
-    (c.put_replaced.ensures.put (ap regex_kind c.in-Ok-captures_iter.ensures.regex ∙ kind))
+    c.in-Ok.ensures.text c.in-Ok-captures_iter.ensures.regex c.in-Ok-captures_iter.ensures.input c.in-Ok-captures_iter.ensures.walks
+    (c.put_replaced.ensures.put (λ all. kind (sym (ap regex_kind c.in-Ok-captures_iter.ensures.regex) ∙ all)))
 
 pub returns-clause-count : goal.returns-clause-count
 returns-clause-count g c =

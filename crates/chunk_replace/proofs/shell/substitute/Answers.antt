@@ -1,4 +1,5 @@
-use Rattle.std.proofs.Common.{ap}
+use Rattle.std.proofs.Common.{◌≡◌, ◌∙◌, ap, sym}
+use Rattle.rc_text.specs.declared.types.MatchKind.TheVariants.{All as all_matches, LeftmostFirst as leftmost_first}
 use Rattle.rc_settings.specs.Settings.{match_kind_of}
 use Rattle.chunk_replace.proofs.Whole.{substituted_if}
 use Rattle.chunk_replace.proofs.shell.substitute.Goals as goal
@@ -6,5 +7,6 @@ use Rattle.chunk_replace.proofs.shell.substitute.Goals as goal
 pub returns : goal.returns
 returns g c =
     substituted_if c.any_replaced.result c.replace_all.result c.args.pattern.now _ _ c.in_ok-regex.regex _ _ c.in_ok-regex.ensures.settings
-    c.in_ok-regex.ensures.read c.any_replaced.ensures (c.replace_all.ensures.replaced (ap match_kind_of c.in_ok-regex.ensures.settings))
+    c.in_ok-regex.ensures.read c.any_replaced.ensures (c.replace_all.ensures.replaced
+    (λ all. let never : leftmost_first ≡ all_matches = sym (ap match_kind_of c.in_ok-regex.ensures.settings) ∙ all in cc))
     c.replace_all.ensures.count

@@ -1,6 +1,7 @@
-use Rattle.std.proofs.Common.{◌∙◌, [], ap, subst, arith, option_map}
+use Rattle.std.proofs.Common.{◌∙◌, [], ap, subst, arith, option_map, None}
 use Rattle.rc_program.specs.Answer.{Search}
 use Rattle.rc_program.specs.Sought.{anchoring_of}
+use Rattle.rc_pass.specs.Sights.{sight_of}
 use Rattle.rc_pass.specs.Moves.{seen}
 use Rattle.rc_pass.specs.Spread.{SomeSpells, IsTop, span_of, starting}
 use Rattle.rc_pass.proofs.KeptLemmas.{kept_seen}
@@ -20,8 +21,8 @@ returns-clause-chosen g c =
     c.starts_of-pattern.ensures.last c.bounds-lo.ensures.low c.bounds-lo.ensures.high
     (ap anchoring_of (c.get_anchored.ensures ∙ c.bounds-lo.ensures.keeps.anchored))
     (omega (arith, c.if-lo-hi.false, c.bounds-lo.ensures.low, c.bounds-lo.ensures.high)) in
-    covered_greatest s c.starts_of-pattern.result.1 (option_map span_of c.pass.result) last
+    covered_greatest s c.starts_of-pattern.result.1 (option_map span_of c.reach_end.result) last
     (omega (arith, c.if-lo-hi.false, c.bounds-lo.ensures.low, c.bounds-lo.ensures.high))
-    (subst (λ x. IsTop (SomeSpells s [] (starting x c.starts_of-pattern.result.1)) (option_map span_of c.pass.result)) c.bounds-lo.ensures.low
-    (subst (λ q. IsTop (SomeSpells q [] (starting c.bounds-lo.result.0 c.starts_of-pattern.result.1)) (option_map span_of c.pass.result))
-    (kept_seen c.args.program.now c.args.input.now c.bounds-lo.new.input c.bounds-lo.ensures.keeps) c.pass.ensures.top))
+    (subst (λ x. IsTop (SomeSpells (sight_of None s) [] (starting x c.starts_of-pattern.result.1)) (option_map span_of c.reach_end.result)) c.bounds-lo.ensures.low
+    (subst (λ q. IsTop (SomeSpells (sight_of None q) [] (starting c.bounds-lo.result.0 c.starts_of-pattern.result.1)) (option_map span_of c.reach_end.result))
+    (kept_seen c.args.program.now c.args.input.now c.bounds-lo.new.input c.bounds-lo.ensures.keeps) c.reach_end.ensures.top))

@@ -1,5 +1,5 @@
 use Rattle.std.proofs.Common.{◌+◌, ◌<◌, map, ◌++◌, sym, arith, length-drop, inl, inr, ⊎_elim, min, subst}
-use Rattle.rc_program.specs.Answer.{Search}
+use Rattle.rc_pass.specs.Sights.{Sight}
 use Rattle.rc_pass.specs.Near.{seen_from, size}
 use Rattle.rc_pass.specs.Threads.{thread_of}
 use Rattle.rc_pass.specs.Spread.{Seeks, running}
@@ -24,7 +24,7 @@ push-requires-clause-room g c =
 pub threads-preserved-then-head-spot : goal.threads-preserved-then-head-spot
 threads-preserved-then-head-spot g c =
     let later : c.args.spot.now.at < c.get.result.0.at = omega (arith, c.if-head-spot.true) in
-    let s : Search = seen_from c.args.spot.now g.text in
+    let s : Sight = seen_from c.args.spot.now g.text in
     let room = waits_fit s (size c.args.spot.now.course) c.args.spot.now.course.hi c.args.spot.now.at c.args.curr.now.items
     c.args.growth.now.threads c.args.best.now c.threads.growth.threads c.threads.growth.entered c.threads.best c.threads.index
     (thread_of c.get.result.0 c.get.result.1.now) c.get.ensures.item

@@ -1,11 +1,11 @@
 use Rattle.std.proofs.Common.{ℕ, None, ◌+◌, ◌*◌, refl, sym, ap, subst, ◌∙◌, arith, ◌-◌, ◌≤◌}
-use Rattle.rc_program.specs.Answer.{HasNoWalkFrom}
+use Rattle.rc_pass.specs.Sights.{HasNoWalkFrom}
 use Rattle.rc_text.specs.Text.{Keeps}
 use Rattle.rc_pass.specs.Threads.{ThreadList}
-use Rattle.rc_pass.specs.Moves.{seen}
+use Rattle.rc_pass.specs.Moves.{seen_by}
 use Rattle.rc_pass.specs.Near.{size}
 use Rattle.rc_pass.specs.Passing.{Pending, IsLined, IsPassing}
-use Rattle.rc_pass.proofs.KeptLemmas.{kept_back, kept_then, kept_seen, kept_window, kept_begun, kept_around, begun_from, begun_later}
+use Rattle.rc_pass.proofs.KeptLemmas.{kept_back, kept_then, kept_seen_by, kept_window, kept_begun, kept_around, begun_from, begun_later}
 use Rattle.rc_pass.proofs.PassingLemmas.{GoesOn, counts_fit, counted_at_last, passing_begins, passing_goes_on, passing_gives_up, passing_turns, passing_stops, passing_ends}
 use Rattle.rc_pass.proofs.EarlyLemmas.{early_tells_if, whole_tells}
 use Rattle.rc_pass.proofs.pass.pass.Given.{Over}
@@ -14,21 +14,21 @@ use Rattle.rc_pass.proofs.pass.pass.Goals.{After-next_position, After-turn-best}
 
 -- the pass has come to the next position
 moved : (g : Over) (c : After-next_position g) (x : ℕ) →
-    GoesOn (seen c.args.course.program.now c.positions.input) c.args.course.hi c.is_idle-idle.result c.positions.at x →
-    IsPassing (seen c.args.course.program.now g.text) (size c.args.course) c.args.course.hi c.args.scratch.now.next.threads.width
+    GoesOn (seen_by c.args.course c.positions.input) c.args.course.hi c.is_idle-idle.result c.positions.at x →
+    IsPassing (seen_by c.args.course g.text) (size c.args.course) c.args.course.hi c.args.scratch.now.next.threads.width
     c.args.from c.args.course.last x c.positions.scratch.insertions c.positions.scratch.curr c.positions.best c.positions.scratch.found.items
 moved g c x on =
-    passing_goes_on (seen c.args.course.program.now g.text) (size c.args.course) c.args.course.hi c.args.scratch.now.next.threads.width
+    passing_goes_on (seen_by c.args.course g.text) (size c.args.course) c.args.course.hi c.args.scratch.now.next.threads.width
     c.args.from c.args.course.last c.positions.at x c.positions.scratch.insertions c.is_idle-idle.result c.positions.scratch.curr c.positions.best c.positions.scratch.found.items
     c.positions.invariant.passing c.is_idle-idle.ensures
     (subst (λ s. GoesOn s c.args.course.hi c.is_idle-idle.result c.positions.at x)
-    (kept_seen c.args.course.program.now g.text c.positions.input c.positions.invariant.keeps) on)
+    (kept_seen_by c.args.course g.text c.positions.input c.positions.invariant.keeps) on)
 
 -- the threads have gone on there
 turned : (g : Over) (c : After-turn-best g) →
-    IsPassing (seen c.args.course.program.now g.text) (size c.args.course) c.args.course.hi c.args.scratch.now.next.threads.width
+    IsPassing (seen_by c.args.course g.text) (size c.args.course) c.args.course.hi c.args.scratch.now.next.threads.width
     c.args.from c.args.course.last c.in-Some.next_at c.positions.scratch.insertions c.positions.scratch.curr c.positions.best c.positions.scratch.found.items →
-    IsPassing (seen c.args.course.program.now g.text) (size c.args.course) c.args.course.hi c.args.scratch.now.next.threads.width
+    IsPassing (seen_by c.args.course g.text) (size c.args.course) c.args.course.hi c.args.scratch.now.next.threads.width
     c.args.from c.args.course.last (c.in-Some.next_at + 1) c.turn-best.new.scratch.insertions c.turn-best.new.scratch.curr c.turn-best.result c.turn-best.new.scratch.found.items
 turned g c here =
     let n : ℕ = size c.args.course in
@@ -38,13 +38,13 @@ turned g c here =
     let wide = c.positions.invariant.same.width in
     let carries = rw (c.spot_at.ensures.course, c.spot_at.ensures.at) at c.turn-best.ensures.carries in
     let lined = rw (c.spot_at.ensures.course, c.spot_at.ensures.at) at c.turn-best.ensures.lined in
-    passing_turns (seen c.args.course.program.now g.text) n c.args.course.hi c.args.scratch.now.next.threads.width c.args.from last at
+    passing_turns (seen_by c.args.course g.text) n c.args.course.hi c.args.scratch.now.next.threads.width c.args.from last at
     c.positions.scratch.insertions c.turn-best.new.scratch.insertions c.positions.scratch.curr c.turn-best.new.scratch.curr c.positions.best
     c.turn-best.result c.positions.scratch.found.items c.turn-best.new.scratch.found.items here on.1
-    (λ o x. subst (λ w. Pending (seen c.args.course.program.now g.text) w last at c.positions.scratch.curr.items c.positions.best
+    (λ o x. subst (λ w. Pending (seen_by c.args.course g.text) w last at c.positions.scratch.curr.items c.positions.best
     c.positions.scratch.found.items o) wide
     (carries o
-    (subst (λ w. Pending (seen c.args.course.program.now g.text) w last (at + 1) c.turn-best.new.scratch.curr.items c.turn-best.result
+    (subst (λ w. Pending (seen_by c.args.course g.text) w last (at + 1) c.turn-best.new.scratch.curr.items c.turn-best.result
     c.turn-best.new.scratch.found.items o) (sym wide) x)))
     (subst (λ w. IsLined n c.args.course.hi w (at + 1) c.turn-best.new.scratch.insertions c.turn-best.new.scratch.curr) wide lined)
     c.turn-best.ensures.counted (rw c.spot_at.ensures.course at c.turn-best.ensures.few)
@@ -54,7 +54,7 @@ positions-init g c = record {
   keeps = kept_then g.text c.args.input.now c.open-window.new.input c.requires.1.0 c.open-window.ensures.keeps;
   window = kept_window c.args.input.now g.text c.open-window.result (kept_back g.text c.args.input.now c.requires.1.0) c.open-window.ensures.window;
   begun = kept_begun c.args.input.now g.text c.args.from c.open-window.result (kept_back g.text c.args.input.now c.requires.1.0) c.open-window.ensures.begun;
-  passing = passing_begins (seen c.args.course.program.now g.text) (size c.args.course) c.args.course.hi c.args.scratch.now.next.threads.width
+  passing = passing_begins (seen_by c.args.course g.text) (size c.args.course) c.args.course.hi c.args.scratch.now.next.threads.width
       c.args.from c.args.course.last c.clear.new.self c.args.scratch.now.found.items (ap (λ (l : ThreadList). l.items) c.clear.ensures)
       (let w = ap (λ (l : ThreadList). l.width) c.clear.ensures in
       omega (arith, w, c.len.ensures, c.args.scratch.now.next.wide.0, c.args.scratch.now.next.slots.ok.0))
@@ -66,15 +66,15 @@ positions-init g c = record {
 
 pub returns-clause-gives : goal.returns-clause-gives
 returns-clause-gives g c = λ _.
-    passing_ends (seen c.args.course.program.now g.text) (size c.args.course) c.args.course.hi c.args.scratch.now.next.threads.width
+    passing_ends (seen_by c.args.course g.text) (size c.args.course) c.args.course.hi c.args.scratch.now.next.threads.width
     c.args.from c.args.course.last c.positions.at c.positions.scratch.insertions c.positions.scratch.curr c.positions.best c.positions.scratch.found.items c.positions.invariant.passing
     (omega (arith, c.positions-test.false)) c.args.course.ordered
 
 pub returns-clause-tells : goal.returns-clause-tells
 returns-clause-tells g c =
-    whole_tells (seen c.args.course.program.now g.text) (size c.args.course) c.args.course.hi c.args.scratch.now.next.threads.width
+    whole_tells (seen_by c.args.course g.text) (size c.args.course) c.args.course.hi c.args.scratch.now.next.threads.width
     c.args.from c.args.course.last c.positions.best c.positions.scratch.found.items
-    (passing_ends (seen c.args.course.program.now g.text) (size c.args.course) c.args.course.hi c.args.scratch.now.next.threads.width
+    (passing_ends (seen_by c.args.course g.text) (size c.args.course) c.args.course.hi c.args.scratch.now.next.threads.width
     c.args.from c.args.course.last c.positions.at c.positions.scratch.insertions c.positions.scratch.curr c.positions.best c.positions.scratch.found.items c.positions.invariant.passing
     (omega (arith, c.positions-test.false)) c.args.course.ordered)
 
@@ -82,23 +82,23 @@ pub returns-in_default-clause-gives : goal.returns-in_default-clause-gives
 returns-in_default-clause-gives g c = λ _.
     let on = c.in_default.ensures.next c.requires.1.1.1.0 in
     let alone = c.is_idle-idle.ensures on.0 in
-    passing_gives_up (seen c.args.course.program.now g.text) (size c.args.course) c.args.course.hi c.args.scratch.now.next.threads.width
+    passing_gives_up (seen_by c.args.course g.text) (size c.args.course) c.args.course.hi c.args.scratch.now.next.threads.width
     c.args.from c.args.course.last c.positions.at c.positions.scratch.insertions c.positions.scratch.curr c.positions.best c.positions.scratch.found.items
     c.positions.invariant.passing alone.0 alone.1 c.positions-test.true c.args.course.ordered
     (subst (λ s. (y : ℕ) → c.positions.at ≤ y → y ≤ c.args.course.hi → HasNoWalkFrom s y)
-    (kept_seen c.args.course.program.now g.text c.positions.input c.positions.invariant.keeps) on.1)
+    (kept_seen_by c.args.course g.text c.positions.input c.positions.invariant.keeps) on.1)
 
 pub returns-in_default-clause-tells : goal.returns-in_default-clause-tells
 returns-in_default-clause-tells g c =
     let on = c.in_default.ensures.next c.requires.1.1.1.0 in
     let alone = c.is_idle-idle.ensures on.0 in
-    whole_tells (seen c.args.course.program.now g.text) (size c.args.course) c.args.course.hi c.args.scratch.now.next.threads.width
+    whole_tells (seen_by c.args.course g.text) (size c.args.course) c.args.course.hi c.args.scratch.now.next.threads.width
     c.args.from c.args.course.last None c.positions.scratch.found.items
-    (passing_gives_up (seen c.args.course.program.now g.text) (size c.args.course) c.args.course.hi c.args.scratch.now.next.threads.width
+    (passing_gives_up (seen_by c.args.course g.text) (size c.args.course) c.args.course.hi c.args.scratch.now.next.threads.width
     c.args.from c.args.course.last c.positions.at c.positions.scratch.insertions c.positions.scratch.curr c.positions.best c.positions.scratch.found.items
     c.positions.invariant.passing alone.0 alone.1 c.positions-test.true c.args.course.ordered
     (subst (λ s. (y : ℕ) → c.positions.at ≤ y → y ≤ c.args.course.hi → HasNoWalkFrom s y)
-    (kept_seen c.args.course.program.now g.text c.positions.input c.positions.invariant.keeps) on.1))
+    (kept_seen_by c.args.course g.text c.positions.input c.positions.invariant.keeps) on.1))
 
 pub reach-requires-clause-inside : goal.reach-requires-clause-inside
 reach-requires-clause-inside g c =
@@ -158,7 +158,7 @@ turn-best-requires g c =
 pub returns-then-is_some-clause-tells : goal.returns-then-is_some-clause-tells
 returns-then-is_some-clause-tells g c =
     let on = c.in-Some.ensures.next c.requires.1.1.1.0 in
-    early_tells_if (seen c.args.course.program.now g.text) (size c.args.course) c.args.course.hi c.args.scratch.now.next.threads.width
+    early_tells_if (seen_by c.args.course g.text) (size c.args.course) c.args.course.hi c.args.scratch.now.next.threads.width
     c.args.from c.args.course.last (c.in-Some.next_at + 1) c.turn-best.new.scratch.insertions c.turn-best.new.scratch.curr c.turn-best.result c.turn-best.new.scratch.found.items
     c.requires.1.1.0.bound (sym c.is_some.ensures ∙ c.if-is_some.true)
     (turned g (goal.at.returns-then-is_some-clause-tells g c).After-turn-best
@@ -175,7 +175,7 @@ pub returns-then-is_done-clause-gives : goal.returns-then-is_done-clause-gives
 returns-then-is_done-clause-gives g c = λ _.
     let ended = c.is_done.ensures c.if-is_done.true in
     let on = c.in-Some.ensures.next c.requires.1.1.1.0 in
-    passing_stops (seen c.args.course.program.now g.text) (size c.args.course) c.args.course.hi c.args.scratch.now.next.threads.width
+    passing_stops (seen_by c.args.course g.text) (size c.args.course) c.args.course.hi c.args.scratch.now.next.threads.width
     c.args.from c.args.course.last c.in-Some.next_at c.turn-best.new.scratch.insertions c.turn-best.new.scratch.curr c.turn-best.result c.turn-best.new.scratch.found.items
     (turned g (goal.at.returns-then-is_done-clause-gives g c).After-turn-best
     (moved g (goal.at.returns-then-is_done-clause-gives g c).After-next_position c.in-Some.next_at on))
@@ -185,9 +185,9 @@ pub returns-then-is_done-clause-tells : goal.returns-then-is_done-clause-tells
 returns-then-is_done-clause-tells g c =
     let ended = c.is_done.ensures c.if-is_done.true in
     let on = c.in-Some.ensures.next c.requires.1.1.1.0 in
-    whole_tells (seen c.args.course.program.now g.text) (size c.args.course) c.args.course.hi c.args.scratch.now.next.threads.width
+    whole_tells (seen_by c.args.course g.text) (size c.args.course) c.args.course.hi c.args.scratch.now.next.threads.width
     c.args.from c.args.course.last c.turn-best.result c.turn-best.new.scratch.found.items
-    (passing_stops (seen c.args.course.program.now g.text) (size c.args.course) c.args.course.hi c.args.scratch.now.next.threads.width
+    (passing_stops (seen_by c.args.course g.text) (size c.args.course) c.args.course.hi c.args.scratch.now.next.threads.width
     c.args.from c.args.course.last c.in-Some.next_at c.turn-best.new.scratch.insertions c.turn-best.new.scratch.curr c.turn-best.result c.turn-best.new.scratch.found.items
     (turned g (goal.at.returns-then-is_done-clause-tells g c).After-turn-best
     (moved g (goal.at.returns-then-is_done-clause-tells g c).After-next_position c.in-Some.next_at on))

@@ -1,6 +1,6 @@
 use Rattle.std.proofs.Common.{◌+◌, ◌-◌}
 use Rattle.rc_text.specs.Text.{Keeps}
-use Rattle.rc_pass.specs.Moves.{seen}
+use Rattle.rc_pass.specs.Moves.{seen_by}
 use Rattle.rc_pass.specs.Near.{size}
 use Rattle.rc_pass.specs.Passing.{IsPassing}
 use Rattle.rc_pass.specs.Scratches.{IsSame}
@@ -12,7 +12,7 @@ invariant-positions g l = record {
   keeps : Keeps g.text l.input;
   window : IsWindow g.text l.window;
   begun : IsBegun g.text l.at l.window;
-  passing : IsPassing (seen l.course.program.now g.text) (size l.course) l.course.hi l.fn.scratch.next.threads.width l.from l.course.last l.at
+  passing : IsPassing (seen_by l.course g.text) (size l.course) l.course.hi l.fn.scratch.next.threads.width l.from l.course.last l.at
       l.scratch.insertions l.scratch.curr l.best l.scratch.found.items;
   same : IsSame l.fn.scratch l.scratch;
 }

@@ -1,5 +1,5 @@
 use Rattle.std.proofs.Common.{◌+◌, ◌<◌, sym, arith, length-drop, inl, inr, ⊎_elim, min}
-use Rattle.rc_program.specs.Answer.{Search}
+use Rattle.rc_pass.specs.Sights.{Sight}
 use Rattle.rc_pass.specs.Near.{seen_from, size}
 use Rattle.rc_pass.specs.Threads.{thread_of}
 use Rattle.rc_pass.proofs.StepLemmas.{in_at, from_at, has_room, stepping_waits, stepping_closes, stepping_ends}
@@ -40,7 +40,7 @@ returns-clause-ended g c =
 
 pub returns-in-Some-clause-carries : goal.returns-in-Some-clause-carries
 returns-in-Some-clause-carries g c below best o x =
-    let s : Search = seen_from c.args.spot.now g.text in
+    let s : Sight = seen_from c.args.spot.now g.text in
     stepping_ends s (size c.args.spot.now.course) c.args.spot.now.course.hi c.args.spot.now.at c.args.curr.now.items c.args.growth.now.threads c.threads.growth.threads c.threads.growth.entered
     c.threads.index (thread_of c.get.result.0 c.get.result.1.now) c.get.ensures.item c.requires.1.0 c.threads.invariant.stepping
     c.close.new.growth.threads.items c.close.new.growth.entered.items c.copy_from_slice.new.self.items c.close.new.growth.slots.items c.in-Some.number
@@ -61,7 +61,7 @@ returns-in-Some-clause-ended g c = (
 
 pub threads-preserved : goal.threads-preserved
 threads-preserved g c =
-    let s : Search = seen_from c.args.spot.now g.text in
+    let s : Sight = seen_from c.args.spot.now g.text in
     record {
       stepping = stepping_closes s (size c.args.spot.now.course) c.args.spot.now.course.hi c.args.spot.now.at c.args.curr.now.items c.args.growth.now.threads c.threads.growth.threads c.threads.growth.entered
           c.threads.index (thread_of c.get.result.0 c.get.result.1.now) c.get.ensures.item c.requires.1.0 c.threads.invariant.stepping

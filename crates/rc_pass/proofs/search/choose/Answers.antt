@@ -1,10 +1,11 @@
-use Rattle.std.proofs.Common.{◌≡◌, ◌+◌, ◌-◌, ◌≤◌, length, refl, sym, ap, subst, ◌∙◌, arith, rules}
+use Rattle.std.proofs.Common.{◌≡◌, ◌+◌, ◌-◌, ◌≤◌, length, None, refl, sym, ap, subst, ◌∙◌, arith, rules}
 use Rattle.std.proofs.Math.Nat.{mul-le-mul_left}
 use Rattle.rc_text.specs.Text.{is_boundary}
 use Rattle.rc_program.specs.Answer.{Search}
 use Rattle.rc_program.specs.Sought.{anchoring_of}
 use Rattle.rc_program.specs.Programs.{search_of}
 use Rattle.rc_program.proofs.AnswerLemmas.{last_start_of}
+use Rattle.rc_pass.specs.Sights.{sight_of}
 use Rattle.rc_pass.specs.Moves.{seen}
 use Rattle.rc_pass.specs.Passing.{GivesTrace, best_of}
 use Rattle.rc_pass.proofs.KeptLemmas.{kept_seen}
@@ -30,10 +31,10 @@ last_there g c =
     (omega (arith, c.if-lo-hi.false, c.bounds-lo.ensures.low, c.bounds-lo.ensures.high))
 
 gives : (g : Over) (c : After-pass g) →
-    GivesTrace (seen c.args.program.now c.args.input.now) c.starts.scratch.next.threads.width c.starts.from c.starts_of-pattern.result.1
+    GivesTrace (sight_of None (seen c.args.program.now c.args.input.now)) c.starts.scratch.next.threads.width c.starts.from c.starts_of-pattern.result.1
     (best_of c.pass.result c.pass.new.scratch.found.items)
 gives g c =
-    subst (λ s. GivesTrace s c.starts.scratch.next.threads.width c.starts.from c.starts_of-pattern.result.1 (best_of c.pass.result c.pass.new.scratch.found.items))
+    subst (λ s. GivesTrace (sight_of None s) c.starts.scratch.next.threads.width c.starts.from c.starts_of-pattern.result.1 (best_of c.pass.result c.pass.new.scratch.found.items))
     (kept_seen c.args.program.now c.args.input.now c.starts.input c.starts.invariant.keeps) (c.pass.ensures.gives refl)
 
 pub returns-then-lo-hi-clause-chosen : goal.returns-then-lo-hi-clause-chosen
@@ -47,14 +48,14 @@ returns-in_default-clause-chosen g c =
     none_chosen s c.starts.scratch.next.threads.width c.starts.from c.starts_of-pattern.result.1 c.starts.invariant.passed
     (last_there g (goal.at.returns-in_default-clause-chosen g c).After-pass)
     (none_gives s c.starts.scratch.next.threads.width c.starts.from c.starts_of-pattern.result.1 c.pass.new.scratch.found.items
-    (subst (λ r. GivesTrace s c.starts.scratch.next.threads.width c.starts.from c.starts_of-pattern.result.1 (best_of r c.pass.new.scratch.found.items)) c.in_default.is
+    (subst (λ r. GivesTrace (sight_of None s) c.starts.scratch.next.threads.width c.starts.from c.starts_of-pattern.result.1 (best_of r c.pass.new.scratch.found.items)) c.in_default.is
     (gives g (goal.at.returns-in_default-clause-chosen g c).After-pass)))
 
 pub returns-then-not-program-clause-chosen : goal.returns-then-not-program-clause-chosen
 returns-then-not-program-clause-chosen g c =
     let s : Search = search_of c.args.program.now c.args.input.now in
     let b = some_gives s c.starts.scratch.next.threads.width c.starts.from c.starts_of-pattern.result.1 c.in-Some.end c.pass.new.scratch.found.items
-    (subst (λ r. GivesTrace s c.starts.scratch.next.threads.width c.starts.from c.starts_of-pattern.result.1 (best_of r c.pass.new.scratch.found.items)) c.in-Some.is
+    (subst (λ r. GivesTrace (sight_of None s) c.starts.scratch.next.threads.width c.starts.from c.starts_of-pattern.result.1 (best_of r c.pass.new.scratch.found.items)) c.in-Some.is
     (gives g (goal.at.returns-then-not-program-clause-chosen g c).After-pass)) in
     best_chosen s c.starts.scratch.next.threads.width c.starts.from c.starts_of-pattern.result.1 c.starts.invariant.passed
     (last_there g (goal.at.returns-then-not-program-clause-chosen g c).After-pass) c.in-Some.end c.pass.new.scratch.found.items b.0
@@ -65,7 +66,7 @@ pub returns-then-is_boundary_at-clause-chosen : goal.returns-then-is_boundary_at
 returns-then-is_boundary_at-clause-chosen g c =
     let s : Search = search_of c.args.program.now c.args.input.now in
     let b = some_gives s c.starts.scratch.next.threads.width c.starts.from c.starts_of-pattern.result.1 c.in-Some.end c.pass.new.scratch.found.items
-    (subst (λ r. GivesTrace s c.starts.scratch.next.threads.width c.starts.from c.starts_of-pattern.result.1 (best_of r c.pass.new.scratch.found.items)) c.in-Some.is
+    (subst (λ r. GivesTrace (sight_of None s) c.starts.scratch.next.threads.width c.starts.from c.starts_of-pattern.result.1 (best_of r c.pass.new.scratch.found.items)) c.in-Some.is
     (gives g (goal.at.returns-then-is_boundary_at-clause-chosen g c).After-pass)) in
     let content = c.in-Some.ensures.keeps.content ∙ c.starts.invariant.keeps.content in
     best_chosen s c.starts.scratch.next.threads.width c.starts.from c.starts_of-pattern.result.1 c.starts.invariant.passed
@@ -78,7 +79,7 @@ pub overflow_add-from : goal.overflow_add-from
 overflow_add-from g c =
     let s : Search = search_of c.args.program.now c.args.input.now in
     let b = some_gives s c.starts.scratch.next.threads.width c.starts.from c.starts_of-pattern.result.1 c.in-Some.end c.pass.new.scratch.found.items
-    (subst (λ r. GivesTrace s c.starts.scratch.next.threads.width c.starts.from c.starts_of-pattern.result.1 (best_of r c.pass.new.scratch.found.items)) c.in-Some.is
+    (subst (λ r. GivesTrace (sight_of None s) c.starts.scratch.next.threads.width c.starts.from c.starts_of-pattern.result.1 (best_of r c.pass.new.scratch.found.items)) c.in-Some.is
     (gives g (goal.at.overflow_add-from g c).After-pass)) in
     omega (arith, b.1.high, c.starts.invariant.low.1, c.bounds-lo.ensures.small)
 
@@ -86,7 +87,7 @@ pub starts-smaller : goal.starts-smaller
 starts-smaller g c =
     let s : Search = search_of c.args.program.now c.args.input.now in
     let b = some_gives s c.starts.scratch.next.threads.width c.starts.from c.starts_of-pattern.result.1 c.in-Some.end c.pass.new.scratch.found.items
-    (subst (λ r. GivesTrace s c.starts.scratch.next.threads.width c.starts.from c.starts_of-pattern.result.1 (best_of r c.pass.new.scratch.found.items)) c.in-Some.is
+    (subst (λ r. GivesTrace (sight_of None s) c.starts.scratch.next.threads.width c.starts.from c.starts_of-pattern.result.1 (best_of r c.pass.new.scratch.found.items)) c.in-Some.is
     (gives g (goal.at.starts-smaller g c).After-pass)) in
     omega (arith, b.1.low, b.1.high, c.starts-test.true)
 
@@ -94,7 +95,7 @@ pub starts-preserved : goal.starts-preserved
 starts-preserved g c =
     let s : Search = search_of c.args.program.now c.args.input.now in
     let b = some_gives s c.starts.scratch.next.threads.width c.starts.from c.starts_of-pattern.result.1 c.in-Some.end c.pass.new.scratch.found.items
-    (subst (λ r. GivesTrace s c.starts.scratch.next.threads.width c.starts.from c.starts_of-pattern.result.1 (best_of r c.pass.new.scratch.found.items)) c.in-Some.is
+    (subst (λ r. GivesTrace (sight_of None s) c.starts.scratch.next.threads.width c.starts.from c.starts_of-pattern.result.1 (best_of r c.pass.new.scratch.found.items)) c.in-Some.is
     (gives g (goal.at.starts-preserved g c).After-pass)) in
     let content = c.in-Some.ensures.keeps.content ∙ c.starts.invariant.keeps.content in
     record {

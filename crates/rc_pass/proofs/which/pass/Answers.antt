@@ -1,5 +1,5 @@
 use Rattle.std.proofs.Common.{ℕ, ◌+◌, sym, ap, ◌∙◌, arith, ⊎_elim, true≢false, rules, ◌-◌, ◌≤◌}
-use Rattle.rc_pass.specs.Moves.{seen}
+use Rattle.rc_pass.specs.Moves.{seen_by}
 use Rattle.rc_pass.specs.Near.{size}
 use Rattle.rc_pass.specs.Marking.{IsMarkingFrom}
 use Rattle.rc_pass.proofs.KeptLemmas.{kept_back, kept_window, kept_begun, kept_around}
@@ -40,10 +40,10 @@ turn-requires g c =
     )
 
 marks : (g : Over) (c : After-turn g) →
-    IsMarkingFrom (seen c.args.course.program.now g.text) (size c.args.course) c.args.course.hi c.args.from c.args.course.last (c.positions.at + 1)
+    IsMarkingFrom (seen_by c.args.course g.text) (size c.args.course) c.args.course.hi c.args.from c.args.course.last (c.positions.at + 1)
     c.turn.new.scratch.insertions c.turn.new.scratch.curr c.args.set.now c.turn.new.set
 marks g c =
-    marking_turns (seen c.args.course.program.now g.text) (size c.args.course) c.args.course.hi c.args.from c.args.course.last c.args.first c.args.end
+    marking_turns (seen_by c.args.course g.text) (size c.args.course) c.args.course.hi c.args.from c.args.course.last c.args.first c.args.end
     c.args.set.now c.positions.at
     c.positions.scratch.insertions c.turn.new.scratch.insertions c.positions.scratch.curr c.turn.new.scratch.curr
     c.positions.set c.turn.new.set c.positions.invariant.marking (omega (arith, c.positions-test.true))
@@ -52,7 +52,7 @@ marks g c =
 
 pub returns-then-absent-end-clause-marks : goal.returns-then-absent-end-clause-marks
 returns-then-absent-end-clause-marks g c =
-    marking_full (seen c.args.course.program.now g.text) (size c.args.course) c.args.course.hi c.args.from c.args.course.last c.args.first c.args.end
+    marking_full (seen_by c.args.course g.text) (size c.args.course) c.args.course.hi c.args.from c.args.course.last c.args.first c.args.end
     c.args.set.now c.positions.at c.positions.scratch.insertions c.first_absent-absent.result c.positions.scratch.curr c.positions.set
     c.positions.invariant.marking
     (all_then c.args.first c.positions.absent c.first_absent-absent.result c.positions.set c.positions.set (λ p h. h) c.positions.invariant.full
@@ -62,7 +62,7 @@ pub returns-then-is_done-clause-marks : goal.returns-then-is_done-clause-marks
 returns-then-is_done-clause-marks g c =
     let ended = c.is_done.ensures c.if-is_done.true in
     let over : c.args.course.last ≤ c.positions.at = ⊎_elim (λ e. absurd (true≢false e)) (λ l. l) ended.1 in
-    marking_done (seen c.args.course.program.now g.text) (size c.args.course) c.args.course.hi c.args.from c.args.course.last c.args.first c.args.end
+    marking_done (seen_by c.args.course g.text) (size c.args.course) c.args.course.hi c.args.from c.args.course.last c.args.first c.args.end
     c.args.set.now (c.positions.at + 1)
     c.turn.new.scratch.insertions c.turn.new.scratch.curr c.turn.new.set (marks g (goal.at.returns-then-is_done-clause-marks g c).After-turn)
     ended.0 (omega (arith, over))
@@ -85,7 +85,7 @@ positions-preserved g c = record {
 
 pub returns-clause-marks : goal.returns-clause-marks
 returns-clause-marks g c =
-    marking_ends (seen c.args.course.program.now g.text) (size c.args.course) c.args.course.hi c.args.from c.args.course.last c.args.first c.args.end
+    marking_ends (seen_by c.args.course g.text) (size c.args.course) c.args.course.hi c.args.from c.args.course.last c.args.first c.args.end
     c.args.set.now c.positions.at
     c.positions.scratch.insertions c.positions.scratch.curr c.positions.set c.positions.invariant.marking
     (omega (arith, c.positions-test.false)) c.args.course.ordered

@@ -1,5 +1,5 @@
 use Rattle.rc_text.specs.Text.{Keeps}
-use Rattle.rc_pass.specs.Moves.{seen}
+use Rattle.rc_pass.specs.Moves.{seen_by}
 use Rattle.rc_pass.specs.Near.{size}
 use Rattle.rc_pass.specs.Scratches.{IsSame}
 use Rattle.rc_pass.specs.Marking.{IsMarkingFrom, HasAll}
@@ -11,7 +11,7 @@ invariant-positions g l = record {
   keeps : Keeps g.text l.input;
   window : IsWindow g.text l.window;
   begun : IsBegun g.text l.at l.window;
-  marking : IsMarkingFrom (seen l.course.program.now g.text) (size l.course) l.course.hi l.from l.course.last l.at l.scratch.insertions
+  marking : IsMarkingFrom (seen_by l.course g.text) (size l.course) l.course.hi l.from l.course.last l.at l.scratch.insertions
       l.scratch.curr l.fn.set l.set;
   full : HasAll l.first l.absent l.set;
   same : IsSame l.fn.scratch l.scratch;

@@ -1,5 +1,5 @@
 use Rattle.std.proofs.Common.{◌+◌, ◌<◌, map, ◌++◌, ◌↔◌, [], arith, min, subst}
-use Rattle.rc_program.specs.Answer.{Search}
+use Rattle.rc_pass.specs.Sights.{Sight}
 use Rattle.rc_pass.specs.Near.{seen_from, size}
 use Rattle.rc_pass.specs.Threads.{thread_of}
 use Rattle.rc_pass.specs.Marking.{Owed, going}
@@ -24,7 +24,7 @@ push-requires-clause-room g c =
 pub threads-preserved-then-head-spot : goal.threads-preserved-then-head-spot
 threads-preserved-then-head-spot g c =
     let later : c.args.spot.now.at < c.get.result.0.at = omega (arith, c.if-head-spot.true) in
-    let s : Search = seen_from c.args.spot.now g.text in
+    let s : Sight = seen_from c.args.spot.now g.text in
     let room = marks_fit s (size c.args.spot.now.course) c.args.spot.now.course.hi c.args.spot.now.at c.args.curr.now.items
     c.args.growth.now.threads c.args.set.now c.threads.growth.threads c.threads.growth.entered c.threads.set c.threads.index
     (thread_of c.get.result.0 c.get.result.1.now) c.get.ensures.item
@@ -58,7 +58,7 @@ threads-preserved g c = record {
 pub returns-clause-same : goal.returns-clause-same
 returns-clause-same g c below p low =
     let none = spreading_over c.args.curr.now.items c.threads.index (omega (arith, c.threads-test.false, c.len-index-end.ensures.value)) in
-    let s : Search = seen_from c.args.spot.now g.text in
+    let s : Sight = seen_from c.args.spot.now g.text in
     subst (λ ts. Owed s c.args.spot.now.at [] [] (map going c.args.curr.now.items ++ below) c.args.set.now p
     ↔ Owed s c.args.spot.now.at c.threads.growth.threads.items c.threads.growth.entered.items (map going ts ++ below) c.threads.set p) none
     (c.threads.invariant.marking.same below p low)

@@ -14,8 +14,8 @@ returns-clause-left g c kind =
 
 pub returns-clause-law : goal.returns-clause-law
 returns-clause-law g c kind =
-    captures_law (regex_names c.args.self.now) (search_for (sought c.args.self.now) c.args.input) c.args.input.span.start _ kind refl refl refl
-    (returns-clause-left g c kind)
+    captures_law (regex_kind c.args.self.now) (regex_names c.args.self.now) (search_for (sought c.args.self.now) c.args.input) c.args.input.span.start _ kind
+    refl refl refl refl refl
 
 pub returns-clause-law_by : goal.returns-clause-law_by
 returns-clause-law_by g c =

@@ -1,17 +1,17 @@
 use Rattle.rc_text.specs.Text.{Keeps}
-use Rattle.rc_pass.specs.Moves.{seen}
+use Rattle.rc_pass.specs.Moves.{seen_by}
 use Rattle.rc_pass.specs.Near.{size}
 use Rattle.rc_pass.specs.Scratches.{IsSame}
 use Rattle.rc_pass.specs.Spread.{IsCovering}
 use Rattle.rc_pass.specs.Windows.{IsWindow, IsBegun}
-use Rattle.rc_pass.proofs.greatest.pass.Given as goal
+use Rattle.rc_pass.proofs.greatest.reach_end.Given as goal
 
 abbrev pub invariant-positions : goal.invariant-positions
 invariant-positions g l = record {
   keeps : Keeps g.text l.input;
   window : IsWindow g.text l.window;
   begun : IsBegun g.text l.at l.window;
-  covering : IsCovering (seen l.course.program.now g.text) (size l.course) l.course.hi l.from l.course.last l.at l.scratch.insertions
+  covering : IsCovering (seen_by l.course g.text) (size l.course) l.course.hi l.from l.course.last l.at l.scratch.insertions
       l.scratch.curr l.best;
   same : IsSame l.fn.scratch l.scratch;
 }

@@ -1,13 +1,13 @@
 use Rattle.std.proofs.Common.{ℕ, ◌+◌, sym, ap, ◌∙◌, arith, ⊎_elim, true≢false, rules, ◌-◌, ◌≤◌}
-use Rattle.rc_pass.specs.Moves.{seen}
+use Rattle.rc_pass.specs.Moves.{seen_by}
 use Rattle.rc_pass.specs.Near.{size}
 use Rattle.rc_pass.specs.Spread.{IsCovering}
 use Rattle.rc_pass.proofs.KeptLemmas.{kept_back, kept_window, kept_begun, kept_around}
 use Rattle.rc_pass.proofs.PassingLemmas.{counts_fit, counted_at_last}
 use Rattle.rc_pass.proofs.SpreadPassLemmas.{covering_turns, covering_done, covering_ends}
-use Rattle.rc_pass.proofs.greatest.pass.Given.{Over}
-use Rattle.rc_pass.proofs.greatest.pass.Goals as goal
-use Rattle.rc_pass.proofs.greatest.pass.Goals.{After-turn}
+use Rattle.rc_pass.proofs.greatest.reach_end.Given.{Over}
+use Rattle.rc_pass.proofs.greatest.reach_end.Goals as goal
+use Rattle.rc_pass.proofs.greatest.reach_end.Goals.{After-turn}
 
 pub spot_at-requires : goal.spot_at-requires
 spot_at-requires g c =
@@ -46,10 +46,10 @@ turn-requires g c =
     )
 
 covers : (g : Over) (c : After-turn g) →
-    IsCovering (seen c.args.course.program.now g.text) (size c.args.course) c.args.course.hi c.args.from c.args.course.last (c.positions.at + 1)
+    IsCovering (seen_by c.args.course g.text) (size c.args.course) c.args.course.hi c.args.from c.args.course.last (c.positions.at + 1)
     c.turn.new.scratch.insertions c.turn.new.scratch.curr c.turn.new.best
 covers g c =
-    covering_turns (seen c.args.course.program.now g.text) (size c.args.course) c.args.course.hi c.args.from c.args.course.last c.positions.at
+    covering_turns (seen_by c.args.course g.text) (size c.args.course) c.args.course.hi c.args.from c.args.course.last c.positions.at
     c.positions.scratch.insertions c.turn.new.scratch.insertions c.positions.scratch.curr c.turn.new.scratch.curr
     c.positions.best c.turn.new.best c.positions.invariant.covering (omega (arith, c.positions-test.true))
     (rw (c.spot_at.ensures.course, c.spot_at.ensures.at) at c.turn.ensures.seeks)
@@ -60,7 +60,7 @@ pub returns-then-is_done-clause-top : goal.returns-then-is_done-clause-top
 returns-then-is_done-clause-top g c =
     let ended = c.is_done.ensures c.if-is_done.true in
     let over : c.args.course.last ≤ c.positions.at = ⊎_elim (λ e. absurd (true≢false e)) (λ l. l) ended.1 in
-    covering_done (seen c.args.course.program.now g.text) (size c.args.course) c.args.course.hi c.args.from c.args.course.last (c.positions.at + 1)
+    covering_done (seen_by c.args.course g.text) (size c.args.course) c.args.course.hi c.args.from c.args.course.last (c.positions.at + 1)
     c.turn.new.scratch.insertions c.turn.new.scratch.curr c.turn.new.best (covers g (goal.at.returns-then-is_done-clause-top g c).After-turn)
     ended.0 (omega (arith, over))
 
@@ -79,7 +79,7 @@ positions-preserved g c = record {
 
 pub returns-clause-top : goal.returns-clause-top
 returns-clause-top g c =
-    covering_ends (seen c.args.course.program.now g.text) (size c.args.course) c.args.course.hi c.args.from c.args.course.last c.positions.at
+    covering_ends (seen_by c.args.course g.text) (size c.args.course) c.args.course.hi c.args.from c.args.course.last c.positions.at
     c.positions.scratch.insertions c.positions.scratch.curr c.positions.best c.positions.invariant.covering
     (omega (arith, c.positions-test.false)) c.args.course.ordered
 

@@ -1,0 +1,36 @@
+-- Only proofs use this file.
+-- What a pass sees of a search: all but the starts and what is passed over, and where alone a walk may end.
+use Rattle.std.specs.Prelude.{ℕ, Bool, true, ◌&&◌, List, [], ◌∷◌, Option, Some, None, IsTrue, nat_eq}
+use Rattle.rc_walks.specs.Walks.{Pair, IsFirstWalk, HasNoWalk}
+use Rattle.rc_program.specs.Text.{Text}
+use Rattle.rc_program.specs.Program.{Place, place_at, ways, is_match_place}
+use Rattle.rc_program.specs.Answer.{Search, Anchoring, only}
+
+pub record Sight : Type 0 where
+  pub places : List Place
+  pub text : Text
+  pub hi : ℕ
+  pub anchoring : Anchoring
+  -- where it is Some, a walk may end at this position alone
+  pub until : Option ℕ
+
+abbrev pub sight_of : Option ℕ → Search → Sight
+sight_of until s = record { places = s.places; text = s.text; hi = s.hi; anchoring = s.anchoring; until = until }
+
+abbrev pub is_there : Option ℕ → ℕ → Bool
+is_there None i = true
+is_there (Some e) i = nat_eq i e
+
+-- a walk may end here
+abbrev pub ends : Sight → Pair → Bool
+ends s n = is_match_place (only s.anchoring) (place_at s.places n.0) && is_there s.until n.1
+
+abbrev pub next_of : Sight → Pair → List Pair
+next_of s = ways s.places s.text s.hi
+
+-- w is the first of the walks from x that may end so
+abbrev pub IsFirstFrom : Sight → ℕ → List Pair → Type 0
+IsFirstFrom s x w = IsFirstWalk (next_of s) (λ n. IsTrue (ends s n)) [] ((0, x) ∷ []) w
+
+abbrev pub HasNoWalkFrom : Sight → ℕ → Type 0
+HasNoWalkFrom s x = HasNoWalk (next_of s) (λ n. IsTrue (ends s n)) [] ((0, x) ∷ [])
