@@ -90,7 +90,7 @@ impl<P: Pages> PagedCursor<P> {
         ensures len { result ≡ self.now.page_len }
         ensures chunk { length self.now.chunk ≤ result }
     {
-        self.page_len
+        self.page_len // that it was made with
     }
 
     /// The fault that was met where the content ends, or None where none was met so far. Once `advance` has answered false, None says
@@ -99,6 +99,18 @@ impl<P: Pages> PagedCursor<P> {
         ensures value { result ≡ self.now.failure }
         ensures met { IsMet self.now.stored result }
     {
+        self.failure // the one that a move met
+    }
+
+    /// Reads on to the end, and tells the fault there, or None where the whole file can be read. The cursor shows the page that it
+    /// showed.
+    pub fn check(&mut self) -> Option<ReadFault>
+        ensures fault { result ≡ fault_of self.old.stored }
+        ensures same { self.new ≡ record self.old { failure = fault_of self.old.stored } }
+    {
+        let end = self.shown.offset + self.shown.len;
+        let read = self.spares.read_on(&mut self.file, end, self.page_len);
+        self.failure = read.err();
         self.failure
     }
 
@@ -164,6 +176,6 @@ impl<P: Pages> Cursor for PagedCursor<P> {
     }
 
     fn offset(&self) -> usize {
-        self.shown.offset
+        self.shown.offset // in the file
     }
 }

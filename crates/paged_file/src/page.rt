@@ -1,7 +1,7 @@
 //! Pages in memory.
 ghost use Rattle.std.specs.Prelude.{◌≡◌, ◌+◌, ◌<◌, ◌≤◌, ◌^◌, IfOk, IfSome, MatchOption, MatchResult, drop, length, take, true, slice_get, Some, vec_len};
 ghost use Rattle.paged_file.specs.Kept.{AreHeld, Fetched, IsHeld};
-ghost use Rattle.paged_file.specs.Stored.{Fails};
+ghost use Rattle.paged_file.specs.Stored.{Fails, fault_of};
 
 use crate::pages::{Pages, ReadFault};
 use std::alloc::{AllocError, Global};
@@ -114,5 +114,29 @@ impl Spares {
         let next = slot + 1;
         self.oldest = if next < self.pages.len() { next } else { 0 };
         Ok(Some(slot))
+    }
+
+    /// Reads from a place on to the file's end, or to what can't be read.
+    pub(crate) fn read_on<P: Pages>(
+        &mut self,
+        file: &mut P,
+        from: usize,
+        page_len: usize,
+    ) -> Result<(), ReadFault>
+        requires some { 0 < page_len }
+        requires small { length (P.stored file.old).bytes + 1 < 2 ^ 64 }
+        requires held { AreHeld (P.stored file.old).bytes page_len self.old.pages.items self.old.oldest }
+        ensures stored { P.stored file.new ≡ P.stored file.old }
+        ensures count { vec_len self.new.pages ≡ vec_len self.old.pages }
+        ensures held { AreHeld (P.stored file.old).bytes page_len self.new.pages.items self.new.oldest }
+        ensures end { MatchResult result
+            (λ _. (P.stored file.old).is_whole ≡ true)
+            (λ f. fault_of (P.stored file.old) ≡ Some f) }
+    {
+        let mut at = from;
+        while let Some(slot) = self.fetch(file, at, page_len)? {
+            at += self.pages[slot].len;
+        }
+        Ok(())
     }
 }
