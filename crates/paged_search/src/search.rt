@@ -1,6 +1,5 @@
 //! Searches in a file that is read a page at a time.
-ghost use Rattle.std.specs.Prelude.{◌≡◌, ◌×◌, IfOk, MatchResult, false, true};
-ghost use Rattle.paged_file.specs.Stored.{fault_of};
+ghost use Rattle.std.specs.Prelude.{◌≡◌, IfOk, MatchResult, false, true};
 ghost use Rattle.paged_search.specs.Found.{IsFault, IsSearchedFrom, found_from};
 
 use paged_file::{PagedCursor, Pages, ReadFault};
