@@ -1,0 +1,142 @@
+//! Pages in memory.
+ghost use Rattle.std.specs.Prelude.{◌≡◌, ◌+◌, ◌<◌, ◌≤◌, ◌^◌, IfOk, IfSome, MatchOption, MatchResult, drop, length, take, true, slice_get, Some, vec_len};
+ghost use Rattle.paged_file.specs.Kept.{AreHeld, Fetched, IsHeld};
+ghost use Rattle.paged_file.specs.Stored.{Fails, fault_of};
+
+use crate::pages::{Pages, ReadFault};
+use std::alloc::{AllocError, Global};
+
+/// Room for a page.
+#[derive(Drop)]
+pub(crate) struct Page {
+    /// Where the page begins that it holds, in bytes of the file.
+    pub(crate) offset: usize,
+    /// How many bytes it holds.
+    pub(crate) len: usize,
+    pub(crate) bytes: Vec<u8>,
+}
+
+impl Page {
+    /// Room for so many bytes, which holds none yet.
+    pub(crate) fn new(alloc: Global, page_len: usize) -> Result<Page, AllocError>
+        ensures len { IfOk result (λ p. p.len ≡ 0) }
+        ensures offset { IfOk result (λ p. p.offset ≡ 0) }
+        ensures room { IfOk result (λ p. length p.bytes.items ≡ page_len) }
+    {
+        let mut bytes = Vec::new(alloc);
+        bytes.resize(page_len, 0)?;
+        Ok(Page {
+            offset: 0,
+            len: 0,
+            bytes,
+        })
+    }
+
+    /// Reads the page at a place, and lets go what it held. It holds none where no byte can be read there.
+    pub(crate) fn read<P: Pages>(&mut self, file: &mut P, at: usize) -> Result<(), ReadFault>
+        requires room { 0 < length self.old.bytes.items }
+        ensures stored { P.stored file.new ≡ P.stored file.old }
+        ensures small { length (P.stored file.old).bytes + 1 < 2 ^ 64 }
+        ensures offset { self.new.offset ≡ at }
+        ensures room { length self.new.bytes.items ≡ length self.old.bytes.items }
+        ensures within { self.new.len ≤ length self.old.bytes.items }
+        ensures bytes { take self.new.len self.new.bytes.items ≡ take (length self.old.bytes.items) (drop at (P.stored file.old).bytes) }
+        ensures gives { MatchResult result
+            (λ _. self.new.len ≡ 0 → (P.stored file.old).is_whole ≡ true)
+            (Fails (P.stored file.old) at) }
+    {
+        self.offset = at;
+        self.len = 0;
+        self.len = file.read(at, &mut self.bytes)?;
+        Ok(())
+    }
+}
+
+/// The pages in memory that aren't shown.
+#[derive(Drop)]
+pub(crate) struct Spares {
+    pub(crate) pages: Vec<Page>,
+    /// Which of them is let go next.
+    pub(crate) oldest: usize,
+}
+
+impl Spares {
+    /// Room for so many pages.
+    pub(crate) fn new(alloc: Global, count: usize, page_len: usize) -> Result<Spares, AllocError>
+        requires some { 0 < count }
+        ensures count { IfOk result (λ s. vec_len s.pages ≡ count) }
+        ensures held { (bytes : _) → IfOk result (λ s. AreHeld bytes page_len s.pages.items s.oldest) }
+    {
+        let mut pages = Vec::new(alloc);
+        for _ in 0..count {
+            pages.push(Page::new(alloc, page_len)?)?;
+        }
+        Ok(Spares { pages, oldest: 0 })
+    }
+
+    /// Where the page at a place is in memory.
+    fn find(&self, at: usize) -> Option<usize>
+        ensures page { IfSome result (λ slot. IfSome (slice_get self.now.pages.items slot) (λ p. (p.offset ≡ at) × (0 < p.len))) }
+        ensures within { IfSome result (λ slot. slot < vec_len self.now.pages) }
+    {
+        for (slot, page) in self.pages.iter().enumerate() {
+            if page.offset == at && page.len > 0 {
+                return Some(slot);
+            }
+        }
+        None
+    }
+
+    /// Where the page at a place is in memory, once it was read where it wasn't. None is the file's end, where no byte stands there.
+    pub(crate) fn fetch<P: Pages>(
+        &mut self,
+        file: &mut P,
+        at: usize,
+        page_len: usize,
+    ) -> Result<Option<usize>, ReadFault>
+        requires some { 0 < page_len }
+        requires held { AreHeld (P.stored file.old).bytes page_len self.old.pages.items self.old.oldest }
+        ensures stored { P.stored file.new ≡ P.stored file.old }
+        ensures count { vec_len self.new.pages ≡ vec_len self.old.pages }
+        ensures held { AreHeld (P.stored file.old).bytes page_len self.new.pages.items self.new.oldest }
+        ensures gives { MatchResult result
+            (λ o. Fetched (P.stored file.old) at o self.new.pages.items)
+            (Fails (P.stored file.old) at) }
+    {
+        if let Some(slot) = self.find(at) {
+            return Ok(Some(slot));
+        }
+        let slot = self.oldest;
+        self.pages[slot].read(file, at)?;
+        if self.pages[slot].len == 0 {
+            return Ok(None);
+        }
+        let next = slot + 1;
+        self.oldest = if next < self.pages.len() { next } else { 0 };
+        Ok(Some(slot))
+    }
+
+    /// Reads from a place on to the file's end, or to what can't be read.
+    pub(crate) fn read_on<P: Pages>(
+        &mut self,
+        file: &mut P,
+        from: usize,
+        page_len: usize,
+    ) -> Result<(), ReadFault>
+        requires some { 0 < page_len }
+        requires small { length (P.stored file.old).bytes + 1 < 2 ^ 64 }
+        requires held { AreHeld (P.stored file.old).bytes page_len self.old.pages.items self.old.oldest }
+        ensures stored { P.stored file.new ≡ P.stored file.old }
+        ensures count { vec_len self.new.pages ≡ vec_len self.old.pages }
+        ensures held { AreHeld (P.stored file.old).bytes page_len self.new.pages.items self.new.oldest }
+        ensures end { MatchResult result
+            (λ _. (P.stored file.old).is_whole ≡ true)
+            (λ f. fault_of (P.stored file.old) ≡ Some f) }
+    {
+        let mut at = from;
+        while let Some(slot) = self.fetch(file, at, page_len)? {
+            at += self.pages[slot].len;
+        }
+        Ok(())
+    }
+}

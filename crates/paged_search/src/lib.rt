@@ -1,0 +1,6 @@
+//! Searches in a file that is read a page at a time.
+#![tactic(auto)]
+
+pub mod search;
+
+pub use search::{FindError, find, find_whole};
