@@ -10,6 +10,8 @@ mod faults;
 #[cfg(test)]
 mod grammar;
 #[cfg(test)]
+mod lent;
+#[cfg(test)]
 mod programs;
 #[cfg(test)]
 mod refusals;
