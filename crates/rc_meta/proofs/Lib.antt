@@ -5,3 +5,4 @@ pub mod Runs
 pub mod Cuts
 pub mod Preferred
 pub mod PatternSpans
+pub mod LentRuns

@@ -2,6 +2,7 @@
 use Rattle.std.specs.Prelude.{ℕ, Bool, Option}
 use Rattle.rc_engines.specs.declared.cache.Cache.{Cache}
 use Rattle.rc_meta.specs.declared.regex.Regex.{Regex}
+use Rattle.rc_meta.specs.declared.seeker.Standing.{Standing}
 
 -- A regex, its cache, where the last match ended, and whether none comes any more.
 pub record Seeking : Type 0 where
@@ -9,6 +10,10 @@ pub record Seeking : Type 0 where
   pub cache : Cache
   pub last : Option ℕ
   pub is_done : Bool
+
+-- by a regex and a cache, from where a list stands
+abbrev pub seeking : Regex → Cache → Standing → Seeking
+seeking r c s = record { regex = r; cache = c; last = s.last; is_done = s.is_done }
 
 -- The same, in a cache for searches with all groups.
 pub record GroupSeeking : Type 0 where

@@ -3,8 +3,10 @@
 
 pub mod builder;
 pub mod cache;
+pub mod finder;
 pub mod iterators;
 pub mod laws;
+pub mod lists;
 pub mod regex;
 mod seeker;
 pub mod which;

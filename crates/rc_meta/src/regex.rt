@@ -17,7 +17,7 @@ ghost use Rattle.rc_settings.specs.Settings.{settings_of, program_settings, auto
 use crate::builder::{Builder, build};
 use crate::cache::Cache;
 use crate::iterators::{CapturesMatches, FindMatches, Pieces, Split, SplitN};
-use crate::seeker::{GroupSeeker, Seeker};
+use crate::seeker::{GroupSeeker, Seeker, Standing};
 use rc_captures::captures;
 use rc_captures::captures::Captures;
 use rc_captures::groups::GroupInfo;
@@ -477,8 +477,10 @@ impl Regex {
         let seeker = Seeker {
             regex: self,
             cache,
-            last: None,
-            is_done: false,
+            standing: Standing {
+                last: None,
+                is_done: false,
+            },
         };
         Ok(FindMatches { seeker, input })
     }
@@ -509,8 +511,10 @@ impl Regex {
         let seeker = Seeker {
             regex: self,
             cache,
-            last: None,
-            is_done: false,
+            standing: Standing {
+                last: None,
+                is_done: false,
+            },
         };
         let seeker = GroupSeeker { seeker, alloc };
         Ok(CapturesMatches { seeker, input })

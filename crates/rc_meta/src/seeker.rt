@@ -13,18 +13,24 @@ use rc_text::types::Match;
 use std::alloc::{AllocError, Global};
 use std::marker::Model;
 
-/// A regex with a cache for its searches, where the last match ended, and whether none comes any more.
+/// Where a list of matches stands: where the last match ended, and whether none comes any more.
 #[derive(Drop)]
-pub(crate) struct Seeker<'r> {
-    pub(crate) regex: &'r Regex,
-    pub(crate) cache: Cache,
+pub(crate) struct Standing {
     pub(crate) last: Option<usize>,
     pub(crate) is_done: bool,
 }
 
+/// A regex with a cache for its searches, and where the list of its matches stands.
+#[derive(Drop)]
+pub(crate) struct Seeker<'r> {
+    pub(crate) regex: &'r Regex,
+    pub(crate) cache: Cache,
+    pub(crate) standing: Standing,
+}
+
 impl<'r> Model for Seeker<'r> {
     ghost use Rattle.rc_meta.specs.Caches.{IsCacheIn};
-    ghost use Rattle.rc_meta.specs.Seeking.{Seeking};
+    ghost use Rattle.rc_meta.specs.Seeking.{Seeking, seeking};
     ghost use Rattle.rc_engines.specs.contracts.cache.Cache as caches;
     ghost use Rattle.rc_meta.specs.contracts.regex.Regex as regexes;
     ghost use Rattle.std.specs.Coded.{codes};
@@ -33,7 +39,7 @@ impl<'r> Model for Seeker<'r> {
 
     ghost coded = { Prim.hlevel (codes, regexes.the_row.coded, caches.the_row.coded) };
 
-    ghost view = { λ s. record { regex = s.regex.now; cache = s.cache; last = s.last; is_done = s.is_done } };
+    ghost view = { λ s. seeking s.regex.now s.cache s.standing };
 
     ghost invariant = { λ s. IsCacheIn s.regex.now 0 s.cache };
 }
@@ -63,8 +69,75 @@ impl<'r> Model for GroupSeeker<'r> {
     ghost invariant = { λ s. IsCacheIn s.seeker.regex (slot_len (names_of s.seeker.regex.info)) s.seeker.cache };
 }
 
+impl Standing {
+    ghost use Rattle.std.specs.Prelude.{◌≡◌, IfErr, IfNone, IsTrue, MatchOption};
+    ghost use Rattle.rc_engine.specs.Moved.{IsMoved};
+    ghost use Rattle.rc_engines.specs.Caches.{IsSameCacheIn};
+    ghost use Rattle.rc_meta.specs.Left.{GivesNext, GivesCaptures};
+    ghost use Rattle.rc_meta.specs.Seeking.{seeking};
+
+    /// The next match of the list in the input. Its span then starts where that ends. It takes no memory.
+    pub(crate) fn next_match<C: Cursor>(
+        &mut self,
+        regex: &Regex,
+        cache: &mut Cache,
+        input: &mut Input<C>,
+    ) -> Option<Match>
+        requires made { IsCacheIn regex.now 0 cache.old }
+        ensures cache { IsCacheIn regex.now 0 cache.new }
+        ensures same { IsSameCacheIn regex.now.engines cache.old cache.new }
+        ensures steps { GivesNext (seeking regex.now cache.old self.old) input.old result (seeking regex.now cache.new self.new) input.new }
+        ensures moves { IsMoved input.old input.new }
+        ensures over { IfNone result (IsTrue self.new.is_done) }
+    {
+        if self.is_done {
+            return None;
+        }
+        let Some(found) = regex.engines.next_match(cache, input, self.last) else {
+            self.is_done = true;
+            return None;
+        };
+        input.set_start(found.end());
+        self.last = Some(found.end());
+        Some(found)
+    }
+
+    /// The captures of the next match of the list in the input. It takes their memory alone, and ends where that is refused.
+    pub(crate) fn next_captures<C: Cursor>(
+        &mut self,
+        regex: &Regex,
+        cache: &mut Cache,
+        alloc: Global,
+        input: &mut Input<C>,
+    ) -> Option<Result<Captures, AllocError>>
+        requires made { IsCacheIn regex.now (slot_len (names_of regex.now.info)) cache.old }
+        ensures cache { IsCacheIn regex.now (slot_len (names_of regex.now.info)) cache.new }
+        ensures same { IsSameCacheIn regex.now.engines cache.old cache.new }
+        ensures steps { GivesCaptures (seeking regex.now cache.old self.old) input.old result (seeking regex.now cache.new self.new) input.new }
+        ensures moves { IsMoved input.old input.new }
+        ensures over { MatchOption result (IsTrue self.new.is_done) (λ item. IfErr item (λ _. IsTrue self.new.is_done)) }
+    {
+        if self.is_done {
+            return None;
+        }
+        let engines = &regex.engines;
+        let Some(found) = engines.next_match(cache, input, self.last) else {
+            self.is_done = true;
+            return None;
+        };
+        let Ok(mut caps) = regex.create_captures(alloc) else {
+            self.is_done = true;
+            return Some(Err(AllocError));
+        };
+        engines.find_captures(cache, input, &mut caps);
+        input.set_start(found.end());
+        self.last = Some(found.end());
+        Some(Ok(caps))
+    }
+}
+
 impl<'r> Seeker<'r> {
-    ghost use Rattle.std.specs.Prelude.{◌≡◌, IfErr, IfNone, IfOk, IsTrue, MatchOption};
+    ghost use Rattle.std.specs.Prelude.{◌≡◌, IfErr, IfNone, IsTrue, MatchOption};
     ghost use Rattle.rc_engine.specs.Moved.{IsMoved};
     ghost use Rattle.rc_meta.specs.Left.{GivesNext, GivesCaptures};
 
@@ -75,17 +148,7 @@ impl<'r> Seeker<'r> {
         ensures regex { self.new.regex ≡ self.old.regex }
         ensures over { IfNone result (IsTrue self.new.is_done) }
     {
-        if self.is_done {
-            return None;
-        }
-        let engines = &self.regex.engines;
-        let Some(found) = engines.next_match(&mut self.cache, input, self.last) else {
-            self.is_done = true;
-            return None;
-        };
-        input.set_start(found.end());
-        self.last = Some(found.end());
-        Some(found)
+        self.standing.next_match(self.regex, &mut self.cache, input)
     }
 
     /// The captures of the next match in the input. It takes their memory alone, and ends where that is refused.
@@ -101,22 +164,8 @@ impl<'r> Seeker<'r> {
         ensures regex { self.new.regex ≡ self.old.regex }
         ensures over { MatchOption result (IsTrue self.new.is_done) (λ item. IfErr item (λ _. IsTrue self.new.is_done)) }
     {
-        if self.is_done {
-            return None;
-        }
-        let engines = &self.regex.engines;
-        let Some(found) = engines.next_match(&mut self.cache, input, self.last) else {
-            self.is_done = true;
-            return None;
-        };
-        let Ok(mut caps) = self.regex.create_captures(alloc) else {
-            self.is_done = true;
-            return Some(Err(AllocError));
-        };
-        engines.find_captures(&mut self.cache, input, &mut caps);
-        input.set_start(found.end());
-        self.last = Some(found.end());
-        Some(Ok(caps))
+        self.standing
+            .next_captures(self.regex, &mut self.cache, alloc, input)
     }
 }
 

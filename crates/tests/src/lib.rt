@@ -11,6 +11,7 @@ mod faults;
 mod grammar;
 #[cfg(test)]
 mod paged;
+mod lent;
 #[cfg(test)]
 mod programs;
 #[cfg(test)]

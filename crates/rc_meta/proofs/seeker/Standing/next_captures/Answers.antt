@@ -7,27 +7,25 @@ use Rattle.rc_meta.proofs.Going.{none_left, no_walks, next_left, some_left, same
 use Rattle.rc_program.specs.Kinds.{answer_by}
 use Rattle.rc_program.specs.Sought.{search_for}
 use Rattle.rc_text.specs.declared.types.MatchKind.TheVariants.{All as all_matches}
-use Rattle.rc_meta.proofs.seeker.Seeker.next_captures.Goals as goal
+use Rattle.rc_meta.proofs.seeker.Standing.next_captures.Goals as goal
 
 pub returns-in_default-clause-steps : goal.returns-in_default-clause-steps
 returns-in_default-clause-steps g c =
-    let f = c.self.inside in
-    rw (← c.self.view_is) (
-      none_left f.regex.now c.args.input.now f.last f.is_done (sym c.in_default.is ∙ c.next_match.ensures.found),
-      λ kind. no_walks f.regex.now c.args.input.now f.last f.is_done (sym c.in_default.is ∙ c.next_match.ensures.found) kind,
+    let f = c.args.self.now in (
+      none_left c.args.regex.now c.args.input.now f.last f.is_done (sym c.in_default.is ∙ c.next_match.ensures.found),
+      λ kind. no_walks c.args.regex.now c.args.input.now f.last f.is_done (sym c.in_default.is ∙ c.next_match.ensures.found) kind,
       refl {a = []},
     )
 
 pub returns-in_default-create_captures-clause-steps : goal.returns-in_default-create_captures-clause-steps
 returns-in_default-create_captures-clause-steps g c =
-    let f = c.self.inside in
-    rw (← c.self.view_is)
-    (some_left f.regex.now c.args.input.now f.last f.is_done c.in-Some.found c.if-self.false (sym c.in-Some.is ∙ c.next_match.ensures.found), refl {a = []})
+    let f = c.args.self.now in
+    (some_left c.args.regex.now c.args.input.now f.last f.is_done c.in-Some.found c.if-self.false (sym c.in-Some.is ∙ c.next_match.ensures.found), refl {a = []})
 
 pub returns-clause-steps : goal.returns-clause-steps
 returns-clause-steps g c =
-    let f = c.self.inside in
-    let r = f.regex.now in
+    let f = c.args.self.now in
+    let r = c.args.regex.now in
     let i = c.args.input.now in
     let j = c.next_match.new.input in
     let k = c.set_start.new.self in
@@ -42,7 +40,6 @@ returns-clause-steps g c =
     let matched =
     same_match r j caps kept c.find_captures.ensures.found
     ∙ sym (answer_same r.fits j) ∙ sym c.next_match.ensures.there ∙ c.in-Some.is in
-    rw (← c.self.view_is)
     (record {
       kept = kept;
       found = c.in-Some.found;
