@@ -23,7 +23,8 @@ use std::marker::Model;
 
 /// A regex, with all that its searches need: a cache, captures, a set of its patterns, and where an iteration stands.
 ///
-/// The text isn't kept. Each search is handed its chunks, and says what the text is that they make then.
+/// The text isn't kept. Each search is handed its chunks, and says what the text is that they make then. No search answers want of memory:
+/// its cache may grow up to a limit, and where that is refused the answer is the same.
 #[derive(Drop)]
 pub struct Searcher {
     regex: Regex,
@@ -106,7 +107,7 @@ impl Searcher {
             .saturating_add(self.cache.memory_usage())
     }
 
-    /// Whether there is a match in the text from `start` to `end`. It takes no memory.
+    /// Whether there is a match in the text from `start` to `end`.
     pub fn is_match(&mut self, chunks: &[&[u8]], start: usize, end: usize) -> Result<bool, Fault>
         ensures found { IfOk result (λ b. b ≡ is_some (answer_in self.old.regex (joined chunks.now) start end)) }
         ensures fault { IfErr result (IsFault chunks.now start end) }
@@ -116,8 +117,7 @@ impl Searcher {
         Ok(self.regex.is_match_with(&mut self.cache, &mut input))
     }
 
-    /// The match in the text from `start` to `end`, or to the text's end where that comes first. Assertions see the whole text. It takes no
-    /// memory.
+    /// The match in the text from `start` to `end`, or to the text's end where that comes first. Assertions see the whole text.
     pub fn find(
         &mut self,
         chunks: &[&[u8]],
@@ -134,7 +134,7 @@ impl Searcher {
 
     /// Marks which patterns have a match in the text from `start` to `end`: the place of a pattern's number is 1 where it has one, and each
     /// other place is 0. A pattern has a match where it spells some span there, also where that is never found since another is preferred.
-    /// It takes no memory. After an `Err` the marks are as before.
+    /// After an `Err` the marks are as before.
     pub fn which_patterns(
         &mut self,
         chunks: &[&[u8]],
@@ -156,7 +156,7 @@ impl Searcher {
     }
 
     /// The match that `find` finds, whose groups are kept then, and none where there is no match. After an `Err` those of the search before
-    /// are still kept. It takes no memory.
+    /// are still kept.
     pub fn find_groups(
         &mut self,
         chunks: &[&[u8]],
@@ -194,7 +194,7 @@ impl Searcher {
 
     /// Fills the batch with the next matches of the text, up to `end`, and tells how many they are. Where the batch isn't full, no more is
     /// left. Each match is sought from where the one before ended, and an empty one that ends there gives way to the answer from a byte
-    /// later. It takes no memory.
+    /// later.
     ///
     /// The matches are those of the text that is handed in. Where it is another than in the call before, the list goes on from the same
     /// place in that one. After an `Err` all is as before.
