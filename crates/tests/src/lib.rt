@@ -10,8 +10,9 @@ mod faults;
 #[cfg(test)]
 mod grammar;
 #[cfg(test)]
-mod paged;
 mod lent;
+#[cfg(test)]
+mod paged;
 #[cfg(test)]
 mod programs;
 #[cfg(test)]

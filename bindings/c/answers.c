@@ -1,0 +1,158 @@
+/* Answers requests from the standard input, one a line, for scripts/bindings. Fields stand between blanks, bytes in hexadecimal (`-`: none):
+ *
+ *     KIND FLAGS CUT BATCH START END PATTERNS pattern .. text
+ *
+ * KIND is f (the first match), a (all matches), g (the first match with its groups), m (whether there is one), w (which patterns
+ * have one) or r (only compile). FLAGS are
+ * the nine settings, as 0 or 1. CUT is the length of the chunks, 0 for one chunk. END is a number or `end`. The answer is a line. */
+#include "../../include/zorfelith.h"
+#include <stdio.h>
+#include <stdlib.h>
+#include <string.h>
+
+enum { LINE = 1 << 20, MOST = 1 << 12, GROUPS = 32 };
+
+static uint8_t nibble(char c) { return (uint8_t)(c <= '9' ? c - '0' : c - 'a' + 10); }
+
+/* The bytes that the word writes, in place. */
+static struct zf_bytes bytes_of(char *word) {
+    struct zf_bytes all = {zf_none, 0};
+    if (strcmp(word, "-") == 0)
+        return all;
+    uint8_t *out = (uint8_t *)word;
+    size_t len = strlen(word) / 2;
+    for (size_t i = 0; i < len; i++)
+        out[i] = (uint8_t)(nibble(word[2 * i]) * 16 + nibble(word[2 * i + 1]));
+    all.bytes = out;
+    all.len = len;
+    return all;
+}
+
+/* The text in chunks of that length. */
+static size_t cut_up(struct zf_bytes text, size_t cut, struct zf_bytes *chunks) {
+    if (cut == 0) {
+        chunks[0] = text;
+        return 1;
+    }
+    size_t count = 0;
+    for (size_t at = 0; at < text.len; at += cut) {
+        chunks[count].bytes = text.bytes + at;
+        chunks[count++].len = text.len - at < cut ? text.len - at : cut;
+    }
+    return count;
+}
+
+static void put_group(const char *before, struct zf_group group) {
+    if (group.start == ZF_NONE)
+        printf("%s.", before);
+    else
+        printf("%s%zu-%zu", before, group.start, group.end);
+}
+
+static void all_matches(struct zf_handle *handle, const struct zf_bytes *chunks, size_t count, size_t start, size_t end, size_t capacity) {
+    struct zf_match *batch = malloc(capacity * sizeof *batch);
+    struct zf_progress progress = {0, 0};
+    uint32_t status = zf_restart(handle, start, 0);
+    if (batch == NULL)
+        abort();
+    do {
+        status = zf_next(handle, chunks, count, end, batch, capacity, &progress);
+        if (status != ZF_DONE) {
+            printf(" status %u", status);
+            break;
+        }
+        for (size_t i = 0; i < progress.count; i++)
+            printf(" %zu:%zu-%zu", batch[i].pattern, batch[i].start, batch[i].end);
+    } while (progress.count == capacity);
+    free(batch);
+}
+
+static void which_patterns(struct zf_handle *handle, const struct zf_bytes *chunks, size_t count, size_t start, size_t end) {
+    uint8_t marks[MOST];
+    size_t patterns = 0;
+    zf_pattern_count(handle, &patterns);
+    uint32_t status = zf_which_patterns(handle, chunks, count, start, end, marks, patterns < MOST ? patterns : MOST);
+    if (status != ZF_DONE) {
+        printf("status %u", status);
+        return;
+    }
+    printf("which");
+    for (size_t i = 0; i < patterns && i < MOST; i++)
+        if (marks[i])
+            printf(" %zu", i);
+}
+
+static void answer(char kind, struct zf_handle *handle, const struct zf_bytes *chunks, size_t count, size_t start, size_t end,
+                   size_t capacity) {
+    struct zf_match found = {7, 7, 7};
+    struct zf_group groups[GROUPS];
+    size_t group_count = 0;
+    uint32_t status;
+    if (kind == 'a') {
+        printf("all");
+        all_matches(handle, chunks, count, start, end, capacity);
+        return;
+    }
+    if (kind == 'm') {
+        printf("status %u", zf_is_match(handle, chunks, count, start, end));
+        return;
+    }
+    if (kind == 'w') {
+        which_patterns(handle, chunks, count, start, end);
+        return;
+    }
+    if (kind == 'f')
+        status = zf_find(handle, chunks, count, start, end, &found);
+    else
+        status = zf_find_groups(handle, chunks, count, start, end, &found, groups, GROUPS);
+    printf("status %u", status);
+    if (status != ZF_FOUND)
+        return;
+    printf(" %zu:%zu-%zu", found.pattern, found.start, found.end);
+    if (kind == 'g') {
+        zf_group_count(handle, found.pattern, &group_count);
+        printf(" of %zu", group_count);
+        for (size_t i = 0; i < group_count && i < GROUPS; i++)
+            put_group(" ", groups[i]);
+    }
+}
+
+int main(void) {
+    char *line = malloc(LINE);
+    struct zf_bytes *chunks = malloc(LINE / 2 * sizeof *chunks);
+    struct zf_bytes patterns[MOST];
+    if (line == NULL || chunks == NULL)
+        return 1;
+    while (fgets(line, LINE, stdin) != NULL) {
+        char kind = strtok(line, " \n")[0];
+        struct zf_settings settings;
+        memcpy(&settings, strtok(NULL, " \n"), sizeof settings);
+        for (size_t i = 0; i < sizeof settings; i++)
+            ((uint8_t *)&settings)[i] -= '0';
+        size_t cut = strtoul(strtok(NULL, " \n"), NULL, 10);
+        size_t capacity = strtoul(strtok(NULL, " \n"), NULL, 10);
+        size_t start = strtoul(strtok(NULL, " \n"), NULL, 10);
+        char *word = strtok(NULL, " \n");
+        size_t end = strcmp(word, "end") == 0 ? ZF_NONE : strtoul(word, NULL, 10);
+        size_t count = strtoul(strtok(NULL, " \n"), NULL, 10);
+        for (size_t i = 0; i < count && i < MOST; i++)
+            patterns[i] = bytes_of(strtok(NULL, " \n"));
+        struct zf_bytes text = bytes_of(strtok(NULL, " \n"));
+        struct zf_handle handle = {0, NULL};
+        struct zf_refused refused = {0, 0, 0};
+        uint32_t status = zf_compile(&handle, patterns, count, &settings, &refused);
+        if (status != ZF_DONE)
+            printf("refused %u %zu %zu", refused.status, refused.pattern, refused.at);
+        else if (kind == 'r')
+            printf("compiled");
+        else
+            answer(kind, &handle, chunks, cut_up(text, cut, chunks), start, end, capacity);
+        printf("\n");
+        zf_free(&handle);
+        if (handle.full || zf_is_match(&handle, chunks, 0, 0, 0) != ZF_EMPTY)
+            return 1;
+    }
+    free(chunks);
+    free(line);
+    return 0;
+}

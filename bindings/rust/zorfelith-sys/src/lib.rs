@@ -1,0 +1,145 @@
+//! What `include/zorfelith.h` declares, which tells what each call does and what its caller owes.
+#![no_std]
+#![allow(non_camel_case_types)]
+
+use core::ffi::c_void;
+use core::marker::PhantomData;
+
+pub const ZF_DONE: u32 = 0;
+pub const ZF_FOUND: u32 = 1;
+pub const ZF_EMPTY: u32 = 2;
+pub const ZF_TOO_LONG: u32 = 3;
+pub const ZF_OUTSIDE: u32 = 4;
+pub const ZF_ABSENT: u32 = 5;
+pub const ZF_SHORT: u32 = 6;
+pub const ZF_NOT_UTF8: u32 = 7;
+pub const ZF_SYNTAX: u32 = 8;
+pub const ZF_TOO_LARGE: u32 = 9;
+pub const ZF_MEMORY: u32 = 10;
+pub const ZF_NO_KIND: u32 = 11;
+
+pub const ZF_LEFTMOST_FIRST: u8 = 0;
+pub const ZF_ALL: u8 = 1;
+
+/// As the end of a range: the text's end. Of a group: it took no part.
+pub const ZF_NONE: usize = usize::MAX;
+
+/// A pointer and a length. (Rust doesn't promise that a `&[u8]` has this layout.)
+#[repr(C)]
+#[derive(Clone, Copy)]
+pub struct zf_bytes<'a> {
+    pub bytes: *const u8,
+    pub len: usize,
+    pub lent: PhantomData<&'a [u8]>,
+}
+
+#[repr(C)]
+pub struct zf_handle {
+    pub full: u8,
+    pub held: *mut c_void,
+}
+
+#[repr(C)]
+#[derive(Clone, Copy, Default)]
+pub struct zf_settings {
+    pub case_insensitive: u8,
+    pub multi_line: u8,
+    pub dot_matches_new_line: u8,
+    pub crlf: u8,
+    pub swap_greed: u8,
+    pub bytes: u8,
+    pub any_bytes: u8,
+    pub split_characters: u8,
+    pub kind: u8,
+}
+
+#[repr(C)]
+#[derive(Clone, Copy, Default)]
+pub struct zf_refused {
+    pub status: u32,
+    pub pattern: usize,
+    pub at: usize,
+}
+
+#[repr(C)]
+#[derive(Clone, Copy, Debug, Default, PartialEq, Eq)]
+pub struct zf_match {
+    pub pattern: usize,
+    pub start: usize,
+    pub end: usize,
+}
+
+#[repr(C)]
+#[derive(Clone, Copy)]
+pub struct zf_group {
+    pub start: usize,
+    pub end: usize,
+}
+
+#[repr(C)]
+#[derive(Clone, Copy, Default)]
+pub struct zf_progress {
+    pub count: usize,
+    pub next: usize,
+}
+
+unsafe extern "C" {
+    pub fn zf_compile(
+        handle: *mut zf_handle,
+        patterns: *const zf_bytes<'_>,
+        pattern_count: usize,
+        settings: *const zf_settings,
+        refused: *mut zf_refused,
+    ) -> u32;
+    pub fn zf_free(handle: *mut zf_handle);
+    pub fn zf_is_match(handle: *mut zf_handle, chunks: *const zf_bytes<'_>, chunk_count: usize, start: usize, end: usize) -> u32;
+    pub fn zf_find(
+        handle: *mut zf_handle,
+        chunks: *const zf_bytes<'_>,
+        chunk_count: usize,
+        start: usize,
+        end: usize,
+        found: *mut zf_match,
+    ) -> u32;
+    pub fn zf_find_groups(
+        handle: *mut zf_handle,
+        chunks: *const zf_bytes<'_>,
+        chunk_count: usize,
+        start: usize,
+        end: usize,
+        found: *mut zf_match,
+        groups: *mut zf_group,
+        group_count: usize,
+    ) -> u32;
+    pub fn zf_which_patterns(
+        handle: *mut zf_handle,
+        chunks: *const zf_bytes<'_>,
+        chunk_count: usize,
+        start: usize,
+        end: usize,
+        marks: *mut u8,
+        mark_count: usize,
+    ) -> u32;
+    pub fn zf_restart(handle: *mut zf_handle, from: usize, follows: u8) -> u32;
+    pub fn zf_next(
+        handle: *mut zf_handle,
+        chunks: *const zf_bytes<'_>,
+        chunk_count: usize,
+        end: usize,
+        batch: *mut zf_match,
+        batch_len: usize,
+        progress: *mut zf_progress,
+    ) -> u32;
+    pub fn zf_pattern_count(handle: *mut zf_handle, count: *mut usize) -> u32;
+    pub fn zf_group_count(handle: *mut zf_handle, pattern: usize, count: *mut usize) -> u32;
+    pub fn zf_group_name(
+        handle: *mut zf_handle,
+        pattern: usize,
+        group: usize,
+        name: *mut u8,
+        name_len: usize,
+        len: *mut usize,
+    ) -> u32;
+    pub fn zf_group_number(handle: *mut zf_handle, pattern: usize, name: *const u8, name_len: usize, number: *mut usize) -> u32;
+    pub fn zf_memory(handle: *mut zf_handle, bytes: *mut usize) -> u32;
+}

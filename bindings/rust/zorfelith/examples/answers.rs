@@ -1,0 +1,115 @@
+//! Answers the requests that `bindings/c/answers.c` tells of, by the safe wrapper.
+
+use std::io::{BufRead, Write};
+use zorfelith::{Chunk, Error, Match, Regex, Settings, chunk};
+
+/// The bytes that a word writes in hexadecimal.
+fn bytes_of(word: &str) -> Vec<u8> {
+    if word == "-" {
+        return Vec::new();
+    }
+    (0..word.len()).step_by(2).map(|i| u8::from_str_radix(&word[i..i + 2], 16).unwrap()).collect()
+}
+
+fn settings_of(word: &str) -> Settings {
+    let on: Vec<u8> = word.bytes().map(|byte| byte - b'0').collect();
+    Settings {
+        case_insensitive: on[0],
+        multi_line: on[1],
+        dot_matches_new_line: on[2],
+        crlf: on[3],
+        swap_greed: on[4],
+        bytes: on[5],
+        any_bytes: on[6],
+        split_characters: on[7],
+        kind: on[8],
+    }
+}
+
+/// The status of an error, as the header numbers it.
+fn status(error: Error) -> u32 {
+    match error {
+        Error::TooLong => 3,
+        Error::Outside => 4,
+        Error::Syntax { .. } => 8,
+        Error::TooLarge => 9,
+        Error::Memory => 10,
+        Error::NoKind => 11,
+    }
+}
+
+fn shown(found: &Match) -> String {
+    format!("{}:{}-{}", found.pattern, found.start, found.end)
+}
+
+fn answer(kind: &str, regex: &mut Regex, text: &[Chunk<'_>], start: usize, end: usize) -> String {
+    match kind {
+        "a" => {
+            let mut line = "all".to_string();
+            for found in regex.find_iter(text, start..end) {
+                match found {
+                    Ok(found) => line += &format!(" {}", shown(&found)),
+                    Err(error) => line += &format!(" status {}", status(error)),
+                }
+            }
+            line
+        }
+        "m" => match regex.is_match(text, start..end) {
+            Ok(found) => format!("status {}", u32::from(found)),
+            Err(error) => format!("status {}", status(error)),
+        },
+        "w" => match regex.which_patterns(text, start..end) {
+            Ok(marks) => {
+                let mut line = "which".to_string();
+                for number in marks {
+                    line += &format!(" {number}");
+                }
+                line
+            }
+            Err(error) => format!("status {}", status(error)),
+        },
+        "f" => match regex.find(text, start..end) {
+            Ok(Some(found)) => format!("status 1 {}", shown(&found)),
+            Ok(None) => "status 0".to_string(),
+            Err(error) => format!("status {}", status(error)),
+        },
+        _ => match regex.captures(text, start..end) {
+            Ok(Some(captures)) => {
+                let mut line = format!("status 1 {} of {}", shown(&captures.found), captures.groups.len());
+                for group in &captures.groups {
+                    match group {
+                        Some(span) => line += &format!(" {}-{}", span.start, span.end),
+                        None => line += " .",
+                    }
+                }
+                line
+            }
+            Ok(None) => "status 0".to_string(),
+            Err(error) => format!("status {}", status(error)),
+        },
+    }
+}
+
+fn main() {
+    let stdin = std::io::stdin();
+    let mut out = std::io::stdout().lock();
+    for line in stdin.lock().lines() {
+        let line = line.unwrap();
+        let words: Vec<&str> = line.split_ascii_whitespace().collect();
+        let cut: usize = words[2].parse().unwrap();
+        let start: usize = words[4].parse().unwrap();
+        let end = if words[5] == "end" { usize::MAX } else { words[5].parse().unwrap() };
+        let count: usize = words[6].parse().unwrap();
+        let patterns: Vec<String> = words[7..7 + count].iter().map(|word| String::from_utf8(bytes_of(word)).unwrap()).collect();
+        let patterns: Vec<&str> = patterns.iter().map(String::as_str).collect();
+        let bytes = bytes_of(words[7 + count]);
+        let text: Vec<Chunk<'_>> = if cut == 0 { vec![chunk(&bytes)] } else { bytes.chunks(cut).map(chunk).collect() };
+        let answer = match Regex::with(&patterns, &settings_of(words[1])) {
+            Ok(_) if words[0] == "r" => "compiled".to_string(),
+            Ok(mut regex) => answer(words[0], &mut regex, &text, start, end),
+            Err(Error::Syntax { pattern, at }) => format!("refused 8 {pattern} {at}"),
+            Err(error) => format!("refused {} 0 0", status(error)),
+        };
+        writeln!(out, "{answer}").unwrap();
+    }
+}

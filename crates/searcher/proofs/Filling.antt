@@ -1,0 +1,81 @@
+-- How a batch is filled: one match after another is taken from the list of those that are left.
+use Rattle.std.proofs.Common.{◌≡◌, ◌∙◌, ◌+◌, ◌<◌, ◌≤◌, ℕ, suc, List, [], ◌∷◌, ◌++◌, Option, Some, None, ap, refl, arith, length, map, set, subst, sym, take, append_assoc}
+use Rattle.std.proofs.lemmas.List.{map-append, take_more_set}
+use Rattle.rc_text.specs.Found.{Found}
+use Rattle.rc_text.specs.Text.{Searched, Keeps}
+use Rattle.rc_text.specs.declared.types.Span.{Span}
+use Rattle.rc_text.specs.declared.types.MatchKind.{MatchKind}
+use Rattle.rc_program.specs.Answer.{Search}
+use Rattle.rc_program.specs.Kinds.{answer_by_from, matches_by_kind}
+use Rattle.rc_program.specs.Matches.{begin_of, end_of, from_on, next_match}
+use Rattle.rc_program.specs.Program.{program, shown}
+use Rattle.rc_program.specs.Sought.{Sought, passes_over, search_for}
+use Rattle.rc_engine.specs.Moved.{IsMoved}
+use Rattle.rc_engine.proofs.Steps.{search_kept, search_moved, step_none, step_some}
+use Rattle.searcher.specs.Places.{IsFilled, found_at}
+use Rattle.searcher.specs.Ranges.{in_range}
+use Rattle.searcher.specs.declared.answers.MatchAt.{MatchAt}
+
+-- an input in a range is searched as the text in that range
+pub same_search : (q : Sought) (text : List ℕ) (start end : ℕ) (i : Searched) → Keeps (in_range text start end) i →
+    search_for q i ≡ search_for q (in_range text start end)
+same_search q text start end i = search_kept (program (shown q.grouped q.patterns)) q.terminator (passes_over q) (in_range text start end) i
+
+moved : (q : Sought) (i j : Searched) → IsMoved i j → search_for q j ≡ from_on (search_for q i) j.span.start
+moved q = search_moved (program (shown q.grouped q.patterns)) q.terminator (passes_over q)
+
+same_next : (kind : MatchKind) (q : Sought) (i j : Searched) (last : Option ℕ) (o : Option Found) → IsMoved i j →
+    o ≡ next_match begin_of end_of (answer_by_from kind (search_for q j)) j.span.start last →
+    o ≡ next_match begin_of end_of (answer_by_from kind (search_for q i)) j.span.start last
+same_next kind q i j last o m e = e ∙ ap (λ x. next_match begin_of end_of (answer_by_from kind x) j.span.start last) (moved q i j m)
+
+-- one match more is listed
+one_listed : (xs : List MatchAt) (n : ℕ) (x : MatchAt) (m : Found) (rest : List Found) → n < length xs → found_at x ≡ m →
+    map found_at (take n xs) ++ m ∷ rest ≡ map found_at (take (n + 1) (set xs n x)) ++ rest
+one_listed xs n x m rest inside is =
+    sym (ap (λ l. l ++ rest) (ap (map found_at) (take_more_set xs n x inside) ∙ map-append found_at (take n xs) (x ∷ []) ∙ ap (λ y. map found_at (take n xs) ++ y ∷ []) is)
+    ∙ append_assoc (map found_at (take n xs)) (m ∷ []) rest)
+
+module _ (kind : MatchKind) (q : Sought) where
+  abbrev Left : Searched → ℕ → Option ℕ → List Found
+  Left i from last = matches_by_kind kind (search_for q i) from last
+
+  abbrev Finds : Searched → Option ℕ → Option Found → Type 0
+  Finds j last o = o ≡ next_match begin_of end_of (answer_by_from kind (search_for q j)) j.span.start last
+
+  -- the next match was written: it is listed, and those behind it are left
+  pub listed_more : (i j : Searched) (last : Option ℕ) (m : Found) (all : List Found) (xs : List MatchAt) (n : ℕ) (x : MatchAt) (from end : ℕ) →
+      IsMoved i j → Finds j last (Some m) → n < length xs → found_at x ≡ m → from ≡ m.end → end ≡ m.end →
+      all ≡ map found_at (take n xs) ++ Left i j.span.start last → all ≡ map found_at (take (n + 1) (set xs n x)) ++ Left i from (Some end)
+  listed_more i j last m all xs n x from end moves finds inside is begins ends e =
+      let written = map found_at (take (n + 1) (set xs n x)) in
+      e ∙ ap (λ l. map found_at (take n xs) ++ l) (step_some kind (search_for q i) j.span.start last m (same_next kind q i j last (Some m) moves finds))
+      ∙ one_listed xs n x m (Left i m.end (Some m.end)) inside is
+      ∙ ap (λ k. written ++ Left i k (Some m.end)) (sym begins)
+      ∙ ap (λ l. written ++ Left i from (Some l)) (sym ends)
+
+  -- none is left: what was written is all
+  pub filled_none : (i j : Searched) (last : Option ℕ) (all : List Found) (xs : List MatchAt) (n from : ℕ) →
+      IsMoved i j → Finds j last None → n ≤ length xs → from ≡ j.span.start →
+      all ≡ map found_at (take n xs) ++ Left i j.span.start last → IsFilled all (Left i from last) xs n
+  filled_none i j last all xs n from moves finds inside begins e = record {
+    within = inside;
+    listed = e ∙ ap (λ k. map found_at (take n xs) ++ Left i k last) (sym begins);
+    over = λ short. ap (λ k. Left i k last) begins ∙ step_none kind (search_for q i) j.span.start last (same_next kind q i j last None moves finds);
+  }
+
+  -- the list is the same, whatever the search that it is told by begins at
+  left_same : (text : List ℕ) (start from end : ℕ) (last : Option ℕ) → Left (in_range text start end) from last ≡ Left (in_range text from end) from last
+  unfolding matches_by_kind
+  left_same text start from end last = refl
+
+  -- a batch that was filled from an input in a range was filled from the text in that range
+  pub filled_in : (text : List ℕ) (from end : ℕ) (i : Searched) (last : Option ℕ) (next : ℕ) (after : Option ℕ) (xs : List MatchAt) (n : ℕ) →
+      Keeps (in_range text from end) i → IsFilled (Left i i.span.start last) (Left i next after) xs n →
+      IsFilled (Left (in_range text from end) from last) (Left (in_range text next end) next after) xs n
+  filled_in text from end i last next after xs n in_it filled =
+      let same = same_search q text from end i in_it in
+      let begins = ap (λ (s : Span). s.start) in_it.span in
+      subst (λ l. IsFilled l (Left (in_range text next end) next after) xs n)
+      (ap (λ x. matches_by_kind kind x i.span.start last) same ∙ ap (λ k. Left (in_range text from end) k last) begins)
+      (subst (λ l. IsFilled (Left i i.span.start last) l xs n) (ap (λ x. matches_by_kind kind x next after) same ∙ left_same text from next end after) filled)

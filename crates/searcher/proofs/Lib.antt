@@ -1,0 +1,4 @@
+pub mod Counted
+pub mod Filling
+pub mod Marked
+pub mod Texts

@@ -1,0 +1,16 @@
+use Rattle.std.proofs.Common.{ap, ◌∙◌}
+use Rattle.rc_text.specs.Joined.{joined}
+use Rattle.rc_program.specs.Kinds.{answer_by}
+use Rattle.rc_meta.specs.Views.{regex_kind, sought}
+use Rattle.searcher.specs.Answers.{answer_in}
+use Rattle.searcher.specs.Searching.{Searching}
+use Rattle.searcher.proofs.Filling.{same_search}
+use Rattle.searcher.proofs.searches.Searcher.find.Goals as goal
+
+pub returns-clause-found : goal.returns-clause-found
+returns-clause-found c =
+    let r = c.self.inside.regex in
+    let text = joined c.args.chunks.now in
+    c.search.ensures.found
+    ∙ ap (answer_by (regex_kind r)) (same_search (sought r) text c.args.start c.args.end c.in_ok-input.input c.in_ok-input.ensures.in_range)
+    ∙ ap (λ (s : Searching). answer_in s.regex text c.args.start c.args.end) c.self.view_is

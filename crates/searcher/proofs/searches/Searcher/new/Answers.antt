@@ -1,0 +1,14 @@
+use Rattle.std.proofs.Common.{◌≡◌, ◌∙◌, ap, arith, length, subst}
+use Rattle.rc_build.specs.TextRefusals.{AllRead, texts_of}
+use Rattle.rc_meta.specs.Views.{regex_patterns}
+use Rattle.searcher.specs.Flags.{syntax_settings}
+use Rattle.searcher.proofs.Counted.{as_many}
+use Rattle.searcher.proofs.searches.Searcher.new.Goals as goal
+
+pub with_cache-requires : goal.with_cache-requires
+with_cache-requires c =
+    let many : length (regex_patterns c.in_ok-regex.regex) ≡ length c.args.patterns.now =
+    as_many (syntax_settings c.args.settings.now) c.args.patterns.now (regex_patterns c.in_ok-regex.regex)
+    (subst (λ ts. AllRead (syntax_settings c.args.settings.now) ts (regex_patterns c.in_ok-regex.regex))
+    (ap texts_of c.deref.ensures.value ∙ c.in_ok-texts.ensures.same) c.in_ok-regex.ensures.read) in
+    let few = c.if-patterns-gt2147483647.false in omega (arith, many, few)

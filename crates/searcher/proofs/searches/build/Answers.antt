@@ -1,0 +1,18 @@
+use Rattle.std.proofs.Common.{◌≡◌, ◌∙◌, IfErr, IfOk, ap, rules, subst}
+use Rattle.rc_build.specs.TextRefusals.{AllRead, IsTextRefusal, texts_of}
+use Rattle.rc_settings.specs.Settings.{nfa_size_limit_of}
+use Rattle.rc_meta.specs.Views.{builder_settings, builder_syntax, regex_patterns}
+use Rattle.searcher.specs.Flags.{search_settings, syntax_settings}
+use Rattle.searcher.proofs.searches.build.Goals as goal
+
+pub returns-clause-read : goal.returns-clause-read
+returns-clause-read c =
+    subst (λ s. IfOk c.build_many.result (λ r. AllRead s (texts_of c.args.texts.now) (regex_patterns r)))
+    (c.syntax-2.ensures.value ∙ c.syntax.ensures) c.build_many.ensures.read
+
+pub returns-clause-refused : goal.returns-clause-refused
+returns-clause-refused c =
+    let set : builder_settings c.syntax-2.result.now ≡ search_settings c.args.settings.now c.args.kind = search rules in
+    subst (λ s. IfErr c.build_many.result (λ e. IsTextRefusal (nfa_size_limit_of s) (syntax_settings c.args.settings.now) (texts_of c.args.texts.now) e)) set
+    (subst (λ s. IfErr c.build_many.result (λ e. IsTextRefusal (nfa_size_limit_of (builder_settings c.syntax-2.result.now)) s (texts_of c.args.texts.now) e))
+    (c.syntax-2.ensures.value ∙ c.syntax.ensures) c.build_many.ensures.refused)

@@ -1,0 +1,52 @@
+-- What a searcher is made of, and what it answers.
+use Rattle.std.specs.Prelude.{◌≡◌, ℕ, ◌<◌, List, length, Option, Some, None}
+use Rattle.std.specs.Borrow.{Bor}
+use Rattle.rc_text.specs.Found.{Found}
+use Rattle.rc_text.specs.declared.types.MatchKind.{MatchKind}
+use Rattle.rc_program.specs.Answer.{Search}
+use Rattle.rc_program.specs.Kinds.{answer_by, matches_by_kind}
+use Rattle.rc_program.specs.Sought.{search_for}
+use Rattle.rc_build.specs.TextRefusals.{AllRead, IsTextRefusal, texts_of}
+use Rattle.rc_meta.specs.Views.{regex_kind, regex_patterns, regex_settings, sought}
+use Rattle.rc_meta.specs.declared.regex.Regex.{Regex}
+use Rattle.searcher.specs.Flags.{kind_of, search_settings, syntax_settings}
+use Rattle.searcher.specs.Ranges.{IsBroken, in_range}
+use Rattle.searcher.specs.Searching.{Searching}
+use Rattle.searcher.specs.declared.answers.Refusal.{Refusal}
+use Rattle.searcher.specs.declared.answers.Refusal.TheVariants.{Build, Memory, NoKind, NotUtf8, TooMany}
+use Rattle.searcher.specs.declared.settings.Settings.{Settings}
+
+-- the search of a text in a range by a regex
+abbrev pub search_in : Regex → List ℕ → ℕ → ℕ → Search
+search_in r text start end = search_for (sought r) (in_range text start end)
+
+-- the match that it finds
+abbrev pub answer_in : Regex → List ℕ → ℕ → ℕ → Option Found
+answer_in r text start end = answer_by (regex_kind r) (search_in r text start end)
+
+-- the matches of the text, up to `end`, that are left to the iteration
+abbrev pub left_in : Searching → List ℕ → ℕ → List Found
+left_in s text end = matches_by_kind (regex_kind s.regex) (search_in s.regex text s.from end) s.from s.last
+
+-- the same regex, and the same state of the iteration
+pub record IsSame (s t : Searching) : Type 0 where
+  pub regex : t.regex ≡ s.regex
+  pub from : t.from ≡ s.from
+  pub last : t.last ≡ s.last
+
+-- The searcher is of the patterns as which these texts are read, under these settings, and its iteration begins where the text does.
+pub record IsBuilt (settings : Settings) (patterns : List (Bor (List ℕ))) (s : Searching) : Type 0 where
+  pub kind : MatchKind
+  pub kinded : kind_of settings.kind ≡ Some kind
+  pub read : AllRead (syntax_settings settings) (texts_of patterns) (regex_patterns s.regex)
+  pub set : regex_settings s.regex ≡ search_settings settings kind
+  pub from : s.from ≡ 0
+  pub last : s.last ≡ None
+
+-- The refusal applies to the texts. Want of memory may come at any time.
+abbrev pub IsRefused : Settings → List (Bor (List ℕ)) → Refusal → Type 0
+IsRefused settings patterns NoKind = kind_of settings.kind ≡ None
+IsRefused settings patterns TooMany = 2147483647 < length patterns
+IsRefused settings patterns (NotUtf8 p) = IsBroken patterns p
+IsRefused settings patterns (Build e) = IsTextRefusal (Some 10485760) (syntax_settings settings) (texts_of patterns) e
+IsRefused settings patterns Memory = Unit {0}

@@ -1,0 +1,41 @@
+-- What is searched of a text, and what can't be.
+use Rattle.std.specs.Prelude.{ℕ, ◌<◌, List, false, IsUtf8, length, min}
+use Rattle.std.specs.Borrow.{Bor}
+use Rattle.rc_text.specs.Joined.{IsTooLong, chunk_at, joined}
+use Rattle.rc_text.specs.Text.{Searched}
+use Rattle.rc_text.specs.declared.types.Anchored.TheVariants.{No}
+use Rattle.searcher.specs.declared.answers.Fault.{Fault}
+use Rattle.searcher.specs.declared.answers.Fault.TheVariants.{Outside, TooLong}
+use Rattle.searcher.specs.declared.answers.Refusal.{Refusal}
+use Rattle.searcher.specs.declared.answers.Refusal.TheVariants.{Build, Memory, NoKind, NotUtf8, TooMany}
+
+-- the whole text in one chunk, searched from `start` to `end`, or to the text's end where that comes first
+abbrev pub in_range : List ℕ → ℕ → ℕ → Searched
+in_range text start end = record {
+  content = text;
+  chunk = text;
+  offset = 0;
+  position = 0;
+  span = record { start = start; end = end };
+  slice = record { start = 0; end = 18446744073709551615 };
+  anchored = No;
+  earliest = false;
+}
+
+-- when a search gives no answer
+abbrev pub IsFault : List (Bor (List ℕ)) → ℕ → ℕ → Fault → Type 0
+IsFault chunks start end TooLong = IsTooLong chunks
+IsFault chunks start end Outside = min end (length (joined chunks)) < start
+
+-- the text with this number isn't UTF-8, and those before it are
+pub record IsBroken (texts : List (Bor (List ℕ))) (p : ℕ) : Type 0 where
+  pub before : (k : ℕ) → k < p → IsUtf8 (chunk_at texts k)
+  pub here : ¬ IsUtf8 (chunk_at texts p)
+
+-- some of these bytes are no text, or memory was refused
+abbrev pub IsNotText : List (Bor (List ℕ)) → Refusal → Type 0
+IsNotText texts NoKind = ⊥
+IsNotText texts TooMany = ⊥
+IsNotText texts (NotUtf8 p) = IsBroken texts p
+IsNotText texts (Build e) = ⊥
+IsNotText texts Memory = Unit {0}

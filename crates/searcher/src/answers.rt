@@ -1,0 +1,157 @@
+//! What searches answer, and why there is no answer.
+
+ghost use Rattle.std.specs.Prelude.{◌≤◌, Some, length};
+ghost use Rattle.rc_patterns.specs.Sets.{Has};
+ghost use Rattle.searcher.specs.Places.{AreMarksOf, IsMark};
+
+use rc_captures::captures::Captures;
+use rc_patterns::sets::PatternSet;
+use rc_settings::error::BuildError;
+use rc_text::types::{Match, PatternID, Span};
+use std::alloc::{AllocError, AllocFailed};
+
+/// A match: the number of its pattern, and from where to where it goes, in bytes of the whole text.
+#[repr(C)]
+#[derive(Clone, Copy)]
+pub struct MatchAt {
+    /// The number of the pattern.
+    pub pattern: usize,
+    /// Where the match begins.
+    pub start: usize,
+    /// Where it ends, without the byte there.
+    pub end: usize,
+}
+
+/// From where to where a group goes, in bytes of the whole text. Both are the greatest `usize` where the group took no part.
+#[repr(C)]
+#[derive(Clone, Copy)]
+pub struct GroupAt {
+    /// Where the group begins.
+    pub start: usize,
+    /// Where it ends, without the byte there.
+    pub end: usize,
+}
+
+/// Why a search gave no answer.
+#[derive(Clone, Copy)]
+pub enum Fault {
+    /// The chunks hold as many bytes as the greatest `usize`, or more.
+    TooLong,
+    /// The search was to begin behind its end, or behind the text's.
+    Outside,
+}
+
+/// Why there is no searcher.
+#[derive(Clone, Copy)]
+pub enum Refusal {
+    /// No kind of match has the number.
+    NoKind,
+    /// There are more than 2,147,483,647 patterns.
+    TooMany,
+    /// The pattern with this number isn't UTF-8.
+    NotUtf8(usize),
+    /// The patterns weren't built.
+    Build(BuildError),
+    /// Memory was refused.
+    Memory,
+}
+
+impl MatchAt {
+    ghost use Rattle.std.specs.Prelude.{◌≡◌};
+    ghost use Rattle.searcher.specs.Places.{found_at};
+
+    /// The match, with numbers alone.
+    pub fn of(found: Match) -> MatchAt
+        ensures { found_at result ≡ found }
+    {
+        MatchAt {
+            pattern: found.pattern().as_usize(),
+            start: found.start(),
+            end: found.end(),
+        }
+    }
+}
+
+impl GroupAt {
+    ghost use Rattle.std.specs.Prelude.{◌≡◌};
+    ghost use Rattle.searcher.specs.Places.{AreGroups, group_of};
+
+    /// The span, with numbers alone.
+    fn of(span: Option<Span>) -> GroupAt
+        ensures { result ≡ group_of span }
+    {
+        match span {
+            Some(span) => GroupAt {
+                start: span.start,
+                end: span.end,
+            },
+            None => GroupAt {
+                start: usize::MAX,
+                end: usize::MAX,
+            },
+        }
+    }
+
+    /// Writes the groups that the captures hold, one after another from group 0 on. Where there is no such group, it took no part.
+    pub fn write_all(captures: &Captures, groups: &mut [GroupAt])
+        ensures { AreGroups captures.now groups.new }
+    {
+        for i in 0..groups.len() {
+            groups[i] = GroupAt::of(captures.get_group(i));
+        }
+    }
+}
+
+/// Writes for each number whether it is a member of the set: 1, or 0.
+pub(crate) fn write_marks(set: &PatternSet, marks: &mut [u8])
+    requires { length set.now ≤ 2147483647 }
+    ensures { AreMarksOf set.now marks.new }
+{
+    for i in 0..marks.len() {
+        marks[i] = mark_of(set, i);
+    }
+}
+
+/// Whether the number is a member of the set: 1, or 0.
+fn mark_of(set: &PatternSet, number: usize) -> u8
+    requires { length set.now ≤ 2147483647 }
+    ensures { IsMark (Has set.now number) (Some result) }
+{
+    if number < set.capacity() && set.contains(PatternID::must(number)) {
+        return 1;
+    }
+    0
+}
+
+impl From<BuildError> for Refusal {
+    ghost use Rattle.std.specs.Prelude.{◌≡◌};
+    ghost use Rattle.searcher.specs.declared.answers.Refusal.TheVariants.{Build};
+
+    ghost from_gives = { λ e r. r ≡ Build e };
+
+    fn from(error: BuildError) -> Refusal {
+        Refusal::Build(error)
+    }
+}
+
+impl From<AllocError> for Refusal {
+    ghost use Rattle.std.specs.Prelude.{◌≡◌};
+    ghost use Rattle.searcher.specs.declared.answers.Refusal.TheVariants.{Memory};
+
+    ghost from_gives = { λ _ r. r ≡ Memory };
+
+    fn from(_: AllocError) -> Refusal {
+        Refusal::Memory
+    }
+}
+
+impl<T: Drop> From<AllocFailed<T>> for Refusal {
+    ghost use Rattle.std.specs.Prelude.{◌≡◌};
+    ghost use Rattle.searcher.specs.declared.answers.Refusal.TheVariants.{Memory};
+
+    ghost from_gives = { λ _ r. r ≡ Memory };
+
+    fn from(_: AllocFailed<T>) -> Refusal {
+        Refusal::Memory
+    }
+}

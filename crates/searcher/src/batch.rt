@@ -1,0 +1,112 @@
+//! The matches of an iteration, one after another, into places that a caller lends.
+ghost use Rattle.std.specs.Prelude.{◌≡◌, ◌≤◌, IfSome, false};
+ghost use Rattle.rc_engine.specs.Moved.{IsMoved};
+ghost use Rattle.rc_meta.specs.Caches.{IsCacheFor};
+ghost use Rattle.rc_meta.specs.Views.{regex_kind, regex_patterns, regex_settings, sought};
+ghost use Rattle.rc_program.specs.Kinds.{answer_by, answer_by_from, matches_by_kind};
+ghost use Rattle.rc_program.specs.Matches.{begin_of, end_of, is_again, next_match};
+ghost use Rattle.rc_program.specs.Sought.{search_for};
+ghost use Rattle.rc_text.specs.Text.{Keeps, high, low};
+ghost use Rattle.searcher.specs.Places.{IsFilled};
+
+use crate::answers::MatchAt;
+use rc_meta::cache::Cache;
+use rc_meta::regex::Regex;
+use rc_text::cursor::Cursor;
+use rc_text::input::Input;
+use rc_text::types::Match;
+
+/// What a batch was filled with, and where the iteration stands behind it.
+#[derive(Clone, Copy)]
+pub(crate) struct Filled {
+    /// How many matches there are.
+    pub(crate) count: usize,
+    /// Where the next search begins.
+    pub(crate) from: usize,
+    /// Where the last match ended.
+    pub(crate) last: Option<usize>,
+}
+
+/// The match of an input whose earliest flag is off.
+pub(crate) fn search<C: Cursor>(
+    regex: &Regex,
+    cache: &mut Cache,
+    input: &mut Input<C>,
+) -> Option<Match>
+    requires made { IsCacheFor (regex_patterns regex.now) (regex_settings regex.now) cache.old }
+    requires off { input.old.earliest ≡ false }
+    ensures cache { IsCacheFor (regex_patterns regex.now) (regex_settings regex.now) cache.new }
+    ensures keeps { Keeps input.old input.new }
+    ensures found { result ≡ answer_by (regex_kind regex.now) (search_for (sought regex.now) input.old) }
+    ensures within { IfSome result (λ m. (low input.old ≤ m.start) × (m.start ≤ m.end) × (m.end ≤ high input.old)) }
+{
+    regex.search_with(cache, input)
+}
+
+/// Whether the match is empty and ends where the one before ended.
+fn is_again(last: Option<usize>, found: Match) -> bool
+    ensures { result ≡ is_again begin_of end_of last found }
+{
+    match last {
+        Some(last) => found.is_empty() && found.end() == last,
+        None => false,
+    }
+}
+
+/// The next match of the list, where the one before ended at `last`. The span may start a byte later then.
+fn next_match<C: Cursor>(
+    regex: &Regex,
+    cache: &mut Cache,
+    input: &mut Input<C>,
+    last: Option<usize>,
+) -> Option<Match>
+    requires made { IsCacheFor (regex_patterns regex.now) (regex_settings regex.now) cache.old }
+    requires off { input.old.earliest ≡ false }
+    ensures cache { IsCacheFor (regex_patterns regex.now) (regex_settings regex.now) cache.new }
+    ensures moves { IsMoved input.old input.new }
+    ensures found { result
+        ≡ next_match begin_of end_of (answer_by_from (regex_kind regex.now) (search_for (sought regex.now) input.old)) input.old.span.start last }
+    ensures within { IfSome result (λ m. m.end ≤ high input.new) }
+{
+    let found = search(regex, cache, input)?;
+    if !is_again(last, found) {
+        return Some(found);
+    }
+    // The content is shorter than the greatest number.
+    let _offset = input.chunk_offset();
+    input.set_start(input.start() + 1);
+    search(regex, cache, input)
+}
+
+/// Fills the batch with the next matches of the list, where the one before ended at `before`.
+pub(crate) fn fill<C: Cursor>(
+    regex: &Regex,
+    cache: &mut Cache,
+    input: &mut Input<C>,
+    before: Option<usize>,
+    batch: &mut [MatchAt],
+) -> Filled
+    requires made { IsCacheFor (regex_patterns regex.now) (regex_settings regex.now) cache.old }
+    requires off { input.old.earliest ≡ false }
+    ensures cache { IsCacheFor (regex_patterns regex.now) (regex_settings regex.now) cache.new }
+    ensures filled { IsFilled
+        (matches_by_kind (regex_kind regex.now) (search_for (sought regex.now) input.old) input.old.span.start before)
+        (matches_by_kind (regex_kind regex.now) (search_for (sought regex.now) input.old) result.from result.last)
+        batch.new result.count }
+{
+    let mut last = before;
+    for count in 0..batch.len() {
+        let from = input.start();
+        let Some(found) = next_match(regex, cache, input, last) else {
+            return Filled { count, from, last };
+        };
+        batch[count] = MatchAt::of(found);
+        input.set_start(found.end());
+        last = Some(found.end());
+    }
+    Filled {
+        count: batch.len(),
+        from: input.start(),
+        last,
+    }
+}

@@ -1,0 +1,11 @@
+//! A regex with all that its searches need, as one value: for callers that keep it between calls and hand their text again each time.
+#![tactic(auto)]
+
+pub mod answers;
+mod batch;
+pub mod searches;
+pub mod settings;
+
+pub use answers::{Fault, GroupAt, MatchAt, Refusal};
+pub use searches::Searcher;
+pub use settings::Settings;

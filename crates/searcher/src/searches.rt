@@ -1,0 +1,309 @@
+//! A regex with its cache, the groups of a match, and the state of an iteration.
+ghost use Rattle.std.specs.Prelude.{◌≡◌, ◌≤◌, IfErr, IfOk, None, length};
+ghost use Rattle.rc_build.specs.TextRefusals.{AllRead, IsTextRefusal, texts_of};
+ghost use Rattle.rc_meta.specs.Views.{regex_patterns, regex_settings};
+ghost use Rattle.rc_text.specs.Joined.{joined};
+ghost use Rattle.searcher.specs.Flags.{search_settings, syntax_settings};
+ghost use Rattle.rc_text.specs.Text.{Keeps};
+ghost use Rattle.searcher.specs.Ranges.{IsFault, IsNotText, in_range};
+
+use crate::answers::{Fault, MatchAt, Refusal, write_marks};
+use crate::batch;
+use crate::settings::Settings;
+use rc_captures::captures::Captures;
+use rc_meta::cache::Cache;
+use rc_meta::regex::Regex;
+use rc_patterns::sets::PatternSet;
+use rc_settings::error::BuildError;
+use rc_text::chunks::{AtError, ChunkCursor};
+use rc_text::input::Input;
+use rc_text::types::{Match, MatchKind, Span};
+use std::alloc::{AllocError, Global};
+use std::marker::Model;
+
+/// A regex, with all that its searches need: a cache, captures, a set of its patterns, and where an iteration stands.
+///
+/// The text isn't kept. Each search is handed its chunks, and says what the text is that they make then. No search answers want of memory:
+/// its cache may grow up to a limit, and where that is refused the answer is the same.
+#[derive(Drop)]
+pub struct Searcher {
+    regex: Regex,
+    cache: Cache,
+    captures: Captures,
+    set: PatternSet,
+    from: usize,
+    last: Option<usize>,
+}
+
+impl Model for Searcher {
+    ghost use Rattle.std.specs.Coded.{codes};
+    ghost use Rattle.std.specs.Prelude.{◌≡◌, ◌≤◌, length};
+    ghost use Rattle.rc_captures.specs.contracts.captures.Captures as captured;
+    ghost use Rattle.rc_engine.specs.Tells.{KeepsAll};
+    ghost use Rattle.rc_meta.specs.Caches.{IsCacheFor};
+    ghost use Rattle.rc_meta.specs.Views.{regex_names, regex_patterns, regex_settings};
+    ghost use Rattle.rc_meta.specs.contracts.regex.Regex as regexes;
+    ghost use Rattle.searcher.specs.Searching.{Searching};
+
+    ghost Value = { Searching };
+
+    ghost coded = { Prim.hlevel (codes, regexes.the_row.coded, captured.the_row.coded) };
+
+    ghost view = { λ s. record { regex = s.regex; captures = s.captures; from = s.from; last = s.last } };
+
+    ghost invariant = { λ s. IsCacheFor (regex_patterns s.regex) (regex_settings s.regex) s.cache
+        × KeepsAll (regex_names s.regex) s.captures
+        × (length s.set ≡ length (regex_patterns s.regex))
+        × (length s.set ≤ 2147483647) };
+}
+
+impl Searcher {
+    ghost use Rattle.std.specs.Prelude.{◌≡◌, IfErr, IfOk, OnErr, OnOk, is_some};
+    ghost use Rattle.rc_engine.specs.Tells.{KeepsAll, TellsBy};
+    ghost use Rattle.rc_meta.specs.Views.{regex_kind, regex_names};
+    ghost use Rattle.rc_text.specs.Joined.{joined};
+    ghost use Rattle.searcher.specs.Answers.{IsBuilt, IsRefused, IsSame, answer_in, left_in, search_in};
+    ghost use Rattle.searcher.specs.Places.{AreMarks, IsFilled};
+    ghost use Rattle.searcher.specs.Ranges.{IsFault};
+
+    /// A searcher for the patterns as which these texts are read, each in UTF-8. Its iteration stands before the text's first byte.
+    ///
+    /// An `Err` is the first of these that applies: no kind of match has the number; there are too many texts; a text isn't UTF-8; what the
+    /// build refuses. Want of memory may come at any time.
+    pub fn new(alloc: Global, patterns: &[&[u8]], settings: &Settings) -> Result<Searcher, Refusal>
+        ensures built { IfOk result (IsBuilt settings.now patterns.now) }
+        ensures refused { IfErr result (IsRefused settings.now patterns.now) }
+    {
+        let Some(kind) = settings.kind() else {
+            return Err(Refusal::NoKind);
+        };
+        if patterns.len() > 2_147_483_647 {
+            return Err(Refusal::TooMany);
+        }
+        let texts = texts_of(alloc, patterns)?;
+        let regex = build(alloc, &texts, settings, kind)?;
+        let searcher = with_cache(alloc, regex)?;
+        Ok(searcher)
+    }
+
+    /// The regex.
+    pub fn regex(&self) -> &Regex
+        ensures { result.now ≡ self.now.regex }
+    {
+        &self.regex
+    }
+
+    /// The groups of the last search for groups.
+    pub fn captures(&self) -> &Captures
+        ensures { result.now ≡ self.now.captures }
+    {
+        &self.captures
+    }
+
+    /// About how many bytes the regex and the cache take.
+    pub fn memory_usage(&self) -> usize {
+        self.regex
+            .memory_usage()
+            .saturating_add(self.cache.memory_usage())
+    }
+
+    /// Whether there is a match in the text from `start` to `end`.
+    pub fn is_match(&mut self, chunks: &[&[u8]], start: usize, end: usize) -> Result<bool, Fault>
+        ensures found { IfOk result (λ b. b ≡ is_some (answer_in self.old.regex (joined chunks.now) start end)) }
+        ensures fault { IfErr result (IsFault chunks.now start end) }
+        ensures kept { self.new ≡ self.old }
+    {
+        let mut input = input_over(chunks, start, end)?;
+        Ok(self.regex.is_match_with(&mut self.cache, &mut input))
+    }
+
+    /// The match in the text from `start` to `end`, or to the text's end where that comes first. Assertions see the whole text.
+    pub fn find(
+        &mut self,
+        chunks: &[&[u8]],
+        start: usize,
+        end: usize,
+    ) -> Result<Option<Match>, Fault>
+        ensures found { IfOk result (λ m. m ≡ answer_in self.old.regex (joined chunks.now) start end) }
+        ensures fault { IfErr result (IsFault chunks.now start end) }
+        ensures kept { self.new ≡ self.old }
+    {
+        let mut input = input_over(chunks, start, end)?;
+        Ok(batch::search(&self.regex, &mut self.cache, &mut input))
+    }
+
+    /// Marks which patterns have a match in the text from `start` to `end`: the place of a pattern's number is 1 where it has one, and each
+    /// other place is 0. A pattern has a match where it spells some span there, also where that is never found since another is preferred.
+    /// After an `Err` the marks are as before.
+    pub fn which_patterns(
+        &mut self,
+        chunks: &[&[u8]],
+        start: usize,
+        end: usize,
+        marks: &mut [u8],
+    ) -> Result<(), Fault>
+        ensures marked { OnOk result (AreMarks (length (regex_patterns self.old.regex)) (search_in self.old.regex (joined chunks.now) start end) marks.new) }
+        ensures fault { IfErr result (IsFault chunks.now start end) }
+        ensures refused { OnErr result (marks.new ≡ marks.old) }
+        ensures kept { self.new ≡ self.old }
+    {
+        let mut input = input_over(chunks, start, end)?;
+        self.set.clear();
+        self.regex
+            .which_patterns_with(&mut self.cache, &mut input, &mut self.set);
+        write_marks(&self.set, marks);
+        Ok(())
+    }
+
+    /// The match that `find` finds, whose groups are kept then, and none where there is no match. After an `Err` those of the search before
+    /// are still kept.
+    pub fn find_groups(
+        &mut self,
+        chunks: &[&[u8]],
+        start: usize,
+        end: usize,
+    ) -> Result<Option<Match>, Fault>
+        ensures told { OnOk result (TellsBy (regex_kind self.old.regex) (search_in self.old.regex (joined chunks.now) start end) self.new.captures) }
+        ensures found { IfOk result (λ m. m ≡ answer_in self.old.regex (joined chunks.now) start end) }
+        ensures fault { IfErr result (IsFault chunks.now start end) }
+        ensures refused { OnErr result (self.new ≡ self.old) }
+        ensures whole { OnOk result (KeepsAll (regex_names self.old.regex) self.new.captures) }
+        ensures kept { IsSame self.old self.new }
+    {
+        let mut input = input_over(chunks, start, end)?;
+        self.regex
+            .search_captures_with(&mut self.cache, &mut input, &mut self.captures);
+        Ok(self.captures.get_match())
+    }
+
+    /// Begins an iteration at a place. A match ended at `last`, where that is given: an empty one there gives way to the next.
+    pub fn restart(&mut self, from: usize, last: Option<usize>)
+        ensures { self.new ≡ record self.old { from = from; last = last } }
+    {
+        self.from = from;
+        self.last = last;
+    }
+
+    /// Where the next search of the iteration begins.
+    pub fn place(&self) -> usize
+        ensures { result ≡ self.now.from }
+    {
+        let Searcher { from, .. } = self;
+        *from
+    }
+
+    /// Fills the batch with the next matches of the text, up to `end`, and tells how many they are. Where the batch isn't full, no more is
+    /// left. Each match is sought from where the one before ended, and an empty one that ends there gives way to the answer from a byte
+    /// later.
+    ///
+    /// The matches are those of the text that is handed in. Where it is another than in the call before, the list goes on from the same
+    /// place in that one. After an `Err` all is as before.
+    pub fn fill(
+        &mut self,
+        chunks: &[&[u8]],
+        end: usize,
+        batch: &mut [MatchAt],
+    ) -> Result<usize, Fault>
+        ensures filled { IfOk result (IsFilled (left_in self.old (joined chunks.now) end) (left_in self.new (joined chunks.now) end) batch.new) }
+        ensures fault { IfErr result (IsFault chunks.now self.old.from end) }
+        ensures refused { OnErr result (self.new ≡ self.old) }
+        ensures regex { self.new.regex ≡ self.old.regex }
+        ensures captures { self.new.captures ≡ self.old.captures }
+    {
+        let mut input = input_over(chunks, self.from, end)?;
+        let filled = batch::fill(&self.regex, &mut self.cache, &mut input, self.last, batch);
+        self.from = filled.from;
+        self.last = filled.last;
+        Ok(filled.count)
+    }
+}
+
+/// The texts that these bytes are.
+fn texts_of<'p>(alloc: Global, patterns: &[&'p [u8]]) -> Result<Vec<&'p str>, Refusal>
+    ensures same { IfOk result (λ v. texts_of v.items ≡ texts_of patterns.now) }
+    ensures refused { IfErr result (IsNotText patterns.now) }
+{
+    let mut texts = Vec::new(alloc);
+    for i in 0..patterns.len() {
+        let bytes: &'p [u8] = patterns[i];
+        match str::from_utf8(bytes) {
+            Ok(text) => texts.push(text)?,
+            Err(_) => return Err(Refusal::NotUtf8(i)),
+        }
+    }
+    Ok(texts)
+}
+
+/// The regex of the patterns as which these texts are read.
+fn build(
+    alloc: Global,
+    texts: &[&str],
+    settings: &Settings,
+    kind: MatchKind,
+) -> Result<Regex, BuildError>
+    requires { length texts.now ≤ 2147483647 }
+    ensures read { IfOk result (λ r. AllRead (syntax_settings settings.now) (texts_of texts.now) (regex_patterns r)) }
+    ensures set { IfOk result (λ r. regex_settings r ≡ search_settings settings.now kind) }
+    ensures refused { IfErr result (λ e. IsTextRefusal (Some 10485760) (syntax_settings settings.now) (texts_of texts.now) e) }
+{
+    let mut builder = Regex::builder();
+    builder
+        .configure(settings.search(kind))
+        .syntax(settings.syntax())
+        .build_many(alloc, texts)
+}
+
+/// The searcher of a regex.
+fn with_cache(alloc: Global, regex: Regex) -> Result<Searcher, AllocError>
+    requires { length (regex_patterns regex) ≤ 2147483647 }
+    ensures regex { IfOk result (λ s. s.regex ≡ regex) }
+    ensures from { IfOk result (λ s. s.from ≡ 0) }
+    ensures last { IfOk result (λ s. s.last ≡ None) }
+{
+    let Ok(cache) = regex.create_cache(alloc) else {
+        drop(regex);
+        return Err(AllocError);
+    };
+    let Ok(captures) = regex.create_captures(alloc) else {
+        drop(regex);
+        drop(cache);
+        return Err(AllocError);
+    };
+    let Ok(set) = PatternSet::new(alloc, regex.pattern_len()) else {
+        drop(regex);
+        drop(cache);
+        drop(captures);
+        return Err(AllocError);
+    };
+    Ok(Searcher {
+        regex,
+        cache,
+        captures,
+        set,
+        from: 0,
+        last: None,
+    })
+}
+
+/// The text that the chunks make, to be searched from `start` to `end`, with the earliest flag off.
+fn input_over<'a>(
+    chunks: &'a [&'a [u8]],
+    start: usize,
+    end: usize,
+) -> Result<Input<ChunkCursor<'a>>, Fault>
+    ensures in_range { IfOk result (Keeps (in_range (joined chunks.now) start end)) }
+    ensures fault { IfErr result (IsFault chunks.now start end) }
+{
+    if start > end {
+        return Err(Fault::Outside);
+    }
+    match ChunkCursor::at(chunks, start) {
+        Ok(cursor) => {
+            let mut input = Input::new(cursor);
+            input.set_span(Span { start, end });
+            Ok(input)
+        }
+        Err(AtError::TooLong) => Err(Fault::TooLong),
+        Err(AtError::PastEnd) => Err(Fault::Outside),
+    }
+}

@@ -1,0 +1,72 @@
+//! Settings of patterns and of matches.
+
+ghost use Rattle.std.specs.Prelude.{◌≡◌};
+
+use rc_parser as syntax;
+use rc_settings::meta;
+use rc_text::types::MatchKind;
+
+/// How patterns are read, and which match is sought. Each field but `kind` is a flag, off at 0 and on at each other number. With all fields
+/// 0, the settings are the default ones.
+#[repr(C)]
+#[derive(Clone, Copy)]
+pub struct Settings {
+    /// Letters match in either case: the flag `i`.
+    pub case_insensitive: u8,
+    /// `^` and `$` match at each line: the flag `m`.
+    pub multi_line: u8,
+    /// A dot matches line ends too: the flag `s`.
+    pub dot_matches_new_line: u8,
+    /// Lines end with CR, LF or both: the flag `R`.
+    pub crlf: u8,
+    /// Repetitions are lazy, and greedy with `?`: the flag `U`.
+    pub swap_greed: u8,
+    /// Classes, dots and words are of bytes, and not of characters: without the flag `u`.
+    pub bytes: u8,
+    /// Patterns may match what isn't UTF-8.
+    pub any_bytes: u8,
+    /// Empty matches may split a character.
+    pub split_characters: u8,
+    /// The number of the kind of match that is sought: 0 for the preferred match, 1 for the one with the greatest end.
+    pub kind: u8,
+}
+
+impl Settings {
+    ghost use Rattle.rc_parser.specs.Settings.{settings_of as syntax_of};
+    ghost use Rattle.rc_settings.specs.Settings.{settings_of};
+    ghost use Rattle.searcher.specs.Flags.{kind_of, search_settings, syntax_settings};
+
+    /// How patterns are read.
+    pub(crate) fn syntax(&self) -> syntax::Config
+        ensures { syntax_of result ≡ syntax_settings self.now }
+    {
+        syntax::Config::new()
+            .case_insensitive(self.case_insensitive != 0)
+            .multi_line(self.multi_line != 0)
+            .dot_matches_new_line(self.dot_matches_new_line != 0)
+            .crlf(self.crlf != 0)
+            .swap_greed(self.swap_greed != 0)
+            .unicode(self.bytes == 0)
+            .utf8(self.any_bytes == 0)
+    }
+
+    /// The kind of match that is sought, where one has the number.
+    pub(crate) fn kind(&self) -> Option<MatchKind>
+        ensures { result ≡ kind_of self.now.kind }
+    {
+        match self.kind {
+            0 => Some(MatchKind::LeftmostFirst),
+            1 => Some(MatchKind::All),
+            _ => None,
+        }
+    }
+
+    /// Which matches are sought, of a kind.
+    pub(crate) fn search(&self, kind: MatchKind) -> meta::Config
+        ensures { settings_of result ≡ search_settings self.now kind }
+    {
+        meta::Config::new()
+            .match_kind(kind)
+            .utf8_empty(self.split_characters == 0)
+    }
+}

@@ -1,0 +1,5 @@
+pub mod Held
+pub mod Names
+pub mod Refusals
+pub mod Statuses
+pub mod Tells

@@ -1,0 +1,45 @@
+-- What a status tells of patterns and groups: 0, it was written; 5, there is none; 6, the name is longer than its place; 7, the name isn't
+-- UTF-8. No other comes where the handle is full.
+use Rattle.std.specs.Prelude.{◌≡◌, ℕ, zero, suc, ◌<◌, ◌⊎◌, List, IsUtf8, length, take, Option, Some, None}
+use Rattle.rc_captures.specs.Names.{group_len, to_index, to_name}
+use Rattle.rc_meta.specs.Views.{regex_names}
+use Rattle.rc_meta.specs.declared.regex.Regex.{Regex}
+
+-- no pattern has this number
+abbrev pub IsPast : ℕ → Type 0
+IsPast pattern = 2147483646 < pattern
+
+-- what a status means: `done` of 0, `absent` of 5, `short` of 6, and `broken` of 7
+abbrev pub TellsAs : (done absent short broken : Type 0) → ℕ → Type 0
+TellsAs done absent short broken zero = done
+TellsAs done absent short broken (suc zero) = ⊥
+TellsAs done absent short broken (suc (suc zero)) = ⊥
+TellsAs done absent short broken (suc (suc (suc zero))) = ⊥
+TellsAs done absent short broken (suc (suc (suc (suc zero)))) = ⊥
+TellsAs done absent short broken (suc (suc (suc (suc (suc zero))))) = absent
+TellsAs done absent short broken (suc (suc (suc (suc (suc (suc zero)))))) = short
+TellsAs done absent short broken (suc (suc (suc (suc (suc (suc (suc zero))))))) = broken
+TellsAs done absent short broken (suc (suc (suc (suc (suc (suc (suc (suc n)))))))) = ⊥
+
+-- how many groups a pattern has, the whole match among them
+abbrev pub TellsCount : Regex → ℕ → ℕ → ℕ → Type 0
+TellsCount r pattern status count = TellsAs (count ≡ group_len (regex_names r) pattern) (IsPast pattern) ⊥ ⊥ status
+
+-- the name is longer than its place
+pub record IsCut (r : Regex) (pattern group : ℕ) (name : List ℕ) (len : ℕ) : Type 0 where
+  pub text : List ℕ
+  pub named : to_name (regex_names r) pattern group ≡ Some text
+  pub needed : len ≡ length text
+  pub longer : length name < len
+
+-- the name of a group
+abbrev pub TellsName : Regex → ℕ → ℕ → ℕ → List ℕ → ℕ → Type 0
+TellsName r pattern group status name len =
+    TellsAs (to_name (regex_names r) pattern group ≡ Some (take len name)) (IsPast pattern ⊎ (to_name (regex_names r) pattern group ≡ None))
+    (IsCut r pattern group name len) ⊥ status
+
+-- the number of the first group of a name
+abbrev pub TellsNumber : Regex → ℕ → List ℕ → ℕ → ℕ → Type 0
+TellsNumber r pattern name status number =
+    TellsAs (to_index (regex_names r) pattern name ≡ Some number) (IsPast pattern ⊎ (to_index (regex_names r) pattern name ≡ None)) ⊥
+    (¬ IsUtf8 name) status

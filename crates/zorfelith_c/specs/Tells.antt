@@ -1,0 +1,60 @@
+-- What a search's status tells: 0, there is no match, or a batch is filled; 1, there is one; 3, the chunks are too long; 4, the range is
+-- outside of the text. No other comes where the handle is full.
+use Rattle.std.specs.Prelude.{◌≡◌, ℕ, zero, suc, ◌<◌, List, length, min, Option, Some, None, is_some, true, IfSome}
+use Rattle.std.specs.Borrow.{Bor}
+use Rattle.rc_text.specs.Joined.{IsTooLong, joined}
+use Rattle.rc_engine.specs.Tells.{KeepsAll, TellsBy}
+use Rattle.rc_meta.specs.Views.{regex_kind, regex_names, regex_patterns}
+use Rattle.rc_meta.specs.declared.regex.Regex.{Regex}
+use Rattle.searcher.specs.Answers.{IsSame, answer_in, left_in, search_in}
+use Rattle.searcher.specs.Places.{AreGroups, AreMarks, IsFilled, found_at}
+use Rattle.searcher.specs.Searching.{Searching}
+use Rattle.searcher.specs.declared.answers.GroupAt.{GroupAt}
+use Rattle.searcher.specs.declared.answers.MatchAt.{MatchAt}
+use Rattle.zorfelith_c.specs.declared.search.Progress.{Progress}
+
+-- what a status means where it is of a search from `start` to `end`: `none` of 0, and `some` of 1
+abbrev pub TellsOf : Type 0 → Type 0 → List (Bor (List ℕ)) → ℕ → ℕ → ℕ → Type 0
+TellsOf none some chunks start end zero = none
+TellsOf none some chunks start end (suc zero) = some
+TellsOf none some chunks start end (suc (suc zero)) = ⊥
+TellsOf none some chunks start end (suc (suc (suc zero))) = IsTooLong chunks
+TellsOf none some chunks start end (suc (suc (suc (suc zero)))) = min end (length (joined chunks)) < start
+TellsOf none some chunks start end (suc (suc (suc (suc (suc n))))) = ⊥
+
+-- whether there is a match in the text
+abbrev pub TellsWhether : Regex → List (Bor (List ℕ)) → ℕ → ℕ → ℕ → Type 0
+TellsWhether r chunks start end status =
+    TellsOf (answer_in r (joined chunks) start end ≡ None) (is_some (answer_in r (joined chunks) start end) ≡ true) chunks start end status
+
+-- the match in the text
+abbrev pub TellsMatch : Regex → List (Bor (List ℕ)) → ℕ → ℕ → ℕ → MatchAt → Type 0
+TellsMatch r chunks start end status m =
+    TellsOf (answer_in r (joined chunks) start end ≡ None) (answer_in r (joined chunks) start end ≡ Some (found_at m)) chunks start end status
+
+-- which patterns have a match in the text
+abbrev pub TellsMarks : Regex → List (Bor (List ℕ)) → ℕ → ℕ → ℕ → List ℕ → Type 0
+TellsMarks r chunks start end status marks =
+    TellsOf (AreMarks (length (regex_patterns r)) (search_in r (joined chunks) start end) marks) ⊥ chunks start end status
+
+-- The groups are those of the match in the text, as far as there are places for them; and the state of the iteration stays.
+pub record HoldsGroups (s : Searching) (chunks : List (Bor (List ℕ))) (start end : ℕ) (groups : List GroupAt) (t : Searching) : Type 0 where
+  pub told : TellsBy (regex_kind s.regex) (search_in s.regex (joined chunks) start end) t.captures
+  pub whole : KeepsAll (regex_names s.regex) t.captures
+  pub written : AreGroups t.captures groups
+  pub same : IsSame s t
+
+-- The batch holds the first of the matches that were left, and the others are left.
+pub record IsBatch (s : Searching) (text : List ℕ) (end : ℕ) (batch : List MatchAt) (p : Progress) (t : Searching) : Type 0 where
+  pub filled : IsFilled (left_in s text end) (left_in t text end) batch p.count
+  pub next : p.next ≡ t.from
+  pub regex : t.regex ≡ s.regex
+
+-- what a call for a batch tells: else the state of the iteration is as before
+abbrev pub TellsBatch : Searching → List (Bor (List ℕ)) → ℕ → ℕ → List MatchAt → Progress → Option Searching → Type 0
+TellsBatch s chunks end zero batch p t = IfSome t (IsBatch s (joined chunks) end batch p)
+TellsBatch s chunks end (suc zero) batch p t = ⊥
+TellsBatch s chunks end (suc (suc zero)) batch p t = ⊥
+TellsBatch s chunks end (suc (suc (suc zero))) batch p t = IsTooLong chunks × (t ≡ Some s)
+TellsBatch s chunks end (suc (suc (suc (suc zero)))) batch p t = (min end (length (joined chunks)) < s.from) × (t ≡ Some s)
+TellsBatch s chunks end (suc (suc (suc (suc (suc n))))) batch p t = ⊥

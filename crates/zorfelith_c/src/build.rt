@@ -1,0 +1,96 @@
+//! How a handle is filled and emptied.
+ghost use Rattle.std.specs.Prelude.{◌≡◌, ◌≢◌, IfErr, IfOk, MatchOption, None};
+ghost use Rattle.searcher.specs.Answers.{IsBuilt, IsRefused};
+ghost use Rattle.zorfelith_c.specs.Refusals.{IsToldRefusal, told_refusal};
+ghost use Rattle.zorfelith_c.specs.Statuses.{done};
+
+use crate::handle::Handle;
+use crate::status::{DONE, MEMORY, NO_KIND, NOT_UTF8, SYNTAX, TOO_LARGE};
+use rc_pattern::syntax;
+use rc_settings::error::BuildError;
+use searcher::{Refusal, Searcher, Settings};
+use std::alloc::Global;
+
+/// Why patterns were refused, and where: the number of the pattern, and a byte of it. Both are 0 where the status doesn't tell of them.
+#[repr(C)]
+#[derive(Clone, Copy)]
+pub struct Refused {
+    /// The status.
+    pub status: u32,
+    /// The number of the pattern.
+    pub pattern: usize,
+    /// The byte of its text at which the fault was met.
+    pub at: usize,
+}
+
+/// A refusal as numbers.
+fn told(refusal: Refusal) -> Refused
+    ensures { result ≡ told_refusal refusal }
+{
+    let (status, pattern, at) = match refusal {
+        Refusal::NotUtf8(pattern) => (NOT_UTF8, pattern, 0),
+        Refusal::NoKind => (NO_KIND, 0, 0),
+        Refusal::TooMany => (TOO_LARGE, 0, 0),
+        Refusal::Memory => (MEMORY, 0, 0),
+        Refusal::Build(error) => match error {
+            BuildError::Syntax { pattern, error } => match error {
+                syntax::Error::Syntax { at } => (SYNTAX, pattern.as_usize(), at),
+                syntax::Error::Memory => (MEMORY, 0, 0),
+            },
+            BuildError::Memory => (MEMORY, 0, 0),
+            BuildError::IllFormed { .. } => (TOO_LARGE, 0, 0),
+            BuildError::SizeLimit { .. } => (TOO_LARGE, 0, 0),
+            BuildError::PlaceLimit => (TOO_LARGE, 0, 0),
+            BuildError::DfaSizeLimit { .. } => (TOO_LARGE, 0, 0),
+            BuildError::CacheTooSmall { .. } => (TOO_LARGE, 0, 0),
+        },
+    };
+    Refused {
+        status,
+        pattern,
+        at,
+    }
+}
+
+/// A searcher on the heap.
+fn boxed(alloc: Global, patterns: &[&[u8]], settings: &Settings) -> Result<Box<Searcher>, Refusal>
+    ensures built { IfOk result (λ b. IsBuilt settings.now patterns.now b.value) }
+    ensures refused { IfErr result (IsRefused settings.now patterns.now) }
+{
+    let searcher = Searcher::new(alloc, patterns, settings)?;
+    Ok(Box::new(alloc, searcher)?)
+}
+
+/// Frees what the handle holds, and fills it with a searcher for these patterns, each in UTF-8. Where the status isn't `DONE`, the handle is
+/// empty, and `refused` tells why.
+#[unsafe(no_mangle)]
+pub extern "C" fn zf_compile(
+    alloc: Global,
+    handle: &mut Handle,
+    patterns: &[&[u8]],
+    settings: &Settings,
+    refused: &mut Refused,
+) -> u32
+    ensures built { MatchOption handle.new.held.value (result ≢ done) (λ s. (result ≡ done) × IsBuilt settings.now patterns.now s) }
+    ensures refused { result ≢ done → IsToldRefusal settings.now patterns.now result refused.new }
+{
+    zf_free(alloc, handle);
+    match boxed(alloc, patterns, settings) {
+        Ok(searcher) => {
+            *handle = Handle::of(searcher);
+            DONE
+        }
+        Err(refusal) => {
+            *refused = told(refusal);
+            refused.status
+        }
+    }
+}
+
+/// Frees what the handle holds, and leaves it empty.
+#[unsafe(no_mangle)]
+pub extern "C" fn zf_free(alloc: Global, handle: &mut Handle)
+    ensures { handle.new.held.value ≡ None }
+{
+    drop(handle.take(alloc));
+}

@@ -1,0 +1,195 @@
+//! Searches.
+ghost use Rattle.std.specs.Prelude.{◌≡◌, ◌≤◌, IfSome, MatchOption, None, Some, if◌then◌else◌, option_map};
+ghost use Rattle.searcher.specs.Flags.{is_on};
+ghost use Rattle.searcher.specs.Searching.{Searching};
+ghost use Rattle.zorfelith_c.specs.Tells.{HoldsGroups, TellsBatch, TellsMarks, TellsMatch, TellsWhether};
+ghost use Rattle.zorfelith_c.specs.Statuses.{done, empty};
+
+use crate::handle::Handle;
+use crate::status::{DONE, EMPTY, FOUND, OUTSIDE, TOO_LONG};
+use searcher::{Fault, GroupAt, MatchAt};
+use std::alloc::Global;
+
+/// How far an iteration has come.
+#[repr(C)]
+#[derive(Clone, Copy)]
+pub struct Progress {
+    /// How many matches were written by the call.
+    pub count: usize,
+    /// Where the next search begins, in bytes of the text.
+    pub next: usize,
+}
+
+/// Whether there is a match in the text from `start` to `end`: `FOUND` or `DONE`.
+#[unsafe(no_mangle)]
+pub extern "C" fn zf_is_match(
+    alloc: Global,
+    handle: &mut Handle,
+    chunks: &[&[u8]],
+    start: usize,
+    end: usize,
+) -> u32
+    ensures answered { MatchOption handle.old.held.value (result ≡ empty) (λ s. TellsWhether s.regex chunks.now start end result) }
+    ensures kept { handle.new.held.value ≡ handle.old.held.value }
+{
+    let Some(mut held) = handle.take(alloc) else {
+        return EMPTY;
+    };
+    let answer = held.is_match(chunks, start, end);
+    *handle = Handle::of(held);
+    match answer {
+        Ok(true) => FOUND,
+        Ok(false) => DONE,
+        Err(Fault::TooLong) => TOO_LONG,
+        Err(Fault::Outside) => OUTSIDE,
+    }
+}
+
+/// The match in the text from `start` to `end`: `FOUND`, and then it is written, or `DONE`.
+#[unsafe(no_mangle)]
+pub extern "C" fn zf_find(
+    alloc: Global,
+    handle: &mut Handle,
+    chunks: &[&[u8]],
+    start: usize,
+    end: usize,
+    found: &mut MatchAt,
+) -> u32
+    ensures answered { MatchOption handle.old.held.value (result ≡ empty) (λ s. TellsMatch s.regex chunks.now start end result found.new) }
+    ensures kept { handle.new.held.value ≡ handle.old.held.value }
+{
+    let Some(mut held) = handle.take(alloc) else {
+        return EMPTY;
+    };
+    let answer = held.find(chunks, start, end);
+    *handle = Handle::of(held);
+    match answer {
+        Ok(Some(m)) => {
+            *found = MatchAt::of(m);
+            FOUND
+        }
+        Ok(None) => DONE,
+        Err(Fault::TooLong) => TOO_LONG,
+        Err(Fault::Outside) => OUTSIDE,
+    }
+}
+
+/// The match that `zf_find` finds, and its groups, as many as there are places for them. Without a match each took no part.
+#[unsafe(no_mangle)]
+pub extern "C" fn zf_find_groups(
+    alloc: Global,
+    handle: &mut Handle,
+    chunks: &[&[u8]],
+    start: usize,
+    end: usize,
+    found: &mut MatchAt,
+    groups: &mut [GroupAt],
+) -> u32
+    ensures answered { MatchOption handle.old.held.value (result ≡ empty) (λ s. TellsMatch s.regex chunks.now start end result found.new) }
+    ensures groups { IfSome handle.old.held.value (λ s. result ≤ 1 → IfSome handle.new.held.value (HoldsGroups s chunks.now start end groups.new)) }
+{
+    let Some(mut held) = handle.take(alloc) else {
+        return EMPTY;
+    };
+    let answer = held.find_groups(chunks, start, end);
+    let status = match answer {
+        Ok(Some(m)) => {
+            GroupAt::write_all(held.captures(), groups);
+            *found = MatchAt::of(m);
+            FOUND
+        }
+        Ok(None) => {
+            GroupAt::write_all(held.captures(), groups);
+            DONE
+        }
+        Err(Fault::TooLong) => TOO_LONG,
+        Err(Fault::Outside) => OUTSIDE,
+    };
+    *handle = Handle::of(held);
+    status
+}
+
+/// Marks which patterns have a match in the text from `start` to `end`: the place of a pattern's number is 1 where it has one, and each other
+/// place is 0.
+#[unsafe(no_mangle)]
+pub extern "C" fn zf_which_patterns(
+    alloc: Global,
+    handle: &mut Handle,
+    chunks: &[&[u8]],
+    start: usize,
+    end: usize,
+    marks: &mut [u8],
+) -> u32
+    ensures answered { MatchOption handle.old.held.value (result ≡ empty) (λ s. TellsMarks s.regex chunks.now start end result marks.new) }
+    ensures kept { handle.new.held.value ≡ handle.old.held.value }
+{
+    let Some(mut held) = handle.take(alloc) else {
+        return EMPTY;
+    };
+    let answer = held.which_patterns(chunks, start, end, marks);
+    *handle = Handle::of(held);
+    match answer {
+        Ok(()) => DONE,
+        Err(Fault::TooLong) => TOO_LONG,
+        Err(Fault::Outside) => OUTSIDE,
+    }
+}
+
+/// Begins an iteration at a place. Where `follows` isn't 0, a match ended there, so that an empty one there gives way to the next.
+#[unsafe(no_mangle)]
+pub extern "C" fn zf_restart(alloc: Global, handle: &mut Handle, from: usize, follows: u8) -> u32
+    ensures answered { MatchOption handle.old.held.value (result ≡ empty) (λ _. result ≡ done) }
+    ensures begun { handle.new.held.value
+        ≡ option_map (λ (s : Searching). record s { from = from; last = if is_on follows then Some from else None }) handle.old.held.value }
+{
+    let Some(mut held) = handle.take(alloc) else {
+        return EMPTY;
+    };
+    let last = if follows != 0 { Some(from) } else { None };
+    held.restart(from, last);
+    *handle = Handle::of(held);
+    DONE
+}
+
+/// Fills the batch with the next matches of the text, up to `end`. No more is left where the batch isn't full.
+#[unsafe(no_mangle)]
+pub extern "C" fn zf_next(
+    alloc: Global,
+    handle: &mut Handle,
+    chunks: &[&[u8]],
+    end: usize,
+    batch: &mut [MatchAt],
+    progress: &mut Progress,
+) -> u32
+    ensures { MatchOption handle.old.held.value (result ≡ empty)
+        (λ s. TellsBatch s chunks.now end result batch.new progress.new handle.new.held.value) }
+{
+    let Some(mut held) = handle.take(alloc) else {
+        return EMPTY;
+    };
+    let answer = held.fill(chunks, end, batch);
+    let next = held.place();
+    *handle = Handle::of(held);
+    match answer {
+        Ok(count) => {
+            *progress = Progress { count, next };
+            DONE
+        }
+        Err(Fault::TooLong) => TOO_LONG,
+        Err(Fault::Outside) => OUTSIDE,
+    }
+}
+
+/// About how many bytes the regex and its cache take.
+#[unsafe(no_mangle)]
+pub extern "C" fn zf_memory(alloc: Global, handle: &mut Handle, bytes: &mut usize) -> u32
+    ensures answered { MatchOption handle.old.held.value (result ≡ empty) (λ _. result ≡ done) }
+    ensures kept { handle.new.held.value ≡ handle.old.held.value }
+{
+    let Some(held) = handle.take(alloc) else {
+        return EMPTY;
+    };
+    *bytes = held.memory_usage();
+    *handle = Handle::of(held);
+    DONE
+}

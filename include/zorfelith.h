@@ -1,0 +1,184 @@
+/* Zorfelith for C: regex search over text in chunks.
+ *
+ * A text is an array of chunks, each a pointer and a length. Nothing of it is copied, and nothing of it is kept between two calls. The
+ * answers are those of the whole text, wherever it is cut, also inside a character. All places and lengths are in bytes of the whole text.
+ *
+ * What a caller owes:
+ *   - Each pointer is valid for its length, aligned, and not null, also where the length is 0 (zf_none is there to point at). What a call
+ *     writes overlaps nothing else that is passed to it.
+ *   - The text stands still while a call runs.
+ *   - A handle begins as bytes that are 0 (`struct zf_handle handle = {0};`). It may be moved. It is not copied, and what is in it is
+ *     neither read nor written but by the calls.
+ *   - A handle is used by one thread at a time, and stays with the thread that compiled it. Handles share nothing.
+ *   - No call is made from a signal handler.
+ * There is nothing else to owe: each call tests its handle, its range, its UTF-8 and its capacities, and answers a status.
+ *
+ * Who owns what: a full handle owns memory, which malloc gave and zf_free or the next zf_compile gives back. All else is the caller's.
+ * Only zf_compile takes memory, but for searches of some patterns, whose cache may grow up to a fixed limit; where that is refused they go
+ * on without it, and answer the same.
+ */
+#ifndef ZORFELITH_H
+#define ZORFELITH_H
+
+#include <stddef.h>
+#include <stdint.h>
+
+#ifdef __cplusplus
+extern "C" {
+#endif
+
+/* Statuses. After any but ZF_DONE and ZF_FOUND nothing was written but what the call says. */
+enum {
+    ZF_DONE = 0,      /* It is done. Of a search: there is no match. */
+    ZF_FOUND = 1,     /* There is a match. */
+    ZF_EMPTY = 2,     /* The handle is empty. */
+    ZF_TOO_LONG = 3,  /* The chunks hold SIZE_MAX bytes, or more. */
+    ZF_OUTSIDE = 4,   /* The range begins behind its end, or behind the text's. */
+    ZF_ABSENT = 5,    /* There is no such pattern or group, or it has no name. */
+    ZF_SHORT = 6,     /* The place for a name is too short. */
+    ZF_NOT_UTF8 = 7,  /* The bytes of a pattern or of a name aren't UTF-8. */
+    ZF_SYNTAX = 8,    /* No pattern is read from the text. */
+    ZF_TOO_LARGE = 9, /* The patterns are too large, or more than 2,147,483,647. */
+    ZF_MEMORY = 10,   /* Memory was refused. */
+    ZF_NO_KIND = 11   /* No kind of match has the number. */
+};
+
+/* As the end of a range: the text's end. Of a group: it took no part. */
+#define ZF_NONE SIZE_MAX
+
+/* A byte to point at where there is none. */
+static const uint8_t zf_none[1] = {0};
+
+/* Some bytes: a chunk of a text, or a pattern. */
+struct zf_bytes {
+    const uint8_t *bytes; /* never null */
+    size_t len;
+};
+
+/* A compiled list of patterns, with its cache and the state of an iteration. All of it is the library's. */
+struct zf_handle {
+    uint8_t full;
+    void *held;
+};
+
+/* Kinds of match. */
+enum {
+    ZF_LEFTMOST_FIRST = 0, /* the preferred match of the least start */
+    ZF_ALL = 1             /* the match with the greatest end, of these the one with the least start, and of these the least pattern */
+};
+
+/* How patterns are read, and which match is sought. Each field but `kind` is off at 0, and on at each other number. All 0: the defaults. */
+struct zf_settings {
+    uint8_t case_insensitive;     /* letters match in either case: the flag i */
+    uint8_t multi_line;           /* ^ and $ match at each line: the flag m */
+    uint8_t dot_matches_new_line; /* a dot matches line ends too: the flag s */
+    uint8_t crlf;                 /* lines end with CR, LF or both: the flag R */
+    uint8_t swap_greed;           /* repetitions are lazy, and greedy with ?: the flag U */
+    uint8_t bytes;                /* classes, dots and words are of bytes, not of characters: without the flag u */
+    uint8_t any_bytes;            /* patterns may match what isn't UTF-8 */
+    uint8_t split_characters;     /* empty matches may split a character */
+    uint8_t kind;                 /* ZF_LEFTMOST_FIRST or ZF_ALL */
+};
+
+/* Why patterns were refused. */
+struct zf_refused {
+    uint32_t status;
+    size_t pattern; /* with ZF_NOT_UTF8: the first that is not UTF-8; with ZF_SYNTAX: the least that is not read; else 0 */
+    size_t at;      /* with ZF_SYNTAX: a byte of that pattern, from 0 to its length, at which the fault was met; else 0 */
+};
+
+/* A match. */
+struct zf_match {
+    size_t pattern; /* its number, from 0 on */
+    size_t start;   /* where it begins */
+    size_t end;     /* where it ends, without the byte there; start <= end */
+};
+
+/* A group of a match. Both are ZF_NONE where it took no part. */
+struct zf_group {
+    size_t start;
+    size_t end;
+};
+
+/* How far an iteration has come. */
+struct zf_progress {
+    size_t count; /* how many matches the call wrote */
+    size_t next;  /* where the next search begins */
+};
+
+/* Compiles patterns into the handle, and frees what it held before. There may be none, and then there is never a match.
+ *
+ * ZF_DONE; or ZF_NO_KIND, ZF_TOO_LARGE for too many, ZF_NOT_UTF8, ZF_SYNTAX, ZF_TOO_LARGE, ZF_MEMORY: the first of these that applies, want of memory at any time. Then the handle
+ * is empty, and `refused` tells the status and where. */
+uint32_t zf_compile(struct zf_handle *handle, const struct zf_bytes *patterns, size_t pattern_count, const struct zf_settings *settings,
+                    struct zf_refused *refused);
+
+/* Frees what the handle holds, and leaves it empty. An empty one stays empty. */
+void zf_free(struct zf_handle *handle);
+
+/* Whether there is a match in the text from `start` to `end`, or to the text's end where that comes first. Assertions, as ^ and \b, see the
+ * whole text. ZF_FOUND or ZF_DONE; or ZF_EMPTY, ZF_TOO_LONG, ZF_OUTSIDE. The iteration stays as it was. */
+uint32_t zf_is_match(struct zf_handle *handle, const struct zf_bytes *chunks, size_t chunk_count, size_t start, size_t end);
+
+/* The match there: with ZF_FOUND it is written to `found`. Statuses as zf_is_match. The iteration stays as it was. */
+uint32_t zf_find(struct zf_handle *handle, const struct zf_bytes *chunks, size_t chunk_count, size_t start, size_t end,
+                 struct zf_match *found);
+
+/* The same match with its groups. With ZF_FOUND and with ZF_DONE each of the `group_count` places is written: groups[i] is group i of the
+ * pattern that matched, groups[0] the whole match; a group that took no part, or that the pattern doesn't have, is ZF_NONE, and so is each
+ * where there is no match. Under ZF_ALL the groups but for the whole match are ZF_NONE. Statuses as zf_is_match. The iteration stays
+ * as it was. */
+uint32_t zf_find_groups(struct zf_handle *handle, const struct zf_bytes *chunks, size_t chunk_count, size_t start, size_t end,
+                        struct zf_match *found, struct zf_group *groups, size_t group_count);
+
+/* Which patterns have a match in the text from `start` to `end`, or to the text's end where that comes first: marks[p] is 1 where pattern p has
+ * one, and else 0, also where there is no pattern p. A pattern has a match where it spells some span there, whatever the kind is, also where
+ * another pattern is preferred there. With ZF_DONE each of the `mark_count` places is written. ZF_DONE; or ZF_EMPTY, ZF_TOO_LONG, ZF_OUTSIDE. The
+ * iteration stays as it was. */
+uint32_t zf_which_patterns(struct zf_handle *handle, const struct zf_bytes *chunks, size_t chunk_count, size_t start, size_t end,
+                           uint8_t *marks, size_t mark_count);
+
+/* Begins an iteration at the byte `from`. With `follows` on (not 0) a match ended there: an empty match there then gives way to the next.
+ * After zf_compile an iteration begins at 0. ZF_DONE or ZF_EMPTY. */
+uint32_t zf_restart(struct zf_handle *handle, size_t from, uint8_t follows);
+
+/* Fills `batch` with the next matches of the text up to `end`, from left to right, and goes on behind them with the next call. Each match is
+ * sought from where the one before ended, and one that is empty and ends there gives way to the match from a byte later. A batch that isn't
+ * full, progress->count < batch_len, is the last one.
+ *
+ * ZF_DONE, and `progress` is written; or ZF_EMPTY, ZF_TOO_LONG, ZF_OUTSIDE (the place, progress->next of the call before, is behind `end` or
+ * behind the text's end): then the iteration stays as it was.
+ *
+ * The text between two calls. The handle keeps the place and whether a match ended there, and nothing of the text. Each call gives the
+ * matches that the text handed to that call has from the place on, whatever text was handed to the calls before. So as long as the text is
+ * the same, all batches together are the list of its matches, also where it is cut otherwise in each call. After an edit that lies
+ * behind the place, the batches that follow are the matches of the new text from the place on. After an edit before the place, the place
+ * has to be moved with it, by zf_restart(handle, next + what was inserted - what was removed, 1); where it was in what was removed, begin
+ * where the edit does, with `follows` off. A text that has become too short for the place is told: ZF_OUTSIDE. That matches from before
+ * an edit would still be found after it isn't promised: assertions at the place see the bytes before it that the text has now. */
+uint32_t zf_next(struct zf_handle *handle, const struct zf_bytes *chunks, size_t chunk_count, size_t end, struct zf_match *batch,
+                 size_t batch_len, struct zf_progress *progress);
+
+/* How many patterns there are. ZF_DONE or ZF_EMPTY. */
+uint32_t zf_pattern_count(struct zf_handle *handle, size_t *count);
+
+/* How many groups a pattern has, the whole match among them; 0 where there is no such pattern. ZF_DONE; ZF_EMPTY; or ZF_ABSENT, where no
+ * pattern can have that number: above 2,147,483,646. */
+uint32_t zf_group_count(struct zf_handle *handle, size_t pattern, size_t *count);
+
+/* The name of a group, in UTF-8 and without a 0 behind it. ZF_DONE: the first *len bytes of `name` are the name. ZF_SHORT: `name` has fewer
+ * than the *len bytes that the name has, and is as it was. ZF_ABSENT: it has no name, or there is no such pattern or group. ZF_EMPTY. */
+uint32_t zf_group_name(struct zf_handle *handle, size_t pattern, size_t group, uint8_t *name, size_t name_len, size_t *len);
+
+/* The number of the group of that name, from 1 on: the first one where several have it. ZF_DONE; ZF_ABSENT: none has it, or there is no such
+ * pattern; ZF_NOT_UTF8; ZF_EMPTY. */
+uint32_t zf_group_number(struct zf_handle *handle, size_t pattern, const uint8_t *name, size_t name_len, size_t *number);
+
+/* About how many bytes the patterns and their cache take. ZF_DONE or ZF_EMPTY. */
+uint32_t zf_memory(struct zf_handle *handle, size_t *bytes);
+
+#ifdef __cplusplus
+}
+#endif
+
+#endif
