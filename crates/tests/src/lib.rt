@@ -10,10 +10,6 @@ mod faults;
 #[cfg(test)]
 mod grammar;
 #[cfg(test)]
-mod lent;
-#[cfg(test)]
-mod paged;
-#[cfg(test)]
 mod programs;
 #[cfg(test)]
 mod refusals;
