@@ -10,6 +10,10 @@ mod faults;
 #[cfg(test)]
 mod grammar;
 #[cfg(test)]
+mod lent;
+#[cfg(test)]
+mod paged;
+#[cfg(test)]
 mod programs;
 #[cfg(test)]
 mod refusals;
