@@ -3,12 +3,14 @@
 //! The words are the pattern, the length of a chunk in bytes (0 for one chunk), the number of
 //! rounds (3 where it is left out) and what is timed: `matches`, which is the default, `captures` (the
 //! matches with their groups), `texts` (each chunk is searched as a text of its own, in one cache, and
-//! those with a match are counted) or `build` (the pattern is built). With no words it prints nothing.
+//! those with a match are counted), `finds` (the same, each in a cache of its own) or `build` (the
+//! pattern is built). A word more says by what is searched: `all`, which is the default, `plain` (no
+//! needles), `lazy` (no tables of all states) or `pass` (no tables). With no words it prints nothing.
 #![tactic(auto)]
 
 use regex_cursor::Input;
 use regex_cursor::cursor::{ChunkCursor, TooLong};
-use regex_cursor::engines::meta::Regex;
+use regex_cursor::engines::meta::{BuildError, Config, Regex};
 use std::alloc::{AllocError, Global};
 use std::io;
 use std::io::{Read, Write};
@@ -21,7 +23,8 @@ const FAULT: u8 = 2;
 /// The rounds where the words name no number.
 const ROUNDS: u32 = 3;
 
-const USAGE: &str = "usage: bench_find PATTERN CHUNK [ROUNDS [matches|captures|texts|build]]";
+const USAGE: &str =
+    "usage: bench_find PATTERN CHUNK [ROUNDS [matches|captures|texts|finds|build [all|plain|lazy|pass]]]";
 
 /// What is timed.
 #[derive(Clone, Copy)]
@@ -32,8 +35,23 @@ enum What {
     Captures,
     /// A search of each chunk as a text of its own.
     Texts,
+    /// The same, in no cache.
+    Finds,
     /// A build of the pattern.
     Build,
+}
+
+/// By what is searched.
+#[derive(Clone, Copy)]
+enum By {
+    /// What is chosen where nothing is set.
+    All,
+    /// No needles.
+    Plain,
+    /// No needles, and no tables of all states.
+    Lazy,
+    /// No needles, and no tables.
+    Pass,
 }
 
 /// What the words ask for.
@@ -43,6 +61,7 @@ struct Job<'a> {
     chunk_len: usize,
     rounds: u32,
     what: What,
+    by: By,
 }
 
 /// Why the benchmark stopped, once the pattern was built.
@@ -91,30 +110,69 @@ fn what_of(word: &str) -> Option<What> {
         "matches" => Some(What::Matches),
         "captures" => Some(What::Captures),
         "texts" => Some(What::Texts),
+        "finds" => Some(What::Finds),
         "build" => Some(What::Build),
+        _ => None,
+    }
+}
+
+/// By what the word says that is searched.
+fn by_of(word: &str) -> Option<By> {
+    match word {
+        "all" => Some(By::All),
+        "plain" => Some(By::Plain),
+        "lazy" => Some(By::Lazy),
+        "pass" => Some(By::Pass),
         _ => None,
     }
 }
 
 /// What these words ask for, where they ask for at least one round.
 fn job_of<'a>(words: &[&'a str]) -> Option<Job<'a>> {
-    let (pattern, chunk, rounds, what) = match words {
-        [pattern, chunk] => (pattern, chunk, ROUNDS, What::Matches),
-        [pattern, chunk, rounds] => (pattern, chunk, rounds.parse::<u32>().ok()?, What::Matches),
-        [pattern, chunk, rounds, what] => {
-            (pattern, chunk, rounds.parse::<u32>().ok()?, what_of(what)?)
-        }
-        _ => return None,
+    if words.len() < 2 || words.len() > 5 {
+        return None;
+    }
+    let rounds = match words.get(2) {
+        Some(word) => word.parse::<u32>().ok()?,
+        None => ROUNDS,
+    };
+    let what = match words.get(3) {
+        Some(word) => what_of(word)?,
+        None => What::Matches,
+    };
+    let by = match words.get(4) {
+        Some(word) => by_of(word)?,
+        None => By::All,
     };
     if rounds == 0 {
         return None;
     }
     Some(Job {
-        pattern,
-        chunk_len: chunk.parse::<usize>().ok()?,
+        pattern: words[0],
+        chunk_len: words[1].parse::<usize>().ok()?,
         rounds,
         what,
+        by,
     })
+}
+
+/// The settings by which a search goes by this.
+fn config_of(by: By) -> Config {
+    let config = Config::new();
+    match by {
+        By::All => config,
+        By::Plain => config.auto_prefilter(false),
+        By::Lazy => config.auto_prefilter(false).dfa(false),
+        By::Pass => config.auto_prefilter(false).dfa(false).hybrid(false),
+    }
+}
+
+/// The pattern, built so that a search goes by this.
+fn built(alloc: Global, pattern: &str, by: By) -> Result<Regex, BuildError> {
+    let mut builder = Regex::builder();
+    let built = builder.configure(config_of(by)).build(alloc, pattern);
+    drop(builder);
+    built
 }
 
 /// The bytes in chunks of `n` bytes, of which the last may be shorter, or in one chunk where `n` is 0.
@@ -163,9 +221,19 @@ fn count_texts(alloc: Global, regex: &Regex, chunks: &[&[u8]]) -> Result<usize, 
     Ok(count)
 }
 
+/// The same, each searched in a cache that is made for it where one is needed.
+fn count_finds(alloc: Global, regex: &Regex, chunks: &[&[u8]]) -> Result<usize, BenchError> {
+    let mut count: usize = 0;
+    for chunk in chunks {
+        let found = regex.find(alloc, Input::new(*chunk))?;
+        count = count.saturating_add(usize::from(found.is_some()));
+    }
+    Ok(count)
+}
+
 /// The number of patterns that are built, which is one unless memory is refused.
-fn count_built(alloc: Global, pattern: &str) -> usize {
-    let built = Regex::new(alloc, pattern);
+fn count_built(alloc: Global, job: &Job<'_>) -> usize {
+    let built = built(alloc, job.pattern, job.by);
     let count = usize::from(built.is_ok());
     drop(built);
     count
@@ -182,7 +250,8 @@ fn count(
         What::Matches => count_in(alloc, regex, chunks),
         What::Captures => count_captures(alloc, regex, chunks),
         What::Texts => count_texts(alloc, regex, chunks),
-        What::Build => Ok(count_built(alloc, job.pattern)),
+        What::Finds => count_finds(alloc, regex, chunks),
+        What::Build => Ok(count_built(alloc, job)),
     }
 }
 
@@ -245,7 +314,7 @@ fn run_with(rt: &HostRuntime, words: &[&str]) -> u8 {
         let _ = writeln!(rt.stderr(), "{USAGE}");
         return FAULT;
     };
-    match Regex::new(rt.alloc(), job.pattern) {
+    match built(rt.alloc(), job.pattern, job.by) {
         Ok(regex) => {
             let done = bench(rt, &regex, &job);
             drop(regex);

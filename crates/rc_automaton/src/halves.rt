@@ -26,7 +26,8 @@ pub trait Halves {
     ghost GivesUp: { Self → Self.Cache → Self.Cache → ℕ → Bool → Type 0 };
 
     /// Searches forwards from the position `from` up to where the input's bounds end, in bytes of the whole content: what is met last is told;
-    /// with `earliest` the first that is met, and nothing is read beyond it. Where `may_rest` is set, the search may rest where nothing is under way.
+    /// with `earliest` the first that is met, and nothing is read beyond it. Where `may_rest` is set, the search may rest where nothing is under way;
+    /// before the position `rest_from` it is to read on all the same, which is a hint alone.
     fn run_forwards<C: Cursor>(
         &self,
         cache: &mut Self::Cache,
@@ -35,6 +36,7 @@ pub trait Halves {
         from: usize,
         earliest: bool,
         may_rest: bool,
+        rest_from: usize,
     ) -> Ended
         requires cache { IsCache self.now cache.old }
         requires low { low input.old ≤ from }

@@ -8,13 +8,13 @@ use Rattle.rc_states.proofs.TextLemmas.{byte_ahead}
 use Rattle.rc_states.specs.States.{State, best_at}
 use Rattle.rc_automaton.specs.Machine.{Machine, Leads, IsAsked, is_dead}
 use Rattle.rc_automaton.specs.Runs.{MayRead, ahead_at, behind_at, Runs, RunEnd, met_last, stopped_at, idle_at, EndsSo, SearchEnds}
-use Rattle.rc_dense.specs.Cells.{met, skip, quit, row_of}
+use Rattle.rc_dense.specs.Cells.{met, dead, skip, quit, row_of}
 use Rattle.rc_dense.specs.Tables.{Names, cell_at, class_at, column, mode_of, start_at, IsByte, IsTable}
 use Rattle.rc_dense.specs.Searches.{InRow, has_died, noted_by, met_by, told, Course, IsNoted, IsStanding, Stands, Ends}
 use Rattle.rc_dense.specs.declared.table.Table.{Table}
 use Rattle.rc_dense.specs.declared.run.Ended.TheVariants.{Met, Idle, Quit}
 use Rattle.rc_dense.proofs.SideLemmas.{byte_of_piece}
-use Rattle.rc_dense.proofs.MarkLemmas.{named_state, died_or_not, idle_row, is_read, noted_more, told_is, met_at_end, plain_row, plain_note, met_row, met_note, here_is, named_here}
+use Rattle.rc_dense.proofs.MarkLemmas.{named_state, died_or_not, idle_row, is_read, noted_more, told_is, met_at_end, plain_row, plain_note, skip_row, skip_note, met_row, met_note, here_is, named_here}
 
 none_of : (noted : Option (ℕ × ℕ)) → is_some noted ≡ false → noted ≡ None
 none_of None e = refl
@@ -165,6 +165,14 @@ module _ (d : Table) (q : Course) (i row b : ℕ) (noted : Option (ℕ × ℕ)) 
       (subst (λ r. Stands d q (i + 1) (record { row = r; noted = noted_by cell i noted })) (plain_row cell plain)
       (stands_on cell is lt (λ e. omega (arith, e, plain))))
 
+  -- where it has the mark `SKIP` alone
+  pub stands_skip : (cell : ℕ) → cell ≡ cell_at d (row + class_at d b) → i < q.bound → skip ≤ cell → cell < dead →
+      Stands d q (i + 1) (record { row = cell - skip; noted = noted })
+  stands_skip cell is lt le short =
+      subst (λ n. Stands d q (i + 1) (record { row = cell - skip; noted = n })) (skip_note cell i noted short)
+      (subst (λ r. Stands d q (i + 1) (record { row = r; noted = noted_by cell i noted })) (skip_row cell le short)
+      (stands_on cell is lt (λ e. omega (arith, e, short))))
+
   -- where it has that of something met alone
   pub stands_met : (cell : ℕ) → cell ≡ cell_at d (row + class_at d b) → i < q.bound → met ≤ cell → cell - met < skip →
       Stands d q (i + 1) (record { row = cell - met; noted = Some (cell - met, i) })
@@ -276,6 +284,14 @@ module _ (d : Table) (q : Course) (cells classes piece : List ℕ) (start index 
     subst (λ i. Stands d q i (record { row = here; noted = noted })) next_at
         (stands_plain d q (start + index) row (slice_index_or piece index 0) noted x byte (byte_of_piece q.seen.content piece start index is lt) inside here same
         (omega (arith, lt, within)) plain),
+  )
+
+  pub piece_skip : skip ≤ here → here < dead → InRow d (here - skip) × Stands d q (start + (index + 1)) (record { row = here - skip; noted = noted })
+  piece_skip le short = (
+    subst (λ r. InRow d r) (skip_row here le short) (inside_here (λ e. omega (arith, e, short))),
+    subst (λ i. Stands d q i (record { row = here - skip; noted = noted })) next_at
+        (stands_skip d q (start + index) row (slice_index_or piece index 0) noted x byte (byte_of_piece q.seen.content piece start index is lt) inside here same
+        (omega (arith, lt, within)) le short),
   )
 
   pub piece_met : met ≤ here → here - met < skip →

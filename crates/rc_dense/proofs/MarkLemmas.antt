@@ -20,6 +20,13 @@ plain_row cell h = omega (arith, h)
 pub plain_note : (cell i : ℕ) (noted : Option (ℕ × ℕ)) → cell < skip → noted_by cell i noted ≡ noted
 plain_note cell i noted h = rw (lt-leb met cell (omega arith)) refl
 
+-- with the mark `SKIP` alone
+pub skip_row : (cell : ℕ) → skip ≤ cell → cell < dead → row_of cell ≡ cell - skip
+skip_row cell h k = omega (arith, h, k)
+
+pub skip_note : (cell i : ℕ) (noted : Option (ℕ × ℕ)) → cell < dead → noted_by cell i noted ≡ noted
+skip_note cell i noted h = rw (lt-leb met cell (omega (arith, h))) refl
+
 -- with the mark of something met alone
 pub met_row : (cell : ℕ) → met ≤ cell → cell - met < skip → row_of cell ≡ cell - met
 met_row cell h k = omega (arith, h, k)

@@ -268,6 +268,16 @@ fn parts_of(
     })
 }
 
+/// Whether some row has few exits.
+fn have_few(exits: &[Exits]) -> bool {
+    for row in exits {
+        if are_few(*row) {
+            return true;
+        }
+    }
+    false
+}
+
 /// Which rows are marked: those with few exits, and with `rests` those at which searches may rest.
 fn hints_of(
     alloc: Global,
@@ -287,7 +297,7 @@ fn hints_of(
 }
 
 /// A table of all the states that searches by the automaton can reach in this direction. The error `TooBig` comes where what holds the states
-/// weighs more than `limit` bytes, and `Memory` where memory is wanting. With `rests` searches stop to look at the rows at which they may rest.
+/// weighs more than `limit` bytes, and `Memory` where memory is wanting. With `rests` searches that may rest stop to look at the rows at which they may.
 pub(crate) fn table_of(
     alloc: Global,
     automaton: &Automaton,
@@ -304,6 +314,7 @@ pub(crate) fn table_of(
     let mut parts = parts_of(alloc, automaton, direction, limit)?;
     let exits = exits_of(alloc, &classes, &parts.rows.cells, width, direction)?;
     let hints = hints_of(alloc, &exits, &parts.idles, rests)?;
+    let skips = have_few(&exits);
     mark(&mut parts.rows.cells, width, &hints);
     Ok(Table {
         classes,
@@ -313,6 +324,7 @@ pub(crate) fn table_of(
         tells: parts.tells,
         idles: parts.idles,
         exits,
+        skips,
         starts: parts.starts,
     })
 }

@@ -87,8 +87,8 @@ fn table_usage(table: &Table) -> u128
 
 impl Dense {
     /// The tables of the automaton, each of them within `limit` bytes: so much what holds its states may weigh. The error `TooBig` comes where
-    /// the states of one of the two weigh more, and `Memory` where memory is wanting. With `rests` the searches forwards are made to rest
-    /// wherever they may; it slows down those that may not.
+    /// the states of one of the two weigh more, and `Memory` where memory is wanting. With `rests` the searches forwards that may rest
+    /// do so wherever they may.
     pub fn new(
         alloc: Global,
         automaton: &Automaton,
@@ -142,8 +142,17 @@ impl Halves for Dense {
         from: usize,
         earliest: bool,
         may_rest: bool,
+        rest_from: usize,
     ) -> Ended {
-        let ended = forward::run_forwards(&self.forward, input, anchored, from, earliest, may_rest);
+        let ended = forward::run_forwards(
+            &self.forward,
+            input,
+            anchored,
+            from,
+            earliest,
+            may_rest,
+            rest_from,
+        );
         said_forwards(&self.patterns, ended)
     }
 

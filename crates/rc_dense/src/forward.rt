@@ -13,13 +13,24 @@ use crate::look::{cell_of, exits_at, has_died, is_idle, met_at_end, noted_by, ro
 use crate::run::{Ended, Leg, Stand};
 use crate::sides::{byte_ahead, byte_behind};
 use crate::start::start;
-use crate::table::{MET, QUIT, SKIP, Table};
+use crate::table::{DEAD, MET, QUIT, SKIP, Table};
 use rc_text::cursor::Cursor;
 use rc_text::input::{Input, high, piece_from};
 use rc_text::types::Anchored;
 
+/// The position from which on a mark `SKIP` is heeded.
+fn looks_from(table: &Table, may_rest: bool, rest_from: usize) -> usize {
+    if table.skips {
+        return 0;
+    }
+    if may_rest {
+        return rest_from;
+    }
+    usize::MAX
+}
+
 /// Runs over the bytes of a piece from an index on, up to one of which the cell needs a look, and answers how many bytes were read. A mark of something met
-/// needs none where `limit` is `SKIP`, and one where it is 0.
+/// needs none where `limit` is `SKIP`, and one where it is 0; a mark `SKIP` needs one from the position `looks` on.
 #[inline(never)]
 fn run(
     table: &Table,
@@ -28,6 +39,7 @@ fn run(
     start: usize,
     stand: Stand,
     limit: usize,
+    looks: usize,
 ) -> (usize, Stand)
     ghost course: { Course }
     requires row { InRow table.now stand.row }
@@ -50,8 +62,13 @@ fn run(
         let cell = cells[row + classes[piece[index] as usize] as usize];
         if cell < SKIP {
             row = cell;
+        } else if cell < MET {
+            if cell >= DEAD || start + index >= looks {
+                return (index, Stand { row, noted });
+            }
+            row = cell - SKIP;
         } else {
-            if cell < MET || cell - MET >= limit {
+            if cell - MET >= limit {
                 return (index, Stand { row, noted });
             }
             row = cell - MET;
@@ -61,8 +78,16 @@ fn run(
     (piece.len(), Stand { row, noted })
 }
 
-/// Reads one byte, whatever its cell. With `may_rest` the search rests behind it where it may.
-fn step(table: &Table, byte: u8, at: usize, stand: Stand, earliest: bool, may_rest: bool) -> Leg
+/// Reads one byte, whatever its cell. With `may_rest` the search rests behind it where it may, from the position `rest_from` on.
+fn step(
+    table: &Table,
+    byte: u8,
+    at: usize,
+    stand: Stand,
+    earliest: bool,
+    may_rest: bool,
+    rest_from: usize,
+) -> Leg
     ghost course: { Course }
     requires row { InRow table.now stand.row }
     requires stands { Stands table.now course at stand }
@@ -86,7 +111,7 @@ fn step(table: &Table, byte: u8, at: usize, stand: Stand, earliest: bool, may_re
         return Leg::Over(Ended::Met(told(table, noted)));
     }
     let row = row_of(cell);
-    if may_rest && noted.is_none() && is_idle(table, row) {
+    if may_rest && at >= rest_from && noted.is_none() && is_idle(table, row) {
         return Leg::Over(Ended::Idle(at + 1));
     }
     Leg::Through(Stand { row, noted })
@@ -102,7 +127,7 @@ fn pass(table: &Table, piece: &[u8], start: usize, stand: Stand, may_rest: bool)
     ensures within { result ≤ length piece.now }
     ensures stands { Stands table.now course (start + result) stand }
 {
-    if may_rest && is_idle(table, stand.row) {
+    if !table.skips || may_rest && is_idle(table, stand.row) {
         return 0;
     }
     first_exit(exits_at(table, stand.row), piece)
@@ -117,6 +142,7 @@ fn cross<C: Cursor>(
     begin: Stand,
     earliest: bool,
     may_rest: bool,
+    rest_from: usize,
 ) -> Leg
     ghost course: { Course }
     requires row { InRow table.now begin.row }
@@ -131,15 +157,17 @@ fn cross<C: Cursor>(
     ensures leg { IsLeg table.now course end result }
 {
     let limit = if earliest { 0 } else { SKIP };
+    let looks = looks_from(table, may_rest, rest_from);
     let mut stand = begin;
     let mut at = from;
     while at < end {
         let piece = piece_from(input, at, end);
         let passed = pass(table, piece, at, stand, may_rest);
-        let (read, next) = run(table, piece, passed, at, stand, limit);
+        let (read, next) = run(table, piece, passed, at, stand, limit, looks);
         stand = next;
         if read < piece.len() {
-            match step(table, piece[read], at + read, stand, earliest, may_rest) {
+            let byte = piece[read];
+            match step(table, byte, at + read, stand, earliest, may_rest, rest_from) {
                 Leg::Through(next) => {
                     stand = next;
                     at += read + 1;
@@ -210,6 +238,7 @@ fn search<C: Cursor>(
     end: usize,
     earliest: bool,
     may_rest: bool,
+    rest_from: usize,
 ) -> Ended
     ghost course: { Course }
     requires course { course ≡ record { seen = input.old; from = from; bound = end; anchored = anchored; earliest = earliest; may_rest = may_rest } }
@@ -225,7 +254,9 @@ fn search<C: Cursor>(
         Leg::Through(stand) => stand,
         Leg::Over(ended) => return ended,
     };
-    match cross(table, input, from, end, stand, earliest, may_rest) {
+    match cross(
+        table, input, from, end, stand, earliest, may_rest, rest_from,
+    ) {
         Leg::Through(last) => finish(table, input, end, last),
         Leg::Over(ended) => ended,
     }
@@ -233,7 +264,7 @@ fn search<C: Cursor>(
 
 /// Searches forwards by the table, from the position `from` up to where the input's bounds end, in bytes of the whole content, wherever it is
 /// cut: what is met last is told, with its position; with `earliest` the first that is met, and nothing is read beyond it. Where `may_rest` is set, the search may end behind a byte
-/// that it read, where nothing was met and nothing is under way. A byte that the table doesn't read ends the search. Nothing is copied, and no memory is taken.
+/// that it read, where nothing was met and nothing is under way; before `rest_from` it reads on. A byte that the table doesn't read ends the search. Nothing is copied, and no memory is taken.
 pub fn run_forwards<C: Cursor>(
     table: &Table,
     input: &mut Input<C>,
@@ -241,6 +272,7 @@ pub fn run_forwards<C: Cursor>(
     from: usize,
     earliest: bool,
     may_rest: bool,
+    rest_from: usize,
 ) -> Ended
     requires low { low input.old ≤ from }
     requires high { from ≤ high input.old }
@@ -250,5 +282,7 @@ pub fn run_forwards<C: Cursor>(
     ensures byte { MayEnd input.old.content may_rest result }
 {
     let end = high(input);
-    search(table, input, anchored, from, end, earliest, may_rest)
+    search(
+        table, input, anchored, from, end, earliest, may_rest, rest_from,
+    )
 }

@@ -24,6 +24,8 @@ pub struct Table {
     pub idles: Vec<bool>,
     /// For each row the bytes that lead away from it, where searches pass over the others; none are told where they read each byte.
     pub exits: Vec<Exits>,
+    /// Whether some row has few exits. Where none has, and a search may not rest, it heeds no mark `SKIP`.
+    pub skips: bool,
     /// The rows in which searches begin: for each way of anchoring, the class of the byte beside and the end of what is seen.
     pub starts: Vec<usize>,
     ghost classed: { (length classes.items ≡ 256) × All (λ c. c < width) classes.items },

@@ -4,6 +4,7 @@ pub mod Jumps
 pub mod Limits
 pub mod Makes
 pub mod Narrow
+pub mod Needed
 pub mod Plans
 pub mod Slots
 pub mod Spans

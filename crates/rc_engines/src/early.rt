@@ -13,7 +13,6 @@ use crate::cache::Cache;
 use crate::engines::{Engines, half_of};
 use crate::last::{find_greatest_from_end, seeks_greatest_from_end};
 use crate::needles::find_early_guarded;
-use crate::tables::fast_guards_of;
 use rc_automaton::halves::Halves;
 use rc_dense::dense::NoCache;
 use rc_engine::engine::Engine;
@@ -106,8 +105,8 @@ fn find_by_tables<H: Halves, C: Cursor>(
         earliest: input.get_earliest(),
         ..engines.aim()
     };
-    match fast_guards_of(&engines.engine.strategy) {
-        Some(needles) => find_early_guarded(halves, cache, input, aim, needles),
+    match engines.guard() {
+        Some(guard) => find_early_guarded(halves, cache, input, aim, guard),
         None => find(halves, cache, input, aim),
     }
 }

@@ -3,6 +3,7 @@ ghost use Rattle.std.specs.Prelude.{◌≡◌, IfSome, IsTrue, option_map};
 ghost use Rattle.rc_text.specs.Found.{half_of};
 ghost use Rattle.rc_program.specs.Matches.{begin_of, end_of, is_again};
 ghost use Rattle.rc_program.specs.Places.{places_of};
+ghost use Rattle.rc_engines.specs.Needed.{NeedsConfine};
 ghost use Rattle.rc_engines.specs.Slots.{NamesGroups};
 ghost use Rattle.rc_engines.specs.Spans.{BoundsWalks};
 ghost use Rattle.rc_engines.specs.Tables.{MayBeLazyFor, MayBeTablesFor};
@@ -21,7 +22,7 @@ use rc_engine::engine::Engine;
 use rc_engine::strategy::guards_of;
 use rc_lazy::lazy;
 use rc_lazy::lazy::Lazy;
-use rc_literal::prefilter::Prefilter;
+use rc_guards::guard::{Guard, Needs};
 use rc_pass::which::which_patterns;
 use rc_patterns::sets::PatternSet;
 use rc_spans::guarded::{find_end_guarded, find_guarded};
@@ -64,10 +65,13 @@ pub struct Engines {
     pub(crate) lazy: Option<Lazy>,
     pub(crate) patterns: usize,
     pub(crate) spans: Spans,
+    /// Needles that each match holds, where searches go by them.
+    pub(crate) needs: Option<Needs>,
     ghost fit: { ∥ MayBeTablesFor engine patterns tables ∥₁ },
     ghost lazy_fit: { ∥ MayBeLazyFor engine patterns lazy ∥₁ },
     ghost numbered: { NamesGroups patterns (places_of engine.program.places.items) },
     ghost bound: { BoundsWalks spans (places_of engine.program.places.items) },
+    ghost needed: { NeedsConfine needs (places_of engine.program.places.items) engine.program.terminator },
 }
 
 impl Engines {
@@ -75,8 +79,7 @@ impl Engines {
     ghost use Rattle.std.specs.Option.{option_map};
     ghost use Rattle.rc_text.specs.Found.{Found, half_of};
     ghost use Rattle.rc_pattern.specs.Re.{Re};
-    ghost use Rattle.rc_literal.specs.Guards.{Guards};
-    ghost use Rattle.rc_literal.specs.Prefilters.{needles_of};
+    ghost use Rattle.rc_guards.specs.Guard.{IsGuard};
     ghost use Rattle.rc_engine.specs.Walks.{next_start};
     ghost use Rattle.rc_captures.specs.Captures.{captures_names, captures_pattern, captures_slots};
     ghost use Rattle.rc_engine.specs.Tells.{TellsBy};
@@ -91,6 +94,7 @@ impl Engines {
     ghost use Rattle.rc_engine.specs.Moved.{IsMoved};
     ghost use Rattle.rc_text.specs.declared.types.MatchKind.TheVariants.{LeftmostFirst};
     ghost use Rattle.rc_engines.specs.Caches.{IsCacheIn, IsCacheOfBoth, IsSameCacheIn, KeepsStates};
+    ghost use Rattle.rc_engines.specs.Needed.{NeedsConfine};
     ghost use Rattle.rc_engines.specs.Limits.{AreBarred, AreTooHeavy, IsLazyBarred};
     ghost use Rattle.rc_engines.specs.Plans.{IsLazyFor, IsShortFor, plan_of};
     ghost use Rattle.rc_engines.specs.Spans.{BoundsWalks, IsOneLength, SeeksFromEnd};
@@ -101,16 +105,18 @@ impl Engines {
     /// Tables of all states are made where `dfa` is set, the byte program has no more places than `state_limit`, and in each direction what holds
     /// the states weighs no more than `size_limit`; and none where needles alone tell each answer. Where none are, tables whose states are made
     /// as they are met are there if `hybrid` is set and `capacity` is no less than the least that serves. `spans` is what the patterns' spans
-    /// keep to.
+    /// keep to, and `needs` what each match holds, by which searches go where no needles guard them that are sought fast.
     pub fn new(
         alloc: Global,
         engine: Engine,
         patterns: usize,
         spans: Spans,
+        needs: Option<Needs>,
         limits: Limits,
     ) -> Result<Engines, AllocError>
         ghost hs: { List Re }
         requires spans { BoundsWalks spans (places_of engine.program.places.items) }
+        requires needs { NeedsConfine needs (places_of engine.program.places.items) engine.program.terminator }
         requires program { places_of engine.program.places.items ≡ program hs }
         requires patterns { patterns ≡ length hs }
         requires light { heaviness (places_of engine.program.places.items) ≤ 2147483646 }
@@ -121,13 +127,14 @@ impl Engines {
         ensures lazy_barred { IfOk result (λ engines. IsLazyBarred engine limits engines.tables → engines.lazy ≡ None) }
         ensures lazy_none { IfOk result (λ engines. engines.lazy ≡ None → IsLazyBarred engine limits engines.tables ⊎ IsShortFor (plan_of engine hs limits)) }
     {
-        let tables = tables_of(alloc, &engine, patterns, limits)?;
+        let tables = tables_of(alloc, &engine, needs.is_some(), patterns, limits)?;
         Ok(Engines {
             engine,
             tables: tables.dense,
             lazy: tables.lazy,
             patterns,
             spans,
+            needs,
         })
     }
 
@@ -174,6 +181,20 @@ impl Engines {
             patterns: self.patterns,
             passes_over: self.engine.program.passes_over,
             earliest: false,
+        }
+    }
+
+    /// By what a search by tables goes from needle to needle: by those where walks begin, where these are sought fast, else by those that each match
+    /// holds.
+    pub(crate) fn guard(&self) -> Option<Guard>
+        ensures { MatchOption result ⊤ (IsGuard (places_of self.now.engine.program.places.items) self.now.engine.program.terminator) }
+    {
+        if let Some(needles) = fast_guards_of(&self.engine.strategy) {
+            return Some(Guard::Begins(needles));
+        }
+        match &self.needs {
+            Some(needs) => Some(Guard::Holds(needs)),
+            None => None,
         }
     }
 
@@ -230,19 +251,22 @@ impl Engines {
         if let Some(length) = self.only_length() {
             return self.find_of_length(halves, cache, input, length);
         }
-        let fast = fast_guards_of(&self.engine.strategy);
-        match self.find_along(halves, cache, input, fast) {
+        let guard = self.guard();
+        match self.find_along(halves, cache, input, guard) {
             Ok(found) => Ok(found),
             Err(MatchError::GaveUp { offset, memory }) => {
                 return Err(MatchError::GaveUp { offset, memory });
             }
             Err(MatchError::Quit { byte, offset }) => {
                 // From needle to needle fewer bytes are read, and so fewer that tables don't read.
-                let guards = guards_of(&self.engine.strategy);
-                if fast.is_some() || guards.is_none() {
+                if guard.is_some() {
                     return Err(MatchError::Quit { byte, offset });
                 }
-                let found = self.find_along(halves, cache, input, guards)?;
+                let Some(needles) = guards_of(&self.engine.strategy) else {
+                    return Err(MatchError::Quit { byte, offset });
+                };
+                let slow = Some(Guard::Begins(needles));
+                let found = self.find_along(halves, cache, input, slow)?;
                 Ok(found)
             }
         }
@@ -254,19 +278,19 @@ impl Engines {
         halves: &H,
         cache: &mut H::Cache,
         input: &mut Input<C>,
-        needles: Option<&Prefilter>,
+        guard: Option<Guard>,
     ) -> Result<Option<Match>, MatchError>
         requires own { ∥ AreHalvesFor self.now.engine self.now.patterns (H.AreOf halves.now) ∥₁ }
         requires cache { H.IsCache halves.now cache.old }
-        requires guards { MatchOption needles ⊤ (λ p. Guards (places_of self.now.engine.program.places.items) self.now.engine.program.terminator (needles_of p.now)) }
+        requires guards { MatchOption guard ⊤ (IsGuard (places_of self.now.engine.program.places.items) self.now.engine.program.terminator) }
         ensures cache { H.IsCache halves.now cache.new }
         ensures keeps { Keeps input.old input.new }
         ensures found { IfOk result (λ found. found ≡ answer_by self.now.engine.kind (engine_search self.now.engine input.old)) }
         ensures within { IfOk result (λ found. IfSome found (λ m. (low input.old ≤ m.start) × (m.start ≤ m.end) × (m.end ≤ high input.old))) }
     {
         let aim = self.aim();
-        match needles {
-            Some(needles) => find_guarded(halves, cache, input, aim, needles),
+        match guard {
+            Some(guard) => find_guarded(halves, cache, input, aim, guard),
             None => search::find(halves, cache, input, aim),
         }
     }
@@ -287,8 +311,8 @@ impl Engines {
         ensures within { IfOk result (λ found. IfSome found (λ half. (low input.old ≤ half.offset) × (half.offset ≤ high input.old))) }
     {
         let aim = self.aim();
-        match fast_guards_of(&self.engine.strategy) {
-            Some(needles) => find_end_guarded(halves, cache, input, aim, needles),
+        match self.guard() {
+            Some(guard) => find_end_guarded(halves, cache, input, aim, guard),
             None => search::find_end(halves, cache, input, aim),
         }
     }
@@ -376,8 +400,8 @@ impl Engines {
             earliest: true,
             ..self.aim()
         };
-        if let Some(needles) = fast_guards_of(&self.engine.strategy) {
-            let found = find_early_guarded(halves, cache, input, aim, needles)?;
+        if let Some(guard) = self.guard() {
+            let found = find_early_guarded(halves, cache, input, aim, guard)?;
             return Ok(found.is_some());
         }
         let half = search::find_end(halves, cache, input, aim)?;

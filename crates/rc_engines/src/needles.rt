@@ -4,8 +4,7 @@ ghost use Rattle.rc_text.specs.Text.{Keeps, low, high};
 ghost use Rattle.rc_text.specs.declared.types.Anchored.TheVariants.{No};
 ghost use Rattle.rc_pattern.specs.Re.{Re};
 ghost use Rattle.rc_program.specs.Program.{program};
-ghost use Rattle.rc_literal.specs.Guards.{Guards};
-ghost use Rattle.rc_literal.specs.Prefilters.{needles_of};
+ghost use Rattle.rc_guards.specs.Guard.{IsGuard};
 ghost use Rattle.rc_states.specs.TableKinds.{IsAnswerBy};
 ghost use Rattle.rc_spans.specs.Aims.{AreHalvesOf, search_for};
 ghost use Rattle.rc_spans.specs.Legs.{GoesByNeedles};
@@ -14,8 +13,7 @@ ghost use Rattle.rc_engines.specs.Jumps.{ComesOn, GoesEarly, Tells, idle_leg, le
 
 use rc_automaton::ended::{Ended, Met};
 use rc_automaton::halves::Halves;
-use rc_literal::literal::find_from;
-use rc_literal::prefilter::Prefilter;
+use rc_guards::guard::{Guard, next_start};
 use rc_spans::search::{Aim, find};
 use rc_states::kind::TableKind;
 use rc_text::cursor::Cursor;
@@ -65,13 +63,14 @@ fn leg_of(ended: Ended, from: usize, bound: usize) -> Result<Leg, MatchError>
     }
 }
 
-/// What a run from a needle on tells, which stops at the first position at which a match ends.
+/// What a run from one position on tells, which stops at the first position at which a match ends. It may rest, from `rest_from` on.
 fn run_leg<H: Halves, C: Cursor>(
     halves: &H,
     cache: &mut H::Cache,
     input: &mut Input<C>,
     from: usize,
     bound: usize,
+    rest_from: usize,
 ) -> Result<Leg, MatchError>
     requires cache { H.IsCache halves.now cache.old }
     requires low { low input.old ≤ from }
@@ -85,7 +84,7 @@ fn run_leg<H: Halves, C: Cursor>(
     ensures on { IfOk result (ComesOn from bound) }
 {
     leg_of(
-        halves.run_forwards(cache, input, Anchored::No, from, true, true),
+        halves.run_forwards(cache, input, Anchored::No, from, true, true, rest_from),
         from,
         bound,
     )
@@ -96,7 +95,7 @@ fn start_by_needles<H: Halves, C: Cursor>(
     halves: &H,
     cache: &mut H::Cache,
     input: &mut Input<C>,
-    needles: &Prefilter,
+    guard: Guard,
     lo: usize,
     hi: usize,
 ) -> Result<Option<usize>, MatchError>
@@ -106,20 +105,20 @@ fn start_by_needles<H: Halves, C: Cursor>(
     ensures cache { H.IsCache halves.now cache.new }
     ensures keeps { Keeps input.old input.new }
     ensures none { (aim : Aim) (hs : List Re) (terminator : ℕ) (of : AreHalvesOf (H.AreOf halves.now) aim hs terminator) → GoesByNeedles aim input.old.anchored
-        → Guards (program hs) terminator (needles_of needles.now)
+        → IsGuard (program hs) terminator guard.entry
         → IfOk result (λ o. IfNone o (StartsGive of.ahead (search_for aim hs terminator input.old) lo None)) }
     ensures some { (aim : Aim) (hs : List Re) (terminator : ℕ) (of : AreHalvesOf (H.AreOf halves.now) aim hs terminator) → GoesByNeedles aim input.old.anchored
-        → Guards (program hs) terminator (needles_of needles.now)
+        → IsGuard (program hs) terminator guard.entry
         → IfOk result (λ o. IfSome o (λ from. GivesToo of.ahead (search_for aim hs terminator input.old) from lo)) }
     ensures within { IfOk result (λ o. IfSome o (λ from. (lo ≤ from) × (from ≤ hi))) }
 {
     let mut at = lo;
     'runs: loop {
-        let Some(hit) = find_from(input, needles, at, hi) else {
+        let Some(start) = next_start(input, guard, at, hi) else {
             return Ok(None);
         };
-        let from = hit.start;
-        match run_leg(halves, cache, input, from, hi)? {
+        let from = start.from;
+        match run_leg(halves, cache, input, from, hi, start.needle)? {
             Leg::Nowhere => return Ok(None),
             Leg::Here => return Ok(Some(from)),
             Leg::Later(i) => {
@@ -145,13 +144,13 @@ fn find_by_needles<H: Halves, C: Cursor>(
     cache: &mut H::Cache,
     input: &mut Input<C>,
     aim: Aim,
-    needles: &Prefilter,
+    guard: Guard,
 ) -> Result<Option<Match>, MatchError>
     requires cache { H.IsCache halves.now cache.old }
     requires goes { GoesEarly aim input.old.anchored }
     ensures cache { H.IsCache halves.now cache.new }
     ensures keeps { Keeps input.old input.new }
-    ensures found { (hs : List Re) (terminator : ℕ) → AreHalvesOf (H.AreOf halves.now) aim hs terminator → Guards (program hs) terminator (needles_of needles.now)
+    ensures found { (hs : List Re) (terminator : ℕ) → AreHalvesOf (H.AreOf halves.now) aim hs terminator → IsGuard (program hs) terminator guard.entry
         → IfOk result (IsAnswerBy aim.kind aim.earliest (search_for aim hs terminator input.old)) }
     ensures within { IfOk result (λ found. IfSome found (λ m. (low input.old ≤ m.start) × (m.start ≤ m.end) × (m.end ≤ high input.old))) }
 {
@@ -160,7 +159,7 @@ fn find_by_needles<H: Halves, C: Cursor>(
     if lo > hi {
         return Ok(None);
     }
-    let Some(from) = start_by_needles(halves, cache, input, needles, lo, hi)? else {
+    let Some(from) = start_by_needles(halves, cache, input, guard, lo, hi)? else {
         return Ok(None);
     };
     let span = input.get_span();
@@ -170,7 +169,7 @@ fn find_by_needles<H: Halves, C: Cursor>(
     found
 }
 
-/// The match that `find` finds, by needles that guard the patterns: no match begins where none of them stands. A search that isn't anchored goes
+/// The match that `find` finds, by needles that guard the patterns: each match begins with one of them, or holds one. A search that isn't anchored goes
 /// from needle to needle wherever nothing is under way, if any match is enough, none is passed over, and not each match counts. Each other search
 /// is that of `find`.
 pub(crate) fn find_early_guarded<H: Halves, C: Cursor>(
@@ -178,17 +177,17 @@ pub(crate) fn find_early_guarded<H: Halves, C: Cursor>(
     cache: &mut H::Cache,
     input: &mut Input<C>,
     aim: Aim,
-    needles: &Prefilter,
+    guard: Guard,
 ) -> Result<Option<Match>, MatchError>
     requires cache { H.IsCache halves.now cache.old }
     ensures cache { H.IsCache halves.now cache.new }
     ensures keeps { Keeps input.old input.new }
-    ensures found { (hs : List Re) (terminator : ℕ) → AreHalvesOf (H.AreOf halves.now) aim hs terminator → Guards (program hs) terminator (needles_of needles.now)
+    ensures found { (hs : List Re) (terminator : ℕ) → AreHalvesOf (H.AreOf halves.now) aim hs terminator → IsGuard (program hs) terminator guard.entry
         → IfOk result (IsAnswerBy aim.kind aim.earliest (search_for aim hs terminator input.old)) }
     ensures within { IfOk result (λ found. IfSome found (λ m. (low input.old ≤ m.start) × (m.start ≤ m.end) × (m.end ≤ high input.old))) }
 {
     if goes_early(aim, input.get_anchored()) {
-        return find_by_needles(halves, cache, input, aim, needles);
+        return find_by_needles(halves, cache, input, aim, guard);
     }
     find(halves, cache, input, aim)
 }

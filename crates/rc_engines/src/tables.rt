@@ -65,9 +65,12 @@ pub(crate) fn fast_guards_of(strategy: &Strategy) -> Option<&Prefilter>
     }
 }
 
-/// Whether searches by tables of all states are to rest between needles: where these are sought fast, and where some byte isn't read, since a
-/// search that met one goes from needle to needle.
-fn are_to_rest(strategy: &Strategy, automaton: &Automaton) -> bool {
+/// Whether searches by tables of all states are to rest between needles: where each match holds one, where those with which each begins are sought
+/// fast, and where some byte isn't read, since a search that met one goes from needle to needle.
+fn are_to_rest(strategy: &Strategy, needed: bool, automaton: &Automaton) -> bool {
+    if needed {
+        return true;
+    }
     match guards_of(strategy) {
         Some(needles) => needles.is_fast() || !automaton.may_read(Some(128)),
         None => false,
@@ -84,11 +87,12 @@ fn is_tabled(kind: MatchKind) -> bool
     }
 }
 
-/// The tables of all states of the automaton, which is that of so many patterns by their engine's program, where the limits allow some. An
-/// `Err` is want of memory.
+/// The tables of all states of the automaton, which is that of so many patterns by their engine's program, where the limits allow some; with `needed`
+/// searches go by needles that each match holds. An `Err` is want of memory.
 fn dense_of(
     alloc: Global,
     engine: &Engine,
+    needed: bool,
     automaton: &Automaton,
     patterns: usize,
     limits: Limits,
@@ -109,7 +113,7 @@ fn dense_of(
     if exceeds(automaton.places_len(), limits.state_limit) {
         return Ok(None);
     }
-    let rests = are_to_rest(&engine.strategy, automaton);
+    let rests = are_to_rest(&engine.strategy, needed, automaton);
     match Dense::new(alloc, automaton, limits.size_limit, rests) {
         Ok(tables) => Ok(Some(tables)),
         Err(TableError::TooBig) => Ok(None),
@@ -134,10 +138,12 @@ fn lazy_of(automaton: Automaton, limits: Limits) -> Option<Lazy>
 }
 
 /// The tables of so many patterns by their engine's program, where the limits allow some. Where needles alone tell each answer, none are
-/// made, nor for the longest match of the least start, which no tables find. An `Err` is want of memory.
+/// made, nor for the longest match of the least start, which no tables find. With `needed` searches go by needles that each match holds. An `Err` is want of
+/// memory.
 pub(crate) fn tables_of(
     alloc: Global,
     engine: &Engine,
+    needed: bool,
     patterns: usize,
     limits: Limits,
 ) -> Result<Tables, AllocError>
@@ -173,7 +179,7 @@ pub(crate) fn tables_of(
         table_kind(engine.kind),
         limits.byte_classes,
     )?;
-    let dense = dense_of(alloc, engine, &automaton, patterns, limits)?;
+    let dense = dense_of(alloc, engine, needed, &automaton, patterns, limits)?;
     if dense.is_some() {
         return Ok(Tables { dense, lazy: None });
     }

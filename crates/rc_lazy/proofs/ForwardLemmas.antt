@@ -9,7 +9,7 @@ use Rattle.rc_automaton.specs.Machine.{Leads, Begins, is_dead, is_idle}
 use Rattle.rc_automaton.specs.Runs.{MayRead, ahead_at, behind_at, Runs, RunEnd, met_last, stopped_at, idle_at, EndsSo, SearchEnds}
 use Rattle.rc_lazy.specs.Cells.{unknown, met, quit, row_of, has_died}
 use Rattle.rc_lazy.specs.Stores.{Frame, Held, IsRow, Names, IsKnown, Spends}
-use Rattle.rc_lazy.specs.Courses.{Course, text_in, all_spent, IsStanding, StandsAt, StandsNoted, IsAt}
+use Rattle.rc_lazy.specs.Courses.{Course, text_in, all_spent, IsStanding, StandsAt, StandsNoted, IsAt, IsOver}
 use Rattle.rc_lazy.specs.Halves.{IsHalf}
 use Rattle.rc_lazy.specs.declared.half.Half.{Half}
 use Rattle.rc_lazy.specs.declared.run.Stand.{Stand}
@@ -17,6 +17,8 @@ use Rattle.rc_lazy.specs.declared.store.Store.{Store}
 use Rattle.rc_lazy.proofs.RowLemmas.{row_inside}
 use Rattle.rc_lazy.proofs.SideLemmas.{byte_of_piece}
 use Rattle.rc_lazy.specs.SpendLaws.{spends_both, spends_within}
+use Rattle.rc_automaton.specs.declared.ended.Ended.TheVariants.{Idle}
+use Rattle.rc_lazy.proofs.SpendLemmas.{over_done}
 use Rattle.rc_lazy.proofs.StepLemmas.{cell_says}
 use Rattle.rc_lazy.proofs.NameLemmas.{is_read, died_or_not, met_or_not, row_going, row_met, named_row}
 
@@ -339,3 +341,11 @@ at_moved q h0 h i k stand0 stand here store scratch stands =
           (spends_within q.frame q.begun h0.store (i - q.from + 1) (i + k - q.from + 1) (omega arith) here.spends);
       stands = subst (λ (s : Store). StandsAt q s (i + k) stand) (sym store) stands;
     }
+
+-- where it stands nothing was met, and nothing is under way
+pub rests_here : (q : Course) (h : Half) (i : ℕ) (stand : Stand) → IsAt q h i stand → i ≤ q.bound → q.may_rest ≡ true → is_some stand.met ≡ false →
+    ((s : State) → IsRow q.frame.width h.store.states stand.row s → is_idle s ≡ true) → IsOver q h (Idle i)
+rests_here q h i stand here le may none idle =
+    let low = here.low in
+    over_done q h (i - q.from + 1) (Idle i) here.half here.spends (omega (arith, low, le))
+    (may, rests q i here.stands.state stand.met here.stands.standing le none (idle here.stands.state here.stands.in_row)) refl

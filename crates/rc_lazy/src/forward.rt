@@ -1,10 +1,11 @@
 //! Searches forwards by a table that grows.
-ghost use Rattle.std.specs.Prelude.{◌≡◌, ◌+◌, ◌-◌, ◌<◌, ◌≤◌, Bool, Some, IfSome, length, slice_range, slice_get};
+ghost use Rattle.std.specs.Prelude.{◌≡◌, ◌+◌, ◌-◌, ◌<◌, ◌≤◌, Bool, true, false, Some, IfSome, IsTrue, is_some, length, slice_range, slice_get};
 ghost use Rattle.rc_text.specs.Text.{Keeps, high, low, slice_end};
 ghost use Rattle.rc_automaton.specs.declared.automaton.Direction.TheVariants as direction;
-ghost use Rattle.rc_automaton.specs.Machine.{IsAsked};
+ghost use Rattle.rc_automaton.specs.Machine.{IsAsked, is_idle};
+ghost use Rattle.rc_states.specs.States.{State};
 ghost use Rattle.rc_automaton.specs.Runs.{behind_at};
-ghost use Rattle.rc_lazy.specs.Stores.{Held, Spends, frame_of};
+ghost use Rattle.rc_lazy.specs.Stores.{Frame, Held, IsRow, Spends, frame_of};
 ghost use Rattle.rc_automaton.specs.Automata.{machine_of};
 ghost use Rattle.rc_automaton.specs.Ended.{HasEnded, gave_up};
 ghost use Rattle.rc_program.specs.Sought.{text_of};
@@ -21,6 +22,29 @@ use rc_automaton::ended::Ended;
 use rc_text::cursor::Cursor;
 use rc_text::input::{Input, high, piece_from};
 use rc_text::types::Anchored;
+
+/// How many bytes a search that may rest reads before it looks whether it does.
+const REACH: usize = 128;
+
+/// Up to where a search reads on before it looks whether it rests.
+fn reach(at: usize, end: usize, may_rest: bool, rest_from: usize) -> usize
+    requires { at < end }
+    ensures { (at < result) × (result ≤ end) }
+{
+    if !may_rest {
+        return end;
+    }
+    at.max(rest_from).saturating_add(REACH).min(end)
+}
+
+/// Whether nothing was met, and nothing is under way but walks that begin there or later.
+fn is_idle_at(half: &Half, stand: Stand) -> bool
+    ghost f: { Frame }
+    requires held { Held f half.now.store }
+    ensures { IsTrue result → (is_some stand.met ≡ false) × ((s : State) → IsRow f.width half.now.store.states stand.row s → is_idle s ≡ true) }
+{
+    stand.met.is_none() && half.store.idles_at(stand.row)
+}
 
 /// Runs over the bytes of a piece, up to one of which the cell needs a look, and answers how many were read. A cell that tells of something
 /// met needs none where `limit` is `UNKNOWN`, and one where it is 0.
@@ -67,7 +91,7 @@ fn run(
     (piece.len(), Stand { row, met })
 }
 
-/// Reads one byte, whatever its cell. With `may_rest` the search rests behind it where it may.
+/// Reads one byte, whatever its cell. With `may_rest` the search rests behind it where it may, from the position `rest_from` on.
 fn step(
     automaton: &Automaton,
     half: &mut Half,
@@ -76,6 +100,7 @@ fn step(
     stand: Stand,
     earliest: bool,
     may_rest: bool,
+    rest_from: usize,
 ) -> Leg
     ghost course: { Course }
     requires same { frame_of automaton.now direction.Forwards ≡ course.frame }
@@ -104,7 +129,7 @@ fn step(
         return Leg::Over(found(automaton, met));
     }
     let row = row_of(cell);
-    if may_rest && met.is_none() && half.store.idles_at(row) {
+    if may_rest && at >= rest_from && met.is_none() && half.store.idles_at(row) {
         return Leg::Over(Ended::Idle(at + 1));
     }
     Leg::Through(Stand { row, met })
@@ -120,6 +145,7 @@ fn cross<C: Cursor>(
     begin: Stand,
     earliest: bool,
     may_rest: bool,
+    rest_from: usize,
 ) -> Leg
     ghost course: { Course }
     requires same { frame_of automaton.now direction.Forwards ≡ course.frame }
@@ -137,7 +163,8 @@ fn cross<C: Cursor>(
     let mut stand = begin;
     let mut at = from;
     while at < end {
-        let piece = piece_from(input, at, end);
+        let until = reach(at, end, may_rest, rest_from);
+        let piece = piece_from(input, at, until);
         let (read, next) = run(automaton, &half.store, piece, at, stand, limit);
         half.serve(read);
         stand = next;
@@ -150,6 +177,7 @@ fn cross<C: Cursor>(
                 stand,
                 earliest,
                 may_rest,
+                rest_from,
             ) {
                 Leg::Through(next) => {
                     stand = next;
@@ -159,6 +187,9 @@ fn cross<C: Cursor>(
             }
         } else {
             at += read;
+            if may_rest && at >= rest_from && is_idle_at(half, stand) {
+                return Leg::Over(Ended::Idle(at));
+            }
         }
     }
     Leg::Through(stand)
@@ -243,6 +274,7 @@ pub(crate) fn search<C: Cursor>(
     end: usize,
     earliest: bool,
     may_rest: bool,
+    rest_from: usize,
 ) -> Ended
     ghost course: { Course }
     requires course { course ≡ record { frame = frame_of automaton.now direction.Forwards; begun = half.old.store; seen = input.old; from = from; bound = end; anchored = anchored.now; earliest = earliest; may_rest = may_rest } }
@@ -259,7 +291,9 @@ pub(crate) fn search<C: Cursor>(
         Leg::Through(stand) => stand,
         Leg::Over(ended) => return ended,
     };
-    match cross(automaton, half, input, from, end, stand, earliest, may_rest) {
+    match cross(
+        automaton, half, input, from, end, stand, earliest, may_rest, rest_from,
+    ) {
         Leg::Through(last) => finish(automaton, half, input, end, last),
         Leg::Over(ended) => ended,
     }
@@ -274,6 +308,7 @@ pub(crate) fn run_forwards<C: Cursor>(
     from: usize,
     earliest: bool,
     may_rest: bool,
+    rest_from: usize,
 ) -> Ended
     requires half { IsHalf (frame_of automaton.now direction.Forwards) half.old }
     requires asked { IsAsked (machine_of automaton.now direction.Forwards) anchored.now }
@@ -288,6 +323,6 @@ pub(crate) fn run_forwards<C: Cursor>(
 {
     let end = high(input);
     search(
-        automaton, half, input, anchored, from, end, earliest, may_rest,
+        automaton, half, input, anchored, from, end, earliest, may_rest, rest_from,
     )
 }

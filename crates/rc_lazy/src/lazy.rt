@@ -169,6 +169,7 @@ impl Halves for Lazy {
         from: usize,
         earliest: bool,
         may_rest: bool,
+        rest_from: usize,
     ) -> Ended {
         let automaton = &self.automaton;
         if !is_asked(automaton, &anchored) {
@@ -182,6 +183,7 @@ impl Halves for Lazy {
             from,
             earliest,
             may_rest,
+            rest_from,
         )
     }
 

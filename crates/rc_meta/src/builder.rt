@@ -1,16 +1,19 @@
 //! What makes regexes.
 
-ghost use Rattle.std.specs.Prelude.{◌≡◌, ◌≤◌, ◌∷◌, [], All, IfOk, IfErr, IfSome, List, length, map};
+ghost use Rattle.std.specs.Prelude.{◌≡◌, ◌≤◌, ◌/◌, ◌∷◌, [], All, option_map, IfOk, IfErr, IfSome, List, length, map};
 ghost use Rattle.rc_pattern.specs.Re.{Re};
 ghost use Rattle.rc_pattern.specs.Meaning.{meaning};
 ghost use Rattle.rc_pattern.specs.WellFormed.{HasBounds};
 ghost use Rattle.rc_program.specs.Laws.{heaviness};
 ghost use Rattle.rc_program.specs.Places.{places_of};
+ghost use Rattle.rc_program.specs.Text.{Text};
+ghost use Rattle.rc_literal.specs.Prefilters.{needles_of};
+ghost use Rattle.rc_guards.specs.Needs.{Holds, LeavesOut};
 ghost use Rattle.rc_program.specs.Program.{program, shown};
 ghost use Rattle.rc_build.specs.Refusals.{IsBuildable, IsRefusal};
 ghost use Rattle.rc_settings.specs.Thompson.{which_captures_of};
 ghost use Rattle.rc_settings.specs.Which.{is_grouped};
-ghost use Rattle.rc_settings.specs.Settings.{settings_of, unset, overwritten, nfa_size_limit_of, program_settings, line_terminator_of, match_kind_of, dfa_of, hybrid_of, hybrid_cache_capacity_of, byte_classes_of};
+ghost use Rattle.rc_settings.specs.Settings.{settings_of, unset, overwritten, nfa_size_limit_of, program_settings, line_terminator_of, match_kind_of, dfa_of, hybrid_of, hybrid_cache_capacity_of, byte_classes_of, dfa_size_limit_of, dfa_state_limit_of};
 ghost use Rattle.rc_engines.specs.Plans.{IsLazyFor};
 ghost use Rattle.rc_meta.specs.Plans.{plan_by};
 ghost use Rattle.rc_build.specs.TextRefusals.{AllRead, IsTextRefusal, texts_of};
@@ -23,6 +26,8 @@ use rc_build::texts::parse_all;
 use rc_engine::engine::Engine;
 use rc_engines::engines::{Engines, Limits};
 use rc_engines::spans::Spans;
+use rc_guards::guard::Needs;
+use rc_guards::needs;
 use rc_pattern::hir::Hir;
 use rc_settings::error::BuildError;
 use rc_settings::meta::Config;
@@ -162,13 +167,26 @@ fn engines_of(
     ensures engine { IfOk result (λ engines. engines.engine ≡ engine) }
     ensures planned { IfOk result (λ engines. IfSome engines.lazy (IsLazyFor (plan_by (map meaning hirs.now) (settings_of config.now)))) }
 {
+    let needs = needs_of(alloc, config, hirs)?;
     Engines::new(
         alloc,
         engine,
         hirs.len(),
         Spans::of(hirs),
+        needs,
         limits_of(config),
     )
+}
+
+/// What each match holds, where searches go by that: needles are only taken from the patterns where the settings say so.
+fn needs_of(alloc: Global, config: &Config, hirs: &[Hir]) -> Result<Option<Needs>, AllocError>
+    ensures holds { IfOk result (λ found. IfSome found (λ n. (t : Text) → Holds t (map meaning hirs.now) (needles_of n.needles))) }
+    ensures leaves { IfOk result (λ found. IfSome found (λ n. (t : Text) → LeavesOut t (map meaning hirs.now) n.stops.table)) }
+{
+    if !config.get_auto_prefilter() {
+        return Ok(None);
+    }
+    needs::needs_of(alloc, hirs)
 }
 
 /// What the settings say of tables: each direction may take a quarter of the size of those of all states.
@@ -177,6 +195,8 @@ fn limits_of(config: &Config) -> Limits
     ensures hybrid { result.hybrid ≡ hybrid_of (settings_of config.now) }
     ensures capacity { result.capacity ≡ hybrid_cache_capacity_of (settings_of config.now) }
     ensures classes { result.byte_classes ≡ byte_classes_of (settings_of config.now) }
+    ensures states { result.state_limit ≡ dfa_state_limit_of (settings_of config.now) }
+    ensures size { result.size_limit ≡ option_map (λ size. size / 4) (dfa_size_limit_of (settings_of config.now)) }
 {
     Limits {
         dfa: config.get_dfa(),

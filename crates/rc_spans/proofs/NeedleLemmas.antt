@@ -11,13 +11,9 @@ use Rattle.rc_states.specs.declared.kind.TableKind.{TableKind}
 use Rattle.rc_states.specs.declared.kind.TableKind.TheVariants.{LeftmostFirst as leftmost_first}
 use Rattle.rc_pattern.specs.Re.{Re}
 use Rattle.rc_program.specs.Program.{program}
-use Rattle.rc_program.specs.Answer.{Search, answer}
+use Rattle.rc_program.specs.Answer.{Search, HasNoWalkFrom, answer}
 use Rattle.rc_states.specs.TableKinds.{IsAnswerBy}
 use Rattle.rc_program.specs.Sought.{text_of}
-use Rattle.rc_literal.specs.Guards.{Guards}
-use Rattle.rc_literal.specs.Needles.{find_needle}
-use Rattle.rc_literal.specs.declared.hit.Hit.{Hit}
-use Rattle.rc_literal.proofs.StartLemmas.{needle_law}
 use Rattle.rc_bytes.specs.Laws.{by_bytes}
 use Rattle.rc_states.specs.Laws.{IsRaised, may_end_at}
 use Rattle.rc_automaton.specs.Machine.{Machine}
@@ -124,23 +120,22 @@ module _ (AreOf : Machine → Machine → Type 0) (aim : Aim) (hs : List Re) (te
   at_low : (r : Option (ℕ × ℕ)) → StartsGive of.ahead S lo r → StartsGive of.ahead S (low s) r
   at_low r g = subst (λ x. StartsGive of.ahead S x r) is_lo g
 
-  module _ (needles : List (List ℕ)) (guards : Guards (program hs) terminator needles) (cur : Searched) (keeps : Keeps s cur) where
-    sought : (at : ℕ) (r o : Option Hit) → r ≡ find_needle needles cur.content at hi → r ≡ o → find_needle needles s.content at (high s) ≡ o
-    sought at r o value is = ap (λ h. find_needle needles s.content at h) (sym is_hi) ∙ ap (λ c. find_needle needles c at hi) (sym keeps.content) ∙ sym value ∙ is
+  module _ (cur : Searched) (keeps : Keeps s cur) where
+    here : (x : ℕ) → HasNoWalkFrom (search_for aim hs terminator cur) x → HasNoWalkFrom S x
+    here x none = subst (λ (q : Search). HasNoWalkFrom q x) (kept_search aim hs terminator s cur keeps) none
 
-    -- no needle is left
-    pub none_left : (at : ℕ) → at ≤ hi → Carried at → (r : Option Hit) → r ≡ find_needle needles cur.content at hi → r ≡ None → IsGiven of.ahead S None
-    none_left at le carried r value is =
-        let none = (needle_law.not_found needles s.content at (high s)).0 (sought at r None value is) in
+    -- no walk begins from here on
+    pub none_left : (at : ℕ) → at ≤ hi → Carried at → ((x : ℕ) → at ≤ x → x ≤ hi → HasNoWalkFrom (search_for aim hs terminator cur) x) →
+        IsGiven of.ahead S None
+    none_left at le carried none =
         at_low None (carried None (rest_law.nowhere hs of.ahead of.back S at case (omega (arith, le, is_hi))
-        (λ z a b. guards aim.passes_over s z (omega (arith, b)) (none z a))))
+        (λ z a b. here z (none z a (omega (arith, b, is_hi))))))
 
-    -- the next needle
-    pub jumped : (at : ℕ) (h : Hit) → Carried at → (r : Option Hit) → r ≡ find_needle needles cur.content at hi → r ≡ Some h → h.start ≤ hi → Carried h.start
-    jumped at h carried r value is le o g =
-        let f = (needle_law.found needles s.content at (high s) h).0 (sought at r (Some h) value is) in
-        carried o (rest_law.jumps hs of.ahead of.back S at h.start case f.low (omega (arith, le, is_hi))
-        (λ z a b. guards aim.passes_over s z (omega (arith, b, le, is_hi)) (f.none_before z a b)) o g)
+    -- or none before a later position
+    pub jumped : (at from : ℕ) → Carried at → at ≤ from → from ≤ hi → ((x : ℕ) → at ≤ x → x < from → HasNoWalkFrom (search_for aim hs terminator cur) x) →
+        Carried from
+    jumped at from carried on le none o g =
+        carried o (rest_law.jumps hs of.ahead of.back S at from case on (omega (arith, le, is_hi)) (λ z a b. here z (none z a b)) o g)
 
   module _ (cur : Searched) (keeps : Keeps s cur) (from : ℕ) (above : lo ≤ from) where
     same_run : (leg : Leg) → HasRun of.ahead (text_of terminator cur) (high cur) from leg → HasRun of.ahead S.text S.hi from leg

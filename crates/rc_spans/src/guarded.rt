@@ -1,4 +1,4 @@
-//! Searches that go from needle to needle, where no match begins but where a needle stands. Positions are in bytes of the whole content.
+//! Searches that go from needle to needle, where each match begins with one, or holds one. Positions are in bytes of the whole content.
 ghost use Rattle.std.specs.Prelude.{◌≡◌, ◌↔◌, ◌+◌, ◌-◌, ◌*◌, ◌<◌, ◌≤◌, ℕ, false, true, List, length, IsTrue, IfOk, IfErr, IfSome};
 ghost use Rattle.std.specs.Option.{option_map};
 ghost use Rattle.rc_text.specs.Found.{half_of};
@@ -9,8 +9,7 @@ ghost use Rattle.rc_program.specs.Answer.{answer};
 ghost use Rattle.rc_states.specs.TableKinds.{IsAnswerBy};
 ghost use Rattle.rc_program.specs.Program.{program};
 ghost use Rattle.rc_program.specs.Sought.{text_of};
-ghost use Rattle.rc_literal.specs.Guards.{Guards};
-ghost use Rattle.rc_literal.specs.Prefilters.{needles_of};
+ghost use Rattle.rc_guards.specs.Guard.{IsGuard};
 ghost use Rattle.rc_automaton.specs.Machine.{Machine};
 ghost use Rattle.rc_spans.specs.Aims.{AreHalvesOf, search_for, cost};
 ghost use Rattle.rc_spans.specs.Ends.{cost_forwards};
@@ -21,8 +20,7 @@ ghost use Rattle.rc_spans.specs.Legs.{ComesOn, GoesByNeedles, HasRun, IsGiven, l
 use crate::search::{Aim, Bounds, bounds_of, find, find_end, id_of, run_backwards, run_forwards};
 use rc_automaton::ended::{Ended, Met};
 use rc_automaton::halves::Halves;
-use rc_literal::literal::find_from;
-use rc_literal::prefilter::Prefilter;
+use rc_guards::guard::{Guard, next_start};
 use rc_states::kind::TableKind;
 use rc_text::cursor::Cursor;
 use rc_text::input::Input;
@@ -59,13 +57,14 @@ fn leg_of(ended: Ended, from: usize, bound: usize) -> Result<Leg, MatchError>
     }
 }
 
-/// How far a run forwards comes from one position on, up to `bound`. It may rest.
+/// How far a run forwards comes from one position on, up to `bound`. It may rest, from `rest_from` on.
 fn run_leg<H: Halves, C: Cursor>(
     halves: &H,
     cache: &mut H::Cache,
     input: &mut Input<C>,
     from: usize,
     bound: usize,
+    rest_from: usize,
 ) -> Result<Leg, MatchError>
     requires cache { H.IsCache halves.now cache.old }
     requires low { low input.old ≤ from }
@@ -82,19 +81,19 @@ fn run_leg<H: Halves, C: Cursor>(
     ensures spends { H.Spends halves.now cache.old cache.new (high input.old - from + 2) }
 {
     leg_of(
-        halves.run_forwards(cache, input, Anchored::No, from, false, true),
+        halves.run_forwards(cache, input, Anchored::No, from, false, true, rest_from),
         from,
         bound,
     )
 }
 
-/// The end of the preferred match: runs forwards begin where a needle stands, and where one rests, the next needle is sought.
+/// The end of the preferred match: runs forwards begin where a match may that goes by the next needle, and where one rests behind that, the next is sought.
 fn seek_by_needles<H: Halves, C: Cursor>(
     halves: &H,
     cache: &mut H::Cache,
     input: &mut Input<C>,
     aim: Aim,
-    needles: &Prefilter,
+    guard: Guard,
     bounds: Bounds,
 ) -> Result<Option<Met>, MatchError>
     requires cache { H.IsCache halves.now cache.old }
@@ -102,7 +101,7 @@ fn seek_by_needles<H: Halves, C: Cursor>(
     requires bounds { (bounds.low ≡ low input.old) × (bounds.high ≡ high input.old) × (bounds.low ≤ bounds.high) }
     ensures cache { H.IsCache halves.now cache.new }
     ensures keeps { Keeps input.old input.new }
-    ensures given { (hs : List Re) (terminator : ℕ) (of : AreHalvesOf (H.AreOf halves.now) aim hs terminator) → Guards (program hs) terminator (needles_of needles.now)
+    ensures given { (hs : List Re) (terminator : ℕ) (of : AreHalvesOf (H.AreOf halves.now) aim hs terminator) → IsGuard (program hs) terminator guard.entry
         → IfOk result (IsGiven of.ahead (search_for aim hs terminator input.old)) }
     ensures numbered { (hs : List Re) (terminator : ℕ) → AreHalvesOf (H.AreOf halves.now) aim hs terminator
         → IfOk result (λ met. IfSome met (λ m. m.pattern < length hs)) }
@@ -112,11 +111,11 @@ fn seek_by_needles<H: Halves, C: Cursor>(
 {
     let mut at = bounds.low;
     'runs: loop {
-        let Some(hit) = find_from(input, needles, at, bounds.high) else {
+        let Some(start) = next_start(input, guard, at, bounds.high) else {
             return Ok(None);
         };
-        let from = hit.start;
-        match run_leg(halves, cache, input, from, bounds.high)? {
+        let from = start.from;
+        match run_leg(halves, cache, input, from, bounds.high, start.needle)? {
             Leg::Ended(met) => return Ok(met),
             Leg::Rested(i) => {
                 if i <= from {
@@ -134,13 +133,13 @@ fn find_by_needles<H: Halves, C: Cursor>(
     cache: &mut H::Cache,
     input: &mut Input<C>,
     aim: Aim,
-    needles: &Prefilter,
+    guard: Guard,
 ) -> Result<Option<Match>, MatchError>
     requires cache { H.IsCache halves.now cache.old }
     requires goes { GoesByNeedles aim input.old.anchored }
     ensures cache { H.IsCache halves.now cache.new }
     ensures keeps { Keeps input.old input.new }
-    ensures found { (hs : List Re) (terminator : ℕ) → AreHalvesOf (H.AreOf halves.now) aim hs terminator → Guards (program hs) terminator (needles_of needles.now)
+    ensures found { (hs : List Re) (terminator : ℕ) → AreHalvesOf (H.AreOf halves.now) aim hs terminator → IsGuard (program hs) terminator guard.entry
         → IfOk result (λ found. found ≡ answer (search_for aim hs terminator input.old)) }
     ensures within { IfOk result (λ found. IfSome found (λ m. (low input.old ≤ m.start) × (m.start ≤ m.end) × (m.end ≤ high input.old))) }
     ensures fault { (hs : List Re) (terminator : ℕ) → AreHalvesOf (H.AreOf halves.now) aim hs terminator
@@ -150,7 +149,7 @@ fn find_by_needles<H: Halves, C: Cursor>(
     let Some(bounds) = bounds_of(input, aim) else {
         return Ok(None);
     };
-    let Some(met) = seek_by_needles(halves, cache, input, aim, needles, bounds)? else {
+    let Some(met) = seek_by_needles(halves, cache, input, aim, guard, bounds)? else {
         return Ok(None);
     };
     let end = met.at.max(bounds.low).min(bounds.high);
@@ -168,13 +167,13 @@ fn find_end_by_needles<H: Halves, C: Cursor>(
     cache: &mut H::Cache,
     input: &mut Input<C>,
     aim: Aim,
-    needles: &Prefilter,
+    guard: Guard,
 ) -> Result<Option<HalfMatch>, MatchError>
     requires cache { H.IsCache halves.now cache.old }
     requires goes { GoesByNeedles aim input.old.anchored }
     ensures cache { H.IsCache halves.now cache.new }
     ensures keeps { Keeps input.old input.new }
-    ensures found { (hs : List Re) (terminator : ℕ) → AreHalvesOf (H.AreOf halves.now) aim hs terminator → Guards (program hs) terminator (needles_of needles.now)
+    ensures found { (hs : List Re) (terminator : ℕ) → AreHalvesOf (H.AreOf halves.now) aim hs terminator → IsGuard (program hs) terminator guard.entry
         → IfOk result (λ found. found ≡ option_map half_of (answer (search_for aim hs terminator input.old))) }
     ensures within { IfOk result (λ found. IfSome found (λ half. (low input.old ≤ half.offset) × (half.offset ≤ high input.old))) }
     ensures fault { (hs : List Re) (terminator : ℕ) → AreHalvesOf (H.AreOf halves.now) aim hs terminator
@@ -184,7 +183,7 @@ fn find_end_by_needles<H: Halves, C: Cursor>(
     let Some(bounds) = bounds_of(input, aim) else {
         return Ok(None);
     };
-    let Some(met) = seek_by_needles(halves, cache, input, aim, needles, bounds)? else {
+    let Some(met) = seek_by_needles(halves, cache, input, aim, guard, bounds)? else {
         return Ok(None);
     };
     let end = met.at.max(bounds.low).min(bounds.high);
@@ -192,7 +191,7 @@ fn find_end_by_needles<H: Halves, C: Cursor>(
     Ok(Some(HalfMatch::new(pattern, end)))
 }
 
-/// The match that `find` finds, by needles that guard the patterns: no match begins where none of them stands. A search that isn't anchored
+/// The match that `find` finds, by needles that guard the patterns: each match begins with one of them, or holds one. A search that isn't anchored
 /// goes from needle to needle wherever nothing is under way, if it is for the preferred match, the earliest flag is off, and no match is passed
 /// over. Each other search is that of `find`.
 ///
@@ -202,12 +201,12 @@ pub fn find_guarded<H: Halves, C: Cursor>(
     cache: &mut H::Cache,
     input: &mut Input<C>,
     aim: Aim,
-    needles: &Prefilter,
+    guard: Guard,
 ) -> Result<Option<Match>, MatchError>
     requires cache { H.IsCache halves.now cache.old }
     ensures cache { H.IsCache halves.now cache.new }
     ensures keeps { Keeps input.old input.new }
-    ensures found { (hs : List Re) (terminator : ℕ) → AreHalvesOf (H.AreOf halves.now) aim hs terminator → Guards (program hs) terminator (needles_of needles.now)
+    ensures found { (hs : List Re) (terminator : ℕ) → AreHalvesOf (H.AreOf halves.now) aim hs terminator → IsGuard (program hs) terminator guard.entry
         → IfOk result (IsAnswerBy aim.kind aim.earliest (search_for aim hs terminator input.old)) }
     ensures within { IfOk result (λ found. IfSome found (λ m. (low input.old ≤ m.start) × (m.start ≤ m.end) × (m.end ≤ high input.old))) }
     ensures fault { (hs : List Re) (terminator : ℕ) → AreHalvesOf (H.AreOf halves.now) aim hs terminator
@@ -215,7 +214,7 @@ pub fn find_guarded<H: Halves, C: Cursor>(
     ensures spends { H.Spends halves.now cache.old cache.new (cost input.old) }
 {
     if goes_by_needles(aim, input.get_anchored()) {
-        return find_by_needles(halves, cache, input, aim, needles);
+        return find_by_needles(halves, cache, input, aim, guard);
     }
     find(halves, cache, input, aim)
 }
@@ -227,12 +226,12 @@ pub fn find_end_guarded<H: Halves, C: Cursor>(
     cache: &mut H::Cache,
     input: &mut Input<C>,
     aim: Aim,
-    needles: &Prefilter,
+    guard: Guard,
 ) -> Result<Option<HalfMatch>, MatchError>
     requires cache { H.IsCache halves.now cache.old }
     ensures cache { H.IsCache halves.now cache.new }
     ensures keeps { Keeps input.old input.new }
-    ensures found { (hs : List Re) (terminator : ℕ) → AreHalvesOf (H.AreOf halves.now) aim hs terminator → Guards (program hs) terminator (needles_of needles.now)
+    ensures found { (hs : List Re) (terminator : ℕ) → AreHalvesOf (H.AreOf halves.now) aim hs terminator → IsGuard (program hs) terminator guard.entry
         → IfOk result (IsForwardHalf aim.kind aim.earliest (search_for aim hs terminator input.old)) }
     ensures within { IfOk result (λ found. IfSome found (λ half. (low input.old ≤ half.offset) × (half.offset ≤ high input.old))) }
     ensures fault { (hs : List Re) (terminator : ℕ) → AreHalvesOf (H.AreOf halves.now) aim hs terminator
@@ -240,7 +239,7 @@ pub fn find_end_guarded<H: Halves, C: Cursor>(
     ensures spends { H.Spends halves.now cache.old cache.new (cost input.old) }
 {
     if goes_by_needles(aim, input.get_anchored()) {
-        return find_end_by_needles(halves, cache, input, aim, needles);
+        return find_end_by_needles(halves, cache, input, aim, guard);
     }
     find_end(halves, cache, input, aim)
 }

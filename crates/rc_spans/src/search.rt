@@ -122,7 +122,7 @@ pub(crate) fn run_forwards<H: Halves, C: Cursor>(
     ensures spends { H.Spends halves.now cache.old cache.new (high input.old - from + 2) }
 {
     let anchored = input.get_anchored();
-    told(halves.run_forwards(cache, input, anchored, from, is_early(aim), false))
+    told(halves.run_forwards(cache, input, anchored, from, is_early(aim), false, 0))
 }
 
 /// What a run backwards from an end down to `from` meets.

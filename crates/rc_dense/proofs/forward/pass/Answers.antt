@@ -5,8 +5,8 @@ use Rattle.rc_dense.specs.Searches.{Stands}
 use Rattle.rc_dense.proofs.ExitLemmas.{passed}
 use Rattle.rc_dense.proofs.forward.pass.Goals as goal
 
-pub returns-then-is_idle-clause-stands : goal.returns-then-is_idle-clause-stands
-returns-then-is_idle-clause-stands g c =
+pub returns-then-not-table-clause-stands : goal.returns-then-not-table-clause-stands
+returns-then-not-table-clause-stands g c =
     let at : c.args.start ≡ c.args.start + 0 = omega arith in
     subst (λ i. Stands c.args.table.now g.course i c.args.stand) at c.requires.0
 

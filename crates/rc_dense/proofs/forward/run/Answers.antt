@@ -1,8 +1,8 @@
 use Rattle.std.proofs.Common.{◌≡◌, ◌+◌, ◌-◌, ◌<◌, Some, length, slice_index_or, sym, subst, arith}
 use Rattle.rc_dense.specs.Searches.{InRow, Stands}
-use Rattle.rc_dense.proofs.ForwardLemmas.{piece_plain, piece_met}
+use Rattle.rc_dense.proofs.ForwardLemmas.{piece_plain, piece_skip, piece_met}
 use Rattle.rc_dense.proofs.forward.run.Goals as goal
-use Rattle.rc_dense.proofs.forward.run.Goals.{then-cell-lt-SKIP, else-cell-lt-SKIP+else-cell-lt-MET+else-cell-limit}
+use Rattle.rc_dense.proofs.forward.run.Goals.{then-cell-lt-SKIP, else-cell-lt-SKIP+then-cell-lt-MET+else-cell-ge-DEAD+else-start-index, else-cell-lt-SKIP+else-cell-lt-MET+else-cell-limit}
 
 pub loop-index-init : goal.loop-index-init
 loop-index-init g c =
@@ -24,6 +24,15 @@ loop-index-preserved g c =
       | then-cell-lt-SKIP w ↦
           let on = piece_plain d g.course cells classes piece c.args.start index row noted c.as_slice-cells.ensures.value c.as_slice-classes.ensures.value
           c.loop-index.invariant.row c.loop-index.invariant.stands given.0 given.1.0 given.1.1.0 c.loop-index-test.true byte w.if-cell-lt-SKIP.true in
+          record {
+            row = subst (λ r. InRow d r) (sym w.row-is) on.0;
+            stands = subst (λ n. Stands d g.course at (record { row = c.if-cell-lt-SKIP.row; noted = n })) (sym w.noted-is)
+                (subst (λ r. Stands d g.course at (record { row = r; noted = noted })) (sym w.row-is) on.1);
+          }
+      | else-cell-lt-SKIP+then-cell-lt-MET+else-cell-ge-DEAD+else-start-index w ↦
+          let on = piece_skip d g.course cells classes piece c.args.start index row noted c.as_slice-cells.ensures.value c.as_slice-classes.ensures.value
+          c.loop-index.invariant.row c.loop-index.invariant.stands given.0 given.1.0 given.1.1.0 c.loop-index-test.true byte w.if-cell-lt-SKIP.false
+          w.if-cell-ge-DEAD.false in
           record {
             row = subst (λ r. InRow d r) (sym w.row-is) on.0;
             stands = subst (λ n. Stands d g.course at (record { row = c.if-cell-lt-SKIP.row; noted = n })) (sym w.noted-is)

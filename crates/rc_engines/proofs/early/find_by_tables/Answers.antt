@@ -3,8 +3,7 @@ use Rattle.std.specs.Bool.{⊤}
 use Rattle.std.proofs.lemmas.Result.{IfOk-weaker}
 use Rattle.rc_program.specs.Kinds.{IsAnswerBy}
 use Rattle.rc_program.specs.Places.{places_of}
-use Rattle.rc_literal.specs.Guards.{Guards}
-use Rattle.rc_literal.specs.Prefilters.{needles_of}
+use Rattle.rc_guards.specs.Guard.{IsGuard}
 use Rattle.rc_engine.specs.Engine.{engine_search}
 use Rattle.rc_engines.proofs.EarlyLemmas.{may_by}
 use Rattle.rc_engines.proofs.TableLemmas.{tables_tell_by}
@@ -14,13 +13,11 @@ pub returns-in-Some-clause-may : goal.returns-in-Some-clause-may
 returns-in-Some-clause-may g c =
     let e = c.args.engines.now in
     let p = e.engine.program in
-    let guards =
-    subst (λ o. MatchOption o ⊤ (λ q. Guards (places_of p.places.items) p.terminator (needles_of q.now))) c.in-Some.is
-    (c.fast_guards_of.ensures.sound (places_of p.places.items) p.terminator p.passes_over e.engine.sound) in
+    let guards = subst (λ o. MatchOption o ⊤ (IsGuard (places_of p.places.items) p.terminator)) c.in-Some.is c.guard.ensures in
     subst (λ b. IfOk c.find_early_guarded.result (IsAnswerBy e.engine.kind b (engine_search e.engine c.args.input.now))) c.get_earliest.ensures
     (tables_tell_by e.engine e.patterns c.args.input.now c.aim.result c.requires.own c.aim.ensures c.get_earliest.result
     c.find_early_guarded.result
-    (λ hs same h. c.find_early_guarded.ensures.found hs p.terminator h (subst (λ ps. Guards ps p.terminator (needles_of c.in-Some.needles.now)) same guards)))
+    (λ hs same h. c.find_early_guarded.ensures.found hs p.terminator h (subst (λ ps. IsGuard ps p.terminator c.in-Some.guard) same guards)))
 
 pub returns-in-None-clause-may : goal.returns-in-None-clause-may
 returns-in-None-clause-may g c =

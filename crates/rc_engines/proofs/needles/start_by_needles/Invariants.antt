@@ -2,8 +2,7 @@ use Rattle.std.proofs.Common.{◌≡◌, ◌+◌, ◌-◌, ◌≤◌, ℕ, List}
 use Rattle.rc_text.specs.Text.{Keeps}
 use Rattle.rc_pattern.specs.Re.{Re}
 use Rattle.rc_program.specs.Program.{program}
-use Rattle.rc_literal.specs.Guards.{Guards}
-use Rattle.rc_literal.specs.Prefilters.{needles_of}
+use Rattle.rc_guards.specs.Guard.{IsGuard}
 use Rattle.rc_spans.specs.declared.search.Aim.{Aim}
 use Rattle.rc_spans.specs.Aims.{AreHalvesOf, search_for}
 use Rattle.rc_spans.specs.Legs.{GoesByNeedles}
@@ -18,7 +17,7 @@ invariant-runs g l = record {
   low : l.lo ≤ l.at;
   high : l.at ≤ l.hi;
   carried : (aim : Aim) (hs : List Re) (terminator : ℕ) (of : AreHalvesOf (g.H.Halves.AreOf l.halves) aim hs terminator) → GoesByNeedles aim l.fn.input.anchored
-      → Guards (program hs) terminator (needles_of l.needles) → GivesToo of.ahead (search_for aim hs terminator l.fn.input) l.at l.lo;
+      → IsGuard (program hs) terminator l.guard → GivesToo of.ahead (search_for aim hs terminator l.fn.input) l.at l.lo;
 }
 
 abbrev pub decreases-runs : goal.decreases-runs

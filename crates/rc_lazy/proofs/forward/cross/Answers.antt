@@ -1,7 +1,7 @@
-use Rattle.std.proofs.Common.{rules, ◌≡◌, ◌+◌, ◌∙◌, Some, slice_get, slice_index_or, subst, arith}
+use Rattle.std.proofs.Common.{rules, ◌≡◌, ◌+◌, ◌∙◌, Some, slice_get, slice_index_or, sym, subst, arith}
 use Rattle.rc_lazy.proofs.SideLemmas.{byte_of_piece}
 use Rattle.rc_lazy.specs.Courses.{IsAt}
-use Rattle.rc_lazy.proofs.ForwardLemmas.{at_moved}
+use Rattle.rc_lazy.proofs.ForwardLemmas.{at_moved, rests_here}
 use Rattle.rc_lazy.proofs.forward.cross.Goals as goal
 
 pub step-requires : goal.step-requires
@@ -40,3 +40,15 @@ loop-at-preserved g c =
       here = at_moved g.course c.loop-at.half c.serve.new.self c.loop-at.at c.run-read.result.0 c.loop-at.stand c.run-read.result.1 c.loop-at.invariant.here
           c.serve.ensures.store c.serve.ensures.scratch c.run-read.ensures.stands;
     }
+
+pub returns-then-is_idle_at-clause-leg : goal.returns-then-is_idle_at-clause-leg
+returns-then-is_idle_at-clause-leg g c =
+    let within = c.piece_from-piece.ensures.within in
+    let read = c.run-read.ensures.read in
+    let until = c.reach-until.ensures.1 in
+    let end = c.requires.1.1.1.1.1.0 in
+    let idle = c.is_idle_at.ensures c.if-is_idle_at.true in
+    rests_here g.course c.serve.new.self (c.loop-at.at + c.run-read.result.0) c.run-read.result.1
+    (at_moved g.course c.loop-at.half c.serve.new.self c.loop-at.at c.run-read.result.0 c.loop-at.stand c.run-read.result.1 c.loop-at.invariant.here
+    c.serve.ensures.store c.serve.ensures.scratch c.run-read.ensures.stands)
+    (omega (arith, within, read, until, end, c.loop-at-test.true)) (sym c.requires.1.1.1.1.1.1.1.1 ∙ c.if-may_rest.true) idle.0 idle.1

@@ -9,6 +9,9 @@ ghost-run g a = g.course
 abbrev pub ghost-step : goal.ghost-step
 ghost-step g a = g.course
 
+abbrev pub ghost-is_idle_at : goal.ghost-is_idle_at
+ghost-is_idle_at g a = g.course.frame
+
 abbrev pub invariant-loop-at : goal.invariant-loop-at
 invariant-loop-at g l = record {
   keeps : Keeps l.fn.input l.input;

@@ -5,6 +5,11 @@ use Rattle.std.proofs.lemmas.List.{length-map}
 use Rattle.rc_pattern.specs.Meaning.{meaning}
 use Rattle.rc_pattern.specs.WellFormed.{HasBounds}
 use Rattle.rc_program.specs.Program.{program}
+use Rattle.rc_program.specs.Text.{Text}
+use Rattle.rc_literal.specs.Prefilters.{needles_of}
+use Rattle.rc_guards.specs.Needs.{Confines, Holds, LeavesOut}
+use Rattle.rc_guards.specs.declared.guard.Needs.{Needs}
+use Rattle.rc_guards.proofs.ConfineLemmas.{need_law}
 use Rattle.rc_settings.specs.Settings.{settings_of, program_settings}
 use Rattle.rc_settings.specs.Thompson.{which_captures_of}
 use Rattle.rc_settings.specs.Which.{is_grouped}
@@ -20,9 +25,17 @@ use Rattle.rc_meta.proofs.builder.engines_of.Goals as goal
 pub new-requires : goal.new-requires
 new-requires g c =
     let grouped = is_grouped (which_captures_of (program_settings (settings_of c.args.config.now))) in
-    let hs = map meaning c.args.hirs.now in (
-      bounds_walks c.of.result grouped hs _ (subst (All HasBounds) c.requires.0 c.requires.1.1.1.0) (c.requires.1.0 ∙ ap program c.requires.0) c.of.ensures,
-      (c.requires.1.0, (sym (ap length c.requires.0 ∙ length-shown grouped hs ∙ length-map c.args.hirs.now meaning), c.requires.1.1.0)),
+    let hs = map meaning c.args.hirs.now in
+    let bounded = subst (All HasBounds) c.requires.0 c.requires.1.1.1.0 in
+    let is = c.requires.1.0 ∙ ap program c.requires.0 in (
+      bounds_walks c.of.result grouped hs _ bounded is c.of.ensures,
+      (
+        λ n there. subst (λ ps. Confines ps c.args.engine.program.terminator (needles_of n.needles) n.stops.table) (sym is)
+            (need_law.confines hs grouped c.args.engine.program.terminator (needles_of n.needles) n.stops.table bounded
+            (subst (λ o. IfSome o (λ (k : Needs). (t : Text) → Holds t hs (needles_of k.needles))) there c.in_ok-needs.ensures.holds)
+            (subst (λ o. IfSome o (λ (k : Needs). (t : Text) → LeavesOut t hs k.stops.table)) there c.in_ok-needs.ensures.leaves)),
+        (c.requires.1.0, (sym (ap length c.requires.0 ∙ length-shown grouped hs ∙ length-map c.args.hirs.now meaning), c.requires.1.1.0)),
+      ),
     )
 
 pub returns-clause-planned : goal.returns-clause-planned

@@ -3,8 +3,7 @@ use Rattle.std.proofs.lemmas.Result.{err_from_is_err_and}
 use Rattle.rc_text.specs.Text.{Keeps, high}
 use Rattle.rc_pattern.specs.Re.{Re}
 use Rattle.rc_program.specs.Program.{program}
-use Rattle.rc_literal.specs.Guards.{Guards}
-use Rattle.rc_literal.specs.Prefilters.{needles_of}
+use Rattle.rc_guards.specs.Guard.{IsGuard}
 use Rattle.rc_program.specs.Sought.{text_of}
 use Rattle.rc_spans.specs.Aims.{AreHalvesOf, is_early, search_for, cost}
 use Rattle.rc_spans.specs.Ends.{HasMetDown, cost_forwards}
@@ -43,7 +42,7 @@ spent g c =
     c.seek_by_needles.ensures.spends c.run_backwards.ensures.spends)
 
 given : (g : Over) (c : After-run_backwards g) (hs : List Re) (terminator : ℕ) (of : AreHalvesOf (g.H.Halves.AreOf c.args.halves.now) c.args.aim hs terminator) →
-    Guards (program hs) terminator (needles_of c.args.needles.now) → IsGiven of.ahead (search_for c.args.aim hs terminator c.args.input.now) (Some c.in-Some-2.met)
+    IsGuard (program hs) terminator c.args.guard → IsGiven of.ahead (search_for c.args.aim hs terminator c.args.input.now) (Some c.in-Some-2.met)
 given g c hs terminator of guards =
     subst (λ q. IsGiven of.ahead q (Some c.in-Some-2.met)) (kept_search c.args.aim hs terminator c.args.input.now c.bounds_of.new.input c.bounds_of.ensures.keeps)
     (subst (λ o. IsGiven of.ahead (search_for c.args.aim hs terminator c.bounds_of.new.input) o) c.in-Some-2.is

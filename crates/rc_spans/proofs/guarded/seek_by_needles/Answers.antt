@@ -3,8 +3,7 @@ use Rattle.std.proofs.lemmas.Result.{err_from_is_err_and}
 use Rattle.rc_text.specs.Text.{Keeps, high}
 use Rattle.rc_pattern.specs.Re.{Re}
 use Rattle.rc_program.specs.Program.{program}
-use Rattle.rc_literal.specs.Guards.{Guards}
-use Rattle.rc_literal.specs.Prefilters.{needles_of}
+use Rattle.rc_guards.specs.Guard.{IsGuard}
 use Rattle.rc_spans.specs.Aims.{AreHalvesOf, search_for}
 use Rattle.rc_spans.specs.Ends.{cost_forwards}
 use Rattle.rc_spans.specs.Faults.{IsFault}
@@ -16,13 +15,13 @@ use Rattle.rc_spans.proofs.guarded.seek_by_needles.Goals as goal
 use Rattle.rc_spans.proofs.guarded.seek_by_needles.Goals.{After-run_leg}
 
 -- where the run begins, and what the search there keeps
-keeps : (g : Over) (c : After-run_leg g) → Keeps c.args.input.now c.find_from.new.input
-keeps g c = kept_then c.args.input.now c.runs.input c.find_from.new.input c.runs.invariant.keeps c.find_from.ensures.keeps
+keeps : (g : Over) (c : After-run_leg g) → Keeps c.args.input.now c.next_start.new.input
+keeps g c = kept_then c.args.input.now c.runs.input c.next_start.new.input c.runs.invariant.keeps c.next_start.ensures.keeps
 
 after : (g : Over) (c : After-run_leg g) → Keeps c.args.input.now c.run_leg.new.input
-after g c = kept_then c.args.input.now c.find_from.new.input c.run_leg.new.input (keeps g c) c.run_leg.ensures.keeps
+after g c = kept_then c.args.input.now c.next_start.new.input c.run_leg.new.input (keeps g c) c.run_leg.ensures.keeps
 
-begun : (g : Over) (c : After-run_leg g) → (c.runs.at ≤ c.in-Some.hit.start) × (c.in-Some.hit.start < c.args.bounds.high) × (c.args.bounds.low ≤ c.in-Some.hit.start)
+begun : (g : Over) (c : After-run_leg g) → (c.runs.at ≤ c.in-Some.start.from) × (c.in-Some.start.from < c.args.bounds.high) × (c.args.bounds.low ≤ c.in-Some.start.from)
 begun g c =
     let w = c.in-Some.ensures.within in let a = w.0 in let b = w.1 in let d = w.2 in let l = c.runs.invariant.low in
     (a, omega (arith, b, d), omega (arith, a, l))
@@ -32,7 +31,7 @@ abbrev before : (g : Over) (c : After-run_leg g) → ℕ
 before g c = (c.runs.at - c.args.bounds.low) * (c.args.bounds.high - c.args.bounds.low + 2)
 
 abbrev by_run : (g : Over) (c : After-run_leg g) → ℕ
-by_run g c = high c.find_from.new.input - c.in-Some.hit.start + 2
+by_run g c = high c.next_start.new.input - c.in-Some.start.from + 2
 
 spent : (g : Over) (c : After-run_leg g) → g.H.Halves.Spends c.args.halves.now c.args.cache.now c.run_leg.new.cache (before g c + by_run g c)
 spent g c =
@@ -42,7 +41,7 @@ spent g c =
 cheap : (g : Over) (c : After-run_leg g) → before g c + by_run g c ≤ cost_forwards c.args.input.now
 cheap g c =
     let b = c.requires.bounds in let at = begun g c in
-    needle.cost_one c.args.input.now c.find_from.new.input (keeps g c) c.args.bounds.low c.args.bounds.high c.runs.at c.in-Some.hit.start b.0 b.1
+    needle.cost_one c.args.input.now c.next_start.new.input (keeps g c) c.args.bounds.low c.args.bounds.high c.runs.at c.in-Some.start.from b.0 b.1
     c.runs.invariant.low at.0 at.1
 
 spent_one : (g : Over) (c : After-run_leg g) → g.H.Halves.Spends c.args.halves.now c.args.cache.now c.run_leg.new.cache (cost_forwards c.args.input.now)
@@ -54,7 +53,7 @@ returns-in_default-clause-given g c hs terminator of guards =
     let b = c.requires.bounds in
     let i = c.runs.invariant in
     needle.none_left (g.H.Halves.AreOf c.args.halves.now) c.args.aim hs terminator of c.args.input.now c.requires.goes c.args.bounds.low c.args.bounds.high b.0 b.1 b.2
-    (needles_of c.args.needles.now) guards c.runs.input i.keeps c.runs.at i.high (i.carried hs terminator of guards) c.find_from.result c.find_from.ensures.value c.in_default.is
+    c.runs.input i.keeps c.runs.at i.high (i.carried hs terminator of guards) (c.in_default.ensures.passed (program hs) terminator c.args.aim.passes_over guards)
 
 pub returns-in_err-met-clause-fault : goal.returns-in_err-met-clause-fault
 returns-in_err-met-clause-fault g c hs terminator of =
@@ -68,7 +67,7 @@ returns-in_err-met-clause-fault g c hs terminator of =
     (g.met.H.Halves.gives_up_later c.args.halves.now c.args.cache.now c.runs.cache c.run_leg.new.cache (before g k) (by_run g k) memory c.runs.invariant.spends gave))
     c.in_err-met.field-0.0
     (subst (λ q. IsFault hs q (g.H.Halves.GivesUp c.args.halves.now c.runs.cache c.run_leg.new.cache (by_run g k)) c.in_err-met.field-0.0)
-    (kept_search c.args.aim hs terminator c.args.input.now c.find_from.new.input (keeps g k))
+    (kept_search c.args.aim hs terminator c.args.input.now c.next_start.new.input (keeps g k))
     (c.in_err-met.ensures.fault c.args.aim hs terminator of)))
 
 pub returns-in_err-met-clause-spends : goal.returns-in_err-met-clause-spends
@@ -79,22 +78,22 @@ returns-in-Ended-clause-spends g c = spent_one g (goal.at.returns-in-Ended-claus
 
 -- what the starts from where the run begins give, all give
 carried : (g : Over) (c : After-run_leg g) (hs : List Re) (terminator : ℕ) (of : AreHalvesOf (g.H.Halves.AreOf c.args.halves.now) c.args.aim hs terminator) →
-    Guards (program hs) terminator (needles_of c.args.needles.now) →
-    GivesToo of.ahead (search_for c.args.aim hs terminator c.args.input.now) c.in-Some.hit.start c.args.bounds.low
+    IsGuard (program hs) terminator c.args.guard →
+    GivesToo of.ahead (search_for c.args.aim hs terminator c.args.input.now) c.in-Some.start.from c.args.bounds.low
 carried g c hs terminator of guards =
     let b = c.requires.bounds in
     let i = c.runs.invariant in
     let at = begun g c in let lt = at.1 in
     needle.jumped (g.H.Halves.AreOf c.args.halves.now) c.args.aim hs terminator of c.args.input.now c.requires.goes c.args.bounds.low c.args.bounds.high b.0 b.1 b.2
-    (needles_of c.args.needles.now) guards c.runs.input i.keeps c.runs.at c.in-Some.hit (i.carried hs terminator of guards)
-    c.find_from.result c.find_from.ensures.value c.in-Some.is (omega (arith, lt))
+    c.runs.input i.keeps c.runs.at c.in-Some.start.from (i.carried hs terminator of guards) at.0 (omega (arith, lt))
+    (c.in-Some.ensures.passed (program hs) terminator c.args.aim.passes_over guards)
 
 pub returns-in-Ended-clause-given : goal.returns-in-Ended-clause-given
 returns-in-Ended-clause-given g c hs terminator of guards =
     let k = (goal.at.returns-in-Ended-clause-given g c).After-run_leg in
     let b = c.requires.bounds in
     needle.run_ended (g.H.Halves.AreOf c.args.halves.now) c.args.aim hs terminator of c.args.input.now c.requires.goes c.args.bounds.low c.args.bounds.high b.0 b.1 b.2
-    c.find_from.new.input (keeps g k) c.in-Some.hit.start (begun g k).2 (carried g k hs terminator of guards) c.in_ok-met.field-0 c.in-Ended.met
+    c.next_start.new.input (keeps g k) c.in-Some.start.from (begun g k).2 (carried g k hs terminator of guards) c.in_ok-met.field-0 c.in-Ended.met
     (c.in_ok-met.ensures.leg c.args.aim hs terminator of) c.in-Ended.is
 
 pub returns-then-i-from-clause-given : goal.returns-then-i-from-clause-given
@@ -102,7 +101,7 @@ returns-then-i-from-clause-given g c hs terminator of guards =
     let k = (goal.at.returns-then-i-from-clause-given g c).After-run_leg in
     let b = c.requires.bounds in
     needle.run_met (g.H.Halves.AreOf c.args.halves.now) c.args.aim hs terminator of c.args.input.now c.requires.goes c.args.bounds.low c.args.bounds.high b.0 b.1 b.2
-    c.run_leg.new.input (after g k) c.in-Some.hit.start (begun g k).2 (carried g k hs terminator of guards) c.run_forwards.result
+    c.run_leg.new.input (after g k) c.in-Some.start.from (begun g k).2 (carried g k hs terminator of guards) c.run_forwards.result
     (c.run_forwards.ensures.met hs terminator of)
 
 pub returns-in-Ended-clause-numbered : goal.returns-in-Ended-clause-numbered
@@ -111,7 +110,7 @@ returns-in-Ended-clause-numbered g c hs terminator of =
     let b = c.requires.bounds in
     let at = begun g k in let lt = at.1 in
     needle.leg_numbered (g.H.Halves.AreOf c.args.halves.now) c.args.aim hs terminator of c.args.input.now c.requires.goes c.args.bounds.low c.args.bounds.high b.0 b.1 b.2
-    c.find_from.new.input (keeps g k) c.in-Some.hit.start at.2 (omega (arith, lt)) c.in_ok-met.field-0 c.in-Ended.met
+    c.next_start.new.input (keeps g k) c.in-Some.start.from at.2 (omega (arith, lt)) c.in_ok-met.field-0 c.in-Ended.met
     (c.in_ok-met.ensures.leg c.args.aim hs terminator of) c.in-Ended.is
 
 pub returns-then-i-from-clause-numbered : goal.returns-then-i-from-clause-numbered
@@ -120,15 +119,15 @@ returns-then-i-from-clause-numbered g c hs terminator of =
     let b = c.requires.bounds in
     let at = begun g k in let lt = at.1 in
     needle.run_numbered (g.H.Halves.AreOf c.args.halves.now) c.args.aim hs terminator of c.args.input.now c.requires.goes c.args.bounds.low c.args.bounds.high b.0 b.1 b.2
-    c.run_leg.new.input (after g k) c.in-Some.hit.start at.2 (omega (arith, lt)) c.run_forwards.result (c.run_forwards.ensures.met hs terminator of)
+    c.run_leg.new.input (after g k) c.in-Some.start.from at.2 (omega (arith, lt)) c.run_forwards.result (c.run_forwards.ensures.met hs terminator of)
 
 pub returns-then-i-from-clause-spends : goal.returns-then-i-from-clause-spends
 returns-then-i-from-clause-spends g c =
     let k = (goal.at.returns-then-i-from-clause-spends g c).After-run_leg in
     let b = c.requires.bounds in let at = begun g k in
-    let more = high c.run_leg.new.input - c.in-Some.hit.start + 2 in
+    let more = high c.run_leg.new.input - c.in-Some.start.from + 2 in
     g.met.H.Halves.spends_within c.args.halves.now c.args.cache.now c.run_forwards.new.cache (before g k + by_run g k + more) (cost_forwards c.args.input.now)
-    (needle.cost_both c.args.input.now c.find_from.new.input (keeps g k) c.args.bounds.low c.args.bounds.high c.runs.at c.in-Some.hit.start b.0 b.1
+    (needle.cost_both c.args.input.now c.next_start.new.input (keeps g k) c.args.bounds.low c.args.bounds.high c.runs.at c.in-Some.start.from b.0 b.1
     c.runs.invariant.low at.0 at.1 c.run_leg.new.input (after g k))
     (g.met.H.Halves.spends_both c.args.halves.now c.args.cache.now c.run_leg.new.cache c.run_forwards.new.cache (before g k + by_run g k) more
     (spent g k) c.run_forwards.ensures.spends)
@@ -137,13 +136,13 @@ pub returns-then-i-from-clause-fault : goal.returns-then-i-from-clause-fault
 returns-then-i-from-clause-fault g c hs terminator of =
     let k = (goal.at.returns-then-i-from-clause-fault g c).After-run_leg in
     let b = c.requires.bounds in let at = begun g k in
-    let more = high c.run_leg.new.input - c.in-Some.hit.start + 2 in
+    let more = high c.run_leg.new.input - c.in-Some.start.from + 2 in
     fault_within hs (search_for c.args.aim hs terminator c.args.input.now)
     (g.H.Halves.GivesUp c.args.halves.now c.run_leg.new.cache c.run_forwards.new.cache more)
     (g.H.Halves.GivesUp c.args.halves.now c.args.cache.now c.run_forwards.new.cache (cost_forwards c.args.input.now))
     c.run_forwards.result
     (λ memory gave. g.met.H.Halves.gives_up_within c.args.halves.now c.args.cache.now c.run_forwards.new.cache (before g k + by_run g k + more) (cost_forwards c.args.input.now) memory
-    (needle.cost_both c.args.input.now c.find_from.new.input (keeps g k) c.args.bounds.low c.args.bounds.high c.runs.at c.in-Some.hit.start b.0 b.1
+    (needle.cost_both c.args.input.now c.next_start.new.input (keeps g k) c.args.bounds.low c.args.bounds.high c.runs.at c.in-Some.start.from b.0 b.1
     c.runs.invariant.low at.0 at.1 c.run_leg.new.input (after g k))
     (g.met.H.Halves.gives_up_later c.args.halves.now c.args.cache.now c.run_leg.new.cache c.run_forwards.new.cache (before g k + by_run g k) more memory (spent g k) gave))
     (subst (λ q. IfErr c.run_forwards.result (IsFault hs q (g.H.Halves.GivesUp c.args.halves.now c.run_leg.new.cache c.run_forwards.new.cache more)))
@@ -153,7 +152,7 @@ pub runs-preserved : goal.runs-preserved
 runs-preserved g c =
     let k = (goal.at.runs-preserved g c).After-run_leg in
     let b = c.requires.bounds in let at = begun g k in let low_from = at.2 in
-    let on = needle.came_on c.args.input.now c.args.bounds.high b.1 c.find_from.new.input (keeps g k) c.in-Some.hit.start c.in_ok-met.field-0 c.in-Rested.i
+    let on = needle.came_on c.args.input.now c.args.bounds.high b.1 c.next_start.new.input (keeps g k) c.in-Some.start.from c.in_ok-met.field-0 c.in-Rested.i
     c.in_ok-met.ensures.on c.in-Rested.is in
     let low_i = on.0 in
     let further = c.if-i-from.false in
@@ -164,11 +163,11 @@ runs-preserved g c =
       high = on.1;
       spends = g.met.H.Halves.spends_within c.args.halves.now c.args.cache.now c.run_leg.new.cache (before g k + by_run g k)
           ((c.in-Rested.i - c.args.bounds.low) * (c.args.bounds.high - c.args.bounds.low + 2))
-          (needle.cost_on c.args.input.now c.find_from.new.input (keeps g k) c.args.bounds.low c.args.bounds.high c.runs.at c.in-Some.hit.start b.0 b.1
+          (needle.cost_on c.args.input.now c.next_start.new.input (keeps g k) c.args.bounds.low c.args.bounds.high c.runs.at c.in-Some.start.from b.0 b.1
           c.runs.invariant.low at.0 at.1 c.in-Rested.i (omega (arith, further)) on.1)
           (spent g k);
       carried = λ hs terminator of guards.
           needle.run_rested (g.H.Halves.AreOf c.args.halves.now) c.args.aim hs terminator of c.args.input.now c.requires.goes c.args.bounds.low c.args.bounds.high b.0 b.1 b.2
-          c.find_from.new.input (keeps g k) c.in-Some.hit.start at.2 (carried g k hs terminator of guards) c.in_ok-met.field-0 c.in-Rested.i
+          c.next_start.new.input (keeps g k) c.in-Some.start.from at.2 (carried g k hs terminator of guards) c.in_ok-met.field-0 c.in-Rested.i
           (c.in_ok-met.ensures.leg c.args.aim hs terminator of) c.in-Rested.is;
     }

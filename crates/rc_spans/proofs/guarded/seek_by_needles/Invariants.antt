@@ -2,8 +2,7 @@ use Rattle.std.proofs.Common.{◌+◌, ◌-◌, ◌*◌, ◌≤◌, ℕ, List}
 use Rattle.rc_text.specs.Text.{Keeps}
 use Rattle.rc_pattern.specs.Re.{Re}
 use Rattle.rc_program.specs.Program.{program}
-use Rattle.rc_literal.specs.Guards.{Guards}
-use Rattle.rc_literal.specs.Prefilters.{needles_of}
+use Rattle.rc_guards.specs.Guard.{IsGuard}
 use Rattle.rc_spans.specs.Aims.{AreHalvesOf, search_for}
 use Rattle.rc_spans.specs.Rests.{GivesToo}
 use Rattle.rc_spans.proofs.guarded.seek_by_needles.Given as goal
@@ -16,7 +15,7 @@ invariant-runs g l = record {
   low : l.bounds.low ≤ l.at;
   high : l.at ≤ l.bounds.high;
   spends : g.H.Halves.Spends l.halves l.fn.cache l.cache ((l.at - l.bounds.low) * (l.bounds.high - l.bounds.low + 2));
-  carried : (hs : List Re) (terminator : ℕ) (of : AreHalvesOf (g.H.Halves.AreOf l.halves) l.aim hs terminator) → Guards (program hs) terminator (needles_of l.needles)
+  carried : (hs : List Re) (terminator : ℕ) (of : AreHalvesOf (g.H.Halves.AreOf l.halves) l.aim hs terminator) → IsGuard (program hs) terminator l.guard
       → GivesToo of.ahead (search_for l.aim hs terminator l.fn.input) l.at l.bounds.low;
 }
 

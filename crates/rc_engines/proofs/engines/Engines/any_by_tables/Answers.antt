@@ -1,8 +1,7 @@
 use Rattle.std.proofs.Common.{MatchOption, ◌∙◌, subst}
 use Rattle.std.specs.Bool.{⊤}
 use Rattle.rc_program.specs.Places.{places_of}
-use Rattle.rc_literal.specs.Guards.{Guards}
-use Rattle.rc_literal.specs.Prefilters.{needles_of}
+use Rattle.rc_guards.specs.Guard.{IsGuard}
 use Rattle.rc_engines.proofs.TableLemmas.{tables_tell_any, tables_tell_any_by}
 use Rattle.rc_engines.proofs.engines.Engines.any_by_tables.Goals as goal
 
@@ -17,9 +16,7 @@ pub returns-in-Some-clause-found : goal.returns-in-Some-clause-found
 returns-in-Some-clause-found g c =
     let e = c.args.self.now in
     let p = e.engine.program in
-    let guards =
-    subst (λ o. MatchOption o ⊤ (λ q. Guards (places_of p.places.items) p.terminator (needles_of q.now))) c.in-Some.is
-    (c.fast_guards_of.ensures.sound (places_of p.places.items) p.terminator p.passes_over e.engine.sound) in
+    let guards = subst (λ o. MatchOption o ⊤ (IsGuard (places_of p.places.items) p.terminator)) c.in-Some.is c.guard.ensures in
     c.is_some-in-Some.ensures
     ∙ tables_tell_any_by e.engine e.patterns c.args.input.now c.aim.result c.requires.own c.aim.ensures c.in_ok-found.found
-    (λ hs same h. c.in_ok-found.ensures.found hs p.terminator h (subst (λ ps. Guards ps p.terminator (needles_of c.in-Some.needles.now)) same guards))
+    (λ hs same h. c.in_ok-found.ensures.found hs p.terminator h (subst (λ ps. IsGuard ps p.terminator c.in-Some.guard) same guards))

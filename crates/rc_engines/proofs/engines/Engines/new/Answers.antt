@@ -2,7 +2,7 @@ use Rattle.rc_engines.proofs.TableLemmas.{names_groups}
 use Rattle.rc_engines.proofs.engines.Engines.new.Goals as goal
 
 pub invariant_of-result-clause-numbered : goal.invariant_of-result-clause-numbered
-invariant_of-result-clause-numbered g c = names_groups c.args.engine c.args.patterns g.hs c.requires.1.0 c.requires.1.1.0
+invariant_of-result-clause-numbered g c = names_groups c.args.engine c.args.patterns g.hs c.requires.1.1.0 c.requires.1.1.1.0
 
 pub returns-clause-barred : goal.returns-clause-barred
 returns-clause-barred g c = c.in_ok-tables.ensures.barred

@@ -1,0 +1,5 @@
+pub mod Guard
+pub mod Laws
+pub mod Needs
+pub mod Required
+pub mod Stops

@@ -1,0 +1,51 @@
+//! What each match of some patterns holds, where it is worth a search.
+ghost use Rattle.std.specs.Prelude.{IfOk, IfSome, map};
+ghost use Rattle.rc_pattern.specs.Meaning.{meaning};
+ghost use Rattle.rc_program.specs.Text.{Text};
+ghost use Rattle.rc_literal.specs.Prefilters.{needles_of};
+ghost use Rattle.rc_guards.specs.Needs.{Holds, LeavesOut};
+
+use crate::guard::Needs;
+use crate::required::required;
+use crate::stops::stops_of;
+use rc_literal::prefilter::from_needles;
+use rc_pattern::hir::Hir;
+use std::alloc::{AllocError, Global};
+
+/// Whether the byte stands close together in most texts.
+fn is_common(byte: u8) -> bool {
+    matches!(byte, b' ' | b'\n' | b'0'..=b'9' | b'a'..=b'z')
+}
+
+/// Whether none of the needles is a single byte that stands close together in most texts.
+fn are_rare(needles: &[Vec<u8>]) -> bool {
+    for needle in needles {
+        if needle.len() < 2 && needle.iter().all(|byte| is_common(*byte)) {
+            return false;
+        }
+    }
+    true
+}
+
+/// Needles of which each match of the patterns holds one, and the bytes of which it has none. None where there are no such needles, and where a
+/// search for them isn't likely to pass over much: one of them is a single byte that stands close together in most texts, or they are so
+/// many that they are not sought fast. Which it is, is a matter of speed alone. An `Err` is want of memory.
+pub fn needs_of(alloc: Global, hirs: &[Hir]) -> Result<Option<Needs>, AllocError>
+    ensures holds { IfOk result (λ found. IfSome found (λ n. (t : Text) → Holds t (map meaning hirs.now) (needles_of n.needles))) }
+    ensures leaves { IfOk result (λ found. IfSome found (λ n. (t : Text) → LeavesOut t (map meaning hirs.now) n.stops.table)) }
+{
+    let Some(list) = required(alloc, hirs)? else {
+        return Ok(None);
+    };
+    if !are_rare(&list) {
+        return Ok(None);
+    }
+    let Some(needles) = from_needles(alloc, list)? else {
+        return Ok(None);
+    };
+    if !needles.is_fast() {
+        return Ok(None);
+    }
+    let stops = stops_of(hirs);
+    Ok(Some(Needs { needles, stops }))
+}
