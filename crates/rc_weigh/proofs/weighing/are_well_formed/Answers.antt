@@ -5,9 +5,11 @@ use Rattle.rc_weigh.proofs.WeighingLemmas.{one_unsound}
 use Rattle.rc_weigh.proofs.weighing.are_well_formed.Goals as goal
 
 pub returns-then-not-branch : goal.returns-then-not-branch
-returns-then-not-branch c =
-    (λ yes. absurd (false≢true yes), λ all. absurd (one_unsound c.args.hirs.now c.loop-hir.hir-index _ c.loop-hir-test.true
-    c.hir-item.is (iff_false c.in_ok-is_well_formed.ensures c.if-not-branch.true) all))
+returns-then-not-branch c = (
+  λ yes. absurd (false≢true yes),
+  λ all. absurd (one_unsound c.args.hirs.now c.loop-hir.hir-index _ c.loop-hir-test.true
+      c.hir-item.is (iff_false c.in_ok-is_well_formed.ensures c.if-not-branch.true) all),
+)
 
 pub loop-hir-preserved : goal.loop-hir-preserved
 loop-hir-preserved c =
