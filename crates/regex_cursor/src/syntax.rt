@@ -1,4 +1,5 @@
-//! The texts of patterns, and why one is not read.
+//! The texts of patterns, why one is not read, and how heavy patterns are that a limit on their size refuses.
 
 pub use rc_explain::{Explained, Fault, FaultKind, explain};
 pub use rc_parser::{Config, Error, parse};
+pub use rc_weigh::{Oversize, explain_size};

@@ -8,6 +8,7 @@ use rc_settings::error::BuildError;
 use rc_text::types::PatternID;
 use regex_cursor::engines::meta::Regex;
 use regex_cursor::engines::pikevm::PikeVM;
+use regex_cursor::syntax::{Oversize, explain_size};
 use std::alloc::{AllocError, Global};
 use std::test::Fail;
 
@@ -58,6 +59,23 @@ fn limits_on_the_size(rt: HostRuntime) -> Result<(), Fail> {
         assert!(rt; check(alloc, &heaviest, Some(limit)) == Err(refusal));
     }
     assert!(rt; check(alloc, &heaviest, None) == heavy);
+    Ok(())
+}
+
+/// `a{46}` alone weighs 145, which is 4640 bytes.
+#[test]
+fn sizes_beside_a_limit(rt: HostRuntime) -> Result<(), Fail> {
+    let alloc = rt.alloc();
+    let hirs = [rc_parser::parse(alloc, "a{46}", &Config::new())?];
+    assert!(rt; explain_size(alloc, &hirs, None)?.is_none());
+    assert!(rt; explain_size(alloc, &hirs, Some(4640))?.is_none());
+    let (weight, limit) = (145, 4639);
+    let oversize = Oversize { weight, limit };
+    assert!(rt; explain_size(alloc, &hirs, Some(limit))? == Some(oversize));
+    let line = format!(in alloc; "{oversize}")?;
+    let want =
+        "the patterns take 4640 bytes, 32 for each of their weight of 145, more than the limit of 4639";
+    assert!(rt; line.as_str() == want);
     Ok(())
 }
 

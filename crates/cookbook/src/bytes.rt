@@ -1,0 +1,42 @@
+//! The bytes of a match, out of chunks, and chunks that are owned.
+
+use regex_cursor::Input;
+use regex_cursor::cursor::{Cursor, SliceCursor, SpanPieces};
+use regex_cursor::engines::meta::Regex;
+use regex_cursor::run::{RunError, Sink, put_span};
+use regex_cursor::types::{Match, Span};
+use std::alloc::{AllocError, Global};
+
+/// The first match in pages that are owned.
+pub fn first_in_pages(
+    alloc: Global,
+    regex: &Regex,
+    pages: &[Vec<u8>],
+) -> Result<Option<Match>, RunError> {
+    let input = Input::new(SliceCursor::new(pages)?);
+    let found = regex.find(alloc, input)?;
+    Ok(found)
+}
+
+/// The bytes of a span.
+pub fn bytes_of<C: Cursor + Drop>(
+    alloc: Global,
+    text: C,
+    span: Span,
+) -> Result<Vec<u8>, AllocError> {
+    let mut bytes = Vec::new(alloc);
+    let mut pieces = SpanPieces::new(text, span);
+    while pieces.advance() {
+        bytes.extend_from_slice(pieces.piece())?;
+    }
+    Ok(bytes)
+}
+
+/// Puts the bytes of a match.
+pub fn put_match<W: Sink, C: Cursor>(
+    out: &mut W,
+    text: &mut C,
+    found: Match,
+) -> Result<(), RunError> {
+    put_span(out, text, found.span()).map_err(|_| RunError::Write)
+}

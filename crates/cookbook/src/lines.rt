@@ -1,0 +1,24 @@
+//! The lines with a match.
+
+use regex_cursor::Input;
+use regex_cursor::cursor::ChunkCursor;
+use regex_cursor::engines::meta::{Finder, Regex};
+use regex_cursor::types::Span;
+use std::alloc::{AllocError, Global};
+
+/// The lines with a match, as if there was nothing around each. `newline` is a regex of the pattern `\n`.
+pub fn lines_with_a_match(
+    alloc: Global,
+    newline: &Regex,
+    finder: &mut Finder<'_>,
+    text: ChunkCursor<'_>,
+) -> Result<Vec<Span>, AllocError> {
+    let mut input = Input::new(text);
+    let mut lines = Vec::new(alloc);
+    for line in newline.split(alloc, Input::new(text))? {
+        if finder.is_match(input.slice(line.start, line.start + line.len())) {
+            lines.push(line)?;
+        }
+    }
+    Ok(lines)
+}

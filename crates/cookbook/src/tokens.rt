@@ -1,0 +1,52 @@
+//! A tokenizer.
+
+use regex_cursor::Input;
+use regex_cursor::cursor::ChunkCursor;
+use regex_cursor::engines::meta::{Finder, Regex};
+use regex_cursor::types::{Anchored, Match, Span};
+use std::alloc::{AllocError, Global};
+
+/// The kinds of tokens, in the order in which they are preferred.
+pub const KINDS: [&str; 4] = [r"[ \t\n]+", r"[A-Za-z_]\w*", r"[0-9]+", r"[-+*/=();]"];
+
+/// The number of the kind of words.
+const WORD: usize = 1;
+
+/// The words among the tokens.
+pub fn words(alloc: Global, kinds: &Regex, text: ChunkCursor<'_>) -> Result<Vec<Span>, AllocError> {
+    let mut words = Vec::new(alloc);
+    let input = Input::new(text).with_anchored(Anchored::Yes);
+    for token in kinds.find_iter(alloc, input)? {
+        if token.pattern().as_usize() == WORD {
+            words.push(token.span())?;
+        }
+    }
+    Ok(words)
+}
+
+/// Gives the tokens of a text, one after another.
+#[derive(Drop)]
+pub struct Lexer<'r, 't> {
+    finder: Finder<'r>,
+    input: Input<ChunkCursor<'t>>,
+}
+
+impl<'r, 't> Lexer<'r, 't> {
+    /// Before the first token.
+    pub fn new(
+        alloc: Global,
+        kinds: &'r Regex,
+        text: ChunkCursor<'t>,
+    ) -> Result<Lexer<'r, 't>, AllocError> {
+        let finder = Finder::new(alloc, kinds)?;
+        let input = Input::new(text).with_anchored(Anchored::Yes);
+        Ok(Lexer { finder, input })
+    }
+
+    /// The next token.
+    pub fn next_token(&mut self) -> Option<Match> {
+        let token = self.finder.find(&mut self.input)?;
+        self.input.set_start(token.end());
+        Some(token)
+    }
+}

@@ -1,0 +1,26 @@
+-- What is told of patterns whose build is refused for their size.
+use Rattle.std.specs.Prelude.{◌≡◌, ℕ, ◌*◌, ◌^◌, ◌-◌, nat_lt, ◌++◌, if◌then◌else◌, codes, min, List, Option, Some}
+use Rattle.std.specs.Fmt.{decimal}
+use Rattle.rc_pattern.specs.Re.{Re}
+use Rattle.rc_pattern.specs.Weight.{list_weight}
+use Rattle.rc_settings.specs.declared.error.BuildError.TheVariants.{SizeLimit}
+use Rattle.rc_build.specs.Refusals.{IsRefusal}
+use Rattle.rc_weigh.specs.declared.oversize.Oversize.{Oversize}
+
+-- a build of the patterns under the limit isn't refused for their size
+abbrev pub IsUnrefused : Option ℕ → List Re → Type 0
+IsUnrefused limit hs = (n : ℕ) → ¬ IsRefusal limit hs (SizeLimit n)
+
+-- A build of the patterns under the limit is refused for their size. The limit is told, and the weight, up to 2 to the power of 64.
+pub record IsOversize (limit : Option ℕ) (hs : List Re) (o : Oversize) : Type 0 where
+  pub refused : IsRefusal limit hs (SizeLimit o.limit)
+  pub weighed : o.weight ≡ min (list_weight hs) (2 ^ 64)
+
+-- what stands before a size that may be more
+abbrev pub bound_of : ℕ → List ℕ
+bound_of weight = if nat_lt weight (2 ^ 64) then codes "" else codes "at least "
+
+-- what `{}` writes: the size, the weight and the limit
+abbrev pub oversize_line : Oversize → Option (List ℕ)
+oversize_line o = Some (codes "the patterns take " ++ bound_of o.weight ++ decimal (min (o.weight * 32) (2 ^ 128 - 1))
+    ++ codes " bytes, 32 for each of their weight of " ++ decimal o.weight ++ codes ", more than the limit of " ++ decimal o.limit)

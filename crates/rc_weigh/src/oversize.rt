@@ -1,0 +1,32 @@
+//! The weight of patterns beside a limit on their size.
+
+ghost use Rattle.rc_weigh.specs.Oversized.{oversize_line};
+
+use std::fmt;
+
+/// From here on a weight is told as this.
+const CAP: u128 = 0x1_0000_0000_0000_0000;
+
+/// How heavy patterns are whose size is above a limit. It is shown as a line that tells the size, the weight and the limit.
+#[derive(Clone, Copy, Debug, PartialEq, Eq)]
+pub struct Oversize {
+    /// The weight of the patterns, or 2 to the power of 64 where it is above that. The size is 32 times the weight, in bytes.
+    pub weight: u128,
+    /// The limit on the size, in bytes.
+    pub limit: usize,
+}
+
+impl fmt::Display for Oversize {
+    ghost output = { oversize_line };
+
+    fn fmt<W: fmt::Write>(&self, f: &mut fmt::Formatter<W>) -> fmt::Result {
+        let weight = self.weight;
+        let size = weight.saturating_mul(32);
+        let limit = self.limit;
+        let bound = if weight < CAP { "" } else { "at least " };
+        write!(
+            f,
+            "the patterns take {bound}{size} bytes, 32 for each of their weight of {weight}, more than the limit of {limit}"
+        )
+    }
+}

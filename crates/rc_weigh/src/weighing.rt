@@ -1,0 +1,49 @@
+//! Says how heavy patterns are that are too large for a limit.
+
+ghost use Rattle.std.specs.Prelude.{◌↔◌, map, All, IfOk, IsTrue, MatchOption};
+ghost use Rattle.rc_pattern.specs.Meaning.{meaning};
+ghost use Rattle.rc_pattern.specs.WellFormed.{IsWellFormed};
+ghost use Rattle.rc_weigh.specs.Oversized.{IsOversize, IsUnrefused};
+
+use crate::oversize::Oversize;
+use rc_pattern::check::{capped_list_weight, is_well_formed};
+use rc_pattern::hir::Hir;
+use std::alloc::{AllocError, Global};
+
+/// How heavy the patterns are whose build under this limit, in bytes, is refused with `SizeLimit`: they are well-formed, and
+/// 32 times their weight is above it.
+///
+/// It is `None` exactly where such a build isn't refused for the patterns' size. An `Err` is want of memory.
+pub fn explain_size(
+    alloc: Global,
+    hirs: &[Hir],
+    limit: Option<usize>,
+) -> Result<Option<Oversize>, AllocError>
+    ensures { IfOk result (λ found. MatchOption found
+        (IsUnrefused limit (map meaning hirs.now))
+        (λ oversize. IsOversize limit (map meaning hirs.now) oversize)) }
+{
+    let Some(limit) = limit else {
+        return Ok(None);
+    };
+    if !are_well_formed(alloc, hirs)? {
+        return Ok(None);
+    }
+    let weight = capped_list_weight(hirs);
+    if 32 * weight > limit as u128 {
+        return Ok(Some(Oversize { weight, limit }));
+    }
+    Ok(None)
+}
+
+/// Whether each pattern is well-formed.
+fn are_well_formed(alloc: Global, hirs: &[Hir]) -> Result<bool, AllocError>
+    ensures { IfOk result (λ b. IsTrue b ↔ All IsWellFormed (map meaning hirs.now)) }
+{
+    for hir in hirs {
+        if !is_well_formed(alloc, hir)? {
+            return Ok(false);
+        }
+    }
+    Ok(true)
+}
