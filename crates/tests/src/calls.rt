@@ -260,25 +260,33 @@ fn keeps_states(alloc: Global, states: &hybrid::Regex) -> Result<bool, AllocErro
     Ok(first == second && fresh < met && again == met && clears == 0)
 }
 
-/// Whether the least capacity serves, and one byte less is refused with both told.
-fn needs(alloc: Global, pattern: &str, least: usize) -> Result<bool, BuildError> {
+/// The least capacity and the one that was given, as they are told where this one is refused.
+fn refusal_of(
+    alloc: Global,
+    pattern: &str,
+    capacity: usize,
+) -> Result<Option<(usize, usize)>, BuildError> {
     let mut builder = hybrid::Regex::builder();
-    builder.dfa(States::new().cache_capacity(least));
-    let states = builder.build(alloc, pattern)?;
-    drop(states);
-    builder.dfa(States::new().cache_capacity(least.saturating_sub(1)));
+    builder.dfa(States::new().cache_capacity(capacity));
     match builder.build(alloc, pattern) {
         Ok(states) => {
             drop(states);
-            Ok(false)
+            Ok(None)
         }
-        Err(BuildError::CacheTooSmall { minimum, given }) => {
-            Ok(minimum == least && given == least.saturating_sub(1))
-        }
+        Err(BuildError::CacheTooSmall { minimum, given }) => Ok(Some((minimum, given))),
         Err(error) => Err(error),
     }
 }
 
+/// Whether the least capacity serves, and one byte less is refused with both told.
+fn needs(alloc: Global, pattern: &str, least: usize) -> Result<bool, BuildError> {
+    let below = least.saturating_sub(1);
+    let serves = refusal_of(alloc, pattern, least)?.is_none();
+    Ok(serves && refusal_of(alloc, pattern, below)? == Some((least, below)))
+}
+
+/// Its rows have 5 cells, for 4 classes of bytes and the end, and its program has 8 places: 8 · 5 · 5 bytes for the rows of five states,
+/// 8 · 3 · 5 for the starts, and 5 · (32 + 8 · 8) for the states.
 #[test]
 fn states_are_kept(rt: HostRuntime) -> Result<(), Fail> {
     let alloc = rt.alloc();
@@ -286,6 +294,19 @@ fn states_are_kept(rt: HostRuntime) -> Result<(), Fail> {
     let least = states.minimum_cache_capacity();
     let keeps = keeps_states(alloc, &states);
     drop(states);
+    assert!(rt; least == 800);
     assert!(rt; keeps? && needs(alloc, "[ab]*a", least)?);
+    Ok(())
+}
+
+/// Its rows have 4 cells, and its program 6 places.
+#[test]
+fn a_cache_of_no_bytes_is_refused(rt: HostRuntime) -> Result<(), Fail> {
+    let alloc = rt.alloc();
+    let states = hybrid::Regex::new(alloc, "x*")?;
+    let least = states.minimum_cache_capacity();
+    drop(states);
+    assert!(rt; least == 656);
+    assert!(rt; refusal_of(alloc, "x*", 0)? == Some((656, 0)));
     Ok(())
 }

@@ -12,11 +12,15 @@ mod grammar;
 #[cfg(test)]
 mod lent;
 #[cfg(test)]
+mod moves;
+#[cfg(test)]
 mod paged;
 #[cfg(test)]
 mod programs;
 #[cfg(test)]
 mod refusals;
+#[cfg(test)]
+mod replaces;
 #[cfg(test)]
 mod searchers;
 #[cfg(test)]

@@ -82,11 +82,8 @@ fn finds_matches(rt: HostRuntime) {
 #[test]
 fn replaces_matches(rt: HostRuntime) {
     let usage = "usage: rcsub PATTERN TEMPLATE CHUNK\n";
-    let rows: [Row; 12] = [
+    let rows: [Row; 9] = [
         (&["(..)(..)", "${2}${1}", "3"], "abcde!", 0, "cdabe!", ""),
-        (&["x*", "-", "1"], "ab", 0, "-a-b-", ""),
-        (&["(a)|(b)", "<${1}>", "1"], "ab", 0, "<a><>", ""),
-        (&["a", "$$${0}${9}", "1"], "a", 0, "$a", ""),
         (&["z", "-", "1048576"], "abc", 1, "abc", ""),
         (&["(?P<y>a)", "[${z}${y}]", "1"], "ba", 0, "b[a]", ""),
         (&["(?P<n.a[0]_>x)", "${n.a[0]_}", "1"], "x", 0, "x", ""),
@@ -99,11 +96,34 @@ fn replaces_matches(rt: HostRuntime) {
     answers(&rt, rt.alloc(), Program::Replace, &rows);
 }
 
+/// Rows over chunks of one byte, of five, and in one chunk.
+#[test]
+fn replaces_over_chunks(rt: HostRuntime) {
+    for (pattern, template, text, status, wanted) in [
+        (r"(\d+)-(\d+)", "${2}-${1}", "a12-34b5-6", 0, "a34-12b6-5"),
+        ("x*", "-", "ab", 0, "-a-b-"),
+        ("(a)|(b)", "<${1}>", "ab", 0, "<a><>"),
+        ("a", "$$${0}${9}", "a", 0, "$a"),
+        ("a", "", "bab", 0, "bb"),
+        ("a", "aa", "aa", 0, "aaaa"),
+        ("^|$", "|", "ab", 0, "|ab|"),
+        ("", "-", "", 0, "-"),
+        ("a", "-", "", 1, ""),
+    ] {
+        for chunk in ["1", "5", "1048576"] {
+            let row: Row = (&[pattern, template, chunk], text, status, wanted, "");
+            answers(&rt, rt.alloc(), Program::Replace, &[row]);
+        }
+    }
+}
+
 /// Templates, each of which is refused at this byte.
 #[test]
 fn refuses_templates(rt: HostRuntime) {
     for (template, line) in [
         ("$", "error parsing template at byte 0\n"),
+        ("${}", "error parsing template at byte 0\n"),
+        ("${1}$", "error parsing template at byte 4\n"),
         ("a${x", "error parsing template at byte 1\n"),
         ("$$$", "error parsing template at byte 2\n"),
         ("${1a}", "error parsing template at byte 0\n"),
@@ -126,6 +146,20 @@ impl Read for Broken {
     fn read(&mut self, _: &mut [u8]) -> io::Result<usize> {
         Err(io::Error::from(io::ErrorKind::BrokenPipe))
     }
+}
+
+/// The template is read before the input: of a reader that fails, and a template that isn't read, the template is told.
+#[test]
+fn refuses_a_template_before_it_reads(rt: HostRuntime) {
+    let mut out = [0; 1];
+    let (status, line) = told(
+        rt.alloc(),
+        Program::Replace,
+        &["a", "$", "1"],
+        &mut Broken,
+        &mut Written::new(&mut out[..]),
+    );
+    assert!(rt; status == 2 && !line.starts_with(b"read"));
 }
 
 #[test]
