@@ -276,8 +276,8 @@ fn by_regex(alloc: Global, regex: &Regex, input: &mut Input<Recut>) -> Result<To
     Ok(Told { found, slots })
 }
 
-/// The match that the regex finds.
-fn found_by_regex(
+/// The match that the regex finds, in a cache that is lent.
+pub fn found_by_regex(
     alloc: Global,
     regex: &Regex,
     input: &mut Input<Recut>,

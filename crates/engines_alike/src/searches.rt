@@ -1,7 +1,7 @@
 //! What is found over one cursor, and whether it is what the row wants.
 
 use crate::cursors::Recut;
-use crate::engines::{Engines, half_of};
+use crate::engines::{Engines, found_by_regex, half_of};
 use crate::faults::{Fault, Part, same};
 use crate::inputs::{input, is_again, pair_of, start_at};
 use crate::row::{Pair, Quits, Row, Want};
@@ -35,7 +35,29 @@ pub fn first(alloc: Global, engines: &mut Engines, row: &Row, cursor: Recut) -> 
     let other = found_by(alloc, &engines.tabled, row, cursor)?;
     same(other == found, Fault::FindByTables)?;
     by_tables(engines, row, cursor)?;
+    early(alloc, engines, row, cursor)?;
     by_calls(alloc, &engines.regex, found, row, cursor)
+}
+
+/// With the earliest flag on each regex finds some match exactly where one is wanted.
+fn early(alloc: Global, engines: &Engines, row: &Row, cursor: Recut) -> Result<(), Fault> {
+    early_by(alloc, &engines.regex, row, cursor)?;
+    early_by(alloc, &engines.unfiltered, row, cursor)?;
+    early_by(alloc, &engines.tabled, row, cursor)
+}
+
+/// With the earliest flag on the regex finds some match exactly where one is wanted.
+fn early_by(alloc: Global, regex: &Regex, row: &Row, cursor: Recut) -> Result<(), Fault> {
+    let mut input = input(row, cursor)?.with_earliest(true);
+    let found = found_by_regex(alloc, regex, &mut input)?;
+    same(is_as_wanted(row, found), Fault::EarlyWith)?;
+    let found = regex.find(alloc, input)?;
+    same(is_as_wanted(row, found), Fault::Early)
+}
+
+/// There is a match exactly where the row wants one.
+fn is_as_wanted(row: &Row, found: Option<Match>) -> bool {
+    found.is_some() != row.spans.is_empty()
 }
 
 /// The calls of a regex that make a cache of their own tell the match.
@@ -119,8 +141,23 @@ fn by_table(engine: &mut TableEngine, row: &Row, cursor: Recut) -> Result<(), Fa
         Err(error) => engine.may_end_by(error, row.quits)?,
     };
     same(is_same, engine.fault(Part::Forward))?;
+    early_by_table(engine, row, &mut input)?;
     let is_same = row.settings.clears || engine.keeps_states();
     same(is_same, engine.fault(Part::Clear))
+}
+
+/// With the earliest flag on the engine finds some match exactly where one is wanted, or stops where the row says so.
+fn early_by_table(
+    engine: &mut TableEngine,
+    row: &Row,
+    input: &mut Input<Recut>,
+) -> Result<(), Fault> {
+    input.set_earliest(true);
+    let is_same = match engine.find(input) {
+        Ok(found) => is_as_wanted(row, found),
+        Err(error) => engine.may_end_by(error, row.quits)?,
+    };
+    same(is_same, engine.fault(Part::Early))
 }
 
 /// The match that the row wants ends here.
