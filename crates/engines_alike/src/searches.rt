@@ -9,7 +9,7 @@ use crate::tables::TableEngine;
 use rc_captures::captures::Captures;
 use rc_meta::regex::Regex;
 use rc_text::input::Input;
-use rc_text::types::{HalfMatch, Match};
+use rc_text::types::{HalfMatch, Match, MatchKind};
 use std::alloc::Global;
 
 /// Spans of matches, of groups or of pieces.
@@ -160,10 +160,14 @@ fn early_by_table(
     same(is_same, engine.fault(Part::Early))
 }
 
-/// The match that the row wants ends here.
+/// The match that the row wants ends here. Of greatest matches any pattern may be told of which one ends there.
 fn is_end_wanted(row: &Row, found: Option<HalfMatch>) -> bool {
     match (row.spans.first(), found) {
-        (Some(Some((_, end))), Some(found)) => found.offset() == *end,
+        (Some(Some((_, end))), Some(found)) => {
+            found.offset() == *end
+                && (row.settings.kind == MatchKind::All
+                    || found.pattern().as_usize() == row.number.unwrap_or(0))
+        }
         (None, None) => true,
         _ => false,
     }
