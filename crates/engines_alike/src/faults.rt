@@ -73,6 +73,8 @@ pub enum Part {
     Early,
     /// The one forwards alone.
     Forward,
+    /// The one backwards alone, from where the match ends.
+    Backward,
     /// One of those for the matches one after another.
     List,
     /// Any that lets states go, where a cache is large enough for all of them.

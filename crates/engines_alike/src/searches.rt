@@ -3,7 +3,7 @@
 use crate::cursors::Recut;
 use crate::engines::{Engines, found_by_regex, half_of};
 use crate::faults::{Fault, Part, same};
-use crate::inputs::{input, is_again, pair_of, start_at};
+use crate::inputs::{end_at, input, is_again, pair_of, start_at};
 use crate::row::{Pair, Quits, Row, Want};
 use crate::tables::TableEngine;
 use rc_captures::captures::Captures;
@@ -122,38 +122,88 @@ fn captured_by(alloc: Global, regex: &Regex, row: &Row, cursor: Recut) -> Result
 
 /// The engines that search by tables find the match that the row wants, or stop where it says so.
 fn by_tables(engines: &mut Engines, row: &Row, cursor: Recut) -> Result<(), Fault> {
+    let passes_over = engines.passes_over;
     for engine in &mut engines.tables {
-        by_table(engine, row, cursor)?;
+        by_table(engine, row, passes_over, cursor)?;
     }
     Ok(())
 }
 
-/// The engine finds the match that the row wants, and its end, or stops where the row says so.
-fn by_table(engine: &mut TableEngine, row: &Row, cursor: Recut) -> Result<(), Fault> {
+/// The engine finds the match that the row wants, its end and its start, or stops where the row says so.
+fn by_table(
+    engine: &mut TableEngine,
+    row: &Row,
+    passes_over: bool,
+    cursor: Recut,
+) -> Result<(), Fault> {
     let mut input = input(row, cursor)?;
-    let is_same = match engine.find(&mut input) {
-        Ok(found) => is_wanted(row, found) && !has_to_quit(row),
-        Err(error) => engine.may_end_by(error, row.quits)?,
-    };
-    same(is_same, engine.fault(Part::Find))?;
-    let is_same = match engine.find_end(&mut input) {
-        Ok(half) => is_end_wanted(row, half) && !has_to_quit(row),
-        Err(error) => engine.may_end_by(error, row.quits)?,
-    };
-    same(is_same, engine.fault(Part::Forward))?;
-    early_by_table(engine, row, &mut input)?;
+    let found = found_by_table(engine, row, &mut input)?;
+    end_by_table(engine, row, &mut input)?;
+    early_by_table(engine, row, cursor)?;
+    if let Some(found) = found {
+        end_at(&mut input, found.end());
+        start_by_table(engine, row, found, passes_over, &mut input)?;
+    }
     let is_same = row.settings.clears || engine.keeps_states();
     same(is_same, engine.fault(Part::Clear))
 }
 
-/// With the earliest flag on the engine finds some match exactly where one is wanted, or stops where the row says so.
-fn early_by_table(
+/// The match that the engine finds is the one wanted, or it stops where the row says so.
+fn found_by_table(
+    engine: &mut TableEngine,
+    row: &Row,
+    input: &mut Input<Recut>,
+) -> Result<Option<Match>, Fault> {
+    let (found, is_same) = match engine.find(input) {
+        Ok(found) => (found, is_wanted(row, found) && !has_to_quit(row)),
+        Err(error) => (None, engine.may_end_by(error, row.quits)?),
+    };
+    same(is_same, engine.fault(Part::Find))?;
+    Ok(found)
+}
+
+/// The end that the engine finds is the one wanted, or it stops where the row says so.
+fn end_by_table(
     engine: &mut TableEngine,
     row: &Row,
     input: &mut Input<Recut>,
 ) -> Result<(), Fault> {
-    input.set_earliest(true);
-    let is_same = match engine.find(input) {
+    let is_same = match engine.find_end(input) {
+        Ok(half) => is_end_wanted(row, half) && !has_to_quit(row),
+        Err(error) => engine.may_end_by(error, row.quits)?,
+    };
+    same(is_same, engine.fault(Part::Forward))
+}
+
+/// The start that the engine finds from the input's end, where the match ends, is that of the match, or it stops where the row says so.
+fn start_by_table(
+    engine: &mut TableEngine,
+    row: &Row,
+    found: Match,
+    passes_over: bool,
+    input: &mut Input<Recut>,
+) -> Result<(), Fault> {
+    let is_same = match engine.find_start(input) {
+        Ok(half) => is_start(half, found, passes_over),
+        Err(error) => engine.may_end_by(error, row.quits)?,
+    };
+    same(is_same, engine.fault(Part::Backward))
+}
+
+/// The match begins here. Where matches may be passed over, one that was may begin below it and end where it does, and none may be told
+/// that ends inside a character.
+fn is_start(half: Option<HalfMatch>, found: Match, passes_over: bool) -> bool {
+    let start = HalfMatch::new(found.pattern(), found.start());
+    match half {
+        None => passes_over,
+        Some(half) => half == start || (passes_over && half.offset() < found.start()),
+    }
+}
+
+/// With the earliest flag on the engine finds some match exactly where one is wanted, or stops where the row says so.
+fn early_by_table(engine: &mut TableEngine, row: &Row, cursor: Recut) -> Result<(), Fault> {
+    let mut input = input(row, cursor)?.with_earliest(true);
+    let is_same = match engine.find(&mut input) {
         Ok(found) => is_as_wanted(row, found),
         Err(error) => engine.may_end_by(error, row.quits)?,
     };

@@ -70,6 +70,11 @@ impl Hybrid {
         hybrid::try_search_fwd(&self.regex, &mut self.cache, input)
     }
 
+    /// Where the longest match begins that ends where the input does.
+    fn find_start(&mut self, input: &mut Input<Recut>) -> Result<Option<HalfMatch>, MatchError> {
+        hybrid::try_search_rev(&self.regex, &mut self.cache, input)
+    }
+
     /// The span of the next match. One that is empty and stands where the last ended gives way to the answer from a byte later.
     fn next_match(
         &mut self,
@@ -108,6 +113,17 @@ impl TableEngine {
         match self {
             TableEngine::Dfa(regex) => dfa::try_search_fwd(regex.forward(), input),
             TableEngine::Hybrid(hybrid) => hybrid.find_end(input),
+        }
+    }
+
+    /// Where the longest match begins that ends where the input does.
+    pub fn find_start(
+        &mut self,
+        input: &mut Input<Recut>,
+    ) -> Result<Option<HalfMatch>, MatchError> {
+        match self {
+            TableEngine::Dfa(regex) => dfa::try_search_rev(regex.reverse(), input),
+            TableEngine::Hybrid(hybrid) => hybrid.find_start(input),
         }
     }
 
