@@ -236,7 +236,7 @@ fn lists_by_tables(
     cursor: Recut,
 ) -> Result<(), Fault> {
     for engine in &mut engines.tables {
-        let listed = engine.list(alloc, input(row, cursor)?, row.spans.len())?;
+        let listed = engine.list(alloc, input(row, cursor)?)?;
         let is_same = match listed.error {
             None => listed.spans == row.spans && !matches!(row.quits, Quits::At(_)),
             Some(error) => {
