@@ -55,6 +55,8 @@ pub struct Engines {
     pub walks: bool,
     /// Whether an assertion of the patterns is decided by the characters around it.
     pub has_words: bool,
+    /// Whether matches may be passed over.
+    pub passes_over: bool,
 }
 
 /// What one search told.
@@ -73,8 +75,9 @@ impl Engines {
     ) -> Result<Engines, BuildError>
         requires { length patterns.now ≤ 2147483647 }
     {
-        let program = compiled(alloc, patterns, settings)?;
         let has_words = have_words(alloc, patterns, settings)?;
+        let passes_over = pass_over(alloc, patterns, settings)?;
+        let program = compiled(alloc, patterns, settings)?;
         let tables = tables(alloc, patterns, settings)?;
         let vm = settings.vm_builder().build_many(alloc, patterns)?;
         match regexes(alloc, patterns, settings) {
@@ -87,6 +90,7 @@ impl Engines {
                 program,
                 walks: settings.walker,
                 has_words,
+                passes_over,
             }),
             Err(error) => {
                 drop(vm);
@@ -197,6 +201,14 @@ fn have_words(alloc: Global, patterns: &[&str], settings: &Settings) -> Result<b
     Ok(false)
 }
 
+/// Whether matches may be passed over: empty ones stand on boundaries of characters alone, and some pattern may be empty.
+fn pass_over(alloc: Global, patterns: &[&str], settings: &Settings) -> Result<bool, BuildError>
+    requires { length patterns.now ≤ 2147483647 }
+{
+    let hirs = parse_all(alloc, patterns, &settings.syntax)?;
+    Ok(settings.utf8_empty && may_be_empty(&hirs))
+}
+
 /// The engines that search by tables: the DFA, unless the row wants none, a hybrid, and one with the least capacity. None finds longest
 /// matches.
 fn tables(
@@ -276,8 +288,8 @@ fn by_regex(alloc: Global, regex: &Regex, input: &mut Input<Recut>) -> Result<To
     Ok(Told { found, slots })
 }
 
-/// The match that the regex finds.
-fn found_by_regex(
+/// The match that the regex finds, in a cache that is lent.
+pub fn found_by_regex(
     alloc: Global,
     regex: &Regex,
     input: &mut Input<Recut>,

@@ -44,6 +44,9 @@ pub enum Fault {
     Find,
     FindUnfiltered,
     FindByTables,
+    /// What a regex finds with the earliest flag on, in a cache that is made for the call, and in one that is lent.
+    Early,
+    EarlyWith,
     Search,
     SearchHalf,
     IsMatch,
@@ -66,8 +69,12 @@ pub enum Fault {
 pub enum Part {
     /// The one in both directions.
     Find,
+    /// The one in both directions with the earliest flag on.
+    Early,
     /// The one forwards alone.
     Forward,
+    /// The one backwards alone, from where the match ends.
+    Backward,
     /// One of those for the matches one after another.
     List,
     /// Any that lets states go, where a cache is large enough for all of them.

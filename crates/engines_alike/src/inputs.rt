@@ -26,6 +26,13 @@ pub fn start_at(input: &mut Input<Recut>, start: usize) {
     }
 }
 
+/// Sets where the span ends, at most one below its start.
+pub fn end_at(input: &mut Input<Recut>, end: usize) {
+    if input.start().saturating_sub(1) <= end {
+        input.set_end(end);
+    }
+}
+
 /// The span of a match.
 pub fn pair_of(found: Option<Match>) -> Option<Pair> {
     let found = found?;

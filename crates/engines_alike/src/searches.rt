@@ -1,15 +1,15 @@
 //! What is found over one cursor, and whether it is what the row wants.
 
 use crate::cursors::Recut;
-use crate::engines::{Engines, half_of};
+use crate::engines::{Engines, found_by_regex, half_of};
 use crate::faults::{Fault, Part, same};
-use crate::inputs::{input, is_again, pair_of, start_at};
+use crate::inputs::{end_at, input, is_again, pair_of, start_at};
 use crate::row::{Pair, Quits, Row, Want};
 use crate::tables::TableEngine;
 use rc_captures::captures::Captures;
 use rc_meta::regex::Regex;
 use rc_text::input::Input;
-use rc_text::types::{HalfMatch, Match};
+use rc_text::types::{HalfMatch, Match, MatchKind};
 use std::alloc::Global;
 
 /// Spans of matches, of groups or of pieces.
@@ -35,7 +35,29 @@ pub fn first(alloc: Global, engines: &mut Engines, row: &Row, cursor: Recut) -> 
     let other = found_by(alloc, &engines.tabled, row, cursor)?;
     same(other == found, Fault::FindByTables)?;
     by_tables(engines, row, cursor)?;
+    early(alloc, engines, row, cursor)?;
     by_calls(alloc, &engines.regex, found, row, cursor)
+}
+
+/// With the earliest flag on each regex finds some match exactly where one is wanted.
+fn early(alloc: Global, engines: &Engines, row: &Row, cursor: Recut) -> Result<(), Fault> {
+    early_by(alloc, &engines.regex, row, cursor)?;
+    early_by(alloc, &engines.unfiltered, row, cursor)?;
+    early_by(alloc, &engines.tabled, row, cursor)
+}
+
+/// With the earliest flag on the regex finds some match exactly where one is wanted.
+fn early_by(alloc: Global, regex: &Regex, row: &Row, cursor: Recut) -> Result<(), Fault> {
+    let mut input = input(row, cursor)?.with_earliest(true);
+    let found = found_by_regex(alloc, regex, &mut input)?;
+    same(is_as_wanted(row, found), Fault::EarlyWith)?;
+    let found = regex.find(alloc, input)?;
+    same(is_as_wanted(row, found), Fault::Early)
+}
+
+/// There is a match exactly where the row wants one.
+fn is_as_wanted(row: &Row, found: Option<Match>) -> bool {
+    found.is_some() != row.spans.is_empty()
 }
 
 /// The calls of a regex that make a cache of their own tell the match.
@@ -100,33 +122,102 @@ fn captured_by(alloc: Global, regex: &Regex, row: &Row, cursor: Recut) -> Result
 
 /// The engines that search by tables find the match that the row wants, or stop where it says so.
 fn by_tables(engines: &mut Engines, row: &Row, cursor: Recut) -> Result<(), Fault> {
+    let passes_over = engines.passes_over;
     for engine in &mut engines.tables {
-        by_table(engine, row, cursor)?;
+        by_table(engine, row, passes_over, cursor)?;
     }
     Ok(())
 }
 
-/// The engine finds the match that the row wants, and its end, or stops where the row says so.
-fn by_table(engine: &mut TableEngine, row: &Row, cursor: Recut) -> Result<(), Fault> {
+/// The engine finds the match that the row wants, its end and its start, or stops where the row says so.
+fn by_table(
+    engine: &mut TableEngine,
+    row: &Row,
+    passes_over: bool,
+    cursor: Recut,
+) -> Result<(), Fault> {
     let mut input = input(row, cursor)?;
-    let is_same = match engine.find(&mut input) {
-        Ok(found) => is_wanted(row, found) && !has_to_quit(row),
-        Err(error) => engine.may_end_by(error, row.quits)?,
-    };
-    same(is_same, engine.fault(Part::Find))?;
-    let is_same = match engine.find_end(&mut input) {
-        Ok(half) => is_end_wanted(row, half) && !has_to_quit(row),
-        Err(error) => engine.may_end_by(error, row.quits)?,
-    };
-    same(is_same, engine.fault(Part::Forward))?;
+    let found = found_by_table(engine, row, &mut input)?;
+    end_by_table(engine, row, &mut input)?;
+    early_by_table(engine, row, cursor)?;
+    if let Some(found) = found {
+        end_at(&mut input, found.end());
+        start_by_table(engine, row, found, passes_over, &mut input)?;
+    }
     let is_same = row.settings.clears || engine.keeps_states();
     same(is_same, engine.fault(Part::Clear))
 }
 
-/// The match that the row wants ends here.
+/// The match that the engine finds is the one wanted, or it stops where the row says so.
+fn found_by_table(
+    engine: &mut TableEngine,
+    row: &Row,
+    input: &mut Input<Recut>,
+) -> Result<Option<Match>, Fault> {
+    let (found, is_same) = match engine.find(input) {
+        Ok(found) => (found, is_wanted(row, found) && !has_to_quit(row)),
+        Err(error) => (None, engine.may_end_by(error, row.quits)?),
+    };
+    same(is_same, engine.fault(Part::Find))?;
+    Ok(found)
+}
+
+/// The end that the engine finds is the one wanted, or it stops where the row says so.
+fn end_by_table(
+    engine: &mut TableEngine,
+    row: &Row,
+    input: &mut Input<Recut>,
+) -> Result<(), Fault> {
+    let is_same = match engine.find_end(input) {
+        Ok(half) => is_end_wanted(row, half) && !has_to_quit(row),
+        Err(error) => engine.may_end_by(error, row.quits)?,
+    };
+    same(is_same, engine.fault(Part::Forward))
+}
+
+/// The start that the engine finds from the input's end, where the match ends, is that of the match, or it stops where the row says so.
+fn start_by_table(
+    engine: &mut TableEngine,
+    row: &Row,
+    found: Match,
+    passes_over: bool,
+    input: &mut Input<Recut>,
+) -> Result<(), Fault> {
+    let is_same = match engine.find_start(input) {
+        Ok(half) => is_start(half, found, passes_over),
+        Err(error) => engine.may_end_by(error, row.quits)?,
+    };
+    same(is_same, engine.fault(Part::Backward))
+}
+
+/// The match begins here. Where matches may be passed over, one that was may begin below it and end where it does, and none may be told
+/// that ends inside a character.
+fn is_start(half: Option<HalfMatch>, found: Match, passes_over: bool) -> bool {
+    let start = HalfMatch::new(found.pattern(), found.start());
+    match half {
+        None => passes_over,
+        Some(half) => half == start || (passes_over && half.offset() < found.start()),
+    }
+}
+
+/// With the earliest flag on the engine finds some match exactly where one is wanted, or stops where the row says so.
+fn early_by_table(engine: &mut TableEngine, row: &Row, cursor: Recut) -> Result<(), Fault> {
+    let mut input = input(row, cursor)?.with_earliest(true);
+    let is_same = match engine.find(&mut input) {
+        Ok(found) => is_as_wanted(row, found),
+        Err(error) => engine.may_end_by(error, row.quits)?,
+    };
+    same(is_same, engine.fault(Part::Early))
+}
+
+/// The match that the row wants ends here. Of greatest matches any pattern may be told of which one ends there.
 fn is_end_wanted(row: &Row, found: Option<HalfMatch>) -> bool {
     match (row.spans.first(), found) {
-        (Some(Some((_, end))), Some(found)) => found.offset() == *end,
+        (Some(Some((_, end))), Some(found)) => {
+            found.offset() == *end
+                && (row.settings.kind == MatchKind::All
+                    || found.pattern().as_usize() == row.number.unwrap_or(0))
+        }
         (None, None) => true,
         _ => false,
     }
@@ -145,7 +236,7 @@ fn lists_by_tables(
     cursor: Recut,
 ) -> Result<(), Fault> {
     for engine in &mut engines.tables {
-        let listed = engine.list(alloc, input(row, cursor)?, row.spans.len())?;
+        let listed = engine.list(alloc, input(row, cursor)?)?;
         let is_same = match listed.error {
             None => listed.spans == row.spans && !matches!(row.quits, Quits::At(_)),
             Some(error) => {

@@ -5,7 +5,7 @@ ghost use Rattle.rc_hybrid.specs.Caches.{IsCacheFor, capacity_of};
 
 use crate::cursors::Recut;
 use crate::faults::{Fault, Part};
-use crate::inputs::{is_again, pair_of, start_at};
+use crate::inputs::pair_of;
 use crate::row::{Pair, Quits};
 use rc_dfa::search as dfa;
 use rc_hybrid::cache::Cache;
@@ -70,20 +70,9 @@ impl Hybrid {
         hybrid::try_search_fwd(&self.regex, &mut self.cache, input)
     }
 
-    /// The span of the next match. One that is empty and stands where the last ended gives way to the answer from a byte later.
-    fn next_match(
-        &mut self,
-        input: &mut Input<Recut>,
-        last: Option<usize>,
-    ) -> Result<Option<Pair>, MatchError> {
-        let found = pair_of(self.find(input)?);
-        if !is_again(last, found) {
-            return Ok(found);
-        }
-        if let Some(end) = last {
-            start_at(input, end.saturating_add(1));
-        }
-        Ok(pair_of(self.find(input)?))
+    /// Where the longest match begins that ends where the input does.
+    fn find_start(&mut self, input: &mut Input<Recut>) -> Result<Option<HalfMatch>, MatchError> {
+        hybrid::try_search_rev(&self.regex, &mut self.cache, input)
     }
 }
 
@@ -111,16 +100,22 @@ impl TableEngine {
         }
     }
 
-    /// The matches one after another, or a beginning of them that is longer than so many.
-    pub fn list(
+    /// Where the longest match begins that ends where the input does.
+    pub fn find_start(
         &mut self,
-        alloc: Global,
-        input: Input<Recut>,
-        many: usize,
-    ) -> Result<Listed, AllocError> {
+        input: &mut Input<Recut>,
+    ) -> Result<Option<HalfMatch>, MatchError> {
+        match self {
+            TableEngine::Dfa(regex) => dfa::try_search_rev(regex.reverse(), input),
+            TableEngine::Hybrid(hybrid) => hybrid.find_start(input),
+        }
+    }
+
+    /// The matches one after another.
+    pub fn list(&mut self, alloc: Global, input: Input<Recut>) -> Result<Listed, AllocError> {
         match self {
             TableEngine::Dfa(regex) => listed_by_dfa(alloc, regex, input),
-            TableEngine::Hybrid(hybrid) => listed_in_turn(alloc, hybrid, input, many),
+            TableEngine::Hybrid(hybrid) => listed_by_hybrid(alloc, hybrid, input),
         }
     }
 
@@ -187,30 +182,21 @@ fn listed_by_dfa(
     Ok(listed)
 }
 
-/// The matches that are found one after another, at most one more than so many. Each search starts where the match before ended.
-fn listed_in_turn(
+/// The matches that the hybrid's iterator gives.
+fn listed_by_hybrid(
     alloc: Global,
     hybrid: &mut Hybrid,
-    mut input: Input<Recut>,
-    many: usize,
+    input: Input<Recut>,
 ) -> Result<Listed, AllocError> {
-    let mut spans = Vec::new(alloc);
-    let mut last = None;
-    for _ in 0..=many {
-        match hybrid.next_match(&mut input, last) {
-            Ok(None) => break,
-            Ok(Some((start, end))) => {
-                spans.push(Some((start, end)))?;
-                start_at(&mut input, end);
-                last = Some(end);
-            }
-            Err(error) => {
-                return Ok(Listed {
-                    spans,
-                    error: Some(error),
-                });
-            }
+    let mut listed = Listed {
+        spans: Vec::new(alloc),
+        error: None,
+    };
+    for item in hybrid::find_iter(&hybrid.regex, &mut hybrid.cache, input) {
+        match item {
+            Ok(found) => listed.spans.push(pair_of(Some(found)))?,
+            Err(error) => listed.error = Some(error),
         }
     }
-    Ok(Listed { spans, error: None })
+    Ok(listed)
 }
