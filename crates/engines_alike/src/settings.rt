@@ -41,6 +41,8 @@ pub struct Settings<'a> {
     pub capacity: Option<Capacity>,
     /// Whether a cache of the capacity that it has by default may be cleared.
     pub clears: bool,
+    /// Whether tables of states have one column for all bytes that no pattern tells apart.
+    pub byte_classes: bool,
 }
 
 /// The capacity of a cache of states.
@@ -95,6 +97,7 @@ impl<'a> Settings<'a> {
             tables: true,
             capacity: None,
             clears: false,
+            byte_classes: true,
         }
     }
 
@@ -120,6 +123,7 @@ impl<'a> Settings<'a> {
             ("tables", "no") => self.tables = false,
             ("capacity", _) => self.capacity = Some(Capacity::read(value)?),
             ("clears", "may") => self.clears = true,
+            ("byte_classes", "no") => self.byte_classes = false,
             ("dfa_limit", _) => self.dfa_limit = Some(number(value)?),
             _ => return Err(Fault::UnreadSetting),
         }
@@ -133,7 +137,8 @@ impl<'a> Settings<'a> {
             .utf8_empty(self.utf8_empty)
             .which_captures(self.which)
             .nfa_size_limit(self.limit)
-            .line_terminator(self.terminator);
+            .line_terminator(self.terminator)
+            .byte_classes(self.byte_classes);
         match self.needle {
             None => Ok(config),
             Some(needle) => {
@@ -162,6 +167,7 @@ impl<'a> Settings<'a> {
     pub fn dfa_builder(&self) -> rc_dfa::builder::Builder {
         let tables = States::new()
             .match_kind(self.kind)
+            .byte_classes(self.byte_classes)
             .dfa_size_limit(self.dfa_limit);
         let mut builder = rc_dfa::regex::Regex::builder();
         builder
@@ -173,7 +179,9 @@ impl<'a> Settings<'a> {
 
     /// A builder of a hybrid, with this capacity of a cache, or with the one that it has by default.
     pub fn hybrid_builder(&self, capacity: Option<usize>) -> rc_hybrid::builder::Builder {
-        let mut tables = States::new().match_kind(self.kind);
+        let mut tables = States::new()
+            .match_kind(self.kind)
+            .byte_classes(self.byte_classes);
         if let Some(bytes) = capacity {
             tables = tables.cache_capacity(bytes);
         }
