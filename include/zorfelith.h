@@ -63,8 +63,9 @@ struct zf_handle {
 
 /* Kinds of match. */
 enum {
-    ZF_LEFTMOST_FIRST = 0, /* the preferred match of the least start */
-    ZF_ALL = 1             /* the match with the greatest end, of these the one with the least start, and of these the least pattern */
+    ZF_LEFTMOST_FIRST = 0,  /* the preferred match of the least start */
+    ZF_ALL = 1,             /* the match with the greatest end, of these the one with the least start, and of these the least pattern */
+    ZF_LEFTMOST_LONGEST = 2 /* the longest match of the least start, and of these the preferred one */
 };
 
 /* How patterns are read, and which match is sought. Each field but `kind` is off at 0, and on at each other number. All 0: the defaults. */
@@ -77,7 +78,7 @@ struct zf_settings {
     uint8_t bytes;                /* classes, dots and words are of bytes, not of characters: without the flag u */
     uint8_t any_bytes;            /* patterns may match what isn't UTF-8 */
     uint8_t split_characters;     /* empty matches may split a character */
-    uint8_t kind;                 /* ZF_LEFTMOST_FIRST or ZF_ALL */
+    uint8_t kind;                 /* ZF_LEFTMOST_FIRST, ZF_ALL or ZF_LEFTMOST_LONGEST; each other number is ZF_NO_KIND */
 };
 
 /* Why patterns were refused. */
@@ -126,8 +127,8 @@ uint32_t zf_find(struct zf_handle *handle, const struct zf_bytes *chunks, size_t
 
 /* The same match with its groups. With ZF_FOUND and with ZF_DONE each of the `group_count` places is written: groups[i] is group i of the
  * pattern that matched, groups[0] the whole match; a group that took no part, or that the pattern doesn't have, is ZF_NONE, and so is each
- * where there is no match. Under ZF_ALL the groups but for the whole match are ZF_NONE. Statuses as zf_is_match. The iteration stays
- * as it was. */
+ * where there is no match. Under ZF_LEFTMOST_LONGEST they are those of the way that is preferred of the ways to match that much. Under ZF_ALL
+ * the groups but for the whole match are ZF_NONE. Statuses as zf_is_match. The iteration stays as it was. */
 uint32_t zf_find_groups(struct zf_handle *handle, const struct zf_bytes *chunks, size_t chunk_count, size_t start, size_t end,
                         struct zf_match *found, struct zf_group *groups, size_t group_count);
 

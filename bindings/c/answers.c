@@ -3,8 +3,8 @@
  *     KIND FLAGS CUT BATCH START END PATTERNS pattern .. text
  *
  * KIND is f (the first match), a (all matches), g (the first match with its groups), m (whether there is one), w (which patterns
- * have one) or r (only compile). FLAGS are
- * the nine settings, as 0 or 1. CUT is the length of the chunks, 0 for one chunk. END is a number or `end`. The answer is a line. */
+ * have one) or r (only compile). FLAGS are the nine settings, a digit each: the flags as 0 or 1, and the kind of match as its number.
+ * CUT is the length of the chunks, 0 for one chunk. END is a number or `end`. The answer is a line. */
 #include "../../include/zorfelith.h"
 #include <stdio.h>
 #include <stdlib.h>

@@ -58,6 +58,18 @@ static void searches(struct zf_handle *handle) {
     told("a start behind the text", zf_is_match(handle, long_text, 2, 6, 9));
 }
 
+/* What one pattern finds of each kind. */
+static void kinds(struct zf_handle *handle) {
+    const struct zf_bytes text[2] = {{(const uint8_t *)"xa", 2}, {(const uint8_t *)"b ab", 4}};
+    struct zf_match found = {7, 7, 7};
+    for (uint8_t kind = ZF_LEFTMOST_FIRST; kind <= ZF_LEFTMOST_LONGEST; kind++) {
+        refused("of a kind", handle, bytes_of("a|ab|b"), kind);
+        told("its match", zf_find(handle, text, 2, 0, ZF_NONE, &found));
+        printf("  %zu..%zu\n", found.start, found.end);
+    }
+    refused("the first number without a kind", handle, bytes_of("a|ab|b"), ZF_LEFTMOST_LONGEST + 1);
+}
+
 int main(void) {
     struct zf_handle handle = {0};
     struct zf_match batch[1];
@@ -81,5 +93,6 @@ int main(void) {
     zf_free(&handle);
     zf_free(&handle);
     told("freed", zf_restart(&handle, 0, 0));
+    kinds(&handle);
     return handle.full;
 }

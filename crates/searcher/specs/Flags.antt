@@ -1,7 +1,7 @@
 -- What settings set.
 use Rattle.std.specs.Prelude.{ℕ, Bool, not, Option, Some, None, if◌then◌else◌, nat_eq}
 use Rattle.rc_text.specs.declared.types.MatchKind.{MatchKind}
-use Rattle.rc_text.specs.declared.types.MatchKind.TheVariants.{All as all_matches, LeftmostFirst as leftmost_first}
+use Rattle.rc_text.specs.declared.types.MatchKind.TheVariants.{All as all_matches, LeftmostFirst as leftmost_first, LeftmostLongest as leftmost_longest}
 use Rattle.rc_parser.specs.Settings as syntax
 use Rattle.rc_settings.specs.Settings as search
 use Rattle.searcher.specs.declared.settings.Settings.{Settings}
@@ -27,6 +27,7 @@ abbrev pub kind_of : ℕ → Option MatchKind
 kind_of number =
     if nat_eq number 0 then Some leftmost_first
     else if nat_eq number 1 then Some all_matches
+    else if nat_eq number 2 then Some leftmost_longest
     else None
 
 -- which matches are sought, of a kind

@@ -27,7 +27,8 @@ pub struct Settings {
     pub any_bytes: u8,
     /// Empty matches may split a character.
     pub split_characters: u8,
-    /// The number of the kind of match that is sought: 0 for the preferred match, 1 for the one with the greatest end.
+    /// The number of the kind of match that is sought: 0 for the preferred match of the least start, 1 for the match with the greatest end, 2 for
+    /// the longest match of the least start.
     pub kind: u8,
 }
 
@@ -57,6 +58,7 @@ impl Settings {
         match self.kind {
             0 => Some(MatchKind::LeftmostFirst),
             1 => Some(MatchKind::All),
+            2 => Some(MatchKind::LeftmostLongest),
             _ => None,
         }
     }

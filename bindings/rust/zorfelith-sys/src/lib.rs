@@ -20,6 +20,7 @@ pub const ZF_NO_KIND: u32 = 11;
 
 pub const ZF_LEFTMOST_FIRST: u8 = 0;
 pub const ZF_ALL: u8 = 1;
+pub const ZF_LEFTMOST_LONGEST: u8 = 2;
 
 /// As the end of a range: the text's end. Of a group: it took no part.
 pub const ZF_NONE: usize = usize::MAX;

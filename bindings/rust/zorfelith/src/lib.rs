@@ -13,6 +13,11 @@ use zorfelith_sys as sys;
 pub use zorfelith_sys::zf_match as Match;
 pub use zorfelith_sys::zf_settings as Settings;
 
+// The kinds of match, for `Settings::kind`.
+pub use zorfelith_sys::ZF_ALL as ALL;
+pub use zorfelith_sys::ZF_LEFTMOST_FIRST as LEFTMOST_FIRST;
+pub use zorfelith_sys::ZF_LEFTMOST_LONGEST as LEFTMOST_LONGEST;
+
 /// A chunk of a text.
 pub type Chunk<'a> = sys::zf_bytes<'a>;
 
