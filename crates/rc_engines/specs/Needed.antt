@@ -1,3 +1,4 @@
+-- Only proofs use this file.
 -- What each match holds, where searches go by that.
 use Rattle.std.specs.Prelude.{◌≡◌, ℕ, List, Option, Some}
 use Rattle.rc_program.specs.Program.{Place}

@@ -1,3 +1,4 @@
+-- Only proofs use this file.
 -- What a search may go by from needle to needle.
 use Rattle.std.specs.Prelude.{◌≡◌, ℕ, ◌<◌, ◌≤◌, ◌⊎◌, Bool, false, List, Some, slice_get}
 use Rattle.rc_program.specs.Program.{Place}

@@ -1,3 +1,4 @@
+-- Only proofs use this file.
 -- The needles that are taken from a pattern of which each match holds one.
 use Rattle.std.specs.Prelude.{◌≡◌, ℕ, zero, suc, List, [], ◌∷◌, ◌++◌, length, min, take, Option, Some, None, nat_lt, nat_le, if◌then◌else◌}
 use Rattle.rc_pattern.specs.Re.{Re, empty, literal, byte_in, char_in, look, repeat, capture, cat, alt, none}

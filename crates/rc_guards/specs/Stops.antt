@@ -1,3 +1,4 @@
+-- Only proofs use this file.
 -- The bytes that a pattern reads, and a set of those that none reads.
 use Rattle.std.specs.Prelude.{◌≡◌, ℕ, Bool, false, ◌&&◌, ◌||◌, not, List, [], ◌∷◌, nat_eq, nat_le, nat_lt, if◌then◌else◌}
 use Rattle.rc_pattern.specs.Re.{Re, Range, empty, literal, byte_in, char_in, look, repeat, capture, cat, alt, none}
