@@ -2,7 +2,6 @@
 use Rattle.std.proofs.Common.{◌≡◌, ◌∙◌, ℕ, ◌≤◌, Bool, true, false, not, ◌&&◌, true≢false, length, Option, Some, None, IfSome, ap, sym, refl, subst, arith, min}
 use Rattle.std.specs.Prelude.{is_some}
 use Rattle.std.specs.Option.{option_map}
-use Rattle.std.proofs.lemmas.Option.{none-some}
 use Rattle.rc_text.specs.Found.{Found, HalfFound, half_of}
 use Rattle.rc_text.specs.Text.{Searched, Keeps, KeepsText, high}
 use Rattle.rc_text.specs.declared.types.MatchKind.{MatchKind}
@@ -10,7 +9,7 @@ use Rattle.rc_program.specs.Answer.{Search}
 use Rattle.rc_program.specs.Greatest.{IsSpelledIn, greatest}
 use Rattle.rc_program.specs.Kinds.{IsAnswerBy, IsAnswerWhere, answer_by, is_early}
 use Rattle.rc_program.proofs.GreatestLemmas.{greatest_law}
-use Rattle.rc_program.proofs.KindLemmas.{kind_spelled, kinds_law, missing_by}
+use Rattle.rc_program.proofs.KindLemmas.{kind_spelled, kinds_law}
 use Rattle.rc_engine.specs.Engine.{engine_search}
 use Rattle.rc_engine.specs.declared.engine.Engine.{Engine}
 use Rattle.rc_engines.specs.Early.{IsHalfBy}

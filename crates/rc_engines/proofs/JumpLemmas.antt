@@ -1,17 +1,16 @@
 -- From needle to needle, where any match is enough.
-use Rattle.std.proofs.Common.{◌≡◌, ◌∙◌, ℕ, ◌+◌, ◌<◌, ◌≤◌, ◌&&◌, Bool, true, false, true≢false, List, [], ◌∷◌, Option, Some, None, Result, Ok, Err, IfOk, IfSome, IsTrue, not, nat_lt, nat_le, max, if◌then◌else◌, sym, subst, ap, ap₂, refl, arith}
+use Rattle.std.proofs.Common.{◌≡◌, ◌∙◌, ℕ, ◌<◌, ◌≤◌, ◌&&◌, Bool, true, false, true≢false, List, Option, Some, None, Result, Ok, Err, IfOk, IfSome, IsTrue, not, nat_lt, nat_le, max, if◌then◌else◌, sym, subst, ap, ap₂, refl, arith}
 use Rattle.std.proofs.lemmas.Bool.{and_parts, ltb-true, leb-true}
 use Rattle.std.proofs.lemmas.Option.{none-some}
 use Rattle.rc_text.specs.Found.{Found}
 use Rattle.rc_text.specs.Text.{Searched, Keeps, KeepsText, low, high}
-use Rattle.rc_text.specs.declared.types.Anchored.{Anchored}
 use Rattle.rc_text.specs.declared.types.Anchored.TheVariants.{No}
 use Rattle.rc_text.specs.declared.types.MatchError.{MatchError}
 use Rattle.rc_text.specs.declared.types.MatchKind.TheVariants.{LeftmostFirst}
 use Rattle.rc_pattern.specs.Re.{Re}
 use Rattle.rc_walks.specs.Walks.{Pair}
 use Rattle.rc_program.specs.Text.{Text}
-use Rattle.rc_program.specs.Program.{place_at, program}
+use Rattle.rc_program.specs.Program.{place_at}
 use Rattle.rc_program.specs.Answer.{Search, HasNoWalkFrom, anywhere, answer, ends, is_anchored, last_of, next_of, only, pattern_at}
 use Rattle.rc_program.specs.Greatest.{HasNoSpan, IsSpelledIn}
 use Rattle.rc_program.specs.Sought.{anchoring_of, text_of}
@@ -37,7 +36,7 @@ use Rattle.rc_spans.proofs.RestLemmas.{rest_law}
 use Rattle.rc_engines.proofs.EarlyLemmas.{spelled_may}
 use Rattle.rc_engines.specs.Jumps.{ComesOn, GoesEarly, Tells, idle_leg, leg_of}
 use Rattle.rc_engines.specs.declared.needles.Leg.{Leg}
-use Rattle.rc_engines.specs.declared.needles.Leg.TheVariants.{Nowhere, Here, Later}
+use Rattle.rc_engines.specs.declared.needles.Leg.TheVariants.{Here, Later}
 
 -- ONE RUN
 

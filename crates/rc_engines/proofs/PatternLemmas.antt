@@ -1,5 +1,5 @@
 -- Which patterns have a match, where what is known of spans leaves none.
-use Rattle.std.proofs.Common.{◌≡◌, ◌∙◌, ℕ, Bool, true, List, ⊎_elim, inl, sym, refl}
+use Rattle.std.proofs.Common.{◌≡◌, ◌∙◌, Bool, true, List, ⊎_elim, inl, sym, refl}
 use Rattle.rc_text.specs.Text.{Searched}
 use Rattle.rc_program.specs.Places.{places_of}
 use Rattle.rc_engine.specs.Engine.{engine_search}

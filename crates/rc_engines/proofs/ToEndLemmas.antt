@@ -1,8 +1,8 @@
 -- Where each span ends at the upper bound, the greatest is the one from the least start.
-use Rattle.std.proofs.Common.{◌≡◌, ◌∙◌, ℕ, ◌<◌, ◌≤◌, ◌⊎◌, true, false, true≢false, Option, Some, None, IsTrue, inl, inr, ⊎_elim, ap, sym}
+use Rattle.std.proofs.Common.{◌≡◌, ◌∙◌, ℕ, ◌<◌, ◌≤◌, ◌⊎◌, false, true≢false, Option, Some, None, inl, inr, ⊎_elim, ap, sym}
 use Rattle.rc_text.specs.Found.{Found}
 use Rattle.rc_program.specs.Answer.{Search, anywhere, is_anchored, IsStart}
-use Rattle.rc_program.specs.Greatest.{IsSpelledIn, IsGreatest, IsNoGreater, greatest}
+use Rattle.rc_program.specs.Greatest.{IsGreatest, IsNoGreater, greatest}
 use Rattle.rc_program.proofs.GreatestLemmas.{greatest_law}
 use Rattle.rc_spans.specs.Reverse.{EndsAtBound, HasNoStart, IsLeastStart, IsMatchToEnd, start_of}
 

@@ -6,6 +6,7 @@ pub mod Makes
 pub mod Narrow
 pub mod Needed
 pub mod Plans
+pub mod Route
 pub mod Slots
 pub mod Spans
 pub mod Tables

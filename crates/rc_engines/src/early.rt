@@ -7,16 +7,19 @@ ghost use Rattle.rc_program.specs.Kinds.{IsAnswerBy, is_early};
 ghost use Rattle.rc_engine.specs.Engine.{engine_search, IsEngineCache, IsSameCache};
 ghost use Rattle.rc_engines.specs.Caches.{IsCacheIn, IsCacheOfBoth, IsSameCacheIn, KeepsStates};
 ghost use Rattle.rc_engines.specs.Early.{IsHalfBy};
+ghost use Rattle.rc_engines.specs.Route.{MayGuard};
 ghost use Rattle.rc_engines.specs.Tables.{AreHalvesFor};
 
 use crate::cache::Cache;
 use crate::engines::{Engines, half_of};
-use crate::last::{find_greatest_from_end, seeks_greatest_from_end};
+use crate::last::find_greatest_from_end;
 use crate::needles::find_early_guarded;
+use crate::route::Route;
 use rc_automaton::halves::Halves;
 use rc_dense::dense::NoCache;
 use rc_engine::engine::Engine;
 use rc_engine::strategy::{guards_of, literals_of};
+use rc_guards::guard::Guard;
 use rc_lazy::lazy;
 use rc_pass::cache;
 use rc_pass::early::first_end;
@@ -81,7 +84,34 @@ fn find_by_pass<C: Cursor>(
     engine.find(cache, input)
 }
 
-/// A match that the tables tell, under the input's flag. An `Err` says why they tell none.
+/// A match that the tables tell, under the input's flag: forwards, from needle to needle where some are given, and then backwards. An `Err` says why
+/// they tell none.
+fn find_along<H: Halves, C: Cursor>(
+    engines: &Engines,
+    halves: &H,
+    cache: &mut H::Cache,
+    input: &mut Input<C>,
+    guard: Option<Guard>,
+) -> Result<Option<Match>, MatchError>
+    requires own { ∥ AreHalvesFor engines.now.engine engines.now.patterns (H.AreOf halves.now) ∥₁ }
+    requires cache { H.IsCache halves.now cache.old }
+    requires guards { MayGuard engines.now.engine guard }
+    ensures cache { H.IsCache halves.now cache.new }
+    ensures keeps { Keeps input.old input.new }
+    ensures may { IfOk result (IsAnswerBy engines.now.engine.kind input.old.earliest (engine_search engines.now.engine input.old)) }
+    ensures within { IfOk result (λ found. IfSome found (λ m. (low input.old ≤ m.start) × (m.start ≤ m.end) × (m.end ≤ high input.old))) }
+{
+    let aim = Aim {
+        earliest: input.get_earliest(),
+        ..engines.aim()
+    };
+    match guard {
+        Some(guard) => find_early_guarded(halves, cache, input, aim, guard),
+        None => find(halves, cache, input, aim),
+    }
+}
+
+/// A match that the tables tell by the route of the search, under the input's flag. An `Err` says why they tell none.
 fn find_by_tables<H: Halves, C: Cursor>(
     engines: &Engines,
     halves: &H,
@@ -95,19 +125,12 @@ fn find_by_tables<H: Halves, C: Cursor>(
     ensures may { IfOk result (IsAnswerBy engines.now.engine.kind input.old.earliest (engine_search engines.now.engine input.old)) }
     ensures within { IfOk result (λ found. IfSome found (λ m. (low input.old ≤ m.start) × (m.start ≤ m.end) × (m.end ≤ high input.old))) }
 {
-    if engines.seeks_from_end(input) {
-        return engines.find_from_end(halves, cache, input);
-    }
-    if seeks_greatest_from_end(engines, input) {
-        return find_greatest_from_end(engines, halves, cache, input);
-    }
-    let aim = Aim {
-        earliest: input.get_earliest(),
-        ..engines.aim()
-    };
-    match engines.guard() {
-        Some(guard) => find_early_guarded(halves, cache, input, aim, guard),
-        None => find(halves, cache, input, aim),
+    match engines.route(input) {
+        Route::FromEnd => engines.find_from_end(halves, cache, input),
+        Route::GreatestFromEnd => find_greatest_from_end(engines, halves, cache, input),
+        Route::OfLength(_, guard) | Route::Along(guard) => {
+            find_along(engines, halves, cache, input, guard)
+        }
     }
 }
 

@@ -1,5 +1,5 @@
 //! Patterns that can be searched for, by tables where there are some.
-ghost use Rattle.std.specs.Prelude.{◌≡◌, IfSome, IsTrue, option_map};
+ghost use Rattle.std.specs.Prelude.{◌≡◌, IfSome, option_map};
 ghost use Rattle.rc_text.specs.Found.{half_of};
 ghost use Rattle.rc_program.specs.Matches.{begin_of, end_of, is_again};
 ghost use Rattle.rc_program.specs.Places.{places_of};
@@ -9,11 +9,12 @@ ghost use Rattle.rc_engines.specs.Spans.{BoundsWalks};
 ghost use Rattle.rc_engines.specs.Tables.{MayBeLazyFor, MayBeTablesFor};
 
 use crate::cache::Cache;
-use crate::last::{find_greatest_from_end, seeks_greatest_from_end};
+use crate::last::find_greatest_from_end;
 use crate::needles::find_early_guarded;
+use crate::route::Route;
 use crate::slots::fill_slots;
 use crate::spans::Spans;
-use crate::tables::{fast_guards_of, tables_of};
+use crate::tables::tables_of;
 use rc_automaton::halves::Halves;
 use rc_captures::captures;
 use rc_captures::captures::Captures;
@@ -31,7 +32,7 @@ use rc_spans::search::Aim;
 use rc_states::kind::table_kind;
 use rc_text::cursor::Cursor;
 use rc_text::input::{Input, high, low};
-use rc_text::types::{Anchored, HalfMatch, Match, MatchError, MatchKind, PatternID, Span};
+use rc_text::types::{HalfMatch, Match, MatchError, MatchKind, PatternID, Span};
 use std::alloc::{AllocError, Global};
 
 /// A text whose bounds lie fewer bytes apart is searched by the ordered pass where a cache would have to be made for tables: to meet their states
@@ -75,11 +76,10 @@ pub struct Engines {
 }
 
 impl Engines {
-    ghost use Rattle.std.specs.Prelude.{◌≡◌, ◌⊎◌, ◌↔◌, ◌≤◌, ⊤, IsTrue, IfOk, IfSome, MatchOption, Option, Some, None, List, length, is_some};
+    ghost use Rattle.std.specs.Prelude.{◌≡◌, ◌⊎◌, ◌≤◌, IfOk, IfSome, MatchOption, Option, Some, None, List, length, is_some};
     ghost use Rattle.std.specs.Option.{option_map};
     ghost use Rattle.rc_text.specs.Found.{Found, half_of};
     ghost use Rattle.rc_pattern.specs.Re.{Re};
-    ghost use Rattle.rc_guards.specs.Guard.{IsGuard};
     ghost use Rattle.rc_engine.specs.Walks.{next_start};
     ghost use Rattle.rc_captures.specs.Captures.{captures_names, captures_pattern, captures_slots};
     ghost use Rattle.rc_engine.specs.Tells.{TellsBy};
@@ -97,6 +97,7 @@ impl Engines {
     ghost use Rattle.rc_engines.specs.Needed.{NeedsConfine};
     ghost use Rattle.rc_engines.specs.Limits.{AreBarred, AreTooHeavy, IsLazyBarred};
     ghost use Rattle.rc_engines.specs.Plans.{IsLazyFor, IsShortFor, plan_of};
+    ghost use Rattle.rc_engines.specs.Route.{MayGuard};
     ghost use Rattle.rc_engines.specs.Spans.{BoundsWalks, IsOneLength, SeeksFromEnd};
     ghost use Rattle.rc_engines.specs.Tables.{AreHalvesFor, aim_of, bytes_taken};
 
@@ -184,31 +185,6 @@ impl Engines {
         }
     }
 
-    /// By what a search by tables goes from needle to needle: by those where walks begin, where these are sought fast, else by those that each match
-    /// holds.
-    pub(crate) fn guard(&self) -> Option<Guard>
-        ensures { MatchOption result ⊤ (IsGuard (places_of self.now.engine.program.places.items) self.now.engine.program.terminator) }
-    {
-        if let Some(needles) = fast_guards_of(&self.engine.strategy) {
-            return Some(Guard::Begins(needles));
-        }
-        match &self.needs {
-            Some(needs) => Some(Guard::Holds(needs)),
-            None => None,
-        }
-    }
-
-    /// Whether the preferred match is sought from where the search ends: each match ends where the slice does, not each begins where it
-    /// does, and the search isn't anchored.
-    pub(crate) fn seeks_from_end<C: Cursor>(&self, input: &Input<C>) -> bool
-        ensures { IsTrue result ↔ SeeksFromEnd self.now.engine.kind self.now.spans input.now }
-    {
-        match (self.engine.kind, input.get_anchored()) {
-            (MatchKind::LeftmostFirst, Anchored::No) => self.spans.end_alone(),
-            _ => false,
-        }
-    }
-
     /// The preferred match, sought from where the search ends. An `Err` says why the tables tell none.
     pub(crate) fn find_from_end<H: Halves, C: Cursor>(
         &self,
@@ -227,8 +203,7 @@ impl Engines {
         search::find_to_end(halves, cache, input, self.aim())
     }
 
-    /// The match that the tables tell: from where the search ends, where each match ends there; else from needle to needle where needles
-    /// guard the patterns, and without a search backwards where each match is of one length. An `Err` says why they tell none.
+    /// The match that the tables tell, by the route of the search. An `Err` says why they tell none.
     fn find_by_tables<H: Halves, C: Cursor>(
         &self,
         halves: &H,
@@ -242,16 +217,33 @@ impl Engines {
         ensures found { IfOk result (λ found. found ≡ answer_by self.now.engine.kind (engine_search self.now.engine input.old)) }
         ensures within { IfOk result (λ found. IfSome found (λ m. (low input.old ≤ m.start) × (m.start ≤ m.end) × (m.end ≤ high input.old))) }
     {
-        if self.seeks_from_end(input) {
-            return self.find_from_end(halves, cache, input);
+        match self.route(input) {
+            Route::FromEnd => self.find_from_end(halves, cache, input),
+            Route::GreatestFromEnd => find_greatest_from_end(self, halves, cache, input),
+            Route::OfLength(length, guard) => {
+                self.find_of_length(halves, cache, input, length, guard)
+            }
+            Route::Along(guard) => self.find_past_quit(halves, cache, input, guard),
         }
-        if seeks_greatest_from_end(self, input) {
-            return find_greatest_from_end(self, halves, cache, input);
-        }
-        if let Some(length) = self.only_length() {
-            return self.find_of_length(halves, cache, input, length);
-        }
-        let guard = self.guard();
+    }
+
+    /// The match that `find_along` tells. Where tables quit and nothing guards the search, it goes once more, from needle to needle by those that
+    /// are sought slowly. An `Err` says why they tell none.
+    fn find_past_quit<H: Halves, C: Cursor>(
+        &self,
+        halves: &H,
+        cache: &mut H::Cache,
+        input: &mut Input<C>,
+        guard: Option<Guard>,
+    ) -> Result<Option<Match>, MatchError>
+        requires own { ∥ AreHalvesFor self.now.engine self.now.patterns (H.AreOf halves.now) ∥₁ }
+        requires cache { H.IsCache halves.now cache.old }
+        requires guards { MayGuard self.now.engine guard }
+        ensures cache { H.IsCache halves.now cache.new }
+        ensures keeps { Keeps input.old input.new }
+        ensures found { IfOk result (λ found. found ≡ answer_by self.now.engine.kind (engine_search self.now.engine input.old)) }
+        ensures within { IfOk result (λ found. IfSome found (λ m. (low input.old ≤ m.start) × (m.start ≤ m.end) × (m.end ≤ high input.old))) }
+    {
         match self.find_along(halves, cache, input, guard) {
             Ok(found) => Ok(found),
             Err(MatchError::GaveUp { offset, memory }) => {
@@ -282,7 +274,7 @@ impl Engines {
     ) -> Result<Option<Match>, MatchError>
         requires own { ∥ AreHalvesFor self.now.engine self.now.patterns (H.AreOf halves.now) ∥₁ }
         requires cache { H.IsCache halves.now cache.old }
-        requires guards { MatchOption guard ⊤ (IsGuard (places_of self.now.engine.program.places.items) self.now.engine.program.terminator) }
+        requires guards { MayGuard self.now.engine guard }
         ensures cache { H.IsCache halves.now cache.new }
         ensures keeps { Keeps input.old input.new }
         ensures found { IfOk result (λ found. found ≡ answer_by self.now.engine.kind (engine_search self.now.engine input.old)) }
@@ -295,15 +287,18 @@ impl Engines {
         }
     }
 
-    /// The end of the preferred match, and its pattern, which the tables tell by searches forwards alone. An `Err` says why they tell none.
+    /// The end of the preferred match, and its pattern, which the tables tell by searches forwards alone, from needle to needle where some are
+    /// given. An `Err` says why they tell none.
     fn find_first_end<H: Halves, C: Cursor>(
         &self,
         halves: &H,
         cache: &mut H::Cache,
         input: &mut Input<C>,
+        guard: Option<Guard>,
     ) -> Result<Option<HalfMatch>, MatchError>
         requires own { ∥ AreHalvesFor self.now.engine self.now.patterns (H.AreOf halves.now) ∥₁ }
         requires cache { H.IsCache halves.now cache.old }
+        requires guards { MayGuard self.now.engine guard }
         requires kind { self.now.engine.kind ≡ LeftmostFirst }
         ensures cache { H.IsCache halves.now cache.new }
         ensures keeps { Keeps input.old input.new }
@@ -311,7 +306,7 @@ impl Engines {
         ensures within { IfOk result (λ found. IfSome found (λ half. (low input.old ≤ half.offset) × (half.offset ≤ high input.old))) }
     {
         let aim = self.aim();
-        match self.guard() {
+        match guard {
             Some(guard) => find_end_guarded(halves, cache, input, aim, guard),
             None => search::find_end(halves, cache, input, aim),
         }
@@ -325,9 +320,11 @@ impl Engines {
         cache: &mut H::Cache,
         input: &mut Input<C>,
         length: usize,
+        guard: Option<Guard>,
     ) -> Result<Option<Match>, MatchError>
         requires own { ∥ AreHalvesFor self.now.engine self.now.patterns (H.AreOf halves.now) ∥₁ }
         requires cache { H.IsCache halves.now cache.old }
+        requires guards { MayGuard self.now.engine guard }
         requires kind { self.now.engine.kind ≡ LeftmostFirst }
         requires length { IsOneLength self.now.spans length }
         ensures cache { H.IsCache halves.now cache.new }
@@ -335,22 +332,12 @@ impl Engines {
         ensures found { IfOk result (λ found. found ≡ answer_by self.now.engine.kind (engine_search self.now.engine input.old)) }
         ensures within { IfOk result (λ found. IfSome found (λ m. (low input.old ≤ m.start) × (m.start ≤ m.end) × (m.end ≤ high input.old))) }
     {
-        let Some(half) = self.find_first_end(halves, cache, input)? else {
+        let Some(half) = self.find_first_end(halves, cache, input, guard)? else {
             return Ok(None);
         };
         let end = half.offset();
         let start = end.saturating_sub(length);
         Ok(Some(Match::new(half.pattern(), Span { start, end })))
-    }
-
-    /// The length of each match, where all are of one and the preferred one is sought.
-    fn only_length(&self) -> Option<usize>
-        ensures { IfSome result (λ n. (self.now.engine.kind ≡ LeftmostFirst) × IsOneLength self.now.spans n) }
-    {
-        match self.engine.kind {
-            MatchKind::LeftmostFirst => self.spans.only_length(),
-            MatchKind::All | MatchKind::LeftmostLongest => None,
-        }
     }
 
     /// The end of the match that the tables tell, and its pattern. An `Err` says why they tell none. Where each match counts, the pattern is
@@ -368,13 +355,36 @@ impl Engines {
         ensures found { IfOk result (λ found. found ≡ option_map half_of (answer_by self.now.engine.kind (engine_search self.now.engine input.old))) }
         ensures within { IfOk result (λ found. IfSome found (λ half. (low input.old ≤ half.offset) × (half.offset ≤ high input.old))) }
     {
-        if self.seeks_from_end(input) {
-            return Ok(half_of(self.find_from_end(halves, cache, input)?));
+        match self.route(input) {
+            Route::FromEnd => Ok(half_of(self.find_from_end(halves, cache, input)?)),
+            Route::GreatestFromEnd => {
+                Ok(half_of(find_greatest_from_end(self, halves, cache, input)?))
+            }
+            Route::OfLength(_, guard) => self.find_first_end(halves, cache, input, guard),
+            Route::Along(guard) => self.find_end_along(halves, cache, input, guard),
         }
+    }
+
+    /// The end of the match that `find_past_quit` tells, and its pattern. The preferred one is told by searches forwards alone.
+    fn find_end_along<H: Halves, C: Cursor>(
+        &self,
+        halves: &H,
+        cache: &mut H::Cache,
+        input: &mut Input<C>,
+        guard: Option<Guard>,
+    ) -> Result<Option<HalfMatch>, MatchError>
+        requires own { ∥ AreHalvesFor self.now.engine self.now.patterns (H.AreOf halves.now) ∥₁ }
+        requires cache { H.IsCache halves.now cache.old }
+        requires guards { MayGuard self.now.engine guard }
+        ensures cache { H.IsCache halves.now cache.new }
+        ensures keeps { Keeps input.old input.new }
+        ensures found { IfOk result (λ found. found ≡ option_map half_of (answer_by self.now.engine.kind (engine_search self.now.engine input.old))) }
+        ensures within { IfOk result (λ found. IfSome found (λ half. (low input.old ≤ half.offset) × (half.offset ≤ high input.old))) }
+    {
         match self.engine.kind {
-            MatchKind::LeftmostFirst => self.find_first_end(halves, cache, input),
+            MatchKind::LeftmostFirst => self.find_first_end(halves, cache, input, guard),
             MatchKind::All | MatchKind::LeftmostLongest => {
-                Ok(half_of(self.find_by_tables(halves, cache, input)?))
+                Ok(half_of(self.find_past_quit(halves, cache, input, guard)?))
             }
         }
     }
@@ -393,14 +403,37 @@ impl Engines {
         ensures keeps { Keeps input.old input.new }
         ensures found { IfOk result (λ b. b ≡ is_some (answer_by self.now.engine.kind (engine_search self.now.engine input.old))) }
     {
-        if self.seeks_from_end(input) || seeks_greatest_from_end(self, input) {
-            return Ok(self.find_end_by_tables(halves, cache, input)?.is_some());
+        match self.route(input) {
+            Route::FromEnd => Ok(self.find_from_end(halves, cache, input)?.is_some()),
+            Route::GreatestFromEnd => {
+                Ok(find_greatest_from_end(self, halves, cache, input)?.is_some())
+            }
+            Route::OfLength(_, guard) | Route::Along(guard) => {
+                self.any_along(halves, cache, input, guard)
+            }
         }
+    }
+
+    /// Whether the tables tell a match, forwards, from needle to needle where some are given. An `Err` says why they tell nothing.
+    fn any_along<H: Halves, C: Cursor>(
+        &self,
+        halves: &H,
+        cache: &mut H::Cache,
+        input: &mut Input<C>,
+        guard: Option<Guard>,
+    ) -> Result<bool, MatchError>
+        requires own { ∥ AreHalvesFor self.now.engine self.now.patterns (H.AreOf halves.now) ∥₁ }
+        requires cache { H.IsCache halves.now cache.old }
+        requires guards { MayGuard self.now.engine guard }
+        ensures cache { H.IsCache halves.now cache.new }
+        ensures keeps { Keeps input.old input.new }
+        ensures found { IfOk result (λ b. b ≡ is_some (answer_by self.now.engine.kind (engine_search self.now.engine input.old))) }
+    {
         let aim = Aim {
             earliest: true,
             ..self.aim()
         };
-        if let Some(guard) = self.guard() {
+        if let Some(guard) = guard {
             let found = find_early_guarded(halves, cache, input, aim, guard)?;
             return Ok(found.is_some());
         }

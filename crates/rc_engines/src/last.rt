@@ -1,5 +1,5 @@
 //! The greatest match, sought from where the search ends.
-ghost use Rattle.std.specs.Prelude.{◌≡◌, ◌↔◌, ◌≤◌, IfOk, IfSome, IsTrue};
+ghost use Rattle.std.specs.Prelude.{◌≡◌, ◌≤◌, IfOk, IfSome};
 ghost use Rattle.rc_text.specs.Text.{Keeps, low, high};
 ghost use Rattle.rc_program.specs.Kinds.{answer_by};
 ghost use Rattle.rc_engine.specs.Engine.{engine_search};
@@ -11,18 +11,7 @@ use rc_automaton::halves::Halves;
 use rc_spans::search::{Aim, find_to_end};
 use rc_text::cursor::Cursor;
 use rc_text::input::Input;
-use rc_text::types::{Anchored, Match, MatchError, MatchKind};
-
-/// Whether the greatest match is sought from where the search ends: each match ends where the slice does, not each begins where it does, and the
-/// search isn't anchored.
-pub(crate) fn seeks_greatest_from_end<C: Cursor>(engines: &Engines, input: &Input<C>) -> bool
-    ensures { IsTrue result ↔ SeeksGreatestFromEnd engines.now.engine.kind engines.now.spans input.now }
-{
-    match (engines.engine.kind, input.get_anchored()) {
-        (MatchKind::All, Anchored::No) => engines.spans.end_alone(),
-        _ => false,
-    }
-}
+use rc_text::types::{Match, MatchError};
 
 /// The greatest match, sought from where the search ends: the one from the least start that leads there. An `Err` says why the tables tell none.
 pub(crate) fn find_greatest_from_end<H: Halves, C: Cursor>(

@@ -1,38 +1,15 @@
-use Rattle.std.proofs.Common.{IfOk, MatchOption, subst}
-use Rattle.std.specs.Bool.{⊤}
 use Rattle.std.proofs.lemmas.Result.{IfOk-weaker}
-use Rattle.rc_program.specs.Kinds.{IsAnswerBy}
-use Rattle.rc_program.specs.Places.{places_of}
-use Rattle.rc_guards.specs.Guard.{IsGuard}
 use Rattle.rc_engine.specs.Engine.{engine_search}
 use Rattle.rc_engines.proofs.EarlyLemmas.{may_by}
-use Rattle.rc_engines.proofs.TableLemmas.{tables_tell_by}
 use Rattle.rc_engines.proofs.early.find_by_tables.Goals as goal
 
-pub returns-in-Some-clause-may : goal.returns-in-Some-clause-may
-returns-in-Some-clause-may g c =
-    let e = c.args.engines.now in
-    let p = e.engine.program in
-    let guards = subst (λ o. MatchOption o ⊤ (IsGuard (places_of p.places.items) p.terminator)) c.in-Some.is c.guard.ensures in
-    subst (λ b. IfOk c.find_early_guarded.result (IsAnswerBy e.engine.kind b (engine_search e.engine c.args.input.now))) c.get_earliest.ensures
-    (tables_tell_by e.engine e.patterns c.args.input.now c.aim.result c.requires.own c.aim.ensures c.get_earliest.result
-    c.find_early_guarded.result
-    (λ hs same h. c.find_early_guarded.ensures.found hs p.terminator h (subst (λ ps. IsGuard ps p.terminator c.in-Some.guard) same guards)))
-
-pub returns-in-None-clause-may : goal.returns-in-None-clause-may
-returns-in-None-clause-may g c =
-    let e = c.args.engines.now in
-    subst (λ b. IfOk c.find.result (IsAnswerBy e.engine.kind b (engine_search e.engine c.args.input.now))) c.get_earliest.ensures
-    (tables_tell_by e.engine e.patterns c.args.input.now c.aim.result c.requires.own c.aim.ensures c.get_earliest.result
-    c.find.result (λ hs same h. c.find.ensures.found hs e.engine.program.terminator h))
-
-pub returns-then-seeks_from_end-clause-may : goal.returns-then-seeks_from_end-clause-may
-returns-then-seeks_from_end-clause-may g c =
+pub returns-in-FromEnd-clause-may : goal.returns-in-FromEnd-clause-may
+returns-in-FromEnd-clause-may g c =
     let e = c.args.engines.now.engine in
     IfOk-weaker c.find_from_end.result _ _ (λ o h. may_by e.kind c.args.input.now.earliest (engine_search e c.args.input.now) o h) c.find_from_end.ensures.found
 
-pub returns-then-seeks_greatest_from_end-clause-may : goal.returns-then-seeks_greatest_from_end-clause-may
-returns-then-seeks_greatest_from_end-clause-may g c =
+pub returns-in-GreatestFromEnd-clause-may : goal.returns-in-GreatestFromEnd-clause-may
+returns-in-GreatestFromEnd-clause-may g c =
     let e = c.args.engines.now.engine in
     IfOk-weaker c.find_greatest_from_end.result _ _ (λ o h. may_by e.kind c.args.input.now.earliest (engine_search e c.args.input.now) o h)
     c.find_greatest_from_end.ensures.found

@@ -1,10 +1,6 @@
-use Rattle.std.proofs.Common.{◌≡◌, ◌∙◌, ◌<◌, ◌≤◌, ℕ, false, List, None, sym, subst, arith}
+use Rattle.std.proofs.Common.{◌∙◌, ◌≤◌, ℕ, false, None, sym, subst, arith}
 use Rattle.std.specs.Prelude.{IfNone, IfSome}
-use Rattle.rc_text.specs.Text.{Keeps, low}
-use Rattle.rc_pattern.specs.Re.{Re}
-use Rattle.rc_program.specs.Program.{program}
-use Rattle.rc_guards.specs.Guard.{IsGuard}
-use Rattle.rc_spans.specs.Aims.{AreHalvesOf, search_for}
+use Rattle.rc_spans.specs.Aims.{search_for}
 use Rattle.rc_spans.specs.declared.search.Aim.{Aim}
 use Rattle.rc_spans.specs.Legs.{GoesByNeedles}
 use Rattle.rc_spans.specs.Rests.{GivesToo, StartsGive}

@@ -1,5 +1,5 @@
 use Rattle.std.proofs.Common.{None, ℕ, ◌<◌, ◌≤◌, List, sym, subst, arith}
-use Rattle.rc_text.specs.Text.{Keeps, high}
+use Rattle.rc_text.specs.Text.{Keeps}
 use Rattle.rc_pattern.specs.Re.{Re}
 use Rattle.rc_program.specs.Program.{program}
 use Rattle.rc_guards.specs.Guard.{IsGuard}

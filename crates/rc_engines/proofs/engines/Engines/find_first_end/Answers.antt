@@ -15,6 +15,6 @@ pub returns-in-Some-clause-found : goal.returns-in-Some-clause-found
 returns-in-Some-clause-found g c =
     let e = c.args.self.now in
     let p = e.engine.program in
-    let guards = subst (λ o. MatchOption o ⊤ (IsGuard (places_of p.places.items) p.terminator)) c.in-Some.is c.guard.ensures in
+    let guards = subst (λ o. MatchOption o ⊤ (IsGuard (places_of p.places.items) p.terminator)) c.in-Some.is c.requires.guards in
     tables_tell_end e.engine e.patterns c.args.input.now c.aim-aim.result c.requires.own c.aim-aim.ensures c.requires.kind c.find_end_guarded.result
     (λ hs same h. c.find_end_guarded.ensures.found hs p.terminator h (subst (λ ps. IsGuard ps p.terminator c.in-Some.guard) same guards))

@@ -1,0 +1,28 @@
+-- Only proofs use this file.
+-- How a search by tables goes.
+use Rattle.std.specs.Prelude.{◌≡◌, ⊤, Option, MatchOption}
+use Rattle.rc_text.specs.Text.{Searched}
+use Rattle.rc_text.specs.declared.types.MatchKind.TheVariants.{LeftmostFirst}
+use Rattle.rc_program.specs.Places.{places_of}
+use Rattle.rc_guards.specs.Guard.{IsGuard}
+use Rattle.rc_guards.specs.declared.guard.Guard.{Guard}
+use Rattle.rc_engine.specs.declared.engine.Engine.{Engine}
+use Rattle.rc_engines.specs.Spans.{IsOneLength, SeeksFromEnd, SeeksGreatestFromEnd}
+use Rattle.rc_engines.specs.declared.engines.Engines.{Engines}
+use Rattle.rc_engines.specs.declared.route.Route.{Route}
+use Rattle.rc_engines.specs.declared.route.Route.TheVariants.{FromEnd, GreatestFromEnd, OfLength, Along}
+
+-- what guards, if anything does, may be relied on in searches by the engine's program
+abbrev pub MayGuard : Engine → Option Guard → Type 0
+MayGuard e guard = MatchOption guard ⊤ (IsGuard (places_of e.program.places.items) e.program.terminator)
+
+-- What each way relies on.
+abbrev pub Relies : Engines → Searched → Route → Type 0
+-- the preferred match is sought, not anchored, and each ends where the slice does
+Relies e s FromEnd = SeeksFromEnd e.engine.kind e.spans s
+-- so it is with the greatest match
+Relies e s GreatestFromEnd = SeeksGreatestFromEnd e.engine.kind e.spans s
+-- the preferred match is sought, and each is of this length
+Relies e s (OfLength n guard) = (e.engine.kind ≡ LeftmostFirst) × IsOneLength e.spans n × MayGuard e.engine guard
+-- nothing but the needles
+Relies e s (Along guard) = MayGuard e.engine guard

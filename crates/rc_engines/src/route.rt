@@ -1,0 +1,92 @@
+//! How a search by tables goes.
+
+use crate::engines::Engines;
+use crate::tables::fast_guards_of;
+use rc_guards::guard::Guard;
+use rc_text::cursor::Cursor;
+use rc_text::input::Input;
+use rc_text::types::{Anchored, MatchKind};
+
+/// How a search by tables goes.
+#[derive(Clone, Copy)]
+pub(crate) enum Route<'a> {
+    /// Backwards from where the search ends, for the preferred match.
+    FromEnd,
+    /// The same for the greatest match.
+    GreatestFromEnd,
+    /// Forwards, from needle to needle where something guards the search, to the end of a match of this length in bytes. Nothing is searched
+    /// backwards.
+    OfLength(usize, Option<Guard<'a>>),
+    /// Forwards, from needle to needle where something guards the search, and then backwards.
+    Along(Option<Guard<'a>>),
+}
+
+impl Engines {
+    ghost use Rattle.std.specs.Prelude.{◌≡◌, ◌↔◌, ⊤, IfSome, IsTrue, MatchOption};
+    ghost use Rattle.rc_text.specs.declared.types.MatchKind.TheVariants.{LeftmostFirst};
+    ghost use Rattle.rc_program.specs.Places.{places_of};
+    ghost use Rattle.rc_guards.specs.Guard.{IsGuard};
+    ghost use Rattle.rc_engines.specs.Route.{Relies};
+    ghost use Rattle.rc_engines.specs.Spans.{IsOneLength, SeeksFromEnd, SeeksGreatestFromEnd};
+
+    /// How a search of this input goes: the first way that fits.
+    pub(crate) fn route<C: Cursor>(&self, input: &Input<C>) -> Route
+        ensures { Relies self.now input.now result }
+    {
+        if self.seeks_from_end(input) {
+            return Route::FromEnd;
+        }
+        if self.seeks_greatest_from_end(input) {
+            return Route::GreatestFromEnd;
+        }
+        match self.only_length() {
+            Some(length) => Route::OfLength(length, self.guard()),
+            None => Route::Along(self.guard()),
+        }
+    }
+
+    /// Whether the preferred match is sought from where the search ends: each match ends where the slice does, not each begins where it
+    /// does, and the search isn't anchored.
+    fn seeks_from_end<C: Cursor>(&self, input: &Input<C>) -> bool
+        ensures { IsTrue result ↔ SeeksFromEnd self.now.engine.kind self.now.spans input.now }
+    {
+        match (self.engine.kind, input.get_anchored()) {
+            (MatchKind::LeftmostFirst, Anchored::No) => self.spans.end_alone(),
+            _ => false,
+        }
+    }
+
+    /// Whether the greatest match is sought from there.
+    fn seeks_greatest_from_end<C: Cursor>(&self, input: &Input<C>) -> bool
+        ensures { IsTrue result ↔ SeeksGreatestFromEnd self.now.engine.kind self.now.spans input.now }
+    {
+        match (self.engine.kind, input.get_anchored()) {
+            (MatchKind::All, Anchored::No) => self.spans.end_alone(),
+            _ => false,
+        }
+    }
+
+    /// The length of each match, where all are of one and the preferred one is sought.
+    fn only_length(&self) -> Option<usize>
+        ensures { IfSome result (λ n. (self.now.engine.kind ≡ LeftmostFirst) × IsOneLength self.now.spans n) }
+    {
+        match self.engine.kind {
+            MatchKind::LeftmostFirst => self.spans.only_length(),
+            MatchKind::All | MatchKind::LeftmostLongest => None,
+        }
+    }
+
+    /// By what a search goes from needle to needle: by the needles where walks begin, where these are sought fast, else by those that each match
+    /// holds.
+    fn guard(&self) -> Option<Guard>
+        ensures { MatchOption result ⊤ (IsGuard (places_of self.now.engine.program.places.items) self.now.engine.program.terminator) }
+    {
+        if let Some(needles) = fast_guards_of(&self.engine.strategy) {
+            return Some(Guard::Begins(needles));
+        }
+        match &self.needs {
+            Some(needs) => Some(Guard::Holds(needs)),
+            None => None,
+        }
+    }
+}
