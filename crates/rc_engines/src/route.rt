@@ -22,11 +22,9 @@ pub(crate) enum Route<'a> {
 }
 
 impl Engines {
-    ghost use Rattle.std.specs.Prelude.{◌≡◌, ◌↔◌, ⊤, IfSome, IsTrue, MatchOption};
+    ghost use Rattle.std.specs.Prelude.{◌≡◌, ◌↔◌, IfSome, IsTrue};
     ghost use Rattle.rc_text.specs.declared.types.MatchKind.TheVariants.{LeftmostFirst};
-    ghost use Rattle.rc_program.specs.Places.{places_of};
-    ghost use Rattle.rc_guards.specs.Guard.{IsGuard};
-    ghost use Rattle.rc_engines.specs.Route.{Relies};
+    ghost use Rattle.rc_engines.specs.Route.{MayGuard, Relies};
     ghost use Rattle.rc_engines.specs.Spans.{IsOneLength, SeeksFromEnd, SeeksGreatestFromEnd};
 
     /// How a search of this input goes: the first way that fits.
@@ -79,7 +77,7 @@ impl Engines {
     /// By what a search goes from needle to needle: by the needles where walks begin, where these are sought fast, else by those that each match
     /// holds.
     fn guard(&self) -> Option<Guard>
-        ensures { MatchOption result ⊤ (IsGuard (places_of self.now.engine.program.places.items) self.now.engine.program.terminator) }
+        ensures { MayGuard self.now.engine result }
     {
         if let Some(needles) = fast_guards_of(&self.engine.strategy) {
             return Some(Guard::Begins(needles));
