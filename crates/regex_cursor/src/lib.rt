@@ -5,6 +5,7 @@ pub mod cursor;
 pub mod engines;
 pub mod hir;
 pub mod input;
+pub mod laws;
 pub mod prefilter;
 pub mod run;
 pub mod syntax;
