@@ -182,21 +182,23 @@ fn listed_by_dfa(
     Ok(listed)
 }
 
-/// The matches that the hybrid's iterator gives.
+/// The matches that the hybrid's iterator gives, in a cache of its own.
 fn listed_by_hybrid(
     alloc: Global,
-    hybrid: &mut Hybrid,
+    hybrid: &Hybrid,
     input: Input<Recut>,
 ) -> Result<Listed, AllocError> {
+    let mut cache = hybrid.regex.create_cache(alloc)?;
     let mut listed = Listed {
         spans: Vec::new(alloc),
         error: None,
     };
-    for item in hybrid::find_iter(&hybrid.regex, &mut hybrid.cache, input) {
+    for item in hybrid::find_iter(&hybrid.regex, &mut cache, input) {
         match item {
             Ok(found) => listed.spans.push(pair_of(Some(found)))?,
             Err(error) => listed.error = Some(error),
         }
     }
+    drop(cache);
     Ok(listed)
 }
