@@ -75,6 +75,10 @@ pub enum Part {
     Forward,
     /// The one backwards alone, from where the match ends.
     Backward,
+    /// The one forwards alone, with the earliest flag on.
+    EarlyForward,
+    /// The one backwards alone, with the earliest flag on.
+    EarlyBackward,
     /// One of those for the matches one after another.
     List,
     /// Any that lets states go, where a cache is large enough for all of them.

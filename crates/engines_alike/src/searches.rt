@@ -143,6 +143,7 @@ fn by_table(
     if let Some(found) = found {
         end_at(&mut input, found.end());
         start_by_table(engine, row, found, passes_over, &mut input)?;
+        early_start_by_table(engine, row, passes_over, &mut input)?;
     }
     let is_same = row.settings.clears || engine.keeps_states();
     same(is_same, engine.fault(Part::Clear))
@@ -200,14 +201,44 @@ fn is_start(half: Option<HalfMatch>, found: Match, passes_over: bool) -> bool {
     }
 }
 
-/// With the earliest flag on the engine finds some match exactly where one is wanted, or stops where the row says so.
+/// With the earliest flag on the engine finds some match, and some end, exactly where one is wanted, or stops where the row says so.
 fn early_by_table(engine: &mut TableEngine, row: &Row, cursor: Recut) -> Result<(), Fault> {
     let mut input = input(row, cursor)?.with_earliest(true);
     let is_same = match engine.find(&mut input) {
         Ok(found) => is_as_wanted(row, found),
         Err(error) => engine.may_end_by(error, row.quits)?,
     };
-    same(is_same, engine.fault(Part::Early))
+    same(is_same, engine.fault(Part::Early))?;
+    early_end_by_table(engine, row, &mut input)
+}
+
+/// With the earliest flag on the engine finds some end exactly where a match is wanted, or stops where the row says so.
+fn early_end_by_table(
+    engine: &mut TableEngine,
+    row: &Row,
+    input: &mut Input<Recut>,
+) -> Result<(), Fault> {
+    let is_same = match engine.find_end(input) {
+        Ok(half) => half.is_some() != row.spans.is_empty(),
+        Err(error) => engine.may_end_by(error, row.quits)?,
+    };
+    same(is_same, engine.fault(Part::EarlyForward))
+}
+
+/// With the earliest flag on the engine finds some start of what ends where the match does, or stops where the row says so. None may be told
+/// where matches may be passed over.
+fn early_start_by_table(
+    engine: &mut TableEngine,
+    row: &Row,
+    passes_over: bool,
+    input: &mut Input<Recut>,
+) -> Result<(), Fault> {
+    input.set_earliest(true);
+    let is_same = match engine.find_start(input) {
+        Ok(half) => half.is_some() || passes_over,
+        Err(error) => engine.may_end_by(error, row.quits)?,
+    };
+    same(is_same, engine.fault(Part::EarlyBackward))
 }
 
 /// The match that the row wants ends here. Of greatest matches any pattern may be told of which one ends there.
