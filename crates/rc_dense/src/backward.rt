@@ -1,5 +1,5 @@
 //! Searches backwards by a table.
-ghost use Rattle.std.specs.Prelude.{◌≡◌, ◌+◌, ◌<◌, ◌≤◌, false, IfSome, List, ℕ, length, slice_range, slice_get};
+ghost use Rattle.std.specs.Prelude.{◌≡◌, ◌+◌, ◌-◌, ◌<◌, ◌≤◌, false, IfSome, List, ℕ, length, slice_range, slice_get};
 ghost use Rattle.rc_text.specs.Text.{Keeps, high, low, slice_end};
 ghost use Rattle.rc_program.specs.Sought.{text_of};
 ghost use Rattle.rc_states.specs.States.{State};
@@ -16,6 +16,110 @@ use crate::table::{MET, QUIT, SKIP, Table};
 use rc_text::cursor::Cursor;
 use rc_text::input::{Input, piece_before};
 use rc_text::types::Anchored;
+
+/// The cell to which the last of so many bytes of a piece leads. Where it has no mark, it names the row of the run before that byte.
+#[inline(always)]
+fn cell_at(
+    table: &Table,
+    cells: &[usize],
+    classes: &[u8],
+    piece: &[u8],
+    left: usize,
+    start: usize,
+    stand: Stand,
+) -> usize
+    ghost course: { Course }
+    requires cells { cells.now ≡ table.now.cells.items }
+    requires classes { classes.now ≡ table.now.classes.items }
+    requires row { InRow table.now stand.row }
+    requires stands { StandsDown table.now course (start + left) stand }
+    requires bound { course.seen.slice.start ≤ course.bound }
+    requires piece { piece.now ≡ slice_range course.seen.content start (start + length piece.now) }
+    requires within { course.bound ≤ start }
+    requires some { 0 < left }
+    requires left { left ≤ length piece.now }
+    ensures row { result < 2305843009213693952 → InRow table.now result }
+    ensures stands { result < 2305843009213693952 → StandsDown table.now course (start + (left - 1)) (record { row = result; noted = stand.noted }) }
+{
+    cells[stand.row + classes[piece[left - 1] as usize] as usize]
+}
+
+/// Runs over bytes whose cells have no mark, four at a time from the end of a piece, and answers how many bytes are left and the row before the
+/// others. Fewer than four are left, or the next cell has a mark.
+#[inline(always)]
+fn stride(table: &Table, piece: &[u8], start: usize, stand: Stand) -> (usize, usize)
+    ghost course: { Course }
+    requires row { InRow table.now stand.row }
+    requires stands { StandsDown table.now course (start + length piece.now) stand }
+    requires bound { course.seen.slice.start ≤ course.bound }
+    requires piece { piece.now ≡ slice_range course.seen.content start (start + length piece.now) }
+    requires within { course.bound ≤ start }
+    ensures left { result.0 ≤ length piece.now }
+    ensures row { InRow table.now result.1 }
+    ensures stands { StandsDown table.now course (start + result.0) (record { row = result.1; noted = stand.noted }) }
+{
+    let noted = stand.noted;
+    let cells = table.cells.as_slice();
+    let classes = table.classes.as_slice();
+    let mut row = stand.row;
+    let mut left = piece.len();
+    while left >= 4 {
+        let first = cell_at(
+            table,
+            cells,
+            classes,
+            piece,
+            left,
+            start,
+            Stand { row, noted },
+        );
+        if first >= SKIP {
+            return (left, row);
+        }
+        let at = left - 1;
+        let second = cell_at(
+            table,
+            cells,
+            classes,
+            piece,
+            at,
+            start,
+            Stand { row: first, noted },
+        );
+        if second >= SKIP {
+            return (at, first);
+        }
+        let at = at - 1;
+        let third = cell_at(
+            table,
+            cells,
+            classes,
+            piece,
+            at,
+            start,
+            Stand { row: second, noted },
+        );
+        if third >= SKIP {
+            return (at, second);
+        }
+        let at = at - 1;
+        let fourth = cell_at(
+            table,
+            cells,
+            classes,
+            piece,
+            at,
+            start,
+            Stand { row: third, noted },
+        );
+        if fourth >= SKIP {
+            return (at, third);
+        }
+        row = fourth;
+        left = at - 1;
+    }
+    (left, row)
+}
 
 /// Runs over the bytes of a piece from its end, down to one of which the cell needs a look, and answers how many bytes are left. A mark of
 /// something met needs none where `limit` is `SKIP`, and one where it is 0.
@@ -35,9 +139,10 @@ fn run(table: &Table, piece: &[u8], start: usize, stand: Stand, limit: usize) ->
 {
     let cells = table.cells.as_slice();
     let classes = table.classes.as_slice();
-    let mut row = stand.row;
+    let (left, behind) = stride(table, piece, start, stand);
+    let mut row = behind;
     let mut noted = stand.noted;
-    let mut left = piece.len();
+    let mut left = left;
     while left > 0 {
         let cell = cells[row + classes[piece[left - 1] as usize] as usize];
         if cell < SKIP {
@@ -55,6 +160,7 @@ fn run(table: &Table, piece: &[u8], start: usize, stand: Stand, limit: usize) ->
 }
 
 /// Reads the byte at a position, whatever its cell.
+#[inline(always)]
 fn step(table: &Table, byte: u8, at: usize, stand: Stand, earliest: bool) -> Leg
     ghost course: { Course }
     requires row { InRow table.now stand.row }
@@ -82,6 +188,7 @@ fn step(table: &Table, byte: u8, at: usize, stand: Stand, earliest: bool) -> Leg
 }
 
 /// Runs over the chunks from one position down to another.
+#[inline(always)]
 fn cross<C: Cursor>(
     table: &Table,
     input: &mut Input<C>,
@@ -123,6 +230,7 @@ fn cross<C: Cursor>(
 }
 
 /// Where a search begins, by the byte ahead of the position.
+#[inline(always)]
 fn begin(table: &Table, anchored: Anchored, beside: Option<u8>, from: usize) -> Leg
     ghost course: { Course }
     requires anchored { anchored ≡ course.anchored }
@@ -133,6 +241,10 @@ fn begin(table: &Table, anchored: Anchored, beside: Option<u8>, from: usize) -> 
     ensures { IsLegDown table.now course from result }
 {
     let cell = start(table, anchored, beside);
+    if cell < SKIP {
+        let row = cell;
+        return Leg::Through(Stand { row, noted: None });
+    }
     if cell == QUIT {
         return match beside {
             Some(byte) => Leg::Over(Ended::Quit(byte, from)),
@@ -147,6 +259,7 @@ fn begin(table: &Table, anchored: Anchored, beside: Option<u8>, from: usize) -> 
 }
 
 /// How a search ends that came to its lower bound: the byte that stands before it decides what is met there, or the beginning of what is seen.
+#[inline(always)]
 fn finish<C: Cursor>(table: &Table, input: &mut Input<C>, end: usize, stand: Stand) -> Ended
     ghost course: { Course }
     requires row { InRow table.now stand.row }
@@ -172,6 +285,7 @@ fn finish<C: Cursor>(table: &Table, input: &mut Input<C>, end: usize, stand: Sta
 }
 
 /// Searches from one position down to another.
+#[inline(always)]
 fn search<C: Cursor>(
     table: &Table,
     input: &mut Input<C>,
@@ -204,6 +318,7 @@ fn search<C: Cursor>(
 /// least position at which an entry is met, with the entry's number: the first of those met there. With `earliest` it is the first position
 /// that is come to, and nothing before it is read. A byte that the table doesn't read ends the search. Nothing is copied, and no memory is
 /// taken.
+#[inline(always)]
 pub fn run_backwards<C: Cursor>(
     table: &Table,
     input: &mut Input<C>,

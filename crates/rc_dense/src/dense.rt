@@ -43,6 +43,7 @@ fn patterns_of(alloc: Global, automaton: &Automaton) -> Result<Vec<usize>, Alloc
 }
 
 /// How a search forwards by the table ended, with the pattern in place of its match place.
+#[inline(always)]
 fn said_forwards(patterns: &[usize], ended: run::Ended) -> Ended
     ensures says { SaysForwards patterns.now ended result }
     ensures done { gave_up result ≡ None }
@@ -62,6 +63,7 @@ fn said_forwards(patterns: &[usize], ended: run::Ended) -> Ended
 }
 
 /// How a search backwards by the table ended.
+#[inline(always)]
 fn said_backwards(ended: run::Ended) -> Ended
     ensures says { SaysBackwards ended result }
     ensures done { gave_up result ≡ None }
@@ -134,6 +136,7 @@ impl Halves for Dense {
 
     ghost GivesUp = { λ d a b n memory. ⊥ };
 
+    #[inline(always)]
     fn run_forwards<C: Cursor>(
         &self,
         _cache: &mut NoCache,
@@ -156,6 +159,7 @@ impl Halves for Dense {
         said_forwards(&self.patterns, ended)
     }
 
+    #[inline(always)]
     fn run_backwards<C: Cursor>(
         &self,
         _cache: &mut NoCache,

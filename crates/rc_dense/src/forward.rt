@@ -19,6 +19,7 @@ use rc_text::input::{Input, high, piece_from};
 use rc_text::types::Anchored;
 
 /// The position from which on a mark `SKIP` is heeded.
+#[inline(always)]
 fn looks_from(table: &Table, may_rest: bool, rest_from: usize) -> usize {
     if table.skips {
         return 0;
@@ -27,6 +28,110 @@ fn looks_from(table: &Table, may_rest: bool, rest_from: usize) -> usize {
         return rest_from;
     }
     usize::MAX
+}
+
+/// The cell to which the byte of a piece at an index leads. Where it has no mark, it names the row of the run behind that byte.
+#[inline(always)]
+fn cell_at(
+    table: &Table,
+    cells: &[usize],
+    classes: &[u8],
+    piece: &[u8],
+    index: usize,
+    start: usize,
+    stand: Stand,
+) -> usize
+    ghost course: { Course }
+    requires cells { cells.now ≡ table.now.cells.items }
+    requires classes { classes.now ≡ table.now.classes.items }
+    requires row { InRow table.now stand.row }
+    requires stands { Stands table.now course (start + index) stand }
+    requires bound { course.bound ≤ slice_end course.seen }
+    requires piece { piece.now ≡ slice_range course.seen.content start (start + length piece.now) }
+    requires within { start + length piece.now ≤ course.bound }
+    requires index { index < length piece.now }
+    ensures row { result < 2305843009213693952 → InRow table.now result }
+    ensures stands { result < 2305843009213693952 → Stands table.now course (start + (index + 1)) (record { row = result; noted = stand.noted }) }
+{
+    cells[stand.row + classes[piece[index] as usize] as usize]
+}
+
+/// Runs over bytes whose cells have no mark, four at a time, and answers how many bytes were read and the row behind them. Fewer than four are
+/// left, or the next cell has a mark.
+#[inline(always)]
+fn stride(table: &Table, piece: &[u8], from: usize, start: usize, stand: Stand) -> (usize, usize)
+    ghost course: { Course }
+    requires row { InRow table.now stand.row }
+    requires stands { Stands table.now course (start + from) stand }
+    requires bound { course.bound ≤ slice_end course.seen }
+    requires piece { piece.now ≡ slice_range course.seen.content start (start + length piece.now) }
+    requires within { start + length piece.now ≤ course.bound }
+    requires from { from ≤ length piece.now }
+    ensures read { result.0 ≤ length piece.now }
+    ensures row { InRow table.now result.1 }
+    ensures stands { Stands table.now course (start + result.0) (record { row = result.1; noted = stand.noted }) }
+{
+    let noted = stand.noted;
+    let cells = table.cells.as_slice();
+    let classes = table.classes.as_slice();
+    let mut row = stand.row;
+    let mut index = from;
+    while piece.len() - index >= 4 {
+        let first = cell_at(
+            table,
+            cells,
+            classes,
+            piece,
+            index,
+            start,
+            Stand { row, noted },
+        );
+        if first >= SKIP {
+            return (index, row);
+        }
+        let at = index + 1;
+        let second = cell_at(
+            table,
+            cells,
+            classes,
+            piece,
+            at,
+            start,
+            Stand { row: first, noted },
+        );
+        if second >= SKIP {
+            return (at, first);
+        }
+        let at = at + 1;
+        let third = cell_at(
+            table,
+            cells,
+            classes,
+            piece,
+            at,
+            start,
+            Stand { row: second, noted },
+        );
+        if third >= SKIP {
+            return (at, second);
+        }
+        let at = at + 1;
+        let fourth = cell_at(
+            table,
+            cells,
+            classes,
+            piece,
+            at,
+            start,
+            Stand { row: third, noted },
+        );
+        if fourth >= SKIP {
+            return (at, third);
+        }
+        row = fourth;
+        index = at + 1;
+    }
+    (index, row)
 }
 
 /// Runs over the bytes of a piece from an index on, up to one of which the cell needs a look, and answers how many bytes were read. A mark of something met
@@ -56,9 +161,10 @@ fn run(
 {
     let cells = table.cells.as_slice();
     let classes = table.classes.as_slice();
-    let mut row = stand.row;
+    let (read, behind) = stride(table, piece, from, start, stand);
+    let mut row = behind;
     let mut noted = stand.noted;
-    for index in from..piece.len() {
+    for index in read..piece.len() {
         let cell = cells[row + classes[piece[index] as usize] as usize];
         if cell < SKIP {
             row = cell;
@@ -79,6 +185,7 @@ fn run(
 }
 
 /// Reads one byte, whatever its cell. With `may_rest` the search rests behind it where it may, from the position `rest_from` on.
+#[inline(always)]
 fn step(
     table: &Table,
     byte: u8,
@@ -118,6 +225,7 @@ fn step(
 }
 
 /// How many bytes of a piece are passed over: those before the first that may lead away from the row. None are where the search is to rest.
+#[inline(always)]
 fn pass(table: &Table, piece: &[u8], start: usize, stand: Stand, may_rest: bool) -> usize
     ghost course: { Course }
     requires stands { Stands table.now course start stand }
@@ -134,6 +242,7 @@ fn pass(table: &Table, piece: &[u8], start: usize, stand: Stand, may_rest: bool)
 }
 
 /// Runs over the chunks from one position to another.
+#[inline(always)]
 fn cross<C: Cursor>(
     table: &Table,
     input: &mut Input<C>,
@@ -182,6 +291,7 @@ fn cross<C: Cursor>(
 }
 
 /// Where a search begins, by the byte behind the position.
+#[inline(always)]
 fn begin(table: &Table, anchored: Anchored, beside: Option<u8>, from: usize) -> Leg
     ghost course: { Course }
     requires anchored { anchored ≡ course.anchored }
@@ -192,6 +302,10 @@ fn begin(table: &Table, anchored: Anchored, beside: Option<u8>, from: usize) -> 
     ensures { IsLeg table.now course from result }
 {
     let cell = start(table, anchored, beside);
+    if cell < SKIP {
+        let row = cell;
+        return Leg::Through(Stand { row, noted: None });
+    }
     if cell == QUIT {
         return match beside {
             Some(byte) => Leg::Over(Ended::Quit(byte, from - 1)),
@@ -206,6 +320,7 @@ fn begin(table: &Table, anchored: Anchored, beside: Option<u8>, from: usize) -> 
 }
 
 /// How a search ends that came to its upper bound: the byte that stands beyond decides what is met there, or the end of what is seen.
+#[inline(always)]
 fn finish<C: Cursor>(table: &Table, input: &mut Input<C>, end: usize, stand: Stand) -> Ended
     ghost course: { Course }
     requires row { InRow table.now stand.row }
@@ -230,6 +345,7 @@ fn finish<C: Cursor>(table: &Table, input: &mut Input<C>, end: usize, stand: Sta
 }
 
 /// Searches from one position up to another.
+#[inline(always)]
 fn search<C: Cursor>(
     table: &Table,
     input: &mut Input<C>,
@@ -265,6 +381,7 @@ fn search<C: Cursor>(
 /// Searches forwards by the table, from the position `from` up to where the input's bounds end, in bytes of the whole content, wherever it is
 /// cut: what is met last is told, with its position; with `earliest` the first that is met, and nothing is read beyond it. Where `may_rest` is set, the search may end behind a byte
 /// that it read, where nothing was met and nothing is under way; before `rest_from` it reads on. A byte that the table doesn't read ends the search. Nothing is copied, and no memory is taken.
+#[inline(always)]
 pub fn run_forwards<C: Cursor>(
     table: &Table,
     input: &mut Input<C>,

@@ -9,6 +9,7 @@ use crate::exits::Exits;
 use crate::table::{DEAD, MET, SKIP, Table};
 
 /// The row that a cell names.
+#[inline(always)]
 pub(crate) fn row_of(cell: usize) -> usize
     ensures { result ≡ row_of cell }
 {
@@ -16,16 +17,15 @@ pub(crate) fn row_of(cell: usize) -> usize
 }
 
 /// Whether nothing goes on from the row that a cell names.
+#[inline(always)]
 pub(crate) fn has_died(cell: usize) -> bool
     ensures { result ≡ has_died cell }
 {
-    if cell >= MET {
-        return cell - MET >= DEAD;
-    }
-    cell >= DEAD
+    cell % MET >= DEAD
 }
 
 /// The cell of a row to which a byte leads.
+#[inline(always)]
 pub(crate) fn cell_of(table: &Table, row: usize, byte: u8) -> usize
     requires { InRow table.now row }
     ensures value { result ≡ cell_at table.now (row + class_at table.now byte) }
@@ -35,6 +35,7 @@ pub(crate) fn cell_of(table: &Table, row: usize, byte: u8) -> usize
 }
 
 /// What is noted once a cell was read at the position: that row, if something was met on the way to it.
+#[inline(always)]
 pub(crate) fn noted_by(
     cell: usize,
     at: usize,
@@ -49,6 +50,7 @@ pub(crate) fn noted_by(
 }
 
 /// Whether nothing is under way in the row's state but walks that begin there or later.
+#[inline(always)]
 pub(crate) fn is_idle(table: &Table, row: usize) -> bool
     ensures { result ≡ slice_index_or table.now.idles.items (row / table.now.width) false }
 {
@@ -59,6 +61,7 @@ pub(crate) fn is_idle(table: &Table, row: usize) -> bool
 }
 
 /// The exits of the row.
+#[inline(always)]
 pub(crate) fn exits_at(table: &Table, row: usize) -> Exits
     ensures { result ≡ slice_index_or table.now.exits.items (row / table.now.width) Many }
 {
@@ -69,6 +72,7 @@ pub(crate) fn exits_at(table: &Table, row: usize) -> Exits
 }
 
 /// The code of the row in a list of codes, or 0 where it has none.
+#[inline(always)]
 fn code_of(codes: &[usize], row: usize, width: usize) -> usize
     requires { 0 < width }
     ensures { result ≡ slice_index_or codes.now (row / width) 0 }
@@ -80,6 +84,7 @@ fn code_of(codes: &[usize], row: usize, width: usize) -> usize
 }
 
 /// What was met, by its code, with the position; or the other where the code is 0.
+#[inline(always)]
 pub(crate) fn met_by(
     code: usize,
     at: usize,
@@ -94,6 +99,7 @@ pub(crate) fn met_by(
 }
 
 /// What was met last, with its position, by what is noted.
+#[inline(always)]
 pub(crate) fn told(table: &Table, noted: Option<(usize, usize)>) -> Option<(usize, usize)>
     ensures { result ≡ told table.now noted }
 {
@@ -104,6 +110,7 @@ pub(crate) fn told(table: &Table, noted: Option<(usize, usize)>) -> Option<(usiz
 }
 
 /// What is met at the end of what a search sees, from this row on, and else what was met last.
+#[inline(always)]
 pub(crate) fn met_at_end(
     table: &Table,
     row: usize,
@@ -120,6 +127,7 @@ pub(crate) fn met_at_end(
 }
 
 /// The position first.
+#[inline(always)]
 pub(crate) fn swapped(found: Option<(usize, usize)>) -> Option<(usize, usize)>
     ensures { result ≡ swapped found }
 {

@@ -9,6 +9,7 @@ use rc_text::cursor::Cursor;
 use rc_text::input::{Input, byte_at};
 
 /// The byte before the position, or None where the slice begins.
+#[inline(always)]
 pub(crate) fn byte_behind<C: Cursor>(input: &mut Input<C>, at: usize) -> Option<u8>
     requires low { input.old.slice.start ≤ at }
     requires high { at ≤ slice_end input.old }
@@ -24,6 +25,7 @@ pub(crate) fn byte_behind<C: Cursor>(input: &mut Input<C>, at: usize) -> Option<
 }
 
 /// The byte at the position, or None where the slice or the content ends.
+#[inline(always)]
 pub(crate) fn byte_ahead<C: Cursor>(input: &mut Input<C>, at: usize) -> Option<u8>
     requires { at ≤ slice_end input.old }
     ensures keeps { Keeps input.old input.new }

@@ -7,6 +7,7 @@ use crate::table::{QUIT, Table};
 use rc_text::types::Anchored;
 
 /// The number of a way of anchoring.
+#[inline(always)]
 fn mode(anchored: Anchored) -> usize
     ensures value { result ≡ mode_of anchored }
     ensures small { result < 2 ^ 32 }
@@ -19,6 +20,7 @@ fn mode(anchored: Anchored) -> usize
 }
 
 /// The column of the byte beside, or of the end.
+#[inline(always)]
 fn column(table: &Table, beside: Option<u8>) -> usize
     ensures value { result ≡ column table.now beside }
     ensures within { result ≤ table.now.width }
@@ -30,6 +32,7 @@ fn column(table: &Table, beside: Option<u8>) -> usize
 }
 
 /// The cell at an index, or `QUIT` where there is none.
+#[inline(always)]
 fn cell_at(cells: &[usize], index: usize) -> usize
     ensures { result ≡ slice_index_or cells.now index QUIT }
 {
@@ -41,13 +44,17 @@ fn cell_at(cells: &[usize], index: usize) -> usize
 
 /// The name of the row in which a search begins where this byte stands beside, or none. `QUIT` where the byte isn't read, or the table has no
 /// such row.
+#[inline(always)]
 pub(crate) fn start(table: &Table, anchored: Anchored, beside: Option<u8>) -> usize
     ensures value { result ≡ start_at table.now (mode_of anchored * (table.now.width + 1) + column table.now beside) }
     ensures named { IsNamed table.now.width (length table.now.cells.items) result }
 {
+    let column = column(table, beside);
+    let mode = mode(anchored);
+    if mode == 0 {
+        return cell_at(table.starts.as_slice(), column);
+    }
     let columns = table.width.saturating_add(1);
-    let index = mode(anchored)
-        .saturating_mul(columns)
-        .saturating_add(column(table, beside));
+    let index = mode.saturating_mul(columns).saturating_add(column);
     cell_at(table.starts.as_slice(), index)
 }

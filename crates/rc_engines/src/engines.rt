@@ -39,6 +39,9 @@ use std::alloc::{AllocError, Global};
 /// takes longer than to pass over so few bytes.
 const SHORT: usize = 1024;
 
+/// Up to so many patterns the pass seeks a match with its groups.
+const FEW_PATTERNS: usize = 8;
+
 /// Which tables may be made.
 #[derive(Clone, Copy, Debug, PartialEq, Eq)]
 pub struct Limits {
@@ -174,6 +177,7 @@ impl Engines {
     }
 
     /// What a search by tables seeks.
+    #[inline(always)]
     pub(crate) fn aim(&self) -> Aim
         ensures { result ≡ aim_of self.now.engine self.now.patterns }
     {
@@ -204,6 +208,7 @@ impl Engines {
     }
 
     /// The match that the tables tell, by the route of the search. An `Err` says why they tell none.
+    #[inline(always)]
     fn find_by_tables<H: Halves, C: Cursor>(
         &self,
         halves: &H,
@@ -229,6 +234,7 @@ impl Engines {
 
     /// The match that `find_along` tells. Where tables quit and nothing guards the search, it goes once more, from needle to needle by those that
     /// are sought slowly. An `Err` says why they tell none.
+    #[inline(always)]
     fn find_past_quit<H: Halves, C: Cursor>(
         &self,
         halves: &H,
@@ -265,6 +271,7 @@ impl Engines {
     }
 
     /// The match that the tables tell, from needle to needle where some are given. An `Err` says why they tell none.
+    #[inline(always)]
     fn find_along<H: Halves, C: Cursor>(
         &self,
         halves: &H,
@@ -567,9 +574,16 @@ impl Engines {
         half_of(self.engine.find(&mut cache.pass, input))
     }
 
+    /// Whether the pass seeks the match alone before its groups: each of its threads has the slots of all patterns, and where these are many, they
+    /// would be handed on at each byte for each pattern.
+    fn finds_first(&self) -> bool {
+        self.patterns > FEW_PATTERNS && self.engine.kind != MatchKind::LeftmostLongest
+    }
+
     /// The pattern that a search finds, with the first of its slots. Without a match the slots stay. It takes memory as `find` does.
     ///
-    /// Where tables tell the match and its groups are asked for, a pass over its span alone tells them.
+    /// Where tables tell the match and its groups are asked for, a pass over its span alone tells them. So it goes too where there are no tables
+    /// but many patterns.
     pub fn find_slots<C: Cursor>(
         &self,
         cache: &mut Cache,
@@ -593,6 +607,13 @@ impl Engines {
             let pass = &mut cache.pass;
             fill_slots(&self.engine, pass, input, self.patterns, found, slots);
             return Some(found.pattern());
+        }
+        if self.finds_first() {
+            let pass = &mut cache.pass;
+            let found = self.engine.find(pass, input)?;
+            let pattern = found.pattern();
+            fill_slots(&self.engine, pass, input, self.patterns, found, slots);
+            return Some(pattern);
         }
         self.engine.find_slots(&mut cache.pass, input, slots)
     }

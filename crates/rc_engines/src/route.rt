@@ -28,6 +28,7 @@ impl Engines {
     ghost use Rattle.rc_engines.specs.Spans.{IsOneLength, SeeksFromEnd, SeeksGreatestFromEnd};
 
     /// How a search of this input goes: the first way that fits.
+    #[inline(always)]
     pub(crate) fn route<C: Cursor>(&self, input: &Input<C>) -> Route
         ensures { Relies self.now input.now result }
     {
@@ -45,6 +46,7 @@ impl Engines {
 
     /// Whether the preferred match is sought from where the search ends: each match ends where the slice does, not each begins where it
     /// does, and the search isn't anchored.
+    #[inline(always)]
     fn seeks_from_end<C: Cursor>(&self, input: &Input<C>) -> bool
         ensures { IsTrue result ↔ SeeksFromEnd self.now.engine.kind self.now.spans input.now }
     {
@@ -55,6 +57,7 @@ impl Engines {
     }
 
     /// Whether the greatest match is sought from there.
+    #[inline(always)]
     fn seeks_greatest_from_end<C: Cursor>(&self, input: &Input<C>) -> bool
         ensures { IsTrue result ↔ SeeksGreatestFromEnd self.now.engine.kind self.now.spans input.now }
     {
@@ -65,6 +68,7 @@ impl Engines {
     }
 
     /// The length of each match, where all are of one and the preferred one is sought.
+    #[inline(always)]
     fn only_length(&self) -> Option<usize>
         ensures { IfSome result (λ n. (self.now.engine.kind ≡ LeftmostFirst) × IsOneLength self.now.spans n) }
     {
@@ -76,6 +80,7 @@ impl Engines {
 
     /// By what a search goes from needle to needle: by the needles where walks begin, where these are sought fast, else by those that each match
     /// holds.
+    #[inline(always)]
     fn guard(&self) -> Option<Guard>
         ensures { MayGuard self.now.engine result }
     {

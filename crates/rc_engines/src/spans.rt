@@ -78,6 +78,7 @@ impl Spans {
     }
 
     /// Whether each span begins where the slice does, and the search later.
+    #[inline(always)]
     fn begin_early<C: Cursor>(&self, input: &Input<C>) -> bool
         ensures { result ≡ begin_early self.now input.now }
     {
@@ -85,6 +86,7 @@ impl Spans {
     }
 
     /// Whether each span ends where the slice does, and the search, at `end`, before.
+    #[inline(always)]
     fn end_late<C: Cursor>(&self, input: &mut Input<C>, end: usize) -> bool
         requires end { end ≡ high input.old }
         ensures keeps { Keeps input.old input.new }
@@ -94,6 +96,7 @@ impl Spans {
     }
 
     /// Whether each span is longer than so many bytes.
+    #[inline(always)]
     fn are_longer(&self, length: usize) -> bool
         ensures { result ≡ are_longer self.now length }
     {
@@ -101,6 +104,7 @@ impl Spans {
     }
 
     /// Whether each span is shorter than so many bytes.
+    #[inline(always)]
     fn are_shorter(&self, length: usize) -> bool
         ensures { result ≡ are_shorter self.now length }
     {
@@ -111,6 +115,7 @@ impl Spans {
     }
 
     /// Whether a match reaches from where the search begins to where it ends, if there is one.
+    #[inline(always)]
     fn must_fill<C: Cursor>(&self, input: &Input<C>) -> bool
         ensures { result ≡ must_fill self.now input.now }
     {
@@ -118,6 +123,7 @@ impl Spans {
     }
 
     /// The length of each span, where all are known to be of one.
+    #[inline(always)]
     pub fn only_length(&self) -> Option<usize>
         ensures { IfSome result (λ n. IsOneLength self.now n) }
     {
@@ -128,6 +134,7 @@ impl Spans {
     }
 
     /// Whether each span ends where the slice does, and not each begins where it does.
+    #[inline(always)]
     pub fn end_alone(&self) -> bool
         ensures { IsTrue result ↔ EndAlone self.now }
     {
@@ -138,6 +145,7 @@ impl Spans {
     /// it has to fill that, shorter.
     ///
     /// Where the cursor tells no total, this goes where the content ends.
+    #[inline(always)]
     pub fn leave_none<C: Cursor>(&self, input: &mut Input<C>) -> bool
         ensures keeps { Keeps input.old input.new }
         ensures value { result ≡ leave_none self.now input.old }

@@ -49,6 +49,7 @@ fn exceeds(places: usize, limit: Option<usize>) -> bool
 
 /// The needles from one to the next of which searches by tables go: those where walks begin. Where a search for them would go by a table of
 /// first bytes, there are none: the tables of states read a byte as fast, and need not begin anew at each needle.
+#[inline(always)]
 pub(crate) fn fast_guards_of(strategy: &Strategy) -> Option<&Prefilter>
     ensures sound { (places : List PlaceOf) (terminator : ℕ) (over : Bool) → MayGoBy places terminator over strategy.now
         → MatchOption result ⊤ (λ p. Guards places terminator (needles_of p.now)) }

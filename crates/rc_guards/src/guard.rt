@@ -44,6 +44,7 @@ pub struct Start {
 ///
 /// `end` is where the input's bounds end. It reads on the uncut bytes, wherever the input stood
 /// before, none of them below `at`, takes no memory and copies nothing.
+#[inline(always)]
 pub fn next_start<C: Cursor>(
     input: &mut Input<C>,
     guard: Guard,
@@ -80,6 +81,7 @@ pub fn next_start<C: Cursor>(
 
 /// Where no byte of the set is left before the needle: behind the last one, or at `at` where there
 /// is none from there on.
+#[inline(always)]
 fn behind_stop<C: Cursor>(input: &mut Input<C>, stops: &Stops, at: usize, needle: usize) -> usize
     requires ordered { at ≤ needle }
     requires inside { needle ≤ length input.old.content }
@@ -101,6 +103,7 @@ fn behind_stop<C: Cursor>(input: &mut Input<C>, stops: &Stops, at: usize, needle
 }
 
 /// How many bytes the piece has up to the last one of the set, and 0 where it has none of it.
+#[inline(always)]
 fn stopped_len(piece: &[u8], stops: &Stops) -> usize
     ensures within { result ≤ length piece.now }
     ensures none { (k : ℕ) → result ≤ k → k < length piece.now → is_stop stops.now.table (slice_index piece.now k) ≡ false }

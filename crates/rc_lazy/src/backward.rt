@@ -70,6 +70,7 @@ fn run(
 }
 
 /// Reads the byte at a position, whatever its cell.
+#[inline(always)]
 fn step(
     automaton: &Automaton,
     half: &mut Half,
@@ -108,6 +109,7 @@ fn step(
 }
 
 /// Runs over the chunks from one position down to another.
+#[inline(always)]
 fn cross<C: Cursor>(
     automaton: &Automaton,
     half: &mut Half,
@@ -151,6 +153,7 @@ fn cross<C: Cursor>(
 }
 
 /// Where a search begins, by the byte ahead of the position.
+#[inline(always)]
 fn begin(
     automaton: &Automaton,
     half: &mut Half,
@@ -189,6 +192,7 @@ fn begin(
 }
 
 /// How a search ends that came to its lower bound: the byte that stands before it decides what is met there, or the beginning of what is seen.
+#[inline(always)]
 fn finish<C: Cursor>(
     automaton: &Automaton,
     half: &mut Half,
@@ -221,6 +225,7 @@ fn finish<C: Cursor>(
 }
 
 /// Searches from one position down to another.
+#[inline(always)]
 pub(crate) fn search<C: Cursor>(
     automaton: &Automaton,
     half: &mut Half,
@@ -252,6 +257,7 @@ pub(crate) fn search<C: Cursor>(
 }
 
 /// Searches backwards from the position `end` down to another, within the input's bounds.
+#[inline(always)]
 pub(crate) fn run_backwards<C: Cursor>(
     automaton: &Automaton,
     half: &mut Half,

@@ -21,6 +21,7 @@ pub(crate) const MET: usize = 9_223_372_036_854_775_808;
 pub(crate) const QUIT: usize = 18_446_744_073_709_551_615;
 
 /// The row that a cell names.
+#[inline(always)]
 pub(crate) fn row_of(cell: usize) -> usize
     ensures { result ≡ row_of cell }
 {
@@ -28,6 +29,7 @@ pub(crate) fn row_of(cell: usize) -> usize
 }
 
 /// Whether nothing goes on where a cell leads.
+#[inline(always)]
 pub(crate) fn has_died(cell: usize) -> bool
     ensures { result ≡ has_died cell }
 {
@@ -51,6 +53,7 @@ pub(crate) fn marks(state: &State) -> usize
 }
 
 /// The column of the byte, or of the end: the last one.
+#[inline(always)]
 pub(crate) fn column(classes: &[u8], width: usize, beside: Option<u8>) -> usize
     requires size { length classes.now ≡ 256 }
     requires wide { 0 < width }
@@ -63,6 +66,7 @@ pub(crate) fn column(classes: &[u8], width: usize, beside: Option<u8>) -> usize
 }
 
 /// The number of a way of anchoring.
+#[inline(always)]
 pub(crate) fn mode(anchored: Anchored) -> usize
     ensures value { result ≡ mode_of anchored }
     ensures small { result < 4_294_967_296 }

@@ -27,6 +27,7 @@ use rc_text::types::Anchored;
 const REACH: usize = 128;
 
 /// Up to where a search reads on before it looks whether it rests.
+#[inline(always)]
 fn reach(at: usize, end: usize, may_rest: bool, rest_from: usize) -> usize
     requires { at < end }
     ensures { (at < result) × (result ≤ end) }
@@ -38,6 +39,7 @@ fn reach(at: usize, end: usize, may_rest: bool, rest_from: usize) -> usize
 }
 
 /// Whether nothing was met, and nothing is under way but walks that begin there or later.
+#[inline(always)]
 fn is_idle_at(half: &Half, stand: Stand) -> bool
     ghost f: { Frame }
     requires held { Held f half.now.store }
@@ -92,6 +94,7 @@ fn run(
 }
 
 /// Reads one byte, whatever its cell. With `may_rest` the search rests behind it where it may, from the position `rest_from` on.
+#[inline(always)]
 fn step(
     automaton: &Automaton,
     half: &mut Half,
@@ -136,6 +139,7 @@ fn step(
 }
 
 /// Runs over the chunks from one position to another.
+#[inline(always)]
 fn cross<C: Cursor>(
     automaton: &Automaton,
     half: &mut Half,
@@ -196,6 +200,7 @@ fn cross<C: Cursor>(
 }
 
 /// Where a search begins, by the byte behind the position.
+#[inline(always)]
 fn begin(
     automaton: &Automaton,
     half: &mut Half,
@@ -234,6 +239,7 @@ fn begin(
 }
 
 /// How a search ends that came to its upper bound: the byte that stands beyond decides what is met there, or the end of what is seen.
+#[inline(always)]
 fn finish<C: Cursor>(
     automaton: &Automaton,
     half: &mut Half,
@@ -265,6 +271,7 @@ fn finish<C: Cursor>(
 }
 
 /// Searches from one position up to another.
+#[inline(always)]
 pub(crate) fn search<C: Cursor>(
     automaton: &Automaton,
     half: &mut Half,
@@ -300,6 +307,7 @@ pub(crate) fn search<C: Cursor>(
 }
 
 /// Searches forwards from a position up to where the input's bounds end.
+#[inline(always)]
 pub(crate) fn run_forwards<C: Cursor>(
     automaton: &Automaton,
     half: &mut Half,

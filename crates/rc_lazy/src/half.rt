@@ -94,6 +94,7 @@ impl Half {
     }
 
     /// So many bytes were read.
+    #[inline(always)]
     pub(crate) fn serve(&mut self, bytes: usize)
         ensures store { self.new.store ≡ self.old.store }
         ensures scratch { self.new.scratch ≡ self.old.scratch }
@@ -140,6 +141,7 @@ impl Half {
     }
 
     /// The cell of a row and a byte, or of the end. Where it isn't known, the step is made, and it is known from then on.
+    #[inline(always)]
     pub(crate) fn next(
         &mut self,
         automaton: &Automaton,
@@ -176,6 +178,7 @@ impl Half {
 
     /// The cell in which a search begins that is anchored so, where this byte stands beside, or none. Where it isn't known, the state is made,
     /// and it is known from then on.
+    #[inline(always)]
     pub(crate) fn begin(
         &mut self,
         automaton: &Automaton,

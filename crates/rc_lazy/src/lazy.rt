@@ -161,6 +161,7 @@ impl Halves for Lazy {
 
     ghost GivesUp = { MayGiveUpEither };
 
+    #[inline(always)]
     fn run_forwards<C: Cursor>(
         &self,
         cache: &mut Cache,
@@ -187,6 +188,7 @@ impl Halves for Lazy {
         )
     }
 
+    #[inline(always)]
     fn run_backwards<C: Cursor>(
         &self,
         cache: &mut Cache,

@@ -30,6 +30,7 @@ pub(crate) enum Leg {
 }
 
 /// What was met where the cell leads.
+#[inline(always)]
 pub(crate) fn stop_by(store: &Store, cell: usize) -> Option<usize>
     ghost f: { Frame }
     requires held { Held f store.now }
@@ -42,6 +43,7 @@ pub(crate) fn stop_by(store: &Store, cell: usize) -> Option<usize>
 }
 
 /// What was met last, where it was met by the way to the row that is noted, at the position beside it, or else before.
+#[inline(always)]
 pub(crate) fn told(
     store: &Store,
     noted: Option<(usize, usize)>,
@@ -61,6 +63,7 @@ pub(crate) fn told(
 }
 
 /// What is said of a search by what was met last: a match place, with the position.
+#[inline(always)]
 pub(crate) fn found(automaton: &Automaton, met: Option<(usize, usize)>) -> Ended
     ensures { SaysMet (machine_of automaton.now Forwards) met result }
 {
@@ -78,6 +81,7 @@ pub(crate) fn found(automaton: &Automaton, met: Option<(usize, usize)>) -> Ended
 }
 
 /// What is said of a search backwards by what was met last: an entry, with the position.
+#[inline(always)]
 pub(crate) fn found_down(met: Option<(usize, usize)>) -> Ended
     ensures { SaysLeast met result }
 {
@@ -88,6 +92,7 @@ pub(crate) fn found_down(met: Option<(usize, usize)>) -> Ended
 }
 
 /// What was met last, once a cell was read at the position.
+#[inline(always)]
 pub(crate) fn met_by(
     store: &Store,
     cell: usize,

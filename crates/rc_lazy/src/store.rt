@@ -170,6 +170,7 @@ impl Store {
     }
 
     /// What was met on the way to the row.
+    #[inline(always)]
     pub(crate) fn stop_at(&self, row: usize) -> Option<usize>
         ghost f: { Frame }
         requires held { Held f self.now }
@@ -183,6 +184,7 @@ impl Store {
     }
 
     /// Whether nothing is under way in the row's state but walks that begin there or later.
+    #[inline(always)]
     pub(crate) fn idles_at(&self, row: usize) -> bool
         ghost f: { Frame }
         requires held { Held f self.now }

@@ -36,6 +36,7 @@ enum Leg {
 }
 
 /// Whether a search goes from needle to needle: it isn't anchored, and seeks the preferred match alone, none of which is passed over.
+#[inline(always)]
 fn goes_by_needles(aim: Aim, anchored: Anchored) -> bool
     ensures { IsTrue result ↔ GoesByNeedles aim anchored }
 {
@@ -46,6 +47,7 @@ fn goes_by_needles(aim: Aim, anchored: Anchored) -> bool
 }
 
 /// How far a run forwards came from one position on, or why it tells nothing. It rests at or above that position, and at or below `bound`.
+#[inline(always)]
 fn leg_of(ended: Ended, from: usize, bound: usize) -> Result<Leg, MatchError>
     ensures { result ≡ leg_of ended from bound }
 {
@@ -58,6 +60,7 @@ fn leg_of(ended: Ended, from: usize, bound: usize) -> Result<Leg, MatchError>
 }
 
 /// How far a run forwards comes from one position on, up to `bound`. It may rest, from `rest_from` on.
+#[inline(always)]
 fn run_leg<H: Halves, C: Cursor>(
     halves: &H,
     cache: &mut H::Cache,
@@ -88,6 +91,7 @@ fn run_leg<H: Halves, C: Cursor>(
 }
 
 /// The end of the preferred match: runs forwards begin where a match may that goes by the next needle, and where one rests behind that, the next is sought.
+#[inline(always)]
 fn seek_by_needles<H: Halves, C: Cursor>(
     halves: &H,
     cache: &mut H::Cache,
@@ -128,6 +132,7 @@ fn seek_by_needles<H: Halves, C: Cursor>(
 }
 
 /// The preferred match, from needle to needle.
+#[inline(always)]
 fn find_by_needles<H: Halves, C: Cursor>(
     halves: &H,
     cache: &mut H::Cache,

@@ -54,6 +54,7 @@ struct End {
 }
 
 /// Whether any match is enough.
+#[inline(always)]
 fn is_early(aim: Aim) -> bool
     ensures { result ≡ is_early aim }
 {
@@ -61,6 +62,7 @@ fn is_early(aim: Aim) -> bool
 }
 
 /// Whether the pattern that is asked for, if any, is one of so many.
+#[inline(always)]
 fn asks(anchored: Anchored, patterns: usize) -> bool
     ensures { IsTrue result ↔ Asks patterns anchored }
 {
@@ -72,6 +74,7 @@ fn asks(anchored: Anchored, patterns: usize) -> bool
 }
 
 /// Where a search begins and ends; None where it finds nothing: it has no position, or the pattern that is asked for is none.
+#[inline(always)]
 pub(crate) fn bounds_of<C: Cursor>(input: &mut Input<C>, aim: Aim) -> Option<Bounds>
     ensures keeps { Keeps input.old input.new }
     ensures some { IfSome result (λ bounds. (bounds.low ≡ low input.old) × (bounds.high ≡ high input.old)
@@ -90,6 +93,7 @@ pub(crate) fn bounds_of<C: Cursor>(input: &mut Input<C>, aim: Aim) -> Option<Bou
 }
 
 /// What a run met, or why it tells nothing.
+#[inline(always)]
 pub(crate) fn told(ended: Ended) -> Result<Option<Met>, MatchError>
     ensures { result ≡ told_of ended }
 {
@@ -102,6 +106,7 @@ pub(crate) fn told(ended: Ended) -> Result<Option<Met>, MatchError>
 }
 
 /// What a run forwards from one position on meets.
+#[inline(always)]
 pub(crate) fn run_forwards<H: Halves, C: Cursor>(
     halves: &H,
     cache: &mut H::Cache,
@@ -126,6 +131,7 @@ pub(crate) fn run_forwards<H: Halves, C: Cursor>(
 }
 
 /// What a run backwards from an end down to `from` meets.
+#[inline(always)]
 pub(crate) fn run_backwards<H: Halves, C: Cursor>(
     halves: &H,
     cache: &mut H::Cache,
@@ -152,6 +158,7 @@ pub(crate) fn run_backwards<H: Halves, C: Cursor>(
 }
 
 /// Whether a match may end here where matches are passed over that end off a boundary.
+#[inline(always)]
 fn is_allowed<C: Cursor>(input: &mut Input<C>, aim: Aim, at: usize) -> bool
     ensures keeps { Keeps input.old input.new }
     ensures value { result ≡ (not aim.passes_over || is_boundary input.old.content at) }
@@ -160,6 +167,7 @@ fn is_allowed<C: Cursor>(input: &mut Input<C>, aim: Aim, at: usize) -> bool
 }
 
 /// Whether a match of the kind may end here.
+#[inline(always)]
 fn may_end<C: Cursor>(input: &mut Input<C>, aim: Aim, at: usize) -> bool
     ensures keeps { Keeps input.old input.new }
     ensures value { result ≡ may_end aim.kind aim.passes_over input.old.content at }
@@ -171,6 +179,7 @@ fn may_end<C: Cursor>(input: &mut Input<C>, aim: Aim, at: usize) -> bool
 }
 
 /// The end of the match that is sought: a run from where the search begins meets it, or, where matches are passed over, a run from a later start.
+#[inline(always)]
 fn seek_end<H: Halves, C: Cursor>(
     halves: &H,
     cache: &mut H::Cache,
@@ -213,6 +222,7 @@ fn seek_end<H: Halves, C: Cursor>(
 }
 
 /// Whether a match begins where the run forwards did that met its end.
+#[inline(always)]
 fn begins_there(aim: Aim, anchored: Anchored) -> bool
     ensures { result ≡ begins_there aim.kind (is_early aim) (is_anchored anchored) }
 {
@@ -223,6 +233,7 @@ fn begins_there(aim: Aim, anchored: Anchored) -> bool
 }
 
 /// Whether the pattern that was met with the end is the match's.
+#[inline(always)]
 fn keeps_pattern(aim: Aim) -> bool
     ensures { result ≡ keeps_pattern aim.kind (is_early aim) }
 {
@@ -233,6 +244,7 @@ fn keeps_pattern(aim: Aim) -> bool
 }
 
 /// The start of the match with this end and its pattern, by what a run backwards met.
+#[inline(always)]
 fn start_by(aim: Aim, end: End, met: Met) -> Met
     ensures { result ≡ start_by aim.kind (is_early aim) end met }
 {
@@ -250,6 +262,7 @@ fn start_by(aim: Aim, end: End, met: Met) -> Met
 }
 
 /// The start of the match with this end, and its pattern.
+#[inline(always)]
 fn seek_start<H: Halves, C: Cursor>(
     halves: &H,
     cache: &mut H::Cache,
@@ -286,6 +299,7 @@ fn seek_start<H: Halves, C: Cursor>(
 
 /// The number of the pattern that was met at the position. An `Err` comes where `PatternID` has none for it; it has one for each of the
 /// patterns.
+#[inline(always)]
 pub(crate) fn id_of(pattern: usize, offset: usize) -> Result<PatternID, MatchError>
     ensures id { IfOk result (λ id. id ≡ pattern) }
     ensures refused { IfErr result (λ _. 2147483646 < pattern) }
@@ -304,6 +318,7 @@ pub(crate) fn id_of(pattern: usize, offset: usize) -> Result<PatternID, MatchErr
 ///
 /// An `Err` comes where the patterns speak of Unicode's words and a byte above 127 would have to be read, and where the halves give a
 /// search up.
+#[inline(always)]
 pub fn find<H: Halves, C: Cursor>(
     halves: &H,
     cache: &mut H::Cache,

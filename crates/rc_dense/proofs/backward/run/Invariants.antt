@@ -2,6 +2,9 @@ use Rattle.std.proofs.Common.{◌≤◌, ◌+◌, length}
 use Rattle.rc_dense.specs.Searches.{InRow, StandsDown}
 use Rattle.rc_dense.proofs.backward.run.Given as goal
 
+abbrev pub ghost-stride : goal.ghost-stride
+ghost-stride g a = g.course
+
 abbrev pub invariant-loop-left : goal.invariant-loop-left
 invariant-loop-left g l = record {
   left : l.left ≤ length l.piece;

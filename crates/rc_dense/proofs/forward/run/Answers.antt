@@ -6,7 +6,7 @@ use Rattle.rc_dense.proofs.forward.run.Goals.{then-cell-lt-SKIP, else-cell-lt-SK
 
 pub loop-index-init : goal.loop-index-init
 loop-index-init g c =
-    record { row = c.requires.0; stands = c.requires.1.0 }
+    record { row = c.stride-read.ensures.row; stands = c.stride-read.ensures.stands }
 
 pub loop-index-preserved : goal.loop-index-preserved
 loop-index-preserved g c =
