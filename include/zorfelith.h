@@ -109,8 +109,8 @@ struct zf_progress {
 
 /* Compiles patterns into the handle, and frees what it held before. There may be none, and then there is never a match.
  *
- * ZF_DONE; or ZF_NO_KIND, ZF_TOO_LARGE for too many, ZF_NOT_UTF8, ZF_SYNTAX, ZF_TOO_LARGE, ZF_MEMORY: the first of these that applies, want of memory at any time. Then the handle
- * is empty, and `refused` tells the status and where. */
+ * ZF_DONE; or ZF_NO_KIND, ZF_TOO_LARGE for too many, ZF_NOT_UTF8, ZF_SYNTAX, ZF_TOO_LARGE, ZF_MEMORY: the first of these that applies, want of
+ * memory at any time. Then the handle is empty, and `refused` tells the status and where. */
 uint32_t zf_compile(struct zf_handle *handle, const struct zf_bytes *patterns, size_t pattern_count, const struct zf_settings *settings,
                     struct zf_refused *refused);
 
@@ -134,8 +134,8 @@ uint32_t zf_find_groups(struct zf_handle *handle, const struct zf_bytes *chunks,
 
 /* Which patterns have a match in the text from `start` to `end`, or to the text's end where that comes first: marks[p] is 1 where pattern p has
  * one, and else 0, also where there is no pattern p. A pattern has a match where it spells some span there, whatever the kind is, also where
- * another pattern is preferred there. With ZF_DONE each of the `mark_count` places is written. ZF_DONE; or ZF_EMPTY, ZF_TOO_LONG, ZF_OUTSIDE. The
- * iteration stays as it was. */
+ * another pattern is preferred there, and where searches pass over the span, since it is empty and splits a character. With ZF_DONE each of
+ * the `mark_count` places is written. ZF_DONE; or ZF_EMPTY, ZF_TOO_LONG, ZF_OUTSIDE. The iteration stays as it was. */
 uint32_t zf_which_patterns(struct zf_handle *handle, const struct zf_bytes *chunks, size_t chunk_count, size_t start, size_t end,
                            uint8_t *marks, size_t mark_count);
 
@@ -145,7 +145,8 @@ uint32_t zf_restart(struct zf_handle *handle, size_t from, uint8_t follows);
 
 /* Fills `batch` with the next matches of the text up to `end`, from left to right, and goes on behind them with the next call. Each match is
  * sought from where the one before ended, and one that is empty and ends there gives way to the match from a byte later. A batch that isn't
- * full, progress->count < batch_len, is the last one.
+ * full, progress->count < batch_len, is the last one. Each call goes over the chunks once to count their bytes, and from the first one to
+ * the place: where a text has thousands of chunks, and many matches, large batches take less time.
  *
  * ZF_DONE, and `progress` is written; or ZF_EMPTY, ZF_TOO_LONG, ZF_OUTSIDE (the place, progress->next of the call before, is behind `end` or
  * behind the text's end): then the iteration stays as it was.

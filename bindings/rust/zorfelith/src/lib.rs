@@ -18,16 +18,23 @@ pub use zorfelith_sys::ZF_ALL as ALL;
 pub use zorfelith_sys::ZF_LEFTMOST_FIRST as LEFTMOST_FIRST;
 pub use zorfelith_sys::ZF_LEFTMOST_LONGEST as LEFTMOST_LONGEST;
 
-/// A chunk of a text.
-pub type Chunk<'a> = sys::zf_bytes<'a>;
+/// A chunk of a text: bytes that it borrows. It is made by [`chunk`] alone, so that what it points at is there.
+#[repr(transparent)]
+#[derive(Clone, Copy)]
+pub struct Chunk<'a>(sys::zf_bytes<'a>);
 
 /// The chunk of these bytes.
 pub fn chunk(bytes: &[u8]) -> Chunk<'_> {
-    Chunk {
+    Chunk(sys::zf_bytes {
         bytes: bytes.as_ptr(),
         len: bytes.len(),
         lent: PhantomData,
-    }
+    })
+}
+
+/// Where the chunks begin, as the library takes them.
+fn first<'a>(chunks: &[Chunk<'a>]) -> *const sys::zf_bytes<'a> {
+    chunks.as_ptr().cast()
 }
 
 /// Why there is no answer.
@@ -89,7 +96,7 @@ impl Regex {
         let mut regex = Regex(sys::zf_handle { full: 0, held: null_mut() });
         let mut refused = sys::zf_refused::default();
         // SAFETY: the handle is empty.
-        let status = unsafe { sys::zf_compile(&mut regex.0, texts.as_ptr(), texts.len(), settings, &mut refused) };
+        let status = unsafe { sys::zf_compile(&mut regex.0, first(&texts), texts.len(), settings, &mut refused) };
         match status {
             sys::ZF_DONE => Ok(regex),
             sys::ZF_SYNTAX => Err(Error::Syntax { pattern: refused.pattern, at: refused.at }),
@@ -102,14 +109,14 @@ impl Regex {
     /// Whether there is a match in the range of the text.
     pub fn is_match(&mut self, text: &[Chunk<'_>], range: Range<usize>) -> Result<bool, Error> {
         // SAFETY: above.
-        told(unsafe { sys::zf_is_match(&mut self.0, text.as_ptr(), text.len(), range.start, range.end) })
+        told(unsafe { sys::zf_is_match(&mut self.0, first(text), text.len(), range.start, range.end) })
     }
 
     /// The match in the range of the text. The range may end behind the text.
     pub fn find(&mut self, text: &[Chunk<'_>], range: Range<usize>) -> Result<Option<Match>, Error> {
         let mut found = Match::default();
         // SAFETY: above.
-        let status = unsafe { sys::zf_find(&mut self.0, text.as_ptr(), text.len(), range.start, range.end, &mut found) };
+        let status = unsafe { sys::zf_find(&mut self.0, first(text), text.len(), range.start, range.end, &mut found) };
         Ok(told(status)?.then_some(found))
     }
 
@@ -122,7 +129,7 @@ impl Regex {
         let status = unsafe {
             sys::zf_find_groups(
                 &mut self.0,
-                text.as_ptr(),
+                first(text),
                 text.len(),
                 range.start,
                 range.end,
@@ -144,7 +151,7 @@ impl Regex {
         let mut marks = vec![0; self.pattern_count()];
         // SAFETY: above.
         let status = unsafe {
-            sys::zf_which_patterns(&mut self.0, text.as_ptr(), text.len(), range.start, range.end, marks.as_mut_ptr(), marks.len())
+            sys::zf_which_patterns(&mut self.0, first(text), text.len(), range.start, range.end, marks.as_mut_ptr(), marks.len())
         };
         told(status)?;
         Ok((0..marks.len()).filter(|&pattern| marks[pattern] == 1).collect())
@@ -240,7 +247,7 @@ impl FindIter<'_, '_> {
         let status = unsafe {
             sys::zf_next(
                 &mut self.regex.0,
-                self.text.as_ptr(),
+                first(self.text),
                 self.text.len(),
                 self.end,
                 self.batch.as_mut_ptr(),
