@@ -1,22 +1,21 @@
 //! Prints the lines of files, or of the standard input, in which a pattern matches.
 #![tactic(auto)]
 
+mod faults;
 mod line_regex;
 mod options;
 mod output;
 mod search;
 
+use crate::faults::{FAULT, report, report_refusal};
 use crate::options::{Options, WordsError, read_words};
 use crate::search::search_all;
 use regex_cursor::engines::meta::Regex;
-use regex_cursor::syntax;
+use regex_cursor::syntax::Config;
 use std::alloc::{AllocError, Global};
 use std::io;
 use std::io::Write;
 use std::process::ExitCode;
-
-/// The status of a fault.
-const FAULT: u8 = 2;
 
 /// The greatest number of patterns.
 const MAX_PATTERNS: usize = 2_147_483_647;
@@ -48,12 +47,6 @@ fn lent(alloc: Global, words: &[String]) -> Result<Vec<&str>, AllocError> {
     words.iter().map(|word| word.as_str()).collect(alloc)
 }
 
-/// Tells of a fault. A fault of the standard error is ignored.
-fn report(rt: &HostRuntime, line: &str) -> u8 {
-    let _ = writeln!(rt.stderr(), "rcgrep: {line}");
-    FAULT
-}
-
 /// Builds the regex, and searches.
 fn run(rt: &HostRuntime, options: &Options<'_>) -> u8 {
     let alloc = rt.alloc();
@@ -61,14 +54,12 @@ fn run(rt: &HostRuntime, options: &Options<'_>) -> u8 {
     if patterns.len() > MAX_PATTERNS {
         return report(rt, "too many patterns");
     }
+    let config = Config::new().case_insensitive(options.ignore_case);
     let mut builder = Regex::builder();
-    builder.syntax(syntax::Config::new().case_insensitive(options.ignore_case));
+    builder.syntax(config);
     let regex = match builder.build_many(alloc, patterns) {
         Ok(regex) => regex,
-        Err(fault) => {
-            let _ = writeln!(rt.stderr(), "rcgrep: {fault}");
-            return FAULT;
-        }
+        Err(refusal) => return report_refusal(rt, patterns, &config, &refusal),
     };
     let searched = search_all(rt, &regex, options);
     drop(regex);

@@ -12,6 +12,8 @@ mod grammar;
 #[cfg(test)]
 mod lent;
 #[cfg(test)]
+mod moves;
+#[cfg(test)]
 mod paged;
 #[cfg(test)]
 mod programs;
