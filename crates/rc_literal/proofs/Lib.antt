@@ -2,7 +2,6 @@ pub mod RangeLemmas
 pub mod StandLemmas
 pub mod ScanLemmas
 pub mod SieveLemmas
-pub mod OpeningLemmas
 pub mod TableLemmas
 pub mod FindLemmas
 pub mod PairLemmas

@@ -2,8 +2,6 @@ pub mod Extraction
 pub mod Guards
 pub mod Literals
 pub mod Needles
-pub mod Openings
-pub mod Opened
 pub mod Pairs
 pub mod Prefilters
 pub mod Prefixes

@@ -171,20 +171,6 @@ fn head_candidate(table: &Table, piece: &[u8]) -> usize
     piece.len()
 }
 
-/// The first place from one on where a needle may begin, as far as the bits of the needles' first bytes
-/// tell. Where there are none, it is that one.
-#[inline(always)]
-fn opened_from(table: &Table, piece: &[u8], from: usize) -> usize
-    ensures low { from ≤ result }
-    ensures within { from ≤ length piece.now → result ≤ length piece.now }
-    ensures passed { (k : ℕ) → from ≤ k → k < result → IsRuledOut (needles_in table.now.needles.items) 0 piece.now k }
-{
-    match &table.openings {
-        Some(openings) => openings.place(piece, from),
-        None => from,
-    }
-}
-
 /// The first place where a needle of the trie may begin. Where there is no trie, the first with a byte
 /// with which a needle begins.
 fn trie_candidate(table: &Table, piece: &[u8]) -> usize
@@ -195,12 +181,10 @@ fn trie_candidate(table: &Table, piece: &[u8]) -> usize
         return head_candidate(table, piece);
     };
     let count = table.needles.len();
-    let mut at = opened_from(table, piece, 0);
-    while at < piece.len() {
+    for at in 0..piece.len() {
         if trie.may_begin(&piece[at..], count) {
             return at;
         }
-        at = opened_from(table, piece, at + 1);
     }
     piece.len()
 }

@@ -1,30 +1,26 @@
 //! Needles grouped by their first byte.
 ghost use Rattle.std.specs.Prelude.{◌≡◌, ◌<◌, ◌≤◌, IfOk, length, slice_index};
-ghost use Rattle.rc_literal.specs.Opened.{AreOpenedBy, AreOpenedBy-is_fact};
 ghost use Rattle.rc_literal.specs.Tables.{AreHeads, AreNexts, AreSome, needles_in};
 ghost use Rattle.rc_literal.specs.Tries.{AreCarriedBy, AreCarriedBy-is_fact};
 
-use crate::openings::{Openings, openings_of};
 use crate::trie::{Trie, trie_of};
 use std::alloc::{AllocError, Global};
 
 /// The needles, for each byte the first that begins with it, and for each needle the next that
 /// begins with the same byte. Where there is none, how many needles there are. Many needles have a trie
-/// too, and where it is asked at each place the bits of their first bytes.
+/// too.
 #[derive(Drop)]
 pub struct Table {
     pub needles: Vec<Vec<u8>>,
     pub heads: Vec<usize>,
     pub nexts: Vec<usize>,
     pub trie: Option<Trie>,
-    pub openings: Option<Openings>,
     ghost some: { AreSome (needles_in needles.items) },
     ghost head_count: { length heads.items ≡ 256 },
     ghost next_count: { length nexts.items ≡ length needles.items },
     ghost headed: { AreHeads (needles_in needles.items) 0 heads.items },
     ghost linked: { AreNexts (needles_in needles.items) 0 nexts.items },
     ghost carried: { AreCarriedBy trie (needles_in needles.items) } by { AreCarriedBy-is_fact trie (needles_in needles.items) },
-    ghost opened: { AreOpenedBy openings (needles_in needles.items) } by { AreOpenedBy-is_fact openings (needles_in needles.items) },
 }
 
 /// The table of these needles.
@@ -33,7 +29,6 @@ pub fn table_of(alloc: Global, needles: Vec<Vec<u8>>) -> Result<Table, AllocErro
     ensures { IfOk result (λ t. t.needles ≡ needles) }
 {
     let trie = trie_of(alloc, &needles)?;
-    let openings = openings_of(alloc, &needles)?;
     let count = needles.len();
     let mut heads = vec![in alloc; count; 256]?;
     let mut nexts = vec![in alloc; count; count]?;
@@ -49,7 +44,6 @@ pub fn table_of(alloc: Global, needles: Vec<Vec<u8>>) -> Result<Table, AllocErro
         heads,
         nexts,
         trie,
-        openings,
     })
 }
 

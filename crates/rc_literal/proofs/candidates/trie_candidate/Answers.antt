@@ -14,25 +14,17 @@ returns-in_default-clause-passed c k l =
     (omega (arith, l, c.head_candidate.ensures.within)) (c.type_inv.piece k).fits (omega (arith, none, needle_count table.needles.items))
 
 pub loop-at-preserved : goal.loop-at-preserved
-loop-at-preserved c =
+loop-at-preserved c k l =
     let table = c.args.table.now in
     let needles = needles_in table.needles.items in
     let piece = c.args.piece.now in
     let at = c.loop-at.at in
-    let next = c.opened_from-at-in-loop-at.ensures in
-    let carried = subst (λ o. AreCarriedBy o needles) c.in-Some.is table.carried in
-    record {
-      within = next.within (omega (arith, c.loop-at-test.true));
-      passed = λ k l.
-          elim (cases_lt k at) [
-            | inl h ↦ c.loop-at.invariant.passed k h
-            | inr g ↦ elim (cases_lt at k) [
-              | inl h ↦ next.passed k (omega (arith, h)) l
-              | inr h ↦
-                  let here : at ≡ k = omega (arith, g, h) in
-                  subst (IsRuledOut needles 0 piece) here
-                  (λ n m agrees. c.may_begin.ensures c.if-may_begin.false (numbered needles n) n (carried n m) (omega (arith, m, needle_count table.needles.items)) (table.some n m)
-                  (agrees_in_tail piece (numbered needles n) at agrees))
-            ]
-          ];
-    }
+    elim (cases_lt k at) [
+      | inl h ↦ c.loop-at.invariant k h
+      | inr g ↦
+          let here : at ≡ k = omega (arith, l, g) in
+          let carried = subst (λ o. AreCarriedBy o needles) c.in-Some.is table.carried in
+          subst (IsRuledOut needles 0 piece) here
+          (λ n m agrees. c.may_begin.ensures c.if-may_begin.false (numbered needles n) n (carried n m) (omega (arith, m, needle_count table.needles.items)) (table.some n m)
+          (agrees_in_tail piece (numbered needles n) at agrees))
+    ]

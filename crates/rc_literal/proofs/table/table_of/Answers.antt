@@ -1,7 +1,6 @@
 use Rattle.std.proofs.Common.{arith, ◌≡◌, ◌+◌, ◌-◌, ◌<◌, length, length-set, sym, ap, subst, ◌∙◌, set, slice_get, slice_index}
 use Rattle.std.proofs.lemmas.List.{get_or_read}
 use Rattle.rc_literal.specs.Tables.{needles_in, numbered, BeginsWithByte, AreHeads, AreNexts}
-use Rattle.rc_literal.specs.Opened.{AreOpenedBy}
 use Rattle.rc_literal.specs.Tries.{AreCarriedBy}
 use Rattle.rc_literal.proofs.StandLemmas.{numbered_in, needle_count}
 use Rattle.rc_literal.proofs.ScanLemmas.{begins_itself}
@@ -59,5 +58,4 @@ invariant_of-result c =
       headed = subst (λ n. AreHeads (needles_in vs) n c.loop-number.heads.items) e c.loop-number.invariant.headed;
       linked = subst (λ n. AreNexts (needles_in vs) n c.loop-number.nexts.items) e c.loop-number.invariant.linked;
       carried = subst (λ ws. AreCarriedBy c.in_ok-trie.trie (needles_in ws)) c.deref.ensures.value c.in_ok-trie.ensures;
-      opened = subst (λ ws. AreOpenedBy c.in_ok-openings.openings (needles_in ws)) c.deref-2.ensures.value c.in_ok-openings.ensures;
     }
