@@ -1,7 +1,7 @@
 -- The moves of a cursor over chunks.
-use Rattle.std.proofs.Common.{◌≡◌, ℕ, ◌+◌, ◌-◌, ◌<◌, List, [], length, take, drop, ap, sym, ◌∙◌, refl, arith, length-append}
+use Rattle.std.proofs.Common.{◌≡◌, ℕ, ◌+◌, ◌-◌, ◌<◌, ◌≤◌, List, [], length, take, drop, ap, sym, ◌∙◌, refl, arith, length-append}
 use Rattle.std.specs.Borrow.{Bor}
-use Rattle.std.proofs.lemmas.List.{nil_from_length}
+use Rattle.std.proofs.lemmas.List.{nil_from_length, take_all}
 use Rattle.rc_text.specs.Joined.{joined, chunk_at, IsChunk, IsNextFilled, IsLastFilled}
 use Rattle.rc_text.proofs.Joins.{joined-parts, joined-drop, next_start}
 
@@ -13,12 +13,23 @@ no_bytes xs h = record {
   some = λ _. h;
 }
 
--- the first chunk with a byte begins at 0
-pub first_filled : (xs : List (Bor (List ℕ))) (index : ℕ) → IsNextFilled xs 0 index → IsChunk xs index 0 (chunk_at xs index)
-first_filled xs index h = record {
+-- the chunk with a byte of the content has a byte
+pub place_is : (xs : List (Bor (List ℕ))) (index offset at : ℕ) → offset ≡ length (joined (take index xs)) → offset ≤ at → at < offset + length (chunk_at xs index) → IsChunk xs index offset (chunk_at xs index)
+place_is xs index offset at start low high = record {
   is = refl;
-  start = ap length (sym h.between);
-  some = λ e. absurd (omega (arith, h.some, e));
+  start = start;
+  some = λ e. absurd (omega (arith, low, high, e));
+}
+
+-- the last chunk with a byte ends where the content does
+pub last_of_all : (xs : List (Bor (List ℕ))) (index : ℕ) (last : List ℕ) → IsLastFilled xs (length xs) index last → length (joined xs) ≡ length (joined (take index xs)) + length last
+last_of_all xs index last h = omega (arith, simp length-append at (ap (λ ys. length (joined ys)) (sym (take_all (length xs) xs (omega arith))) ∙ ap length h.between))
+
+pub last_filled_is : (xs : List (Bor (List ℕ))) (index total : ℕ) (last : List ℕ) → total ≡ length (joined xs) → IsLastFilled xs (length xs) index last → IsChunk xs index (total - length last) last
+last_filled_is xs index total last e h = record {
+  is = h.is;
+  start = omega (arith, e, last_of_all xs index last h);
+  some = λ n. absurd (omega (arith, h.some, n));
 }
 
 module _ (xs : List (Bor (List ℕ))) (i offset : ℕ) (chunk : List ℕ) (c : IsChunk xs i offset chunk) where
