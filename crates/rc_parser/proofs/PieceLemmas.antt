@@ -32,8 +32,11 @@ letter_small c h = go (nat_lt c 128) refl
         big : nat_lt c 128 ≡ false → ⊥
         big e = grind (arith, e, h)
 
+pub letter_code : (u : Bool) (c : ℕ) → is_letter c ≡ true → AreCodes u ((c, c) ∷ [])
+letter_code u c h = letter_codes u c (letter_small c h)
+
 pub letter_class : (u : Bool) (c : ℕ) → is_letter c ≡ true → AreCodes u (class_of u true false ((c, c) ∷ []))
-letter_class u c h = class_codes u true false ((c, c) ∷ []) (letter_codes u c (letter_small c h))
+letter_class u c h = class_codes u true false ((c, c) ∷ []) (letter_code u c h)
 
 pub list_class : (u fold negated bracket : Bool) (ms : List Member) (rs : List Range) → list_ranges u bracket ms ≡ Some rs → AreCodes u (class_of u fold negated rs)
 list_class u fold negated bracket ms rs h = class_codes u fold negated rs (list_codes u bracket ms rs h)

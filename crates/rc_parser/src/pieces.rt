@@ -144,7 +144,7 @@ fn literal(alloc: Global, c: char) -> Result<Hir, AllocError>
 }
 
 /// Both cases of a letter.
-#[tactic(auto, using(crate::proofs::PieceLemmas::letter_class))]
+#[tactic(auto, using(crate::proofs::PieceLemmas::letter_class, crate::proofs::PieceLemmas::letter_code))]
 fn letter(alloc: Global, config: Config, flags: Flags, c: char) -> Result<Hir, Refusal>
     requires { is_letter c ≡ true }
     ensures reads { IsResultOf result (set_re (settings_of config) flags (class_of flags.unicode true false ((c, c) ∷ []))) meaning }
@@ -246,7 +246,7 @@ pub fn perl(alloc: Global, config: Config, flags: Flags, perl: Perl) -> Result<N
 }
 
 /// A list.
-#[tactic(auto, using(crate::proofs::PieceLemmas::list_class))]
+#[tactic(auto, using(crate::proofs::PieceLemmas::list_class, rc_tokens::proofs::ClassLemmas::list_codes))]
 pub fn list(alloc: Global, config: Config, flags: Flags, list: &List) -> Result<Nested, Refusal>
     ensures { IsResultOf result (sense_part (settings_of config) flags (sense.Members list.now.negated list.now.bracket list.now.members.items)) part }
 {

@@ -72,7 +72,7 @@ upper_codes u r = if_elim (λ rs. AreCodes u (upper rs)) (nat_le (max 97 r.0) (m
     (λ h. let l = le_true (max 97 r.0) (min 122 r.1) h in
     (small_code u (max 97 r.0 - 32) (omega (arith, l)), small_code u (min 122 r.1 - 32) (omega (arith, l)), omega (arith, l), tt)) (λ _. tt)
 
-folded_codes : (u : Bool) (rs : List Range) → AreCodes u rs → AreCodes u (folded rs)
+pub folded_codes : (u : Bool) (rs : List Range) → AreCodes u rs → AreCodes u (folded rs)
 folded_codes u [] h = tt
 folded_codes u (r ∷ rs) h = (
   h.0,

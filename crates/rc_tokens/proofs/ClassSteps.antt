@@ -1,8 +1,8 @@
 -- The steps of the loops that make classes.
-use Rattle.std.proofs.Common.{◌≡◌, ℕ, ◌+◌, ◌<◌, ◌≤◌, Bool, true, false, List, [], ◌∷◌, ◌++◌, length, drop, get_or, max, min, nat_lt, nat_le, refl, ap, sym, ◌∙◌, arith, if◌then◌else◌}
+use Rattle.std.proofs.Common.{◌≡◌, ℕ, ◌+◌, ◌<◌, ◌≤◌, Bool, true, false, List, [], ◌∷◌, ◌++◌, length, drop, get_or, max, nat_lt, nat_le, refl, ap, sym, ◌∙◌, if◌then◌else◌}
 use Rattle.std.proofs.lemmas.List.{drop_more, drop_all}
 use Rattle.rc_tokens.specs.ClassView.{pair, pairs}
-use Rattle.rc_tokens.specs.Classes.{next, before, joins, canonical, shared, lower, upper, folded, gaps, last_code}
+use Rattle.rc_tokens.specs.Classes.{next, before, shared, lower, upper, folded, gaps, last_code}
 use Rattle.rc_tokens.specs.Merged.{merges}
 use Rattle.rc_tokens.specs.declared.classes.CodeRange.{CodeRange}
 
@@ -12,30 +12,6 @@ none = record { start = 0; end = 0 }
 -- the ranges from the one at i on
 pub from_at : (rs : List CodeRange) (i : ℕ) (q : CodeRange) → i < length rs → q ≡ get_or rs i q → pairs (drop i rs) ≡ pair q ∷ pairs (drop (i + 1) rs)
 from_at rs i q h e = ap pairs (drop_more rs i q h) ∙ ap (λ x. pair x ∷ pairs (drop (i + 1) rs)) (sym e)
-
-pub joins_before : (u : Bool) (c : CodeRange) (rs : List CodeRange) (i : ℕ) (q : CodeRange) → i < length rs → q ≡ get_or rs i q →
-    nat_lt (next u c.end) q.start ≡ true → joins u (pair c) (pairs (drop i rs)) ≡ pair c ∷ pairs (drop i rs)
-joins_before u c rs i q h e t = ap (joins u (pair c)) (from_at rs i q h e) ∙ rw t refl ∙ ap (λ x. pair c ∷ x) (sym (from_at rs i q h e))
-
-pub joins_after : (u : Bool) (c : CodeRange) (rs : List CodeRange) (i : ℕ) (q : CodeRange) → i < length rs → q ≡ get_or rs i q →
-    nat_lt (next u c.end) q.start ≡ false → nat_lt (next u q.end) c.start ≡ true →
-    joins u (pair c) (pairs (drop i rs)) ≡ pair q ∷ joins u (pair c) (pairs (drop (i + 1) rs))
-joins_after u c rs i q h e t s = ap (joins u (pair c)) (from_at rs i q h e) ∙ rw t (rw s refl)
-
-pub joins_touch : (u : Bool) (c : CodeRange) (rs : List CodeRange) (i : ℕ) (q : CodeRange) → i < length rs → q ≡ get_or rs i q →
-    nat_lt (next u c.end) q.start ≡ false → nat_lt (next u q.end) c.start ≡ false →
-    joins u (pair c) (pairs (drop i rs)) ≡ joins u (min c.start q.start, max c.end q.end) (pairs (drop (i + 1) rs))
-joins_touch u c rs i q h e t s = ap (joins u (pair c)) (from_at rs i q h e) ∙ rw t (rw s refl)
-
-pub joins_end : (u : Bool) (c : CodeRange) (rs : List CodeRange) (i : ℕ) → length rs ≤ i → joins u (pair c) (pairs (drop i rs)) ≡ pair c ∷ []
-joins_end u c rs i h = ap (λ x. joins u (pair c) (pairs x)) (drop_all i rs h)
-
-pub canonical_start : (u : Bool) (rs : List CodeRange) → canonical u (pairs (drop (length rs) rs)) ≡ []
-canonical_start u rs = ap (λ x. canonical u (pairs x)) (drop_all (length rs) rs (omega arith))
-
-pub canonical_step : (u : Bool) (rs : List CodeRange) (i : ℕ) (q : CodeRange) → i < length rs → q ≡ get_or rs i q →
-    canonical u (pairs (drop i rs)) ≡ joins u (pair q) (canonical u (pairs (drop (i + 1) rs)))
-canonical_step u rs i q h e = ap (canonical u) (from_at rs i q h e)
 
 pub gaps_step : (u : Bool) (start : ℕ) (rs : List CodeRange) (i : ℕ) (q : CodeRange) → i < length rs → q ≡ get_or rs i q →
     gaps u start (pairs (drop i rs)) ≡ (if nat_lt start q.start then (start, before u q.start) ∷ [] else []) ++ gaps u (next u q.end) (pairs (drop (i + 1) rs))

@@ -3,7 +3,7 @@ use Rattle.std.proofs.Common.{◌≡◌, true, false, [], ◌∷◌, Some, None,
 use Rattle.rc_tokens.specs.Marks.{plain, escaped, short, brackets, stands, piece_says, written, exactly, bounds_of, bounds, flags_of, opening_says, naming, escape_says, braced, fixed}
 use Rattle.rc_tokens.specs.Said.{Members}
 use Rattle.rc_tokens.specs.Classes.{canonical, class_of, list_ranges}
-use Rattle.rc_tokens.specs.Merged.{are_ranges, merged}
+use Rattle.rc_tokens.specs.Merged.{merged}
 use Rattle.rc_tokens.specs.declared.tokens.Member.TheVariants.{Character, Byte, Hyphen}
 use Rattle.rc_tokens.specs.declared.tokens.Escape.TheVariants as says
 use Rattle.rc_tokens.specs.declared.tokens.Assertion.TheVariants.{WordStart}
@@ -18,12 +18,6 @@ touching = refl
 
 in_one_pass : merged true ((97, 0xD7FF) ∷ (98, 99) ∷ (0xE000, 0xE001) ∷ (0xE003, 0xE003) ∷ []) ≡ (97, 0xE001) ∷ (0xE003, 0xE003) ∷ []
 in_one_pass = refl
-
-surrogate_end : are_ranges true ((97, 98) ∷ (0xD800, 0xE000) ∷ []) ≡ false
-surrogate_end = refl
-
-ended_before : are_ranges false ((98, 97) ∷ []) ≡ false
-ended_before = refl
 
 left_out : class_of true false true ((0, 0xD7FF) ∷ []) ≡ (0xE000, 0x10FFFF) ∷ []
 left_out = refl

@@ -1,5 +1,5 @@
 -- Ranges that are put in the order of where they begin are joined in one pass, and the answer is the same.
-use Rattle.std.proofs.Common.{◌≡◌, ℕ, zero, suc, ◌+◌, ◌<◌, ◌≤◌, ◌⊎◌, inl, inr, ⊎_elim, Bool, true, false, ◌&&◌, ◌==◌, nat_le, nat_lt, List, [], ◌∷◌, length, get_or, max, min, refl, ap₂, sym, subst, arith, if◌then◌else◌, Contains}
+use Rattle.std.proofs.Common.{◌≡◌, ℕ, zero, suc, ◌+◌, ◌<◌, ◌≤◌, ◌⊎◌, inl, inr, ⊎_elim, Bool, true, false, ◌==◌, nat_lt, List, [], ◌∷◌, length, get_or, max, min, refl, ap₂, sym, subst, arith, if◌then◌else◌, Contains}
 use Rattle.std.specs.List.Sorted.{IsPermutation, IsNonDecreasingBy}
 use Rattle.std.proofs.lemmas.Bool.{ltb-true, ltb-false, eqb-true}
 use Rattle.std.proofs.lemmas.List.Sorted.{All-permutation, Contains-permutation, IsPermutation-map, IsPermutation-sym}
@@ -7,10 +7,9 @@ use Rattle.rc_pattern.specs.Re.{Range}
 use Rattle.rc_tokens.specs.ClassView.{pair, pairs}
 use Rattle.rc_tokens.specs.Classes.{next, joins, canonical, is_code, AreCodes}
 use Rattle.rc_tokens.specs.Members.{In, Has, InOrder}
-use Rattle.rc_tokens.specs.Merged.{is_range, are_ranges, merges, merged}
+use Rattle.rc_tokens.specs.Merged.{merges, merged}
 use Rattle.rc_tokens.specs.declared.classes.CodeRange.{CodeRange}
-use Rattle.rc_tokens.proofs.StepLemmas.{and_parts}
-use Rattle.rc_tokens.proofs.ClassLemmas.{le_true, IsCode, code_is, if_elim, either, max_one, next_above, canonical_codes, canonical_in_order, next_start, code_most, start_code}
+use Rattle.rc_tokens.proofs.ClassLemmas.{IsCode, code_is, if_elim, either, max_one, next_above, canonical_codes, canonical_in_order, next_start, code_most, start_code}
 
 -- ---- what stands in ranges
 
@@ -237,16 +236,9 @@ rising n (r ∷ rs) low h = (
   rising r.start rs (λ k d l. h 0 (suc k) d (omega arith) (omega (arith, l))) (λ i j d l m. h (suc i) (suc j) d (omega (arith, l)) (omega (arith, m))),
 )
 
-codes_are : (u : Bool) (rs : List Range) → are_ranges u rs ≡ true → AreCodes u rs
-codes_are u [] h = tt
-codes_are u (r ∷ rs) h =
-    let (one, more) = and_parts (is_range u r) (are_ranges u rs) h in
-    let (low, ends) = and_parts (is_code u r.0) (is_code u r.1 && nat_le r.0 r.1) one in
-    let (high, order) = and_parts (is_code u r.1) (nat_le r.0 r.1) ends in (low, high, le_true r.0 r.1 order, codes_are u rs more)
-
-pub merged_sorted : (u : Bool) (xs ys : List CodeRange) → are_ranges u (pairs xs) ≡ true → IsPermutation xs ys → IsNonDecreasingBy (λ (r : CodeRange). r.start) ys →
+pub merged_sorted : (u : Bool) (xs ys : List CodeRange) → AreCodes u (pairs xs) → IsPermutation xs ys → IsNonDecreasingBy (λ (r : CodeRange). r.start) ys →
     merged u (pairs ys) ≡ canonical u (pairs xs)
-merged_sorted u xs ys h p s =
+merged_sorted u xs ys before p s =
     unique u 0 0 (merged u (pairs ys)) (canonical u (pairs xs)) (merged_in_order u (pairs ys) order after) (canonical_in_order u (pairs xs) before) (merged_codes u (pairs ys) after)
     (canonical_codes u (pairs xs) before)
     (λ c k g. canonical_from u (pairs xs) c k (moved u (pairs ys) (pairs xs) (IsPermutation-sym (pairs xs) (pairs ys) same) c k (merged_to u (pairs ys) order c k g)))
@@ -254,9 +246,6 @@ merged_sorted u xs ys h p s =
   where
     same : IsPermutation (pairs xs) (pairs ys)
     same = IsPermutation-map pair xs ys p
-
-    before : AreCodes u (pairs xs)
-    before = codes_are u (pairs xs) h
 
     after : AreCodes u (pairs ys)
     after = moved_codes u (pairs xs) (pairs ys) same before

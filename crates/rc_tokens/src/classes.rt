@@ -3,8 +3,8 @@
 ghost use Rattle.std.specs.Prelude.{◌≡◌, ◌+◌, ◌-◌, ◌<◌, ◌≤◌, ◌++◌, ◌∷◌, [], List, ℕ, Some, None, map, max, min, true, false, nat_lt, IfOk, OnOk, option_map};
 ghost use Rattle.rc_pattern.specs.Re.{Range};
 ghost use Rattle.rc_tokens.specs.ClassView.{pair, pairs};
-ghost use Rattle.rc_tokens.specs.Classes.{next, before, joins, canonical, shared, lower, upper, folded, gaps, folded_if, negated_if, class_of, last_code, is_code, has_high};
-ghost use Rattle.rc_tokens.specs.Merged.{is_range, are_ranges, merged};
+ghost use Rattle.rc_tokens.specs.Classes.{AreCodes, next, before, canonical, shared, lower, upper, folded, gaps, folded_if, negated_if, class_of, last_code, has_high};
+ghost use Rattle.rc_tokens.specs.Merged.{merged};
 ghost use Rattle.std.specs.List.Sorted.{IsPermutation, IsNonDecreasingBy};
 
 use std::alloc::{AllocError, Global};
@@ -59,86 +59,6 @@ pub(crate) fn append(ranges: &mut Vec<CodeRange>, more: &[CodeRange]) -> Result<
     Ok(())
 }
 
-/// Adds a range to ranges in order, and joins it with those that it touches.
-#[tactic(auto, using(crate::proofs::ClassSteps::joins_before, crate::proofs::ClassSteps::joins_after, crate::proofs::ClassSteps::joins_touch, crate::proofs::ClassSteps::joins_end))]
-fn joined(
-    alloc: Global,
-    unicode: bool,
-    range: CodeRange,
-    ranges: &[CodeRange],
-) -> Result<Vec<CodeRange>, AllocError>
-    ensures { IfOk result (λ v. pairs v.items ≡ joins unicode (pair range) (pairs ranges.now)) }
-{
-    let mut all = Vec::new(alloc);
-    let mut current = range;
-    for i in 0..ranges.len() {
-        let other = ranges[i];
-        if is_apart(unicode, current.end, other.start) {
-            push(&mut all, current.start, current.end)?;
-            append(&mut all, &ranges[i..])?;
-            return Ok(all);
-        }
-        if is_apart(unicode, other.end, current.start) {
-            push(&mut all, other.start, other.end)?;
-        } else {
-            let start = current.start.min(other.start);
-            let end = current.end.max(other.end);
-            current = CodeRange { start, end };
-        }
-    }
-    push(&mut all, current.start, current.end)?;
-    Ok(all)
-}
-
-/// The ranges in order, and joined where they touch: put in one by one, in steps as many as the square of their
-/// count. Where a range ends before it begins, or at a surrogate, the order in which they are given matters, so that
-/// they can't be sorted first. No list has such a range.
-#[tactic(auto, using(crate::proofs::ClassSteps::canonical_start, crate::proofs::ClassSteps::canonical_step))]
-fn inserted(
-    alloc: Global,
-    unicode: bool,
-    ranges: &[CodeRange],
-) -> Result<Vec<CodeRange>, AllocError>
-    ensures { IfOk result (λ v. pairs v.items ≡ canonical unicode (pairs ranges.now)) }
-{
-    let mut all = Vec::new(alloc);
-    let mut left = ranges.len();
-    while left > 0 {
-        left -= 1;
-        all = joined(alloc, unicode, ranges[left], &all)?;
-    }
-    Ok(all)
-}
-
-/// Whether the number is the code of a character, or of a byte.
-fn is_code(unicode: bool, code: u32) -> bool
-    ensures { result ≡ is_code unicode code }
-{
-    if unicode {
-        return code < 0xD800 || (0xE000 <= code && code < 0x11_0000);
-    }
-    code < 256
-}
-
-/// Whether both ends are codes, and it ends where it begins or later.
-fn is_range(unicode: bool, range: CodeRange) -> bool
-    ensures { result ≡ is_range unicode (pair range) }
-{
-    is_code(unicode, range.start) && is_code(unicode, range.end) && range.start <= range.end
-}
-
-/// Whether each is a range of codes.
-fn are_ranges(unicode: bool, ranges: &[CodeRange]) -> bool
-    ensures { result ≡ are_ranges unicode (pairs ranges.now) }
-{
-    for range in ranges {
-        if !is_range(unicode, *range) {
-            return false;
-        }
-    }
-    true
-}
-
 /// The ranges in the order of where they begin.
 fn sorted(alloc: Global, ranges: &[CodeRange]) -> Result<Vec<CodeRange>, AllocError>
     ensures moved { IfOk result (λ v. IsPermutation ranges.now v.items) }
@@ -172,19 +92,17 @@ fn merged(alloc: Global, unicode: bool, ranges: &[CodeRange]) -> Result<Vec<Code
     Ok(all)
 }
 
-/// The ranges in order, and joined where they touch. Ranges of codes, as every list has, are sorted and then
-/// joined in one pass.
+/// The ranges in order, and joined where they touch: sorted, and then joined in one pass. The definition puts them in
+/// one by one, which gives the same where they are ranges of codes.
 #[tactic(auto, using(crate::proofs::MergedLemmas::merged_sorted))]
 fn canonical(
     alloc: Global,
     unicode: bool,
     ranges: &[CodeRange],
 ) -> Result<Vec<CodeRange>, AllocError>
+    requires { AreCodes unicode (pairs ranges.now) }
     ensures { IfOk result (λ v. pairs v.items ≡ canonical unicode (pairs ranges.now)) }
 {
-    if !are_ranges(unicode, ranges) {
-        return inserted(alloc, unicode, ranges);
-    }
     let in_order = sorted(alloc, ranges)?;
     merged(alloc, unicode, &in_order)
 }
@@ -249,7 +167,8 @@ fn folded(alloc: Global, ranges: &[CodeRange]) -> Result<Vec<CodeRange>, AllocEr
     Ok(all)
 }
 
-/// The class of the ranges: folded first, then in order and joined, then complemented.
+/// The class of ranges of codes: folded first, then in order and joined, then complemented.
+#[tactic(auto, using(crate::proofs::ClassLemmas::folded_codes))]
 pub fn class_of(
     alloc: Global,
     unicode: bool,
@@ -257,6 +176,7 @@ pub fn class_of(
     negated: bool,
     ranges: &[CodeRange],
 ) -> Result<Vec<CodeRange>, AllocError>
+    requires { AreCodes unicode (pairs ranges.now) }
     ensures { IfOk result (λ v. pairs v.items ≡ class_of unicode fold negated (pairs ranges.now)) }
 {
     let in_order = if fold {

@@ -64,6 +64,7 @@ fn set_ranges(alloc: Global, set: Set) -> Result<Vec<CodeRange>, AllocError>
 }
 
 /// The class that a Perl class is.
+#[tactic(auto, using(crate::proofs::ClassLemmas::set_codes))]
 pub fn perl_ranges(alloc: Global, unicode: bool, perl: Perl) -> Result<Vec<CodeRange>, AllocError>
     ensures { IfOk result (λ v. pairs v.items ≡ perl_ranges unicode perl) }
 {
