@@ -2,6 +2,7 @@ pub mod RangeLemmas
 pub mod StandLemmas
 pub mod ScanLemmas
 pub mod SieveLemmas
+pub mod OpeningLemmas
 pub mod TableLemmas
 pub mod FindLemmas
 pub mod PairLemmas

@@ -2,6 +2,7 @@ pub mod Extraction
 pub mod Guards
 pub mod Literals
 pub mod Needles
+pub mod Openings
 pub mod Pairs
 pub mod Prefilters
 pub mod Prefixes

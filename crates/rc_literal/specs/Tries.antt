@@ -2,6 +2,7 @@
 -- Needles as paths of nodes.
 use Rattle.std.specs.Prelude.{◌≢◌, ℕ, ◌+◌, ◌<◌, ◌≤◌, ◌==◌, List, [], ◌∷◌, Option, Some, None, ⊤, length, slice_get, take, if◌then◌else◌}
 use denote.Struct.Props.{props}
+use Rattle.rc_literal.specs.Openings.{AreOpened}
 use Rattle.rc_literal.specs.Tables.{numbered}
 use Rattle.rc_literal.specs.declared.trie.Node.{Node}
 use Rattle.rc_literal.specs.declared.trie.Trie.{Trie}
@@ -40,9 +41,10 @@ pub record IsCarried (nodes : List Node) (needle : List ℕ) (number : ℕ) : Ty
 abbrev pub AreCarried : List Node → List (List ℕ) → Type 0
 AreCarried nodes needles = (n : ℕ) → n < length needles → IsCarried nodes (numbered needles n) n
 
+-- so they are, and each has its bits
 abbrev pub AreCarriedBy : Option Trie → List (List ℕ) → Type 0
 AreCarriedBy None needles = ⊤
-AreCarriedBy (Some trie) needles = AreCarried trie.nodes.items needles
+AreCarriedBy (Some trie) needles = AreCarried trie.nodes.items needles × AreOpened trie.openings.items needles
 
 -- it is a fact
 pub AreCarriedBy-is_fact : (trie : Option Trie) (needles : List (List ℕ)) → IsProp (AreCarriedBy trie needles)

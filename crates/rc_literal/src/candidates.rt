@@ -181,10 +181,12 @@ fn trie_candidate(table: &Table, piece: &[u8]) -> usize
         return head_candidate(table, piece);
     };
     let count = table.needles.len();
-    for at in 0..piece.len() {
+    let mut at = trie.opened_from(piece, 0);
+    while at < piece.len() {
         if trie.may_begin(&piece[at..], count) {
             return at;
         }
+        at = trie.opened_from(piece, at + 1);
     }
     piece.len()
 }

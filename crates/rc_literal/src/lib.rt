@@ -10,6 +10,7 @@ pub mod exact;
 pub mod hit;
 pub mod laws;
 pub mod literal;
+mod openings;
 mod pairs;
 pub mod prefilter;
 pub mod prefixes;

@@ -16,7 +16,8 @@ use std::fmt;
 /// goes by those behind them too; one for needles that begin with at most three bytes goes by these.
 /// Several needles of at least three bytes, and up to 64 others that begin with more, go by a sieve
 /// of their first three bytes; more go by a trie, so that the work at a place grows with the bytes that
-/// are read there, and not with how many needles there are. Fewer than 16 needles have no trie: of
+/// are read there, and not with how many needles there are. Where each of more than 64 has two bytes, the
+/// trie is asked where a table of bits lets the first three stand. Fewer than 16 needles have no trie: of
 /// those alone are compared that begin with the byte there.
 #[derive(Drop)]
 pub struct Prefilter {
@@ -70,7 +71,9 @@ impl Prefilter {
             bytes = bytes.saturating_add(needle.len()).saturating_add(32);
         }
         match &self.searcher.table.trie {
-            Some(trie) => bytes.saturating_add(trie.nodes.len().saturating_mul(12)),
+            Some(trie) => bytes
+                .saturating_add(trie.nodes.len().saturating_mul(12))
+                .saturating_add(trie.openings.len().saturating_mul(4)),
             None => bytes,
         }
     }

@@ -1,8 +1,10 @@
 //! Needles as paths of nodes, so that a look at a place doesn't go over all of them.
 ghost use Rattle.std.specs.Prelude.{◌≡◌, ◌+◌, ◌<◌, ◌≤◌, ℕ, IfOk, IsTrue, List, false, length, slice_index};
+ghost use Rattle.rc_literal.specs.Openings.{ArePassed};
 ghost use Rattle.rc_literal.specs.Tables.{Agrees, needles_in};
 ghost use Rattle.rc_literal.specs.Tries.{AreCarriedBy, IsCarried, number_at, step};
 
+use crate::openings::{opened_from, openings_of};
 use std::alloc::{AllocError, Global};
 
 /// The node where each path begins. The node 0 stands for none.
@@ -31,10 +33,11 @@ pub struct Node {
     pub number: u32,
 }
 
-/// Needles as paths of nodes.
+/// Needles as paths of nodes, and where these are asked at each place the bits of their first bytes.
 #[derive(Drop)]
 pub struct Trie {
     pub nodes: Vec<Node>,
+    pub openings: Vec<u32>,
 }
 
 /// A node while paths are made: its byte, the first needle that ends there, its last child, and the
@@ -107,6 +110,17 @@ impl Trie {
         true
     }
 
+    /// The first place from one on where a needle may begin, as far as the bits of first bytes tell. Where
+    /// there are none, it is that one.
+    #[inline(always)]
+    pub fn opened_from(&self, piece: &[u8], from: usize) -> usize
+        ensures low { from ≤ result }
+        ensures within { from ≤ length piece.now → result ≤ length piece.now }
+        ensures passed { ArePassed self.now.openings.items piece.now from result }
+    {
+        opened_from(&self.openings, piece, from)
+    }
+
     /// Gives a node the children of its branch, and them their nodes.
     fn lay(
         &mut self,
@@ -176,7 +190,9 @@ pub fn trie_of(alloc: Global, needles: &[Vec<u8>]) -> Result<Option<Trie>, Alloc
     if needles.len() < LEAST_COUNT {
         return Ok(None);
     }
-    let trie = laid_out(alloc, needles)?;
+    let nodes = laid_out(alloc, needles)?;
+    let openings = openings_of(alloc, needles)?;
+    let trie = Trie { nodes, openings };
     for (number, needle) in needles.iter().enumerate() {
         if !trie.carries(needle.as_slice(), number) {
             return Ok(None);
@@ -186,18 +202,19 @@ pub fn trie_of(alloc: Global, needles: &[Vec<u8>]) -> Result<Option<Trie>, Alloc
 }
 
 /// The branches of the needles with their nodes.
-fn laid_out(alloc: Global, needles: &[Vec<u8>]) -> Result<Trie, AllocError> {
+fn laid_out(alloc: Global, needles: &[Vec<u8>]) -> Result<Vec<Node>, AllocError> {
     let branches = branches_of(alloc, needles)?;
     let mut slots = vec![in alloc; ROOT; branches.len()]?;
     let nodes = vec![in alloc; FREE; 2]?;
-    let mut trie = Trie { nodes };
+    let openings = Vec::new(alloc);
+    let mut trie = Trie { nodes, openings };
     let mut from = 2;
     for at in 0..branches.len() {
         let base = trie.room_for(&branches, at, from);
         trie.lay(alloc, &branches, &mut slots, at, base)?;
         from = from.max(base.saturating_sub(REACH));
     }
-    Ok(trie)
+    Ok(trie.nodes)
 }
 
 /// The branches of the needles, each behind its parent.

@@ -22,7 +22,7 @@ returns-then-least-count-clause-none_below g c =
     let table = c.args.table.now in
     let needles = needles_in table.needles.items in
     let carried = subst (λ o. AreCarriedBy o needles) c.in-Some.is table.carried in
-    none_below_least c.in-Some.trie.nodes.items needles c.args.input.now.content c.args.end c.args.at c.least_number-least.result c.len-count.result carried table.some
+    none_below_least c.in-Some.trie.nodes.items needles c.args.input.now.content c.args.end c.args.at c.least_number-least.result c.len-count.result carried.0 table.some
     c.least_number-least.ensures.least (omega (arith, c.if-least-count.true))
 
 pub returns-then-begins_with-clause-none_below : goal.returns-then-begins_with-clause-none_below
@@ -30,7 +30,7 @@ returns-then-begins_with-clause-none_below g c =
     let table = c.args.table.now in
     let needles = needles_in table.needles.items in
     let carried = subst (λ o. AreCarriedBy o needles) c.in-Some.is table.carried in
-    none_below_least c.in-Some.trie.nodes.items needles c.args.input.now.content c.args.end c.args.at c.least_number-least.result c.least_number-least.result carried table.some
+    none_below_least c.in-Some.trie.nodes.items needles c.args.input.now.content c.args.end c.args.at c.least_number-least.result c.least_number-least.result carried.0 table.some
     c.least_number-least.ensures.least (omega arith)
 
 pub returns-clause-none_below : goal.returns-clause-none_below

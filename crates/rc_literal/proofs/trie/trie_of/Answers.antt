@@ -8,7 +8,7 @@ use Rattle.rc_literal.proofs.trie.trie_of.Goals as goal
 pub loop-number-preserved : goal.loop-number-preserved
 loop-number-preserved c n l =
     let vs = c.args.needles.now in
-    let nodes = c.in_ok-trie.trie.nodes.items in
+    let nodes = c.in_ok-nodes.nodes.items in
     let i = c.loop-number.number in
     elim (cases_lt n i) [
       | inl h ↦ c.loop-number.invariant n h
