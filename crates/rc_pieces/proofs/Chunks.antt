@@ -3,7 +3,7 @@ use Rattle.std.proofs.Common.{◌≡◌, ℕ, zero, suc, ◌+◌, ◌<◌, ◌�
 use Rattle.std.proofs.lemmas.Bool.{cases_lt}
 use Rattle.std.proofs.lemmas.List.{length-map, get_or-map, append-nil, nil_from_length, drop_all}
 use Rattle.std.specs.Borrow.{Bor}
-use Rattle.rc_text.specs.Joined.{joined, chunk_at}
+use Rattle.rc_text.specs.Joined.{joined, chunk_at, IsChunk, IsNextFilled}
 use Rattle.rc_text.proofs.Joins.{no_chunk, chunk_at-read, joined-take, joined-drop}
 use Rattle.rc_pieces.specs.Pieces.{lent, chunks_of}
 
@@ -47,3 +47,11 @@ module _ {A : Type 0} (bytes : A → List ℕ) (xs : List A) (i : ℕ) (y : A) (
 
     pub skip_drop : joined (drop (i + 1) (chunks_of bytes xs)) ≡ joined (drop i (chunks_of bytes xs))
     skip_drop = sym (joined-drop (chunks_of bytes xs) i ∙ rw (← chunk_at-piece, nil_from_length (bytes y) none) refl)
+
+-- the first chunk with a byte begins at 0
+pub first_filled : (cs : List (Bor (List ℕ))) (index : ℕ) → IsNextFilled cs 0 index → IsChunk cs index 0 (chunk_at cs index)
+first_filled cs index h = record {
+  is = refl;
+  start = ap length (sym h.between);
+  some = λ e. absurd (omega (arith, h.some, e));
+}

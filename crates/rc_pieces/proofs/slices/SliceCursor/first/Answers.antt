@@ -1,9 +1,9 @@
 use Rattle.std.proofs.Common.{◌<◌, [], length, rules, arith}
 use Rattle.rc_text.specs.Joined.{IsChunk}
 use Rattle.rc_text.proofs.Joins.{chunk_shows}
-use Rattle.rc_text.proofs.Moves.{no_bytes, first_filled}
+use Rattle.rc_text.proofs.Moves.{no_bytes}
 use Rattle.rc_pieces.specs.Pieces.{chunks_of}
-use Rattle.rc_pieces.proofs.Chunks.{length-chunks_of, chunk_at-piece}
+use Rattle.rc_pieces.proofs.Chunks.{length-chunks_of, chunk_at-piece, first_filled}
 use Rattle.rc_pieces.proofs.slices.SliceCursor.first.Goals as goal
 
 pub invariant_of-result : goal.invariant_of-result
