@@ -111,7 +111,9 @@ fn substitute<W: Sink>(
     ensures { IfOk result (λ any. IsSubstituted pattern.now (template_items template.now) (joined chunks.now) (W.taken out.old) (W.taken out.new) any) }
 {
     let regex = Regex::new(alloc, pattern)?;
-    any_replaced(replace_all(alloc, &regex, chunks, template, out))
+    let replaced = replace_all(alloc, &regex, chunks, template, out);
+    drop(regex);
+    any_replaced(replaced)
 }
 
 /// Replaces each match of a pattern in an input that is cut into chunks. The words are the pattern, the template and the length of a

@@ -1,5 +1,5 @@
 -- The matches that are listed for a whole content.
-use Rattle.std.proofs.Common.{◌≡◌, ◌≢◌, Some, refl, ℕ, List, [], ◌∷◌, Bool, Option, None, Some, Result, Ok, Err, IfErr, ap, subst, ◌∙◌}
+use Rattle.std.proofs.Common.{◌≡◌, ◌≢◌, Some, refl, ℕ, List, [], ◌∷◌, Bool, Option, None, Some, Result, Ok, Err, IfErr, IfOk, ap, subst, ◌∙◌}
 use Rattle.std.specs.Io.KnownBytes.{Keeps}
 use Rattle.std.specs.Result.{IsErrAnd}
 use Rattle.std.specs.Borrow.{Bor}
@@ -19,7 +19,7 @@ use Rattle.regex_cursor.specs.declared.run.error.RunError.{RunError}
 use Rattle.regex_cursor.specs.declared.run.error.RunError.TheVariants.{Memory, TooLong, Write}
 use Rattle.regex_cursor.specs.Faults.{IsBuilt, IsFault}
 use Rattle.rc_settings.specs.Settings.{Settings, program_settings, unset}
-use Rattle.regex_cursor.specs.Output.{IsPut, IsWhole, matches_in, whole}
+use Rattle.regex_cursor.specs.Output.{IsPut, IsRun, IsWhole, matches_in, whole}
 
 -- the regex has nothing set and one pattern, and the input is the whole content
 pub listed_whole : (st : Settings) (hs : List Re) (s : Searched) (p : Re) (content : List ℕ) → st ≡ unset → hs ≡ p ∷ [] → IsWhole content s →
@@ -66,3 +66,11 @@ put_nothing (Err e) a = λ other. kept a
 pub long_fault : (r : Result Bool RunError) (text : List ℕ) (chunks : List (Bor (List ℕ))) → r ≡ Err TooLong → IsBuilt text → IsTooLong chunks →
     IfErr r (IsFault text chunks)
 long_fault r text chunks is ok long = rw is (ok, long)
+
+-- what was put for the one pattern that was read
+pub run_as : (text content : List ℕ) (hs : List Re) (a b : Option (List ℕ)) (r : Result Bool RunError) → AllRead default_settings (text ∷ []) hs →
+    ((p : Re) → hs ≡ p ∷ [] → IfOk r (IsPut (matches_in p content) a b)) → IfOk r (IsRun text content a b)
+run_as text content hs a b (Ok found) read put =
+    let (p, patterns, as_it) = one_read default_settings text hs read in
+    record { pattern = p; read = as_it; put = put p patterns }
+run_as text content hs a b (Err e) read put = tt

@@ -63,14 +63,18 @@ fn ends_by_states(
 /// Where the match of a copy of the regex in `xab` ends.
 fn end_by_a_copy(alloc: Global, regex: &Regex) -> Result<Option<usize>, AllocError> {
     let copy = regex.try_clone(alloc)?;
-    end_of(alloc, &copy, b"xab")
+    let end = end_of(alloc, &copy, b"xab");
+    drop(copy);
+    end
 }
 
 #[test]
 fn two_patterns_by_a_regex(rt: HostRuntime) -> Result<(), Fail> {
     let alloc = rt.alloc();
     let regex = Regex::new_many(alloc, &PATTERNS)?;
-    assert!(rt; end_by_a_copy(alloc, &regex)? == Some(3));
+    let end = end_by_a_copy(alloc, &regex);
+    drop(regex);
+    assert!(rt; end? == Some(3));
     Ok(())
 }
 
@@ -97,13 +101,20 @@ fn two_patterns_by_states(rt: HostRuntime) -> Result<(), Fail> {
     Ok(())
 }
 
+/// Whether captures of the regex's whole match alone, which are new, hold one, by a copy of them.
+fn holds_by_a_copy(alloc: Global, regex: &Regex) -> Result<bool, AllocError> {
+    let captures = Captures::matches(alloc, regex.group_info())?;
+    Ok(copy_of(alloc, &captures)?.is_match())
+}
+
 /// Captures of the whole match alone, and a copy, which take memory of their own.
 #[test]
 fn captures(rt: HostRuntime) -> Result<(), Fail> {
     let alloc = rt.alloc();
     let regex = Regex::new(alloc, "(a)b")?;
-    let captures = Captures::matches(alloc, regex.group_info())?;
-    assert!(rt; !copy_of(alloc, &captures)?.is_match());
+    let holds = holds_by_a_copy(alloc, &regex);
+    drop(regex);
+    assert!(rt; !holds?);
     Ok(())
 }
 
@@ -132,7 +143,10 @@ fn takes_memory(alloc: Global, regex: &Regex) -> Result<bool, AllocError> {
 fn memory_of_a_regex(rt: HostRuntime) -> Result<(), Fail> {
     let alloc = rt.alloc();
     let regex = Regex::new(alloc, "abcd")?;
-    assert!(rt; takes_memory(alloc, &regex)? && regex.is_accelerated());
+    let takes = takes_memory(alloc, &regex);
+    let is_accelerated = regex.is_accelerated();
+    drop(regex);
+    assert!(rt; takes? && is_accelerated);
     Ok(())
 }
 

@@ -54,15 +54,20 @@ fn kept(
 #[test]
 fn lists_in_a_lent_cache(rt: HostRuntime) -> Result<(), Fail> {
     let regex = Regex::new(rt.alloc(), PATTERN)?;
-    assert!(rt; ends(rt.alloc(), &regex)? == (12, 9));
-    assert!(rt; last_group(rt.alloc(), &regex)? == Some(Span { start: 7, end: 9 }));
+    let ends = ends(rt.alloc(), &regex);
+    let group = last_group(rt.alloc(), &regex);
+    drop(regex);
+    assert!(rt; ends? == (12, 9));
+    assert!(rt; group? == Some(Span { start: 7, end: 9 }));
     Ok(())
 }
 
 #[test]
 fn a_finder_keeps_its_cache(rt: HostRuntime) -> Result<(), Fail> {
     let regex = Regex::new(rt.alloc(), PATTERN)?;
-    let (found, half, group) = kept(rt.alloc(), &regex)?;
+    let kept = kept(rt.alloc(), &regex);
+    drop(regex);
+    let (found, half, group) = kept?;
     assert!(rt; found.map(|found| (found.start(), found.end())) == Some((0, 3)));
     assert!(rt; half.map(|half| half.offset()) == Some(3));
     assert!(rt; group == Some(Span { start: 0, end: 1 }));

@@ -7,7 +7,19 @@ use regex_cursor::engines::meta::Regex;
 use std::alloc::Global;
 use std::test::Fail;
 
-/// Where the pattern stands in the file, in two pages of so many bytes, and the fault that its search met.
+/// Where the regex has its match in the file, in two pages of so many bytes, and the fault that its search met.
+fn told_by(
+    alloc: Global,
+    regex: &Regex,
+    file: MemoryPages<'_>,
+    page_len: usize,
+) -> Result<(Option<(usize, usize)>, Option<ReadFault>), Fail> {
+    let mut cursor = PagedCursor::new(alloc, file, page_len, 2)?;
+    let found = find(alloc, &mut cursor, regex)?;
+    Ok((found.map(|it| (it.start(), it.end())), cursor.failure()))
+}
+
+/// The same of a pattern.
 fn told(
     alloc: Global,
     pattern: &str,
@@ -15,9 +27,21 @@ fn told(
     page_len: usize,
 ) -> Result<(Option<(usize, usize)>, Option<ReadFault>), Fail> {
     let regex = Regex::new(alloc, pattern)?;
-    let mut cursor = PagedCursor::new(alloc, file, page_len, 2)?;
-    let found = find(alloc, &mut cursor, &regex)?;
-    Ok((found.map(|it| (it.start(), it.end())), cursor.failure()))
+    let told = told_by(alloc, &regex, file, page_len);
+    drop(regex);
+    told
+}
+
+/// Whether a search of the whole file meets this fault.
+fn fails_whole(
+    alloc: Global,
+    regex: &Regex,
+    file: MemoryPages<'_>,
+    fault: ReadFault,
+) -> Result<bool, Fail> {
+    let mut cursor = PagedCursor::new(alloc, file, 2, 3)?;
+    let found = find_whole(alloc, &mut cursor, regex);
+    Ok(found == Err(FindError::Read(fault)) && cursor.failure() == Some(fault))
 }
 
 /// Matches across a page's border, in pages of each length, also where the file ends at one; and an empty file.
@@ -47,9 +71,9 @@ fn a_page_that_fails(rt: HostRuntime) -> Result<(), Fail> {
     assert!(rt; told(alloc, "e", file, 2)? == (None, Some(fault)));
     assert!(rt; told(alloc, "a", MemoryPages::failing(bytes, 9), 2)? == (Some((0, 1)), None));
     let regex = Regex::new(alloc, "d")?;
-    let mut cursor = PagedCursor::new(alloc, file, 2, 3)?;
-    assert!(rt; find_whole(alloc, &mut cursor, &regex) == Err(FindError::Read(fault)));
-    assert!(rt; cursor.failure() == Some(fault));
+    let fails = fails_whole(alloc, &regex, file, fault);
+    drop(regex);
+    assert!(rt; fails?);
     Ok(())
 }
 

@@ -20,8 +20,9 @@ fn put_replaced<W: Sink>(
 {
     let template = Template::parse(alloc, template)?;
     let regex = Regex::new(alloc, pattern)?;
-    let count = replace_all(alloc, &regex, chunks, &template, out)?;
-    Ok(count)
+    let count = replace_all(alloc, &regex, chunks, &template, out);
+    drop(regex);
+    Ok(count?)
 }
 
 /// Chunks, a pattern, a template, the number of matches, and the replaced text.

@@ -36,12 +36,16 @@ fn told(
 fn two_of_three_patterns(rt: HostRuntime) -> Result<(), Fail> {
     let alloc = rt.alloc();
     let text = b"xab".as_slice();
-    let regex = Regex::new_many(alloc, &PATTERNS)?;
-    assert!(rt; told(alloc, &regex, Input::new(text), 3)? == (true, true, false));
-    assert!(rt; told(alloc, &regex, Input::new(text), 1)? == (true, false, false));
     let mut short = Input::new(text);
     short.set_range(0, 2);
-    assert!(rt; told(alloc, &regex, short, 3)? == (true, false, false));
+    let regex = Regex::new_many(alloc, &PATTERNS)?;
+    let all = told(alloc, &regex, Input::new(text), 3);
+    let first = told(alloc, &regex, Input::new(text), 1);
+    let within = told(alloc, &regex, short, 3);
+    drop(regex);
+    assert!(rt; all? == (true, true, false));
+    assert!(rt; first? == (true, false, false));
+    assert!(rt; within? == (true, false, false));
     Ok(())
 }
 
@@ -49,13 +53,16 @@ fn two_of_three_patterns(rt: HostRuntime) -> Result<(), Fail> {
 fn patterns_that_may_begin_there(rt: HostRuntime) -> Result<(), Fail> {
     let alloc = rt.alloc();
     let text = b"xab".as_slice();
-    let regex = Regex::new_many(alloc, &PATTERNS)?;
     let mut anchored = Input::new(text);
     anchored.set_anchored(Anchored::Yes);
-    assert!(rt; told(alloc, &regex, anchored, 3)? == (false, false, false));
     let mut second = Input::new(text);
     second.set_anchored(Anchored::Pattern(PatternID::new(1).ok_or("no number")?));
     second.set_range(1, 3);
-    assert!(rt; told(alloc, &regex, second, 3)? == (false, true, false));
+    let regex = Regex::new_many(alloc, &PATTERNS)?;
+    let of_all = told(alloc, &regex, anchored, 3);
+    let of_second = told(alloc, &regex, second, 3);
+    drop(regex);
+    assert!(rt; of_all? == (false, false, false));
+    assert!(rt; of_second? == (false, true, false));
     Ok(())
 }

@@ -1,10 +1,13 @@
 //! A search of chunks, with a line for each match.
-ghost use Rattle.std.specs.Prelude.{◌≡◌, ◌≢◌, ◌⊎◌, ◌∷◌, [], false, true, Err, IfErr, IfOk, MatchResult, OnErr, OnOk};
+ghost use Rattle.std.specs.Prelude.{◌≡◌, ◌≢◌, ◌⊎◌, ◌∷◌, [], false, true, Err, IfErr, IfOk, List, MatchResult, OnErr, OnOk, ℕ};
 ghost use Rattle.std.specs.Io.KnownBytes.{Keeps};
 ghost use Rattle.rc_text.specs.Joined.{joined, IsTooLong};
-ghost use Rattle.regex_cursor.specs.Faults.{IsFault};
-ghost use Rattle.regex_cursor.specs.Output.{IsPut, IsRun, IsWhole};
+ghost use Rattle.rc_pattern.specs.Re.{Re};
+ghost use Rattle.rc_settings.specs.Settings.{unset};
 ghost use Rattle.rc_meta.specs.Left.{find_left};
+ghost use Rattle.rc_meta.specs.Views.{regex_patterns, regex_settings};
+ghost use Rattle.regex_cursor.specs.Faults.{IsBuilt, IsFault};
+ghost use Rattle.regex_cursor.specs.Output.{IsPut, IsRun, IsWhole, matches_in};
 
 use super::lines::put_line;
 use crate::run::{RunError, Sink};
@@ -43,6 +46,30 @@ fn put_lines<W: Sink, C: Cursor + Drop>(
     Ok(is_found)
 }
 
+/// Puts the lines of the matches of a regex that is lent, in which nothing is set, and tells whether
+/// there is one.
+fn run_lent<W: Sink>(
+    alloc: Global,
+    regex: &Regex,
+    chunks: &[&[u8]],
+    out: &mut W,
+) -> Result<bool, RunError>
+    requires fresh { W.has_failed out.old ≡ false }
+    requires settings { regex_settings regex.now ≡ unset }
+    ensures done { (p : Re) → regex_patterns regex.now ≡ p ∷ [] → IfOk result (IsPut (matches_in p (joined chunks.now)) (W.taken out.old) (W.taken out.new)) }
+    ensures sound { OnOk result (W.has_failed out.new ≡ false) }
+    ensures unfailed { IfErr result (λ e. e ≢ RunError.Write → W.has_failed out.new ≡ false) }
+    ensures write_failed { result ≡ Err RunError.Write → W.has_failed out.new ≡ true }
+    ensures nothing_put { IfErr result (λ e. e ≢ RunError.Write → Keeps (W.taken out.old) (W.taken out.new)) }
+    ensures fault { (text : List ℕ) → IsBuilt text → IfErr result (IsFault text chunks.now) }
+    ensures short { OnOk result (¬ IsTooLong chunks.now) }
+{
+    let input = input_over(chunks)?;
+    let matches = regex.find_iter(alloc, input)?;
+    let is_found = put_lines(out, matches)?;
+    Ok(is_found)
+}
+
 /// Puts a line for each match of the pattern in the chunks, one after another, and tells whether
 /// there is one.
 ///
@@ -65,8 +92,7 @@ pub fn run<W: Sink>(
     ensures short { OnOk result (¬ IsTooLong chunks.now) }
 {
     let regex = Regex::new(alloc, pattern)?;
-    let input = input_over(chunks)?;
-    let matches = regex.find_iter(alloc, input)?;
-    let is_found = put_lines(out, matches)?;
-    Ok(is_found)
+    let is_found = run_lent(alloc, &regex, chunks, out);
+    drop(regex);
+    is_found
 }

@@ -1,43 +1,8 @@
-use Rattle.std.proofs.Common.{ap, ◌∙◌, rules}
-use Rattle.rc_settings.specs.Settings.{match_kind_of}
-use Rattle.rc_build.proofs.TextLemmas.{one_read}
-use Rattle.regex_cursor.specs.declared.run.error.RunError.TheVariants.{Memory, TooLong}
-use Rattle.regex_cursor.proofs.Listed.{built, err_is, listed_whole, long_fault, memory_fault, put_as, put_nothing, write_fault}
+use Rattle.regex_cursor.proofs.Listed.{built, run_as}
 use Rattle.regex_cursor.proofs.run.engine.run.Goals as goal
 
 pub returns-clause-done : goal.returns-clause-done
-returns-clause-done g c =
-    let unset = c.in_ok-regex.ensures.settings in
-    let (p, patterns, read) = one_read _ _ _ c.in_ok-regex.ensures.read in
-    record {
-      pattern = p;
-      read = read;
-      put = put_as _ _ _ _ _
-          (c.in_ok-matches.ensures.left (ap match_kind_of unset) ∙ listed_whole _ _ _ _ _ unset patterns c.in_ok-input.ensures.whole)
-          c.in_ok-is_found.ensures.put;
-    }
+returns-clause-done g c = run_as _ _ _ _ _ _ c.in_ok-regex.ensures.read c.run_lent.ensures.done
 
--- memory was refused for the searches' cache
-pub returns-in_err-matches-clause-fault : goal.returns-in_err-matches-clause-fault
-returns-in_err-matches-clause-fault g c =
-    memory_fault _ c.args.pattern.now c.args.chunks.now (err_is _ Memory c.from_residual-in_err-matches.ensures.1)
-    (built _ _ c.in_ok-regex.ensures.read c.in_ok-regex.ensures.buildable) c.in_ok-input.ensures.short
-
--- a line wasn't written
-pub returns-in_err-is_found-clause-fault : goal.returns-in_err-is_found-clause-fault
-returns-in_err-is_found-clause-fault g c =
-    write_fault _ c.in_err-is_found.field-0.0 c.args.pattern.now c.args.chunks.now c.from_residual-in_err-is_found.ensures.1 c.in_err-is_found.ensures.write_failed.0
-    (built _ _ c.in_ok-regex.ensures.read c.in_ok-regex.ensures.buildable) c.in_ok-input.ensures.short
-
--- nothing was put before the searches began
-pub returns-in_err-matches-clause-nothing_put : goal.returns-in_err-matches-clause-nothing_put
-returns-in_err-matches-clause-nothing_put g c = put_nothing _ _
-
-pub returns-in_err-input-clause-nothing_put : goal.returns-in_err-input-clause-nothing_put
-returns-in_err-input-clause-nothing_put g c = put_nothing _ _
-
--- the chunks are too long
-pub returns-in_err-input-clause-fault : goal.returns-in_err-input-clause-fault
-returns-in_err-input-clause-fault g c =
-    long_fault _ c.args.pattern.now c.args.chunks.now (err_is _ TooLong c.from_residual-in_err-input.ensures.1)
-    (built _ _ c.in_ok-regex.ensures.read c.in_ok-regex.ensures.buildable) c.in_err-input.ensures.whole
+pub returns-clause-fault : goal.returns-clause-fault
+returns-clause-fault g c = c.run_lent.ensures.fault _ (built _ _ c.in_ok-regex.ensures.read c.in_ok-regex.ensures.buildable)
