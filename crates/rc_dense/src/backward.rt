@@ -44,17 +44,18 @@ fn cell_at(
     cells[stand.row + classes[piece[left - 1] as usize] as usize]
 }
 
-/// Runs over bytes whose cells have no mark, four at a time from the end of a piece, and answers how many bytes are left and the row before the
-/// others. Fewer than four are left, or the next cell has a mark.
+/// Runs over bytes whose cells have no mark, four at a time towards the beginning of a piece, and answers how many bytes are left and the row
+/// before the others. Fewer than four are left, or the next cell has a mark.
 #[inline(always)]
-fn stride(table: &Table, piece: &[u8], start: usize, stand: Stand) -> (usize, usize)
+fn stride(table: &Table, piece: &[u8], from: usize, start: usize, stand: Stand) -> (usize, usize)
     ghost course: { Course }
     requires row { InRow table.now stand.row }
-    requires stands { StandsDown table.now course (start + length piece.now) stand }
+    requires stands { StandsDown table.now course (start + from) stand }
     requires bound { course.seen.slice.start ≤ course.bound }
     requires piece { piece.now ≡ slice_range course.seen.content start (start + length piece.now) }
     requires within { course.bound ≤ start }
-    ensures left { result.0 ≤ length piece.now }
+    requires from { from ≤ length piece.now }
+    ensures left { result.0 ≤ from }
     ensures row { InRow table.now result.1 }
     ensures stands { StandsDown table.now course (start + result.0) (record { row = result.1; noted = stand.noted }) }
 {
@@ -62,7 +63,7 @@ fn stride(table: &Table, piece: &[u8], start: usize, stand: Stand) -> (usize, us
     let cells = table.cells.as_slice();
     let classes = table.classes.as_slice();
     let mut row = stand.row;
-    let mut left = piece.len();
+    let mut left = from;
     while left >= 4 {
         let first = cell_at(
             table,
@@ -139,22 +140,24 @@ fn run(table: &Table, piece: &[u8], start: usize, stand: Stand, limit: usize) ->
 {
     let cells = table.cells.as_slice();
     let classes = table.classes.as_slice();
-    let (left, behind) = stride(table, piece, start, stand);
-    let mut row = behind;
+    let mut row = stand.row;
     let mut noted = stand.noted;
-    let mut left = left;
+    let mut left = piece.len();
     while left > 0 {
         let cell = cells[row + classes[piece[left - 1] as usize] as usize];
         if cell < SKIP {
-            row = cell;
+            let here = Stand { row: cell, noted };
+            let (more, before) = stride(table, piece, left - 1, start, here);
+            left = more;
+            row = before;
         } else {
             if cell < MET || cell - MET >= limit {
                 return (left, Stand { row, noted });
             }
             row = cell - MET;
             noted = Some((row, start + left));
+            left -= 1;
         }
-        left -= 1;
     }
     (0, Stand { row, noted })
 }

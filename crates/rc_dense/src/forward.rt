@@ -67,7 +67,7 @@ fn stride(table: &Table, piece: &[u8], from: usize, start: usize, stand: Stand) 
     requires piece { piece.now ≡ slice_range course.seen.content start (start + length piece.now) }
     requires within { start + length piece.now ≤ course.bound }
     requires from { from ≤ length piece.now }
-    ensures read { result.0 ≤ length piece.now }
+    ensures read { (from ≤ result.0) × (result.0 ≤ length piece.now) }
     ensures row { InRow table.now result.1 }
     ensures stands { Stands table.now course (start + result.0) (record { row = result.1; noted = stand.noted }) }
 {
@@ -161,27 +161,32 @@ fn run(
 {
     let cells = table.cells.as_slice();
     let classes = table.classes.as_slice();
-    let (read, behind) = stride(table, piece, from, start, stand);
-    let mut row = behind;
+    let mut row = stand.row;
     let mut noted = stand.noted;
-    for index in read..piece.len() {
+    let mut index = from;
+    while index < piece.len() {
         let cell = cells[row + classes[piece[index] as usize] as usize];
         if cell < SKIP {
-            row = cell;
+            let here = Stand { row: cell, noted };
+            let (read, behind) = stride(table, piece, index + 1, start, here);
+            index = read;
+            row = behind;
         } else if cell < MET {
             if cell >= DEAD || start + index >= looks {
                 return (index, Stand { row, noted });
             }
             row = cell - SKIP;
+            index += 1;
         } else {
             if cell - MET >= limit {
                 return (index, Stand { row, noted });
             }
             row = cell - MET;
             noted = Some((row, start + index));
+            index += 1;
         }
     }
-    (piece.len(), Stand { row, noted })
+    (index, Stand { row, noted })
 }
 
 /// Reads one byte, whatever its cell. With `may_rest` the search rests behind it where it may, from the position `rest_from` on.

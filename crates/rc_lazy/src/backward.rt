@@ -9,11 +9,11 @@ ghost use Rattle.rc_automaton.specs.Automata.{machine_of};
 ghost use Rattle.rc_automaton.specs.Ended.{HasEndedDown, gave_up};
 ghost use Rattle.rc_program.specs.Sought.{text_of};
 ghost use Rattle.rc_lazy.specs.Halves.{IsHalf, IsByte};
-ghost use Rattle.rc_lazy.specs.Courses.{Course, IsAtDown, IsLegDown, IsOverDown, MayGiveUp, StandsDown, text_in};
+ghost use Rattle.rc_lazy.specs.Courses.{Course, IsAtDown, IsLegDown, IsOverDown, MayGiveUp, StandsDown, StandsNotedDown, text_in};
 
 use crate::cells::{MET, QUIT, UNKNOWN, has_died, row_of};
 use crate::half::Half;
-use crate::run::{Leg, Stand, found_down, met_by, told};
+use crate::run::{Leg, Noted, Stand, found_down, met_by, told};
 use crate::sides::{byte_ahead, byte_behind};
 use crate::store::Store;
 use rc_automaton::automaton::{Automaton, Direction};
@@ -21,6 +21,135 @@ use rc_automaton::ended::Ended;
 use rc_text::cursor::Cursor;
 use rc_text::input::{Input, piece_before};
 use rc_text::types::Anchored;
+
+/// The cell to which the last of so many bytes of a piece leads. Where it is known and has no mark, it names the row of the run before that
+/// byte.
+#[inline(always)]
+fn cell_at(
+    store: &Store,
+    cells: &[usize],
+    classes: &[u8],
+    piece: &[u8],
+    left: usize,
+    start: usize,
+    here: Noted,
+) -> usize
+    ghost course: { Course }
+    requires held { Held course.frame store.now }
+    requires cells { cells.now ≡ store.now.cells.items }
+    requires classes { classes.now ≡ course.frame.classes }
+    requires row { here.row + course.frame.width ≤ length store.now.cells.items }
+    requires stands { StandsNotedDown course store.now (start + left) here.row here.noted here.before }
+    requires bound { course.seen.slice.start ≤ course.bound }
+    requires piece { piece.now ≡ slice_range course.seen.content start (start + length piece.now) }
+    requires within { course.bound ≤ start }
+    requires some { 0 < left }
+    requires left { left ≤ length piece.now }
+    ensures row { result < 2305843009213693952 → result + course.frame.width ≤ length store.now.cells.items }
+    ensures stands { result < 2305843009213693952 → StandsNotedDown course store.now (start + (left - 1)) result here.noted here.before }
+{
+    cells[here.row + classes[piece[left - 1] as usize] as usize]
+}
+
+/// Runs over bytes whose cells are known and have no mark, four at a time towards the beginning of a piece, and answers how many bytes are left and
+/// the row before the others. Fewer than four are left, or the next cell is unknown or has a mark.
+#[inline(always)]
+fn stride(
+    store: &Store,
+    cells: &[usize],
+    classes: &[u8],
+    piece: &[u8],
+    from: usize,
+    start: usize,
+    here: Noted,
+) -> (usize, usize)
+    ghost course: { Course }
+    requires held { Held course.frame store.now }
+    requires cells { cells.now ≡ store.now.cells.items }
+    requires classes { classes.now ≡ course.frame.classes }
+    requires row { here.row + course.frame.width ≤ length store.now.cells.items }
+    requires stands { StandsNotedDown course store.now (start + from) here.row here.noted here.before }
+    requires bound { course.seen.slice.start ≤ course.bound }
+    requires piece { piece.now ≡ slice_range course.seen.content start (start + length piece.now) }
+    requires within { course.bound ≤ start }
+    requires from { from ≤ length piece.now }
+    ensures left { result.0 ≤ from }
+    ensures row { result.1 + course.frame.width ≤ length store.now.cells.items }
+    ensures stands { StandsNotedDown course store.now (start + result.0) result.1 here.noted here.before }
+{
+    let noted = here.noted;
+    let before = here.before;
+    let mut row = here.row;
+    let mut left = from;
+    while left >= 4 {
+        let first = cell_at(
+            store,
+            cells,
+            classes,
+            piece,
+            left,
+            start,
+            Noted { row, noted, before },
+        );
+        if first >= UNKNOWN {
+            return (left, row);
+        }
+        let at = left - 1;
+        let second = cell_at(
+            store,
+            cells,
+            classes,
+            piece,
+            at,
+            start,
+            Noted {
+                row: first,
+                noted,
+                before,
+            },
+        );
+        if second >= UNKNOWN {
+            return (at, first);
+        }
+        let at = at - 1;
+        let third = cell_at(
+            store,
+            cells,
+            classes,
+            piece,
+            at,
+            start,
+            Noted {
+                row: second,
+                noted,
+                before,
+            },
+        );
+        if third >= UNKNOWN {
+            return (at, second);
+        }
+        let at = at - 1;
+        let fourth = cell_at(
+            store,
+            cells,
+            classes,
+            piece,
+            at,
+            start,
+            Noted {
+                row: third,
+                noted,
+                before,
+            },
+        );
+        if fourth >= UNKNOWN {
+            return (at, third);
+        }
+        row = fourth;
+        left = at - 1;
+    }
+    (left, row)
+}
 
 /// Runs over the bytes of a piece from its end, down to one of which the cell needs a look, and answers how many are left. A cell that tells of
 /// something met needs none where `limit` is `UNKNOWN`, and one where it is 0.
@@ -54,7 +183,14 @@ fn run(
     while left > 0 {
         let cell = cells[row + classes[piece[left - 1] as usize] as usize];
         if cell < UNKNOWN {
-            row = cell;
+            let here = Noted {
+                row: cell,
+                noted,
+                before,
+            };
+            let (more, next) = stride(store, cells, classes, piece, left - 1, start, here);
+            left = more;
+            row = next;
         } else {
             if cell < MET || cell - MET >= limit {
                 let met = told(store, noted, before);
@@ -62,8 +198,8 @@ fn run(
             }
             row = cell - MET;
             noted = Some((row, start + left));
+            left -= 1;
         }
-        left -= 1;
     }
     let met = told(store, noted, before);
     (0, Stand { row, met })

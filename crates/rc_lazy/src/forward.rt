@@ -10,11 +10,11 @@ ghost use Rattle.rc_automaton.specs.Automata.{machine_of};
 ghost use Rattle.rc_automaton.specs.Ended.{HasEnded, gave_up};
 ghost use Rattle.rc_program.specs.Sought.{text_of};
 ghost use Rattle.rc_lazy.specs.Halves.{IsHalf, IsByte};
-ghost use Rattle.rc_lazy.specs.Courses.{Course, IsAt, IsLeg, IsOver, MayGiveUp, StandsAt, text_in};
+ghost use Rattle.rc_lazy.specs.Courses.{Course, IsAt, IsLeg, IsOver, MayGiveUp, StandsAt, StandsNoted, text_in};
 
 use crate::cells::{MET, QUIT, UNKNOWN, has_died, row_of};
 use crate::half::Half;
-use crate::run::{Leg, Stand, found, met_by, told};
+use crate::run::{Leg, Noted, Stand, found, met_by, told};
 use crate::sides::{byte_ahead, byte_behind};
 use crate::store::Store;
 use rc_automaton::automaton::{Automaton, Direction};
@@ -48,6 +48,133 @@ fn is_idle_at(half: &Half, stand: Stand) -> bool
     stand.met.is_none() && half.store.idles_at(stand.row)
 }
 
+/// The cell to which the byte of a piece at an index leads. Where it is known and has no mark, it names the row of the run behind that byte.
+#[inline(always)]
+fn cell_at(
+    store: &Store,
+    cells: &[usize],
+    classes: &[u8],
+    piece: &[u8],
+    index: usize,
+    start: usize,
+    here: Noted,
+) -> usize
+    ghost course: { Course }
+    requires held { Held course.frame store.now }
+    requires cells { cells.now ≡ store.now.cells.items }
+    requires classes { classes.now ≡ course.frame.classes }
+    requires row { here.row + course.frame.width ≤ length store.now.cells.items }
+    requires stands { StandsNoted course store.now (start + index) here.row here.noted here.before }
+    requires bound { course.bound ≤ slice_end course.seen }
+    requires piece { piece.now ≡ slice_range course.seen.content start (start + length piece.now) }
+    requires within { start + length piece.now ≤ course.bound }
+    requires index { index < length piece.now }
+    ensures row { result < 2305843009213693952 → result + course.frame.width ≤ length store.now.cells.items }
+    ensures stands { result < 2305843009213693952 → StandsNoted course store.now (start + (index + 1)) result here.noted here.before }
+{
+    cells[here.row + classes[piece[index] as usize] as usize]
+}
+
+/// Runs over bytes whose cells are known and have no mark, four at a time, and answers how many bytes were read and the row behind them. Fewer
+/// than four are left, or the next cell is unknown or has a mark.
+#[inline(always)]
+fn stride(
+    store: &Store,
+    cells: &[usize],
+    classes: &[u8],
+    piece: &[u8],
+    from: usize,
+    start: usize,
+    here: Noted,
+) -> (usize, usize)
+    ghost course: { Course }
+    requires held { Held course.frame store.now }
+    requires cells { cells.now ≡ store.now.cells.items }
+    requires classes { classes.now ≡ course.frame.classes }
+    requires row { here.row + course.frame.width ≤ length store.now.cells.items }
+    requires stands { StandsNoted course store.now (start + from) here.row here.noted here.before }
+    requires bound { course.bound ≤ slice_end course.seen }
+    requires piece { piece.now ≡ slice_range course.seen.content start (start + length piece.now) }
+    requires within { start + length piece.now ≤ course.bound }
+    requires from { from ≤ length piece.now }
+    ensures read { (from ≤ result.0) × (result.0 ≤ length piece.now) }
+    ensures row { result.1 + course.frame.width ≤ length store.now.cells.items }
+    ensures stands { StandsNoted course store.now (start + result.0) result.1 here.noted here.before }
+{
+    let noted = here.noted;
+    let before = here.before;
+    let mut row = here.row;
+    let mut index = from;
+    while piece.len() - index >= 4 {
+        let first = cell_at(
+            store,
+            cells,
+            classes,
+            piece,
+            index,
+            start,
+            Noted { row, noted, before },
+        );
+        if first >= UNKNOWN {
+            return (index, row);
+        }
+        let at = index + 1;
+        let second = cell_at(
+            store,
+            cells,
+            classes,
+            piece,
+            at,
+            start,
+            Noted {
+                row: first,
+                noted,
+                before,
+            },
+        );
+        if second >= UNKNOWN {
+            return (at, first);
+        }
+        let at = at + 1;
+        let third = cell_at(
+            store,
+            cells,
+            classes,
+            piece,
+            at,
+            start,
+            Noted {
+                row: second,
+                noted,
+                before,
+            },
+        );
+        if third >= UNKNOWN {
+            return (at, second);
+        }
+        let at = at + 1;
+        let fourth = cell_at(
+            store,
+            cells,
+            classes,
+            piece,
+            at,
+            start,
+            Noted {
+                row: third,
+                noted,
+                before,
+            },
+        );
+        if fourth >= UNKNOWN {
+            return (at, third);
+        }
+        row = fourth;
+        index = at + 1;
+    }
+    (index, row)
+}
+
 /// Runs over the bytes of a piece, up to one of which the cell needs a look, and answers how many were read. A cell that tells of something
 /// met needs none where `limit` is `UNKNOWN`, and one where it is 0.
 #[inline(never)]
@@ -76,10 +203,18 @@ fn run(
     let before = stand.met;
     let mut row = stand.row;
     let mut noted = None;
-    for index in 0..piece.len() {
+    let mut index = 0;
+    while index < piece.len() {
         let cell = cells[row + classes[piece[index] as usize] as usize];
         if cell < UNKNOWN {
-            row = cell;
+            let here = Noted {
+                row: cell,
+                noted,
+                before,
+            };
+            let (read, next) = stride(store, cells, classes, piece, index + 1, start, here);
+            index = read;
+            row = next;
         } else {
             if cell < MET || cell - MET >= limit {
                 let met = told(store, noted, before);
@@ -87,10 +222,11 @@ fn run(
             }
             row = cell - MET;
             noted = Some((row, start + index));
+            index += 1;
         }
     }
     let met = told(store, noted, before);
-    (piece.len(), Stand { row, met })
+    (index, Stand { row, met })
 }
 
 /// Reads one byte, whatever its cell. With `may_rest` the search rests behind it where it may, from the position `rest_from` on.

@@ -20,6 +20,17 @@ pub(crate) struct Stand {
     pub met: Option<(usize, usize)>,
 }
 
+/// Where a run over a piece stands between two bytes.
+#[derive(Clone, Copy)]
+pub(crate) struct Noted {
+    /// The row of its state.
+    pub row: usize,
+    /// The row that tells what was met last on the way, with the position; None where nothing was.
+    pub noted: Option<(usize, usize)>,
+    /// What was met before, with the position.
+    pub before: Option<(usize, usize)>,
+}
+
 /// What became of a search over some bytes.
 #[derive(Clone, Copy)]
 pub(crate) enum Leg {

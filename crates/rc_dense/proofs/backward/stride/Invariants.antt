@@ -1,4 +1,4 @@
-use Rattle.std.proofs.Common.{◌≤◌, ◌+◌, length}
+use Rattle.std.proofs.Common.{◌≤◌, ◌+◌}
 use Rattle.rc_dense.specs.Searches.{InRow, StandsDown}
 use Rattle.rc_dense.proofs.backward.stride.Given as goal
 
@@ -7,7 +7,7 @@ ghost-cell_at g a = g.course
 
 abbrev pub invariant-loop-left : goal.invariant-loop-left
 invariant-loop-left g l = record {
-  left : l.left ≤ length l.piece;
+  left : l.left ≤ l.from;
   row : InRow l.fn.table l.row;
   stands : StandsDown l.fn.table g.course (l.start + l.left) (record { row = l.row; noted = l.noted });
 }

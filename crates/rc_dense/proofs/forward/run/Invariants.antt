@@ -1,4 +1,4 @@
-use Rattle.std.proofs.Common.{◌+◌}
+use Rattle.std.proofs.Common.{◌+◌, ◌-◌, ◌≤◌, length}
 use Rattle.rc_dense.specs.Searches.{InRow, Stands}
 use Rattle.rc_dense.proofs.forward.run.Given as goal
 
@@ -7,6 +7,10 @@ ghost-stride g a = g.course
 
 abbrev pub invariant-loop-index : goal.invariant-loop-index
 invariant-loop-index g l = record {
+  index : l.index ≤ length l.piece;
   row : InRow l.fn.table l.row;
   stands : Stands l.fn.table g.course (l.start + l.index) (record { row = l.row; noted = l.noted });
 }
+
+abbrev pub decreases-loop-index : goal.decreases-loop-index
+decreases-loop-index g l = length l.piece - l.index

@@ -7,6 +7,7 @@ ghost-cell_at g a = g.course
 
 abbrev pub invariant-loop-index : goal.invariant-loop-index
 invariant-loop-index g l = record {
+  low : l.from ≤ l.index;
   index : l.index ≤ length l.piece;
   row : InRow l.fn.table l.row;
   stands : Stands l.fn.table g.course (l.start + l.index) (record { row = l.row; noted = l.noted });

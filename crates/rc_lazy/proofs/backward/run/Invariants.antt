@@ -2,6 +2,9 @@ use Rattle.std.proofs.Common.{◌+◌, ◌≤◌, length}
 use Rattle.rc_lazy.specs.Courses.{StandsNotedDown}
 use Rattle.rc_lazy.proofs.backward.run.Given as goal
 
+abbrev pub ghost-stride : goal.ghost-stride
+ghost-stride g a = g.course
+
 abbrev pub ghost-told : goal.ghost-told
 ghost-told g a = g.course.frame
 
