@@ -1,6 +1,6 @@
 -- Only proofs use this file.
--- How a search by tables goes.
-use Rattle.std.specs.Prelude.{◌≡◌, ⊤, Option, MatchOption}
+-- By what a search goes, and how a search by tables does.
+use Rattle.std.specs.Prelude.{◌≡◌, ◌⊎◌, ⊤, Bool, true, false, Option, Some, None, MatchOption}
 use Rattle.rc_text.specs.Text.{Searched}
 use Rattle.rc_text.specs.declared.types.MatchKind.TheVariants.{LeftmostFirst}
 use Rattle.rc_program.specs.Places.{places_of}
@@ -11,12 +11,23 @@ use Rattle.rc_engines.specs.Spans.{IsOneLength, SeeksFromEnd, SeeksGreatestFromE
 use Rattle.rc_engines.specs.declared.engines.Engines.{Engines}
 use Rattle.rc_engines.specs.declared.route.Route.{Route}
 use Rattle.rc_engines.specs.declared.route.Route.TheVariants.{FromEnd, GreatestFromEnd, OfLength, Along}
+use Rattle.rc_engines.specs.declared.route.Way.{Way}
+use Rattle.rc_engines.specs.declared.route.Way.TheVariants.{AllStates, MetStates, NoTables}
 
 -- what guards, if anything does, may be relied on in searches by the engine's program
 abbrev pub MayGuard : Engine → Option Guard → Type 0
 MayGuard e guard = MatchOption guard ⊤ (IsGuard (places_of e.program.places.items) e.program.terminator)
 
--- What each way relies on.
+-- What each choice of the tables relies on, where a cache holds states or none does.
+abbrev pub GoesBy : Engines → Bool → Way → Type 0
+-- there are tables of all states
+GoesBy e has_states (AllStates d) = e.tables ≡ Some d.now
+-- there are none, but others, and a cache holds their states
+GoesBy e has_states (MetStates l) = (e.tables ≡ None) × (e.lazy ≡ Some l.now) × (has_states ≡ true)
+-- there are none of all states, and no others or no states of theirs
+GoesBy e has_states NoTables = (e.tables ≡ None) × ((e.lazy ≡ None) ⊎ (has_states ≡ false))
+
+-- What each route relies on.
 abbrev pub Relies : Engines → Searched → Route → Type 0
 -- the preferred match is sought, not anchored, and each ends where the slice does
 Relies e s FromEnd = SeeksFromEnd e.engine.kind e.spans s

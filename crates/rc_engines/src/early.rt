@@ -14,7 +14,7 @@ use crate::cache::Cache;
 use crate::engines::{Engines, half_of};
 use crate::last::find_greatest_from_end;
 use crate::needles::find_early_guarded;
-use crate::route::Route;
+use crate::route::{Route, Way};
 use rc_automaton::halves::Halves;
 use rc_dense::dense::NoCache;
 use rc_engine::engine::Engine;
@@ -147,16 +147,16 @@ fn find_in<C: Cursor>(
     ensures within { IfSome result (λ found. IfSome found (λ m. (low input.old ≤ m.start) × (m.start ≤ m.end) × (m.end ≤ high input.old))) }
     ensures cache { KeepsStates engines.now.lazy cache.old cache.new }
 {
-    if let Some(tables) = &engines.tables {
-        return find_by_tables(engines, tables, &mut NoCache, input).ok();
+    match engines.way(cache.is_some()) {
+        Way::AllStates(tables) => find_by_tables(engines, tables, &mut NoCache, input).ok(),
+        Way::MetStates(tables) => {
+            let Some(states) = cache else {
+                return None;
+            };
+            find_by_tables(engines, tables, states, input).ok()
+        }
+        Way::NoTables => None,
     }
-    let Some(tables) = &engines.lazy else {
-        return None;
-    };
-    let Some(states) = cache else {
-        return None;
-    };
-    find_by_tables(engines, tables, states, input).ok()
 }
 
 /// The match that a search finds, under the input's flag: with the flag off, or where matches are passed over, that of `Engines::find`; else some

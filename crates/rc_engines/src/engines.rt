@@ -11,7 +11,7 @@ ghost use Rattle.rc_engines.specs.Tables.{MayBeLazyFor, MayBeTablesFor};
 use crate::cache::Cache;
 use crate::last::find_greatest_from_end;
 use crate::needles::find_early_guarded;
-use crate::route::Route;
+use crate::route::{Route, Way};
 use crate::slots::fill_slots;
 use crate::spans::Spans;
 use crate::tables::tables_of;
@@ -31,13 +31,9 @@ use rc_spans::search;
 use rc_spans::search::Aim;
 use rc_states::kind::table_kind;
 use rc_text::cursor::Cursor;
-use rc_text::input::{Input, high, low};
+use rc_text::input::Input;
 use rc_text::types::{HalfMatch, Match, MatchError, MatchKind, PatternID, Span};
 use std::alloc::{AllocError, Global};
-
-/// A text whose bounds lie fewer bytes apart is searched by the ordered pass where a cache would have to be made for tables: to meet their states
-/// takes longer than to pass over so few bytes.
-const SHORT: usize = 1024;
 
 /// Up to so many patterns the pass seeks a match with its groups.
 const FEW_PATTERNS: usize = 8;
@@ -449,7 +445,7 @@ impl Engines {
     }
 
     /// Whether tables tell a match: those of all states, or else those whose states the cache holds. With None there are neither, or they tell nothing.
-    fn any_in<C: Cursor>(
+    pub(crate) fn any_in<C: Cursor>(
         &self,
         cache: &mut Option<lazy::Cache>,
         input: &mut Input<C>,
@@ -459,20 +455,20 @@ impl Engines {
         ensures found { IfSome result (λ b. b ≡ is_some (answer_by self.now.engine.kind (engine_search self.now.engine input.old))) }
         ensures cache { KeepsStates self.now.lazy cache.old cache.new }
     {
-        if let Some(tables) = &self.tables {
-            return self.any_by_tables(tables, &mut NoCache, input).ok();
+        match self.way(cache.is_some()) {
+            Way::AllStates(tables) => self.any_by_tables(tables, &mut NoCache, input).ok(),
+            Way::MetStates(tables) => {
+                let Some(states) = cache else {
+                    return None;
+                };
+                self.any_by_tables(tables, states, input).ok()
+            }
+            Way::NoTables => None,
         }
-        let Some(tables) = &self.lazy else {
-            return None;
-        };
-        let Some(states) = cache else {
-            return None;
-        };
-        self.any_by_tables(tables, states, input).ok()
     }
 
     /// The match that tables tell: those of all states, or else those whose states the cache holds. With None there are neither, or they tell none.
-    fn find_in<C: Cursor>(
+    pub(crate) fn find_in<C: Cursor>(
         &self,
         cache: &mut Option<lazy::Cache>,
         input: &mut Input<C>,
@@ -483,20 +479,20 @@ impl Engines {
         ensures within { IfSome result (λ found. IfSome found (λ m. (low input.old ≤ m.start) × (m.start ≤ m.end) × (m.end ≤ high input.old))) }
         ensures cache { KeepsStates self.now.lazy cache.old cache.new }
     {
-        if let Some(tables) = &self.tables {
-            return self.find_by_tables(tables, &mut NoCache, input).ok();
+        match self.way(cache.is_some()) {
+            Way::AllStates(tables) => self.find_by_tables(tables, &mut NoCache, input).ok(),
+            Way::MetStates(tables) => {
+                let Some(states) = cache else {
+                    return None;
+                };
+                self.find_by_tables(tables, states, input).ok()
+            }
+            Way::NoTables => None,
         }
-        let Some(tables) = &self.lazy else {
-            return None;
-        };
-        let Some(states) = cache else {
-            return None;
-        };
-        self.find_by_tables(tables, states, input).ok()
     }
 
     /// The end of the match that tables tell, and its pattern, as `find_in`.
-    fn find_end_in<C: Cursor>(
+    pub(crate) fn find_end_in<C: Cursor>(
         &self,
         cache: &mut Option<lazy::Cache>,
         input: &mut Input<C>,
@@ -507,16 +503,16 @@ impl Engines {
         ensures within { IfSome result (λ found. IfSome found (λ half. (low input.old ≤ half.offset) × (half.offset ≤ high input.old))) }
         ensures cache { KeepsStates self.now.lazy cache.old cache.new }
     {
-        if let Some(tables) = &self.tables {
-            return self.find_end_by_tables(tables, &mut NoCache, input).ok();
+        match self.way(cache.is_some()) {
+            Way::AllStates(tables) => self.find_end_by_tables(tables, &mut NoCache, input).ok(),
+            Way::MetStates(tables) => {
+                let Some(states) = cache else {
+                    return None;
+                };
+                self.find_end_by_tables(tables, states, input).ok()
+            }
+            Way::NoTables => None,
         }
-        let Some(tables) = &self.lazy else {
-            return None;
-        };
-        let Some(states) = cache else {
-            return None;
-        };
-        self.find_end_by_tables(tables, states, input).ok()
     }
 
     /// Whether a search finds a match. It takes no memory but for states. Nothing is read beyond the first position at which some match ends,
@@ -665,106 +661,6 @@ impl Engines {
         captures::clear(caps);
         let pattern = self.find_slots(cache, input, caps.slots_mut());
         captures::set_pattern(caps, pattern);
-    }
-
-    /// A cache for the tables whose states are made as they are met, where a search of the input is to go by them: there are none of all states,
-    /// and its bounds lie `SHORT` bytes apart, or more. An `Err` is want of memory.
-    pub(crate) fn states_for<C: Cursor>(
-        &self,
-        alloc: Global,
-        input: &mut Input<C>,
-    ) -> Result<Option<lazy::Cache>, AllocError>
-        ensures keeps { Keeps input.old input.new }
-        ensures made { IfOk result (IsCacheOfBoth self.now.lazy) }
-    {
-        if self.tables.is_some() {
-            return Ok(None);
-        }
-        let Some(tables) = &self.lazy else {
-            return Ok(None);
-        };
-        let low = low(input);
-        let high = high(input);
-        if high.saturating_sub(low) < SHORT {
-            return Ok(None);
-        }
-        let states = tables.create_cache(alloc)?;
-        Ok(Some(states))
-    }
-
-    /// The match that `find` finds, in a cache that is made for this search. What the search doesn't need isn't made: nothing for tables of all
-    /// states, and for the pass only where no tables tell the match. An `Err` is want of memory.
-    pub fn find_once<C: Cursor>(
-        &self,
-        alloc: Global,
-        input: &mut Input<C>,
-    ) -> Result<Option<Match>, AllocError>
-        ensures keeps { Keeps input.old input.new }
-        ensures found { IfOk result (λ found. found ≡ answer_by self.now.engine.kind (engine_search self.now.engine input.old)) }
-        ensures within { IfOk result (λ found. IfSome found (λ m. (low input.old ≤ m.start) × (m.start ≤ m.end) × (m.end ≤ high input.old))) }
-    {
-        if self.spans.leave_none(input) {
-            return Ok(None);
-        }
-        let mut states = self.states_for(alloc, input)?;
-        let told = self.find_in(&mut states, input);
-        drop(states);
-        if let Some(found) = told {
-            return Ok(found);
-        }
-        let mut cache = self.engine.create_cache(alloc, 0)?;
-        let found = self.engine.find(&mut cache, input);
-        drop(cache);
-        Ok(found)
-    }
-
-    /// The end of the match that `find_once` finds, and its pattern, in a cache that is made as there. An `Err` is want of memory.
-    pub fn find_end_once<C: Cursor>(
-        &self,
-        alloc: Global,
-        input: &mut Input<C>,
-    ) -> Result<Option<HalfMatch>, AllocError>
-        ensures keeps { Keeps input.old input.new }
-        ensures found { IfOk result (λ found. found ≡ option_map half_of (answer_by self.now.engine.kind (engine_search self.now.engine input.old))) }
-        ensures within { IfOk result (λ found. IfSome found (λ half. (low input.old ≤ half.offset) × (half.offset ≤ high input.old))) }
-    {
-        if self.spans.leave_none(input) {
-            return Ok(None);
-        }
-        let mut states = self.states_for(alloc, input)?;
-        let told = self.find_end_in(&mut states, input);
-        drop(states);
-        if let Some(found) = told {
-            return Ok(found);
-        }
-        let mut cache = self.engine.create_cache(alloc, 0)?;
-        let found = half_of(self.engine.find(&mut cache, input));
-        drop(cache);
-        Ok(found)
-    }
-
-    /// Whether `find_once` finds a match, in a cache that is made as there. An `Err` is want of memory.
-    pub fn is_match_once<C: Cursor>(
-        &self,
-        alloc: Global,
-        input: &mut Input<C>,
-    ) -> Result<bool, AllocError>
-        ensures keeps { Keeps input.old input.new }
-        ensures found { IfOk result (λ b. b ≡ is_some (answer_by self.now.engine.kind (engine_search self.now.engine input.old))) }
-    {
-        if self.spans.leave_none(input) {
-            return Ok(false);
-        }
-        let mut states = self.states_for(alloc, input)?;
-        let told = self.any_in(&mut states, input);
-        drop(states);
-        if let Some(found) = told {
-            return Ok(found);
-        }
-        let mut cache = self.engine.create_cache(alloc, 0)?;
-        let found = self.engine.is_match(&mut cache, input);
-        drop(cache);
-        Ok(found)
     }
 }
 

@@ -7,6 +7,7 @@ pub mod engines;
 mod last;
 pub mod laws;
 mod needles;
+mod once;
 mod route;
 mod slots;
 pub mod spans;

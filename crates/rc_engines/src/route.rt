@@ -1,11 +1,24 @@
-//! How a search by tables goes.
+//! By what a search goes, and how a search by tables does.
 
 use crate::engines::Engines;
 use crate::tables::fast_guards_of;
+use rc_dense::dense::Dense;
 use rc_guards::guard::Guard;
+use rc_lazy::lazy::Lazy;
 use rc_text::cursor::Cursor;
 use rc_text::input::Input;
 use rc_text::types::{Anchored, MatchKind};
+
+/// By what tables a search goes, if by any.
+#[derive(Clone, Copy)]
+pub(crate) enum Way<'a> {
+    /// By those of all states.
+    AllStates(&'a Dense),
+    /// By those whose states are made as they are met.
+    MetStates(&'a Lazy),
+    /// By none: needles alone tell the answer, or the pass does.
+    NoTables,
+}
 
 /// How a search by tables goes.
 #[derive(Clone, Copy)]
@@ -24,10 +37,28 @@ pub(crate) enum Route<'a> {
 impl Engines {
     ghost use Rattle.std.specs.Prelude.{◌≡◌, ◌↔◌, IfSome, IsTrue};
     ghost use Rattle.rc_text.specs.declared.types.MatchKind.TheVariants.{LeftmostFirst};
-    ghost use Rattle.rc_engines.specs.Route.{MayGuard, Relies};
+    ghost use Rattle.rc_engines.specs.Route.{GoesBy, MayGuard, Relies};
     ghost use Rattle.rc_engines.specs.Spans.{IsOneLength, SeeksFromEnd, SeeksGreatestFromEnd};
 
-    /// How a search of this input goes: the first way that fits.
+    /// By what a search goes: by tables of all states, where there are some; else by those whose states are made as they are met, where there are
+    /// some and a cache holds their states, as `has_states` says.
+    #[inline(always)]
+    pub(crate) fn way(&self, has_states: bool) -> Way
+        ensures { GoesBy self.now has_states result }
+    {
+        if let Some(tables) = &self.tables {
+            return Way::AllStates(tables);
+        }
+        if !has_states {
+            return Way::NoTables;
+        }
+        match &self.lazy {
+            Some(tables) => Way::MetStates(tables),
+            None => Way::NoTables,
+        }
+    }
+
+    /// How a search of this input by tables goes: the first route that fits.
     #[inline(always)]
     pub(crate) fn route<C: Cursor>(&self, input: &Input<C>) -> Route
         ensures { Relies self.now input.now result }
