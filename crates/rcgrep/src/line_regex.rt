@@ -79,4 +79,8 @@ impl LineSelector for LineRegex<'_> {
             has_match
         }
     }
+
+    fn next_candidate(&mut self, _page: &[u8]) -> usize {
+        0
+    }
 }
