@@ -5,7 +5,7 @@ use Rattle.std.specs.List.{filter, slice_range}
 use Rattle.std.specs.Io.BufRead.{take_through, drop_through}
 use Rattle.std.specs.Io.KnownBytes.{Consumes}
 use Rattle.std.proofs.Math.Seq.{drop-append_seam, take-append_seam}
-use Rattle.std.proofs.lemmas.Bool.{eqb-true, eqb-false}
+use Rattle.std.proofs.lemmas.Bool.{eqb-false}
 use Rattle.std.proofs.lemmas.List.{get_or-append-add, take-append-drop}
 use Rattle.grep_lines.specs.Lines.{before_first, lines}
 use Rattle.grep_lines.specs.Pages.{AreLinesBefore, IsWhole, is_newline}

@@ -24,7 +24,10 @@ pub trait LineSelector {
     fn next_candidate(&mut self, page: &[u8]) -> usize
         ensures within { result ≤ length page.now }
         ensures unselected { (start end : ℕ) → start ≤ end → end < result → selects self.old (slice_range page.now start end) ≡ false }
-        ensures same { selects self.new ≡ selects self.old };
+        ensures same { selects self.new ≡ selects self.old }
+    {
+        0
+    }
 }
 
 /// Reads the next line into `line`, without its newline, in place of what stood there, where that line and its newline stand in what the

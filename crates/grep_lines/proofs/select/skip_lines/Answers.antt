@@ -1,5 +1,5 @@
-use Rattle.std.proofs.Common.{◌≡◌, ◌≤◌, length, arith, rules, subst}
-use Rattle.std.specs.Io.BufRead.{FillKeeps, DropsConsumable}
+use Rattle.std.proofs.Common.{◌≤◌, length, arith, subst}
+use Rattle.std.specs.Io.BufRead.{FillKeeps}
 use Rattle.std.proofs.BufReadLemmas.{Consumes_shown}
 use Rattle.grep_lines.proofs.PageLemmas.{skip_page}
 use Rattle.grep_lines.proofs.select.skip_lines.Goals as goal

@@ -1,4 +1,4 @@
-use Rattle.std.proofs.Common.{IfSome, true, ◌≡◌, ◌<◌, ◌≤◌, ◌+◌, ◌∙◌, ◌++◌, ◌∷◌, [], ap, arith, get_or, get_or-take, length, length-take-le, subst, sym, take}
+use Rattle.std.proofs.Common.{IfSome, true, ◌≡◌, ◌≤◌, ◌+◌, ◌∙◌, ◌++◌, ◌∷◌, [], ap, arith, get_or, get_or-take, length, length-take-le, subst, sym, take}
 use Rattle.std.specs.Io.BufRead.{FillKeeps}
 use Rattle.std.proofs.BufReadLemmas.{Consumes_shown}
 use Rattle.std.proofs.lemmas.Bool.{eqb-true, eq-eqb}
