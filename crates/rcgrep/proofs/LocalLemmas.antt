@@ -204,3 +204,13 @@ module _ (r : Regex) (page : List ℕ) (reach : ℕ) (inside : reach ≤ length 
 
   pub unmatched : ∥ IsLocalRegex r ∥₁ → (start end : ℕ) → start ≤ end → end < first → has_match r (slice_range page start end) ≡ false
   unmatched h start end order near = ∥∥₁_elim h (hlevel props) (λ is. unmatched_by is start end order near)
+
+  inside_by : IsLocalRegex r → first ≤ length page
+  inside_by is =
+      let text = take reach page in
+      let s = search_for (sought r) (whole text) in
+      let begins = begins_inside (sought r) text (answer_by (regex_kind r) s) (sym (ap (λ k. answer_by k s) is.kind)) in
+      omega (arith, begins, length-take-le reach page inside, inside)
+
+  pub first_inside : ∥ IsLocalRegex r ∥₁ → first ≤ length page
+  first_inside h = ∥∥₁_elim h (hlevel props) inside_by

@@ -7,8 +7,21 @@ use Rattle.regex_cursor.specs.Output.{whole}
 use Rattle.rcgrep.specs.Local.{start_or}
 use Rattle.rcgrep.specs.Picked.{has_match, is_picked}
 use Rattle.rcgrep.specs.Selecting.{Selecting}
-use Rattle.rcgrep.proofs.LocalLemmas.{unmatched}
+use Rattle.rcgrep.proofs.LocalLemmas.{first_inside, unmatched}
 use Rattle.rcgrep.proofs.line_regex.LineRegexLineSelector.next_candidate.Goals as goal
+
+-- it lies in the page
+pub returns-clause-within : goal.returns-clause-within
+returns-clause-within c =
+    let inner = c.self.inside in
+    let r = inner.patterns.now.regex in
+    let page = c.args.page.now in
+    let reach = c.min-reach.result in
+    let text = take reach page in
+    let told = c.find_start.ensures.value
+    ∙ sym (ap (λ (s : Selecting). start_or (length text) (answer_by (regex_kind s.regex) (search_for (sought s.regex) (whole text)))) c.self.view_is) in
+    subst (λ n. n ≤ length page) (sym told)
+    (first_inside r page reach (omega (arith, c.min-reach.ensures)) c.min-reach.type_inv (inner.patterns.now.local c.if-not-self.false))
 
 -- nothing that ends before the match of the part that was searched has a match
 pub returns-clause-unselected : goal.returns-clause-unselected
