@@ -1,17 +1,18 @@
 -- Only proofs use this file.
 -- A text is cut at its first newline.
-use Rattle.std.proofs.Common.{ℕ, ◌≡◌, ◌<◌, ◌-◌, ◌∙◌, ◌++◌, ◌∷◌, [], ◌==◌, Bool, false, true, List, Option, Some, None, IfSome, ap, arith, cond, refl, sym, subst, length, take, get_or, length-append, zero, suc}
+use Rattle.std.proofs.Common.{ℕ, ◌≡◌, ◌<◌, ◌-◌, ◌∙◌, ◌++◌, ◌∷◌, [], ◌==◌, Bool, false, true, List, Option, Some, None, IfSome, ap, append_assoc, arith, cond, refl, sym, subst, length, take, get_or, length-append, ne_eqb, zero, suc}
 use Rattle.std.specs.Io.BufRead.{take_through, drop_through, DropsThrough}
+use Rattle.std.specs.Io.KnownBytes.{Consumes, Keeps}
 use Rattle.std.proofs.lemmas.Bool.{eqb-true, eqb-false}
 use Rattle.std.proofs.lemmas.List.{get_or_at, take_at}
 use Rattle.grep_lines.specs.Lines.{before_first, lines}
 use Rattle.grep_lines.specs.Selected.{TakesLine}
 
-abbrev HasNo : List ℕ → Type 0
+abbrev pub HasNo : List ℕ → Type 0
 HasNo xs = (k : ℕ) → k < length xs → get_or xs k 0 ≡ 10 → ⊥
 
 -- A text is empty, or one line without its newline, or begins with a line that has one.
-data Parts (xs : List ℕ) : Type 0 where
+pub data Parts (xs : List ℕ) : Type 0 where
   none : xs ≡ [] → Parts xs
   whole : lines xs ≡ xs ∷ [] → take_through 10 xs ≡ xs → drop_through 10 xs ≡ [] → HasNo xs → Parts xs
   cut : (line : List ℕ) → take_through 10 xs ≡ line ++ 10 ∷ [] → lines xs ≡ line ∷ lines (drop_through 10 xs) → Parts xs
@@ -53,7 +54,7 @@ module _ (x : ℕ) (xs : List ℕ) where
   step true e p = step_newline e
   step false e p = step_other e p
 
-parts : (xs : List ℕ) → Parts xs
+pub parts : (xs : List ℕ) → Parts xs
 parts [] = none refl
 parts (x ∷ xs) = step x xs (x == 10) refl (parts xs)
 
@@ -89,3 +90,24 @@ module _ (new : Option (List ℕ)) (items : List ℕ) (some : 0 < length items) 
       (get_or items (length items - 1) 0 ≡ 10 → ⊥) → IfSome old (λ xs. TakesLine xs true items new)
   takes_whole None i d other = tt
   takes_whole (Some xs) i d other = whole_at xs (parts xs) i d other
+
+-- a line and its newline, and then the others
+lines_cut : (line rest : List ℕ) → HasNo line → lines (line ++ 10 ∷ rest) ≡ line ∷ lines rest
+lines_cut [] rest free = refl
+lines_cut (x ∷ line) rest free =
+    ap (λ c. cond c ([] ∷ lines (line ++ 10 ∷ rest)) (before_first x (lines (line ++ 10 ∷ rest)))) (ne_eqb x 10 (free 0 (omega arith)))
+    ∙ ap (before_first x) (lines_cut line rest (λ k lt. free (suc k) (omega (arith, lt))))
+
+-- a line was taken with its newline
+pub takes_shown : (line shown : List ℕ) (old new : Option (List ℕ)) → HasNo line → shown ≡ line ++ 10 ∷ [] → Consumes old new shown →
+    IfSome old (λ xs. TakesLine xs true line new)
+takes_shown line shown None new free is e = tt
+takes_shown line shown (Some xs) None free is e = absurd e
+takes_shown line shown (Some xs) (Some rest) free is e =
+    (rest, refl, ap lines (e ∙ ap (λ ys. ys ++ rest) is ∙ append_assoc line (10 ∷ []) rest) ∙ lines_cut line rest free)
+
+-- what holds of known bytes that were kept held before
+pub kept_some : (P : List ℕ → Type 0) (old mid : Option (List ℕ)) → Keeps old mid → IfSome mid P → IfSome old P
+kept_some P None mid k h = tt
+kept_some P (Some xs) None k h = absurd k
+kept_some P (Some xs) (Some ys) k h = subst P k h

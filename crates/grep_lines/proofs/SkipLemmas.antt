@@ -5,7 +5,7 @@ use Rattle.std.specs.List.{filter}
 use Rattle.std.proofs.lemmas.List.{append-nil}
 use Rattle.std.proofs.lemmas.List.Elements.{filter-append}
 use Rattle.grep_lines.specs.Lines.{lines}
-use Rattle.grep_lines.specs.Selected.{AreSkipped, TakesLine}
+use Rattle.grep_lines.specs.Selected.{AreSkipped, IsNextSelected, TakesLine}
 
 module _ (p : List ℕ → Bool) where
   pub skipped_none : (old : Option (List ℕ)) → IfSome old (λ text. AreSkipped p text 0 old)
@@ -30,3 +30,39 @@ module _ (p : List ℕ → Bool) where
         p line ≡ false → IfSome old (λ text. AreSkipped p text (n + 1) new)
     skip_more None s t other = tt
     skip_more (Some xs) s t other = more xs s t other
+
+    chosen : (xs : List ℕ) → AreSkipped p xs n mid → IfSome mid (λ text. TakesLine text true line new) → p line ≡ true → IsNextSelected p xs line new (n + 1)
+    chosen xs s t is =
+        let taken : TakesLine s.rest true line new = subst (λ o. IfSome o (λ text. TakesLine text true line new)) s.known t in
+        record {
+          rest = taken.0;
+          known = taken.1;
+          skipped = s.skipped;
+          parts = s.parts ∙ ap (λ ls. s.skipped ++ ls) taken.2;
+          counted = omega (arith, s.counted);
+          unselected = s.unselected;
+          selected = is;
+        }
+
+    pub select_next : (old : Option (List ℕ)) → IfSome old (λ text. AreSkipped p text n mid) → IfSome mid (λ text. TakesLine text true line new) →
+        p line ≡ true → IfSome old (λ text. IsNextSelected p text line new (n + 1))
+    select_next None s t is = tt
+    select_next (Some xs) s t is = chosen xs s t is
+
+  module _ (n m : ℕ) (mid new : Option (List ℕ)) where
+    both : (xs : List ℕ) → AreSkipped p xs n mid → IfSome mid (λ text. AreSkipped p text m new) → AreSkipped p xs (n + m) new
+    both xs s t =
+        let then : AreSkipped p s.rest m new = subst (λ o. IfSome o (λ text. AreSkipped p text m new)) s.known t in
+        record {
+          rest = then.rest;
+          known = then.known;
+          skipped = s.skipped ++ then.skipped;
+          parts = s.parts ∙ ap (λ ls. s.skipped ++ ls) then.parts ∙ sym (append_assoc s.skipped then.skipped (lines then.rest));
+          counted = omega (arith, s.counted, then.counted, length-append s.skipped then.skipped);
+          unselected = filter-append p s.skipped then.skipped ∙ ap (λ ls. ls ++ filter p then.skipped) s.unselected ∙ then.unselected;
+        }
+
+    pub skip_both : (old : Option (List ℕ)) → IfSome old (λ text. AreSkipped p text n mid) → IfSome mid (λ text. AreSkipped p text m new) →
+        IfSome old (λ text. AreSkipped p text (n + m) new)
+    skip_both None s t = tt
+    skip_both (Some xs) s t = both xs s t

@@ -1,6 +1,7 @@
 //! The lines of what is read, and which of them are selected.
 #![tactic(auto)]
 
+mod pages;
 pub mod select;
 
 pub use select::{LineSelector, next_line, next_selected};

@@ -1,8 +1,11 @@
 //! Lines, one after another, and which of them are selected.
-ghost use Rattle.std.specs.Prelude.{◌≡◌, ℕ, Bool, List, [], IfOk, IfSome, MatchOption, filter};
+ghost use Rattle.std.specs.Prelude.{◌≡◌, ◌≤◌, ◌<◌, ℕ, Bool, List, [], IfOk, IfSome, MatchOption, false, filter, length, slice_range};
 ghost use Rattle.grep_lines.specs.Lines.{lines};
-ghost use Rattle.grep_lines.specs.Selected.{IsNextSelected, TakesLine};
+ghost use Rattle.grep_lines.specs.Pages.{MayTake};
+ghost use Rattle.grep_lines.specs.Selected.{AreSkipped, IsNextSelected, TakesLine};
 
+use crate::pages::lines_before;
+use memchr::memchr;
 use std::io;
 use std::io::{BufRead, ErrorKind};
 
@@ -15,6 +18,35 @@ pub trait LineSelector {
     fn selects(&mut self, line: &[u8]) -> bool
         ensures value { result ≡ selects self.old line.now }
         ensures same { selects self.new ≡ selects self.old };
+
+    /// A place in a page such that nothing in the page that ends before it is selected as a line: so the lines that end before it need
+    /// not be looked at one by one. It is 0 where nothing is known.
+    fn next_candidate(&mut self, page: &[u8]) -> usize
+        ensures within { result ≤ length page.now }
+        ensures unselected { (start end : ℕ) → start ≤ end → end < result → selects self.old (slice_range page.now start end) ≡ false }
+        ensures same { selects self.new ≡ selects self.old }
+    {
+        0
+    }
+}
+
+/// Reads the next line into `line`, without its newline, in place of what stood there, where that line and its newline stand in what the
+/// reader has read. Answers whether they do; else nothing is taken, and the line is empty.
+fn take_line<R: BufRead>(reader: &mut R, line: &mut Vec<u8>) -> io::Result<bool>
+    ensures { IfOk result (λ taken. MayTake taken (R.remaining reader.old) (R.remaining reader.new) line.new.items) }
+{
+    line.clear();
+    let page = match reader.fill_buf() {
+        Ok(page) => page,
+        Err(fault) if fault.kind() == ErrorKind::Interrupted => return Ok(false),
+        Err(fault) => return Err(fault),
+    };
+    let Some(end) = memchr(b'\n', page) else {
+        return Ok(false);
+    };
+    line.extend_from_slice(&page[..end])?;
+    reader.consume(end + 1);
+    Ok(true)
 }
 
 /// Reads the next line into `line`, without its newline, in place of what stood there. Answers false at the end, and then the line is
@@ -24,7 +56,9 @@ pub trait LineSelector {
 pub fn next_line<R: BufRead>(reader: &mut R, line: &mut Vec<u8>) -> io::Result<bool>
     ensures { IfOk result (λ more. IfSome (R.remaining reader.old) (λ text. TakesLine text more line.new.items (R.remaining reader.new))) }
 {
-    line.clear();
+    if take_line(reader, line)? {
+        return Ok(true);
+    }
     if reader.read_until(b'\n', line)? == 0 {
         return Ok(false);
     }
@@ -34,6 +68,23 @@ pub fn next_line<R: BufRead>(reader: &mut R, line: &mut Vec<u8>) -> io::Result<b
         return Ok(true);
     }
     Ok(true)
+}
+
+/// Passes over lines that stand in what the reader has read, of which none is selected, and tells how many. It may be none.
+fn skip_lines<R: BufRead, S: LineSelector>(reader: &mut R, selector: &mut S) -> io::Result<u64>
+    ensures skipped { IfOk result (λ count. IfSome (R.remaining reader.old) (λ text.
+        AreSkipped (S.selects selector.old) text count (R.remaining reader.new))) }
+    ensures same { S.selects selector.new ≡ S.selects selector.old }
+{
+    let page = match reader.fill_buf() {
+        Ok(page) => page,
+        Err(fault) if fault.kind() == ErrorKind::Interrupted => return Ok(0),
+        Err(fault) => return Err(fault),
+    };
+    let candidate = selector.next_candidate(page);
+    let (end, count) = lines_before(page, candidate);
+    reader.consume(end);
+    Ok(count)
 }
 
 /// Reads lines up to the next one that is selected, which stands in `line` then, and tells how many were read, that one among them. `None`
@@ -50,13 +101,21 @@ pub fn next_selected<R: BufRead, S: LineSelector>(
         (IsNextSelected (S.selects selector.old) text line.new.items (R.remaining reader.new)))) }
     ensures same { S.selects selector.new ≡ S.selects selector.old }
 {
-    for number in 1..u64::MAX {
+    let mut before: u64 = 0;
+    for _ in 0..u64::MAX {
+        let Some(passed) = before.checked_add(skip_lines(reader, selector)?) else {
+            break;
+        };
         if !next_line(reader, line)? {
             return Ok(None);
         }
+        let Some(number) = passed.checked_add(1) else {
+            break;
+        };
         if selector.selects(line) {
             return Ok(Some(number));
         }
+        before = number;
     }
     Err(io::Error::from(ErrorKind::Other))
 }

@@ -1,7 +1,8 @@
 //! What is told at a fault.
 
 use regex_cursor::engines::meta::BuildError;
-use regex_cursor::syntax::{Config, Explained, explain};
+use regex_cursor::hir::Hir;
+use regex_cursor::syntax::{Config, Explained, Oversize, explain, explain_size};
 use std::alloc::Global;
 use std::io::Write;
 
@@ -12,14 +13,6 @@ pub const FAULT: u8 = 2;
 pub fn report(rt: &HostRuntime, line: &str) -> u8 {
     let _ = writeln!(rt.stderr(), "rcgrep: {line}");
     FAULT
-}
-
-/// The number of the pattern that isn't read, where a build was refused for one.
-fn unread(refusal: &BuildError) -> Option<usize> {
-    match refusal {
-        BuildError::Syntax { pattern, .. } => Some(pattern.as_usize()),
-        _ => None,
-    }
 }
 
 /// What is wrong with the pattern of this number. It is None where memory was refused.
@@ -35,7 +28,7 @@ fn explained<'p>(
 }
 
 /// Tells what is wrong with the pattern of this number, and shows where.
-fn report_unread(rt: &HostRuntime, patterns: &[&str], number: usize, config: &Config) -> u8 {
+pub fn report_unread(rt: &HostRuntime, patterns: &[&str], number: usize, config: &Config) -> u8 {
     let Some(shown) = explained(rt.alloc(), patterns, number, config) else {
         return report(rt, "out of memory");
     };
@@ -43,15 +36,19 @@ fn report_unread(rt: &HostRuntime, patterns: &[&str], number: usize, config: &Co
     FAULT
 }
 
-/// Tells why the patterns weren't built under this configuration.
-pub fn report_refusal(
-    rt: &HostRuntime,
-    patterns: &[&str],
-    config: &Config,
-    refusal: &BuildError,
-) -> u8 {
-    if let Some(number) = unread(refusal) {
-        return report_unread(rt, patterns, number, config);
+/// How heavy the patterns are, where their build was refused for that.
+fn oversize_of(alloc: Global, hirs: &[Hir], refusal: &BuildError) -> Option<Oversize> {
+    let BuildError::SizeLimit { limit } = refusal else {
+        return None;
+    };
+    explain_size(alloc, hirs, Some(*limit)).ok()?
+}
+
+/// Tells why the patterns weren't built, and how large they are, where that is why.
+pub fn report_refusal(rt: &HostRuntime, hirs: &[Hir], refusal: &BuildError) -> u8 {
+    if let Some(oversize) = oversize_of(rt.alloc(), hirs, refusal) {
+        let _ = writeln!(rt.stderr(), "rcgrep: {oversize}");
+        return FAULT;
     }
     let _ = writeln!(rt.stderr(), "rcgrep: {refusal}");
     FAULT

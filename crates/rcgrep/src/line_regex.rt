@@ -1,22 +1,41 @@
-//! A regex that selects lines.
-ghost use Rattle.std.specs.Prelude.{◌≡◌, false};
+//! Patterns that select lines.
+ghost use Rattle.std.specs.Prelude.{◌≡◌, false, length};
+ghost use Rattle.rc_program.specs.Kinds.{answer_by};
+ghost use Rattle.rc_program.specs.Sought.{search_for};
+ghost use Rattle.rc_meta.specs.Views.{regex_kind, sought};
+ghost use Rattle.regex_cursor.specs.Output.{whole};
+ghost use Rattle.rcgrep.specs.Local.{start_or};
 ghost use Rattle.rcgrep.specs.Picked.{IsLine, has_match, is_picked};
 
+use crate::patterns::Patterns;
 use grep_lines::LineSelector;
 use regex_cursor::Input;
-use regex_cursor::engines::meta::{Cache, Regex};
+use regex_cursor::engines::meta::Cache;
+use regex_cursor::types::Match;
 use std::alloc::{AllocError, Global};
 use std::marker::Model;
 
-/// Selects the lines in which a regex has a match, or the others. It keeps a cache over all lines.
+/// How many bytes of a page are searched at once, behind a line that was looked at by itself.
+const LEAST: usize = 512;
+
+/// How many bytes of a page are searched at once at most.
+const GREATEST: usize = 1 << 20;
+
+/// A match that begins so close behind a line has its line looked at without such a search, and so has the next one.
+const CLOSE: usize = 64;
+
+/// Selects the lines in which a pattern matches, or the others. It keeps a cache over all lines.
 #[derive(Drop)]
-pub struct LineRegex<'r> {
-    regex: &'r Regex,
+pub struct LineRegex<'p> {
+    patterns: &'p Patterns,
     cache: Cache,
     is_inverted: bool,
+    /// How many bytes of a page are searched at once next. It grows where nothing is found, so what is read twice is no more than was
+    /// passed over. At 0 the next line is looked at by itself.
+    reach: usize,
 }
 
-impl<'r> Model for LineRegex<'r> {
+impl<'p> Model for LineRegex<'p> {
     ghost use Rattle.rc_meta.specs.Caches.{IsCacheFor};
     ghost use Rattle.rc_meta.specs.Views.{regex_patterns, regex_settings};
     ghost use Rattle.rc_meta.specs.contracts.regex.Regex as regexes;
@@ -27,36 +46,68 @@ impl<'r> Model for LineRegex<'r> {
 
     ghost coded = { Prim.hlevel (codes, regexes.the_row.coded) };
 
-    ghost view = { λ s. record { regex = s.regex.now; is_inverted = s.is_inverted } };
+    ghost view = { λ s. record { regex = s.patterns.now.regex; is_inverted = s.is_inverted } };
 
-    ghost invariant = { λ s. IsCacheFor (regex_patterns s.regex.now) (regex_settings s.regex.now) s.cache };
+    ghost invariant = { λ s. IsCacheFor (regex_patterns s.patterns.now.regex) (regex_settings s.patterns.now.regex) s.cache };
 }
 
-impl<'r> LineRegex<'r> {
-    /// Selects by this regex. An `Err` is want of memory for the cache.
+impl<'p> LineRegex<'p> {
+    /// Selects by these patterns. An `Err` is want of memory for the cache.
     pub fn new(
         alloc: Global,
-        regex: &'r Regex,
+        patterns: &'p Patterns,
         is_inverted: bool,
-    ) -> Result<LineRegex<'r>, AllocError> {
-        let cache = regex.create_cache(alloc)?;
+    ) -> Result<LineRegex<'p>, AllocError> {
+        let cache = patterns.regex.create_cache(alloc)?;
         Ok(LineRegex {
-            regex,
+            patterns,
             cache,
             is_inverted,
+            reach: GREATEST,
         })
     }
 
-    /// Whether the regex has a match in the line, as if there was nothing around it.
+    /// The match of the text, as if there was nothing around it.
+    fn find(&mut self, text: &[u8]) -> Option<Match>
+        ensures value { result ≡ answer_by (regex_kind self.old.regex) (search_for (sought self.old.regex) (whole text.now)) }
+        ensures regex { self.new.regex ≡ self.old.regex }
+        ensures inverted { self.new.is_inverted ≡ self.old.is_inverted }
+    {
+        let mut input = input_over(text);
+        self.patterns.regex.search_with(&mut self.cache, &mut input)
+    }
+
+    /// Whether the patterns have a match in the line, as if there was nothing around it.
     fn has_match(&mut self, line: &[u8]) -> bool
         ensures value { result ≡ has_match self.old.regex line.now }
         ensures regex { self.new.regex ≡ self.old.regex }
         ensures inverted { self.new.is_inverted ≡ self.old.is_inverted }
     {
-        let mut input = input_over(line);
-        self.regex
-            .search_with(&mut self.cache, &mut input)
-            .is_some()
+        self.find(line).is_some()
+    }
+
+    /// Where the match of the text begins, or the text's end.
+    fn find_start(&mut self, text: &[u8]) -> usize
+        ensures value { result ≡ start_or (length text.now) (answer_by (regex_kind self.old.regex) (search_for (sought self.old.regex) (whole text.now))) }
+        ensures regex { self.new.regex ≡ self.old.regex }
+        ensures inverted { self.new.is_inverted ≡ self.old.is_inverted }
+    {
+        let Some(found) = self.find(text) else {
+            self.reach = self.reach.saturating_mul(2).min(GREATEST);
+            return text.len();
+        };
+        let start = found.start();
+        self.reach = if start < CLOSE { 0 } else { LEAST };
+        start
+    }
+
+    /// The match of the line that a search from a place on finds.
+    pub fn find_from(&mut self, line: &[u8], from: usize) -> Option<Match> {
+        if from > line.len() {
+            return None;
+        }
+        let mut input = Input::new(line).range(from, line.len());
+        self.patterns.regex.search_with(&mut self.cache, &mut input)
     }
 }
 
@@ -73,10 +124,21 @@ impl LineSelector for LineRegex<'_> {
 
     fn selects(&mut self, line: &[u8]) -> bool {
         let has_match = self.has_match(line);
+        if !has_match {
+            self.reach = self.reach.max(LEAST);
+        }
         if self.is_inverted {
             !has_match
         } else {
             has_match
         }
+    }
+
+    fn next_candidate(&mut self, page: &[u8]) -> usize {
+        if self.is_inverted || self.reach == 0 || !self.patterns.is_local {
+            return 0;
+        }
+        let reach = self.reach.min(page.len());
+        self.find_start(&page[..reach])
     }
 }

@@ -5,20 +5,19 @@ mod faults;
 mod line_regex;
 mod options;
 mod output;
+mod patterns;
 mod search;
 
-use crate::faults::{FAULT, report, report_refusal};
+use crate::faults::{FAULT, report, report_refusal, report_unread};
 use crate::options::{Options, WordsError, read_words};
+use crate::patterns::{MAX_PATTERNS, Patterns, Unread, build, read_patterns};
 use crate::search::search_all;
-use regex_cursor::engines::meta::Regex;
+use regex_cursor::hir::Hir;
 use regex_cursor::syntax::Config;
 use std::alloc::{AllocError, Global};
 use std::io;
 use std::io::Write;
 use std::process::ExitCode;
-
-/// The greatest number of patterns.
-const MAX_PATTERNS: usize = 2_147_483_647;
 
 const USAGE: &str =
     "usage: rcgrep [-n] [-c] [-o] [-i] [-v] [-l] [--color] [-e PATTERN].. PATTERN [FILE]..";
@@ -47,22 +46,39 @@ fn lent(alloc: Global, words: &[String]) -> Result<Vec<&str>, AllocError> {
     words.iter().map(|word| word.as_str()).collect(alloc)
 }
 
-/// Builds the regex, and searches.
-fn run(rt: &HostRuntime, options: &Options<'_>) -> u8 {
-    let alloc = rt.alloc();
-    let patterns = options.patterns.as_slice();
-    if patterns.len() > MAX_PATTERNS {
-        return report(rt, "too many patterns");
+/// Builds the patterns, or tells why they aren't built.
+fn build_or_report(rt: &HostRuntime, hirs: &[Hir]) -> Result<Patterns, u8> {
+    if hirs.len() > MAX_PATTERNS {
+        return Err(report(rt, "too many patterns"));
     }
+    match build(rt.alloc(), hirs) {
+        Ok(patterns) => Ok(patterns),
+        Err(refusal) => Err(report_refusal(rt, hirs, &refusal)),
+    }
+}
+
+/// Reads the patterns and builds them, or tells why they aren't.
+fn patterns_of(rt: &HostRuntime, options: &Options<'_>) -> Result<Patterns, u8> {
+    let texts = options.patterns.as_slice();
     let config = Config::new().case_insensitive(options.ignore_case);
-    let mut builder = Regex::builder();
-    builder.syntax(config);
-    let regex = match builder.build_many(alloc, patterns) {
-        Ok(regex) => regex,
-        Err(refusal) => return report_refusal(rt, patterns, &config, &refusal),
+    let hirs = match read_patterns(rt.alloc(), texts, &config) {
+        Ok(hirs) => hirs,
+        Err(Unread::Text(number)) => return Err(report_unread(rt, texts, number, &config)),
+        Err(Unread::Memory) => return Err(report(rt, "out of memory")),
     };
-    let searched = search_all(rt, &regex, options);
-    drop(regex);
+    let built = build_or_report(rt, &hirs);
+    drop(hirs);
+    built
+}
+
+/// Builds the patterns, and searches.
+fn run(rt: &HostRuntime, options: &Options<'_>) -> u8 {
+    let patterns = match patterns_of(rt, options) {
+        Ok(patterns) => patterns,
+        Err(status) => return status,
+    };
+    let searched = search_all(rt, &patterns, options);
+    drop(patterns);
     match searched {
         Ok(status) => status,
         Err(fault) => {

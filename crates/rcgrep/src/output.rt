@@ -1,9 +1,7 @@
 //! How a selected line is printed.
 
+use crate::line_regex::LineRegex;
 use crate::options::Options;
-use regex_cursor::Input;
-use regex_cursor::engines::meta::Regex;
-use std::alloc::Global;
 use std::io;
 use std::io::Write;
 
@@ -44,16 +42,22 @@ fn put_match<W: Write>(out: &mut W, options: &Options<'_>, bytes: &[u8]) -> io::
 
 /// Puts each match that isn't empty, as a line of its own.
 fn put_matches<W: Write>(
-    alloc: Global,
     out: &mut W,
-    regex: &Regex,
+    selector: &mut LineRegex<'_>,
     options: &Options<'_>,
     name: Option<&str>,
     number: u64,
     line: &[u8],
 ) -> io::Result<()> {
-    for found in regex.find_iter(alloc, Input::new(line))? {
-        if !found.is_empty() {
+    let mut from = 0;
+    for _ in 0..=line.len() {
+        let Some(found) = selector.find_from(line, from) else {
+            break;
+        };
+        from = found.end();
+        if found.is_empty() {
+            from = from.saturating_add(1);
+        } else {
             put_prefix(out, options, name, number)?;
             put_match(out, options, part(line, found.start(), found.end()))?;
             out.write_all(b"\n")?;
@@ -64,29 +68,34 @@ fn put_matches<W: Write>(
 
 /// Puts the line with its matches marked.
 fn put_marked<W: Write>(
-    alloc: Global,
     out: &mut W,
-    regex: &Regex,
+    selector: &mut LineRegex<'_>,
     options: &Options<'_>,
     line: &[u8],
 ) -> io::Result<()> {
     let mut from = 0;
-    for found in regex.find_iter(alloc, Input::new(line))? {
-        if !found.is_empty() {
-            out.write_all(part(line, from, found.start()))?;
+    let mut shown = 0;
+    for _ in 0..=line.len() {
+        let Some(found) = selector.find_from(line, from) else {
+            break;
+        };
+        from = found.end();
+        if found.is_empty() {
+            from = from.saturating_add(1);
+        } else {
+            out.write_all(part(line, shown, found.start()))?;
             put_match(out, options, part(line, found.start(), found.end()))?;
-            from = found.end();
+            shown = found.end();
         }
     }
-    out.write_all(part(line, from, line.len()))?;
+    out.write_all(part(line, shown, line.len()))?;
     out.write_all(b"\n")
 }
 
 /// Puts a selected line, as the options say.
 pub fn put_line<W: Write>(
-    alloc: Global,
     out: &mut W,
-    regex: &Regex,
+    selector: &mut LineRegex<'_>,
     options: &Options<'_>,
     name: Option<&str>,
     number: u64,
@@ -96,11 +105,11 @@ pub fn put_line<W: Write>(
         if options.invert {
             return Ok(());
         }
-        return put_matches(alloc, out, regex, options, name, number, line);
+        return put_matches(out, selector, options, name, number, line);
     }
     put_prefix(out, options, name, number)?;
     if options.color && !options.invert {
-        return put_marked(alloc, out, regex, options, line);
+        return put_marked(out, selector, options, line);
     }
     out.write_all(line)?;
     out.write_all(b"\n")

@@ -3,8 +3,8 @@
 use crate::line_regex::LineRegex;
 use crate::options::Options;
 use crate::output::{put_count, put_line};
+use crate::patterns::Patterns;
 use grep_lines::next_selected;
-use regex_cursor::engines::meta::Regex;
 use std::alloc::Global;
 use std::fs::File;
 use std::io;
@@ -25,15 +25,14 @@ enum Fault {
     Write(io::Error),
 }
 
-/// By what is searched, and how lines are printed.
+/// How lines are printed.
 #[derive(Clone, Copy)]
-struct Job<'r, 'o, 'w> {
+struct Job<'o, 'w> {
     alloc: Global,
-    regex: &'r Regex,
     options: &'o Options<'w>,
 }
 
-impl Job<'_, '_, '_> {
+impl Job<'_, '_> {
     /// Prints the selected lines of a reader, where lines are asked for, and tells how many there were: at most one where names alone
     /// are asked for.
     fn print_lines<R: BufRead, W: Write>(
@@ -60,15 +59,7 @@ impl Job<'_, '_, '_> {
             if self.options.count {
                 continue;
             }
-            if let Err(fault) = put_line(
-                self.alloc,
-                out,
-                self.regex,
-                self.options,
-                name,
-                number,
-                &line,
-            ) {
+            if let Err(fault) = put_line(out, selector, self.options, name, number, &line) {
                 return Err(Fault::Write(fault));
             }
         }
@@ -142,14 +133,10 @@ impl Job<'_, '_, '_> {
 /// Searches all files, one after another, or the standard input, and tells the status: 0 where a line was selected, 1 where none was, and
 /// 2 where a file wasn't read. Its line goes to the standard error, and the next file is searched. An `Err` is a fault of the standard
 /// output, or want of memory.
-pub fn search_all(rt: &HostRuntime, regex: &Regex, options: &Options<'_>) -> io::Result<u8> {
+pub fn search_all(rt: &HostRuntime, patterns: &Patterns, options: &Options<'_>) -> io::Result<u8> {
     let alloc = rt.alloc();
-    let mut selector = LineRegex::new(alloc, regex, options.invert)?;
-    let job = Job {
-        alloc,
-        regex,
-        options,
-    };
+    let mut selector = LineRegex::new(alloc, patterns, options.invert)?;
+    let job = Job { alloc, options };
     let searched = job.search_files(rt, &mut selector);
     drop(selector);
     searched

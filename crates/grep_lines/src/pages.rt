@@ -1,0 +1,31 @@
+//! Whole lines at the beginning of a page.
+ghost use Rattle.std.specs.Prelude.{◌≡◌, ◌≤◌, length};
+ghost use Rattle.std.specs.List.{filter};
+ghost use Rattle.grep_lines.specs.Pages.{AreLinesBefore, is_newline};
+
+use memchr::memrchr;
+
+/// How many newlines there are.
+fn count_newlines(bytes: &[u8]) -> u64
+    ensures { result ≡ length (filter is_newline bytes.now) }
+{
+    let mut count: u64 = 0;
+    for byte in bytes {
+        if *byte == b'\n' {
+            count += 1;
+        }
+    }
+    count
+}
+
+/// Where the last of the lines of a page ends, with its newline, that end before a place, and how many these are.
+pub fn lines_before(page: &[u8], place: usize) -> (usize, u64)
+    requires { place ≤ length page.now }
+    ensures { AreLinesBefore page.now place result.0 result.1 }
+{
+    let Some(last) = memrchr(b'\n', &page[..place]) else {
+        return (0, 0);
+    };
+    let end = last + 1;
+    (end, count_newlines(&page[..end]))
+}

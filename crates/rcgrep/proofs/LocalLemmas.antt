@@ -1,0 +1,216 @@
+-- Only proofs use this file.
+-- Patterns without assertions spell in a piece of a text what they spell in the text.
+use denote.Struct.Props.{props}
+use Rattle.std.proofs.Common.{ℕ, zero, suc, ◌≡◌, ◌<◌, ◌≤◌, ◌+◌, ◌-◌, ◌∙◌, [], ◌∷◌, Bool, false, true, List, Option, Some, None, All, not, ◌&&◌, ◌||◌, ap, arith, refl, sym, subst, inl, inr, length, take, drop, get_or, get_or-take, length-take-le, length-drop, map, take_all, take-take, eq-eqb, true≢false}
+use Rattle.std.specs.List.{slice_get, slice_range}
+use Rattle.std.specs.Option.{is_some}
+use Rattle.std.proofs.lemmas.Bool.{or_from, or_parts}
+use Rattle.std.proofs.lemmas.List.{drop-take, get_or-drop}
+use Rattle.std.proofs.lemmas.List.Elements.{All-head, All-map, All-more, All-tail, All-weaker}
+use Rattle.std.proofs.lemmas.Option.{get_or_from_slice_get, slice_get-get_or, slice_get_within}
+use Rattle.std.proofs.Math.Logic.{∥∥₁_elim}
+use Rattle.rc_text.specs.Found.{Found}
+use Rattle.rc_text.specs.declared.types.MatchKind.TheVariants.{LeftmostFirst}
+use Rattle.rc_text.specs.Text.{is_boundary}
+use Rattle.rc_pattern.specs.Re.{Re, empty, literal, byte_in, char_in, look, repeat, capture, cat, alt, none}
+use Rattle.rc_pattern.specs.Properties.{has_look, is_zero, look_number, minimum_len}
+use Rattle.rc_pattern.specs.WellFormed.{HasBounds, IsWellFormed}
+use Rattle.rc_pattern.specs.declared.hir.Hir.{Hir}
+use Rattle.rc_pattern.specs.Meaning.{meaning}
+use Rattle.rc_program.specs.Answer.{Search, IsPassed, answer, last_of}
+use Rattle.rc_program.specs.Greatest.{IsSpelledIn}
+use Rattle.rc_program.specs.Program.{shown}
+use Rattle.rc_program.specs.Sought.{Sought, may_be_empty, passes_over, search_for}
+use Rattle.rc_program.specs.Spells.{SpelledBy, Spells, Stands, Turns}
+use Rattle.rc_program.specs.Text.{Text}
+use Rattle.rc_program.proofs.AnswerLemmas.{answer_law}
+use Rattle.rc_program.proofs.GreatestLemmas.{greatest_law, spelled_within}
+use Rattle.rc_program.proofs.GroupLemmas.{group_law, shown_all, without_groups_bounded}
+use Rattle.rc_meta.specs.Views.{regex_kind, sought}
+use Rattle.rc_meta.specs.declared.regex.Regex.{Regex}
+use Rattle.rc_program.specs.Kinds.{answer_by}
+use Rattle.rcgrep.specs.Picked.{has_match}
+use Rattle.rcgrep.specs.Local.{HasNoLook, IsLocal, IsLocalPattern, IsLocalRegex, LocalLaw, start_or}
+use Rattle.regex_cursor.specs.Output.{whole}
+
+-- n turns of what leads on alike
+turns_on : (R S : ℕ → ℕ → Type 0) (at : ℕ) → ((i j : ℕ) → R i j → S (at + i) (at + j)) → (n i j : ℕ) → Turns R n i j → Turns S n (at + i) (at + j)
+turns_on R S at on zero i j e = ap (λ k. at + k) e
+turns_on R S at on (suc n) i j t = (at + t.0, on i t.0 t.1, turns_on R S at on n t.0 j t.2)
+
+module _ (t u : Text) (at : ℕ) (same : (k b : ℕ) → slice_get t.content k ≡ Some b → slice_get u.content (at + k) ≡ Some b) where
+  stands_on : (bs : List ℕ) (i j : ℕ) → Stands t.content bs i j → Stands u.content bs (at + i) (at + j)
+  stands_on [] i j e = ap (λ k. at + k) e
+  stands_on (b ∷ bs) i j s =
+      let next : at + (i + 1) ≡ at + i + 1 = omega arith in
+      (same i b s.0, subst (λ k. Stands u.content bs k (at + j)) next (stands_on bs (i + 1) j s.1))
+
+  spells_on : (h : Re) → HasNoLook h → (i j : ℕ) → Spells t h i j → Spells u h (at + i) (at + j)
+  spells_on empty bare i j e = ap (λ k. at + k) e
+  spells_on (literal bs) bare i j s = stands_on bs i j s
+  spells_on (byte_in rs) bare i j s = (s.0, same i s.0 s.1, s.2, omega (arith, s.3))
+  spells_on (char_in rs) bare i j s = (s.0, s.1, s.2, stands_on _ i j s.3)
+  spells_on (look l) bare i j s = absurd (true≢false (sym (eq-eqb (look_number l) (look_number l) refl) ∙ bare l))
+  spells_on (repeat least most greedy a) bare i j s = (s.0, s.1, s.2, turns_on (Spells t a) (Spells u a) at (spells_on a bare) s.0 i j s.3)
+  spells_on (capture n name a) bare i j s = spells_on a bare i j s
+  spells_on (cat a rest) bare i j s =
+      (at + s.0, spells_on a (λ l. (or_parts (has_look a l) (has_look rest l) (bare l)).0) i s.0 s.1, spells_on rest (λ l. (or_parts (has_look a l) (has_look rest l) (bare l)).1) s.0 j s.2)
+  spells_on (alt a rest) bare i j (inl s) = inl (spells_on a (λ l. (or_parts (has_look a l) (has_look rest l) (bare l)).0) i j s)
+  spells_on (alt a rest) bare i j (inr s) = inr (spells_on rest (λ l. (or_parts (has_look a l) (has_look rest l) (bare l)).1) i j s)
+  spells_on none bare i j s = absurd s
+
+  spelled_on : (n : ℕ) (hs : List Re) → All IsLocalPattern hs → (p i j : ℕ) → SpelledBy t n hs p i j → SpelledBy u n hs p (at + i) (at + j)
+  spelled_on n [] bare p i j s = absurd s
+  spelled_on n (h ∷ hs) bare p i j (inl s) = inl (s.0, spells_on h (All-head IsLocalPattern h hs bare).bare i j s.1)
+  spelled_on n (h ∷ hs) bare p i j (inr s) = inr (spelled_on (n + 1) hs (All-tail IsLocalPattern h hs bare) p i j s)
+
+never_empty : (hs : List Re) → All IsLocalPattern hs → may_be_empty hs ≡ false
+never_empty [] local = refl
+never_empty (h ∷ hs) local =
+    or_from (is_zero (minimum_len h)) (may_be_empty hs) (All-head IsLocalPattern h hs local).some (never_empty hs (All-tail IsLocalPattern h hs local))
+
+none_of : (b c : Bool) → c ≡ false → (b && c) ≡ false
+none_of true c e = e
+none_of false c e = refl
+
+module _ (q : Sought) (is : IsLocal q) where
+  abbrev places : List Re
+  places = shown q.grouped q.patterns
+
+  bounds : All HasBounds places
+  bounds = shown_all HasBounds without_groups_bounded q.grouped q.patterns is.bounded
+
+  module _ (text piece : List ℕ) (at : ℕ) (short : length text < 18446744073709551616) (inside : at + length piece ≤ length text)
+      (same : (k b : ℕ) → slice_get piece k ≡ Some b → slice_get text (at + k) ≡ Some b) where
+    -- a match in the piece is one in the text
+    spelled_there : (m : Found) → IsSpelledIn (search_for q (whole piece)) m →
+        IsSpelledIn (search_for q (whole text)) (record { pattern = m.pattern; start = at + m.start; end = at + m.end })
+    spelled_there m h =
+        let s = search_for q (whole piece) in
+        let r = search_for q (whole text) in
+        let near = spelled_within s m h in
+        let parts = (greatest_law.by_program places s m bounds refl).0 h in
+        let spelled = (group_law.shown_spells s.text q.grouped 0 q.patterns m.pattern m.start m.end).0 parts.3 in
+        let on = spelled_on s.text r.text at same 0 q.patterns is.local m.pattern m.start m.end spelled in
+        (greatest_law.by_program places r (record { pattern = m.pattern; start = at + m.start; end = at + m.end }) bounds refl).1 (
+          (omega arith, omega (arith, near.1, near.2, inside, short), λ e. absurd (true≢false (sym e))),
+          parts.1,
+          omega (arith, near.2, inside, short),
+          (group_law.shown_spells r.text q.grouped 0 q.patterns m.pattern (at + m.start) (at + m.end)).1 on,
+        )
+
+  module _ (text : List ℕ) where
+    abbrev whole_search : Search
+    whole_search = search_for q (whole text)
+
+    never_over : passes_over q ≡ false
+    never_over = none_of q.utf8_empty (may_be_empty q.patterns) (never_empty q.patterns is.local)
+
+    unpassed : (m : Found) → IsSpelledIn whole_search m → ¬ IsPassed whole_search m.start
+    unpassed m h (inl clear) = clear h.walk h.is_walk
+    unpassed m h (inr p) = true≢false (sym (ap (λ b. not b || is_boundary text (last_of p.0).1) never_over) ∙ p.2)
+
+    -- what begins before the answer is no match
+    before_answer : (o : Option Found) → answer whole_search ≡ o → (m : Found) → IsSpelledIn whole_search m → m.start < start_or (length text) o → ⊥
+    before_answer None e m h near = unpassed m h ((answer_law.answer_none whole_search).0 e m.start h.is_start)
+    before_answer (Some n) e m h near =
+        let told = (answer_law.answer_some whole_search n).0 e in
+        let begins : told.0.start ≡ n.start = ap (λ (f : Found). f.start) told.2 in
+        unpassed m h (told.1.none_before m.start h.is_start (omega (arith, begins, near)))
+
+  module _ (text piece : List ℕ) (at : ℕ) (short : length text < 18446744073709551616) (inside : at + length piece ≤ length text)
+      (near : at + length piece < start_or (length text) (answer (search_for q (whole text))))
+      (same : (k b : ℕ) → slice_get piece k ≡ Some b → slice_get text (at + k) ≡ Some b) where
+    no_match : (o : Option Found) → answer (search_for q (whole piece)) ≡ o → is_some o ≡ false
+    no_match None e = refl
+    no_match (Some m) e =
+        let spelled = greatest_law.answer_spelled (search_for q (whole piece)) m e in
+        let within = spelled_within (search_for q (whole piece)) m spelled in
+        absurd (before_answer text (answer (search_for q (whole text))) refl
+        (record { pattern = m.pattern; start = at + m.start; end = at + m.end })
+        (spelled_there text piece at short inside same m spelled) (omega (arith, near, within.1, within.2)))
+
+-- the bytes of a piece are the text's
+piece_same : (text : List ℕ) (start end : ℕ) → start ≤ end → end ≤ length text → (k b : ℕ) → slice_get (slice_range text start end) k ≡ Some b →
+    slice_get text (start + k) ≡ Some b
+piece_same text start end order inside k b e =
+    let piece = slice_range text start end in
+    let size : length piece ≡ end - start = length-take-le (end - start) (drop start text) (omega (arith, inside, length-drop start text)) in
+    let below : k < length piece = slice_get_within piece k b e in
+    let value : get_or text (start + k) 0 ≡ b =
+    sym (get_or-drop start text k 0) ∙ sym (get_or-take (end - start) (drop start text) k 0 (omega (arith, size, below)))
+    ∙ get_or_from_slice_get piece k b 0 e in
+    slice_get-get_or text (start + k) 0 (omega (arith, size, below, inside)) ∙ ap Some value
+
+begins_inside : (q : Sought) (text : List ℕ) (o : Option Found) → answer (search_for q (whole text)) ≡ o → start_or (length text) o ≤ length text
+begins_inside q text None e = omega arith
+begins_inside q text (Some m) e =
+    let s = search_for q (whole text) in
+    let within = spelled_within s m (greatest_law.answer_spelled s m e) in
+    omega (arith, within.1, within.2)
+
+pub local_law : LocalLaw
+local_law q text start end is short order near =
+    let inside : end ≤ length text = omega (arith, near, begins_inside q text (answer (search_for q (whole text))) refl) in
+    let piece = slice_range text start end in
+    let size : start + length piece ≡ end = omega (arith, order, inside, length-drop start text, length-take-le (end - start) (drop start text) (omega (arith, inside, length-drop start text))) in
+    no_match q is text piece start short (omega (arith, size, inside)) (subst (λ n. n < start_or (length text) (answer (search_for q (whole text)))) (sym size) near)
+    (piece_same text start end order inside) (answer (search_for q (whole piece))) refl
+
+-- the patterns so far
+abbrev pub MeansLocal : Hir → Type 0
+MeansLocal h = IsLocalPattern (meaning h)
+
+pub local_more : (xs : List Hir) (i : ℕ) (x : Hir) → i < length xs → x ≡ get_or xs i x → All MeansLocal (take i xs) → MeansLocal x → All MeansLocal (take (i + 1) xs)
+local_more xs i x inside is before here = All-more MeansLocal xs i x inside before (rw (sym is) here)
+
+pub all_local : (xs : List Hir) (n : ℕ) → length xs ≤ n → All MeansLocal (take n xs) → All IsLocalPattern (map meaning xs)
+all_local xs n done ok = All-map IsLocalPattern meaning xs (rw (take_all n xs done) at ok)
+
+-- the patterns were built of such ones
+pub built_local : (r : Regex) (hs : List Re) → regex_kind r ≡ LeftmostFirst → (sought r).patterns ≡ hs → All IsWellFormed hs → All IsLocalPattern hs → IsLocalRegex r
+built_local r hs kind same ok local = record {
+  kind = kind;
+  local = record {
+    bounded = subst (All HasBounds) (sym same) (All-weaker IsWellFormed HasBounds (λ h f. f.bounded) hs ok);
+    local = subst (All IsLocalPattern) (sym same) local;
+  };
+}
+
+-- a piece of a part of a text is one of the text
+piece_of_part : (page : List ℕ) (reach start end : ℕ) → start ≤ end → end ≤ reach → slice_range (take reach page) start end ≡ slice_range page start end
+piece_of_part page reach start end order inside =
+    let rest : reach ≡ start + (reach - start) = omega (arith, order, inside) in
+    ap (take (end - start)) (ap (λ n. drop start (take n page)) rest ∙ drop-take start (reach - start) page)
+    ∙ take-take (end - start) (reach - start) (drop start page) (omega (arith, inside))
+
+-- nothing that ends before the match of a part of a page has a match
+module _ (r : Regex) (page : List ℕ) (reach : ℕ) (inside : reach ≤ length page) (short : reach < 18446744073709551616) where
+  abbrev first : ℕ
+  first = start_or (length (take reach page)) (answer_by (regex_kind r) (search_for (sought r) (whole (take reach page))))
+
+  unmatched_by : IsLocalRegex r → (start end : ℕ) → start ≤ end → end < first → has_match r (slice_range page start end) ≡ false
+  unmatched_by is start end order near =
+      let text = take reach page in
+      let size : length text ≡ reach = length-take-le reach page inside in
+      let kinded : (s : Search) → answer_by (regex_kind r) s ≡ answer s = λ s. ap (λ k. answer_by k s) is.kind in
+      let found = answer (search_for (sought r) (whole text)) in
+      let before : end < start_or (length text) found =
+      subst (λ o. end < start_or (length text) o) (kinded (search_for (sought r) (whole text))) near in
+      let ends : end ≤ reach = omega (arith, size, before, begins_inside (sought r) text found refl) in
+      ap is_some (kinded (search_for (sought r) (whole (slice_range page start end))))
+      ∙ ap (λ piece. is_some (answer (search_for (sought r) (whole piece)))) (sym (piece_of_part page reach start end order ends))
+      ∙ local_law (sought r) text start end is.local (omega (arith, size, short)) order before
+
+  pub unmatched : ∥ IsLocalRegex r ∥₁ → (start end : ℕ) → start ≤ end → end < first → has_match r (slice_range page start end) ≡ false
+  unmatched h start end order near = ∥∥₁_elim h (hlevel props) (λ is. unmatched_by is start end order near)
+
+  inside_by : IsLocalRegex r → first ≤ length page
+  inside_by is =
+      let text = take reach page in
+      let s = search_for (sought r) (whole text) in
+      let begins = begins_inside (sought r) text (answer_by (regex_kind r) s) (sym (ap (λ k. answer_by k s) is.kind)) in
+      omega (arith, begins, length-take-le reach page inside, inside)
+
+  pub first_inside : ∥ IsLocalRegex r ∥₁ → first ≤ length page
+  first_inside h = ∥∥₁_elim h (hlevel props) inside_by

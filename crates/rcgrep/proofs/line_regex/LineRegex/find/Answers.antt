@@ -1,0 +1,14 @@
+use Rattle.std.proofs.Common.{ap, ◌∙◌}
+use Rattle.rc_program.specs.Kinds.{answer_by, is_early}
+use Rattle.rc_program.specs.Sought.{search_for}
+use Rattle.rc_meta.specs.Views.{regex_kind, sought}
+use Rattle.regex_cursor.specs.Output.{whole}
+use Rattle.rcgrep.specs.Selecting.{Selecting}
+use Rattle.rcgrep.proofs.line_regex.LineRegex.find.Goals as goal
+
+pub returns-clause-value : goal.returns-clause-value
+returns-clause-value c =
+    let r = c.self.inside.patterns.now.regex in
+    c.search_with.ensures.found_by (ap (λ b. is_early b (search_for (sought r) c.input_over-input.result)) c.input_over-input.ensures.late)
+    ∙ ap (answer_by (regex_kind r)) (c.input_over-input.ensures.line (sought r))
+    ∙ ap (λ (s : Selecting). answer_by (regex_kind s.regex) (search_for (sought s.regex) (whole c.args.text.now))) c.self.view_is

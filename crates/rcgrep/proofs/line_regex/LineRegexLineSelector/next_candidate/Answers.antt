@@ -1,0 +1,40 @@
+use Rattle.std.proofs.Common.{◌≤◌, ◌<◌, ◌∙◌, ap, arith, length, subst, sym, take}
+use Rattle.std.specs.List.{slice_range}
+use Rattle.rc_program.specs.Kinds.{answer_by}
+use Rattle.rc_program.specs.Sought.{search_for}
+use Rattle.rc_meta.specs.Views.{regex_kind, sought}
+use Rattle.regex_cursor.specs.Output.{whole}
+use Rattle.rcgrep.specs.Local.{start_or}
+use Rattle.rcgrep.specs.Picked.{has_match, is_picked}
+use Rattle.rcgrep.specs.Selecting.{Selecting}
+use Rattle.rcgrep.proofs.LocalLemmas.{first_inside, unmatched}
+use Rattle.rcgrep.proofs.line_regex.LineRegexLineSelector.next_candidate.Goals as goal
+
+-- it lies in the page
+pub returns-clause-within : goal.returns-clause-within
+returns-clause-within c =
+    let inner = c.self.inside in
+    let r = inner.patterns.now.regex in
+    let page = c.args.page.now in
+    let reach = c.min-reach.result in
+    let text = take reach page in
+    let told = c.find_start.ensures.value
+    ∙ sym (ap (λ (s : Selecting). start_or (length text) (answer_by (regex_kind s.regex) (search_for (sought s.regex) (whole text)))) c.self.view_is) in
+    subst (λ n. n ≤ length page) (sym told)
+    (first_inside r page reach (omega (arith, c.min-reach.ensures)) c.min-reach.type_inv (inner.patterns.now.local c.if-not-self.false))
+
+-- nothing that ends before the match of the part that was searched has a match
+pub returns-clause-unselected : goal.returns-clause-unselected
+returns-clause-unselected c = λ start end order near.
+    let inner = c.self.inside in
+    let r = inner.patterns.now.regex in
+    let page = c.args.page.now in
+    let reach = c.min-reach.result in
+    let text = take reach page in
+    let piece = slice_range page start end in
+    let told = c.find_start.ensures.value
+    ∙ sym (ap (λ (s : Selecting). start_or (length text) (answer_by (regex_kind s.regex) (search_for (sought s.regex) (whole text)))) c.self.view_is) in
+    sym (ap (λ (s : Selecting). is_picked s.is_inverted (has_match s.regex piece)) c.self.view_is)
+    ∙ ap (λ b. is_picked b (has_match r piece)) c.if-self.false
+    ∙ unmatched r page reach (omega (arith, c.min-reach.ensures)) c.min-reach.type_inv (inner.patterns.now.local c.if-not-self.false) start end order
+    (subst (λ n. end < n) told near)

@@ -1,0 +1,13 @@
+use Rattle.std.proofs.Common.{◌∙◌, ap, map}
+use Rattle.rc_pattern.specs.Meaning.{meaning}
+use Rattle.rc_settings.specs.Settings.{match_kind_of}
+use Rattle.rcgrep.proofs.LocalLemmas.{built_local}
+use Rattle.rcgrep.proofs.patterns.build.Goals as goal
+
+-- patterns that were found to have no assertion
+pub invariant_of-result : goal.invariant_of-result
+invariant_of-result c = record {
+  local = λ yes.
+      let built = c.in_ok-regex.ensures in
+      ∣ built_local c.in_ok-regex.regex (map meaning c.args.hirs.now) (ap match_kind_of (built.settings ∙ c.builder.ensures.settings)) built.patterns built.buildable.well_formed (c.are_local-is_local.ensures yes) ∣₁;
+}

@@ -1,0 +1,84 @@
+//! The patterns by which lines are selected.
+ghost use Rattle.std.specs.Prelude.{◌≡◌, ◌≤◌, All, IsTrue, length, map, true};
+ghost use Rattle.rc_pattern.specs.Meaning.{meaning};
+ghost use Rattle.rcgrep.specs.Local.{HasNoLook, IsLocalPattern, IsLocalRegex};
+
+use regex_cursor::engines::meta::{BuildError, Regex};
+use regex_cursor::hir::Hir;
+use regex_cursor::syntax::{Config, Error, parse};
+use std::alloc::{AllocFailed, Global};
+
+/// The greatest number of patterns.
+pub const MAX_PATTERNS: usize = 2_147_483_647;
+
+/// Why texts weren't read as patterns.
+#[derive(Clone, Copy)]
+pub enum Unread {
+    /// No pattern is read from the text with this number.
+    Text(usize),
+    /// Memory was refused.
+    Memory,
+}
+
+impl<T: Drop> From<AllocFailed<T>> for Unread {
+    fn from(_: AllocFailed<T>) -> Unread {
+        Unread::Memory
+    }
+}
+
+/// The patterns as which the texts are read.
+pub fn read_patterns(alloc: Global, texts: &[&str], config: &Config) -> Result<Vec<Hir>, Unread> {
+    let mut hirs = Vec::new(alloc);
+    for (number, text) in texts.iter().enumerate() {
+        match parse(alloc, text, config) {
+            Ok(hir) => hirs.push(hir)?,
+            Err(Error::Syntax { .. }) => return Err(Unread::Text(number)),
+            Err(Error::Memory) => return Err(Unread::Memory),
+        }
+    }
+    Ok(hirs)
+}
+
+/// Patterns, built.
+#[derive(Drop)]
+pub struct Patterns {
+    pub regex: Regex,
+    /// No assertion stands in them, and none spells an empty text. So what has a match has one wherever it stands.
+    pub is_local: bool,
+    ghost local: { is_local ≡ true → ∥ IsLocalRegex regex ∥₁ },
+}
+
+/// Builds the patterns.
+pub fn build(alloc: Global, hirs: &[Hir]) -> Result<Patterns, BuildError>
+    requires { length hirs.now ≤ 2147483647 }
+{
+    let regex = Regex::builder().build_many_from_hir(alloc, hirs)?;
+    let is_local = are_local(hirs);
+    Ok(Patterns { regex, is_local })
+}
+
+/// Whether no assertion stands in the pattern.
+fn has_no_look(hir: &Hir) -> bool
+    ensures { IsTrue result → HasNoLook (meaning hir.now) }
+{
+    hir.properties().look_set().iter().next().is_none()
+}
+
+/// Whether no assertion stands in the pattern, and it spells no empty text.
+fn is_local(hir: &Hir) -> bool
+    ensures { IsTrue result → IsLocalPattern (meaning hir.now) }
+{
+    has_no_look(hir) && hir.properties().minimum_len() != Some(0)
+}
+
+/// Whether no assertion stands in any pattern, and none spells an empty text.
+fn are_local(hirs: &[Hir]) -> bool
+    ensures { IsTrue result → All IsLocalPattern (map meaning hirs.now) }
+{
+    for hir in hirs {
+        if !is_local(hir) {
+            return false;
+        }
+    }
+    true
+}
