@@ -92,7 +92,7 @@ pub fn run<W: Sink>(
     ensures short { OnOk result (¬ IsTooLong chunks.now) }
 {
     let regex = Regex::new(alloc, pattern)?;
-    let is_found = run_lent(alloc, &regex, chunks, out);
+    let outcome = run_lent(alloc, &regex, chunks, out);
     drop(regex);
-    is_found
+    outcome
 }
