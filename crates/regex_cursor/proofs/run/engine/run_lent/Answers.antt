@@ -32,4 +32,4 @@ returns-in_err-input-clause-nothing_put g c = put_nothing _ _
 -- the chunks are too long
 pub returns-in_err-input-clause-fault : goal.returns-in_err-input-clause-fault
 returns-in_err-input-clause-fault g c text ok =
-    long_fault _ text c.args.chunks.now (err_is _ TooLong c.from_residual-in_err-input.ensures.1) ok c.in_err-input.ensures.whole
+    long_fault _ text c.args.chunks.now (err_is _ TooLong c.from_residual.ensures.1) ok c.in_err-input.ensures.whole
