@@ -1,4 +1,3 @@
-pub mod EntryLemmas
 pub mod NarrowLemmas
 pub mod SettleLemmas
 pub mod SlotLemmas

@@ -4,7 +4,6 @@
 pub mod cache;
 pub mod early;
 pub mod engines;
-mod entries;
 mod last;
 pub mod laws;
 mod needles;
