@@ -1,3 +1,4 @@
+pub mod EntryLemmas
 pub mod NarrowLemmas
 pub mod SettleLemmas
 pub mod SlotLemmas

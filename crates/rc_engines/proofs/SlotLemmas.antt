@@ -113,12 +113,9 @@ span_told leftmost_longest s m n patterns slots k numbered le e w = cc
 span_told leftmost_first s m n patterns slots k numbered le e w = ap (λ xs. Some xs) w ∙ span_groups s m n patterns numbered le e
 
 -- the groups that the search over the match's span tells are those of the match
-pub narrow_told : (kind : MatchKind) (s t : Search) (m : Found) (p : Option ℕ) (before after : List (Option ℕ)) (n : ℕ) → kind ≡ leftmost_first → t ≡ narrowed s m →
-    answer s ≡ Some m → p ≡ option_map (λ (f : Found). f.pattern) (answer_by kind t) →
-    MatchOption p (after ≡ before) (λ _. Some after ≡ slots_by kind t n) → Some after ≡ groups s n
-narrow_told all_matches s t m p before after n k same e q told = cc
-narrow_told leftmost_longest s t m p before after n k same e q told = cc
-narrow_told leftmost_first s t m p before after n k same e q told =
+pub narrow_told : (s t : Search) (m : Found) (p : Option ℕ) (before after : List (Option ℕ)) (n : ℕ) → t ≡ narrowed s m → answer s ≡ Some m →
+    p ≡ option_map (λ (f : Found). f.pattern) (answer t) → MatchOption p (after ≡ before) (λ _. Some after ≡ groups t n) → Some after ≡ groups s n
+narrow_told s t m p before after n same e q told =
     let there : answer t ≡ Some m = ap answer same ∙ narrow_law.match s m e in
     let some : p ≡ Some m.pattern = q ∙ ap (λ o. option_map (λ (f : Found). f.pattern) o) there in
     let groups_there : Some after ≡ groups t n = subst (λ o. MatchOption o (after ≡ before) (λ _. Some after ≡ groups t n)) some told in

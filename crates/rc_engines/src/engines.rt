@@ -4,7 +4,7 @@ ghost use Rattle.rc_text.specs.Found.{half_of};
 ghost use Rattle.rc_program.specs.Matches.{begin_of, end_of, is_again};
 ghost use Rattle.rc_program.specs.Places.{places_of};
 ghost use Rattle.rc_engines.specs.Needed.{NeedsConfine};
-ghost use Rattle.rc_engines.specs.Slots.{NamesGroups};
+ghost use Rattle.rc_engines.specs.Slots.{IsOfPatterns, NamesGroups};
 ghost use Rattle.rc_engines.specs.Spans.{BoundsWalks};
 ghost use Rattle.rc_engines.specs.Tables.{MayBeLazyFor, MayBeTablesFor};
 
@@ -70,6 +70,7 @@ pub struct Engines {
     ghost fit: { ∥ MayBeTablesFor engine patterns tables ∥₁ },
     ghost lazy_fit: { ∥ MayBeLazyFor engine patterns lazy ∥₁ },
     ghost numbered: { NamesGroups patterns (places_of engine.program.places.items) },
+    ghost programmed: { IsOfPatterns (places_of engine.program.places.items) },
     ghost bound: { BoundsWalks spans (places_of engine.program.places.items) },
     ghost needed: { NeedsConfine needs (places_of engine.program.places.items) engine.program.terminator },
 }

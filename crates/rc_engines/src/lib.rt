@@ -4,6 +4,7 @@
 pub mod cache;
 pub mod early;
 pub mod engines;
+mod entries;
 mod last;
 pub mod laws;
 mod needles;

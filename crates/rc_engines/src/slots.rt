@@ -1,16 +1,17 @@
 //! The slots of a match that is known.
 ghost use Rattle.std.specs.Prelude.{◌≡◌, Some, length};
 ghost use Rattle.rc_text.specs.Text.{Keeps};
-ghost use Rattle.rc_text.specs.declared.types.MatchKind.TheVariants.{LeftmostFirst};
 ghost use Rattle.rc_program.specs.Answer.{answer, groups};
 ghost use Rattle.rc_program.specs.Kinds.{answer_by};
 ghost use Rattle.rc_program.specs.Places.{places_of};
 ghost use Rattle.rc_pass.specs.KindSlots.{slots_by, span_slots};
 ghost use Rattle.rc_engine.specs.Engine.{engine_search, IsEngineCache, IsSameCache};
-ghost use Rattle.rc_engines.specs.Slots.{NamesGroups};
+ghost use Rattle.rc_engines.specs.Slots.{IsOfPatterns, NamesGroups};
 
+use crate::entries::entry_of;
 use rc_engine::engine::Engine;
 use rc_pass::cache::Cache;
+use rc_pass::search::search_slots_from;
 use rc_text::cursor::Cursor;
 use rc_text::input::Input;
 use rc_text::types::{Anchored, Match, MatchKind};
@@ -29,7 +30,8 @@ fn put_span(found: Match, slots: &mut [Option<usize>])
     }
 }
 
-/// The slots of the preferred match, which a pass over its span alone tells. The input's span and anchoring stay.
+/// The slots of the preferred match, which a pass over its span alone tells. It enters at the place of the match's pattern, and so at no other
+/// pattern's. The input's span and anchoring stay.
 fn search_span<C: Cursor>(
     engine: &Engine,
     cache: &mut Cache,
@@ -37,8 +39,8 @@ fn search_span<C: Cursor>(
     found: Match,
     slots: &mut [Option<usize>],
 )
-    requires kind { engine.now.kind ≡ LeftmostFirst }
     requires made { IsEngineCache engine.now (length slots.old) cache.old }
+    requires program { IsOfPatterns (places_of engine.now.program.places.items) }
     requires found { answer (engine_search engine.now input.old) ≡ Some found }
     ensures keeps { Keeps input.old input.new }
     ensures long { length slots.new ≡ length slots.old }
@@ -47,9 +49,11 @@ fn search_span<C: Cursor>(
 {
     let span = input.get_span();
     let anchored = input.get_anchored();
+    let program = &engine.program;
+    let root = entry_of(&program.places, found.pattern().as_usize());
     input.set_range(found.start(), found.end());
     input.set_anchored(Anchored::Pattern(found.pattern()));
-    engine.find_slots(cache, input, slots);
+    search_slots_from(cache, input, program, root, None, slots);
     input.set_anchored(anchored);
     input.set_span(span);
 }
@@ -66,6 +70,7 @@ pub(crate) fn fill_slots<C: Cursor>(
 )
     requires made { IsEngineCache engine.now (length slots.old) cache.old }
     requires numbered { NamesGroups patterns (places_of engine.now.program.places.items) }
+    requires program { IsOfPatterns (places_of engine.now.program.places.items) }
     requires found { answer_by engine.now.kind (engine_search engine.now input.old) ≡ Some found }
     ensures keeps { Keeps input.old input.new }
     ensures long { length slots.new ≡ length slots.old }

@@ -24,10 +24,10 @@ module _ (s : Sight) where
   abbrev Ends : Pair → Type 0
   Ends n = IsTrue (ends s n)
 
-  abbrev tried : Pair → Option (List Pair)
+  abbrev pub tried : Pair → Option (List Pair)
   tried n = walk_by (next_of s) (ends s) (length s.places * (s.hi + 1)) [] n
 
-  tried_finds : (n : Pair) → n.1 ≤ s.hi → Finds (next_of s) Ends [] (n ∷ []) (tried n)
+  pub tried_finds : (n : Pair) → n.1 ≤ s.hi → Finds (next_of s) Ends [] (n ∷ []) (tried n)
   tried_finds n h =
       walk_by_finds (next_of s) (ends s) same_pair (last_pair s) (length s.places) (s.hi + 1) (is_bounded s)
       (length s.places * (s.hi + 1)) [] n (omega arith) tt tt (omega arith)

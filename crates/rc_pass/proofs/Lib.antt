@@ -8,6 +8,7 @@ pub mod NearLemmas
 pub mod NotedLemmas
 pub mod PassLemmas
 pub mod PassingLemmas
+pub mod RootLemmas
 pub mod RowLemmas
 pub mod SightLemmas
 pub mod SearchLemmas

@@ -14,7 +14,7 @@ none_in : (n lo hi : ℕ) (ts : List Thread) → AllIn n lo hi ts → hi < lo �
 none_in n lo hi [] all h = refl
 none_in n lo hi (t ∷ ts) all h = absurd (omega (arith, h, all.0))
 
-no_threads : (ts : List Thread) → length ts ≡ 0 → ts ≡ []
+pub no_threads : (ts : List Thread) → length ts ≡ 0 → ts ≡ []
 no_threads [] e = refl
 no_threads (t ∷ ts) e = absurd (omega arith)
 

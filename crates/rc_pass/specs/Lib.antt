@@ -4,6 +4,7 @@ pub mod Trace
 pub mod Sights
 pub mod Moves
 pub mod Passing
+pub mod Roots
 pub mod Found
 pub mod Caches
 pub mod Windows

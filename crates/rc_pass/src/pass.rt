@@ -8,6 +8,7 @@ ghost use Rattle.rc_literal.specs.Prefilters.{needles_of};
 ghost use Rattle.rc_program.specs.Places.{places_of};
 ghost use Rattle.rc_pass.specs.Near.{IsHere, seen_from, size};
 ghost use Rattle.rc_pass.specs.Moves.{IsSetting, seen_by};
+ghost use Rattle.rc_pass.specs.Roots.{StandsFor};
 ghost use Rattle.rc_pass.specs.Trace.{Trace, done};
 ghost use Rattle.rc_pass.specs.Passing.{Carries, pending, AllIn, AllFrom, count_from, HasRoom, waiting_starts, Pending, IsLined, IsCounted, GivesTrace, Tells, best_of};
 ghost use Rattle.rc_pass.specs.Scratches.{IsSame};
@@ -76,10 +77,46 @@ fn step(spot: &Spot, curr: &Threads, growth: &mut Growth) -> Option<(usize, usiz
     None
 }
 
+/// Lets a thread set out at the spot, where `is_open` and the spot is no later than the last start, and none is under way. It enters at the
+/// place `root`, which stands for place 0. The rest is as in `step`.
+fn set_out(spot: &Spot, root: usize, is_open: bool, growth: &mut Growth) -> Option<(usize, usize)>
+    ghost text: { Searched }
+    requires here { IsHere spot.now text }
+    requires empty { (growth.old.threads.items ≡ []) × (growth.old.entered.items ≡ []) }
+    requires capacity { growth.old.entered.capacity ≡ size spot.now.course }
+    requires room { size spot.now.course ≤ growth.old.threads.room }
+    requires root { root < size spot.now.course }
+    requires stands { StandsFor (seen_from spot.now text) root }
+    ensures carries { (best o : Option Trace)
+        → MatchOption result
+        (Carries (seen_from spot.now text) spot.now.at growth.new.threads.items growth.new.entered.items
+        (waiting_starts is_open growth.old.threads.width (spot.now.at + 1) spot.now.course.last) best o)
+        (λ r. Carries (seen_from spot.now text) spot.now.at growth.new.threads.items growth.new.entered.items []
+        (Some (done r.0 r.1 spot.now.at growth.new.slots.items)) o)
+        → Carries (seen_from spot.now text) spot.now.at [] [] (waiting_starts is_open growth.old.threads.width spot.now.at spot.now.course.last) best o }
+    ensures sound { HasRoom (size spot.now.course) spot.now.course.hi spot.now.at growth.new.threads growth.new.entered }
+    ensures same { (growth.new.threads.room ≡ growth.old.threads.room) × (growth.new.threads.most ≡ growth.old.threads.most)
+        × (growth.new.threads.width ≡ growth.old.threads.width) }
+    ensures counts { (q : ℕ) → count_from q growth.new.threads.items ≤ length growth.new.entered.items }
+    ensures begun { (x : ℕ) → x ≤ spot.now.at → AllFrom x growth.new.threads.items }
+    ensures ended { MatchOption result ⊤ (λ r. (0 < length growth.new.entered.items) × ((x : ℕ) → x ≤ spot.now.at → x ≤ r.1)) }
+{
+    if !is_open || spot.at > spot.course.last {
+        return None;
+    }
+    empty(&mut growth.slots);
+    if let Some(number) = close(spot, root, spot.at, growth) {
+        return Some((number, spot.at));
+    }
+    None
+}
+
 /// Lets the threads of `curr` go on at the spot, and after them, where `is_open` and the spot is no
-/// later than the last start, a new thread set out there. The rest is as in `step`.
+/// later than the last start, a new thread set out there; where it is the only one, it enters at the place `root`, which stands for
+/// place 0. The rest is as in `step`.
 fn advance(
     spot: &Spot,
+    root: usize,
     is_open: bool,
     curr: &Threads,
     growth: &mut Growth,
@@ -91,6 +128,8 @@ fn advance(
     requires empty { (growth.old.threads.items ≡ []) × (growth.old.entered.items ≡ []) }
     requires capacity { growth.old.entered.capacity ≡ size spot.now.course }
     requires room { count_from (spot.now.at + 1) curr.now.items + size spot.now.course ≤ growth.old.threads.room }
+    requires root { root < size spot.now.course }
+    requires stands { StandsFor (seen_from spot.now text) root }
     ensures carries { (best o : Option Trace)
         → MatchOption result
         (Carries (seen_from spot.now text) spot.now.at growth.new.threads.items growth.new.entered.items
@@ -107,6 +146,9 @@ fn advance(
     ensures ended { MatchOption result ⊤
         (λ r. (0 < length growth.new.entered.items) × ((x : ℕ) → x ≤ spot.now.at → AllFrom x curr.now.items → x ≤ r.1)) }
 {
+    if curr.len() == 0 {
+        return set_out(spot, root, is_open, growth);
+    }
     if let Some(end) = step(spot, curr, growth) {
         return Some(end);
     }
@@ -130,7 +172,7 @@ fn empty(slots: &mut Vec<Option<usize>>)
 
 /// One position of a pass: lets the threads go on, counts the places entered, and answers the best
 /// walk that has ended so far, with its slots in `found`.
-fn turn(spot: &Spot, best: Option<Ending>, scratch: &mut Scratch) -> Option<Ending>
+fn turn(spot: &Spot, root: usize, best: Option<Ending>, scratch: &mut Scratch) -> Option<Ending>
     ghost text: { Searched }
     requires here { IsHere spot.now text }
     requires made { scratch.old.next.entered.capacity ≡ size spot.now.course }
@@ -138,6 +180,8 @@ fn turn(spot: &Spot, best: Option<Ending>, scratch: &mut Scratch) -> Option<Endi
         scratch.old.curr }
     requires counted { IsCounted scratch.old.insertions best }
     requires small { scratch.old.insertions + size spot.now.course < 2 ^ 128 }
+    requires root { root < size spot.now.course }
+    requires stands { StandsFor (seen_from spot.now text) root }
     ensures carries { (o : Option Trace)
         → Pending (seen_from spot.now text) scratch.old.next.threads.width spot.now.course.last (spot.now.at + 1) scratch.new.curr.items
         result scratch.new.found.items o
@@ -150,7 +194,7 @@ fn turn(spot: &Spot, best: Option<Ending>, scratch: &mut Scratch) -> Option<Endi
     ensures few { scratch.new.insertions ≤ scratch.old.insertions + size spot.now.course }
 {
     scratch.next.clear();
-    let end = advance(spot, best.is_none(), &scratch.curr, &mut scratch.next);
+    let end = advance(spot, root, best.is_none(), &scratch.curr, &mut scratch.next);
     scratch.finish();
     if let Some((number, start)) = end {
         scratch.found.copy_from_slice(&scratch.next.slots);
@@ -220,6 +264,7 @@ fn next_position<C: Cursor>(
 /// A place is entered once at a position, and `insertions` says how many were. With a prefilter,
 /// starts at which no needle stands are left out, as far as no thread is alive there. With `earliest`
 /// it is only told whether some start has a walk: the pass ends at the first position at which one ends.
+#[tactic(auto, using(crate::proofs::RootLemmas::stands_itself))]
 pub fn pass<C: Cursor>(
     input: &mut Input<C>,
     course: Course,
@@ -243,6 +288,36 @@ pub fn pass<C: Cursor>(
     ensures few { scratch.new.insertions ≤ size course.entry * (course.entry.hi - from + 1) }
     ensures same { IsSame scratch.old scratch.new }
 {
+    pass_from(input, course, 0, prefilter, from, earliest, scratch)
+}
+
+/// As `pass`, where a thread that sets out while no other is under way enters at the place `root`, which stands for place 0.
+pub(crate) fn pass_from<C: Cursor>(
+    input: &mut Input<C>,
+    course: Course,
+    root: usize,
+    prefilter: Option<&Prefilter>,
+    from: usize,
+    earliest: bool,
+    scratch: &mut Scratch,
+) -> Option<Ending>
+    ghost text: { Searched }
+    requires same { Keeps text input.old }
+    requires setting { IsSetting course text }
+    requires guarded { MatchOption prefilter ⊤
+        (λ p. Guards (places_of course.program.now.places.items) course.program.now.terminator (needles_of p.now)) }
+    requires bounds { (low text ≤ from) × (from ≤ course.last) }
+    requires made { scratch.old.next.entered.capacity ≡ size course }
+    requires root { root < size course }
+    requires stands { StandsFor (seen_by course text) root }
+    ensures keeps { Keeps input.old input.new }
+    ensures gives { earliest ≡ false → GivesTrace (seen_by course.entry text) scratch.old.next.threads.width from course.entry.last
+        (best_of result scratch.new.found.items) }
+    ensures tells { Tells (seen_by course.entry text) from course.entry.last result }
+    ensures counted { IsCounted scratch.new.insertions result }
+    ensures few { scratch.new.insertions ≤ size course.entry * (course.entry.hi - from + 1) }
+    ensures same { IsSame scratch.old scratch.new }
+{
     let mut best: Option<Ending> = None;
     scratch.insertions = 0;
     scratch.curr.clear(scratch.next.slots.len());
@@ -255,7 +330,7 @@ pub fn pass<C: Cursor>(
         };
         at = next_at;
         reach(&mut window, input, at);
-        best = turn(&spot_at(course, &window, at), best, scratch);
+        best = turn(&spot_at(course, &window, at), root, best, scratch);
         if earliest && best.is_some() {
             return best;
         }

@@ -12,11 +12,12 @@ ghost use Rattle.rc_literal.specs.Prefilters.{needles_of};
 ghost use Rattle.rc_program.specs.Places.{places_of};
 ghost use Rattle.rc_pass.specs.Passing.{IsCounted};
 ghost use Rattle.rc_pass.specs.Found.{IsResult};
+ghost use Rattle.rc_pass.specs.Roots.{StandsIn};
 ghost use Rattle.rc_pass.specs.Caches.{IsCacheFor};
 ghost use Rattle.rc_pass.specs.Scratches.{IsSame};
 
 use crate::cache::Cache;
-use crate::pass::{Ending, pass};
+use crate::pass::{Ending, pass, pass_from};
 use crate::scratch::Scratch;
 use crate::spot::Course;
 use rc_literal::prefilter::Prefilter;
@@ -65,15 +66,18 @@ pub(crate) fn put_match(end: Ending, slots: &mut [Option<usize>])
 }
 
 /// The walk that a search of the input chooses, with its slots in `found`: the pass over the starts
-/// is made again from the next start, as long as what it found is passed over.
+/// is made again from the next start, as long as what it found is passed over. Walks enter at the place `root`, which stands for place 0.
 fn choose<C: Cursor>(
     input: &mut Input<C>,
     program: &Program,
+    root: usize,
     prefilter: Option<&Prefilter>,
     scratch: &mut Scratch,
 ) -> Option<Ending>
     requires guarded { MatchOption prefilter ⊤ (λ p. Guards (places_of program.now.places.items) program.now.terminator (needles_of p.now)) }
     requires made { scratch.old.next.entered.capacity ≡ length program.now.places.items }
+    requires root { root < length program.now.places.items }
+    requires stands { StandsIn (search_of program.now input.old) root }
     ensures keeps { Keeps input.old input.new }
     ensures chosen { IsResult (search_of program.now input.old) result scratch.new.found.items }
     ensures counted { IsCounted scratch.new.insertions result }
@@ -96,7 +100,7 @@ fn choose<C: Cursor>(
     };
     let mut from = lo;
     'starts: while from <= last {
-        let Some(end) = pass(input, course, prefilter, from, false, scratch) else {
+        let Some(end) = pass_from(input, course, root, prefilter, from, false, scratch) else {
             return None;
         };
         if !program.passes_over {
@@ -115,11 +119,14 @@ fn choose_in<C: Cursor>(
     cache: &mut Cache,
     input: &mut Input<C>,
     program: &Program,
+    root: usize,
     prefilter: Option<&Prefilter>,
     slots: &mut [Option<usize>],
 ) -> Option<Ending>
     requires guarded { MatchOption prefilter ⊤ (λ p. Guards (places_of program.now.places.items) program.now.terminator (needles_of p.now)) }
     requires made { IsCacheFor (length program.now.places.items) (length slots.old) cache.old }
+    requires root { root < length program.now.places.items }
+    requires stands { StandsIn (search_of program.now input.old) root }
     ensures keeps { Keeps input.old input.new }
     ensures chosen { IsResult (search_of program.now input.old) result slots.new }
     ensures stays { IfNone result (slots.new ≡ slots.old) }
@@ -129,7 +136,7 @@ fn choose_in<C: Cursor>(
     ensures none { high input.old < low input.old → cache.new.insertions ≡ 0 }
 {
     cache.scratch.widen(slots.len());
-    if let Some(end) = choose(input, program, prefilter, &mut cache.scratch) {
+    if let Some(end) = choose(input, program, root, prefilter, &mut cache.scratch) {
         slots.copy_from_slice(&cache.scratch.found);
         return Some(end);
     }
@@ -164,7 +171,36 @@ pub fn search_slots<C: Cursor>(
     ensures counted { (m : Found) → answer (search_of program.now input.old) ≡ Some m
         → m.end - m.start + 1 ≤ cache.new.insertions }
 {
-    let Some(end) = choose_in(cache, input, program, prefilter, slots) else {
+    search_slots_from(cache, input, program, 0, prefilter, slots)
+}
+
+/// As `search_slots`, where walks may enter at the place `root` as well as at place 0, since the first walk from the one is, after choices, the
+/// first from the other. So a search for one pattern alone enters at that pattern's own place, and no thread sets out for another.
+pub fn search_slots_from<C: Cursor>(
+    cache: &mut Cache,
+    input: &mut Input<C>,
+    program: &Program,
+    root: usize,
+    prefilter: Option<&Prefilter>,
+    slots: &mut [Option<usize>],
+) -> Option<PatternID>
+    requires guarded { MatchOption prefilter ⊤ (λ p. Guards (places_of program.now.places.items) program.now.terminator (needles_of p.now)) }
+    requires made { IsCacheFor (length program.now.places.items) (length slots.old) cache.old }
+    requires root { root < length program.now.places.items }
+    requires stands { StandsIn (search_of program.now input.old) root }
+    ensures keeps { Keeps input.old input.new }
+    ensures pattern { result ≡ option_map (λ (m : Found). m.pattern) (answer (search_of program.now input.old)) }
+    ensures long { length slots.new ≡ length slots.old }
+    ensures slots { MatchOption result
+        (slots.new ≡ slots.old)
+        (λ _. Some slots.new ≡ groups (search_of program.now input.old) (length slots.old)) }
+    ensures cache { cache.new ≡ record cache.old { insertions = cache.new.insertions } }
+    ensures none { high input.old < low input.old → cache.new.insertions ≡ 0 }
+    ensures few { cache.new.insertions ≤ length program.now.places.items * (high input.old - low input.old + 2) }
+    ensures counted { (m : Found) → answer (search_of program.now input.old) ≡ Some m
+        → m.end - m.start + 1 ≤ cache.new.insertions }
+{
+    let Some(end) = choose_in(cache, input, program, root, prefilter, slots) else {
         return None;
     };
     put_match(end, slots);
@@ -195,7 +231,7 @@ pub fn find<C: Cursor>(
     ensures few { cache.new.insertions ≤ length program.now.places.items * (high input.old - low input.old + 2) }
     ensures counted { MatchOption result ⊤ (λ m. m.end - m.start + 1 ≤ cache.new.insertions) }
 {
-    let Some(end) = choose_in(cache, input, program, prefilter, &mut []) else {
+    let Some(end) = choose_in(cache, input, program, 0, prefilter, &mut []) else {
         return None;
     };
     let Some(pattern) = PatternID::new(end.pattern) else {

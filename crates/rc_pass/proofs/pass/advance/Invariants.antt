@@ -5,3 +5,6 @@ ghost-step g a = g.text
 
 abbrev pub ghost-close : goal.ghost-close
 ghost-close g a = g.text
+
+abbrev pub ghost-set_out : goal.ghost-set_out
+ghost-set_out g a = g.text

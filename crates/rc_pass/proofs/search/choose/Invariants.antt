@@ -17,5 +17,5 @@ invariant-starts g l = record {
 abbrev pub decreases-starts : goal.decreases-starts
 decreases-starts g l = l.last + 1 - l.from
 
-abbrev pub ghost-pass : goal.ghost-pass
-ghost-pass g a = a.input.now
+abbrev pub ghost-pass_from : goal.ghost-pass_from
+ghost-pass_from g a = a.input.now

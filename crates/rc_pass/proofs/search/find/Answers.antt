@@ -2,7 +2,11 @@ use Rattle.std.proofs.Common.{◌∙◌, sym, ap, Some}
 use Rattle.rc_text.specs.Found.{Found}
 use Rattle.rc_program.specs.Programs.{search_of}
 use Rattle.rc_pass.proofs.SearchLemmas.{answer_none, answer_is, within}
+use Rattle.rc_pass.proofs.RootLemmas.{itself_in}
 use Rattle.rc_pass.proofs.search.find.Goals as goal
+
+pub choose_in-requires-clause-stands : goal.choose_in-requires-clause-stands
+choose_in-requires-clause-stands g c = itself_in (search_of c.args.program.now c.args.input.now)
 
 pub returns-in_default-clause-found : goal.returns-in_default-clause-found
 returns-in_default-clause-found g c =

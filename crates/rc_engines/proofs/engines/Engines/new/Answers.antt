@@ -4,6 +4,9 @@ use Rattle.rc_engines.proofs.engines.Engines.new.Goals as goal
 pub invariant_of-result-clause-numbered : goal.invariant_of-result-clause-numbered
 invariant_of-result-clause-numbered g c = names_groups c.args.engine c.args.patterns g.hs c.requires.1.1.0 c.requires.1.1.1.0
 
+pub invariant_of-result-clause-programmed : goal.invariant_of-result-clause-programmed
+invariant_of-result-clause-programmed g c = ∣ (g.hs, c.requires.1.1.0) ∣₁
+
 pub returns-clause-barred : goal.returns-clause-barred
 returns-clause-barred g c = c.in_ok-tables.ensures.barred
 

@@ -8,9 +8,9 @@ use Rattle.rc_pass.specs.Passing.{Pending, IsLined, IsPassing}
 use Rattle.rc_pass.proofs.KeptLemmas.{kept_back, kept_then, kept_seen_by, kept_window, kept_begun, kept_around, begun_from, begun_later}
 use Rattle.rc_pass.proofs.PassingLemmas.{GoesOn, counts_fit, counted_at_last, passing_begins, passing_goes_on, passing_gives_up, passing_turns, passing_stops, passing_ends}
 use Rattle.rc_pass.proofs.EarlyLemmas.{early_tells_if, whole_tells}
-use Rattle.rc_pass.proofs.pass.pass.Given.{Over}
-use Rattle.rc_pass.proofs.pass.pass.Goals as goal
-use Rattle.rc_pass.proofs.pass.pass.Goals.{After-next_position, After-turn-best}
+use Rattle.rc_pass.proofs.pass.pass_from.Given.{Over}
+use Rattle.rc_pass.proofs.pass.pass_from.Goals as goal
+use Rattle.rc_pass.proofs.pass.pass_from.Goals.{After-next_position, After-turn-best}
 
 -- the pass has come to the next position
 moved : (g : Over) (c : After-next_position g) (x : ℕ) →
@@ -59,7 +59,7 @@ positions-init g c = record {
       (let w = ap (λ (l : ThreadList). l.width) c.clear.ensures in
       omega (arith, w, c.len.ensures, c.args.scratch.now.next.wide.0, c.args.scratch.now.next.slots.ok.0))
       (ap (λ (l : ThreadList). l.room) c.clear.ensures ∙ c.args.scratch.now.alike.0 ∙ c.args.scratch.now.next.fits.0
-      ∙ ap (λ n. 4 * n) c.requires.1.1.1.1.1)
+      ∙ ap (λ n. 4 * n) c.requires.1.1.1.1.1.0)
       c.requires.1.1.1.1.0.1 c.args.course.ordered;
   same = record { capacity = refl; most = refl; width = refl };
 }
@@ -141,15 +141,21 @@ turn-best-requires g c =
     let here = moved g (goal.at.turn-best-requires g c).After-next_position at on in (
       c.spot_at.ensures.here,
       (
-        inv.same.capacity ∙ c.requires.1.1.1.1.1 ∙ sym (ap size c.spot_at.ensures.course),
+        inv.same.capacity ∙ c.requires.1.1.1.1.1.0 ∙ sym (ap size c.spot_at.ensures.course),
         (
           rw (c.spot_at.ensures.course, c.spot_at.ensures.at)
               (subst (λ w. IsLined (size c.args.course) c.args.course.hi w at c.positions.scratch.insertions c.positions.scratch.curr) (sym inv.same.width) here.lined),
           (
             here.ended,
-            rw c.spot_at.ensures.course (counts_fit (size c.args.course) (at - c.args.from) c.positions.scratch.insertions
-                (omega (arith, c.args.scratch.now.next.stack.small, c.args.scratch.now.next.fits.1, c.requires.1.1.1.1.1))
-                (omega (arith, c.args.course.small, on.1)) here.few),
+            (
+              rw c.spot_at.ensures.course (counts_fit (size c.args.course) (at - c.args.from) c.positions.scratch.insertions
+                  (omega (arith, c.args.scratch.now.next.stack.small, c.args.scratch.now.next.fits.1, c.requires.1.1.1.1.1.0))
+                  (omega (arith, c.args.course.small, on.1)) here.few),
+              (
+                rw c.spot_at.ensures.course c.requires.1.1.1.1.1.1.0,
+                rw c.spot_at.ensures.course c.requires.1.1.1.1.1.1.1,
+              ),
+            ),
           ),
         ),
       ),
