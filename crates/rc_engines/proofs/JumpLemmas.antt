@@ -1,9 +1,9 @@
 -- From needle to needle, where any match is enough.
-use Rattle.std.proofs.Common.{◌≡◌, ◌∙◌, ℕ, ◌<◌, ◌≤◌, ◌&&◌, Bool, true, false, true≢false, List, Option, Some, None, Result, Ok, Err, IfOk, IfSome, IsTrue, not, nat_lt, nat_le, max, if◌then◌else◌, sym, subst, ap, ap₂, refl, arith}
+use Rattle.std.proofs.Common.{◌≡◌, ◌∙◌, ℕ, ◌<◌, ◌≤◌, ◌&&◌, Bool, true, false, true≢false, List, Option, Some, None, Result, Ok, Err, IfOk, IsTrue, not, nat_lt, nat_le, if◌then◌else◌, sym, subst, ap, ap₂, refl, arith}
 use Rattle.std.proofs.lemmas.Bool.{and_parts, ltb-true, leb-true}
 use Rattle.std.proofs.lemmas.Option.{none-some}
 use Rattle.rc_text.specs.Found.{Found}
-use Rattle.rc_text.specs.Text.{Searched, Keeps, KeepsText, low, high}
+use Rattle.rc_text.specs.Text.{Searched, Keeps, low, high}
 use Rattle.rc_text.specs.declared.types.Anchored.TheVariants.{No}
 use Rattle.rc_text.specs.declared.types.MatchError.{MatchError}
 use Rattle.rc_text.specs.declared.types.MatchKind.TheVariants.{LeftmostFirst}
@@ -33,6 +33,7 @@ use Rattle.rc_spans.specs.Rests.{GivesToo, StartsGive}
 use Rattle.rc_spans.proofs.LegLemmas.{free_case}
 use Rattle.rc_spans.proofs.NeedleLemmas as needle
 use Rattle.rc_spans.proofs.RestLemmas.{rest_law}
+use Rattle.rc_spans.proofs.ToldLemmas.{kept_search}
 use Rattle.rc_engines.proofs.EarlyLemmas.{spelled_may}
 use Rattle.rc_engines.specs.Jumps.{ComesOn, GoesEarly, Tells, idle_leg, leg_of}
 use Rattle.rc_engines.specs.declared.needles.Leg.{Leg}
@@ -139,24 +140,6 @@ module _ (s : Search) (free : s.anchoring ≡ anywhere) (x : ℕ) (low : s.lo �
 
 -- THE MATCH
 
--- the search of an input whose span starts later
-later_input : (aim : Aim) (hs : List Re) (terminator : ℕ) (s t u : Searched) (from : ℕ) → low s ≤ from → Keeps s t → KeepsText t u → u.span.start ≡ from →
-    u.span.end ≡ t.span.end → u.slice ≡ t.slice → search_for aim hs terminator u ≡ record (search_for aim hs terminator s) { lo = from }
-later_input aim hs terminator s t u from low keeps k start stop slice =
-    let begun : ℕ → Search = λ lo. record (search_for aim hs terminator s) { lo = lo } in
-    let lo : max from s.slice.start ≡ from = omega (arith, low) in
-    rw (k.content, k.anchored, slice, start, stop, keeps.content, keeps.anchored, keeps.span, keeps.slice) (ap begun lo)
-
--- what lies between its bounds lies between all
-pub later_lies : (s t u : Searched) (from : ℕ) (o : Option Found) → low s ≤ from → Keeps s t → KeepsText t u → u.span.start ≡ from → u.span.end ≡ t.span.end → u.slice ≡ t.slice →
-    IfSome o (λ m. (low u ≤ m.start) × (m.start ≤ m.end) × (m.end ≤ high u)) → IfSome o (λ m. (low s ≤ m.start) × (m.start ≤ m.end) × (m.end ≤ high s))
-later_lies s t u from None low keeps k start stop slice h = tt
-later_lies s t u from (Some m) above keeps k start stop slice h =
-    let same_high : high u ≡ high s = rw (k.content, slice, stop, keeps.content, keeps.span, keeps.slice) refl in
-    let begun : from ≤ low u = omega (arith, start) in
-    let first = h.0 in let last = h.2 in
-    (omega (arith, above, begun, first), h.1, omega (arith, last, same_high))
-
 module _ (AreOf : Machine → Machine → Type 0) (aim : Aim) (hs : List Re) (terminator : ℕ) (of : AreHalvesOf AreOf aim hs terminator) (s : Searched)
     (goes : GoesEarly aim s.anchored) where
   abbrev S : Search
@@ -202,9 +185,8 @@ module _ (AreOf : Machine → Machine → Type 0) (aim : Aim) (hs : List Re) (te
           (λ z a b. no_walk_on S (ap anchoring_of goes.free) from (omega (arith, above, is_lo)) none z a (omega (arith, b)))))
 
       -- what is told from there on is told
-      pub told_on : (t u : Searched) (r : Result (Option Found) MatchError) → Keeps s t → KeepsText t u → u.span.start ≡ from → u.span.end ≡ t.span.end → u.slice ≡ t.slice →
-          IfOk r (IsAnswerBy aim.kind aim.earliest (search_for aim hs terminator u)) → IfOk r (IsAnswerBy aim.kind aim.earliest S)
-      told_on t u (Err e) keeps k start stop slice h = tt
-      told_on t u (Ok o) keeps k start stop slice h =
-          answers_on o (subst (λ x. IsAnswerBy aim.kind aim.earliest x o)
-          (later_input aim hs terminator s t u from (omega (arith, above, is_lo)) keeps k start stop slice) h)
+      pub told_on : (t : Searched) (r : Result (Option Found) MatchError) → Keeps s t →
+          IfOk r (IsAnswerBy aim.kind aim.earliest (record (search_for aim hs terminator t) { lo = from })) → IfOk r (IsAnswerBy aim.kind aim.earliest S)
+      told_on t (Err e) keeps h = tt
+      told_on t (Ok o) keeps h =
+          answers_on o (subst (λ (q : Search). IsAnswerBy aim.kind aim.earliest (record q { lo = from }) o) (kept_search aim hs terminator s t keeps) h)

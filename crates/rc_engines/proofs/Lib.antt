@@ -11,3 +11,4 @@ pub mod KeptLemmas
 pub mod PatternLemmas
 pub mod EarlyLemmas
 pub mod JumpLemmas
+pub mod FirstLemmas

@@ -1,5 +1,6 @@
 pub mod Caches
 pub mod Early
+pub mod Firsts
 pub mod Jumps
 pub mod Limits
 pub mod Makes

@@ -9,6 +9,7 @@ ghost use Rattle.rc_engines.specs.Spans.{BoundsWalks};
 ghost use Rattle.rc_engines.specs.Tables.{MayBeLazyFor, MayBeTablesFor};
 
 use crate::cache::Cache;
+use crate::first::find_first;
 use crate::last::find_greatest_from_end;
 use crate::needles::find_early_guarded;
 use crate::route::{Route, Way};
@@ -24,6 +25,7 @@ use rc_engine::strategy::guards_of;
 use rc_guards::guard::{Guard, Needs};
 use rc_lazy::lazy;
 use rc_lazy::lazy::Lazy;
+use rc_literal::prefilter::Prefilter;
 use rc_pass::which::which_patterns;
 use rc_patterns::sets::PatternSet;
 use rc_spans::guarded::{find_end_guarded, find_guarded};
@@ -81,6 +83,9 @@ impl Engines {
     ghost use Rattle.rc_text.specs.Found.{Found, half_of};
     ghost use Rattle.rc_pattern.specs.Re.{Re};
     ghost use Rattle.rc_engine.specs.Walks.{next_start};
+    ghost use Rattle.rc_guards.specs.Guard.{IsGuard};
+    ghost use Rattle.rc_literal.specs.Guards.{Guards};
+    ghost use Rattle.rc_literal.specs.Prefilters.{needles_of};
     ghost use Rattle.rc_captures.specs.Captures.{captures_names, captures_pattern, captures_slots};
     ghost use Rattle.rc_engine.specs.Tells.{TellsBy};
     ghost use Rattle.rc_pass.specs.KindSlots.{slots_by};
@@ -225,45 +230,7 @@ impl Engines {
             Route::OfLength(length, guard) => {
                 self.find_of_length(halves, cache, input, length, guard)
             }
-            Route::Along(guard) => self.find_past_quit(halves, cache, input, guard),
-        }
-    }
-
-    /// The match that `find_along` tells. Where tables quit and nothing guards the search, it goes once more, from needle to needle by those that
-    /// are sought slowly. An `Err` says why they tell none.
-    #[inline(always)]
-    fn find_past_quit<H: Halves, C: Cursor>(
-        &self,
-        halves: &H,
-        cache: &mut H::Cache,
-        input: &mut Input<C>,
-        guard: Option<Guard>,
-    ) -> Result<Option<Match>, MatchError>
-        requires own { ∥ AreHalvesFor self.now.engine self.now.patterns (H.AreOf halves.now) ∥₁ }
-        requires cache { H.IsCache halves.now cache.old }
-        requires guards { MayGuard self.now.engine guard }
-        ensures cache { H.IsCache halves.now cache.new }
-        ensures keeps { Keeps input.old input.new }
-        ensures found { IfOk result (λ found. found ≡ answer_by self.now.engine.kind (engine_search self.now.engine input.old)) }
-        ensures within { IfOk result (λ found. IfSome found (λ m. (low input.old ≤ m.start) × (m.start ≤ m.end) × (m.end ≤ high input.old))) }
-    {
-        match self.find_along(halves, cache, input, guard) {
-            Ok(found) => Ok(found),
-            Err(MatchError::GaveUp { offset, memory }) => {
-                return Err(MatchError::GaveUp { offset, memory });
-            }
-            Err(MatchError::Quit { byte, offset }) => {
-                // From needle to needle fewer bytes are read, and so fewer that tables don't read.
-                if guard.is_some() {
-                    return Err(MatchError::Quit { byte, offset });
-                }
-                let Some(needles) = guards_of(&self.engine.strategy) else {
-                    return Err(MatchError::Quit { byte, offset });
-                };
-                let slow = Some(Guard::Begins(needles));
-                let found = self.find_along(halves, cache, input, slow)?;
-                Ok(found)
-            }
+            Route::Along(guard) => self.find_along(halves, cache, input, guard),
         }
     }
 
@@ -284,10 +251,63 @@ impl Engines {
         ensures found { IfOk result (λ found. found ≡ answer_by self.now.engine.kind (engine_search self.now.engine input.old)) }
         ensures within { IfOk result (λ found. IfSome found (λ m. (low input.old ≤ m.start) × (m.start ≤ m.end) × (m.end ≤ high input.old))) }
     {
-        let aim = self.aim();
-        match guard {
-            Some(guard) => find_guarded(halves, cache, input, aim, guard),
-            None => search::find(halves, cache, input, aim),
+        if let Some(guard) = guard {
+            return self.find_by_guard(halves, cache, input, guard);
+        }
+        match guards_of(&self.engine.strategy) {
+            Some(needles) => self.find_past_quit(halves, cache, input, needles),
+            None => search::find(halves, cache, input, self.aim()),
+        }
+    }
+
+    /// The match that the tables tell from needle to needle. An `Err` says why they tell none.
+    #[inline(always)]
+    fn find_by_guard<H: Halves, C: Cursor>(
+        &self,
+        halves: &H,
+        cache: &mut H::Cache,
+        input: &mut Input<C>,
+        guard: Guard,
+    ) -> Result<Option<Match>, MatchError>
+        requires own { ∥ AreHalvesFor self.now.engine self.now.patterns (H.AreOf halves.now) ∥₁ }
+        requires cache { H.IsCache halves.now cache.old }
+        requires guards { IsGuard (places_of self.now.engine.program.places.items) self.now.engine.program.terminator guard }
+        ensures cache { H.IsCache halves.now cache.new }
+        ensures keeps { Keeps input.old input.new }
+        ensures found { IfOk result (λ found. found ≡ answer_by self.now.engine.kind (engine_search self.now.engine input.old)) }
+        ensures within { IfOk result (λ found. IfSome found (λ m. (low input.old ≤ m.start) × (m.start ≤ m.end) × (m.end ≤ high input.old))) }
+    {
+        find_guarded(halves, cache, input, self.aim(), guard)
+    }
+
+    /// The match that the tables tell where each walk begins with a needle: it is sought where the first may begin, and then along. Where the
+    /// tables quit, they go once more, from needle to needle: fewer bytes are read then, and so fewer that they don't read. An `Err` says why
+    /// they tell none.
+    #[inline(always)]
+    fn find_past_quit<H: Halves, C: Cursor>(
+        &self,
+        halves: &H,
+        cache: &mut H::Cache,
+        input: &mut Input<C>,
+        needles: &Prefilter,
+    ) -> Result<Option<Match>, MatchError>
+        requires own { ∥ AreHalvesFor self.now.engine self.now.patterns (H.AreOf halves.now) ∥₁ }
+        requires cache { H.IsCache halves.now cache.old }
+        requires guards { Guards (places_of self.now.engine.program.places.items) self.now.engine.program.terminator (needles_of needles.now) }
+        ensures cache { H.IsCache halves.now cache.new }
+        ensures keeps { Keeps input.old input.new }
+        ensures found { IfOk result (λ found. found ≡ answer_by self.now.engine.kind (engine_search self.now.engine input.old)) }
+        ensures within { IfOk result (λ found. IfSome found (λ m. (low input.old ≤ m.start) × (m.start ≤ m.end) × (m.end ≤ high input.old))) }
+    {
+        match find_first(halves, cache, input, self.aim(), needles) {
+            Ok(found) => Ok(found),
+            Err(MatchError::GaveUp { offset, memory }) => {
+                return Err(MatchError::GaveUp { offset, memory });
+            }
+            Err(MatchError::Quit { .. }) => {
+                let found = self.find_by_guard(halves, cache, input, Guard::Begins(needles))?;
+                Ok(found)
+            }
         }
     }
 
@@ -369,7 +389,7 @@ impl Engines {
         }
     }
 
-    /// The end of the match that `find_past_quit` tells, and its pattern. The preferred one is told by searches forwards alone.
+    /// The end of the match that `find_along` tells, and its pattern. The preferred one is told by searches forwards alone.
     fn find_end_along<H: Halves, C: Cursor>(
         &self,
         halves: &H,
@@ -388,7 +408,7 @@ impl Engines {
         match self.engine.kind {
             MatchKind::LeftmostFirst => self.find_first_end(halves, cache, input, guard),
             MatchKind::All | MatchKind::LeftmostLongest => {
-                Ok(half_of(self.find_past_quit(halves, cache, input, guard)?))
+                Ok(half_of(self.find_along(halves, cache, input, guard)?))
             }
         }
     }

@@ -5,6 +5,7 @@ pub mod cache;
 pub mod early;
 pub mod engines;
 mod entries;
+mod first;
 mod last;
 pub mod laws;
 mod needles;

@@ -11,6 +11,7 @@ ghost use Rattle.rc_spans.specs.Legs.{GoesByNeedles};
 ghost use Rattle.rc_spans.specs.Rests.{GivesToo, StartsGive};
 ghost use Rattle.rc_engines.specs.Jumps.{ComesOn, GoesEarly, Tells, idle_leg, leg_of, met_leg};
 
+use crate::first::find_later;
 use rc_automaton::ended::{Ended, Met};
 use rc_automaton::halves::Halves;
 use rc_guards::guard::{Guard, next_start};
@@ -162,11 +163,7 @@ fn find_by_needles<H: Halves, C: Cursor>(
     let Some(from) = start_by_needles(halves, cache, input, guard, lo, hi)? else {
         return Ok(None);
     };
-    let span = input.get_span();
-    input.set_start(from);
-    let found = find(halves, cache, input, aim);
-    input.set_span(span);
-    found
+    find_later(halves, cache, input, aim, from)
 }
 
 /// The match that `find` finds, by needles that guard the patterns: each match begins with one of them, or holds one. A search that isn't anchored goes

@@ -37,7 +37,7 @@ enum Leg {
 
 /// Whether a search goes from needle to needle: it isn't anchored, and seeks the preferred match alone, none of which is passed over.
 #[inline(always)]
-fn goes_by_needles(aim: Aim, anchored: Anchored) -> bool
+pub fn goes_by_needles(aim: Aim, anchored: Anchored) -> bool
     ensures { IsTrue result ↔ GoesByNeedles aim anchored }
 {
     match (aim.kind, anchored) {

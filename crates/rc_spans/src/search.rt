@@ -94,7 +94,7 @@ pub(crate) fn bounds_of<C: Cursor>(input: &mut Input<C>, aim: Aim) -> Option<Bou
 
 /// What a run met, or why it tells nothing.
 #[inline(always)]
-pub(crate) fn told(ended: Ended) -> Result<Option<Met>, MatchError>
+pub fn told(ended: Ended) -> Result<Option<Met>, MatchError>
     ensures { result ≡ told_of ended }
 {
     match ended {
@@ -300,7 +300,7 @@ fn seek_start<H: Halves, C: Cursor>(
 /// The number of the pattern that was met at the position. An `Err` comes where `PatternID` has none for it; it has one for each of the
 /// patterns.
 #[inline(always)]
-pub(crate) fn id_of(pattern: usize, offset: usize) -> Result<PatternID, MatchError>
+pub fn id_of(pattern: usize, offset: usize) -> Result<PatternID, MatchError>
     ensures id { IfOk result (λ id. id ≡ pattern) }
     ensures refused { IfErr result (λ _. 2147483646 < pattern) }
 {

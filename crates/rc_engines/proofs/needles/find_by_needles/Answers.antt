@@ -43,9 +43,7 @@ returns-clause-found g c hs terminator of guards =
     let within = subst (λ o. IfSome o (λ (x : ℕ). (lo ≤ x) × (x ≤ hi))) c.in-Some.is c.in_ok-from.ensures.within in
     let given = subst (λ o. IfSome o (λ (x : ℕ). GivesToo of.ahead (search_for aim hs terminator t) x lo)) c.in-Some.is
     (c.in_ok-from.ensures.some aim hs terminator (late_of A c.args.aim hs terminator of s c.requires.goes) goes guards) in
-    let k = c.set_start.ensures in
     told_on A c.args.aim hs terminator of s c.requires.goes lo hi (c.low-lo.ensures ∙ kept_low s t keeps) c.high-hi.ensures.value c.if-lo-hi.false
     from within.0 within.1 (subst (λ q. GivesToo of.ahead q from lo) (kept_search aim hs terminator s t keeps) given)
-    c.start_by_needles.new.input c.set_start.new.self c.find-found.result
-    (kept_then s t c.start_by_needles.new.input keeps c.in_ok-from.ensures.keeps) k.keeps k.start k.end k.slice
-    (c.find-found.ensures.found hs terminator of)
+    c.start_by_needles.new.input c.find_later.result (kept_then s t c.start_by_needles.new.input keeps c.in_ok-from.ensures.keeps)
+    (c.find_later.ensures.found hs terminator of)
