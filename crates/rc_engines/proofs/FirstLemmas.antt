@@ -81,12 +81,16 @@ module _ (places : List Place) (text : Text) (lo hi : ℕ) where
         let r = (answer_law.answer_some (Here from) m).0 (sym e) in
         let a = r.1 in
         let start : r.0.start ≡ from = a.is_start.2 refl in
-        sym ((answer_law.answer_some (Any lo) m).1 (r.0, record {
-          is_start = (omega (arith, above, start), a.is_start.1, λ t. absurd (true≢false (sym t)));
-          is_first = a.is_first;
-          allowed = a.allowed;
-          none_before = λ y is lt. inl (none y is.0 (omega (arith, lt, start)));
-        }, r.2))
+        sym ((answer_law.answer_some (Any lo) m).1 (
+          r.0,
+          record {
+            is_start = (omega (arith, above, start), a.is_start.1, λ t. absurd (true≢false (sym t)));
+            is_first = a.is_first;
+            allowed = a.allowed;
+            none_before = λ y is lt. inl (none y is.0 (omega (arith, lt, start)));
+          },
+          r.2,
+        ))
 
     pub later_first : (o : Option Found) → o ≡ answer (Any from) → o ≡ answer (Any lo)
     later_first None e =
@@ -99,22 +103,31 @@ module _ (places : List Place) (text : Text) (lo hi : ℕ) where
         let r = (answer_law.answer_some (Any from) m).0 (sym e) in
         let a = r.1 in
         let first = a.is_start.0 in
-        sym ((answer_law.answer_some (Any lo) m).1 (r.0, record {
-          is_start = (omega (arith, above, first), a.is_start.1, λ t. absurd (true≢false (sym t)));
-          is_first = a.is_first;
-          allowed = a.allowed;
-          none_before = λ y is lt. elim (cases_lt y from) [
-            | inl h ↦ inl (none y is.0 h)
-            | inr h ↦ a.none_before y (h, is.1, λ t. absurd (true≢false (sym t))) lt
-          ];
-        }, r.2))
+        sym ((answer_law.answer_some (Any lo) m).1 (
+          r.0,
+          record {
+            is_start = (omega (arith, above, first), a.is_start.1, λ t. absurd (true≢false (sym t)));
+            is_first = a.is_first;
+            allowed = a.allowed;
+            none_before = λ y is lt. elim (cases_lt y from) [
+              | inl h ↦ inl (none y is.0 h)
+              | inr h ↦ a.none_before y (h, is.1, λ t. absurd (true≢false (sym t))) lt
+            ];
+          },
+          r.2,
+        ))
 
 -- in the terms of an input
 pub as_any : (aim : Aim) (hs : List Re) (terminator : ℕ) (s : Searched) → GoesByNeedles aim s.anchored →
     search_for aim hs terminator s ≡ Any (program hs) (text_of terminator s) (low s) (high s) (low s)
 as_any aim hs terminator s goes =
     ap₂ (λ (over : Bool) (a : Anchored). let q : Search = record {
-      places = program hs; text = text_of terminator s; lo = low s; hi = high s; anchoring = anchoring_of a; passes_over = over
+      places = program hs;
+      text = text_of terminator s;
+      lo = low s;
+      hi = high s;
+      anchoring = anchoring_of a;
+      passes_over = over;
     } in q) goes.all goes.free
 
 -- ONE RUN

@@ -26,8 +26,8 @@ pub returns-in_err-start-clause-passed : goal.returns-in_err-start-clause-passed
 returns-in_err-start-clause-passed g c = λ places terminator over guards.
     let here = c.piece_from-piece.follows.lender-at-none in
     let none = subst (λ o. MatchOption o
-        ((x : ℕ) → c.args.from + c.begin_none-passed.result ≤ x → x ≤ c.args.end → HasNoWalkFrom (search_over places terminator over here) x)
-        (λ s. (x : ℕ) → c.args.from + c.begin_none-passed.result ≤ x → x < s.from → HasNoWalkFrom (search_over places terminator over here) x))
+    ((x : ℕ) → c.args.from + c.begin_none-passed.result ≤ x → x ≤ c.args.end → HasNoWalkFrom (search_over places terminator over here) x)
+    (λ s. (x : ℕ) → c.args.from + c.begin_none-passed.result ≤ x → x < s.from → HasNoWalkFrom (search_over places terminator over here) x))
     c.in_err-start.was (c.next_start.ensures.passed places terminator over guards) in
     rw c.from_residual.ensures
     (λ x low le. none_on places terminator over c.args.input.now here c.piece_from-piece.follows.holds-at-none c.args.from (c.args.from + c.begin_none-passed.result) (c.args.end + 1)
@@ -38,8 +38,8 @@ pub returns-clause-passed : goal.returns-clause-passed
 returns-clause-passed g c places terminator over guards =
     let here = c.piece_from-piece.follows.lender-at-none in
     let none = subst (λ o. MatchOption o
-        ((x : ℕ) → c.args.from + c.begin_none-passed.result ≤ x → x ≤ c.args.end → HasNoWalkFrom (search_over places terminator over here) x)
-        (λ s. (x : ℕ) → c.args.from + c.begin_none-passed.result ≤ x → x < s.from → HasNoWalkFrom (search_over places terminator over here) x))
+    ((x : ℕ) → c.args.from + c.begin_none-passed.result ≤ x → x ≤ c.args.end → HasNoWalkFrom (search_over places terminator over here) x)
+    (λ s. (x : ℕ) → c.args.from + c.begin_none-passed.result ≤ x → x < s.from → HasNoWalkFrom (search_over places terminator over here) x))
     c.in_ok-start.was (c.next_start.ensures.passed places terminator over guards) in
     none_on places terminator over c.args.input.now here c.piece_from-piece.follows.holds-at-none c.args.from (c.args.from + c.begin_none-passed.result) c.in_ok-start.start.from
     (near g (goal.at.returns-clause-passed g c).After-begin_none-passed places terminator over guards) none
