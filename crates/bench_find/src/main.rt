@@ -5,7 +5,8 @@
 //! matches with their groups), `texts` (each chunk is searched as a text of its own, in one cache, and
 //! those with a match are counted), `finds` (the same, each in a cache of its own) or `build` (the
 //! pattern is built). A word more says by what is searched: `all`, which is the default, `plain` (no
-//! needles), `lazy` (no tables of all states) or `pass` (no tables). With no words it prints nothing.
+//! needles), `met` (no tables of all states), `lazy` (neither) or `pass` (no needles, and no tables). With no
+//! words it prints nothing.
 #![tactic(auto)]
 
 use regex_cursor::Input;
@@ -24,7 +25,7 @@ const FAULT: u8 = 2;
 const ROUNDS: u32 = 3;
 
 const USAGE: &str =
-    "usage: bench_find PATTERN CHUNK [ROUNDS [matches|captures|texts|finds|build [all|plain|lazy|pass]]]";
+    "usage: bench_find PATTERN CHUNK [ROUNDS [matches|captures|texts|finds|build [all|plain|met|lazy|pass]]]";
 
 /// What is timed.
 #[derive(Clone, Copy)]
@@ -48,6 +49,8 @@ enum By {
     All,
     /// No needles.
     Plain,
+    /// No tables of all states.
+    Met,
     /// No needles, and no tables of all states.
     Lazy,
     /// No needles, and no tables.
@@ -121,6 +124,7 @@ fn by_of(word: &str) -> Option<By> {
     match word {
         "all" => Some(By::All),
         "plain" => Some(By::Plain),
+        "met" => Some(By::Met),
         "lazy" => Some(By::Lazy),
         "pass" => Some(By::Pass),
         _ => None,
@@ -162,6 +166,7 @@ fn config_of(by: By) -> Config {
     match by {
         By::All => config,
         By::Plain => config.auto_prefilter(false),
+        By::Met => config.dfa(false),
         By::Lazy => config.auto_prefilter(false).dfa(false),
         By::Pass => config.auto_prefilter(false).dfa(false).hybrid(false),
     }
