@@ -15,7 +15,7 @@ use crate::needles::find_early_guarded;
 use crate::route::{Route, Way};
 use crate::slots::fill_slots;
 use crate::spans::Spans;
-use crate::tables::tables_of;
+use crate::tables::{are_fast, tables_of};
 use rc_automaton::halves::Halves;
 use rc_captures::captures;
 use rc_captures::captures::Captures;
@@ -69,6 +69,8 @@ pub struct Engines {
     pub(crate) spans: Spans,
     /// Needles that each match holds, where searches go by them.
     pub(crate) needs: Option<Needs>,
+    /// Whether needles with which walks begin are sought fast.
+    pub(crate) sought_fast: bool,
     ghost fit: { ∥ MayBeTablesFor engine patterns tables ∥₁ },
     ghost lazy_fit: { ∥ MayBeLazyFor engine patterns lazy ∥₁ },
     ghost numbered: { NamesGroups patterns (places_of engine.program.places.items) },
@@ -134,6 +136,7 @@ impl Engines {
         ensures lazy_none { IfOk result (λ engines. engines.lazy ≡ None → IsLazyBarred engine limits engines.tables ⊎ IsShortFor (plan_of engine hs limits)) }
     {
         let tables = tables_of(alloc, &engine, needs.is_some(), patterns, limits)?;
+        let sought_fast = are_fast(&engine.strategy);
         Ok(Engines {
             engine,
             tables: tables.dense,
@@ -141,6 +144,7 @@ impl Engines {
             patterns,
             spans,
             needs,
+            sought_fast,
         })
     }
 
@@ -299,16 +303,11 @@ impl Engines {
         ensures found { IfOk result (λ found. found ≡ answer_by self.now.engine.kind (engine_search self.now.engine input.old)) }
         ensures within { IfOk result (λ found. IfSome found (λ m. (low input.old ≤ m.start) × (m.start ≤ m.end) × (m.end ≤ high input.old))) }
     {
-        match find_first(halves, cache, input, self.aim(), needles) {
-            Ok(found) => Ok(found),
-            Err(MatchError::GaveUp { offset, memory }) => {
-                return Err(MatchError::GaveUp { offset, memory });
-            }
-            Err(MatchError::Quit { .. }) => {
-                let found = self.find_by_guard(halves, cache, input, Guard::Begins(needles))?;
-                Ok(found)
-            }
+        let found = find_first(halves, cache, input, self.aim(), needles);
+        if let Err(MatchError::Quit { .. }) = found {
+            return self.find_by_guard(halves, cache, input, Guard::Begins(needles));
         }
+        found
     }
 
     /// The end of the preferred match, and its pattern, which the tables tell by searches forwards alone, from needle to needle where some are

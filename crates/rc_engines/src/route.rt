@@ -1,8 +1,8 @@
 //! By what a search goes, and how a search by tables does.
 
 use crate::engines::Engines;
-use crate::tables::fast_guards_of;
 use rc_dense::dense::Dense;
+use rc_engine::strategy::guards_of;
 use rc_guards::guard::Guard;
 use rc_lazy::lazy::Lazy;
 use rc_text::cursor::Cursor;
@@ -115,8 +115,10 @@ impl Engines {
     fn guard(&self) -> Option<Guard>
         ensures { MayGuard self.now.engine result }
     {
-        if let Some(needles) = fast_guards_of(&self.engine.strategy) {
-            return Some(Guard::Begins(needles));
+        if self.sought_fast {
+            if let Some(needles) = guards_of(&self.engine.strategy) {
+                return Some(Guard::Begins(needles));
+            }
         }
         match &self.needs {
             Some(needs) => Some(Guard::Holds(needs)),

@@ -3,14 +3,11 @@ ghost use Rattle.std.specs.Prelude.{◌≡◌, ◌⊎◌, ◌↔◌, ◌<◌, �
 ghost use Rattle.rc_pattern.specs.Re.{Re};
 ghost use Rattle.rc_program.specs.Laws.{heaviness};
 ghost use Rattle.rc_program.specs.Places.{places_of};
-ghost use Rattle.rc_program.specs.Program.{Place as PlaceOf, program};
-ghost use Rattle.rc_literal.specs.Guards.{Guards};
-ghost use Rattle.rc_literal.specs.Prefilters.{needles_of};
+ghost use Rattle.rc_program.specs.Program.{program};
 ghost use Rattle.rc_automaton.specs.Automata.{machine_of};
 ghost use Rattle.rc_automaton.specs.declared.automaton.Direction.TheVariants.{Backwards, Forwards};
 ghost use Rattle.rc_lazy.specs.Caches.{IsLazyOf, least_of};
 ghost use Rattle.rc_spans.specs.Machines.{AreMachines};
-ghost use Rattle.rc_engine.specs.Strategies.{MayGoBy};
 ghost use Rattle.rc_engines.specs.Limits.{AreOff, AreTooHeavy};
 ghost use Rattle.rc_engines.specs.Makes.{AreMade};
 ghost use Rattle.rc_engines.specs.Tables.{MayBeTablesFor, is_tabled};
@@ -24,7 +21,6 @@ use rc_engine::engine::Engine;
 use rc_engine::strategy::{Strategy, guards_of, literals_of};
 use rc_lazy::error::LazyError;
 use rc_lazy::lazy::Lazy;
-use rc_literal::prefilter::Prefilter;
 use rc_spans::build::automaton_of;
 use rc_states::kind::table_kind;
 use rc_text::types::MatchKind;
@@ -47,22 +43,12 @@ fn exceeds(places: usize, limit: Option<usize>) -> bool
     }
 }
 
-/// The needles from one to the next of which searches by tables go: those where walks begin. Where a search for them would go by a table of
-/// first bytes, there are none: the tables of states read a byte as fast, and need not begin anew at each needle.
-#[inline(always)]
-pub(crate) fn fast_guards_of(strategy: &Strategy) -> Option<&Prefilter>
-    ensures sound { (places : List PlaceOf) (terminator : ℕ) (over : Bool) → MayGoBy places terminator over strategy.now
-        → MatchOption result ⊤ (λ p. Guards places terminator (needles_of p.now)) }
-{
+/// Whether needles with which walks begin are sought fast, so that searches by tables go from one to the next. Where a search for them would go
+/// by a table of first bytes, the tables of states read a byte as fast, and need not begin anew at each needle.
+pub(crate) fn are_fast(strategy: &Strategy) -> bool {
     match guards_of(strategy) {
-        Some(needles) => {
-            if needles.is_fast() {
-                Some(needles)
-            } else {
-                None
-            }
-        }
-        None => None,
+        Some(needles) => needles.is_fast(),
+        None => false,
     }
 }
 
