@@ -1,5 +1,5 @@
 -- What a pass tells that ends at the first position at which a walk ends.
-use Rattle.std.proofs.Common.{◌≡◌, ◌∙◌, ap, ℕ, zero, suc, ◌+◌, ◌*◌, ◌<◌, ◌≤◌, ◌⊎◌, List, [], ◌∷◌, ◌++◌, length, map, min, Option, Some, None, IsTrue, is_some, true, true≢false, false, inl, inr, ⊎_elim, refl, sym, subst, arith}
+use Rattle.std.proofs.Common.{◌≡◌, ◌∙◌, ap, ℕ, ◌+◌, ◌*◌, ◌<◌, ◌≤◌, List, [], ◌∷◌, ◌++◌, length, map, min, Option, Some, None, IsTrue, is_some, true, true≢false, false, ⊎_elim, refl, sym, arith}
 use Rattle.std.proofs.lemmas.Option.{none-some}
 use Rattle.rc_walks.specs.Walks.{Pair}
 use Rattle.rc_walks.specs.Tries.{walk_by}

@@ -1,5 +1,6 @@
 pub mod EarlyLemmas
 pub mod EnteredLemmas
+pub mod EntranceLemmas
 pub mod GrownLemmas
 pub mod KeptLemmas
 pub mod LookUpLemmas
@@ -8,6 +9,7 @@ pub mod NearLemmas
 pub mod NotedLemmas
 pub mod PassLemmas
 pub mod PassingLemmas
+pub mod PlainLemmas
 pub mod RootLemmas
 pub mod RowLemmas
 pub mod SightLemmas

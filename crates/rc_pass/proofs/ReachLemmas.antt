@@ -6,16 +6,16 @@ use Rattle.rc_text.specs.Found.{Found}
 use Rattle.rc_walks.specs.Walks.{Pair, IsWalk, IsFirstWalk}
 use Rattle.rc_walks.proofs.CutLemmas.{first_is_one}
 use Rattle.rc_program.specs.Program.{place_at}
-use Rattle.rc_program.specs.Answer.{Search, only, ends, next_of, last_of, IsStart, HasNoWalkFrom, is_allowed, Chosen, found, pattern_at}
+use Rattle.rc_program.specs.Answer.{Search, only, ends, next_of, last_of, is_allowed, Chosen, found, pattern_at}
 use Rattle.rc_program.specs.Greatest.{IsSpelledIn, greatest}
-use Rattle.rc_program.specs.Longest.{IsLongestFrom, IsPassedOf, IsAnswerOf, longest_walk, longest_chosen, longest, longest_groups}
+use Rattle.rc_program.specs.Longest.{IsLongestFrom, IsPassedOf, longest_walk, longest_chosen, longest, longest_groups}
 use Rattle.rc_program.proofs.AnswerLemmas.{last_start_of, start_within_last, start_to_last, match_place_is, walk_ends}
 use Rattle.rc_program.proofs.GreatestLemmas.{greatest_law, spelled_within}
 use Rattle.rc_program.proofs.LongestLemmas.{EndsThere, first_of_longest, narrowed}
 use Rattle.rc_program.proofs.ReachLemmas.{Reach, longest_walk_reach, longest_law}
 use Rattle.rc_pass.specs.Sights.{sight_of}
 use Rattle.rc_pass.specs.Passing.{GivesTrace, best_of}
-use Rattle.rc_pass.specs.Spread.{LeadsToMatch, SomeSpells, IsTop, span_of, starting}
+use Rattle.rc_pass.specs.Spread.{SomeSpells, IsTop, span_of, starting}
 use Rattle.rc_pass.specs.Found.{IsChosen, IsFurthest, IsReach, IsExtent, IsLongestResult}
 use Rattle.rc_pass.specs.declared.pass.Ending.{Ending}
 use Rattle.rc_pass.proofs.SightLemmas.{walk_whole, walk_seen, none_there, first_there}

@@ -5,16 +5,16 @@ use Rattle.std.specs.Bool.{⊤}
 use Rattle.std.specs.List.{AllByRecursion}
 use Rattle.std.proofs.lemmas.List.Elements.{All-nil, recursion_from_All}
 use denote.Struct.Props.{props}
-use Rattle.rc_walks.specs.Walks.{Pair, IsWalk, IsFirstWalk, HasNoWalk}
+use Rattle.rc_walks.specs.Walks.{Pair, IsFirstWalk}
 use Rattle.rc_walks.specs.Threads.{IsFirstOf, over, found, passes, noted}
 use Rattle.rc_walks.proofs.CutLemmas.{first_is_one}
 use Rattle.rc_walks.proofs.ThreadLemmas.{of_none, of_one}
 use Rattle.rc_walks.proofs.TryLemmas.{Finds}
-use Rattle.rc_program.specs.Program.{Place, place_at}
+use Rattle.rc_program.specs.Program.{Place}
 use Rattle.rc_program.specs.Answer as whole
 use Rattle.rc_program.specs.Answer.{Search}
 use Rattle.rc_program.specs.Laws.{IsChoice}
-use Rattle.rc_pass.specs.Sights.{Sight, sight_of, ends, next_of, IsFirstFrom, HasNoWalkFrom}
+use Rattle.rc_pass.specs.Sights.{Sight, sight_of, ends, next_of, IsFirstFrom}
 use Rattle.rc_pass.specs.Trace.{Trace, note, note_at}
 use Rattle.rc_pass.specs.Threads.{Thread}
 use Rattle.rc_pass.specs.Passing.{AllFrom, Carries}

@@ -1,5 +1,5 @@
 -- What a pass sees, and the search itself.
-use Rattle.std.proofs.Common.{◌≡◌, ℕ, ◌+◌, [], ◌∷◌, List, length, Option, Some, None, IsTrue, refl, eqb-true, eq-eqb, nat_eq, false}
+use Rattle.std.proofs.Common.{ℕ, ◌+◌, [], ◌∷◌, List, length, Option, Some, None, IsTrue, refl, eqb-true, eq-eqb, nat_eq, false}
 use Rattle.std.proofs.lemmas.Bool.{and_parts, and_from}
 use Rattle.rc_walks.specs.Walks.{Pair, IsIn, IsWalk, IsFirstWalk, HasNoWalk}
 use Rattle.rc_walks.proofs.TryLemmas.{IsBounded}

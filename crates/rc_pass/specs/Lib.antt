@@ -4,6 +4,7 @@ pub mod Trace
 pub mod Sights
 pub mod Moves
 pub mod Passing
+pub mod Plain
 pub mod Roots
 pub mod Found
 pub mod Caches
@@ -13,5 +14,6 @@ pub mod Spread
 pub mod KindSlots
 pub mod Scratches
 pub mod Entered
+pub mod Entrances
 pub mod PatternSpans
 pub mod Marking

@@ -97,12 +97,12 @@ pub record IsGrown (n hi start at : ℕ) (threads0 : ThreadList) (entered0 : Mem
   pub counts : (q : ℕ) → count_from q threads.items + length entered0.items ≤ count_from q threads0.items + length entered.items
   pub begun : (x : ℕ) → x ≤ start → AllFrom x threads0.items → AllFrom x threads.items
 
--- a closure under way: what it gives is what the thread that it began with gives
-pub record IsClosing (s : Sight) (n hi start at root : ℕ) (threads0 : ThreadList) (entered0 : Members) (slots0 : List (Option ℕ))
+-- a closure under way: what it gives is what the threads give that waited when it began
+pub record IsClosing (s : Sight) (n hi start at : ℕ) (waiting0 : List (Trace × Pair)) (threads0 : ThreadList) (entered0 : Members)
     (threads : ThreadList) (entered : Members) (frames : List Frame) (slots : List (Option ℕ)) : Type 0 where
   pub carries : (below : List (Trace × Pair)) (best o : Option Trace) →
       Carries s at threads.items entered.items (waits start at frames slots ++ below) best o →
-      Carries s at threads0.items entered0.items ((trace start slots0, (root, at)) ∷ below) best o
+      Carries s at threads0.items entered0.items (waiting0 ++ below) best o
   pub grown : IsGrown n hi start at threads0 entered0 threads entered
   pub some : 0 < length entered.items
   pub frames_in : AllInside n threads.width frames

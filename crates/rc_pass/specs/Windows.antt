@@ -8,7 +8,7 @@ use Rattle.rc_pass.specs.declared.window.Window.{Window}
 pub record IsWindow (s : Searched) (w : Window) : Type 0 where
   pub low : s.slice.start ≤ w.start
   pub bytes : take w.len w.bytes ≡ slice_range s.content w.start (w.start + w.len)
-  pub end : w.start + w.len ≡ min (w.start + 256) (slice_end s)
+  pub end : w.start + w.len ≡ min (w.start + 64) (slice_end s)
 
 -- it shows the four bytes before `at`, as far as the slice has them
 pub record IsBegun (s : Searched) (at : ℕ) (w : Window) : Type 0 where

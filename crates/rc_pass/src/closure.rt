@@ -14,6 +14,7 @@ use crate::spot::Spot;
 use crate::threads::Head;
 
 /// Writes the position to the slot, and pushes the frame that undoes the write.
+#[inline(always)]
 fn save(slot: usize, at: usize, growth: &mut Growth)
     requires within { slot < length growth.old.slots.items }
     requires room { vec_len growth.old.stack < vec_capacity growth.old.stack }
@@ -32,6 +33,7 @@ fn save(slot: usize, at: usize, growth: &mut Growth)
 
 /// Makes a move: its places go on the stack, the first uppermost, and a thread that reads goes
 /// behind the threads.
+#[inline(always)]
 fn follow(step: Move, at: usize, start: usize, growth: &mut Growth)
     requires deep { vec_len growth.old.stack + 2 ≤ vec_capacity growth.old.stack }
     requires room { length growth.old.threads.items < growth.old.threads.room }
@@ -70,6 +72,7 @@ fn follow(step: Move, at: usize, start: usize, growth: &mut Growth)
 }
 
 /// The pattern of which a walk ends by the move.
+#[inline(always)]
 pub fn ended(step: Move) -> Option<usize>
     ensures { MatchOption result ((p : ℕ) → step ≢ Matches p) (λ p. step ≡ Matches p) }
 {
@@ -85,6 +88,7 @@ pub fn ended(step: Move) -> Option<usize>
 
 /// Enters a place, unless it was entered at this position already, and makes its move. Answers the
 /// move.
+#[inline(always)]
 pub fn enter(spot: &Spot, place: usize, start: usize, growth: &mut Growth) -> Option<Move>
     ghost text: { Searched }
     requires here { IsHere spot.now text }
@@ -113,6 +117,7 @@ pub fn enter(spot: &Spot, place: usize, start: usize, growth: &mut Growth) -> Op
 
 /// Enters a place, unless it was entered at this position already. Answers the pattern where a walk
 /// ends there.
+#[inline(always)]
 fn visit(spot: &Spot, place: usize, start: usize, growth: &mut Growth) -> Option<usize>
     ghost text: { Searched }
     requires here { IsHere spot.now text }
@@ -143,11 +148,45 @@ fn visit(spot: &Spot, place: usize, start: usize, growth: &mut Growth) -> Option
     ended(step)
 }
 
+/// Goes on from the frames of the stack, the uppermost first. The rest is as in `close`.
+#[inline(never)]
+fn drain(spot: &Spot, start: usize, growth: &mut Growth) -> Option<usize>
+    ghost text: { Searched }
+    requires here { IsHere spot.now text }
+    requires sound { HasRoom (size spot.now.course) spot.now.course.hi spot.now.at growth.old.threads growth.old.entered }
+    requires frames { AllInside (size spot.now.course) growth.old.threads.width (reverse growth.old.stack.items) }
+    requires deep { vec_len growth.old.stack ≤ length growth.old.entered.items + 1 }
+    requires some { 0 < length growth.old.entered.items }
+    ensures carries { (below : List (Trace × Pair)) (best o : Option Trace)
+        → MatchOption result
+        (Carries (seen_from spot.now text) spot.now.at growth.new.threads.items growth.new.entered.items below best o)
+        (λ p. Carries (seen_from spot.now text) spot.now.at growth.new.threads.items growth.new.entered.items []
+        (Some (done p start spot.now.at growth.new.slots.items)) o)
+        → Carries (seen_from spot.now text) spot.now.at growth.old.threads.items growth.old.entered.items
+        (waits start spot.now.at (reverse growth.old.stack.items) growth.old.slots.items ++ below) best o }
+    ensures grown { IsGrown (size spot.now.course) spot.now.course.hi start spot.now.at growth.old.threads growth.old.entered
+        growth.new.threads growth.new.entered }
+    ensures some { 0 < length growth.new.entered.items }
+{
+    'frames: while let Some(frame) = growth.stack.pop() {
+        match frame {
+            Frame::Explore(place) => {
+                if let Some(number) = visit(spot, place, start, growth) {
+                    return Some(number);
+                }
+            }
+            Frame::Restore(slot, old) => growth.slots[slot] = old,
+        }
+    }
+    None
+}
+
 /// Follows all ways from `root` that read nothing, in order, and puts a thread behind the others for
 /// each that reads.
 ///
 /// Answers the pattern where a walk ends on the way: the slots are those of that walk then, and the
 /// ways that were still to come are dropped.
+#[inline(always)]
 pub fn close(spot: &Spot, root: usize, start: usize, growth: &mut Growth) -> Option<usize>
     ghost text: { Searched }
     requires here { IsHere spot.now text }
@@ -168,15 +207,8 @@ pub fn close(spot: &Spot, root: usize, start: usize, growth: &mut Growth) -> Opt
     if let Some(number) = visit(spot, root, start, growth) {
         return Some(number);
     }
-    'frames: while let Some(frame) = growth.stack.pop() {
-        match frame {
-            Frame::Explore(place) => {
-                if let Some(number) = visit(spot, place, start, growth) {
-                    return Some(number);
-                }
-            }
-            Frame::Restore(slot, old) => growth.slots[slot] = old,
-        }
+    if growth.stack.is_empty() {
+        return None;
     }
-    None
+    drain(spot, start, growth)
 }

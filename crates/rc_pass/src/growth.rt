@@ -40,6 +40,19 @@ pub fn make_row(row: &mut Vec<Option<usize>>, width: usize)
     }
 }
 
+/// Puts the row into the slots, of which there are as many.
+#[inline(always)]
+pub fn copy_row(slots: &mut Vec<Option<usize>>, row: &[Option<usize>])
+    requires { length row.now ≡ length slots.old.items }
+    ensures items { slots.new.items ≡ row.now }
+    ensures capacity { vec_capacity slots.new ≡ vec_capacity slots.old }
+{
+    if row.is_empty() {
+        return;
+    }
+    slots.copy_from_slice(row);
+}
+
 impl Growth {
     ghost use Rattle.std.specs.Prelude.{[]};
 

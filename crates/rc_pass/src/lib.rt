@@ -4,6 +4,7 @@
 pub mod cache;
 mod closure;
 pub mod early;
+mod entrance;
 pub mod greatest;
 mod growth;
 pub mod kinds;
@@ -12,6 +13,7 @@ mod moves;
 mod pass;
 mod scratch;
 pub mod search;
+mod sides;
 pub mod sparse_set;
 mod spot;
 mod spread;

@@ -8,9 +8,10 @@ ghost use Rattle.rc_program.specs.Scalars.{scalar_at};
 ghost use Rattle.rc_pass.specs.Moves.{IsMove};
 ghost use Rattle.rc_pass.specs.Sights.{is_there as there};
 
+use crate::sides::holds;
 use crate::spot::Spot;
-use rc_pattern::hir::{ClassBytesRange, ClassUnicodeRange, Look};
-use rc_program::look::{holds, scalar_at};
+use rc_pattern::hir::{ClassBytesRange, ClassUnicodeRange};
+use rc_program::look::scalar_at;
 use rc_program::place::Place;
 
 /// How a thread goes on from a place that it enters.
@@ -31,6 +32,7 @@ pub enum Move {
 }
 
 /// How a thread goes on from a place that it enters at the spot.
+#[inline(always)]
 pub fn look_up(spot: &Spot, place: usize) -> Move
     ghost text: { Searched }
     requires here { IsHere spot.now text }
@@ -90,6 +92,7 @@ pub fn look_up(spot: &Spot, place: usize) -> Move
 }
 
 /// Whether walks of the pattern count.
+#[inline(always)]
 fn is_allowed(pattern: Option<usize>, number: usize) -> bool
     ensures { result ≡ is_match_place pattern (accept number) }
 {
@@ -100,6 +103,7 @@ fn is_allowed(pattern: Option<usize>, number: usize) -> bool
 }
 
 /// Whether walks that end at the position count.
+#[inline(always)]
 fn is_there(until: Option<usize>, at: usize) -> bool
     ensures { result ≡ there until at }
 {
@@ -110,6 +114,7 @@ fn is_there(until: Option<usize>, at: usize) -> bool
 }
 
 /// Whether one of the ranges has the byte.
+#[inline(always)]
 fn has_byte(ranges: &Vec<ClassBytesRange>, byte: u8) -> bool
     ensures { result ≡ in_ranges (map byte_range ranges.now.items) byte }
 {
@@ -122,6 +127,7 @@ fn has_byte(ranges: &Vec<ClassBytesRange>, byte: u8) -> bool
 }
 
 /// Whether one of the ranges has the character.
+#[inline(always)]
 fn has_char(ranges: &Vec<ClassUnicodeRange>, c: char) -> bool
     ensures { result ≡ in_ranges (map char_range ranges.now.items) c }
 {
@@ -134,6 +140,7 @@ fn has_char(ranges: &Vec<ClassUnicodeRange>, c: char) -> bool
 }
 
 /// The first of the bytes, where one of the first `room` stands there.
+#[inline(always)]
 fn next_byte(after: &[u8], room: usize) -> Option<u8>
     ensures { result ≡ slice_get (take room after.now) 0 }
 {
@@ -144,8 +151,14 @@ fn next_byte(after: &[u8], room: usize) -> Option<u8>
 }
 
 /// The scalar that begins the first `room` of the bytes, and how many it takes.
+#[inline(always)]
 fn next_scalar(after: &[u8], room: usize) -> Option<(char, usize)>
     ensures { result ≡ scalar_at (take room after.now) }
 {
+    if let Some(byte) = next_byte(after, room) {
+        if byte < 128 {
+            return Some((char::from(byte), 1));
+        }
+    }
     scalar_at(&after[..after.len().min(room)])
 }

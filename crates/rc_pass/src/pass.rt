@@ -14,7 +14,8 @@ ghost use Rattle.rc_pass.specs.Passing.{Carries, pending, AllIn, AllFrom, count_
 ghost use Rattle.rc_pass.specs.Scratches.{IsSame};
 
 use crate::closure::close;
-use crate::growth::Growth;
+use crate::entrance::entrance;
+use crate::growth::{Growth, copy_row};
 use crate::scratch::Scratch;
 use crate::spot::{Course, Spot};
 use crate::threads::Threads;
@@ -69,8 +70,9 @@ fn step(spot: &Spot, curr: &Threads, growth: &mut Growth) -> Option<(usize, usiz
             growth.threads.push(head, row);
             continue;
         }
-        growth.slots.copy_from_slice(row);
-        if let Some(number) = close(spot, head.place, head.start, growth) {
+        copy_row(&mut growth.slots, row);
+        let place = entrance(spot, head.place, &growth.entered);
+        if let Some(number) = close(spot, place, head.start, growth) {
             return Some((number, head.start));
         }
     }
@@ -105,7 +107,8 @@ fn set_out(spot: &Spot, root: usize, is_open: bool, growth: &mut Growth) -> Opti
         return None;
     }
     empty(&mut growth.slots);
-    if let Some(number) = close(spot, root, spot.at, growth) {
+    let place = entrance(spot, root, &growth.entered);
+    if let Some(number) = close(spot, place, spot.at, growth) {
         return Some((number, spot.at));
     }
     None
@@ -156,7 +159,8 @@ fn advance(
         return None;
     }
     empty(&mut growth.slots);
-    if let Some(number) = close(spot, 0, spot.at, growth) {
+    let place = entrance(spot, 0, &growth.entered);
+    if let Some(number) = close(spot, place, spot.at, growth) {
         return Some((number, spot.at));
     }
     None

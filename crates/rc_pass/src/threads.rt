@@ -112,5 +112,8 @@ fn append(cells: &mut Vec<Option<usize>>, row: &[Option<usize>])
     ensures items { cells.new.items ≡ cells.old.items ++ row.now }
     ensures capacity { vec_capacity cells.old ≤ vec_capacity cells.new }
 {
+    if row.is_empty() {
+        return;
+    }
     let _ = cells.extend_from_slice(row);
 }

@@ -14,10 +14,10 @@ use rc_text::input::{Input, piece_from};
 #[derive(Clone, Copy)]
 pub struct Window {
     /// The bytes.
-    pub bytes: [u8; 256],
+    pub bytes: [u8; 64],
     /// Where the first stands, in bytes.
     pub start: usize,
-    /// How many there are, at most 256.
+    /// How many there are, at most 64.
     pub len: usize,
 }
 
@@ -29,11 +29,11 @@ pub fn open<C: Cursor>(input: &mut Input<C>, at: usize) -> Window
     ensures begun { IsBegun input.old at result }
     ensures near { at ≤ result.start + 4 }
 {
-    let mut bytes = [0; 256];
+    let mut bytes = [0; 64];
     let mut len = 0;
     let slice = input.get_slice_span();
     let start = slice.start.max(at.saturating_sub(4));
-    let end = slice.end.min(start.saturating_add(256));
+    let end = slice.end.min(start.saturating_add(64));
     while start + len < end {
         let piece = piece_from(input, start + len, end);
         if piece.is_empty() {
@@ -46,8 +46,8 @@ pub fn open<C: Cursor>(input: &mut Input<C>, at: usize) -> Window
 }
 
 /// Writes a piece after the first `len` bytes.
-fn append(bytes: &mut [u8; 256], len: usize, piece: &[u8])
-    requires { len + length piece.now ≤ 256 }
+fn append(bytes: &mut [u8; 64], len: usize, piece: &[u8])
+    requires { len + length piece.now ≤ 64 }
     ensures { take (len + length piece.now) bytes.new ≡ take len bytes.old ++ piece.now }
 {
     bytes[len..len + piece.len()].copy_from_slice(piece);
@@ -63,7 +63,7 @@ pub fn reach<C: Cursor>(window: &mut Window, input: &mut Input<C>, at: usize)
     ensures begun { IsBegun input.old at window.new }
     ensures around { IsAround input.old at window.new }
 {
-    if window.len == 256 && at - window.start > 252 {
+    if window.len == 64 && at - window.start > 60 {
         *window = open(input, at);
     }
 }

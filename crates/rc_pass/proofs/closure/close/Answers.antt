@@ -1,9 +1,8 @@
-use Rattle.std.proofs.Common.{◌≡◌, ℕ, List, [], ◌∷◌, ◌++◌, length, reverse, refl, sym, subst, arith, rules}
+use Rattle.std.proofs.Common.{◌≡◌, List, [], ◌∷◌, ◌++◌, length, reverse, refl, sym, subst, arith, rules}
 use Rattle.rc_pass.specs.Near.{seen_from, size}
 use Rattle.rc_pass.specs.Trace.{trace}
 use Rattle.rc_pass.specs.Passing.{Carries, waits}
 use Rattle.rc_pass.proofs.GrownLemmas.{grown_then}
-use Rattle.rc_pass.proofs.EnteredLemmas.{popped}
 use Rattle.rc_pass.proofs.closure.close.Goals as goal
 
 none_left : {X : Type 0} (xs : List X) → length xs ≡ 0 → xs ≡ []
@@ -17,27 +16,19 @@ returns-in-Some-clause-carries g c below best o x =
     c.clear.ensures.items
     (c.in-Some.ensures.carries below best o x)
 
-pub returns-in-Some-visit-clause-grown : goal.returns-in-Some-visit-clause-grown
-returns-in-Some-visit-clause-grown g c =
-    grown_then (size c.args.spot.now.course) c.args.spot.now.course.hi c.args.start c.args.spot.now.at c.args.growth.now.threads c.frames.growth.threads c.visit-in-Explore.new.growth.threads
-    c.args.growth.now.entered c.frames.growth.entered c.visit-in-Explore.new.growth.entered c.frames.invariant.closing.grown c.in-Some-visit.ensures.grown
+pub returns-then-is_empty-clause-carries : goal.returns-then-is_empty-clause-carries
+returns-then-is_empty-clause-carries g c below best o x =
+    let few : length c.visit.new.growth.stack.items ≡ 0 = search rules in
+    let none = none_left c.visit.new.growth.stack.items few in
+    subst (λ frames. Carries (seen_from c.args.spot.now g.text) c.args.spot.now.at c.args.growth.now.threads.items c.args.growth.now.entered.items
+    ((trace c.args.start c.args.growth.now.slots.items, (c.args.root, c.args.spot.now.at)) ∷ (waits c.args.start c.args.spot.now.at (reverse frames) c.args.growth.now.slots.items ++ below)) best o)
+    c.clear.ensures.items
+    (c.in_default.ensures.carries below best o
+    (subst (λ frames. Carries (seen_from c.args.spot.now g.text) c.args.spot.now.at c.visit.new.growth.threads.items c.visit.new.growth.entered.items
+    (waits c.args.start c.args.spot.now.at (reverse frames) c.visit.new.growth.slots.items ++ below) best o) (sym none) x))
 
-pub frames-preserved-in_default-visit : goal.frames-preserved-in_default-visit
-frames-preserved-in_default-visit g c =
-    let at : ℕ = c.args.spot.now.at in
-    let start : ℕ = c.args.start in
-    let frames = popped c.frames.growth.stack.items c.pop.new.self.items c.in-Some-pop.frame c.in-Explore.place c.in-Some-pop.ensures.items c.in-Explore.is in
-    record {
-      closing = record {
-        carries = λ below best o x.
-            c.frames.invariant.closing.carries below best o
-            (subst (λ f. Carries (seen_from c.args.spot.now g.text) at c.frames.growth.threads.items c.frames.growth.entered.items
-            (waits start at f c.frames.growth.slots.items ++ below) best o) (sym frames)
-            (c.in_default-visit.ensures.carries below best o x));
-        grown = grown_then (size c.args.spot.now.course) c.args.spot.now.course.hi start at c.args.growth.now.threads c.frames.growth.threads c.visit-in-Explore.new.growth.threads
-            c.args.growth.now.entered c.frames.growth.entered c.visit-in-Explore.new.growth.entered c.frames.invariant.closing.grown c.in_default-visit.ensures.grown;
-        some = search rules;
-        frames_in = search rules;
-      };
-      deep = search rules;
-    }
+pub returns-clause-grown : goal.returns-clause-grown
+returns-clause-grown g c =
+    grown_then (size c.args.spot.now.course) c.args.spot.now.course.hi c.args.start c.args.spot.now.at c.args.growth.now.threads c.visit.new.growth.threads
+    c.drain.new.growth.threads c.args.growth.now.entered c.visit.new.growth.entered c.drain.new.growth.entered c.in_default.ensures.grown
+    c.drain.ensures.grown

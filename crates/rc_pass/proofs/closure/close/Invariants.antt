@@ -1,17 +1,7 @@
-use Rattle.std.proofs.Common.{◌+◌, ◌-◌, ◌*◌, ◌≤◌, length, reverse, vec_len}
-use Rattle.rc_pass.specs.Near.{seen_from, size}
-use Rattle.rc_pass.specs.Passing.{IsClosing}
 use Rattle.rc_pass.proofs.closure.close.Given as goal
-
-abbrev pub invariant-frames : goal.invariant-frames
-invariant-frames g l = record {
-  closing : IsClosing (seen_from l.spot g.text) (size l.spot.course) l.spot.course.hi l.start l.spot.at l.root l.fn.growth.threads l.fn.growth.entered l.fn.growth.slots.items
-      l.growth.threads l.growth.entered (reverse l.growth.stack.items) l.growth.slots.items;
-  deep : vec_len l.growth.stack ≤ length l.growth.entered.items + 1;
-}
-
-abbrev pub decreases-frames : goal.decreases-frames
-decreases-frames g l = 3 * (size l.spot.course - length l.growth.entered.items) + vec_len l.growth.stack
 
 abbrev pub ghost-visit : goal.ghost-visit
 ghost-visit g a = g.text
+
+abbrev pub ghost-drain : goal.ghost-drain
+ghost-drain g a = g.text

@@ -1,4 +1,4 @@
-use Rattle.std.proofs.Common.{◌<◌, ◌≤◌, Some, sym, subst, arith}
+use Rattle.std.proofs.Common.{Some, sym, subst, arith}
 use Rattle.rc_program.specs.Programs.{search_of}
 use Rattle.rc_pass.specs.Found.{IsExtent}
 use Rattle.rc_pass.proofs.KeptLemmas.{kept_search}

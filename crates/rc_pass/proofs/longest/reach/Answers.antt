@@ -1,4 +1,4 @@
-use Rattle.std.proofs.Common.{◌≡◌, [], ℕ, ◌+◌, ◌-◌, ◌*◌, ◌<◌, ◌≤◌, List, Some, None, sym, ap, subst, ◌∙◌, arith, refl, rules, option_map}
+use Rattle.std.proofs.Common.{◌≡◌, [], ◌+◌, ◌-◌, ◌*◌, ◌≤◌, List, Some, None, subst, arith, refl, option_map}
 use Rattle.std.proofs.Math.Nat.{mul-le-mul_left}
 use Rattle.rc_walks.specs.Walks.{Pair}
 use Rattle.rc_pass.specs.Sights.{sight_of}

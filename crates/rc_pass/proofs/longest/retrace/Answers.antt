@@ -1,10 +1,9 @@
-use Rattle.std.proofs.Common.{ℕ, ◌+◌, ◌-◌, ◌*◌, ◌≤◌, length, Some, None, sym, subst, ◌∙◌, arith, refl}
+use Rattle.std.proofs.Common.{◌+◌, ◌-◌, ◌*◌, ◌≤◌, length, Some, subst, ◌∙◌, arith, refl}
 use Rattle.std.proofs.Math.Nat.{mul-le-mul_left}
 use Rattle.rc_text.specs.Text.{high, low}
 use Rattle.rc_program.specs.Answer.{Search}
 use Rattle.rc_program.specs.Programs.{search_of}
 use Rattle.rc_pass.specs.Sights.{sight_of}
-use Rattle.rc_pass.specs.Moves.{seen}
 use Rattle.rc_pass.specs.Passing.{GivesTrace, best_of}
 use Rattle.rc_pass.proofs.KeptLemmas.{kept_seen}
 use Rattle.rc_pass.proofs.ReachLemmas.{retraced}

@@ -34,7 +34,8 @@ returns-in-Some-close-clause-carries g c best o x =
     (subst (λ ts. Carries (seen_from c.args.spot.now g.text) at c.step.new.growth.threads.items c.step.new.growth.entered.items ts best o) (sym next)
     (subst (λ l. Carries (seen_from c.args.spot.now g.text) at c.step.new.growth.threads.items c.step.new.growth.entered.items
     ((trace at l, (0, at)) ∷ rest) best o) slots
-    (c.in-Some-close.ensures.carries rest best o x)))
+    (c.entrance-place.ensures.carries (trace at c.empty.new.slots.items) c.step.new.growth.threads.items rest best o
+    (c.in-Some-close.ensures.carries rest best o x))))
 
 pub returns-clause-carries : goal.returns-clause-carries
 returns-clause-carries g c best o x =
@@ -49,4 +50,5 @@ returns-clause-carries g c best o x =
     (subst (λ ts. Carries (seen_from c.args.spot.now g.text) at c.step.new.growth.threads.items c.step.new.growth.entered.items ts best o) (sym next)
     (subst (λ l. Carries (seen_from c.args.spot.now g.text) at c.step.new.growth.threads.items c.step.new.growth.entered.items
     ((trace at l, (0, at)) ∷ rest) best o) slots
-    (c.in_default-close.ensures.carries rest best o x)))
+    (c.entrance-place.ensures.carries (trace at c.empty.new.slots.items) c.step.new.growth.threads.items rest best o
+    (c.in_default-close.ensures.carries rest best o x))))

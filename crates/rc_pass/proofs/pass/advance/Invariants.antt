@@ -8,3 +8,6 @@ ghost-close g a = g.text
 
 abbrev pub ghost-set_out : goal.ghost-set_out
 ghost-set_out g a = g.text
+
+abbrev pub ghost-entrance : goal.ghost-entrance
+ghost-entrance g a = g.text

@@ -26,7 +26,8 @@ returns-in-Some-clause-carries g c best o x =
     subst (λ ts. Carries s at [] [] ts best o) (sym next)
     (carries_root s c.args.root c.requires.1.1.1.1.1 (trace at (replicate width None)) at rest best o c.requires.0.near.within
     (subst (λ l. Carries s at [] [] ((trace at l, (c.args.root, at)) ∷ rest) best o) slots
-    (rw (c.requires.1.0.0, c.requires.1.0.1) at (c.in-Some.ensures.carries rest best o x))))
+    (rw (c.requires.1.0.0, c.requires.1.0.1) at (c.entrance-place.ensures.carries (trace at c.empty.new.slots.items) c.args.growth.now.threads.items rest best o
+    (c.in-Some.ensures.carries rest best o x)))))
 
 pub returns-clause-carries : goal.returns-clause-carries
 returns-clause-carries g c best o x =
@@ -40,4 +41,5 @@ returns-clause-carries g c best o x =
     subst (λ ts. Carries s at [] [] ts best o) (sym next)
     (carries_root s c.args.root c.requires.1.1.1.1.1 (trace at (replicate width None)) at rest best o c.requires.0.near.within
     (subst (λ l. Carries s at [] [] ((trace at l, (c.args.root, at)) ∷ rest) best o) slots
-    (rw (c.requires.1.0.0, c.requires.1.0.1) at (c.in_default.ensures.carries rest best o x))))
+    (rw (c.requires.1.0.0, c.requires.1.0.1) at (c.entrance-place.ensures.carries (trace at c.empty.new.slots.items) c.args.growth.now.threads.items rest best o
+    (c.in_default.ensures.carries rest best o x)))))

@@ -2,6 +2,7 @@ use Rattle.std.proofs.Common.{◌+◌, ◌<◌, sym, arith, length-drop, inl, in
 use Rattle.rc_pass.specs.Sights.{Sight}
 use Rattle.rc_pass.specs.Near.{seen_from, size}
 use Rattle.rc_pass.specs.Threads.{thread_of}
+use Rattle.rc_pass.specs.Trace.{trace}
 use Rattle.rc_pass.proofs.StepLemmas.{in_at, from_at, has_room, stepping_waits, stepping_closes, stepping_ends}
 use Rattle.rc_pass.proofs.pass.step.Goals as goal
 
@@ -23,13 +24,13 @@ threads-preserved-then-head-spot g c =
           c.get.ensures.item c.requires.1.0 c.threads.invariant.stepping c.push.new.self later room c.requires.1.1.1.1.1 c.push.ensures;
     }
 
-pub close-requires : goal.close-requires
-close-requires g c = (
+pub entrance-place-requires : goal.entrance-place-requires
+entrance-place-requires g c = (
   c.requires.0,
   (
     (in_at (size c.args.spot.now.course) c.args.spot.now.at (min c.args.spot.now.course.hi (c.args.spot.now.at + 3)) c.args.curr.now.items c.threads.index
         (thread_of c.get.result.0 c.get.result.1.now) c.requires.1.0 c.get.ensures.item).0,
-    c.threads.invariant.stepping.sound,
+    c.threads.invariant.stepping.sound.capacity,
   ),
 )
 
@@ -43,9 +44,10 @@ returns-in-Some-clause-carries g c below best o x =
     let s : Sight = seen_from c.args.spot.now g.text in
     stepping_ends s (size c.args.spot.now.course) c.args.spot.now.course.hi c.args.spot.now.at c.args.curr.now.items c.args.growth.now.threads c.threads.growth.threads c.threads.growth.entered
     c.threads.index (thread_of c.get.result.0 c.get.result.1.now) c.get.ensures.item c.requires.1.0 c.threads.invariant.stepping
-    c.close.new.growth.threads.items c.close.new.growth.entered.items c.copy_from_slice.new.self.items c.close.new.growth.slots.items c.in-Some.number
-    (omega (arith, c.if-head-spot.false)) (sym c.copy_from_slice.ensures.items)
-    c.in-Some.ensures.carries
+    c.close.new.growth.threads.items c.close.new.growth.entered.items c.copy_row.new.slots.items c.close.new.growth.slots.items c.in-Some.number
+    (omega (arith, c.if-head-spot.false)) (sym c.copy_row.ensures.items)
+    (λ below best o x. c.entrance-place.ensures.carries (trace c.get.result.0.start c.copy_row.new.slots.items) c.threads.growth.threads.items below best o
+    (c.in-Some.ensures.carries below best o x))
     below best o x
 
 pub returns-in-Some-clause-begun : goal.returns-in-Some-clause-begun
@@ -65,8 +67,9 @@ threads-preserved g c =
     record {
       stepping = stepping_closes s (size c.args.spot.now.course) c.args.spot.now.course.hi c.args.spot.now.at c.args.curr.now.items c.args.growth.now.threads c.threads.growth.threads c.threads.growth.entered
           c.threads.index (thread_of c.get.result.0 c.get.result.1.now) c.get.ensures.item c.requires.1.0 c.threads.invariant.stepping
-          c.close.new.growth.threads c.close.new.growth.entered c.copy_from_slice.new.self.items
-          (omega (arith, c.if-head-spot.false)) (sym c.copy_from_slice.ensures.items)
-          c.in_default.ensures.carries
+          c.close.new.growth.threads c.close.new.growth.entered c.copy_row.new.slots.items
+          (omega (arith, c.if-head-spot.false)) (sym c.copy_row.ensures.items)
+          (λ below best o x. c.entrance-place.ensures.carries (trace c.get.result.0.start c.copy_row.new.slots.items) c.threads.growth.threads.items below best o
+          (c.in_default.ensures.carries below best o x))
           c.in_default.ensures.grown c.in_default.ensures.some;
     }

@@ -10,3 +10,6 @@ invariant-threads g l = record {
 
 abbrev pub ghost-close : goal.ghost-close
 ghost-close g a = g.text
+
+abbrev pub ghost-entrance : goal.ghost-entrance
+ghost-entrance g a = g.text

@@ -1,9 +1,8 @@
-use Rattle.std.proofs.Common.{◌≤◌, sym, ap, subst, ◌∙◌, arith, None}
+use Rattle.std.proofs.Common.{ap, subst, ◌∙◌, arith, None}
 use Rattle.rc_program.specs.Answer.{Search}
 use Rattle.rc_program.specs.Sought.{anchoring_of}
 use Rattle.rc_program.specs.Programs.{search_of}
 use Rattle.rc_pass.specs.Sights.{sight_of}
-use Rattle.rc_pass.specs.Moves.{seen}
 use Rattle.rc_pass.specs.Passing.{Tells}
 use Rattle.rc_pass.proofs.EarlyLemmas.{tells_greatest, outside_greatest}
 use Rattle.rc_pass.proofs.KeptLemmas.{kept_seen}

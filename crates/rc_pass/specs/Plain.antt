@@ -1,0 +1,8 @@
+-- Only proofs use this file.
+-- On which sides of a position no byte past ASCII stands.
+use Rattle.std.specs.Prelude.{◌≡◌, ◌<◌, Some}
+use Rattle.rc_program.specs.Looks.{Side, nothing, stands}
+
+abbrev pub IsPlain : Side → Type 0
+IsPlain nothing = Unit {0}
+IsPlain (stands b c) = (b < 128) × (c ≡ Some b)

@@ -1,0 +1,76 @@
+//! Where a thread enters.
+ghost use Rattle.std.specs.Prelude.{◌≡◌, ◌<◌, ◌∷◌, IsTrue, List, Option, ℕ};
+ghost use Rattle.rc_text.specs.Text.{Searched};
+ghost use Rattle.rc_walks.specs.Walks.{Pair};
+ghost use Rattle.rc_pass.specs.Entrances.{IsOnWay, IsShut};
+ghost use Rattle.rc_pass.specs.Near.{IsHere, seen_from, size};
+ghost use Rattle.rc_pass.specs.Passing.{Carries};
+ghost use Rattle.rc_pass.specs.Threads.{Thread};
+ghost use Rattle.rc_pass.specs.Trace.{Trace};
+
+use crate::moves::{Move, look_up};
+use crate::sparse_set::SparseSet;
+use crate::spot::Spot;
+use rc_program::place::Place;
+
+/// Whether it is quickly told where a thread goes on from the place.
+#[inline(always)]
+fn is_quick(place: &Place) -> bool {
+    matches!(place, Place::Dead | Place::Byte(_, _) | Place::Guard(_, _))
+}
+
+/// Whether no thread goes on from the place, where that is quickly told.
+#[inline(always)]
+fn is_shut(spot: &Spot, place: usize) -> bool
+    ghost text: { Searched }
+    requires here { IsHere spot.now text }
+    requires place_in { place < size spot.now.course }
+    ensures { IsTrue result → IsShut (seen_from spot.now text) (place, spot.now.at) }
+{
+    if !is_quick(&spot.course.program.places[place]) {
+        return false;
+    }
+    match look_up(spot, place) {
+        Move::Stops => true,
+        _ => false,
+    }
+}
+
+/// The first way on from the place, where the second is seen to be shut; else the place itself.
+#[inline(always)]
+fn way_on(spot: &Spot, place: usize) -> usize
+    ghost text: { Searched }
+    requires here { IsHere spot.now text }
+    requires place_in { place < size spot.now.course }
+    ensures inside { result < size spot.now.course }
+    ensures way { IsOnWay (seen_from spot.now text) spot.now.at place result }
+{
+    match &spot.course.program.places[place] {
+        Place::Choice(first, second) => {
+            if is_shut(spot, *second) {
+                return *first;
+            }
+            place
+        }
+        _ => place,
+    }
+}
+
+/// The place at which a thread enters that is to enter at `root`: that place, or the first way on from there, where the second is shut
+/// and the place wasn't entered yet.
+#[inline(always)]
+pub fn entrance(spot: &Spot, root: usize, entered: &SparseSet) -> usize
+    ghost text: { Searched }
+    requires here { IsHere spot.now text }
+    requires root { root < size spot.now.course }
+    requires capacity { entered.now.capacity ≡ size spot.now.course }
+    ensures inside { result < size spot.now.course }
+    ensures carries { (h : Trace) (resting : List Thread) (below : List (Trace × Pair)) (best o : Option Trace)
+        → Carries (seen_from spot.now text) spot.now.at resting entered.now.items ((h, (result, spot.now.at)) ∷ below) best o
+        → Carries (seen_from spot.now text) spot.now.at resting entered.now.items ((h, (root, spot.now.at)) ∷ below) best o }
+{
+    if entered.contains(root) {
+        return root;
+    }
+    way_on(spot, root)
+}
