@@ -11,30 +11,30 @@ ghost use Rattle.chunk_replace.specs.Told.{searched, told_parts};
 
 use crate::error::ReplaceError;
 use crate::put::{put_parts, put_range};
-use crate::template::Template;
+use crate::template::{Part, Template};
 use regex_cursor::Cursor;
 use regex_cursor::engines::meta::{Captures, CapturesMatches};
 use regex_cursor::run::Sink;
 use regex_cursor::types::Match;
 
-/// Puts the content's bytes from `from` to a match, and the template for it, and tells where the match ends.
+/// Puts the content's bytes from `from` to a match, and some parts for it, and tells where the match ends.
 fn put_match<W: Sink, C: Cursor>(
     out: &mut W,
     text: &mut C,
     from: usize,
     found: Match,
-    template: &Template<'_>,
+    parts: &[Part<'_>],
     caps: &Captures,
 ) -> Result<usize, ReplaceError>
     ensures content { C.content text.new ≡ C.content text.old }
     ensures put { Puts result (W.taken out.old) (W.taken out.new)
-        (slice_range (C.content text.old) from found.start ++ told_parts (C.content text.old) caps.now template.now.parts.items) }
+        (slice_range (C.content text.old) from found.start ++ told_parts (C.content text.old) caps.now parts.now) }
     ensures end { IfOk result (λ n. n ≡ found.end) }
     ensures ok { OnOk result (W.has_failed out.new ≡ W.has_failed out.old) }
     ensures err { IfErr result (λ e. (e ≡ Write) × (W.has_failed out.new ≡ true)) }
 {
     put_range(out, text, from, found.start())?;
-    put_parts(out, text, &template.parts, caps)?;
+    put_parts(out, text, parts, caps)?;
     Ok(found.end())
 }
 
@@ -67,6 +67,7 @@ pub(crate) fn put_replaced<W: Sink, C: Cursor + Drop, T: Cursor>(
     ensures unfailed { IfErr result (λ e. e ≢ Write → (e ≡ Memory) × (W.has_failed out.new ≡ false)) }
     ensures write_failed { result ≡ Err Write → W.has_failed out.new ≡ true }
 {
+    let parts = template.parts.as_slice();
     let mut from = 0;
     let mut count = 0;
     while let Some(item) = matches.next() {
@@ -74,7 +75,7 @@ pub(crate) fn put_replaced<W: Sink, C: Cursor + Drop, T: Cursor>(
             return Err(ReplaceError::Memory);
         };
         let found = caps.get_match().unwrap();
-        from = put_match(out, text, from, found, template, &caps)?;
+        from = put_match(out, text, from, found, parts, &caps)?;
         count += 1;
     }
     put_rest(out, text, from)?;

@@ -1,9 +1,12 @@
-use Rattle.std.proofs.Common.{rules, ◌≡◌, ◌∙◌, ◌+◌, Ok, Err, Result, ℕ, List, length, ap, arith, refl}
+use Rattle.std.proofs.Common.{rules, ◌≡◌, ◌∙◌, ◌+◌, ◌++◌, Ok, Err, Result, ℕ, List, length, ap, arith, refl, slice_range, subst}
+use Rattle.std.specs.Io.KnownBytes.{Appends}
 use Rattle.rc_text.specs.Found.{Found}
 use Rattle.chunk_replace.specs.declared.error.ReplaceError.{ReplaceError}
 use Rattle.rc_captures.specs.Captures.{match_of}
 use Rattle.rc_meta.specs.Left.{HoldsNext, captures_left}
+use Rattle.regex_cursor.specs.Put.{AppendsBeginning}
 use Rattle.regex_cursor.proofs.Puts.{err_puts}
+use Rattle.chunk_replace.specs.Told.{told_parts}
 use Rattle.chunk_replace.proofs.Rewriting.{going_begun, going_init, going_more, going_rest, going_stopped, holds_next, same_found}
 use Rattle.chunk_replace.proofs.rewrite.put_replaced.Goals as goal
 
@@ -31,7 +34,9 @@ loop-item-preserved g c =
       going =
           going_more (g.T.Cursor.content c.args.text.now) (g.T.Cursor.content c.loop-item.text) c.args.template.now.parts.items c.args.matches.now s u c.loop-item.from
           c.unwrap-found.result.start _ _ _ c.in-Ok.caps c.unwrap-found.result c.loop-item.invariant.going h m c.loop-item.invariant.content refl
-          _ c.in_ok-from.ensures.end c.in_ok-from.ensures.put;
+          _ c.in_ok-from.ensures.end
+          (subst (λ ps. Appends (g.W.Sink.taken c.loop-item.out) (g.W.Sink.taken c.put_match.new.out) (slice_range (g.T.Cursor.content c.loop-item.text) c.loop-item.from c.unwrap-found.result.start ++ told_parts (g.T.Cursor.content c.loop-item.text) c.in-Ok.caps ps))
+          c.as_slice-parts.ensures.value c.in_ok-from.ensures.put);
       count = omega (arith, left, c.loop-item.invariant.count);
       sound = search rules;
     }
@@ -45,7 +50,8 @@ returns-in_err-from-clause-put g c kind =
     err_puts c.from_residual.result _ _ _ c.from_residual.ensures.0
     (going_begun (g.T.Cursor.content c.args.text.now) (g.T.Cursor.content c.loop-item.text) c.args.template.now.parts.items c.args.matches.now s u c.loop-item.from
     c.unwrap-found.result.start _ _ _ c.in-Ok.caps c.unwrap-found.result c.loop-item.invariant.going h m c.loop-item.invariant.content refl
-    c.in_err-from.ensures.put kind)
+    (subst (λ ps. AppendsBeginning (g.W.Sink.taken c.loop-item.out) (g.W.Sink.taken c.put_match.new.out) (slice_range (g.T.Cursor.content c.loop-item.text) c.loop-item.from c.unwrap-found.result.start ++ told_parts (g.T.Cursor.content c.loop-item.text) c.in-Ok.caps ps))
+    c.as_slice-parts.ensures.value c.in_err-from.ensures.put) kind)
 
 pub returns-in_err-put_rest-clause-put : goal.returns-in_err-put_rest-clause-put
 returns-in_err-put_rest-clause-put g c kind =
