@@ -5,11 +5,14 @@ use Rattle.std.specs.List.{flat_map}
 use Rattle.std.specs.Io.KnownBytes.{Appends}
 use Rattle.std.proofs.Math.Seq.{take-suc}
 use Rattle.std.proofs.lemmas.Grind.{flat_map-append}
+use Rattle.rc_text.specs.declared.types.Span.{Span}
+use Rattle.rc_captures.specs.Captures.{group_span, named_span}
 use Rattle.rc_captures.specs.declared.captures.Captures.{Captures}
 use Rattle.chunk_replace.specs.declared.template.Part.{Part}
-use Rattle.chunk_replace.specs.declared.template.Part.TheVariants.{Literal}
+use Rattle.chunk_replace.specs.declared.template.Part.TheVariants.{Literal, Group, Name}
 use Rattle.chunk_replace.specs.Template.{byte, items_of}
 use Rattle.regex_cursor.specs.Put.{AppendsBeginning}
+use Rattle.chunk_replace.specs.Spans.{bytes_in}
 use Rattle.chunk_replace.specs.Told.{told, told_part, told_parts}
 use Rattle.regex_cursor.proofs.Grown.{Appends-trans}
 use Rattle.regex_cursor.proofs.Puts.{begun_less, begun_more}
@@ -22,6 +25,17 @@ told_bytes content caps (b ∷ text) = ap (λ l. b ∷ l) (told_bytes content ca
 pub told_literal : (content : List ℕ) (caps : Captures) (p : Part) (text : Bor (List ℕ)) (bytes : List ℕ) → p ≡ Literal text → bytes ≡ text.now →
     bytes ≡ told_part content caps p
 told_literal content caps p text bytes is e = e ∙ told_bytes content caps text.now ∙ ap (told_part content caps) (sym is)
+
+-- a group for its bytes
+pub told_group : (content : List ℕ) (caps : Captures) (p : Part) (n : ℕ) (o : Option Span) → p ≡ Group n → o ≡ group_span caps n →
+    bytes_in content o ≡ told_part content caps p
+told_group content caps p n o is e =
+    ap (bytes_in content) e ∙ sym (append-nil (bytes_in content (group_span caps n))) ∙ ap (told_part content caps) (sym is)
+
+pub told_name : (content : List ℕ) (caps : Captures) (p : Part) (name : Bor (List ℕ)) (o : Option Span) → p ≡ Name name → o ≡ named_span caps name.now →
+    bytes_in content o ≡ told_part content caps p
+told_name content caps p name o is e =
+    ap (bytes_in content) e ∙ sym (append-nil (bytes_in content (named_span caps name.now))) ∙ ap (told_part content caps) (sym is)
 
 told_append : (content : List ℕ) (caps : Captures) (ps qs : List Part) → told_parts content caps (ps ++ qs) ≡ told_parts content caps ps ++ told_parts content caps qs
 told_append content caps ps qs =

@@ -31,7 +31,7 @@ fn reference(word: &str) -> Option<Part<'_>>
 }
 
 /// The number that the digits write.
-fn number_of(word: &str) -> Option<usize>
+pub(crate) fn number_of(word: &str) -> Option<usize>
     ensures { SomeIff result (IsNumber word.now) (digits_value 10 word.now) }
 {
     if word.as_bytes().first() == Some(&b'+') {

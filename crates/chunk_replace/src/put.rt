@@ -2,6 +2,7 @@
 ghost use Rattle.std.specs.Prelude.{◌≡◌, slice_range, IfErr, OnOk, true};
 ghost use Rattle.chunk_replace.specs.declared.error.ReplaceError.TheVariants.{Write};
 ghost use Rattle.regex_cursor.specs.Put.{Puts};
+ghost use Rattle.chunk_replace.specs.Spans.{bytes_in};
 ghost use Rattle.chunk_replace.specs.Told.{told_part, told_parts};
 
 use crate::error::ReplaceError;
@@ -41,6 +42,23 @@ pub(crate) fn put_range<W: Sink, C: Cursor>(
     }
 }
 
+/// Puts the bytes of a group's span; none where the group took no part.
+fn put_group<W: Sink, C: Cursor>(
+    out: &mut W,
+    cursor: &mut C,
+    group: Option<Span>,
+) -> Result<(), ReplaceError>
+    ensures content { C.content cursor.new ≡ C.content cursor.old }
+    ensures put { Puts result (W.taken out.old) (W.taken out.new) (bytes_in (C.content cursor.old) group) }
+    ensures ok { OnOk result (W.has_failed out.new ≡ W.has_failed out.old) }
+    ensures err { IfErr result (λ e. (e ≡ Write) × (W.has_failed out.new ≡ true)) }
+{
+    match group {
+        Some(span) => put_range(out, cursor, span.start, span.end),
+        None => Ok(()),
+    }
+}
+
 /// Puts what the captures tell of a part: its text, or the bytes of its group.
 fn put_part<W: Sink, C: Cursor>(
     out: &mut W,
@@ -53,14 +71,10 @@ fn put_part<W: Sink, C: Cursor>(
     ensures ok { OnOk result (W.has_failed out.new ≡ W.has_failed out.old) }
     ensures err { IfErr result (λ e. (e ≡ Write) × (W.has_failed out.new ≡ true)) }
 {
-    let group = match part {
-        Part::Literal(text) => return put_bytes(out, text.as_bytes()),
-        Part::Group(number) => caps.get_group(*number),
-        Part::Name(name) => caps.get_group_by_name(name),
-    };
-    match group {
-        Some(span) => put_range(out, cursor, span.start, span.end),
-        None => Ok(()),
+    match part {
+        Part::Literal(text) => put_bytes(out, text.as_bytes()),
+        Part::Group(number) => put_group(out, cursor, caps.get_group(*number)),
+        Part::Name(name) => put_group(out, cursor, caps.get_group_by_name(name)),
     }
 }
 

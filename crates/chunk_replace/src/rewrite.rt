@@ -11,28 +11,31 @@ ghost use Rattle.chunk_replace.specs.Told.{searched, told_parts};
 
 use crate::error::ReplaceError;
 use crate::put::{put_parts, put_range};
-use crate::template::Template;
+use crate::template::{Part, Template};
 use regex_cursor::Cursor;
 use regex_cursor::engines::meta::{Captures, CapturesMatches};
 use regex_cursor::run::Sink;
-use regex_cursor::types::Span;
+use regex_cursor::types::Match;
 
-/// Puts the content's bytes before a match, and the template for it.
+/// Puts the content's bytes from `from` to a match, and some parts for it, and tells where the match ends.
 fn put_match<W: Sink, C: Cursor>(
     out: &mut W,
     text: &mut C,
-    gap: Span,
-    template: &Template<'_>,
+    from: usize,
+    found: Match,
+    parts: &[Part<'_>],
     caps: &Captures,
-) -> Result<(), ReplaceError>
+) -> Result<usize, ReplaceError>
     ensures content { C.content text.new ≡ C.content text.old }
     ensures put { Puts result (W.taken out.old) (W.taken out.new)
-        (slice_range (C.content text.old) gap.start gap.end ++ told_parts (C.content text.old) caps.now template.now.parts.items) }
+        (slice_range (C.content text.old) from found.start ++ told_parts (C.content text.old) caps.now parts.now) }
+    ensures end { IfOk result (λ n. n ≡ found.end) }
     ensures ok { OnOk result (W.has_failed out.new ≡ W.has_failed out.old) }
     ensures err { IfErr result (λ e. (e ≡ Write) × (W.has_failed out.new ≡ true)) }
 {
-    put_range(out, text, gap.start, gap.end)?;
-    put_parts(out, text, &template.parts, caps)
+    put_range(out, text, from, found.start())?;
+    put_parts(out, text, parts, caps)?;
+    Ok(found.end())
 }
 
 /// Puts the content's bytes from `from` on.
@@ -64,6 +67,7 @@ pub(crate) fn put_replaced<W: Sink, C: Cursor + Drop, T: Cursor>(
     ensures unfailed { IfErr result (λ e. e ≢ Write → (e ≡ Memory) × (W.has_failed out.new ≡ false)) }
     ensures write_failed { result ≡ Err Write → W.has_failed out.new ≡ true }
 {
+    let parts = template.parts.as_slice();
     let mut from = 0;
     let mut count = 0;
     while let Some(item) = matches.next() {
@@ -71,12 +75,7 @@ pub(crate) fn put_replaced<W: Sink, C: Cursor + Drop, T: Cursor>(
             return Err(ReplaceError::Memory);
         };
         let found = caps.get_match().unwrap();
-        let gap = Span {
-            start: from,
-            end: found.start(),
-        };
-        put_match(out, text, gap, template, &caps)?;
-        from = found.end();
+        from = put_match(out, text, from, found, parts, &caps)?;
         count += 1;
     }
     put_rest(out, text, from)?;

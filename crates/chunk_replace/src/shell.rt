@@ -8,6 +8,7 @@ ghost use Rattle.chunk_replace.specs.Words.{AreWords, HasWords, IsDone, IsSubsti
 ghost use Rattle.chunk_replace.specs.Template.{template_items};
 
 use crate::error::ReplaceError;
+use crate::marks::number_of;
 use crate::replace::replace_all;
 use crate::template::Template;
 use regex_cursor::engines::meta::Regex;
@@ -36,10 +37,7 @@ const OUT_OF_MEMORY: &str = "out of memory";
 fn chunk_len(word: &str) -> Option<usize>
     ensures { SomeIff result (IsLength word.now) (digits_value 10 word.now) }
 {
-    if word.as_bytes().first() == Some(&b'+') {
-        return None;
-    }
-    let n = word.parse::<usize>().ok()?;
+    let n = number_of(word)?;
     if n == 0 || n > LONGEST_CHUNK {
         return None;
     }
