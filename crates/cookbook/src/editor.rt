@@ -18,14 +18,8 @@ pub fn previous_match(
     text: ChunkCursor<'_>,
     caret: usize,
 ) -> Result<Option<Match>, AllocError> {
-    let mut last = None;
-    for found in regex.find_iter(alloc, Input::new(text))? {
-        if found.start() >= caret {
-            break;
-        }
-        last = Some(found);
-    }
-    Ok(last)
+    let matches = regex.find_iter(alloc, Input::new(text))?;
+    Ok(matches.take_while(|found| found.start() < caret).last())
 }
 
 /// The matches with a byte in the window.
@@ -35,14 +29,9 @@ pub fn matches_on_screen(
     text: ChunkCursor<'_>,
     window: Span,
 ) -> Result<Vec<Match>, AllocError> {
-    let mut shown = Vec::new(alloc);
-    for found in regex.find_iter(alloc, Input::new(text))? {
-        if found.start() >= window.end {
-            break;
-        }
-        if found.end() > window.start {
-            shown.push(found)?;
-        }
-    }
-    Ok(shown)
+    let matches = regex.find_iter(alloc, Input::new(text))?;
+    matches
+        .take_while(|found| found.start() < window.end)
+        .filter(|found| found.end() > window.start)
+        .collect(alloc)
 }

@@ -14,11 +14,13 @@ pub fn lines_with_a_match(
     text: ChunkCursor<'_>,
 ) -> Result<Vec<Span>, AllocError> {
     let mut input = Input::new(text);
-    let mut lines = Vec::new(alloc);
-    for line in newline.split(alloc, Input::new(text))? {
-        if finder.is_match(input.slice(line.start, line.start + line.len())) {
-            lines.push(line)?;
-        }
-    }
-    Ok(lines)
+    let lines = newline.split(alloc, Input::new(text))?;
+    lines
+        .filter(|line| has_match(finder, &mut input, *line))
+        .collect(alloc)
+}
+
+/// Whether the line has a match.
+fn has_match(finder: &mut Finder<'_>, input: &mut Input<ChunkCursor<'_>>, line: Span) -> bool {
+    finder.is_match(input.slice(line.start, line.start + line.len()))
 }

@@ -106,9 +106,10 @@ fn show_spans(rt: &HostRuntime, name: &str, spans: &[Span]) -> Result<(), Troubl
 
 /// Writes bytes on a line of their own.
 fn show_bytes(rt: &HostRuntime, bytes: &[u8]) -> Result<(), Trouble> {
-    let mut out = rt.stdout();
-    out.write_all(bytes).map_err(|_| Trouble::Write)?;
-    writeln!(out).map_err(|_| Trouble::Write)
+    if rt.stdout().write_all(bytes).is_err() {
+        return Err(Trouble::Write);
+    }
+    writeln!(rt.stdout()).map_err(|_| Trouble::Write)
 }
 
 /// Next, previous, on screen.

@@ -14,9 +14,5 @@ pub fn rules_met(
 ) -> Result<Vec<usize>, AllocError> {
     let mut set = PatternSet::new(alloc, rules.regex().pattern_len())?;
     rules.which_patterns(&mut Input::new(text), &mut set);
-    let mut met = Vec::new(alloc);
-    for rule in set.iter() {
-        met.push(rule.as_usize())?;
-    }
-    Ok(met)
+    set.iter().map(|rule| rule.as_usize()).collect(alloc)
 }

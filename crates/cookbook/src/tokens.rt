@@ -14,14 +14,12 @@ const WORD: usize = 1;
 
 /// The words among the tokens.
 pub fn words(alloc: Global, kinds: &Regex, text: ChunkCursor<'_>) -> Result<Vec<Span>, AllocError> {
-    let mut words = Vec::new(alloc);
     let input = Input::new(text).with_anchored(Anchored::Yes);
-    for token in kinds.find_iter(alloc, input)? {
-        if token.pattern().as_usize() == WORD {
-            words.push(token.span())?;
-        }
-    }
-    Ok(words)
+    let tokens = kinds.find_iter(alloc, input)?;
+    tokens
+        .filter(|token| token.pattern().as_usize() == WORD)
+        .map(|token| token.span())
+        .collect(alloc)
 }
 
 /// Gives the tokens of a text, one after another.
