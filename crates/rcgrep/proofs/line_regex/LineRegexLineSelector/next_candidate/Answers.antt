@@ -23,9 +23,9 @@ returns-clause-within c =
     subst (λ n. n ≤ length page) (sym told)
     (first_inside r page reach (omega (arith, c.min-reach.ensures)) c.min-reach.type_inv (inner.patterns.now.local c.if-not-self.false))
 
--- nothing that ends before the match of the part that was searched has a match
+-- no line that ends before the match of the part that was searched has a match
 pub returns-clause-unselected : goal.returns-clause-unselected
-returns-clause-unselected c = λ start end order near.
+returns-clause-unselected c = λ start end order near are.
     let inner = c.self.inside in
     let r = inner.patterns.now.regex in
     let page = c.args.page.now in
@@ -36,5 +36,5 @@ returns-clause-unselected c = λ start end order near.
     ∙ sym (ap (λ (s : Selecting). start_or (length text) (answer_by (regex_kind s.regex) (search_for (sought s.regex) (whole text)))) c.self.view_is) in
     sym (ap (λ (s : Selecting). is_picked s.is_inverted (has_match s.regex piece)) c.self.view_is)
     ∙ ap (λ b. is_picked b (has_match r piece)) c.if-self.false
-    ∙ unmatched r page reach (omega (arith, c.min-reach.ensures)) c.min-reach.type_inv (inner.patterns.now.local c.if-not-self.false) start end order
+    ∙ unmatched r page reach (omega (arith, c.min-reach.ensures)) c.min-reach.type_inv (inner.patterns.now.local c.if-not-self.false) start end order are
     (subst (λ n. end < n) told near)
