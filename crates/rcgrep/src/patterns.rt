@@ -46,6 +46,9 @@ pub struct Patterns {
     /// Each assertion in them says the same at a newline as at the end of a text, and none spells an empty text. So a line that has a match
     /// has one between other lines too.
     pub is_local: bool,
+    /// A search is slow from the first byte past ASCII on: tables don't read it where an assertion asks for words of Unicode, and no needle is
+    /// sought behind it. A matter of speed alone.
+    pub is_slow_past_ascii: bool,
     ghost local: { is_local ≡ true → ∥ IsLocalRegex regex ∥₁ },
 }
 
@@ -55,7 +58,12 @@ pub fn build(alloc: Global, hirs: &[Hir]) -> Result<Patterns, BuildError>
 {
     let regex = Regex::builder().build_many_from_hir(alloc, hirs)?;
     let is_local = are_local(hirs);
-    Ok(Patterns { regex, is_local })
+    let is_slow_past_ascii = has_scalar_looks(hirs) && !regex.is_accelerated();
+    Ok(Patterns {
+        regex,
+        is_local,
+        is_slow_past_ascii,
+    })
 }
 
 /// Whether each assertion in the pattern says the same at a newline as at the end of a text. `\b` and `(?m)$` do, `$` doesn't.
@@ -86,4 +94,21 @@ fn are_local(hirs: &[Hir]) -> bool
         }
     }
     true
+}
+
+/// Whether an assertion on words of Unicode stands in a pattern.
+fn has_scalar_looks(hirs: &[Hir]) -> bool {
+    for hir in hirs {
+        let looks = hir.properties().look_set();
+        if looks.contains(Look::WordUnicode)
+            || looks.contains(Look::WordUnicodeNegate)
+            || looks.contains(Look::WordStartUnicode)
+            || looks.contains(Look::WordEndUnicode)
+            || looks.contains(Look::WordStartHalfUnicode)
+            || looks.contains(Look::WordEndHalfUnicode)
+        {
+            return true;
+        }
+    }
+    false
 }
