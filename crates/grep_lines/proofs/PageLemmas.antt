@@ -4,10 +4,12 @@ use Rattle.std.proofs.Common.{ℕ, zero, suc, ◌≡◌, ◌<◌, ◌≤◌, ◌
 use Rattle.std.specs.List.{filter, slice_range}
 use Rattle.std.specs.Io.BufRead.{take_through, drop_through}
 use Rattle.std.specs.Io.KnownBytes.{Consumes}
-use Rattle.std.proofs.Math.Seq.{drop-append_seam, take-append_seam}
+use Rattle.std.proofs.Math.ListN.{get_or-append}
+use Rattle.std.proofs.Math.Seq.{drop-append_seam, get_or-append_seam, take-append_seam}
 use Rattle.std.proofs.lemmas.Bool.{eqb-false}
 use Rattle.std.proofs.lemmas.List.{get_or-append-add, take-append-drop}
-use Rattle.grep_lines.specs.Lines.{before_first, lines}
+use Rattle.std.proofs.lemmas.Option.{slice_get-get_or}
+use Rattle.grep_lines.specs.Lines.{AreLinesOf, before_first, lines}
 use Rattle.grep_lines.specs.Pages.{AreLinesBefore, IsWhole, is_newline}
 use Rattle.grep_lines.specs.Selected.{AreSkipped}
 use Rattle.grep_lines.proofs.LineLemmas.{Parts, none, whole, cut, parts}
@@ -95,23 +97,44 @@ behind x xs w (cut line t l) =
     ∙ w (length line + suc k) (omega (arith, sized, last)) in
     (line, rest, record { split = split; first = l; ended = ended })
 
+line_stands : (page front line rest : List ℕ) → IsWhole front → page ≡ front ++ (line ++ 10 ∷ rest) → AreLinesOf page (length front) (length front + length line)
+line_stands page front line rest w e =
+    let sized : length page ≡ length front + (length line + suc (length rest)) =
+    ap length e ∙ length-append front (line ++ 10 ∷ rest) ∙ ap (λ n. length front + n) (length-append line (10 ∷ rest)) in
+    record {
+      before = λ k last.
+          slice_get-get_or page k 0 (omega (arith, last, sized))
+          ∙ ap Some (ap (λ p. get_or p k 0) e ∙ get_or-append front (line ++ 10 ∷ rest) 0 k (omega (arith, last)) ∙ w k last);
+      behind =
+          slice_get-get_or page (length front + length line) 0 (omega (arith, sized))
+          ∙ ap Some (ap (λ p. get_or p (length front + length line) 0) e ∙ get_or-append-add front (line ++ 10 ∷ rest) (length line) 0 ∙ get_or-append_seam line 10 rest 0);
+    }
+
+-- what ends with a newline is whole
+whole_line : (front line : List ℕ) → IsWhole (front ++ (line ++ 10 ∷ []))
+whole_line front line k last =
+    let sized : length (front ++ (line ++ 10 ∷ [])) ≡ length front + (length line + 1) =
+    length-append front (line ++ 10 ∷ []) ∙ ap (λ n. length front + n) (length-append line (10 ∷ [])) in
+    let place : k ≡ length front + length line = omega (arith, last, sized) in
+    ap (λ n. get_or (front ++ (line ++ 10 ∷ [])) n 0) place ∙ get_or-append-add front (line ++ 10 ∷ []) (length line) 0 ∙ get_or-append_seam line 10 [] 0
+
 module _ (picks : List ℕ → Bool) (page : List ℕ) (place : ℕ)
-    (unselected : (start end : ℕ) → start ≤ end → end < place → picks (slice_range page start end) ≡ false) where
-  line_unselected : (front line rest : List ℕ) → page ≡ front ++ (line ++ 10 ∷ rest) → length front + length line < place → picks line ≡ false
-  line_unselected front line rest e near =
+    (unselected : (start end : ℕ) → start ≤ end → end < place → AreLinesOf page start end → picks (slice_range page start end) ≡ false) where
+  line_unselected : (front line rest : List ℕ) → IsWhole front → page ≡ front ++ (line ++ 10 ∷ rest) → length front + length line < place → picks line ≡ false
+  line_unselected front line rest w e near =
       let at = length front in
       let sized : at + length line - at ≡ length line = omega arith in
       let piece : slice_range page at (at + length line) ≡ line =
       ap (λ p. slice_range p at (at + length line)) e ∙ ap (λ n. take n (drop at (front ++ (line ++ 10 ∷ rest)))) sized
       ∙ ap (take (length line)) (drop-append_seam front (line ++ 10 ∷ rest)) ∙ take-append_seam line (10 ∷ rest) in
-      subst (λ l. picks l ≡ false) piece (unselected at (at + length line) (omega arith) near)
+      subst (λ l. picks l ≡ false) piece (unselected at (at + length line) (omega arith) near (line_stands page front line rest w e))
 
   -- no line of whole lines that end before the place is selected
-  none_selected : (n : ℕ) (front xs tail : List ℕ) → length xs ≤ n → IsWhole xs → page ≡ front ++ (xs ++ tail) → length front + length xs ≤ place →
+  none_selected : (n : ℕ) (front xs tail : List ℕ) → length xs ≤ n → IsWhole front → IsWhole xs → page ≡ front ++ (xs ++ tail) → length front + length xs ≤ place →
       filter picks (lines xs) ≡ []
-  none_selected n front [] tail short w e fits = refl
-  none_selected zero front (x ∷ xs) tail short w e fits = absurd (omega (arith, short))
-  none_selected (suc n) front (x ∷ xs) tail short w e fits =
+  none_selected n front [] tail short v w e fits = refl
+  none_selected zero front (x ∷ xs) tail short v w e fits = absurd (omega (arith, short))
+  none_selected (suc n) front (x ∷ xs) tail short v w e fits =
       let found = behind x xs w (parts (x ∷ xs)) in
       let line = found.0 in
       let rest = found.1 in
@@ -119,13 +142,13 @@ module _ (picks : List ℕ → Bool) (page : List ℕ) (place : ℕ)
       let sized : length (x ∷ xs) ≡ length line + suc (length rest) = ap length is.split ∙ length-append line (10 ∷ rest) in
       let joined : page ≡ front ++ (line ++ 10 ∷ (rest ++ tail)) =
       e ∙ ap (λ ys. front ++ (ys ++ tail)) is.split ∙ ap (λ ys. front ++ ys) (append_assoc line (10 ∷ rest) tail) in
-      let other = line_unselected front line (rest ++ tail) joined (omega (arith, sized, fits)) in
+      let other = line_unselected front line (rest ++ tail) v joined (omega (arith, sized, fits)) in
       let later : page ≡ (front ++ (line ++ 10 ∷ [])) ++ (rest ++ tail) =
       joined ∙ ap (λ ys. front ++ ys) (sym (append_assoc line (10 ∷ []) (rest ++ tail))) ∙ sym (append_assoc front (line ++ 10 ∷ []) (rest ++ tail)) in
       let far : length (front ++ (line ++ 10 ∷ [])) ≡ length front + (length line + 1) =
       length-append front (line ++ 10 ∷ []) ∙ ap (λ k. length front + k) (length-append line (10 ∷ [])) in
       ap (filter picks) is.first ∙ ap (λ b. cond b (line ∷ filter picks (lines rest)) (filter picks (lines rest))) other
-      ∙ none_selected n (front ++ (line ++ 10 ∷ [])) rest tail (omega (arith, sized, short)) is.ended later (omega (arith, sized, far, fits))
+      ∙ none_selected n (front ++ (line ++ 10 ∷ [])) rest tail (omega (arith, sized, short)) (whole_line front line) is.ended later (omega (arith, sized, far, fits))
 
   module _ (end count : ℕ) (are : AreLinesBefore page place end count) (within : end ≤ length page) where
     pub skip_page : (old new : Option (List ℕ)) → Consumes old new (take end page) → IfSome old (λ text. AreSkipped picks text count new)
@@ -140,6 +163,6 @@ module _ (picks : List ℕ → Bool) (page : List ℕ) (place : ℕ)
           parts = ap lines e ∙ lines_append shown rest are.whole;
           counted = are.counted;
           unselected =
-              none_selected (length shown) [] shown (drop end page) (omega arith) are.whole (sym (take-append-drop end page))
+              none_selected (length shown) [] shown (drop end page) (omega arith) (λ k e. absurd (omega (arith, e))) are.whole (sym (take-append-drop end page))
               (omega (arith, length-take-le end page within, are.within));
         }

@@ -1,6 +1,6 @@
 //! Lines, one after another, and which of them are selected.
 ghost use Rattle.std.specs.Prelude.{◌≡◌, ◌≤◌, ◌<◌, ℕ, Bool, List, [], IfOk, IfSome, MatchOption, false, filter, length, slice_range};
-ghost use Rattle.grep_lines.specs.Lines.{lines};
+ghost use Rattle.grep_lines.specs.Lines.{AreLinesOf, lines};
 ghost use Rattle.grep_lines.specs.Pages.{MayTake};
 ghost use Rattle.grep_lines.specs.Selected.{AreSkipped, IsNextSelected, TakesLine};
 
@@ -19,11 +19,11 @@ pub trait LineSelector {
         ensures value { result ≡ selects self.old line.now }
         ensures same { selects self.new ≡ selects self.old };
 
-    /// A place in a page such that nothing in the page that ends before it is selected as a line: so the lines that end before it need
-    /// not be looked at one by one. It is 0 where nothing is known.
+    /// A place in a page, which begins where a line does, such that no line of the page that ends before it is selected: so these need not
+    /// be looked at one by one. It is 0 where nothing is known.
     fn next_candidate(&mut self, page: &[u8]) -> usize
         ensures within { result ≤ length page.now }
-        ensures unselected { (start end : ℕ) → start ≤ end → end < result → selects self.old (slice_range page.now start end) ≡ false }
+        ensures unselected { (start end : ℕ) → start ≤ end → end < result → AreLinesOf page.now start end → selects self.old (slice_range page.now start end) ≡ false }
         ensures same { selects self.new ≡ selects self.old }
     {
         0

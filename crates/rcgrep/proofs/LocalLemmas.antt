@@ -1,11 +1,11 @@
 -- Only proofs use this file.
--- Patterns without assertions spell in a piece of a text what they spell in the text.
+-- What a pattern spells in a line of a text by itself, it spells in the text too.
 use denote.Struct.Props.{props}
-use Rattle.std.proofs.Common.{ℕ, zero, suc, ◌≡◌, ◌<◌, ◌≤◌, ◌+◌, ◌-◌, ◌∙◌, [], ◌∷◌, Bool, false, true, List, Option, Some, None, All, not, ◌&&◌, ◌||◌, ap, arith, refl, sym, subst, inl, inr, length, take, drop, get_or, get_or-take, length-take-le, length-drop, map, take_all, take-take, eq-eqb, true≢false}
+use Rattle.std.proofs.Common.{ℕ, zero, suc, ◌≡◌, ◌<◌, ◌≤◌, ◌+◌, ◌-◌, ◌∙◌, [], ◌∷◌, Bool, false, true, List, Option, Some, None, All, IsTrue, not, ◌&&◌, ◌||◌, ap, ap₂, arith, min, refl, sym, subst, inl, inr, length, take, drop, get_or, get_or-take, length-take-le, length-drop, map, take_all, take-take, eq-eqb, true≢false}
 use Rattle.std.specs.List.{slice_get, slice_range}
 use Rattle.std.specs.Option.{is_some}
-use Rattle.std.proofs.lemmas.Bool.{or_from, or_parts}
-use Rattle.std.proofs.lemmas.List.{drop-take, get_or-drop}
+use Rattle.std.proofs.lemmas.Bool.{or_from, or_left, or_right}
+use Rattle.std.proofs.lemmas.List.{drop-take, get_or-drop, length-take}
 use Rattle.std.proofs.lemmas.List.Elements.{All-head, All-map, All-more, All-tail, All-weaker}
 use Rattle.std.proofs.lemmas.Option.{get_or_from_slice_get, slice_get-get_or, slice_get_within}
 use Rattle.std.proofs.Math.Logic.{∥∥₁_elim}
@@ -16,53 +16,74 @@ use Rattle.rc_pattern.specs.Re.{Re, empty, literal, byte_in, char_in, look, repe
 use Rattle.rc_pattern.specs.Properties.{has_look, is_zero, look_number, minimum_len}
 use Rattle.rc_pattern.specs.WellFormed.{HasBounds, IsWellFormed}
 use Rattle.rc_pattern.specs.declared.hir.Hir.{Hir}
+use Rattle.rc_pattern.specs.declared.hir.Look.{Look}
+use Rattle.rc_pattern.specs.declared.hir.Look.TheVariants.{Start, End, StartLF, EndLF, StartCRLF, EndCRLF, WordAscii, WordAsciiNegate, WordUnicode, WordUnicodeNegate, WordStartAscii, WordEndAscii, WordStartUnicode, WordEndUnicode, WordStartHalfAscii, WordEndHalfAscii, WordStartHalfUnicode, WordEndHalfUnicode}
 use Rattle.rc_pattern.specs.Meaning.{meaning}
 use Rattle.rc_program.specs.Answer.{Search, IsPassed, answer, last_of}
 use Rattle.rc_program.specs.Greatest.{IsSpelledIn}
 use Rattle.rc_program.specs.Program.{shown}
 use Rattle.rc_program.specs.Sought.{Sought, may_be_empty, passes_over, search_for}
 use Rattle.rc_program.specs.Spells.{SpelledBy, Spells, Stands, Turns}
-use Rattle.rc_program.specs.Text.{Text}
+use Rattle.rc_program.specs.Text.{Text, holds}
 use Rattle.rc_program.proofs.AnswerLemmas.{answer_law}
 use Rattle.rc_program.proofs.GreatestLemmas.{greatest_law, spelled_within}
 use Rattle.rc_program.proofs.GroupLemmas.{group_law, shown_all, without_groups_bounded}
+use Rattle.rc_program.proofs.PropertyLemmas.{property_law}
 use Rattle.rc_meta.specs.Views.{regex_kind, sought}
 use Rattle.rc_meta.specs.declared.regex.Regex.{Regex}
 use Rattle.rc_program.specs.Kinds.{answer_by}
 use Rattle.rcgrep.specs.Picked.{has_match}
-use Rattle.rcgrep.specs.Local.{HasNoLook, IsLocal, IsLocalPattern, IsLocalRegex, LocalLaw, start_or}
+use Rattle.grep_lines.specs.Lines.{AreLinesOf}
+use Rattle.rcgrep.specs.Local.{HasLineLooks, IsLocal, IsLocalPattern, IsLocalRegex, LocalLaw, is_line_look, start_or}
+use Rattle.rcgrep.proofs.LineLemmas.{same_holds}
 use Rattle.regex_cursor.specs.Output.{whole}
 
--- n turns of what leads on alike
-turns_on : (R S : ℕ → ℕ → Type 0) (at : ℕ) → ((i j : ℕ) → R i j → S (at + i) (at + j)) → (n i j : ℕ) → Turns R n i j → Turns S n (at + i) (at + j)
-turns_on R S at on zero i j e = ap (λ k. at + k) e
-turns_on R S at on (suc n) i j t = (at + t.0, on i t.0 t.1, turns_on R S at on n t.0 j t.2)
+-- n turns of what leads on alike, up to a place
+turns_rise : (R : ℕ → ℕ → Type 0) → ((i j : ℕ) → R i j → i ≤ j) → (n i j : ℕ) → Turns R n i j → i ≤ j
+turns_rise R rise zero i j e = omega (arith, e)
+turns_rise R rise (suc n) i j t = omega (arith, rise i t.0 t.1, turns_rise R rise n t.0 j t.2)
 
-module _ (t u : Text) (at : ℕ) (same : (k b : ℕ) → slice_get t.content k ≡ Some b → slice_get u.content (at + k) ≡ Some b) where
+turns_on : (R S : ℕ → ℕ → Type 0) (at size : ℕ) → ((i j : ℕ) → R i j → i ≤ j) → ((i j : ℕ) → j ≤ size → R i j → S (at + i) (at + j)) → (n i j : ℕ) → j ≤ size →
+    Turns R n i j → Turns S n (at + i) (at + j)
+turns_on R S at size rise on zero i j near e = ap (λ k. at + k) e
+turns_on R S at size rise on (suc n) i j near t =
+    (at + t.0, on i t.0 (omega (arith, near, turns_rise R rise n t.0 j t.2)) t.1, turns_on R S at size rise on n t.0 j near t.2)
+
+spells_rise : (t : Text) (h : Re) (i j : ℕ) → Spells t h i j → i ≤ j
+spells_rise t h i j s = let least = property_law.least t h i j s in omega (arith, least.2)
+
+module _ (t u : Text) (at size : ℕ) (same : (k b : ℕ) → slice_get t.content k ≡ Some b → slice_get u.content (at + k) ≡ Some b)
+    (looks : (l : Look) → IsTrue (is_line_look l) → (p : ℕ) → p ≤ size → holds t l p ≡ holds u l (at + p)) where
   stands_on : (bs : List ℕ) (i j : ℕ) → Stands t.content bs i j → Stands u.content bs (at + i) (at + j)
   stands_on [] i j e = ap (λ k. at + k) e
   stands_on (b ∷ bs) i j s =
       let next : at + (i + 1) ≡ at + i + 1 = omega arith in
       (same i b s.0, subst (λ k. Stands u.content bs k (at + j)) next (stands_on bs (i + 1) j s.1))
 
-  spells_on : (h : Re) → HasNoLook h → (i j : ℕ) → Spells t h i j → Spells u h (at + i) (at + j)
-  spells_on empty bare i j e = ap (λ k. at + k) e
-  spells_on (literal bs) bare i j s = stands_on bs i j s
-  spells_on (byte_in rs) bare i j s = (s.0, same i s.0 s.1, s.2, omega (arith, s.3))
-  spells_on (char_in rs) bare i j s = (s.0, s.1, s.2, stands_on _ i j s.3)
-  spells_on (look l) bare i j s = absurd (true≢false (sym (eq-eqb (look_number l) (look_number l) refl) ∙ bare l))
-  spells_on (repeat least most greedy a) bare i j s = (s.0, s.1, s.2, turns_on (Spells t a) (Spells u a) at (spells_on a bare) s.0 i j s.3)
-  spells_on (capture n name a) bare i j s = spells_on a bare i j s
-  spells_on (cat a rest) bare i j s =
-      (at + s.0, spells_on a (λ l. (or_parts (has_look a l) (has_look rest l) (bare l)).0) i s.0 s.1, spells_on rest (λ l. (or_parts (has_look a l) (has_look rest l) (bare l)).1) s.0 j s.2)
-  spells_on (alt a rest) bare i j (inl s) = inl (spells_on a (λ l. (or_parts (has_look a l) (has_look rest l) (bare l)).0) i j s)
-  spells_on (alt a rest) bare i j (inr s) = inr (spells_on rest (λ l. (or_parts (has_look a l) (has_look rest l) (bare l)).1) i j s)
-  spells_on none bare i j s = absurd s
+  spells_on : (h : Re) → HasLineLooks h → (i j : ℕ) → j ≤ size → Spells t h i j → Spells u h (at + i) (at + j)
+  spells_on empty lines i j near e = ap (λ k. at + k) e
+  spells_on (literal bs) lines i j near s = stands_on bs i j s
+  spells_on (byte_in rs) lines i j near s = (s.0, same i s.0 s.1, s.2, omega (arith, s.3))
+  spells_on (char_in rs) lines i j near s = (s.0, s.1, s.2, stands_on _ i j s.3)
+  spells_on (look l) lines i j near s =
+      let is = lines l (eq-eqb (look_number l) (look_number l) refl) in
+      (sym (looks l is i (omega (arith, near, s.1))) ∙ s.0, ap (λ k. at + k) s.1)
+  spells_on (repeat least most greedy a) lines i j near s =
+      (s.0, s.1, s.2, turns_on (Spells t a) (Spells u a) at size (spells_rise t a) (spells_on a lines) s.0 i j near s.3)
+  spells_on (capture n name a) lines i j near s = spells_on a lines i j near s
+  spells_on (cat a rest) lines i j near s = (
+    at + s.0,
+    spells_on a (λ l h. lines l (or_left (has_look a l) (has_look rest l) h)) i s.0 (omega (arith, near, spells_rise t rest s.0 j s.2)) s.1,
+    spells_on rest (λ l h. lines l (or_right (has_look a l) (has_look rest l) h)) s.0 j near s.2,
+  )
+  spells_on (alt a rest) lines i j near (inl s) = inl (spells_on a (λ l h. lines l (or_left (has_look a l) (has_look rest l) h)) i j near s)
+  spells_on (alt a rest) lines i j near (inr s) = inr (spells_on rest (λ l h. lines l (or_right (has_look a l) (has_look rest l) h)) i j near s)
+  spells_on none lines i j near s = absurd s
 
-  spelled_on : (n : ℕ) (hs : List Re) → All IsLocalPattern hs → (p i j : ℕ) → SpelledBy t n hs p i j → SpelledBy u n hs p (at + i) (at + j)
-  spelled_on n [] bare p i j s = absurd s
-  spelled_on n (h ∷ hs) bare p i j (inl s) = inl (s.0, spells_on h (All-head IsLocalPattern h hs bare).bare i j s.1)
-  spelled_on n (h ∷ hs) bare p i j (inr s) = inr (spelled_on (n + 1) hs (All-tail IsLocalPattern h hs bare) p i j s)
+  spelled_on : (n : ℕ) (hs : List Re) → All IsLocalPattern hs → (p i j : ℕ) → j ≤ size → SpelledBy t n hs p i j → SpelledBy u n hs p (at + i) (at + j)
+  spelled_on n [] local p i j near s = absurd s
+  spelled_on n (h ∷ hs) local p i j near (inl s) = inl (s.0, spells_on h (All-head IsLocalPattern h hs local).looks i j near s.1)
+  spelled_on n (h ∷ hs) local p i j near (inr s) = inr (spelled_on (n + 1) hs (All-tail IsLocalPattern h hs local) p i j near s)
 
 never_empty : (hs : List Re) → All IsLocalPattern hs → may_be_empty hs ≡ false
 never_empty [] local = refl
@@ -73,6 +94,11 @@ none_of : (b c : Bool) → c ≡ false → (b && c) ≡ false
 none_of true c e = e
 none_of false c e = refl
 
+-- the piece by itself has the assertions that its place in the text has
+abbrev LooksOn : Sought → (piece text : List ℕ) (at : ℕ) → Type 0
+LooksOn q piece text at = (l : Look) → IsTrue (is_line_look l) → (p : ℕ) → p ≤ length piece →
+    holds (search_for q (whole piece)).text l p ≡ holds (search_for q (whole text)).text l (at + p)
+
 module _ (q : Sought) (is : IsLocal q) where
   abbrev places : List Re
   places = shown q.grouped q.patterns
@@ -81,7 +107,7 @@ module _ (q : Sought) (is : IsLocal q) where
   bounds = shown_all HasBounds without_groups_bounded q.grouped q.patterns is.bounded
 
   module _ (text piece : List ℕ) (at : ℕ) (short : length text < 18446744073709551616) (inside : at + length piece ≤ length text)
-      (same : (k b : ℕ) → slice_get piece k ≡ Some b → slice_get text (at + k) ≡ Some b) where
+      (same : (k b : ℕ) → slice_get piece k ≡ Some b → slice_get text (at + k) ≡ Some b) (looks : LooksOn q piece text at) where
     -- a match in the piece is one in the text
     spelled_there : (m : Found) → IsSpelledIn (search_for q (whole piece)) m →
         IsSpelledIn (search_for q (whole text)) (record { pattern = m.pattern; start = at + m.start; end = at + m.end })
@@ -91,7 +117,7 @@ module _ (q : Sought) (is : IsLocal q) where
         let near = spelled_within s m h in
         let parts = (greatest_law.by_program places s m bounds refl).0 h in
         let spelled = (group_law.shown_spells s.text q.grouped 0 q.patterns m.pattern m.start m.end).0 parts.3 in
-        let on = spelled_on s.text r.text at same 0 q.patterns is.local m.pattern m.start m.end spelled in
+        let on = spelled_on s.text r.text at (length piece) same looks 0 q.patterns is.local m.pattern m.start m.end (omega (arith, near.2)) spelled in
         (greatest_law.by_program places r (record { pattern = m.pattern; start = at + m.start; end = at + m.end }) bounds refl).1 (
           (omega arith, omega (arith, near.1, near.2, inside, short), λ e. absurd (true≢false (sym e))),
           parts.1,
@@ -120,7 +146,7 @@ module _ (q : Sought) (is : IsLocal q) where
 
   module _ (text piece : List ℕ) (at : ℕ) (short : length text < 18446744073709551616) (inside : at + length piece ≤ length text)
       (near : at + length piece < start_or (length text) (answer (search_for q (whole text))))
-      (same : (k b : ℕ) → slice_get piece k ≡ Some b → slice_get text (at + k) ≡ Some b) where
+      (same : (k b : ℕ) → slice_get piece k ≡ Some b → slice_get text (at + k) ≡ Some b) (looks : LooksOn q piece text at) where
     no_match : (o : Option Found) → answer (search_for q (whole piece)) ≡ o → is_some o ≡ false
     no_match None e = refl
     no_match (Some m) e =
@@ -128,7 +154,7 @@ module _ (q : Sought) (is : IsLocal q) where
         let within = spelled_within (search_for q (whole piece)) m spelled in
         absurd (before_answer text (answer (search_for q (whole text))) refl
         (record { pattern = m.pattern; start = at + m.start; end = at + m.end })
-        (spelled_there text piece at short inside same m spelled) (omega (arith, near, within.1, within.2)))
+        (spelled_there text piece at short inside same looks m spelled) (omega (arith, near, within.1, within.2)))
 
 -- the bytes of a piece are the text's
 piece_same : (text : List ℕ) (start end : ℕ) → start ≤ end → end ≤ length text → (k b : ℕ) → slice_get (slice_range text start end) k ≡ Some b →
@@ -149,13 +175,36 @@ begins_inside q text (Some m) e =
     let within = spelled_within s m (greatest_law.answer_spelled s m e) in
     omega (arith, within.1, within.2)
 
+-- what a search of the whole content sees
+whole_text : (q : Sought) (content : List ℕ) → q.terminator ≡ 10 → length content < 18446744073709551616 →
+    (search_for q (whole content)).text ≡ record { content = content; slice_start = 0; slice_end = length content; terminator = 10 }
+whole_text q content ended short =
+    let all : min 18446744073709551615 (length content) ≡ length content = omega (arith, short) in
+    ap₂ (λ n t. let seen : Text = record { content = content; slice_start = 0; slice_end = n; terminator = t } in seen) all ended
+
 pub local_law : LocalLaw
-local_law q text start end is short order near =
+local_law q text start end is short order are near =
     let inside : end ≤ length text = omega (arith, near, begins_inside q text (answer (search_for q (whole text))) refl) in
     let piece = slice_range text start end in
     let size : start + length piece ≡ end = omega (arith, order, inside, length-drop start text, length-take-le (end - start) (drop start text) (omega (arith, inside, length-drop start text))) in
+    let looks : LooksOn q piece text start = λ l line p within.
+    ap (λ t. holds t l p) (whole_text q piece is.terminator (omega (arith, short, size, inside)))
+    ∙ same_holds text start end order are p (omega (arith, size, within)) l line
+    ∙ sym (ap (λ t. holds t l (start + p)) (whole_text q text is.terminator short)) in
     no_match q is text piece start short (omega (arith, size, inside)) (subst (λ n. n < start_or (length text) (answer (search_for q (whole text)))) (sym size) near)
-    (piece_same text start end order inside) (answer (search_for q (whole piece))) refl
+    (piece_same text start end order inside) looks (answer (search_for q (whole piece))) refl
+
+-- the lines of a part of a text are lines of the text
+lines_of_part : (page : List ℕ) (reach start end : ℕ) → start ≤ end → end < reach → AreLinesOf page start end → AreLinesOf (take reach page) start end
+lines_of_part page reach start end order near are = record {
+  before = λ k e. byte_of_part k (omega (arith, e, order, near)) (are.before k e);
+  behind = byte_of_part end near are.behind;
+}
+  where
+    byte_of_part : (k : ℕ) → k < reach → slice_get page k ≡ Some 10 → slice_get (take reach page) k ≡ Some 10
+    byte_of_part k near e =
+        slice_get-get_or (take reach page) k 0 (omega (arith, near, slice_get_within page k 10 e, length-take reach page))
+        ∙ ap Some (get_or-take reach page k 0 near ∙ get_or_from_slice_get page k 10 0 e)
 
 -- the patterns so far
 abbrev pub MeansLocal : Hir → Type 0
@@ -168,12 +217,14 @@ pub all_local : (xs : List Hir) (n : ℕ) → length xs ≤ n → All MeansLocal
 all_local xs n done ok = All-map IsLocalPattern meaning xs (rw (take_all n xs done) at ok)
 
 -- the patterns were built of such ones
-pub built_local : (r : Regex) (hs : List Re) → regex_kind r ≡ LeftmostFirst → (sought r).patterns ≡ hs → All IsWellFormed hs → All IsLocalPattern hs → IsLocalRegex r
-built_local r hs kind same ok local = record {
+pub built_local : (r : Regex) (hs : List Re) → regex_kind r ≡ LeftmostFirst → (sought r).terminator ≡ 10 → (sought r).patterns ≡ hs → All IsWellFormed hs →
+    All IsLocalPattern hs → IsLocalRegex r
+built_local r hs kind ended same ok local = record {
   kind = kind;
   local = record {
     bounded = subst (All HasBounds) (sym same) (All-weaker IsWellFormed HasBounds (λ h f. f.bounded) hs ok);
     local = subst (All IsLocalPattern) (sym same) local;
+    terminator = ended;
   };
 }
 
@@ -184,13 +235,13 @@ piece_of_part page reach start end order inside =
     ap (take (end - start)) (ap (λ n. drop start (take n page)) rest ∙ drop-take start (reach - start) page)
     ∙ take-take (end - start) (reach - start) (drop start page) (omega (arith, inside))
 
--- nothing that ends before the match of a part of a page has a match
+-- no line that ends before the match of a part of a page has a match
 module _ (r : Regex) (page : List ℕ) (reach : ℕ) (inside : reach ≤ length page) (short : reach < 18446744073709551616) where
   abbrev first : ℕ
   first = start_or (length (take reach page)) (answer_by (regex_kind r) (search_for (sought r) (whole (take reach page))))
 
-  unmatched_by : IsLocalRegex r → (start end : ℕ) → start ≤ end → end < first → has_match r (slice_range page start end) ≡ false
-  unmatched_by is start end order near =
+  unmatched_by : IsLocalRegex r → (start end : ℕ) → start ≤ end → AreLinesOf page start end → end < first → has_match r (slice_range page start end) ≡ false
+  unmatched_by is start end order are near =
       let text = take reach page in
       let size : length text ≡ reach = length-take-le reach page inside in
       let kinded : (s : Search) → answer_by (regex_kind r) s ≡ answer s = λ s. ap (λ k. answer_by k s) is.kind in
@@ -200,10 +251,11 @@ module _ (r : Regex) (page : List ℕ) (reach : ℕ) (inside : reach ≤ length 
       let ends : end ≤ reach = omega (arith, size, before, begins_inside (sought r) text found refl) in
       ap is_some (kinded (search_for (sought r) (whole (slice_range page start end))))
       ∙ ap (λ piece. is_some (answer (search_for (sought r) (whole piece)))) (sym (piece_of_part page reach start end order ends))
-      ∙ local_law (sought r) text start end is.local (omega (arith, size, short)) order before
+      ∙ local_law (sought r) text start end is.local (omega (arith, size, short)) order
+      (lines_of_part page reach start end order (omega (arith, size, before, begins_inside (sought r) text found refl)) are) before
 
-  pub unmatched : ∥ IsLocalRegex r ∥₁ → (start end : ℕ) → start ≤ end → end < first → has_match r (slice_range page start end) ≡ false
-  unmatched h start end order near = ∥∥₁_elim h (hlevel props) (λ is. unmatched_by is start end order near)
+  pub unmatched : ∥ IsLocalRegex r ∥₁ → (start end : ℕ) → start ≤ end → AreLinesOf page start end → end < first → has_match r (slice_range page start end) ≡ false
+  unmatched h start end order are near = ∥∥₁_elim h (hlevel props) (λ is. unmatched_by is start end order are near)
 
   inside_by : IsLocalRegex r → first ≤ length page
   inside_by is =
@@ -214,3 +266,24 @@ module _ (r : Regex) (page : List ℕ) (reach : ℕ) (inside : reach ≤ length 
 
   pub first_inside : ∥ IsLocalRegex r ∥₁ → first ≤ length page
   first_inside h = ∥∥₁_elim h (hlevel props) inside_by
+
+-- the four assertions that see where a text begins or ends aren't there
+pub line_looks : (h : Re) → has_look h Start ≡ false → has_look h End ≡ false → has_look h StartCRLF ≡ false → has_look h EndCRLF ≡ false → HasLineLooks h
+line_looks h a b c d Start is = absurd (true≢false (sym is ∙ a))
+line_looks h a b c d End is = absurd (true≢false (sym is ∙ b))
+line_looks h a b c d StartCRLF is = absurd (true≢false (sym is ∙ c))
+line_looks h a b c d EndCRLF is = absurd (true≢false (sym is ∙ d))
+line_looks h a b c d StartLF is = refl
+line_looks h a b c d EndLF is = refl
+line_looks h a b c d WordAscii is = refl
+line_looks h a b c d WordAsciiNegate is = refl
+line_looks h a b c d WordUnicode is = refl
+line_looks h a b c d WordUnicodeNegate is = refl
+line_looks h a b c d WordStartAscii is = refl
+line_looks h a b c d WordEndAscii is = refl
+line_looks h a b c d WordStartUnicode is = refl
+line_looks h a b c d WordEndUnicode is = refl
+line_looks h a b c d WordStartHalfAscii is = refl
+line_looks h a b c d WordEndHalfAscii is = refl
+line_looks h a b c d WordStartHalfUnicode is = refl
+line_looks h a b c d WordEndHalfUnicode is = refl

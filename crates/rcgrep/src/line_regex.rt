@@ -1,5 +1,5 @@
 //! Patterns that select lines.
-ghost use Rattle.std.specs.Prelude.{◌≡◌, false, length};
+ghost use Rattle.std.specs.Prelude.{◌≡◌, ◌≤◌, false, length};
 ghost use Rattle.rc_program.specs.Kinds.{answer_by};
 ghost use Rattle.rc_program.specs.Sought.{search_for};
 ghost use Rattle.rc_meta.specs.Views.{regex_kind, sought};
@@ -101,6 +101,18 @@ impl<'p> LineRegex<'p> {
         start
     }
 
+    /// How many bytes of a page are searched at once: only those before the first one past ASCII, where a search would be slow from there on.
+    fn reach_in(&self, page: &[u8]) -> usize
+        ensures { result ≤ length page.now }
+    {
+        let reach = self.reach.min(page.len());
+        if self.patterns.is_slow_past_ascii {
+            ascii_len(&page[..reach])
+        } else {
+            reach
+        }
+    }
+
     /// The match of the line that a search from a place on finds.
     pub fn find_from(&mut self, line: &[u8], from: usize) -> Option<Match> {
         if from > line.len() {
@@ -109,6 +121,18 @@ impl<'p> LineRegex<'p> {
         let mut input = Input::new(line).range(from, line.len());
         self.patterns.regex.search_with(&mut self.cache, &mut input)
     }
+}
+
+/// How many bytes stand before the first one that is past ASCII.
+fn ascii_len(bytes: &[u8]) -> usize
+    ensures { result ≤ length bytes.now }
+{
+    for (place, byte) in bytes.iter().enumerate() {
+        if !byte.is_ascii() {
+            return place;
+        }
+    }
+    bytes.len()
 }
 
 /// The line, as a text of its own.
@@ -138,7 +162,7 @@ impl LineSelector for LineRegex<'_> {
         if self.is_inverted || self.reach == 0 || !self.patterns.is_local {
             return 0;
         }
-        let reach = self.reach.min(page.len());
+        let reach = self.reach_in(page);
         self.find_start(&page[..reach])
     }
 }

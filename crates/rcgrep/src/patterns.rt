@@ -1,10 +1,10 @@
 //! The patterns by which lines are selected.
 ghost use Rattle.std.specs.Prelude.{◌≡◌, ◌≤◌, All, IsTrue, length, map, true};
 ghost use Rattle.rc_pattern.specs.Meaning.{meaning};
-ghost use Rattle.rcgrep.specs.Local.{HasNoLook, IsLocalPattern, IsLocalRegex};
+ghost use Rattle.rcgrep.specs.Local.{HasLineLooks, IsLocalPattern, IsLocalRegex};
 
 use regex_cursor::engines::meta::{BuildError, Regex};
-use regex_cursor::hir::Hir;
+use regex_cursor::hir::{Hir, Look};
 use regex_cursor::syntax::{Config, Error, parse};
 use std::alloc::{AllocFailed, Global};
 
@@ -43,8 +43,12 @@ pub fn read_patterns(alloc: Global, texts: &[&str], config: &Config) -> Result<V
 #[derive(Drop)]
 pub struct Patterns {
     pub regex: Regex,
-    /// No assertion stands in them, and none spells an empty text. So what has a match has one wherever it stands.
+    /// Each assertion in them says the same at a newline as at the end of a text, and none spells an empty text. So a line that has a match
+    /// has one between other lines too.
     pub is_local: bool,
+    /// A search is slow from the first byte past ASCII on: tables don't read it where an assertion asks for words of Unicode, and no needle is
+    /// sought behind it. A matter of speed alone.
+    pub is_slow_past_ascii: bool,
     ghost local: { is_local ≡ true → ∥ IsLocalRegex regex ∥₁ },
 }
 
@@ -54,24 +58,33 @@ pub fn build(alloc: Global, hirs: &[Hir]) -> Result<Patterns, BuildError>
 {
     let regex = Regex::builder().build_many_from_hir(alloc, hirs)?;
     let is_local = are_local(hirs);
-    Ok(Patterns { regex, is_local })
+    let is_slow_past_ascii = has_scalar_looks(hirs) && !regex.is_accelerated();
+    Ok(Patterns {
+        regex,
+        is_local,
+        is_slow_past_ascii,
+    })
 }
 
-/// Whether no assertion stands in the pattern.
-fn has_no_look(hir: &Hir) -> bool
-    ensures { IsTrue result → HasNoLook (meaning hir.now) }
+/// Whether each assertion in the pattern says the same at a newline as at the end of a text. `\b` and `(?m)$` do, `$` doesn't.
+fn has_line_looks(hir: &Hir) -> bool
+    ensures { IsTrue result → HasLineLooks (meaning hir.now) }
 {
-    hir.properties().look_set().iter().next().is_none()
+    let looks = hir.properties().look_set();
+    !looks.contains(Look::Start)
+        && !looks.contains(Look::End)
+        && !looks.contains(Look::StartCRLF)
+        && !looks.contains(Look::EndCRLF)
 }
 
-/// Whether no assertion stands in the pattern, and it spells no empty text.
+/// Whether each assertion in the pattern is such a one, and it spells no empty text.
 fn is_local(hir: &Hir) -> bool
     ensures { IsTrue result → IsLocalPattern (meaning hir.now) }
 {
-    has_no_look(hir) && hir.properties().minimum_len() != Some(0)
+    has_line_looks(hir) && hir.properties().minimum_len() != Some(0)
 }
 
-/// Whether no assertion stands in any pattern, and none spells an empty text.
+/// Whether each assertion in the patterns is such a one, and none spells an empty text.
 fn are_local(hirs: &[Hir]) -> bool
     ensures { IsTrue result → All IsLocalPattern (map meaning hirs.now) }
 {
@@ -81,4 +94,21 @@ fn are_local(hirs: &[Hir]) -> bool
         }
     }
     true
+}
+
+/// Whether an assertion on words of Unicode stands in a pattern.
+fn has_scalar_looks(hirs: &[Hir]) -> bool {
+    for hir in hirs {
+        let looks = hir.properties().look_set();
+        if looks.contains(Look::WordUnicode)
+            || looks.contains(Look::WordUnicodeNegate)
+            || looks.contains(Look::WordStartUnicode)
+            || looks.contains(Look::WordEndUnicode)
+            || looks.contains(Look::WordStartHalfUnicode)
+            || looks.contains(Look::WordEndHalfUnicode)
+        {
+            return true;
+        }
+    }
+    false
 }

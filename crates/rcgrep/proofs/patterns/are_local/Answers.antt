@@ -1,4 +1,3 @@
-use Rattle.std.proofs.Common.{refl}
 use Rattle.rcgrep.proofs.LocalLemmas.{all_local, local_more}
 use Rattle.rcgrep.proofs.patterns.are_local.Goals as goal
 

@@ -1,13 +1,14 @@
 use Rattle.std.proofs.Common.{◌∙◌, ap, map}
 use Rattle.rc_pattern.specs.Meaning.{meaning}
-use Rattle.rc_settings.specs.Settings.{match_kind_of}
+use Rattle.rc_settings.specs.Settings.{line_terminator_of, match_kind_of}
 use Rattle.rcgrep.proofs.LocalLemmas.{built_local}
 use Rattle.rcgrep.proofs.patterns.build.Goals as goal
 
--- patterns that were found to have no assertion
+-- patterns whose assertions were found to say the same of a line between others
 pub invariant_of-result : goal.invariant_of-result
 invariant_of-result c = record {
   local = λ yes.
       let built = c.in_ok-regex.ensures in
-      ∣ built_local c.in_ok-regex.regex (map meaning c.args.hirs.now) (ap match_kind_of (built.settings ∙ c.builder.ensures.settings)) built.patterns built.buildable.well_formed (c.are_local-is_local.ensures yes) ∣₁;
+      ∣ built_local c.in_ok-regex.regex (map meaning c.args.hirs.now) (ap match_kind_of (built.settings ∙ c.builder.ensures.settings))
+      (ap line_terminator_of (built.settings ∙ c.builder.ensures.settings)) built.patterns built.buildable.well_formed (c.are_local-is_local.ensures yes) ∣₁;
 }

@@ -16,25 +16,25 @@ returns-clause-within c =
     let inner = c.self.inside in
     let r = inner.patterns.now.regex in
     let page = c.args.page.now in
-    let reach = c.min-reach.result in
+    let reach = c.reach_in-reach.result in
     let text = take reach page in
     let told = c.find_start.ensures.value
     ∙ sym (ap (λ (s : Selecting). start_or (length text) (answer_by (regex_kind s.regex) (search_for (sought s.regex) (whole text)))) c.self.view_is) in
     subst (λ n. n ≤ length page) (sym told)
-    (first_inside r page reach (omega (arith, c.min-reach.ensures)) c.min-reach.type_inv (inner.patterns.now.local c.if-not-self.false))
+    (first_inside r page reach (omega (arith, c.reach_in-reach.ensures)) c.reach_in-reach.type_inv (inner.patterns.now.local c.if-not-self.false))
 
--- nothing that ends before the match of the part that was searched has a match
+-- no line that ends before the match of the part that was searched has a match
 pub returns-clause-unselected : goal.returns-clause-unselected
-returns-clause-unselected c = λ start end order near.
+returns-clause-unselected c = λ start end order near are.
     let inner = c.self.inside in
     let r = inner.patterns.now.regex in
     let page = c.args.page.now in
-    let reach = c.min-reach.result in
+    let reach = c.reach_in-reach.result in
     let text = take reach page in
     let piece = slice_range page start end in
     let told = c.find_start.ensures.value
     ∙ sym (ap (λ (s : Selecting). start_or (length text) (answer_by (regex_kind s.regex) (search_for (sought s.regex) (whole text)))) c.self.view_is) in
     sym (ap (λ (s : Selecting). is_picked s.is_inverted (has_match s.regex piece)) c.self.view_is)
     ∙ ap (λ b. is_picked b (has_match r piece)) c.if-self.false
-    ∙ unmatched r page reach (omega (arith, c.min-reach.ensures)) c.min-reach.type_inv (inner.patterns.now.local c.if-not-self.false) start end order
+    ∙ unmatched r page reach (omega (arith, c.reach_in-reach.ensures)) c.reach_in-reach.type_inv (inner.patterns.now.local c.if-not-self.false) start end order are
     (subst (λ n. end < n) told near)
