@@ -21,6 +21,9 @@ const LEAST: usize = 512;
 /// How many bytes of a page are searched at once at most.
 const GREATEST: usize = 1 << 20;
 
+/// So many bytes of a page are looked at together for one past ASCII.
+const BLOCK: usize = 64;
+
 /// A match that begins so close behind a line has its line looked at without such a search, and so has the next one.
 const CLOSE: usize = 64;
 
@@ -101,7 +104,7 @@ impl<'p> LineRegex<'p> {
         start
     }
 
-    /// How many bytes of a page are searched at once: only those before the first one past ASCII, where a search would be slow from there on.
+    /// How many bytes of a page are searched at once: only blocks before the first that has one past ASCII, where a search would be slow from there on.
     fn reach_in(&self, page: &[u8]) -> usize
         ensures { result ≤ length page.now }
     {
@@ -123,16 +126,29 @@ impl<'p> LineRegex<'p> {
     }
 }
 
-/// How many bytes stand before the first one that is past ASCII.
+/// How many bytes stand before the first block in which one is past ASCII.
 fn ascii_len(bytes: &[u8]) -> usize
     ensures { result ≤ length bytes.now }
 {
-    for (place, byte) in bytes.iter().enumerate() {
-        if !byte.is_ascii() {
+    let mut place = 0;
+    while place < bytes.len() {
+        let end = bytes.len().min(place.saturating_add(BLOCK));
+        if is_past_ascii(&bytes[place..end]) {
             return place;
         }
+        place = end;
     }
-    bytes.len()
+    place
+}
+
+/// Whether one of the bytes is past ASCII.
+#[inline(always)]
+fn is_past_ascii(bytes: &[u8]) -> bool {
+    let mut all = 0;
+    for byte in bytes {
+        all |= *byte;
+    }
+    all >= 128
 }
 
 /// The line, as a text of its own.
