@@ -7,5 +7,5 @@ pub mod searches;
 pub mod settings;
 
 pub use answers::{Fault, GroupAt, MatchAt, Refusal};
-pub use searches::Searcher;
+pub use searches::{Searcher, free};
 pub use settings::Settings;

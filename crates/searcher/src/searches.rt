@@ -86,6 +86,19 @@ impl Searcher {
         Ok(searcher)
     }
 
+    /// The same on the heap.
+    pub fn boxed(
+        alloc: Global,
+        patterns: &[&[u8]],
+        settings: &Settings,
+    ) -> Result<Box<Searcher>, Refusal>
+        ensures built { IfOk result (λ b. IsBuilt settings.now patterns.now b.value) }
+        ensures refused { IfErr result (IsRefused settings.now patterns.now) }
+    {
+        let searcher = Searcher::new(alloc, patterns, settings)?;
+        Ok(Box::new(alloc, searcher)?)
+    }
+
     /// The regex.
     pub fn regex(&self) -> &Regex
         ensures { result.now ≡ self.now.regex }
@@ -216,6 +229,11 @@ impl Searcher {
         self.last = filled.last;
         Ok(filled.count)
     }
+}
+
+/// Frees a searcher, where there is one. A crate that holds one needn't let go all of its parts then.
+pub fn free(held: Option<Box<Searcher>>) {
+    drop(held);
 }
 
 /// The texts that these bytes are.
