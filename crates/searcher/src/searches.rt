@@ -9,6 +9,7 @@ ghost use Rattle.searcher.specs.Ranges.{IsFault, IsNotText, in_range};
 
 use crate::answers::{Fault, MatchAt, Refusal, write_marks};
 use crate::batch;
+use crate::parts::Parts;
 use crate::settings::Settings;
 use rc_captures::captures::Captures;
 use rc_meta::cache::Cache;
@@ -231,9 +232,23 @@ impl Searcher {
     }
 }
 
-/// Frees a searcher, where there is one. A crate that holds one needn't let go all of its parts then.
-pub fn free(held: Option<Box<Searcher>>) {
-    drop(held);
+/// Frees a searcher. What holds one need not be able to let go each of its parts then.
+pub fn free(searcher: Box<Searcher>) {
+    drop(searcher);
+}
+
+/// The parts of the box that holds a searcher.
+pub fn parts_of(searcher: Box<Searcher>) -> Parts<Searcher, Global>
+    ensures { result.value ≡ searcher.value }
+{
+    Parts::of(searcher)
+}
+
+/// The box that these are the parts of.
+pub fn box_of(parts: Parts<Searcher, Global>) -> Box<Searcher>
+    ensures { result.value ≡ parts.value }
+{
+    parts.into_box()
 }
 
 /// The texts that these bytes are.

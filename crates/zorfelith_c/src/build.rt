@@ -83,5 +83,7 @@ pub extern "C" fn zf_compile(
 pub extern "C" fn zf_free(alloc: Global, handle: &mut Handle)
     ensures { handle.new.held.value ≡ None }
 {
-    free(handle.take(alloc));
+    if handle.is_full() {
+        free(handle.take(alloc));
+    }
 }
