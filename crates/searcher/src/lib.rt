@@ -3,9 +3,11 @@
 
 pub mod answers;
 mod batch;
+pub mod parts;
 pub mod searches;
 pub mod settings;
 
 pub use answers::{Fault, GroupAt, MatchAt, Refusal};
-pub use searches::Searcher;
+pub use parts::Parts;
+pub use searches::{Searcher, box_of, free, parts_of};
 pub use settings::Settings;

@@ -9,6 +9,7 @@ ghost use Rattle.searcher.specs.Ranges.{IsFault, IsNotText, in_range};
 
 use crate::answers::{Fault, MatchAt, Refusal, write_marks};
 use crate::batch;
+use crate::parts::Parts;
 use crate::settings::Settings;
 use rc_captures::captures::Captures;
 use rc_meta::cache::Cache;
@@ -84,6 +85,19 @@ impl Searcher {
         let regex = build(alloc, &texts, settings, kind)?;
         let searcher = with_cache(alloc, regex)?;
         Ok(searcher)
+    }
+
+    /// The same on the heap.
+    pub fn boxed(
+        alloc: Global,
+        patterns: &[&[u8]],
+        settings: &Settings,
+    ) -> Result<Box<Searcher>, Refusal>
+        ensures built { IfOk result (λ b. IsBuilt settings.now patterns.now b.value) }
+        ensures refused { IfErr result (IsRefused settings.now patterns.now) }
+    {
+        let searcher = Searcher::new(alloc, patterns, settings)?;
+        Ok(Box::new(alloc, searcher)?)
     }
 
     /// The regex.
@@ -216,6 +230,25 @@ impl Searcher {
         self.last = filled.last;
         Ok(filled.count)
     }
+}
+
+/// Frees a searcher. What holds one need not be able to let go each of its parts then.
+pub fn free(searcher: Box<Searcher>) {
+    drop(searcher);
+}
+
+/// The parts of the box that holds a searcher.
+pub fn parts_of(searcher: Box<Searcher>) -> Parts<Searcher, Global>
+    ensures { result.value ≡ searcher.value }
+{
+    Parts::of(searcher)
+}
+
+/// The box that these are the parts of.
+pub fn box_of(parts: Parts<Searcher, Global>) -> Box<Searcher>
+    ensures { result.value ≡ parts.value }
+{
+    parts.into_box()
 }
 
 /// The texts that these bytes are.

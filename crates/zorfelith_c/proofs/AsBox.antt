@@ -8,7 +8,7 @@ use Rattle.std_heap.specs.contracts.GlobalAllocator.TheImpl.{ghosts, dict}
 use Rattle.std_heap.proofs.Global.TheLaws as heap
 use Rattle.searcher.specs.contracts.searches.Searcher as Searcher
 use Rattle.searcher.proofs.searches.Searcher.TheLaws as searcher
-use Rattle.zorfelith_c.specs.contracts.parts.Parts as Parts
+use Rattle.searcher.specs.contracts.parts.Parts as Parts
 use Rattle.zorfelith_c.specs.contracts.held.Held as Held
 
 abbrev pub E : Bx

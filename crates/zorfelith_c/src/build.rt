@@ -1,6 +1,6 @@
 //! How a handle is filled and emptied.
-ghost use Rattle.std.specs.Prelude.{◌≡◌, ◌≢◌, IfErr, IfOk, MatchOption, None};
-ghost use Rattle.searcher.specs.Answers.{IsBuilt, IsRefused};
+ghost use Rattle.std.specs.Prelude.{◌≡◌, ◌≢◌, MatchOption, None};
+ghost use Rattle.searcher.specs.Answers.{IsBuilt};
 ghost use Rattle.zorfelith_c.specs.Refusals.{IsToldRefusal, told_refusal};
 ghost use Rattle.zorfelith_c.specs.Statuses.{done};
 
@@ -8,7 +8,7 @@ use crate::handle::Handle;
 use crate::status::{DONE, MEMORY, NO_KIND, NOT_UTF8, SYNTAX, TOO_LARGE};
 use rc_pattern::syntax;
 use rc_settings::error::BuildError;
-use searcher::{Refusal, Searcher, Settings};
+use searcher::{Refusal, Searcher, Settings, free};
 use std::alloc::Global;
 
 /// Why patterns were refused, and where: the number of the pattern, and a byte of it. Both are 0 where the status doesn't tell of them.
@@ -52,15 +52,6 @@ fn told(refusal: Refusal) -> Refused
     }
 }
 
-/// A searcher on the heap.
-fn boxed(alloc: Global, patterns: &[&[u8]], settings: &Settings) -> Result<Box<Searcher>, Refusal>
-    ensures built { IfOk result (λ b. IsBuilt settings.now patterns.now b.value) }
-    ensures refused { IfErr result (IsRefused settings.now patterns.now) }
-{
-    let searcher = Searcher::new(alloc, patterns, settings)?;
-    Ok(Box::new(alloc, searcher)?)
-}
-
 /// Frees what the handle holds, and fills it with a searcher for these patterns, each in UTF-8. Where the status isn't `DONE`, the handle is
 /// empty, and `refused` tells why.
 #[unsafe(no_mangle)]
@@ -75,7 +66,7 @@ pub extern "C" fn zf_compile(
     ensures refused { result ≢ done → IsToldRefusal settings.now patterns.now result refused.new }
 {
     zf_free(alloc, handle);
-    match boxed(alloc, patterns, settings) {
+    match Searcher::boxed(alloc, patterns, settings) {
         Ok(searcher) => {
             *handle = Handle::of(searcher);
             DONE
@@ -92,5 +83,7 @@ pub extern "C" fn zf_compile(
 pub extern "C" fn zf_free(alloc: Global, handle: &mut Handle)
     ensures { handle.new.held.value ≡ None }
 {
-    drop(handle.take(alloc));
+    if handle.is_full() {
+        free(handle.take(alloc));
+    }
 }

@@ -16,9 +16,10 @@ pub extern "C" fn zf_pattern_count(alloc: Global, handle: &mut Handle, count: &m
     ensures answered { MatchOption handle.old.held.value (result ≡ empty) (λ s. (result ≡ done) × (count.new ≡ length (regex_patterns s.regex))) }
     ensures kept { handle.new.held.value ≡ handle.old.held.value }
 {
-    let Some(held) = handle.take(alloc) else {
+    if !handle.is_full() {
         return EMPTY;
-    };
+    }
+    let held = handle.take(alloc);
     *count = held.regex().pattern_len();
     *handle = Handle::of(held);
     DONE
@@ -36,9 +37,10 @@ pub extern "C" fn zf_group_count(
     ensures answered { MatchOption handle.old.held.value (result ≡ empty) (λ s. TellsCount s.regex pattern result count.new) }
     ensures kept { handle.new.held.value ≡ handle.old.held.value }
 {
-    let Some(held) = handle.take(alloc) else {
+    if !handle.is_full() {
         return EMPTY;
-    };
+    }
+    let held = handle.take(alloc);
     let answer = group_count(held.regex(), pattern);
     *handle = Handle::of(held);
     match answer {
@@ -64,9 +66,10 @@ pub extern "C" fn zf_group_name(
     ensures answered { MatchOption handle.old.held.value (result ≡ empty) (λ s. TellsName s.regex pattern group result name.new length.new) }
     ensures kept { handle.new.held.value ≡ handle.old.held.value }
 {
-    let Some(held) = handle.take(alloc) else {
+    if !handle.is_full() {
         return EMPTY;
-    };
+    }
+    let held = handle.take(alloc);
     let status = put_name(held.regex(), pattern, group, name, length);
     *handle = Handle::of(held);
     status
@@ -85,9 +88,10 @@ pub extern "C" fn zf_group_number(
     ensures answered { MatchOption handle.old.held.value (result ≡ empty) (λ s. TellsNumber s.regex pattern name.now result number.new) }
     ensures kept { handle.new.held.value ≡ handle.old.held.value }
 {
-    let Some(held) = handle.take(alloc) else {
+    if !handle.is_full() {
         return EMPTY;
-    };
+    }
+    let held = handle.take(alloc);
     let status = put_number(held.regex(), pattern, name, number);
     *handle = Handle::of(held);
     status

@@ -1,9 +1,8 @@
 //! What C keeps of a searcher.
-ghost use Rattle.std.specs.Prelude.{option_map, ◌≡◌, Option, Some, None, true, false, is_some};
+ghost use Rattle.std.specs.Prelude.{◌≡◌, Option, Some, None, true, false, is_some};
 
 use crate::held::Held;
-use crate::parts::Parts;
-use searcher::Searcher;
+use searcher::{Searcher, box_of, parts_of};
 use std::alloc::Global;
 use std::mem::replace;
 
@@ -33,19 +32,25 @@ impl Handle {
     {
         Handle {
             full: true,
-            held: Held::of_parts(Parts::of(searcher)),
+            held: Held::of_parts(parts_of(searcher)),
         }
     }
 
-    /// Leaves it empty.
-    pub(crate) fn take(&mut self, alloc: Global) -> Option<Box<Searcher>>
-        ensures left { self.new.held.value ≡ None }
-        ensures taken { self.old.held.value ≡ option_map (λ b. b.value) result }
+    /// Whether it holds a searcher.
+    pub(crate) fn is_full(&self) -> bool
+        ensures full { result ≡ true → is_some self.now.held.value ≡ true }
+        ensures empty { result ≡ false → self.now.held.value ≡ None }
     {
-        let Handle { full, held } = replace(self, Handle::empty(alloc));
-        if !full {
-            return None;
-        }
-        Some(held.into_parts().into_box())
+        self.full
+    }
+
+    /// Leaves it empty.
+    pub(crate) fn take(&mut self, alloc: Global) -> Box<Searcher>
+        requires { is_some self.old.held.value ≡ true }
+        ensures left { self.new.held.value ≡ None }
+        ensures taken { self.old.held.value ≡ Some result.value }
+    {
+        let Handle { held, .. } = replace(self, Handle::empty(alloc));
+        box_of(held.into_parts())
     }
 }

@@ -3,8 +3,7 @@ ghost use Rattle.std.specs.Prelude.{◌≡◌, Option, Some, None, is_some, true
 ghost use Rattle.searcher.specs.Searching.{Searching};
 ghost use Rattle.zorfelith_c.specs.Held.{held, searcher_coded};
 
-use crate::parts::Parts;
-use searcher::Searcher;
+use searcher::{Parts, Searcher};
 use std::alloc::Global;
 use std::marker::Model;
 use std::ptr::null_mut;

@@ -7,6 +7,5 @@ pub mod build;
 pub mod groups;
 pub mod handle;
 pub mod held;
-mod parts;
 pub mod search;
 pub mod status;

@@ -32,9 +32,10 @@ pub extern "C" fn zf_is_match(
     ensures answered { MatchOption handle.old.held.value (result ≡ empty) (λ s. TellsWhether s.regex chunks.now start end result) }
     ensures kept { handle.new.held.value ≡ handle.old.held.value }
 {
-    let Some(mut held) = handle.take(alloc) else {
+    if !handle.is_full() {
         return EMPTY;
-    };
+    }
+    let mut held = handle.take(alloc);
     let answer = held.is_match(chunks, start, end);
     *handle = Handle::of(held);
     match answer {
@@ -58,9 +59,10 @@ pub extern "C" fn zf_find(
     ensures answered { MatchOption handle.old.held.value (result ≡ empty) (λ s. TellsMatch s.regex chunks.now start end result found.new) }
     ensures kept { handle.new.held.value ≡ handle.old.held.value }
 {
-    let Some(mut held) = handle.take(alloc) else {
+    if !handle.is_full() {
         return EMPTY;
-    };
+    }
+    let mut held = handle.take(alloc);
     let answer = held.find(chunks, start, end);
     *handle = Handle::of(held);
     match answer {
@@ -88,9 +90,10 @@ pub extern "C" fn zf_find_groups(
     ensures answered { MatchOption handle.old.held.value (result ≡ empty) (λ s. TellsMatch s.regex chunks.now start end result found.new) }
     ensures groups { IfSome handle.old.held.value (λ s. result ≤ 1 → IfSome handle.new.held.value (HoldsGroups s chunks.now start end groups.new)) }
 {
-    let Some(mut held) = handle.take(alloc) else {
+    if !handle.is_full() {
         return EMPTY;
-    };
+    }
+    let mut held = handle.take(alloc);
     let answer = held.find_groups(chunks, start, end);
     let status = match answer {
         Ok(Some(m)) => {
@@ -123,9 +126,10 @@ pub extern "C" fn zf_which_patterns(
     ensures answered { MatchOption handle.old.held.value (result ≡ empty) (λ s. TellsMarks s.regex chunks.now start end result marks.new) }
     ensures kept { handle.new.held.value ≡ handle.old.held.value }
 {
-    let Some(mut held) = handle.take(alloc) else {
+    if !handle.is_full() {
         return EMPTY;
-    };
+    }
+    let mut held = handle.take(alloc);
     let answer = held.which_patterns(chunks, start, end, marks);
     *handle = Handle::of(held);
     match answer {
@@ -142,9 +146,10 @@ pub extern "C" fn zf_restart(alloc: Global, handle: &mut Handle, from: usize, fo
     ensures begun { handle.new.held.value
         ≡ option_map (λ (s : Searching). record s { from = from; last = if is_on follows then Some from else None }) handle.old.held.value }
 {
-    let Some(mut held) = handle.take(alloc) else {
+    if !handle.is_full() {
         return EMPTY;
-    };
+    }
+    let mut held = handle.take(alloc);
     let last = if follows != 0 { Some(from) } else { None };
     held.restart(from, last);
     *handle = Handle::of(held);
@@ -164,9 +169,10 @@ pub extern "C" fn zf_next(
     ensures { MatchOption handle.old.held.value (result ≡ empty)
         (λ s. TellsBatch s chunks.now end result batch.new progress.new handle.new.held.value) }
 {
-    let Some(mut held) = handle.take(alloc) else {
+    if !handle.is_full() {
         return EMPTY;
-    };
+    }
+    let mut held = handle.take(alloc);
     let answer = held.fill(chunks, end, batch);
     let next = held.place();
     *handle = Handle::of(held);
@@ -186,9 +192,10 @@ pub extern "C" fn zf_memory(alloc: Global, handle: &mut Handle, bytes: &mut usiz
     ensures answered { MatchOption handle.old.held.value (result ≡ empty) (λ _. result ≡ done) }
     ensures kept { handle.new.held.value ≡ handle.old.held.value }
 {
-    let Some(held) = handle.take(alloc) else {
+    if !handle.is_full() {
         return EMPTY;
-    };
+    }
+    let held = handle.take(alloc);
     *bytes = held.memory_usage();
     *handle = Handle::of(held);
     DONE

@@ -25,7 +25,7 @@ use denote.Triple.Table.{entered}
 use denote.Triple.Walked.{says, Stays, stay_dropped, walk_of, ends_at, Goes-dropped, walk_Meets}
 use Rattle.zorfelith_c.proofs.AsBox.{E}
 use Rattle.std_heap.specs.contracts.Global as Heap
-use Rattle.zorfelith_c.specs.contracts.parts.Parts as Parts
+use Rattle.searcher.specs.contracts.parts.Parts as Parts
 use Rattle.searcher.specs.contracts.searches.Searcher as Searcher
 use Rattle.std_heap.specs.contracts.GlobalAllocator.TheImpl.{ghosts}
 use Rattle.core.proofs.alloc.Calls.{α, handle_tells}

@@ -7,8 +7,10 @@ use std::marker::Model;
 
 /// What a box owns, as the pointer to it and what gave its memory.
 pub struct Parts<T, A: Allocator> {
-    pub(crate) ptr: *mut T,
-    pub(crate) alloc: A,
+    /// Where the value is.
+    pub ptr: *mut T,
+    /// What gave its memory.
+    pub alloc: A,
     pub ghost value: { T },
 }
 
@@ -18,7 +20,7 @@ impl<T, A: Allocator> Model for Parts<T, A> {
 
 impl<T, A: Allocator> Parts<T, A> {
     /// The parts of a box.
-    pub fn of(b: Box<T, A>) -> Parts<T, A>
+    pub(crate) fn of(b: Box<T, A>) -> Parts<T, A>
     where
         T: Drop,
         ensures { result.value ≡ b.value }
@@ -28,7 +30,7 @@ impl<T, A: Allocator> Parts<T, A> {
     }
 
     /// The box that these are the parts of.
-    pub fn into_box(self) -> Box<T, A>
+    pub(crate) fn into_box(self) -> Box<T, A>
         ensures { result.value ≡ self.value }
     {
         let Parts { ptr, alloc } = self;
