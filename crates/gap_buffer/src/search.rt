@@ -1,5 +1,7 @@
 //! Searches in a text with a caret, as an editor makes them.
-ghost use Rattle.std.specs.Prelude.{◌≡◌, ◌≤◌, IfOk, false, filter, length};
+ghost use Rattle.std.specs.Prelude.{◌≡◌, ◌≤◌, ℕ, IfOk, false, filter, length};
+ghost use Rattle.rc_meta.specs.Left.{find_left};
+ghost use Rattle.rc_program.specs.Matches.{AreInOrder, begin_of, end_of};
 ghost use Rattle.gap_buffer.specs.Shown.{IsCacheOf, IsSearchedFrom, LeavesAll, found_from, last_before, matches_of, overlaps};
 
 use crate::buffer::GapBuffer;
@@ -29,15 +31,24 @@ pub fn previous_match(
 ) -> Result<Option<Match>, AllocError>
     ensures { IfOk result (λ m. m ≡ last_before text.now.caret (matches_of regex.now text.now.content)) }
 {
-    let caret = text.caret();
+    let mut matches = all_matches(alloc, text, regex)?;
+    let last = last_of(&mut matches, text.caret());
+    drop(matches);
+    Ok(last)
+}
+
+/// The last of the matches that are left, in order, that begin before the place.
+fn last_of(matches: &mut FindMatches<'_, GapCursor<'_>>, at: usize) -> Option<Match>
+    ensures { (hi : ℕ) → AreInOrder begin_of end_of hi (find_left matches.old) → result ≡ last_before at (find_left matches.old) }
+{
     let mut last = None;
-    for found in all_matches(alloc, text, regex)? {
-        if found.start() >= caret {
-            return Ok(last);
+    for found in matches {
+        if found.start() >= at {
+            return last;
         }
         last = Some(found);
     }
-    Ok(last)
+    last
 }
 
 /// The text's matches with a byte in the window, also those that begin before it: each begins before the window's end, and ends after
@@ -50,8 +61,23 @@ pub fn matches_on_screen(
 ) -> Result<Vec<Match>, AllocError>
     ensures { IfOk result (λ ms. ms.items ≡ filter (overlaps window) (matches_of regex.now text.now.content)) }
 {
+    let mut matches = all_matches(alloc, text, regex)?;
+    let shown = shown_of(alloc, &mut matches, window);
+    drop(matches);
+    shown
+}
+
+/// Those of the matches that are left, in order, with a byte in the window.
+fn shown_of(
+    alloc: Global,
+    matches: &mut FindMatches<'_, GapCursor<'_>>,
+    window: Span,
+) -> Result<Vec<Match>, AllocError>
+    ensures { (hi : ℕ) → AreInOrder begin_of end_of hi (find_left matches.old)
+        → IfOk result (λ ms. ms.items ≡ filter (overlaps window) (find_left matches.old)) }
+{
     let mut shown = Vec::new(alloc);
-    for found in all_matches(alloc, text, regex)? {
+    for found in matches {
         if found.start() >= window.end {
             return Ok(shown);
         }

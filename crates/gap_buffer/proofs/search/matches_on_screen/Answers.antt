@@ -1,54 +1,19 @@
-use Rattle.std.proofs.Common.{rules, [], ◌∷◌, ◌++◌, ◌≡◌, ◌∙◌, ◌&&◌, true, false, nat_lt, ap, append_assoc, arith, sym}
-use Rattle.std.proofs.lemmas.Bool.{le-ltb, lt-ltb}
+use Rattle.std.proofs.Common.{◌≡◌, IfOk, filter, subst, sym}
 use Rattle.rc_program.proofs.KindLemmas.{kinds_law}
+use Rattle.rc_program.specs.Matches.{AreInOrder, begin_of, end_of}
 use Rattle.rc_program.specs.Sought.{search_for}
 use Rattle.rc_meta.specs.Left.{find_left}
 use Rattle.rc_meta.specs.Views.{regex_kind, sought}
 use Rattle.regex_cursor.specs.Output.{whole}
 use Rattle.gap_buffer.specs.Shown.{matches_of, overlaps}
-use Rattle.gap_buffer.proofs.Ordered.{no_more, one_more, passed}
 use Rattle.gap_buffer.proofs.search.matches_on_screen.Goals as goal
 
--- one more that ends before the window
-pub loop-found-preserved : goal.loop-found-preserved
-loop-found-preserved c =
-    let done = c.loop-found.yielded in
-    let m = c.in-Some.found in
-    let w = c.args.window in
-    let begins : nat_lt m.start w.end ≡ true = lt-ltb m.start w.end (omega (arith, c.start.ensures.value, c.if-start-window.false)) in
-    let above : nat_lt w.start m.end ≡ false = le-ltb w.start m.end (omega (arith, c.end.ensures.value, c.if-end-window.false)) in
-    record {
-      left = c.loop-found.invariant.left ∙ ap (λ ms. done ++ ms) c.in-Some.ensures.steps.0 ∙ sym (append_assoc done (m ∷ []) (find_left c.next.new.self));
-      shown = c.loop-found.invariant.shown ∙ sym (no_more (overlaps w) done m (ap (λ b. b && nat_lt w.start m.end) begins ∙ above));
-    }
-
--- one more in the window
-pub loop-found-preserved-in-Continue-branch-2 : goal.loop-found-preserved-in-Continue-branch-2
-loop-found-preserved-in-Continue-branch-2 c =
-    let done = c.loop-found.yielded in
-    let m = c.in-Some.found in
-    let w = c.args.window in
-    let begins : nat_lt m.start w.end ≡ true = lt-ltb m.start w.end (omega (arith, c.start.ensures.value, c.if-start-window.false)) in
-    let ends : nat_lt w.start m.end ≡ true = lt-ltb w.start m.end (omega (arith, c.end.ensures.value, c.if-end-window.true)) in
-    record {
-      left = c.loop-found.invariant.left ∙ ap (λ ms. done ++ ms) c.in-Some.ensures.steps.0 ∙ sym (append_assoc done (m ∷ []) (find_left c.next.new.self));
-      shown = c.in_ok-push.ensures.items ∙ ap (λ ms. ms ++ m ∷ []) c.loop-found.invariant.shown
-          ∙ sym (one_more (overlaps w) done m (ap (λ b. b && nat_lt w.start m.end) begins ∙ ends));
-    }
-
--- this one begins behind the window, and so do those after it
-pub returns-then-start-window : goal.returns-then-start-window
-returns-then-start-window c =
+pub returns : goal.returns
+returns c =
     let r = c.args.regex.now in
     let text = c.args.text.now in
-    let w = c.args.window in
     let all = matches_of r text.content in
-    let done = c.loop-found.yielded in
-    let m = c.in-Some.found in
-    let begun : find_left c.into_iter-found-iterator.result ≡ all = search rules in
-    let split : all ≡ done ++ m ∷ find_left c.next.new.self =
-    sym begun ∙ c.loop-found.invariant.left ∙ ap (λ ms. done ++ ms) c.in-Some.ensures.steps.0 in
     let order = kinds_law.in_order (regex_kind r) (search_for (sought r) (whole text.content)) 0 in
-    c.loop-found.invariant.shown
-    ∙ passed (overlaps w) w.end _ (λ n le. ap (λ b. b && nat_lt w.start n.end) (le-ltb n.start w.end le)) all done (find_left c.next.new.self) m order split
-    (omega (arith, c.start.ensures.value, c.if-start-window.true))
+    let begun : find_left c.in_ok-matches.matches ≡ all = c.in_ok-matches.ensures in
+    subst (λ ms. IfOk c.shown_of-shown.result (λ s. s.items ≡ filter (overlaps c.args.window) ms)) begun
+    (c.shown_of-shown.ensures _ (subst (AreInOrder begin_of end_of _) (sym begun) order))

@@ -2,7 +2,7 @@ use Rattle.std.proofs.Common.{◌≡◌, ◌++◌}
 use Rattle.std.specs.List.{filter}
 use Rattle.rc_meta.specs.Left.{find_left}
 use Rattle.gap_buffer.specs.Shown.{overlaps}
-use Rattle.gap_buffer.proofs.search.matches_on_screen.Given as goal
+use Rattle.gap_buffer.proofs.search.shown_of.Given as goal
 
 -- those in the window of the ones looked at so far
 abbrev pub invariant-loop-found : goal.invariant-loop-found
