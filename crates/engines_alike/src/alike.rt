@@ -1,11 +1,11 @@
 //! Rows that every engine answers alike, whatever the answer is.
 ghost use Rattle.std.specs.Prelude.{◌≤◌, length};
 
-use crate::cursors::{Cutting, Recut};
+use crate::cut::{Cut, chunks_of};
 use crate::engines::Engines;
 use crate::faults::Fault;
 use crate::inputs::input;
-use crate::judge::CUTTINGS;
+use crate::judge::{CUTTINGS, over_each_cutting};
 use crate::row::{Quits, Row, Want};
 use crate::{parses, searches};
 use rc_settings::error::BuildError;
@@ -64,13 +64,18 @@ fn agree(alloc: Global, engines: &mut Engines, row: &mut Row) -> Result<(), Faul
     }
     parses::agree(alloc, engines, row)?;
     let groups = want_found(alloc, engines, row)?;
-    for cutting in CUTTINGS {
-        searches::all(alloc, engines, row, Recut::new(&row.text, cutting))?;
-    }
+    over_each_cutting(alloc, engines, row)?;
     row.want = Want::Groups;
     row.spans = groups;
+    groups_agree(alloc, engines, row)
+}
+
+/// The groups of the first match are those wanted, over each cutting of the row's text.
+fn groups_agree(alloc: Global, engines: &Engines, row: &Row) -> Result<(), Fault> {
+    let chunks = chunks_of(alloc, &row.text)?;
     for cutting in CUTTINGS {
-        searches::captured_groups(alloc, engines, row, Recut::new(&row.text, cutting))?;
+        let cursor = Cut::new(&row.text, &chunks, cutting)?;
+        searches::captured_groups(alloc, engines, row, cursor)?;
     }
     Ok(())
 }
@@ -81,11 +86,25 @@ fn want_found(
     engines: &Engines,
     row: &mut Row,
 ) -> Result<Vec<Option<(usize, usize)>>, Fault> {
-    let cursor = Recut::new(&row.text, Cutting::Whole);
-    let captures = engines.unfiltered.captures(alloc, input(row, cursor)?)?;
+    let cursor = Cut::whole(&row.text);
     let spans = searches::matches(alloc, &engines.unfiltered, input(row, cursor)?)?;
-    row.number = captures.get_match().map(|found| found.pattern().as_usize());
+    let (number, groups) = first_found(alloc, engines, row)?;
+    row.number = number;
     row.spans = spans;
     row.want = Want::All;
-    searches::spans_of(alloc, &captures)
+    Ok(groups)
+}
+
+/// The pattern and the groups of the first match that the pass finds in one chunk.
+fn first_found(
+    alloc: Global,
+    engines: &Engines,
+    row: &Row,
+) -> Result<(Option<usize>, Vec<Option<(usize, usize)>>), Fault> {
+    let cursor = Cut::whole(&row.text);
+    let captures = engines.unfiltered.captures(alloc, input(row, cursor)?)?;
+    let number = captures.get_match().map(|found| found.pattern().as_usize());
+    let groups = searches::spans_of(alloc, &captures);
+    drop(captures);
+    Ok((number, groups?))
 }

@@ -4,13 +4,14 @@ ghost use Rattle.std.specs.Prelude.{◌≤◌, length};
 ghost use Rattle.rc_program.specs.Sought.{IsRunnable};
 ghost use Rattle.rc_program.specs.Places.{places_of};
 
-use crate::cursors::Recut;
+use crate::cut::Cut;
 use crate::faults::{Fault, same};
 use crate::settings::Settings;
 use crate::tables::{Hybrid, TableEngine};
 use rc_build::compile::compile_all;
 use rc_build::texts::parse_all;
 use rc_captures::captures::{Captures, slots_of};
+use rc_meta::builder::Builder;
 use rc_meta::regex::Regex;
 use rc_pattern::hir::{Hir, Look};
 use rc_pikevm::search;
@@ -59,6 +60,14 @@ pub struct Engines {
     pub passes_over: bool,
 }
 
+/// The engines beside the regexes.
+#[derive(Drop)]
+struct Beside {
+    tables: Vec<TableEngine>,
+    vm: PikeVM,
+    program: Option<Program>,
+}
+
 /// What one search told.
 #[derive(Drop)]
 struct Told {
@@ -77,23 +86,21 @@ impl Engines {
     {
         let has_words = have_words(alloc, patterns, settings)?;
         let passes_over = pass_over(alloc, patterns, settings)?;
-        let program = compiled(alloc, patterns, settings)?;
-        let tables = tables(alloc, patterns, settings)?;
-        let vm = settings.vm_builder().build_many(alloc, patterns)?;
+        let beside = engines_beside(alloc, patterns, settings)?;
         match regexes(alloc, patterns, settings) {
             Ok((regex, unfiltered, tabled)) => Ok(Engines {
                 regex,
                 unfiltered,
                 tabled,
-                tables,
-                vm,
-                program,
+                tables: beside.tables,
+                vm: beside.vm,
+                program: beside.program,
                 walks: settings.walker,
                 has_words,
                 passes_over,
             }),
             Err(error) => {
-                drop(vm);
+                drop(beside);
                 Err(error)
             }
         }
@@ -105,7 +112,7 @@ impl Engines {
     }
 
     /// What a search of the input finds, by each engine alike.
-    pub fn found(&self, alloc: Global, input: &mut Input<Recut>) -> Result<Option<Match>, Fault> {
+    pub fn found(&self, alloc: Global, input: &mut Input<Cut>) -> Result<Option<Match>, Fault> {
         let told = by_regex(alloc, &self.regex, input)?;
         by_vm(alloc, &self.vm, &told, input)?;
         if let Some(program) = &self.program {
@@ -117,38 +124,140 @@ impl Engines {
     }
 }
 
-/// A regex of these patterns, under the settings of the row and then these.
+/// What a regex is asked of beside the settings of the row.
+#[derive(Clone, Copy)]
+enum Asked {
+    /// This capacity, and no tables; or nothing.
+    Capacity(Option<usize>),
+    /// No needles of its own, and no tables.
+    Unfiltered,
+    /// No needles of its own, and tables of at most so many bytes.
+    Tabled(Option<usize>),
+}
+
+/// The settings that are asked of a regex.
+fn config_of(asked: Asked) -> Config {
+    match asked {
+        Asked::Capacity(None) => Config::new(),
+        Asked::Capacity(Some(bytes)) => Config::new().dfa(false).hybrid_cache_capacity(bytes),
+        Asked::Unfiltered => Config::new().auto_prefilter(false).dfa(false),
+        Asked::Tabled(limit) => Config::new()
+            .auto_prefilter(false)
+            .dfa(true)
+            .dfa_state_limit(None)
+            .dfa_size_limit(limit),
+    }
+}
+
+/// A regex of these patterns, under the settings of the row and then what is asked of it.
 fn regex_of(
     alloc: Global,
     patterns: &[&str],
     settings: &Settings,
-    more: Config,
+    asked: Asked,
 ) -> Result<Regex, BuildError>
     requires { length patterns.now ≤ 2147483647 }
 {
-    let mut builder = Regex::builder();
-    builder.syntax(settings.syntax);
-    builder.configure(settings.config(alloc)?);
-    builder.configure(more);
-    builder.build_many(alloc, patterns)
+    let config = settings.config(alloc)?;
+    let builder = builder_of(settings, config, config_of(asked));
+    let built = builder.build_many(alloc, patterns);
+    drop(builder);
+    built
 }
 
-/// The setting of the capacity that the row names, where it names one, and of no tables then.
-fn with_capacity(
+/// A builder of a regex, under these settings one after the other.
+fn builder_of(settings: &Settings, config: Config, more: Config) -> Builder {
+    let mut builder = Regex::builder();
+    builder
+        .syntax(settings.syntax)
+        .configure(config)
+        .configure(more);
+    builder
+}
+
+/// The capacity that the row names, where it names one.
+fn capacity(
     alloc: Global,
     patterns: &[&str],
     settings: &Settings,
-) -> Result<Config, BuildError>
+) -> Result<Option<usize>, BuildError>
     requires { length patterns.now ≤ 2147483647 }
 {
-    let Some(capacity) = settings.capacity else {
-        return Ok(Config::new());
-    };
-    let hybrid = settings.hybrid_builder(None).build_many(alloc, patterns)?;
+    match settings.capacity {
+        None => Ok(None),
+        Some(capacity) => {
+            let least = least_capacity(alloc, patterns, settings)?;
+            Ok(Some(capacity.bytes(least)))
+        }
+    }
+}
+
+/// The least capacity that serves.
+fn least_capacity(
+    alloc: Global,
+    patterns: &[&str],
+    settings: &Settings,
+) -> Result<usize, BuildError>
+    requires { length patterns.now ≤ 2147483647 }
+{
+    let hybrid = hybrid_of(alloc, patterns, settings, None)?;
     let least = hybrid.minimum_cache_capacity();
     drop(hybrid);
-    let bytes = capacity.bytes(least);
-    Ok(Config::new().dfa(false).hybrid_cache_capacity(bytes))
+    Ok(least)
+}
+
+/// A regex whose states are made as they are met, with this capacity of a cache, or with the one that it has by default.
+fn hybrid_of(
+    alloc: Global,
+    patterns: &[&str],
+    settings: &Settings,
+    capacity: Option<usize>,
+) -> Result<rc_hybrid::regex::Regex, BuildError>
+    requires { length patterns.now ≤ 2147483647 }
+{
+    let builder = settings.hybrid_builder(capacity);
+    let built = builder.build_many(alloc, patterns);
+    drop(builder);
+    built
+}
+
+/// The engines beside the regexes.
+fn engines_beside(
+    alloc: Global,
+    patterns: &[&str],
+    settings: &Settings,
+) -> Result<Beside, BuildError>
+    requires { length patterns.now ≤ 2147483647 }
+{
+    let program = compiled(alloc, patterns, settings)?;
+    match tables(alloc, patterns, settings) {
+        Ok(tables) => match vm_of(alloc, patterns, settings) {
+            Ok(vm) => Ok(Beside {
+                tables,
+                vm,
+                program,
+            }),
+            Err(error) => {
+                drop(program);
+                drop(tables);
+                Err(error)
+            }
+        },
+        Err(error) => {
+            drop(program);
+            Err(error)
+        }
+    }
+}
+
+/// The `PikeVM` of these patterns.
+fn vm_of(alloc: Global, patterns: &[&str], settings: &Settings) -> Result<PikeVM, BuildError>
+    requires { length patterns.now ≤ 2147483647 }
+{
+    let builder = settings.vm_builder();
+    let built = builder.build_many(alloc, patterns);
+    drop(builder);
+    built
 }
 
 /// The regex, the one that looks for no needles of its own and has no tables, and the one that has tables however large.
@@ -159,20 +268,11 @@ fn regexes(
 ) -> Result<(Regex, Regex, Regex), BuildError>
     requires { length patterns.now ≤ 2147483647 }
 {
-    let plain = Config::new().auto_prefilter(false).dfa(false);
-    let large = Config::new()
-        .auto_prefilter(false)
-        .dfa(true)
-        .dfa_state_limit(None)
-        .dfa_size_limit(settings.regex_dfa_limit());
-    let regex = regex_of(
-        alloc,
-        patterns,
-        settings,
-        with_capacity(alloc, patterns, settings)?,
-    )?;
-    match regex_of(alloc, patterns, settings, plain) {
-        Ok(unfiltered) => match regex_of(alloc, patterns, settings, large) {
+    let capacity = capacity(alloc, patterns, settings)?;
+    let tables = Asked::Tabled(settings.regex_dfa_limit());
+    let regex = regex_of(alloc, patterns, settings, Asked::Capacity(capacity))?;
+    match regex_of(alloc, patterns, settings, Asked::Unfiltered) {
+        Ok(unfiltered) => match regex_of(alloc, patterns, settings, tables) {
             Ok(tabled) => Ok((regex, unfiltered, tabled)),
             Err(error) => {
                 drop(regex);
@@ -219,19 +319,64 @@ fn tables(
     requires { length patterns.now ≤ 2147483647 }
 {
     let mut tables = Vec::new(alloc);
+    match push_tables(alloc, patterns, settings, &mut tables) {
+        Ok(()) => Ok(tables),
+        Err(error) => {
+            drop(tables);
+            Err(error)
+        }
+    }
+}
+
+/// Adds those engines.
+fn push_tables(
+    alloc: Global,
+    patterns: &[&str],
+    settings: &Settings,
+    tables: &mut Vec<TableEngine>,
+) -> Result<(), BuildError>
+    requires { length patterns.now ≤ 2147483647 }
+{
     if settings.kind == MatchKind::LeftmostLongest {
-        return Ok(tables);
+        return Ok(());
     }
     if settings.tables {
-        let dfa = settings.dfa_builder().build_many(alloc, patterns)?;
-        tables.push(TableEngine::Dfa(dfa))?;
+        tables.push(TableEngine::Dfa(dfa_of(alloc, patterns, settings)?))?;
     }
-    let regex = settings.hybrid_builder(None).build_many(alloc, patterns)?;
-    let least = Some(regex.minimum_cache_capacity());
-    tables.push(TableEngine::Hybrid(Hybrid::new(alloc, regex, false)?))?;
-    let regex = settings.hybrid_builder(least).build_many(alloc, patterns)?;
-    tables.push(TableEngine::Hybrid(Hybrid::new(alloc, regex, true)?))?;
-    Ok(tables)
+    let least = push_hybrid(alloc, patterns, settings, None, tables)?;
+    push_hybrid(alloc, patterns, settings, Some(least), tables)?;
+    Ok(())
+}
+
+/// Adds a hybrid, with this capacity of a cache, or with the one that it has by default. It tells the least one.
+fn push_hybrid(
+    alloc: Global,
+    patterns: &[&str],
+    settings: &Settings,
+    capacity: Option<usize>,
+    tables: &mut Vec<TableEngine>,
+) -> Result<usize, BuildError>
+    requires { length patterns.now ≤ 2147483647 }
+{
+    let regex = hybrid_of(alloc, patterns, settings, capacity)?;
+    let least = regex.minimum_cache_capacity();
+    let hybrid = Hybrid::new(alloc, regex, capacity.is_some())?;
+    tables.push(TableEngine::Hybrid(hybrid))?;
+    Ok(least)
+}
+
+/// The DFA of these patterns.
+fn dfa_of(
+    alloc: Global,
+    patterns: &[&str],
+    settings: &Settings,
+) -> Result<rc_dfa::regex::Regex, BuildError>
+    requires { length patterns.now ≤ 2147483647 }
+{
+    let builder = settings.dfa_builder();
+    let built = builder.build_many(alloc, patterns);
+    drop(builder);
+    built
 }
 
 /// The program of these patterns, where the walker goes through it: it finds preferred matches alone.
@@ -277,14 +422,17 @@ fn may_be_empty(hirs: &[Hir]) -> bool {
 }
 
 /// What the searches of the regex tell in caches that are lent, which is the same.
-fn by_regex(alloc: Global, regex: &Regex, input: &mut Input<Recut>) -> Result<Told, Fault> {
+fn by_regex(alloc: Global, regex: &Regex, input: &mut Input<Cut>) -> Result<Told, Fault> {
     let found = found_by_regex(alloc, regex, input)?;
     let half = half_by_regex(alloc, regex, input)?;
     same(half == half_of(found), Fault::SearchHalfWith)?;
     let slots = slots_by_regex(alloc, regex, found, input)?;
     let captures = captured_by_regex(alloc, regex, input)?;
-    same(captures.get_match() == found, Fault::SearchCapturesWith)?;
-    same(slots_of(&captures) == slots.as_slice(), Fault::Slots)?;
+    let has_match = captures.get_match() == found;
+    let has_slots = slots_of(&captures) == slots.as_slice();
+    drop(captures);
+    same(has_match, Fault::SearchCapturesWith)?;
+    same(has_slots, Fault::Slots)?;
     Ok(Told { found, slots })
 }
 
@@ -292,7 +440,7 @@ fn by_regex(alloc: Global, regex: &Regex, input: &mut Input<Recut>) -> Result<To
 pub fn found_by_regex(
     alloc: Global,
     regex: &Regex,
-    input: &mut Input<Recut>,
+    input: &mut Input<Cut>,
 ) -> Result<Option<Match>, Fault> {
     let mut cache = regex.create_cache(alloc)?;
     let found = regex.search_with(&mut cache, input);
@@ -304,7 +452,7 @@ pub fn found_by_regex(
 fn half_by_regex(
     alloc: Global,
     regex: &Regex,
-    input: &mut Input<Recut>,
+    input: &mut Input<Cut>,
 ) -> Result<Option<HalfMatch>, Fault> {
     let mut cache = regex.create_cache(alloc)?;
     let half = regex.search_half_with(&mut cache, input);
@@ -316,7 +464,7 @@ fn half_by_regex(
 fn captured_by_regex(
     alloc: Global,
     regex: &Regex,
-    input: &mut Input<Recut>,
+    input: &mut Input<Cut>,
 ) -> Result<Captures, Fault> {
     let mut captures = regex.create_captures(alloc)?;
     let mut cache = regex.create_cache(alloc)?;
@@ -330,7 +478,7 @@ fn slots_by_regex(
     alloc: Global,
     regex: &Regex,
     found: Option<Match>,
-    input: &mut Input<Recut>,
+    input: &mut Input<Cut>,
 ) -> Result<Vec<Option<usize>>, Fault> {
     let mut slots = vec![in alloc; None; regex.group_info().slot_len()]?;
     let mut cache = regex.create_cache(alloc)?;
@@ -341,10 +489,13 @@ fn slots_by_regex(
 }
 
 /// The searches of the `PikeVM` tell what was told.
-fn by_vm(alloc: Global, vm: &PikeVM, told: &Told, input: &mut Input<Recut>) -> Result<(), Fault> {
+fn by_vm(alloc: Global, vm: &PikeVM, told: &Told, input: &mut Input<Cut>) -> Result<(), Fault> {
     let captures = captured_by_vm(alloc, vm, told, input)?;
-    same(captures.get_match() == told.found, Fault::Vm)?;
-    same(slots_of(&captures) == told.slots.as_slice(), Fault::VmSlots)?;
+    let has_match = captures.get_match() == told.found;
+    let has_slots = slots_of(&captures) == told.slots.as_slice();
+    drop(captures);
+    same(has_match, Fault::Vm)?;
+    same(has_slots, Fault::VmSlots)?;
     slots_by_vm(alloc, vm, told, input)
 }
 
@@ -353,7 +504,7 @@ fn captured_by_vm(
     alloc: Global,
     vm: &PikeVM,
     told: &Told,
-    input: &mut Input<Recut>,
+    input: &mut Input<Cut>,
 ) -> Result<Captures, Fault> {
     let mut captures = Captures::all(alloc, vm.get_group_info())?;
     let mut cache = vm.create_cache(alloc)?;
@@ -369,7 +520,7 @@ fn slots_by_vm(
     alloc: Global,
     vm: &PikeVM,
     told: &Told,
-    input: &mut Input<Recut>,
+    input: &mut Input<Cut>,
 ) -> Result<(), Fault> {
     let mut slots = vec![in alloc; None; vm.get_group_info().slot_len()]?;
     let mut cache = vm.create_cache(alloc)?;
@@ -384,7 +535,7 @@ fn by_walker(
     alloc: Global,
     program: &Program,
     told: &Told,
-    input: &mut Input<Recut>,
+    input: &mut Input<Cut>,
 ) -> Result<(), Fault> {
     let found = walker::find(alloc, input, program)?;
     same(found == told.found, Fault::Walker)?;

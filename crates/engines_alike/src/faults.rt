@@ -18,6 +18,8 @@ pub enum Fault {
     /// Nothing is wanted, or two things are.
     UnreadWant,
     Memory,
+    /// There is no cursor over the chunks of the text.
+    Chunks,
     /// The patterns are built or refused, or refused otherwise.
     Refusal,
     /// What the parses of plain patterns say of the match, and of its groups.
@@ -42,6 +44,8 @@ pub enum Fault {
     Hybrid(Part),
     SmallHybrid(Part),
     Find,
+    /// What `find` finds over a cursor that is lent.
+    FindOver,
     FindUnfiltered,
     FindByTables,
     /// What a regex finds with the earliest flag on, in a cache that is made for the call, and in one that is lent.

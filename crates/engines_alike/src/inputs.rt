@@ -1,14 +1,21 @@
 //! Inputs of rows.
 
-use crate::cursors::Recut;
+use crate::cut::Cut;
 use crate::faults::Fault;
 use crate::row::{Pair, Row, span_of};
+use rc_text::cursor::Cursor;
 use rc_text::input::Input;
 use rc_text::types::Match;
 
 /// The input that a row asks for.
-pub fn input<'a>(row: &Row, cursor: Recut<'a>) -> Result<Input<Recut<'a>>, Fault> {
+pub fn input<'a>(row: &Row, cursor: Cut<'a>) -> Result<Input<Cut<'a>>, Fault> {
+    input_over(row, cursor)
+}
+
+/// The input that a row asks for over any cursor, which may begin in the middle.
+pub fn input_over<C: Cursor + Drop>(row: &Row, cursor: C) -> Result<Input<C>, Fault> {
     let mut input = Input::new(cursor);
+    input.set_start(0);
     if let Some(slice) = row.slice {
         input.slice_span(span_of(slice)?);
     }
@@ -20,14 +27,14 @@ pub fn input<'a>(row: &Row, cursor: Recut<'a>) -> Result<Input<Recut<'a>>, Fault
 }
 
 /// Sets where the span begins, at most one above its end.
-pub fn start_at(input: &mut Input<Recut>, start: usize) {
+pub fn start_at(input: &mut Input<Cut>, start: usize) {
     if start.saturating_sub(1) <= input.end() {
         input.set_start(start);
     }
 }
 
 /// Sets where the span ends, at most one below its start.
-pub fn end_at(input: &mut Input<Recut>, end: usize) {
+pub fn end_at(input: &mut Input<Cut>, end: usize) {
     if input.start().saturating_sub(1) <= end {
         input.set_end(end);
     }

@@ -3,6 +3,7 @@
 
 pub mod alike;
 pub mod cursors;
+pub mod cut;
 pub mod engines;
 pub mod faults;
 pub mod inputs;

@@ -2,7 +2,7 @@
 
 ghost use Rattle.std.specs.Prelude.{◌≤◌, length};
 
-use crate::cursors::{Cutting, Recut};
+use crate::cut::Cut;
 use crate::engines::Engines;
 use crate::faults::{Fault, same};
 use crate::inputs::{input, start_at};
@@ -61,13 +61,20 @@ pub fn agree(alloc: Global, engines: &Engines, row: &Row) -> Result<(), Fault>
     let Ok(hirs) = parse_all(alloc, &row.patterns, &settings.syntax) else {
         return Err(Fault::Memory);
     };
+    let answered = from_each_start(alloc, engines, &hirs, row);
+    drop(hirs);
+    answered
+}
+
+/// The regex gives, from the row's start on and from each position behind it, what the parses say.
+fn from_each_start(alloc: Global, engines: &Engines, hirs: &[Hir], row: &Row) -> Result<(), Fault> {
     let whole = view_of(row);
     for start in whole.bounds.0..whole.bounds.1.saturating_add(1) {
         let view = View {
             bounds: (start, whole.bounds.1),
             ..whole
         };
-        from_start(alloc, engines, &hirs, row, &view)?;
+        from_start(alloc, engines, hirs, row, &view)?;
     }
     Ok(())
 }
@@ -80,9 +87,22 @@ fn from_start(
     row: &Row,
     view: &View,
 ) -> Result<(), Fault> {
-    let mut input = input(row, Recut::new(&row.text, Cutting::Whole))?;
+    let mut input = input(row, Cut::whole(&row.text))?;
     start_at(&mut input, view.bounds.0);
     let captures = engines.regex.captures(alloc, input)?;
+    let is_same = are_preferred(alloc, &captures, hirs, row, view);
+    drop(captures);
+    is_same
+}
+
+/// The captures have the match and the groups that the parses of what is seen say.
+fn are_preferred(
+    alloc: Global,
+    captures: &Captures,
+    hirs: &[Hir],
+    row: &Row,
+    view: &View,
+) -> Result<(), Fault> {
     match (captures.get_match(), preferred(alloc, view, hirs, row)?) {
         (None, None) => Ok(()),
         (Some(found), Some((number, start, parse))) => {
@@ -90,7 +110,7 @@ fn from_start(
                 && found.start() == start
                 && found.end() == parse.end;
             same(is_same, Fault::LeastParse)?;
-            same(has_groups(&captures, &parse), Fault::LeastParseGroups)
+            same(has_groups(captures, &parse), Fault::LeastParseGroups)
         }
         _ => Err(Fault::LeastParse),
     }

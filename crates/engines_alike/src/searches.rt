@@ -1,13 +1,15 @@
 //! What is found over one cursor, and whether it is what the row wants.
 
-use crate::cursors::Recut;
+use crate::cut::Cut;
 use crate::engines::{Engines, found_by_regex, half_of};
 use crate::faults::{Fault, Part, same};
-use crate::inputs::{end_at, input, is_again, pair_of, start_at};
+use crate::inputs::{end_at, input, input_over, is_again, pair_of, start_at};
 use crate::row::{Pair, Quits, Row, Want};
-use crate::tables::TableEngine;
+use crate::tables::{Listed, TableEngine};
 use rc_captures::captures::Captures;
+use rc_meta::iterators::{CapturesMatches, FindMatches, Split, SplitN};
 use rc_meta::regex::Regex;
+use rc_text::cursor::Cursor;
 use rc_text::input::Input;
 use rc_text::types::{HalfMatch, Match, MatchKind};
 use std::alloc::Global;
@@ -27,7 +29,7 @@ fn is_wanted(row: &Row, found: Option<Match>) -> bool {
 }
 
 /// The first match is the one wanted, by each engine: in a cache that is made once, and in one that is made for the call.
-pub fn first(alloc: Global, engines: &mut Engines, row: &Row, cursor: Recut) -> Result<(), Fault> {
+pub fn first(alloc: Global, engines: &mut Engines, row: &Row, cursor: Cut) -> Result<(), Fault> {
     let found = engines.found(alloc, &mut input(row, cursor)?)?;
     same(is_wanted(row, found), Fault::InACache)?;
     let other = found_by(alloc, &engines.unfiltered, row, cursor)?;
@@ -40,14 +42,14 @@ pub fn first(alloc: Global, engines: &mut Engines, row: &Row, cursor: Recut) -> 
 }
 
 /// With the earliest flag on each regex finds some match exactly where one is wanted.
-fn early(alloc: Global, engines: &Engines, row: &Row, cursor: Recut) -> Result<(), Fault> {
+fn early(alloc: Global, engines: &Engines, row: &Row, cursor: Cut) -> Result<(), Fault> {
     early_by(alloc, &engines.regex, row, cursor)?;
     early_by(alloc, &engines.unfiltered, row, cursor)?;
     early_by(alloc, &engines.tabled, row, cursor)
 }
 
 /// With the earliest flag on the regex finds some match exactly where one is wanted.
-fn early_by(alloc: Global, regex: &Regex, row: &Row, cursor: Recut) -> Result<(), Fault> {
+fn early_by(alloc: Global, regex: &Regex, row: &Row, cursor: Cut) -> Result<(), Fault> {
     let mut input = input(row, cursor)?.with_earliest(true);
     let found = found_by_regex(alloc, regex, &mut input)?;
     same(is_as_wanted(row, found), Fault::EarlyWith)?;
@@ -66,28 +68,37 @@ fn by_calls(
     regex: &Regex,
     found: Option<Match>,
     row: &Row,
-    cursor: Recut,
+    cursor: Cut,
 ) -> Result<(), Fault> {
     let other = found_by(alloc, regex, row, cursor)?;
     same(other == found, Fault::Find)?;
+    let other = found_over(alloc, regex, row, cursor)?;
+    same(other == found, Fault::FindOver)?;
     let other = searched_by(alloc, regex, row, cursor)?;
     same(other == found, Fault::Search)?;
     let other = half_by(alloc, regex, row, cursor)?;
     same(other == half_of(found), Fault::SearchHalf)?;
     let other = is_match_by(alloc, regex, row, cursor)?;
     same(other == found.is_some(), Fault::IsMatch)?;
-    let other = captured_by(alloc, regex, row, cursor)?;
-    same(other.get_match() == found, Fault::Captures)
+    let captures = captured_by(alloc, regex, row, cursor)?;
+    let other = captures.get_match();
+    drop(captures);
+    same(other == found, Fault::Captures)
 }
 
 /// The match that `find` finds.
-fn found_by(
+fn found_by(alloc: Global, regex: &Regex, row: &Row, cursor: Cut) -> Result<Option<Match>, Fault> {
+    Ok(regex.find(alloc, input(row, cursor)?)?)
+}
+
+/// The match that `find` finds over the cursor when it is lent.
+fn found_over<C: Cursor + Drop>(
     alloc: Global,
     regex: &Regex,
     row: &Row,
-    cursor: Recut,
+    mut cursor: C,
 ) -> Result<Option<Match>, Fault> {
-    Ok(regex.find(alloc, input(row, cursor)?)?)
+    Ok(regex.find(alloc, input_over(row, &mut cursor)?)?)
 }
 
 /// The match that `search` finds.
@@ -95,7 +106,7 @@ fn searched_by(
     alloc: Global,
     regex: &Regex,
     row: &Row,
-    cursor: Recut,
+    cursor: Cut,
 ) -> Result<Option<Match>, Fault> {
     Ok(regex.search(alloc, input(row, cursor)?)?)
 }
@@ -105,23 +116,23 @@ fn half_by(
     alloc: Global,
     regex: &Regex,
     row: &Row,
-    cursor: Recut,
+    cursor: Cut,
 ) -> Result<Option<HalfMatch>, Fault> {
     Ok(regex.search_half(alloc, input(row, cursor)?)?)
 }
 
 /// Whether `is_match` finds one.
-fn is_match_by(alloc: Global, regex: &Regex, row: &Row, cursor: Recut) -> Result<bool, Fault> {
+fn is_match_by(alloc: Global, regex: &Regex, row: &Row, cursor: Cut) -> Result<bool, Fault> {
     Ok(regex.is_match(alloc, input(row, cursor)?)?)
 }
 
 /// The captures of the match that `captures` finds.
-fn captured_by(alloc: Global, regex: &Regex, row: &Row, cursor: Recut) -> Result<Captures, Fault> {
+fn captured_by(alloc: Global, regex: &Regex, row: &Row, cursor: Cut) -> Result<Captures, Fault> {
     Ok(regex.captures(alloc, input(row, cursor)?)?)
 }
 
 /// The engines that search by tables find the match that the row wants, or stop where it says so.
-fn by_tables(engines: &mut Engines, row: &Row, cursor: Recut) -> Result<(), Fault> {
+fn by_tables(engines: &mut Engines, row: &Row, cursor: Cut) -> Result<(), Fault> {
     let passes_over = engines.passes_over;
     for engine in &mut engines.tables {
         by_table(engine, row, passes_over, cursor)?;
@@ -134,7 +145,7 @@ fn by_table(
     engine: &mut TableEngine,
     row: &Row,
     passes_over: bool,
-    cursor: Recut,
+    cursor: Cut,
 ) -> Result<(), Fault> {
     let mut input = input(row, cursor)?;
     let found = found_by_table(engine, row, &mut input)?;
@@ -153,7 +164,7 @@ fn by_table(
 fn found_by_table(
     engine: &mut TableEngine,
     row: &Row,
-    input: &mut Input<Recut>,
+    input: &mut Input<Cut>,
 ) -> Result<Option<Match>, Fault> {
     let (found, is_same) = match engine.find(input) {
         Ok(found) => (found, is_wanted(row, found) && !has_to_quit(row)),
@@ -164,11 +175,7 @@ fn found_by_table(
 }
 
 /// The end that the engine finds is the one wanted, or it stops where the row says so.
-fn end_by_table(
-    engine: &mut TableEngine,
-    row: &Row,
-    input: &mut Input<Recut>,
-) -> Result<(), Fault> {
+fn end_by_table(engine: &mut TableEngine, row: &Row, input: &mut Input<Cut>) -> Result<(), Fault> {
     let is_same = match engine.find_end(input) {
         Ok(half) => is_end_wanted(row, half) && !has_to_quit(row),
         Err(error) => engine.may_end_by(error, row.quits)?,
@@ -182,7 +189,7 @@ fn start_by_table(
     row: &Row,
     found: Match,
     passes_over: bool,
-    input: &mut Input<Recut>,
+    input: &mut Input<Cut>,
 ) -> Result<(), Fault> {
     let is_same = match engine.find_start(input) {
         Ok(half) => is_start(half, found, passes_over),
@@ -202,7 +209,7 @@ fn is_start(half: Option<HalfMatch>, found: Match, passes_over: bool) -> bool {
 }
 
 /// With the earliest flag on the engine finds some match, and some end, exactly where one is wanted, or stops where the row says so.
-fn early_by_table(engine: &mut TableEngine, row: &Row, cursor: Recut) -> Result<(), Fault> {
+fn early_by_table(engine: &mut TableEngine, row: &Row, cursor: Cut) -> Result<(), Fault> {
     let mut input = input(row, cursor)?.with_earliest(true);
     let is_same = match engine.find(&mut input) {
         Ok(found) => is_as_wanted(row, found),
@@ -216,7 +223,7 @@ fn early_by_table(engine: &mut TableEngine, row: &Row, cursor: Recut) -> Result<
 fn early_end_by_table(
     engine: &mut TableEngine,
     row: &Row,
-    input: &mut Input<Recut>,
+    input: &mut Input<Cut>,
 ) -> Result<(), Fault> {
     let is_same = match engine.find_end(input) {
         Ok(half) => half.is_some() != row.spans.is_empty(),
@@ -231,7 +238,7 @@ fn early_start_by_table(
     engine: &mut TableEngine,
     row: &Row,
     passes_over: bool,
-    input: &mut Input<Recut>,
+    input: &mut Input<Cut>,
 ) -> Result<(), Fault> {
     input.set_earliest(true);
     let is_same = match engine.find_start(input) {
@@ -264,23 +271,40 @@ fn lists_by_tables(
     alloc: Global,
     engines: &mut Engines,
     row: &Row,
-    cursor: Recut,
+    cursor: Cut,
 ) -> Result<(), Fault> {
     for engine in &mut engines.tables {
-        let listed = engine.list(alloc, input(row, cursor)?)?;
-        let is_same = match listed.error {
-            None => listed.spans == row.spans && !matches!(row.quits, Quits::At(_)),
-            Some(error) => {
-                row.spans.starts_with(&listed.spans) && engine.may_end_by(error, row.quits)?
-            }
-        };
-        same(is_same, engine.fault(Part::List))?;
+        list_by_table(alloc, engine, row, cursor)?;
     }
     Ok(())
 }
 
+/// The matches that the engine finds one after another, up to where it stops, are those wanted.
+fn list_by_table(
+    alloc: Global,
+    engine: &mut TableEngine,
+    row: &Row,
+    cursor: Cut,
+) -> Result<(), Fault> {
+    let listed = engine.list(alloc, input(row, cursor)?)?;
+    let is_same = is_listed(engine, row, &listed);
+    drop(listed);
+    same(is_same?, engine.fault(Part::List))
+}
+
+/// These are the matches wanted, up to where the engine may stop.
+fn is_listed(engine: &TableEngine, row: &Row, listed: &Listed) -> Result<bool, Fault> {
+    match listed.error {
+        None => Ok(listed.spans == row.spans && !matches!(row.quits, Quits::At(_))),
+        Some(error) => {
+            let may_end = engine.may_end_by(error, row.quits)?;
+            Ok(may_end && row.spans.starts_with(&listed.spans))
+        }
+    }
+}
+
 /// The groups of the first match are those wanted, by each engine.
-pub fn groups(alloc: Global, engines: &mut Engines, row: &Row, cursor: Recut) -> Result<(), Fault> {
+pub fn groups(alloc: Global, engines: &mut Engines, row: &Row, cursor: Cut) -> Result<(), Fault> {
     first(alloc, engines, row, cursor)?;
     captured_groups(alloc, engines, row, cursor)
 }
@@ -290,24 +314,48 @@ pub fn captured_groups(
     alloc: Global,
     engines: &Engines,
     row: &Row,
-    cursor: Recut,
+    cursor: Cut,
 ) -> Result<(), Fault> {
-    let captures = captured_by(alloc, &engines.regex, row, cursor)?;
-    same(spans_of(alloc, &captures)? == row.spans, Fault::Captures)?;
-    let spans = captured_again(alloc, &engines.regex, row, cursor)?;
-    same(spans == row.spans, Fault::SearchCaptures)?;
-    let captures = captured_by(alloc, &engines.unfiltered, row, cursor)?;
-    let is_same = spans_of(alloc, &captures)? == row.spans;
-    same(is_same, Fault::CapturesUnfiltered)?;
-    let captures = captured_by(alloc, &engines.tabled, row, cursor)?;
-    same(
-        spans_of(alloc, &captures)? == row.spans,
-        Fault::CapturesByTables,
-    )
+    are_groups(alloc, &engines.regex, row, cursor, Fault::Captures)?;
+    are_groups_again(alloc, &engines.regex, row, cursor)?;
+    are_groups(
+        alloc,
+        &engines.unfiltered,
+        row,
+        cursor,
+        Fault::CapturesUnfiltered,
+    )?;
+    are_groups(alloc, &engines.tabled, row, cursor, Fault::CapturesByTables)
+}
+
+/// The groups that `captures` gives are those wanted, else this fault.
+fn are_groups(
+    alloc: Global,
+    regex: &Regex,
+    row: &Row,
+    cursor: Cut,
+    fault: Fault,
+) -> Result<(), Fault> {
+    let spans = groups_by(alloc, regex, row, cursor)?;
+    same(spans == row.spans, fault)
+}
+
+/// The groups that a search fills in where those of the same match stand are those wanted.
+fn are_groups_again(alloc: Global, regex: &Regex, row: &Row, cursor: Cut) -> Result<(), Fault> {
+    let spans = captured_again(alloc, regex, row, cursor)?;
+    same(spans == row.spans, Fault::SearchCaptures)
+}
+
+/// The groups that `captures` gives.
+fn groups_by(alloc: Global, regex: &Regex, row: &Row, cursor: Cut) -> Result<Spans, Fault> {
+    let captures = captured_by(alloc, regex, row, cursor)?;
+    let spans = spans_of(alloc, &captures);
+    drop(captures);
+    spans
 }
 
 /// The groups that a search fills in where those of the same match stand.
-fn captured_again(alloc: Global, regex: &Regex, row: &Row, cursor: Recut) -> Result<Spans, Fault> {
+fn captured_again(alloc: Global, regex: &Regex, row: &Row, cursor: Cut) -> Result<Spans, Fault> {
     let mut captures = regex.captures(alloc, input(row, cursor)?)?;
     regex.search_captures(alloc, input(row, cursor)?, &mut captures)?;
     spans_of(alloc, &captures)
@@ -324,34 +372,75 @@ pub fn spans_of(alloc: Global, captures: &Captures) -> Result<Spans, Fault> {
 
 /// All matches are those wanted: those of `find_iter`, with and without prefilters, those of `captures_iter`, and those that each
 /// engine finds one after another.
-pub fn all(alloc: Global, engines: &mut Engines, row: &Row, cursor: Recut) -> Result<(), Fault> {
+pub fn all(alloc: Global, engines: &mut Engines, row: &Row, cursor: Cut) -> Result<(), Fault> {
     first(alloc, engines, row, cursor)?;
-    let spans = matches(alloc, &engines.regex, input(row, cursor)?)?;
-    same(spans == row.spans, Fault::FindIter)?;
-    let spans = matches(alloc, &engines.unfiltered, input(row, cursor)?)?;
-    same(spans == row.spans, Fault::FindIterUnfiltered)?;
-    let spans = matches(alloc, &engines.tabled, input(row, cursor)?)?;
-    same(spans == row.spans, Fault::FindIterByTables)?;
+    are_matches(alloc, &engines.regex, row, cursor, Fault::FindIter)?;
+    are_matches(
+        alloc,
+        &engines.unfiltered,
+        row,
+        cursor,
+        Fault::FindIterUnfiltered,
+    )?;
+    are_matches(alloc, &engines.tabled, row, cursor, Fault::FindIterByTables)?;
     lists_by_tables(alloc, engines, row, cursor)?;
-    let spans = captured(alloc, &engines.regex, input(row, cursor)?)?;
-    same(spans == row.spans, Fault::CapturesIter)?;
+    are_captured(alloc, &engines.regex, row, cursor)?;
+    are_in_turn(alloc, engines, row, cursor)
+}
+
+/// The matches that `find_iter` gives are those wanted, else this fault.
+fn are_matches(
+    alloc: Global,
+    regex: &Regex,
+    row: &Row,
+    cursor: Cut,
+    fault: Fault,
+) -> Result<(), Fault> {
+    let spans = matches(alloc, regex, input(row, cursor)?)?;
+    same(spans == row.spans, fault)
+}
+
+/// The matches that `captures_iter` gives are those wanted.
+fn are_captured(alloc: Global, regex: &Regex, row: &Row, cursor: Cut) -> Result<(), Fault> {
+    let spans = captured(alloc, regex, input(row, cursor)?)?;
+    same(spans == row.spans, Fault::CapturesIter)
+}
+
+/// The matches that each engine finds one after another are those wanted.
+fn are_in_turn(alloc: Global, engines: &Engines, row: &Row, cursor: Cut) -> Result<(), Fault> {
     let spans = matches_in_turn(alloc, engines, row, cursor)?;
     same(spans == row.spans, Fault::InTurn)
 }
 
 /// The spans of the matches.
-pub fn matches(alloc: Global, regex: &Regex, input: Input<Recut>) -> Result<Spans, Fault> {
+pub fn matches(alloc: Global, regex: &Regex, input: Input<Cut>) -> Result<Spans, Fault> {
+    let mut matches = regex.find_iter(alloc, input)?;
+    let spans = spans_of_matches(alloc, &mut matches);
+    drop(matches);
+    spans
+}
+
+/// The spans of the matches that an iterator gives.
+fn spans_of_matches(alloc: Global, matches: &mut FindMatches<Cut>) -> Result<Spans, Fault> {
     let mut spans = Vec::new(alloc);
-    for found in regex.find_iter(alloc, input)? {
+    for found in matches {
         spans.push(pair_of(Some(found)))?;
     }
     Ok(spans)
 }
 
 /// The spans of the matches that come with their groups.
-fn captured(alloc: Global, regex: &Regex, input: Input<Recut>) -> Result<Spans, Fault> {
+fn captured(alloc: Global, regex: &Regex, input: Input<Cut>) -> Result<Spans, Fault> {
+    let mut matches = regex.captures_iter(alloc, input)?;
+    let spans = spans_of_captures(alloc, &mut matches);
+    drop(matches);
+    spans
+}
+
+/// The spans of the matches that an iterator gives with their groups.
+fn spans_of_captures(alloc: Global, matches: &mut CapturesMatches<Cut>) -> Result<Spans, Fault> {
     let mut spans = Vec::new(alloc);
-    for captures in regex.captures_iter(alloc, input)? {
+    for captures in matches {
         spans.push(pair_of(captures?.get_match()))?;
     }
     Ok(spans)
@@ -363,7 +452,7 @@ fn matches_in_turn(
     alloc: Global,
     engines: &Engines,
     row: &Row,
-    cursor: Recut,
+    cursor: Cut,
 ) -> Result<Spans, Fault> {
     let mut input = input(row, cursor)?;
     let mut spans = Vec::new(alloc);
@@ -383,7 +472,7 @@ fn matches_in_turn(
 fn next_match(
     alloc: Global,
     engines: &Engines,
-    input: &mut Input<Recut>,
+    input: &mut Input<Cut>,
     last: Option<usize>,
 ) -> Result<Option<Pair>, Fault> {
     let found = pair_of(engines.found(alloc, input)?);
@@ -397,13 +486,28 @@ fn next_match(
 }
 
 /// The pieces between matches are those wanted, with and without prefilters.
-pub fn pieces(alloc: Global, engines: &Engines, row: &Row, cursor: Recut) -> Result<(), Fault> {
-    let spans = split(alloc, &engines.regex, row.number, input(row, cursor)?)?;
-    same(spans == row.spans, Fault::Split)?;
-    let spans = split(alloc, &engines.unfiltered, row.number, input(row, cursor)?)?;
-    same(spans == row.spans, Fault::SplitUnfiltered)?;
-    let spans = split(alloc, &engines.tabled, row.number, input(row, cursor)?)?;
-    same(spans == row.spans, Fault::SplitByTables)
+pub fn pieces(alloc: Global, engines: &Engines, row: &Row, cursor: Cut) -> Result<(), Fault> {
+    are_pieces(alloc, &engines.regex, row, cursor, Fault::Split)?;
+    are_pieces(
+        alloc,
+        &engines.unfiltered,
+        row,
+        cursor,
+        Fault::SplitUnfiltered,
+    )?;
+    are_pieces(alloc, &engines.tabled, row, cursor, Fault::SplitByTables)
+}
+
+/// The pieces are those wanted, else this fault.
+fn are_pieces(
+    alloc: Global,
+    regex: &Regex,
+    row: &Row,
+    cursor: Cut,
+    fault: Fault,
+) -> Result<(), Fault> {
+    let spans = split(alloc, regex, row.number, input(row, cursor)?)?;
+    same(spans == row.spans, fault)
 }
 
 /// The pieces, so many at most.
@@ -411,7 +515,7 @@ fn split(
     alloc: Global,
     regex: &Regex,
     most: Option<usize>,
-    input: Input<Recut>,
+    input: Input<Cut>,
 ) -> Result<Spans, Fault> {
     match most {
         None => all_pieces(alloc, regex, input),
@@ -420,9 +524,17 @@ fn split(
 }
 
 /// The pieces.
-fn all_pieces(alloc: Global, regex: &Regex, input: Input<Recut>) -> Result<Spans, Fault> {
+fn all_pieces(alloc: Global, regex: &Regex, input: Input<Cut>) -> Result<Spans, Fault> {
+    let mut pieces = regex.split(alloc, input)?;
+    let spans = spans_of_pieces(alloc, &mut pieces);
+    drop(pieces);
+    spans
+}
+
+/// The spans of the pieces that an iterator gives.
+fn spans_of_pieces(alloc: Global, pieces: &mut Split<Cut>) -> Result<Spans, Fault> {
     let mut spans = Vec::new(alloc);
-    for piece in regex.split(alloc, input)? {
+    for piece in pieces {
         spans.push(Some((piece.start, piece.end)))?;
     }
     Ok(spans)
@@ -433,10 +545,18 @@ fn first_pieces(
     alloc: Global,
     regex: &Regex,
     most: usize,
-    input: Input<Recut>,
+    input: Input<Cut>,
 ) -> Result<Spans, Fault> {
+    let mut pieces = regex.splitn(alloc, input, most)?;
+    let spans = spans_of_first_pieces(alloc, &mut pieces);
+    drop(pieces);
+    spans
+}
+
+/// The spans of the pieces that an iterator with a limit gives.
+fn spans_of_first_pieces(alloc: Global, pieces: &mut SplitN<Cut>) -> Result<Spans, Fault> {
     let mut spans = Vec::new(alloc);
-    for piece in regex.splitn(alloc, input, most)? {
+    for piece in pieces {
         spans.push(Some((piece.start, piece.end)))?;
     }
     Ok(spans)

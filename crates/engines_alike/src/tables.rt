@@ -3,7 +3,7 @@
 ghost use Rattle.std.specs.Prelude.{ℕ};
 ghost use Rattle.rc_hybrid.specs.Caches.{IsCacheFor, capacity_of};
 
-use crate::cursors::Recut;
+use crate::cut::Cut;
 use crate::faults::{Fault, Part};
 use crate::inputs::pair_of;
 use crate::row::{Pair, Quits};
@@ -61,17 +61,17 @@ impl Hybrid {
     }
 
     /// The match that a search of the input finds.
-    fn find(&mut self, input: &mut Input<Recut>) -> Result<Option<Match>, MatchError> {
+    fn find(&mut self, input: &mut Input<Cut>) -> Result<Option<Match>, MatchError> {
         hybrid::find(&self.regex, &mut self.cache, input)
     }
 
     /// Where that match ends.
-    fn find_end(&mut self, input: &mut Input<Recut>) -> Result<Option<HalfMatch>, MatchError> {
+    fn find_end(&mut self, input: &mut Input<Cut>) -> Result<Option<HalfMatch>, MatchError> {
         hybrid::try_search_fwd(&self.regex, &mut self.cache, input)
     }
 
     /// Where the longest match begins that ends where the input does.
-    fn find_start(&mut self, input: &mut Input<Recut>) -> Result<Option<HalfMatch>, MatchError> {
+    fn find_start(&mut self, input: &mut Input<Cut>) -> Result<Option<HalfMatch>, MatchError> {
         hybrid::try_search_rev(&self.regex, &mut self.cache, input)
     }
 }
@@ -85,7 +85,7 @@ pub struct Listed {
 
 impl TableEngine {
     /// The match that a search of the input finds.
-    pub fn find(&mut self, input: &mut Input<Recut>) -> Result<Option<Match>, MatchError> {
+    pub fn find(&mut self, input: &mut Input<Cut>) -> Result<Option<Match>, MatchError> {
         match self {
             TableEngine::Dfa(regex) => dfa::find(regex, input),
             TableEngine::Hybrid(hybrid) => hybrid.find(input),
@@ -93,7 +93,7 @@ impl TableEngine {
     }
 
     /// Where that match ends.
-    pub fn find_end(&mut self, input: &mut Input<Recut>) -> Result<Option<HalfMatch>, MatchError> {
+    pub fn find_end(&mut self, input: &mut Input<Cut>) -> Result<Option<HalfMatch>, MatchError> {
         match self {
             TableEngine::Dfa(regex) => dfa::try_search_fwd(regex.forward(), input),
             TableEngine::Hybrid(hybrid) => hybrid.find_end(input),
@@ -101,10 +101,7 @@ impl TableEngine {
     }
 
     /// Where the longest match begins that ends where the input does.
-    pub fn find_start(
-        &mut self,
-        input: &mut Input<Recut>,
-    ) -> Result<Option<HalfMatch>, MatchError> {
+    pub fn find_start(&mut self, input: &mut Input<Cut>) -> Result<Option<HalfMatch>, MatchError> {
         match self {
             TableEngine::Dfa(regex) => dfa::try_search_rev(regex.reverse(), input),
             TableEngine::Hybrid(hybrid) => hybrid.find_start(input),
@@ -112,7 +109,7 @@ impl TableEngine {
     }
 
     /// The matches one after another.
-    pub fn list(&mut self, alloc: Global, input: Input<Recut>) -> Result<Listed, AllocError> {
+    pub fn list(&mut self, alloc: Global, input: Input<Cut>) -> Result<Listed, AllocError> {
         match self {
             TableEngine::Dfa(regex) => listed_by_dfa(alloc, regex, input),
             TableEngine::Hybrid(hybrid) => listed_by_hybrid(alloc, hybrid, input),
@@ -167,7 +164,7 @@ impl TableEngine {
 fn listed_by_dfa(
     alloc: Global,
     regex: &rc_dfa::regex::Regex,
-    input: Input<Recut>,
+    input: Input<Cut>,
 ) -> Result<Listed, AllocError> {
     let mut listed = Listed {
         spans: Vec::new(alloc),
@@ -186,7 +183,7 @@ fn listed_by_dfa(
 fn listed_by_hybrid(
     alloc: Global,
     hybrid: &Hybrid,
-    input: Input<Recut>,
+    input: Input<Cut>,
 ) -> Result<Listed, AllocError> {
     let mut cache = hybrid.regex.create_cache(alloc)?;
     let mut listed = Listed {
