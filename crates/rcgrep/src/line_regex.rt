@@ -14,8 +14,9 @@ use regex_cursor::engines::meta::Cache;
 use regex_cursor::types::Match;
 use std::alloc::{AllocError, Global};
 use std::marker::Model;
+use std::simd::prelude::*;
 
-/// How many bytes of a page are searched at once, behind a line that was looked at by itself.
+/// How many bytes of a page are searched at once at least.
 const LEAST: usize = 512;
 
 /// How many bytes of a page are searched at once at most.
@@ -33,8 +34,8 @@ pub struct LineRegex<'p> {
     patterns: &'p Patterns,
     cache: Cache,
     is_inverted: bool,
-    /// How many bytes of a page are searched at once next. It grows where nothing is found, so what is read twice is no more than was
-    /// passed over. At 0 the next line is looked at by itself.
+    /// How many bytes of a page are searched at once next: four times what was passed over to a match, and twice as many where nothing was
+    /// found, so what is read twice is no more than some times what was passed over. At 0 the next line is looked at by itself.
     reach: usize,
 }
 
@@ -100,7 +101,11 @@ impl<'p> LineRegex<'p> {
             return text.len();
         };
         let start = found.start();
-        self.reach = if start < CLOSE { 0 } else { LEAST };
+        self.reach = if start < CLOSE {
+            0
+        } else {
+            start.saturating_mul(4).clamp(LEAST, GREATEST)
+        };
         start
     }
 
@@ -126,29 +131,26 @@ impl<'p> LineRegex<'p> {
     }
 }
 
-/// How many bytes stand before the first block in which one is past ASCII.
+/// How many bytes stand in whole blocks before the first block in which one is past ASCII.
 fn ascii_len(bytes: &[u8]) -> usize
     ensures { result ≤ length bytes.now }
 {
     let mut place = 0;
-    while place < bytes.len() {
-        let end = bytes.len().min(place.saturating_add(BLOCK));
-        if is_past_ascii(&bytes[place..end]) {
+    while bytes.len() - place >= BLOCK {
+        if is_past_ascii(&bytes[place..]) {
             return place;
         }
-        place = end;
+        place += BLOCK;
     }
     place
 }
 
-/// Whether one of the bytes is past ASCII.
+/// Whether one of the first bytes is past ASCII, so many as a block has.
 #[inline(always)]
-fn is_past_ascii(bytes: &[u8]) -> bool {
-    let mut all = 0;
-    for byte in bytes {
-        all |= *byte;
-    }
-    all >= 128
+fn is_past_ascii(bytes: &[u8]) -> bool
+    requires { 64 ≤ length bytes.now }
+{
+    u8x64::from_slice(bytes).simd_ge(u8x64::splat(128)).any()
 }
 
 /// The line, as a text of its own.
