@@ -28,3 +28,4 @@ pub mod ReverseLemmas
 pub mod ClassLemmas
 pub mod SpanLemmas
 mod Examples
+mod LongestExamples
