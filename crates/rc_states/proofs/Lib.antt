@@ -27,5 +27,8 @@ pub mod LastLemmas
 pub mod ReverseLemmas
 pub mod ClassLemmas
 pub mod SpanLemmas
+pub mod CloseLemmas
+pub mod GroupLemmas
+pub mod RaceLemmas
 mod Examples
 mod LongestExamples

@@ -62,15 +62,15 @@ AreCarried ways Ends i origin places (h ∷ hs) =
     ((e : ℕ) → i ≤ e → CarriesTo ways Ends e (origin ++ h.0 ∷ []) (at i (places ++ h.1)))
     × AreCarried ways Ends i (origin ++ h.0 ∷ []) (places ++ h.1) hs
 
--- What is known of the ends behind i. A match that was met last is of the last start that counts: no lesser start has a walk to an end
--- behind, its own has none that is longer, and its first walk to that end ends at the place that was met.
-abbrev pub IsKnown : (Pair → List Pair) → (Pair → Type 0) → ℕ → List Held → Option Pair → Type 0
-IsKnown ways Ends i hs None = (e : ℕ) → e < i → IsQuiet ways Ends e (begun hs)
-IsKnown ways Ends i hs (Some b) =
-    (before : List Held) × (h : Held) × (hs ≡ before ++ h ∷ []) × (b.1 < i)
-    × ((e : ℕ) → e < i → IsQuiet ways Ends e (begun before))
-    × ((e : ℕ) → b.1 < e → e < i → IsQuiet ways Ends e (begun hs))
-    × Gives ways (IsGoal Ends b.1) [] (begun hs) (Some b)
+-- What is known of the ends behind i, where these starts count. A match that was met last is of the last of them: no lesser start has a walk
+-- to an end behind, its own has none that is longer, and its first walk to that end ends at the place that was met.
+abbrev pub IsKnown : (Pair → List Pair) → (Pair → Type 0) → ℕ → List Pair → Option Pair → Type 0
+IsKnown ways Ends i starts None = (e : ℕ) → e < i → IsQuiet ways Ends e starts
+IsKnown ways Ends i starts (Some b) =
+    (before : List Pair) × (n : Pair) × (starts ≡ before ++ n ∷ []) × (b.1 < i)
+    × ((e : ℕ) → e < i → IsQuiet ways Ends e before)
+    × ((e : ℕ) → b.1 < e → e < i → IsQuiet ways Ends e starts)
+    × Gives ways (IsGoal Ends b.1) [] starts (Some b)
 
 -- the starts that hold no places: without a match those behind i, if walks may still begin; with one they count no more
 abbrev pub IsRest : Bool → ℕ → ℕ → ℕ → List Pair → Option Pair → Type 0
@@ -86,7 +86,7 @@ pub record IsRacing (g : Setting) (t : Text) (hi root : ℕ) (origin : List Pair
   pub list : s.list ≡ parted (length g.places) (held starts)
   pub below : AreHeldBelow (length g.places) starts
   pub carries : AreCarried (ways g.places t hi) (Stops g.places) i [] [] starts
-  pub known : IsKnown (ways g.places t hi) (Stops g.places) i starts best
+  pub known : IsKnown (ways g.places t hi) (Stops g.places) i (begun starts) best
   pub beside : s.beside ≡ told g.needs t.terminator (byte_of (before_at t i))
   pub readable : IsReadable g.needs (byte_of (before_at t i))
 

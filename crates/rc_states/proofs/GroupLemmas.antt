@@ -1,0 +1,81 @@
+-- Groups, and lists of groups with marks between them.
+use Rattle.std.proofs.Common.{◌≡◌, ◌≢◌, ℕ, ◌<◌, ◌⊎◌, Bool, true, false, List, [], ◌∷◌, ◌++◌, length, nat_eq, if◌then◌else◌, inl, inr, ⊎_elim, sym, subst, ap, ◌∙◌, refl, arith, append_assoc, ne_eqb, eq-eqb}
+use Rattle.std.proofs.lemmas.List.{append-nil}
+use Rattle.rc_states.specs.Steps.{HasPlace, Adds, AreBelow}
+use Rattle.rc_states.specs.Longest.{put, groups_of, joined, parted, AddsGroups, all_added, adds}
+use Rattle.rc_states.specs.LongestLaws.{Held, held, AreHeldBelow}
+
+-- those that hold places
+abbrev pub full : List (List ℕ) → List (List ℕ)
+full [] = []
+full ([] ∷ gs) = full gs
+full ((q ∷ g) ∷ gs) = (q ∷ g) ∷ full gs
+
+pub full_append : (xs ys : List (List ℕ)) → full (xs ++ ys) ≡ full xs ++ full ys
+full_append [] ys = refl
+full_append ([] ∷ xs) ys = full_append xs ys
+full_append ((q ∷ g) ∷ xs) ys = ap (λ z. (q ∷ g) ∷ z) (full_append xs ys)
+
+pub parted_full : (mark : ℕ) (gs : List (List ℕ)) → parted mark gs ≡ parted mark (full gs)
+parted_full mark [] = refl
+parted_full mark ([] ∷ gs) = parted_full mark gs
+parted_full mark ((q ∷ g) ∷ gs) = ap (λ z. joined mark (q ∷ g) z) (parted_full mark gs)
+
+-- the list tells the groups that hold places alone
+pub parted_same : (mark : ℕ) (xs ys : List (List ℕ)) → full xs ≡ full ys → parted mark xs ≡ parted mark ys
+parted_same mark xs ys e = parted_full mark xs ∙ ap (λ z. parted mark z) e ∙ sym (parted_full mark ys)
+
+one_place : (mark q : ℕ) (qs : List ℕ) → q < mark → groups_of mark (q ∷ qs) ≡ put q (groups_of mark qs)
+one_place mark q qs lt = rw (ne_eqb q mark (λ e. omega (arith, lt, e))) refl
+
+one_mark : (mark : ℕ) (qs : List ℕ) → groups_of mark (mark ∷ qs) ≡ [] ∷ groups_of mark qs
+one_mark mark qs = rw (eq-eqb mark mark refl) refl
+
+alone : (mark q : ℕ) (g : List ℕ) → AreBelow mark (q ∷ g) → groups_of mark (q ∷ g) ≡ (q ∷ g) ∷ []
+alone mark q [] b = one_place mark q [] (b q (inl refl))
+alone mark q (p ∷ g) b =
+    one_place mark q (p ∷ g) (b q (inl refl)) ∙ ap (λ z. put q z) (alone mark p g (λ k h. b k (inr h)))
+
+before_mark : (mark q : ℕ) (g rest : List ℕ) → AreBelow mark (q ∷ g) → groups_of mark ((q ∷ g) ++ mark ∷ rest) ≡ (q ∷ g) ∷ groups_of mark rest
+before_mark mark q [] rest b =
+    one_place mark q (mark ∷ rest) (b q (inl refl)) ∙ ap (λ z. put q z) (one_mark mark rest)
+before_mark mark q (p ∷ g) rest b =
+    one_place mark q ((p ∷ g) ++ mark ∷ rest) (b q (inl refl)) ∙ ap (λ z. put q z) (before_mark mark p g rest (λ k h. b k (inr h)))
+
+join_tells : (mark q : ℕ) (g rest : List ℕ) (more : List (List ℕ)) → AreBelow mark (q ∷ g) → groups_of mark rest ≡ more →
+    groups_of mark (joined mark (q ∷ g) rest) ≡ (q ∷ g) ∷ more
+join_tells mark q g [] more b e = alone mark q g b ∙ ap (λ z. (q ∷ g) ∷ z) e
+join_tells mark q g (p ∷ rest) more b e = before_mark mark q g (p ∷ rest) b ∙ ap (λ z. (q ∷ g) ∷ z) e
+
+-- what lies between the marks are the groups
+pub groups_parted : (mark : ℕ) (hs : List Held) → AreHeldBelow mark hs → groups_of mark (parted mark (held hs)) ≡ full (held hs)
+groups_parted mark [] b = refl
+groups_parted mark ((n, []) ∷ hs) b = groups_parted mark hs b.1
+groups_parted mark ((n, q ∷ g) ∷ hs) b = join_tells mark q g (parted mark (held hs)) (full (held hs)) b.0 (groups_parted mark hs b.1)
+
+-- all places
+abbrev pub flat : List (List ℕ) → List ℕ
+flat [] = []
+flat (g ∷ gs) = g ++ flat gs
+
+pub nothing_held : (mark : ℕ) (gs : List (List ℕ)) → parted mark gs ≡ [] → flat gs ≡ []
+nothing_held mark [] e = refl
+nothing_held mark ([] ∷ gs) e = nothing_held mark gs e
+nothing_held mark ((q ∷ g) ∷ gs) e = absurd (some q g (parted mark gs) e)
+  where
+    some : (q : ℕ) (g rest : List ℕ) → joined mark (q ∷ g) rest ≡ [] → ⊥
+    some q g [] e = let l : length (q ∷ g) ≡ 0 = ap (λ z. length z) e in omega (arith, l)
+    some q g (p ∷ rest) e = let l : length (q ∷ (g ++ mark ∷ p ∷ rest)) ≡ 0 = ap (λ z. length z) e in omega (arith, l)
+
+-- of groups one behind the other, what is added to the one and then to the other
+pub adds_parts : {listed : List ℕ} (xs : List (List ℕ)) {ys new : List (List ℕ)} → AddsGroups listed (xs ++ ys) new →
+    (first : List (List ℕ)) × (second : List (List ℕ)) × (new ≡ first ++ second) × AddsGroups listed xs first × AddsGroups (listed ++ flat first) ys second
+adds_parts {listed} [] {ys} {new} a = ([], new, refl, all_added, subst (λ z. AddsGroups z ys new) (sym (append-nil listed)) a)
+adds_parts {listed} (x ∷ xs) {ys} (adds {own = own} {new = new} one a) =
+    let r = adds_parts xs a in (
+      own ∷ r.0,
+      r.1,
+      ap (λ z. own ∷ z) r.2,
+      adds one r.3,
+      subst (λ z. AddsGroups z ys r.1) (append_assoc listed own (flat r.0)) r.4,
+    )
