@@ -59,7 +59,7 @@ read_under n (reads count q ∷ ws) h k i = ⊎_elim (λ e. subst (λ x. x < n) 
 no_targets : (places : List Place) (q : ℕ) → length places ≤ q → AllByRecursion (λ k. k < length places) (targets (place_at places q))
 no_targets places q ge = subst (λ p. AllByRecursion (λ k. k < length places) (targets p)) (sym (past_places places q ge)) tt
 
-out_under : (places : List Place) → IsClosed places → (test : Look → Bool) (after : Option ℕ) (q : ℕ) →
+pub out_under : (places : List Place) → IsClosed places → (test : Look → Bool) (after : Option ℕ) (q : ℕ) →
     AreBelow (length places) (limit.read_by (out_by places test after q))
 out_under places closed test after q =
     read_under (length places) (ways_out test (ahead_of after) (place_at places q))

@@ -30,5 +30,7 @@ pub mod SpanLemmas
 pub mod CloseLemmas
 pub mod GroupLemmas
 pub mod RaceLemmas
+pub mod LongestLemmas
+pub mod RacingLemmas
 mod Examples
 mod LongestExamples

@@ -27,7 +27,7 @@ at_append i xs ys = map-append (λ q. (q, i)) xs ys
 
 module _ (ways : Pair → List Pair) (Ends : Pair → Type 0) (decide : (n m : Pair) → (n ≡ m) ⊎ (n ≢ m))
     (last : (n m : Pair) → Ends n → ¬ IsIn m (ways n)) (near : (n m : Pair) → IsIn m (ways n) → (m.1 ≡ n.1) ⊎ (m.1 ≡ n.1 + 1)) where
-  up : (n m : Pair) → IsIn m (ways n) → n.1 ≤ m.1
+  pub up : (n m : Pair) → IsIn m (ways n) → n.1 ≤ m.1
   up = rises ways Ends decide last near
 
   last_at : (e : ℕ) (n m : Pair) → IsGoal Ends e n → ¬ IsIn m (ways n)
