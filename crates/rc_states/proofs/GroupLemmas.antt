@@ -2,7 +2,7 @@
 use Rattle.std.proofs.Common.{◌≡◌, ◌≢◌, ℕ, ◌<◌, ◌⊎◌, Bool, true, false, List, [], ◌∷◌, ◌++◌, length, nat_eq, if◌then◌else◌, inl, inr, ⊎_elim, sym, subst, ap, ◌∙◌, refl, arith, append_assoc, ne_eqb, eq-eqb}
 use Rattle.std.proofs.lemmas.List.{append-nil}
 use Rattle.rc_states.specs.Steps.{HasPlace, Adds, AreBelow}
-use Rattle.rc_states.specs.Longest.{put, groups_of, joined, parted, AddsGroups, all_added, adds}
+use Rattle.rc_states.specs.Longest.{put, groups_of, joined, parted, flat, AddsGroups, all_added, adds}
 use Rattle.rc_states.specs.LongestLaws.{Held, held, AreHeldBelow}
 
 -- those that hold places
@@ -53,11 +53,6 @@ groups_parted mark [] b = refl
 groups_parted mark ((n, []) ∷ hs) b = groups_parted mark hs b.1
 groups_parted mark ((n, q ∷ g) ∷ hs) b = join_tells mark q g (parted mark (held hs)) (full (held hs)) b.0 (groups_parted mark hs b.1)
 
--- all places
-abbrev pub flat : List (List ℕ) → List ℕ
-flat [] = []
-flat (g ∷ gs) = g ++ flat gs
-
 pub nothing_held : (mark : ℕ) (gs : List (List ℕ)) → parted mark gs ≡ [] → flat gs ≡ []
 nothing_held mark [] e = refl
 nothing_held mark ([] ∷ gs) e = nothing_held mark gs e
@@ -66,6 +61,20 @@ nothing_held mark ((q ∷ g) ∷ gs) e = absurd (some q g (parted mark gs) e)
     some : (q : ℕ) (g rest : List ℕ) → joined mark (q ∷ g) rest ≡ [] → ⊥
     some q g [] e = let l : length (q ∷ g) ≡ 0 = ap (λ z. length z) e in omega (arith, l)
     some q g (p ∷ rest) e = let l : length (q ∷ (g ++ mark ∷ p ∷ rest)) ≡ 0 = ap (λ z. length z) e in omega (arith, l)
+
+-- a list of one place
+pub one_held : (mark root : ℕ) (gs : List (List ℕ)) → parted mark gs ≡ root ∷ [] → flat gs ≡ root ∷ []
+one_held mark root [] e = e
+one_held mark root ([] ∷ gs) e = one_held mark root gs e
+one_held mark root ((q ∷ g) ∷ gs) e = first (parted mark gs) refl e
+  where
+    first : (rest : List ℕ) → parted mark gs ≡ rest → joined mark (q ∷ g) rest ≡ root ∷ [] → (q ∷ g) ++ flat gs ≡ root ∷ []
+    first [] d e = ap (λ z. (q ∷ g) ++ z) (nothing_held mark gs d) ∙ append-nil (q ∷ g) ∙ e
+    first (p ∷ rest) d e = absurd (long g (ap (λ z. length z) e))
+      where
+        long : (g : List ℕ) → length (q ∷ (g ++ mark ∷ p ∷ rest)) ≡ 1 → ⊥
+        long [] l = omega (arith, l)
+        long (x ∷ g) l = omega (arith, l)
 
 -- of groups one behind the other, what is added to the one and then to the other
 pub adds_parts : {listed : List ℕ} (xs : List (List ℕ)) {ys new : List (List ℕ)} → AddsGroups listed (xs ++ ys) new →

@@ -2,27 +2,34 @@
 use Rattle.std.proofs.Common.{◌≡◌, ◌≢◌, ℕ, suc, ◌+◌, ◌-◌, ◌<◌, ◌≤◌, ◌⊎◌, List, [], ◌∷◌, ◌++◌, length, map, Option, Some, None, Bool, true, false, true≢false, ◌&&◌, is_none, inl, inr, ⊎_elim, sym, subst, ap, ap₂, ◌∙◌, refl, arith, append_assoc}
 use Rattle.std.proofs.lemmas.Bool.{cases_lt}
 use Rattle.std.proofs.lemmas.List.{append-nil, map-append}
-use Rattle.rc_walks.specs.Walks.{Pair, IsIn, HasNoWalk}
-use Rattle.rc_program.proofs.LongestLemmas.{longest_of, none_of_all, none_back}
+use Rattle.rc_walks.specs.Walks.{Pair, IsIn, IsFirstWalk, HasNoWalk}
+use Rattle.rc_program.specs.Answer.{last_of}
+use Rattle.rc_program.proofs.LongestLemmas.{longest_of, first_of_longest, none_longer, none_of_all, none_to, ends_on}
 use Rattle.rc_states.specs.Gives.{Gives, starts}
 use Rattle.rc_states.specs.Run.{IsGoal}
 use Rattle.rc_states.specs.Steps.{HasPlace, AreBelow, Adds, at}
 use Rattle.rc_states.specs.States.{best_at, later_starts}
-use Rattle.rc_states.specs.Longest.{parted, AddsGroups, all_added, adds, root_group}
+use Rattle.rc_states.specs.Longest.{flat, parted, AddsGroups, all_added, adds, root_group}
 use Rattle.rc_states.specs.LongestLaws.{Held, begun, held, AreHeldBelow, IsQuiet, CarriesTo, AreCarried, IsKnown, IsRest, ReachesLongest, FirstReaches, GivesLongest}
 use Rattle.rc_states.proofs.PartsLemmas.{first_parts, no_walk_left, no_walk_right, no_walk_both}
 use Rattle.rc_states.proofs.PassLemmas.{no_ways}
 use Rattle.rc_states.proofs.PositionLemmas.{once_gives}
+use Rattle.rc_states.proofs.RunLemmas.{rises}
+use Rattle.rc_states.proofs.AnswerLemmas.{last_at}
 use Rattle.rc_states.proofs.MachineLemmas.{has_parts, has_right}
 use Rattle.rc_states.proofs.LimitLemmas.{under_kept}
 use Rattle.rc_states.proofs.CloseLemmas.{carried_behind}
-use Rattle.rc_states.proofs.GroupLemmas.{full, full_append, parted_same, flat}
+use Rattle.rc_states.proofs.GroupLemmas.{full, full_append, parted_same}
 
 pub begun_append : (xs ys : List Held) → begun (xs ++ ys) ≡ begun xs ++ begun ys
 begun_append xs ys = map-append (λ (h : Held). h.0) xs ys
 
 pub held_append : (xs ys : List Held) → held (xs ++ ys) ≡ held xs ++ held ys
 held_append xs ys = map-append (λ (h : Held). h.1) xs ys
+
+pub flat_append : (xs ys : List (List ℕ)) → flat (xs ++ ys) ≡ flat xs ++ flat ys
+flat_append [] ys = refl
+flat_append (x ∷ xs) ys = ap (λ z. x ++ z) (flat_append xs ys) ∙ sym (append_assoc x (flat xs) (flat ys))
 
 pub flat_below : (n : ℕ) (hs : List Held) → AreHeldBelow n hs → AreBelow n (flat (held hs))
 flat_below n [] b k h = absurd h
@@ -53,6 +60,9 @@ cut (x ∷ xs) y ys (b ∷ before) n e =
 
 module _ (ways : Pair → List Pair) (Ends : Pair → Type 0) (decide : (n m : Pair) → (n ≡ m) ⊎ (n ≢ m))
     (last : (n m : Pair) → Ends n → ¬ IsIn m (ways n)) (near : (n m : Pair) → IsIn m (ways n) → (m.1 ≡ n.1) ⊎ (m.1 ≡ n.1 + 1)) where
+  rises_here : (n m : Pair) → IsIn m (ways n) → n.1 ≤ m.1
+  rises_here = rises ways Ends decide last near
+
   last_to : (e : ℕ) (n m : Pair) → IsGoal Ends e n → ¬ IsIn m (ways n)
   last_to e n m h = last n m h.0
 
@@ -69,6 +79,12 @@ module _ (ways : Pair → List Pair) (Ends : Pair → Type 0) (decide : (n m : P
 
   pub all_carry : (i : ℕ) (hs : List Held) → AreCarried ways Ends i [] [] hs → (e : ℕ) → i ≤ e → CarriesTo ways Ends e (begun hs) (at i (flat (held hs)))
   all_carry i hs c = whole i hs [] [] (λ e le r g. g) c
+
+  -- the first of the starts
+  pub carried_first : (i : ℕ) (xs ys : List Held) (origin : List Pair) (places : List ℕ) → AreCarried ways Ends i origin places (xs ++ ys) →
+      AreCarried ways Ends i origin places xs
+  carried_first i [] ys origin places c = tt
+  carried_first i (x ∷ xs) ys origin places c = (c.0, carried_first i xs ys (origin ++ x.0 ∷ []) (places ++ x.1) c.1)
 
   -- one start more
   carried_append : (i : ℕ) (hs : List Held) (origin : List Pair) (places : List ℕ) (m : Pair) (own : List ℕ) → AreCarried ways Ends i origin places hs →
@@ -184,3 +200,81 @@ module _ (ways : Pair → List Pair) (Ends : Pair → Type 0) (decide : (n m : P
           (first_parts ways (IsGoal Ends b.1) decide before walk.1) in
           subst (λ z. FirstReaches ways Ends z b) (sym (all ∙ ap (λ z. z ++ rest) split ∙ append_assoc before (n ∷ []) rest))
           (first_reaches before n rest b (none_of_all ways Ends [] before early) reaches)
+
+  -- RESTING
+
+  -- starts without a walk are left out
+  pub reaches_behind : (before : List Pair) (from : List Pair) (b : Pair) → HasNoWalk ways Ends [] before → FirstReaches ways Ends from b →
+      FirstReaches ways Ends (before ++ from) b
+  reaches_behind [] from b none r = r
+  reaches_behind (m ∷ before) from b none r =
+      inr (no_walk_left ways Ends (m ∷ []) before none, reaches_behind before from b (no_walk_right ways Ends (m ∷ []) before none) r)
+
+  -- the start for which the one place is held
+  one_start : (root : ℕ) (hs : List Held) → flat (held hs) ≡ root ∷ [] →
+      (before : List Held) × (h : Held) × (behind : List Held) × (hs ≡ before ++ h ∷ behind) × (flat (held before) ≡ []) × (h.1 ≡ root ∷ [])
+  one_start root [] e = absurd (let l : 0 ≡ 1 = ap (λ z. length z) e in omega (arith, l))
+  one_start root ((m, []) ∷ hs) e =
+      let r = one_start root hs e in ((m, []) ∷ r.0, r.1, r.2, ap (λ z. (m, []) ∷ z) r.3, r.4, r.5)
+  one_start root ((m, q ∷ g) ∷ hs) e = ([], (m, q ∷ g), hs, refl, refl, alone g (flat (held hs)) e)
+    where
+      alone : (g rest : List ℕ) → (q ∷ g) ++ rest ≡ root ∷ [] → q ∷ g ≡ root ∷ []
+      alone [] [] e = e
+      alone [] (x ∷ rest) e = absurd (let l : length (q ∷ x ∷ rest) ≡ 1 = ap (λ z. length z) e in omega (arith, l))
+      alone (x ∷ g) rest e = absurd (let l : length (q ∷ x ∷ (g ++ rest)) ≡ 1 = ap (λ z. length z) e in omega (arith, l))
+
+  module _ (i root : ℕ) (hs : List Held) (c : AreCarried ways Ends i [] [] hs) (one : flat (held hs) ≡ root ∷ [])
+      (known : (e : ℕ) → e < i → IsQuiet ways Ends e (begun hs)) where
+    -- without a walk from the place none leads from the starts
+    none_rests : HasNoWalk ways Ends [] ((root, i) ∷ []) → HasNoWalk ways Ends [] (begun hs)
+    none_rests none =
+        none_of_all ways Ends [] (begun hs)
+        (λ e. ⊎_elim (λ l. known e l)
+        (λ ge. all_carry i hs c e ge None
+        (subst (λ z. HasNoWalk ways (IsGoal Ends e) [] (at i z)) (sym one) (none_to ways Ends [] ((root, i) ∷ []) e none)))
+        (cases_lt e i))
+
+    -- the longest walk from the place is as long as that of the start for which it is held
+    some_rests : (rest : List Pair) (b : Pair) → ReachesLongest ways Ends (root, i) b → FirstReaches ways Ends (begun hs ++ rest) b
+    some_rests rest b r =
+        let f = one_start root hs one in
+        let before = f.0 in
+        let h = f.1 in
+        let behind = f.2 in
+        let start = h.0 in
+        let c2 : AreCarried ways Ends i [] [] (before ++ h ∷ []) =
+        carried_first i (before ++ h ∷ []) behind [] [] (subst (λ z. AreCarried ways Ends i [] [] z) (f.3 ∙ sym (append_assoc before (h ∷ []) behind)) c) in
+        let starts_are : begun (before ++ h ∷ []) ≡ begun before ++ start ∷ [] = begun_append before (h ∷ []) in
+        let places_are : flat (held (before ++ h ∷ [])) ≡ root ∷ [] =
+        ap flat (held_append before (h ∷ [])) ∙ flat_append (held before) (h.1 ∷ []) ∙ ap₂ (λ z w. z ++ (w ++ [])) f.4 f.5 in
+        let carried : (e : ℕ) → i ≤ e → CarriesTo ways Ends e (begun before ++ start ∷ []) ((root, i) ∷ []) =
+        λ e le r g. subst (λ z. Gives ways (IsGoal Ends e) [] z r) starts_are
+        (all_carry i (before ++ h ∷ []) c2 e le r (subst (λ z. Gives ways (IsGoal Ends e) [] (at i z) r) (sym places_are) g)) in
+        let all_are : begun hs ≡ begun before ++ start ∷ begun behind = ap begun f.3 ∙ begun_append before (h ∷ behind) in
+        let early : (e : ℕ) → IsQuiet ways Ends e (begun before) =
+        λ e. ⊎_elim (λ l. no_walk_left ways (IsGoal Ends e) (begun before) (start ∷ begun behind) (subst (λ z. IsQuiet ways Ends e z) all_are (known e l)))
+        (λ ge. all_carry i before (carried_first i before (h ∷ []) [] [] c2) e ge None
+        (subst (λ z. HasNoWalk ways (IsGoal Ends e) [] (at i z)) (sym f.4) (λ v x. no_ways ways (IsGoal Ends e) x)))
+        (cases_lt e i) in
+        let w = r.0 in
+        let longest = r.1 in
+        let end : last_of w ≡ b = last_at w b r.2 in
+        let at_end : (last_of w).1 ≡ b.1 = ap (λ (z : Pair). z.1) end in
+        let first = subst (λ e. IsFirstWalk ways (IsGoal Ends e) [] ((root, i) ∷ []) w) at_end (first_of_longest ways Ends [] ((root, i) ∷ []) w longest) in
+        let late : i ≤ b.1 = ends_on ways Ends rises_here i b.1 (λ k x. ⊎_elim (λ q. subst (λ (z : Pair). i ≤ z.1) q (omega arith)) (λ never. absurd never) x) first.is_walk in
+        let walk = carried b.1 late (Some b) (w, first, r.2) in
+        let beyond : (m : ℕ) → b.1 < m → HasNoWalk ways (IsGoal Ends m) [] (start ∷ []) =
+        λ m lt. no_walk_right ways (IsGoal Ends m) (begun before) (start ∷ [])
+        (carried m (omega (arith, late, lt)) None (none_longer ways Ends [] ((root, i) ∷ []) w longest m (omega (arith, lt, at_end)))) in
+        let reaches : ReachesLongest ways Ends start b =
+        ⊎_elim (λ x. absurd (early b.1 walk.0 x.is_walk)) (λ x. (walk.0, longest_of ways Ends [] (start ∷ []) walk.0 b.1 x.1 beyond, walk.2))
+        (first_parts ways (IsGoal Ends b.1) decide (begun before) walk.1) in
+        subst (λ z. FirstReaches ways Ends z b)
+        (sym (ap (λ z. z ++ rest) all_are ∙ append_assoc (begun before) (start ∷ begun behind) rest))
+        (first_reaches (begun before) start (begun behind ++ rest) b (none_of_all ways Ends [] (begun before) early) reaches)
+
+    pub rest_gives : (rest : List Pair) (r : Option Pair) → GivesLongest ways Ends ((root, i) ∷ rest) r → GivesLongest ways Ends (begun hs ++ rest) r
+    rest_gives rest None none =
+        no_walk_both ways Ends {xs = begun hs} (none_rests (no_walk_left ways Ends ((root, i) ∷ []) rest none)) (no_walk_right ways Ends ((root, i) ∷ []) rest none)
+    rest_gives rest (Some b) r =
+        ⊎_elim (λ f. some_rests rest b f) (λ f. reaches_behind (begun hs) rest b (none_rests f.0) f.1) r

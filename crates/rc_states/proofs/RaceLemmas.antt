@@ -8,7 +8,7 @@ use Rattle.rc_program.specs.Program.{Way, stays, pair_at}
 use Rattle.rc_states.specs.Gives.{Gives}
 use Rattle.rc_states.specs.Run.{IsGoal}
 use Rattle.rc_states.specs.Steps.{HasPlace, AreBelow, Adds, all_added, at}
-use Rattle.rc_states.specs.Longest.{Closes, out_of_ways, hands_on, skips, arrives, comes_back, GroupSteps, over, goes, stops, AddsGroups, all_added as none_added, adds}
+use Rattle.rc_states.specs.Longest.{flat, Closes, out_of_ways, hands_on, skips, arrives, comes_back, GroupSteps, over, goes, stops, AddsGroups, all_added as none_added, adds}
 use Rattle.rc_states.specs.LongestLaws.{Held, begun, held, AreHeldBelow, IsQuiet, CarriesTo, AreCarried, IsKnown}
 use Rattle.rc_states.specs.States.{best_at}
 use Rattle.rc_states.proofs.Passes.{Passes}
@@ -20,7 +20,7 @@ use Rattle.rc_states.proofs.RunLemmas.{rises}
 use Rattle.rc_states.proofs.MachineLemmas.{has_parts, has_right}
 use Rattle.rc_states.proofs.LimitLemmas.{read_by, under_kept}
 use Rattle.rc_states.proofs.CloseLemmas.{one_after, carried_behind, none_here, past, met}
-use Rattle.rc_states.proofs.GroupLemmas.{full, flat}
+use Rattle.rc_states.proofs.GroupLemmas.{full}
 
 pub at_append : (i : ℕ) (xs ys : List ℕ) → at i (xs ++ ys) ≡ at i xs ++ at i ys
 at_append i xs ys = map-append (λ q. (q, i)) xs ys

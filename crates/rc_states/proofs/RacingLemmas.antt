@@ -13,7 +13,7 @@ use Rattle.rc_states.specs.Run.{IsGoal}
 use Rattle.rc_states.specs.Steps.{HasPlace, AreBelow, Adds, all_added, at, still}
 use Rattle.rc_states.specs.Sides.{told, holds_by, out_seen, byte_of, IsReadable}
 use Rattle.rc_states.specs.States.{Setting, IsSetting, State, is_match, IsFirst, IsInside, Stops, later_starts, all_starts, best_at}
-use Rattle.rc_states.specs.Longest.{groups_of, parted, Closes, GroupSteps, over, goes as goes_over, stops, AddsGroups, all_added as none_added, adds, root_group, IsNextOfLongest}
+use Rattle.rc_states.specs.Longest.{flat, groups_of, parted, Closes, GroupSteps, over, goes as goes_over, stops, AddsGroups, all_added as none_added, adds, root_group, IsNextOfLongest}
 use Rattle.rc_states.specs.LongestLaws.{Held, begun, held, AreHeldBelow, IsQuiet, CarriesTo, AreCarried, IsKnown, IsRest, IsRacing, GivesLongest}
 use Rattle.rc_states.proofs.PartsLemmas.{no_walk_both}
 use Rattle.rc_states.proofs.PassLemmas.{no_ways}
@@ -24,9 +24,9 @@ use Rattle.rc_states.proofs.LimitLemmas.{read_by, under_kept}
 use Rattle.rc_states.proofs.KindLemmas.{out_under}
 use Rattle.rc_states.proofs.TextLemmas.{get_some, byte_behind, byte_ahead, out_here, same_below, same_at_end, near, last}
 use Rattle.rc_states.proofs.CloseLemmas.{at_bound}
-use Rattle.rc_states.proofs.GroupLemmas.{full, full_append, parted_same, groups_parted, flat, nothing_held, adds_parts}
+use Rattle.rc_states.proofs.GroupLemmas.{full, full_append, parted_same, groups_parted, nothing_held, one_held, adds_parts}
 use Rattle.rc_states.proofs.RaceLemmas.{up, MetHere, Stepped, SoFar, step_groups}
-use Rattle.rc_states.proofs.LongestLemmas.{begun_append, held_append, flat_below, below_append, start_joins, known_none, known_some, over_gives}
+use Rattle.rc_states.proofs.LongestLemmas.{begun_append, held_append, flat_below, below_append, start_joins, known_none, known_some, over_gives, rest_gives}
 
 -- nothing is read at a bound, so no group holds a place behind it
 bound_groups : (out : ℕ → List Way) (ends : ℕ → Bool) {visited : List ℕ} {groups onwards : List (List ℕ)} {stop : Option ℕ} →
@@ -259,3 +259,12 @@ module _ (g : Setting) (ok : IsSetting g) (t : Text) (terminator : g.terminator 
       no_rest : (best : Option Pair) (rest : List Pair) → IsRest false root i hi rest best → best ≡ None → rest ≡ []
       no_rest None rest is_rest e = is_rest
       no_rest (Some b) rest is_rest e = absurd (none-some b (sym e))
+
+  -- where nothing is under way but the place of the starts
+  pub rests : (i : ℕ) (s : State) → IsRacing g t hi root origin i s None → s.list ≡ root ∷ [] → s.goes_on ≡ true → (r : Option Pair) →
+      GivesLongest (ways g.places t hi) (Stops g.places) (all_starts false root i hi) r → GivesLongest (ways g.places t hi) (Stops g.places) origin r
+  rests i s u one on r h =
+      let later : u.rest ≡ later_starts true root i hi = subst (λ b. u.rest ≡ later_starts b root i hi) on u.is_rest in
+      subst (λ z. GivesLongest (ways g.places t hi) (Stops g.places) z r) (ap (λ z. begun u.starts ++ z) (sym later) ∙ sym u.all)
+      (rest_gives (ways g.places t hi) (Stops g.places) same_pair last_here near_here i root u.starts u.carries
+      (one_held (length g.places) root (held u.starts) (sym u.list ∙ one)) u.known (later_starts true root i hi) r h)

@@ -30,6 +30,11 @@ abbrev pub parted : ℕ → List (List ℕ) → List ℕ
 parted mark [] = []
 parted mark (g ∷ gs) = joined mark g (parted mark gs)
 
+-- all places of the groups
+abbrev pub flat : List (List ℕ) → List ℕ
+flat [] = []
+flat (g ∷ gs) = g ++ flat gs
+
 -- `Closes out ends visited from onward stop visited2`: the search at one position, for walks of one start: as `Steps`, but a place where a
 -- walk may end drops nothing: a later end may follow. `stop` is the first such place.
 pub data Closes (out : ℕ → List Way) (ends : ℕ → Bool) : List ℕ → List Way → List ℕ → Option ℕ → List ℕ → Type 0 where

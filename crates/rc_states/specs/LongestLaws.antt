@@ -13,7 +13,7 @@ use Rattle.rc_states.specs.Sides.{AreAlike, told, byte_of, IsReadable}
 use Rattle.rc_states.specs.States.{Setting, IsSetting, State, IsFirst, IsInside, Stops, later_starts, all_starts, best_at}
 use Rattle.rc_states.specs.Backward.{IsLeastSoFar}
 use Rattle.rc_states.specs.Laws.{IsSettingOf, may_end_at}
-use Rattle.rc_states.specs.Longest.{parted, IsNextOfLongest}
+use Rattle.rc_states.specs.Longest.{parted, flat, IsNextOfLongest}
 
 -- the longest walk from the pair n ends at e
 abbrev pub ReachesLongest : (Pair → List Pair) → (Pair → Type 0) → Pair → Pair → Type 0
@@ -91,7 +91,7 @@ pub record IsRacing (g : Setting) (t : Text) (hi root : ℕ) (origin : List Pair
   pub readable : IsReadable g.needs (byte_of (before_at t i))
 
 -- forwards: what is met last is where the longest walk of the least start ends
-pub record LongestLaw : Type 0 where
+pub record LongestForwardLaw : Type 0 where
   -- before the first byte
   pub begins : (g : Setting) (t : Text) (hi root lo : ℕ) (anchored : Bool) (s : State) → IsSetting g → root < length g.places →
       g.terminator ≡ t.terminator → IsReadable g.needs (byte_of (before_at t lo)) → IsFirst g root (byte_of (before_at t lo)) anchored s →
@@ -110,6 +110,32 @@ pub record LongestLaw : Type 0 where
   pub dies : (g : Setting) (t : Text) (hi root : ℕ) (origin : List Pair) (i : ℕ) (s : State) (best : Option Pair) → IsSetting g →
       g.terminator ≡ t.terminator → IsRacing g t hi root origin i s best → s.list ≡ [] → s.goes_on ≡ false →
       GivesLongest (ways g.places t hi) (Stops g.places) origin best
+
+  -- where nothing is under way but the place of the starts, the search may be taken up anew
+  pub rests : (g : Setting) (t : Text) (hi root : ℕ) (origin : List Pair) (i : ℕ) (s : State) → IsSetting g → g.terminator ≡ t.terminator →
+      IsRacing g t hi root origin i s None → s.list ≡ root ∷ [] → s.goes_on ≡ true → (r : Option Pair) →
+      GivesLongest (ways g.places t hi) (Stops g.places) (all_starts false root i hi) r → GivesLongest (ways g.places t hi) (Stops g.places) origin r
+
+-- Each entry is a place of the program, which stands in the list once, or a mark between two places.
+pub record IsMarkedList (mark : ℕ) (list : List ℕ) : Type 0 where
+  pub groups : List (List ℕ)
+  pub is_parted : list ≡ parted mark groups
+  pub once : AreOnce (flat groups)
+  pub below : AreBelow mark (flat groups)
+
+-- what holds of the steps, as `KindLaw` has it for the other kinds
+pub record LongestStepLaw : Type 0 where
+  pub alike : (g : Setting) (root b c : ℕ) (s t : State) → AreAlike g.places g.needs g.terminator b c →
+      IsNextOfLongest g root s (Some b) t → IsNextOfLongest g root s (Some c) t
+  pub inside : (g : Setting) (root : ℕ) (s t : State) (after : Option ℕ) → IsClosed g.places → root < length g.places →
+      IsNextOfLongest g root s after t → IsMarkedList (length g.places) t.list
+  -- there are fewer marks than places
+  pub short : (g : Setting) (root : ℕ) (s t : State) (after : Option ℕ) → IsClosed g.places → root < length g.places →
+      IsNextOfLongest g root s after t → length t.list ≤ 2 * length g.places
+  pub within : (mark : ℕ) (list : List ℕ) → IsMarkedList mark list → AreBelow (mark + 1) list
+  pub forgets : (g : Setting) (root : ℕ) (s t : State) (after stop : Option ℕ) →
+      IsNextOfLongest g root s after t → IsNextOfLongest g root (record s { stop = stop }) after t
+  pub tells : (g : Setting) (root : ℕ) (s t : State) (after : Option ℕ) → IsNextOfLongest g root s after t → t.beside ≡ told g.needs g.terminator after
 
 -- What has been passed over before `from`.
 pub record IsLongestRaised (s : Search) (from : ℕ) : Type 0 where
