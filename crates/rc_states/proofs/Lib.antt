@@ -32,5 +32,7 @@ pub mod GroupLemmas
 pub mod RaceLemmas
 pub mod LongestLemmas
 pub mod RacingLemmas
+pub mod LongestStepLemmas
+pub mod LongestSpanLemmas
 mod Examples
 mod LongestExamples

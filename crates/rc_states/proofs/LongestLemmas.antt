@@ -268,7 +268,7 @@ module _ (ways : Pair → List Pair) (Ends : Pair → Type 0) (decide : (n m : P
         (carried m (omega (arith, late, lt)) None (none_longer ways Ends [] ((root, i) ∷ []) w longest m (omega (arith, lt, at_end)))) in
         let reaches : ReachesLongest ways Ends start b =
         ⊎_elim (λ x. absurd (early b.1 walk.0 x.is_walk)) (λ x. (walk.0, longest_of ways Ends [] (start ∷ []) walk.0 b.1 x.1 beyond, walk.2))
-        (first_parts ways (IsGoal Ends b.1) decide (begun before) walk.1) in
+        (first_parts ways (IsGoal Ends b.1) decide (begun before) {w = walk.0} walk.1) in
         subst (λ z. FirstReaches ways Ends z b)
         (sym (ap (λ z. z ++ rest) all_are ∙ append_assoc (begun before) (start ∷ begun behind) rest))
         (first_reaches (begun before) start (begun behind ++ rest) b (none_of_all ways Ends [] (begun before) early) reaches)

@@ -25,6 +25,29 @@ use Rattle.rc_states.proofs.GroupLemmas.{full}
 pub at_append : (i : ℕ) (xs ys : List ℕ) → at i (xs ++ ys) ≡ at i xs ++ at i ys
 at_append i xs ys = map-append (λ q. (q, i)) xs ys
 
+-- what a group that is closed over hands on is of the program
+module _ (out : ℕ → List Way) (ends : ℕ → Bool) (n : ℕ) (closed : (q : ℕ) → AreBelow n (read_by (out q))) where
+  pub onward_below : {visited onward visited2 : List ℕ} {from : List Way} {stop : Option ℕ} → Closes out ends visited from onward stop visited2 →
+      AreBelow n (read_by from) → AreBelow n onward
+  onward_below out_of_ways b = λ k h. absurd h
+  onward_below (hands_on q c) b = λ k h. ⊎_elim (λ e. b k (inl e)) (onward_below c (λ m z. b m (inr z)) k) h
+  onward_below (skips q seen c) b = onward_below c b
+  onward_below (arrives q fresh t c) b = onward_below c b
+  onward_below (comes_back {onward = onward} {onward2 = onward2} q fresh on sub c) b =
+      λ k h. ⊎_elim (onward_below sub (closed q) k) (onward_below c b k) (has_parts k onward onward2 h)
+
+  nothing_read : (list : List ℕ) → AreBelow n (read_by (map stays list))
+  nothing_read [] k h = absurd h
+  nothing_read (q ∷ qs) k h = nothing_read qs k h
+
+  pub group_below : (group : List ℕ) {visited onward visited2 : List ℕ} {stop : Option ℕ} → Closes out ends visited (map stays group) onward stop visited2 → AreBelow n onward
+  group_below group c = onward_below c (nothing_read group)
+
+  pub groups_below : {visited : List ℕ} {groups onward : List (List ℕ)} {stop : Option ℕ} → GroupSteps out ends visited groups onward stop → AreBelow n (flat onward)
+  groups_below over k h = absurd h
+  groups_below (goes {group = group} {onward = onward} {onwards = onwards} c rest) k h = ⊎_elim (group_below group c k) (groups_below rest k) (has_parts k onward (flat onwards) h)
+  groups_below (stops {group = group} {onward = onward} c) k h = ⊎_elim (group_below group c k) (λ never. absurd never) (has_parts k onward [] h)
+
 module _ (ways : Pair → List Pair) (Ends : Pair → Type 0) (decide : (n m : Pair) → (n ≡ m) ⊎ (n ≢ m))
     (last : (n m : Pair) → Ends n → ¬ IsIn m (ways n)) (near : (n m : Pair) → IsIn m (ways n) → (m.1 ≡ n.1) ⊎ (m.1 ≡ n.1 + 1)) where
   pub up : (n m : Pair) → IsIn m (ways n) → n.1 ≤ m.1
@@ -128,20 +151,6 @@ module _ (ways : Pair → List Pair) (Ends : Pair → Type 0) (decide : (n m : P
               (no_walk_both ways (IsGoal Ends i) {xs = at (i + 1) onward}
               (none_here ways Ends up i (i + 1) onward (omega arith)) (none_here ways Ends up i (i + 1) x.0 (omega arith)))))
 
-    -- what a group that is closed over hands on is of the program
-    pub onward_below : {visited onward visited2 : List ℕ} {from : List Way} {stop : Option ℕ} → Closes out ends visited from onward stop visited2 →
-        AreBelow n (read_by from) → AreBelow n onward
-    onward_below out_of_ways b = λ k h. absurd h
-    onward_below (hands_on q c) b = λ k h. ⊎_elim (λ e. b k (inl e)) (onward_below c (λ m z. b m (inr z)) k) h
-    onward_below (skips q seen c) b = onward_below c b
-    onward_below (arrives q fresh t c) b = onward_below c b
-    onward_below (comes_back {onward = onward} {onward2 = onward2} q fresh on sub c) b =
-        λ k h. ⊎_elim (onward_below sub (closed q) k) (onward_below c b k) (has_parts k onward onward2 h)
-
-    nothing_read : (list : List ℕ) → AreBelow n (read_by (map stays list))
-    nothing_read [] k h = absurd h
-    nothing_read (q ∷ qs) k h = nothing_read qs k h
-
     met_cons : (stop : Option ℕ) (origin : List Pair) (m : Pair) (own : List ℕ) (starts : List Held) (dropped : List Pair) →
         MetHere (origin ++ m ∷ []) starts dropped stop → MetHere origin ((m, own) ∷ starts) dropped stop
     met_cons None origin m own starts dropped h = (h.0, subst (λ z. IsQuiet ways Ends i z) (append_assoc origin (m ∷ []) (begun starts)) h.1)
@@ -208,14 +217,14 @@ module _ (ways : Pair → List Pair) (Ends : Pair → Type 0) (decide : (n m : P
         (so_far_on origin places onward visited listed s [] [] [] visited none m c.0 (λ k h. absurd h) out_of_ways) c.1 steps
         (subst (λ z. AddsGroups z onwards news) (sym (append-nil listed)) a)))
     step_groups ((m, q ∷ g) ∷ hs) origin places onward visited listed s c {stop = stop} (goes {onward = onward2} {visited2 = visited2} one rest) (adds {own = own} {new = new} added more) =
-        let b = onward_below one (nothing_read (q ∷ g)) in
+        let b = group_below out ends n closed (q ∷ g) one in
         before origin listed m (q ∷ g) own hs new stop
         (carried_on origin places onward visited listed s (q ∷ g) onward2 own visited2 added m c.0 one)
         (own_below origin places onward visited listed s (q ∷ g) onward2 own visited2 added b)
         (step_groups hs (origin ++ m ∷ []) (places ++ (q ∷ g)) (onward ++ onward2) visited2 (listed ++ own)
         (so_far_on origin places onward visited listed s (q ∷ g) onward2 own visited2 added m c.0 b one) c.1 rest more)
     step_groups ((m, q ∷ g) ∷ hs) origin places onward visited listed s c (stops {onward = onward2} {visited2 = visited2} {e = e} one) (adds {own = own} added none_added) =
-        let b = onward_below one (nothing_read (q ∷ g)) in
+        let b = group_below out ends n closed (q ∷ g) one in
         record {
           starts = (m, own) ∷ [];
           dropped = begun hs;
