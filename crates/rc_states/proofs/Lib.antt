@@ -34,5 +34,6 @@ pub mod LongestLemmas
 pub mod RacingLemmas
 pub mod LongestStepLemmas
 pub mod LongestSpanLemmas
+pub mod ShutLemmas
 mod Examples
 mod LongestExamples

@@ -92,7 +92,7 @@ fn gather(
 }
 
 /// Walks may begin at the positions to come, unless a match was met.
-fn goes_on(from: &State, stop: Option<usize>) -> bool
+pub fn goes_on(from: &State, stop: Option<usize>) -> bool
     ensures { result ≡ (from.now.goes_on && is_none stop) }
 {
     from.goes_on && stop.is_none()
