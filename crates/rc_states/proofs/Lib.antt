@@ -35,5 +35,6 @@ pub mod RacingLemmas
 pub mod LongestStepLemmas
 pub mod LongestSpanLemmas
 pub mod ShutLemmas
+pub mod PartedLemmas
 mod Examples
 mod LongestExamples

@@ -1,9 +1,9 @@
 //! The step over one byte where the longest match of the least start is sought.
-ghost use Rattle.std.specs.Prelude.{ℕ, List, ◌≡◌, ◌<◌, ◌≤◌, ◌+◌, ◌∷◌, [], IfOk, length, reverse, drop, Some, None, slice_range};
+ghost use Rattle.std.specs.Prelude.{ℕ, List, ◌≡◌, ◌≢◌, ◌<◌, ◌≤◌, ◌+◌, ◌∷◌, [], IfOk, length, reverse, drop, Some, None, slice_range};
 ghost use Rattle.rc_program.specs.Laws.{IsClosed};
 ghost use Rattle.rc_bytes.specs.Places.{places_of};
 ghost use Rattle.rc_states.specs.Places.{state_of, setting_of};
-ghost use Rattle.rc_states.specs.Steps.{AreBelow, out_by};
+ghost use Rattle.rc_states.specs.Steps.{HasPlace, AreBelow, out_by};
 ghost use Rattle.rc_states.specs.Sides.{holds_by};
 ghost use Rattle.rc_states.specs.States.{is_match};
 ghost use Rattle.rc_states.specs.Longest.{groups_of, IsNextOfLongest};
@@ -54,6 +54,7 @@ fn close(
 fn group_end(list: &[usize], from: usize, mark: usize) -> usize
     requires { from < length list.now }
     ensures inside { (from ≤ result) × (result ≤ length list.now) }
+    ensures other { (q : ℕ) → HasPlace q (slice_range list.now from result) → q ≢ mark }
     ensures group { groups_of mark (drop from list.now) ≡ slice_range list.now from result ∷ groups_of mark (drop (result + 1) list.now) }
 {
     for index in from..list.len() {

@@ -19,3 +19,11 @@ returns-clause-group c =
     let e : c.loop-index.index ≡ length c.args.list.now = (let a = c.loop-index-test.false in let b = c.loop-index.auto.index in omega (arith, a, b)) in
     last_group c.args.mark c.args.list.now c.args.from c.requires
     (subst (λ n. AreOther c.args.mark (slice_range c.args.list.now c.args.from n)) e c.loop-index.invariant.1)
+
+pub returns-then-list-index-clause-other : goal.returns-then-list-index-clause-other
+returns-then-list-index-clause-other c = c.loop-index.invariant.1
+
+pub returns-clause-other : goal.returns-clause-other
+returns-clause-other c =
+    let e : c.loop-index.index ≡ length c.args.list.now = (let a = c.loop-index-test.false in let b = c.loop-index.auto.index in omega (arith, a, b)) in
+    subst (λ n. AreOther c.args.mark (slice_range c.args.list.now c.args.from n)) e c.loop-index.invariant.1
