@@ -1,5 +1,5 @@
 -- What the step of one group means for walks that may end at one position alone.
-use Rattle.std.proofs.Common.{◌≡◌, ◌≢◌, ℕ, suc, ◌+◌, ◌<◌, ◌≤◌, ◌⊎◌, List, [], ◌∷◌, ◌++◌, map, Option, Some, None, Bool, IsTrue, inl, inr, ⊎_elim, sym, subst, refl, arith, append_assoc}
+use Rattle.std.proofs.Common.{◌≡◌, ◌≢◌, ℕ, ◌+◌, ◌<◌, ◌≤◌, ◌⊎◌, List, [], ◌∷◌, ◌++◌, map, Option, Some, None, Bool, IsTrue, inl, inr, ⊎_elim, sym, subst, refl, arith, append_assoc}
 use Rattle.std.specs.Option.{option_or}
 use Rattle.std.proofs.lemmas.List.{map-append}
 use Rattle.std.proofs.lemmas.Option.{none-some, same_Some}
@@ -8,7 +8,7 @@ use Rattle.rc_program.specs.Program.{Way, stays, pair_at}
 use Rattle.rc_program.proofs.LongestLemmas.{none_back}
 use Rattle.rc_states.specs.Gives.{Gives}
 use Rattle.rc_states.specs.Run.{IsGoal}
-use Rattle.rc_states.specs.Steps.{HasPlace, at, still}
+use Rattle.rc_states.specs.Steps.{at, still}
 use Rattle.rc_states.specs.Longest.{Closes, out_of_ways, hands_on, skips, arrives, comes_back}
 use Rattle.rc_states.proofs.Passes.{Passes}
 use Rattle.rc_states.proofs.Passes as passes

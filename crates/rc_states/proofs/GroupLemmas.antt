@@ -1,8 +1,8 @@
 -- Groups, and lists of groups with marks between them.
-use Rattle.std.proofs.Common.{◌≡◌, ◌≢◌, ℕ, zero, suc, ◌+◌, ◌-◌, ◌<◌, ◌≤◌, ◌⊎◌, Option, Some, drop, get_or, slice_get, slice_range, Bool, true, false, List, [], ◌∷◌, ◌++◌, length, nat_eq, if◌then◌else◌, inl, inr, ⊎_elim, sym, subst, ap, ◌∙◌, refl, arith, append_assoc, ne_eqb, eq-eqb}
+use Rattle.std.proofs.Common.{◌≡◌, ◌≢◌, ℕ, zero, suc, ◌+◌, ◌-◌, ◌<◌, ◌≤◌, Some, drop, get_or, slice_get, slice_range, List, [], ◌∷◌, ◌++◌, length, inl, inr, ⊎_elim, sym, subst, ap, ◌∙◌, refl, arith, append_assoc, ne_eqb, eq-eqb}
 use Rattle.std.proofs.lemmas.List.{append-nil, take-append-drop, drop-drop, drop_more, take_rest, drop_all}
 use Rattle.rc_text.proofs.Ranges.{slice_range-add_one}
-use Rattle.rc_states.specs.Steps.{HasPlace, Adds, AreBelow}
+use Rattle.rc_states.specs.Steps.{HasPlace, AreBelow}
 use Rattle.rc_states.specs.Longest.{put, groups_of, joined, parted, flat, AddsGroups, all_added, adds}
 use Rattle.rc_states.specs.Machine.{with_group}
 use Rattle.rc_states.proofs.MachineLemmas.{has_parts}

@@ -1,5 +1,5 @@
 -- From state to state where the longest match of the least start is sought.
-use Rattle.std.proofs.Common.{◌≡◌, ◌≢◌, ℕ, suc, ◌+◌, ◌-◌, ◌<◌, ◌≤◌, ◌⊎◌, List, [], ◌∷◌, ◌++◌, length, map, Option, Some, None, Bool, true, false, true≢false, ◌&&◌, is_none, inl, inr, ⊎_elim, sym, subst, ap, ap₂, ◌∙◌, refl, arith, append_assoc}
+use Rattle.std.proofs.Common.{◌≡◌, ◌≢◌, ℕ, ◌+◌, ◌<◌, ◌≤◌, ◌⊎◌, List, [], ◌∷◌, ◌++◌, length, Option, Some, None, inl, inr, ⊎_elim, sym, subst, ap, ap₂, ◌∙◌, refl, arith, append_assoc}
 use Rattle.std.proofs.lemmas.Bool.{cases_lt}
 use Rattle.std.proofs.lemmas.List.{append-nil, map-append}
 use Rattle.rc_walks.specs.Walks.{Pair, IsIn, IsFirstWalk, HasNoWalk}
@@ -7,19 +7,16 @@ use Rattle.rc_program.specs.Answer.{last_of}
 use Rattle.rc_program.proofs.LongestLemmas.{longest_of, first_of_longest, none_longer, none_of_all, none_to, ends_on}
 use Rattle.rc_states.specs.Gives.{Gives, starts}
 use Rattle.rc_states.specs.Run.{IsGoal}
-use Rattle.rc_states.specs.Steps.{HasPlace, AreBelow, Adds, at}
-use Rattle.rc_states.specs.States.{best_at, later_starts}
-use Rattle.rc_states.specs.Longest.{flat, parted, AddsGroups, all_added, adds, root_group}
-use Rattle.rc_states.specs.LongestLaws.{Held, begun, held, AreHeldBelow, IsQuiet, CarriesTo, AreCarried, IsKnown, IsRest, ReachesLongest, FirstReaches, GivesLongest}
+use Rattle.rc_states.specs.Steps.{AreBelow, Adds, at}
+use Rattle.rc_states.specs.Longest.{flat}
+use Rattle.rc_states.specs.LongestLaws.{Held, begun, held, AreHeldBelow, IsQuiet, CarriesTo, AreCarried, IsKnown, ReachesLongest, FirstReaches, GivesLongest}
 use Rattle.rc_states.proofs.PartsLemmas.{first_parts, no_walk_left, no_walk_right, no_walk_both}
 use Rattle.rc_states.proofs.PassLemmas.{no_ways}
 use Rattle.rc_states.proofs.PositionLemmas.{once_gives}
 use Rattle.rc_states.proofs.RunLemmas.{rises}
 use Rattle.rc_states.proofs.AnswerLemmas.{last_at}
-use Rattle.rc_states.proofs.MachineLemmas.{has_parts, has_right}
-use Rattle.rc_states.proofs.LimitLemmas.{under_kept}
+use Rattle.rc_states.proofs.MachineLemmas.{has_parts}
 use Rattle.rc_states.proofs.CloseLemmas.{carried_behind}
-use Rattle.rc_states.proofs.GroupLemmas.{full, full_append, parted_same}
 
 pub begun_append : (xs ys : List Held) → begun (xs ++ ys) ≡ begun xs ++ begun ys
 begun_append xs ys = map-append (λ (h : Held). h.0) xs ys

@@ -1,9 +1,9 @@
 -- The longest match of the least start, by its end and the least start from there.
-use Rattle.std.proofs.Common.{◌≡◌, ◌≢◌, ℕ, zero, suc, ◌+◌, ◌-◌, ◌<◌, ◌≤◌, ◌⊎◌, Bool, true, false, true≢false, List, [], ◌∷◌, Option, Some, None, IsTrue, inl, inr, ⊎_elim, sym, subst, ◌∙◌, refl, arith}
+use Rattle.std.proofs.Common.{◌≡◌, ℕ, zero, suc, ◌+◌, ◌<◌, ◌≤◌, ◌⊎◌, true, false, true≢false, List, [], ◌∷◌, Option, Some, None, IsTrue, inl, inr, ⊎_elim, sym, subst, ◌∙◌, arith}
 use Rattle.std.proofs.lemmas.Bool.{cases_lt, cases_eq}
 use Rattle.rc_walks.specs.Walks.{Pair, IsIn, HasNoWalk, EndsAt}
 use Rattle.rc_program.specs.Program.{ways}
-use Rattle.rc_program.specs.Answer.{Search, ends, next_of, is_anchored, is_allowed, IsStart}
+use Rattle.rc_program.specs.Answer.{Search, ends, next_of, is_anchored}
 use Rattle.rc_program.specs.Longest.{IsLongestFrom, IsLongestAnswer, IsPassedOf, HasNoLongestAnswer}
 use Rattle.rc_program.proofs.WayLemmas.{same_pair}
 use Rattle.rc_states.specs.Gives.{starts}

@@ -1,5 +1,5 @@
 -- The laws of the step for the longest match.
-use Rattle.std.proofs.Common.{◌≡◌, ℕ, suc, ◌+◌, ◌*◌, ◌<◌, ◌≤◌, ◌⊎◌, Bool, true, false, List, [], ◌∷◌, ◌++◌, length, Option, Some, inl, inr, ⊎_elim, sym, subst, ap, ◌∙◌, refl, arith, append_assoc}
+use Rattle.std.proofs.Common.{◌≡◌, ℕ, ◌+◌, ◌*◌, ◌<◌, ◌≤◌, ◌⊎◌, Bool, true, false, List, [], ◌∷◌, ◌++◌, length, Option, Some, inl, inr, ⊎_elim, sym, subst, ap, ◌∙◌, refl, arith, append_assoc}
 use Rattle.std.proofs.lemmas.List.{append-nil, length-append}
 use Rattle.rc_program.specs.Laws.{IsClosed}
 use Rattle.rc_states.specs.Steps.{HasPlace, AreOnce, AreBelow}

@@ -1,5 +1,5 @@
 -- The loop that closes over the groups of a list in turn.
-use Rattle.std.proofs.Common.{◌≡◌, ℕ, zero, suc, ◌+◌, ◌<◌, ◌≤◌, List, [], ◌∷◌, ◌++◌, map, length, drop, Option, Some, None, is_some, is_none, ◌&&◌, Bool, true, false, true≢false, ⊎_elim, inl, inr, take, slice_range, ◌≢◌, ◌-◌, sym, subst, ap, ap₂, ◌∙◌, refl, arith, append_assoc}
+use Rattle.std.proofs.Common.{◌≡◌, ℕ, zero, suc, ◌+◌, ◌≤◌, List, [], ◌∷◌, ◌++◌, map, length, drop, Option, Some, None, is_some, is_none, ◌&&◌, Bool, true, false, true≢false, ⊎_elim, inl, inr, take, slice_range, ◌≢◌, ◌-◌, sym, subst, ap, ap₂, ◌∙◌, refl, arith, append_assoc}
 use Rattle.std.proofs.lemmas.List.{append-nil, length-append, drop_at, drop_all}
 use Rattle.rc_program.specs.Program.{Way, stays}
 use Rattle.rc_states.specs.Sparse.{Members}

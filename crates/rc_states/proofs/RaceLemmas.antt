@@ -1,19 +1,16 @@
 -- A step of groups, start by start: what is carried to each end, and what is known of the ends behind.
-use Rattle.std.proofs.Common.{◌≡◌, ◌≢◌, ℕ, suc, ◌+◌, ◌<◌, ◌≤◌, ◌⊎◌, List, [], ◌∷◌, ◌++◌, map, Option, Some, None, Bool, IsTrue, inl, inr, ⊎_elim, sym, subst, ap, ◌∙◌, refl, arith, append_assoc}
-use Rattle.std.specs.Option.{option_or, option_map}
-use Rattle.std.proofs.lemmas.Bool.{cases_lt}
+use Rattle.std.proofs.Common.{◌≡◌, ◌≢◌, ℕ, ◌+◌, ◌≤◌, ◌⊎◌, List, [], ◌∷◌, ◌++◌, map, Option, Some, None, Bool, IsTrue, inl, inr, ⊎_elim, sym, subst, ap, ◌∙◌, refl, arith, append_assoc}
+use Rattle.std.specs.Option.{option_or}
 use Rattle.std.proofs.lemmas.List.{append-nil, map-append}
-use Rattle.rc_walks.specs.Walks.{Pair, IsIn, HasNoWalk}
+use Rattle.rc_walks.specs.Walks.{Pair, IsIn}
 use Rattle.rc_program.specs.Program.{Way, stays, pair_at}
 use Rattle.rc_states.specs.Gives.{Gives}
 use Rattle.rc_states.specs.Run.{IsGoal}
-use Rattle.rc_states.specs.Steps.{HasPlace, AreBelow, Adds, all_added, at}
+use Rattle.rc_states.specs.Steps.{AreBelow, Adds, all_added, at}
 use Rattle.rc_states.specs.Longest.{flat, Closes, out_of_ways, hands_on, skips, arrives, comes_back, GroupSteps, over, goes, stops, AddsGroups, all_added as none_added, adds}
-use Rattle.rc_states.specs.LongestLaws.{Held, begun, held, AreHeldBelow, IsQuiet, CarriesTo, AreCarried, IsKnown}
-use Rattle.rc_states.specs.States.{best_at}
+use Rattle.rc_states.specs.LongestLaws.{Held, begun, held, AreHeldBelow, IsQuiet, CarriesTo, AreCarried}
 use Rattle.rc_states.proofs.Passes.{Passes}
-use Rattle.rc_states.proofs.Passes as passes
-use Rattle.rc_states.proofs.PartsLemmas.{no_walk_left, no_walk_right, no_walk_both}
+use Rattle.rc_states.proofs.PartsLemmas.{no_walk_both}
 use Rattle.rc_states.proofs.PassLemmas.{step_gives}
 use Rattle.rc_states.proofs.PositionLemmas.{stay_at, once_gives, or_none}
 use Rattle.rc_states.proofs.RunLemmas.{rises}

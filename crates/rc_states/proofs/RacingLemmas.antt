@@ -1,5 +1,5 @@
 -- The search for the longest match, from state to state.
-use Rattle.std.proofs.Common.{◌≡◌, ◌≢◌, ℕ, suc, ◌+◌, ◌-◌, ◌<◌, ◌≤◌, ◌⊎◌, List, [], ◌∷◌, ◌++◌, length, map, Option, Some, None, Bool, true, false, true≢false, IsTrue, ◌&&◌, is_none, inl, inr, ⊎_elim, sym, subst, ap, ap₂, ◌∙◌, refl, arith, append_assoc}
+use Rattle.std.proofs.Common.{◌≡◌, ℕ, suc, ◌+◌, ◌-◌, ◌<◌, ◌⊎◌, List, [], ◌∷◌, ◌++◌, length, map, Option, Some, None, Bool, true, false, true≢false, IsTrue, ◌&&◌, is_none, ⊎_elim, sym, subst, ap, ap₂, ◌∙◌, refl, arith, append_assoc}
 use Rattle.std.proofs.lemmas.List.{append-nil}
 use Rattle.std.proofs.lemmas.Option.{none-some}
 use Rattle.rc_walks.specs.Walks.{Pair, IsIn}
@@ -8,15 +8,14 @@ use Rattle.rc_program.specs.Program.{Way, stays, reads, pair_at, ways}
 use Rattle.rc_program.specs.Laws.{IsClosed}
 use Rattle.rc_program.proofs.LongestLemmas.{none_back}
 use Rattle.rc_program.proofs.WayLemmas.{same_pair}
-use Rattle.rc_states.specs.Gives.{Gives, starts}
+use Rattle.rc_states.specs.Gives.{starts}
 use Rattle.rc_states.specs.Run.{IsGoal}
-use Rattle.rc_states.specs.Steps.{HasPlace, AreBelow, Adds, all_added, at, still}
+use Rattle.rc_states.specs.Steps.{HasPlace, AreBelow, all_added, still}
 use Rattle.rc_states.specs.Sides.{told, holds_by, out_seen, byte_of, IsReadable}
 use Rattle.rc_states.specs.States.{Setting, IsSetting, State, is_match, IsFirst, IsInside, Stops, later_starts, all_starts, best_at}
 use Rattle.rc_states.specs.Longest.{flat, groups_of, parted, Closes, GroupSteps, over, goes as goes_over, stops, AddsGroups, all_added as none_added, adds, root_group, IsNextOfLongest}
-use Rattle.rc_states.specs.LongestLaws.{Held, begun, held, AreHeldBelow, IsQuiet, CarriesTo, AreCarried, IsKnown, IsRest, IsRacing, GivesLongest}
+use Rattle.rc_states.specs.LongestLaws.{Held, begun, held, AreHeldBelow, IsQuiet, AreCarried, IsKnown, IsRest, IsRacing, GivesLongest}
 use Rattle.rc_states.proofs.PartsLemmas.{no_walk_both}
-use Rattle.rc_states.proofs.PassLemmas.{no_ways}
 use Rattle.rc_states.proofs.Passes as passes
 use Rattle.rc_states.proofs.PositionLemmas.{still_stay}
 use Rattle.rc_states.proofs.MachineLemmas.{has_right}

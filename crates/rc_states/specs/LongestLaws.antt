@@ -1,6 +1,6 @@
 -- The laws of states and steps where the longest match of the least start is sought.
 use Rattle.std.specs.Prelude.{◌≡◌, ℕ, ◌+◌, ◌*◌, ◌<◌, ◌≤◌, ◌⊎◌, Bool, true, false, List, [], ◌∷◌, ◌++◌, length, map, Option, Some, None}
-use Rattle.rc_walks.specs.Walks.{Pair, IsWalk, HasNoWalk, EndsAt}
+use Rattle.rc_walks.specs.Walks.{Pair, HasNoWalk, EndsAt}
 use Rattle.rc_program.specs.Text.{Text, before_at, after_at}
 use Rattle.rc_program.specs.Program.{ways}
 use Rattle.rc_program.specs.Laws.{IsClosed}
@@ -110,7 +110,6 @@ pub record LongestForwardLaw : Type 0 where
   pub dies : (g : Setting) (t : Text) (hi root : ℕ) (origin : List Pair) (i : ℕ) (s : State) (best : Option Pair) → IsSetting g →
       g.terminator ≡ t.terminator → IsRacing g t hi root origin i s best → s.list ≡ [] → s.goes_on ≡ false →
       GivesLongest (ways g.places t hi) (Stops g.places) origin best
-
   -- where nothing is under way but the place of the starts, the search may be taken up anew
   pub rests : (g : Setting) (t : Text) (hi root : ℕ) (origin : List Pair) (i : ℕ) (s : State) → IsSetting g → g.terminator ≡ t.terminator →
       IsRacing g t hi root origin i s None → s.list ≡ root ∷ [] → s.goes_on ≡ true → (r : Option Pair) →

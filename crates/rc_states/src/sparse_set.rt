@@ -46,12 +46,7 @@ impl SparseSet {
     }
 
     /// Adds the members from number `from` on to the list, in the order in which they were inserted, behind a mark if the list holds any.
-    pub fn part_to(
-        &self,
-        from: usize,
-        mark: usize,
-        list: &mut Vec<usize>,
-    ) -> Result<(), AllocError>
+    pub fn part_to(&self, from: usize, mark: usize, list: &mut Vec<usize>) -> Result<(), AllocError>
         requires { from ≤ length self.now.items }
         ensures { IfOk result (λ _. list.new.items ≡ with_group mark list.old.items (drop from self.now.items)) }
     {

@@ -1,4 +1,4 @@
-use Rattle.std.proofs.Common.{◌≡◌, ◌<◌, ◌≤◌, length, reverse, slice_range, sym, subst, ap, ◌∙◌, refl, arith}
+use Rattle.std.proofs.Common.{◌≡◌, length, reverse, slice_range, sym, subst, ap, ◌∙◌, refl, arith}
 use Rattle.std.proofs.lemmas.List.{reverse-reverse}
 use Rattle.rc_bytes.specs.Places.{places_of}
 use Rattle.rc_states.specs.Sides.{holds_by}

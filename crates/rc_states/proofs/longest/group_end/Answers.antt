@@ -1,4 +1,4 @@
-use Rattle.std.proofs.Common.{◌≡◌, subst, ◌<◌, ◌≤◌, ◌+◌, length, drop, slice_range, arith}
+use Rattle.std.proofs.Common.{◌≡◌, subst, length, slice_range, arith}
 use Rattle.rc_states.proofs.GroupLemmas.{group_before, last_group, other_more, AreOther}
 use Rattle.rc_states.proofs.longest.group_end.Goals as goal
 

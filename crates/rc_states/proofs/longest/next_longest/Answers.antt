@@ -1,4 +1,4 @@
-use Rattle.std.proofs.Common.{◌≡◌, ◌+◌, length, sym, subst, ap, ◌∙◌}
+use Rattle.std.proofs.Common.{◌+◌, length, sym, subst, ap}
 use Rattle.std.proofs.lemmas.List.{length-map}
 use Rattle.rc_bytes.specs.Places.{place_of, places_of}
 use Rattle.rc_states.specs.Places.{setting_of, state_of}
