@@ -11,6 +11,7 @@ pub mod ForwardLemmas
 pub mod AnswerLemmas
 pub mod MachineLemmas
 pub mod LimitLemmas
+pub mod UnderLemmas
 pub mod BackwardLemmas
 pub mod KindLemmas
 pub mod LawLemmas

@@ -11,7 +11,7 @@ use Rattle.rc_states.proofs.SidesLemmas.{alike_out}
 use Rattle.rc_states.proofs.MachineLemmas.{has_parts, has_left, has_right}
 use Rattle.rc_states.proofs.LimitLemmas.{once_kept, under_kept}
 use Rattle.rc_states.proofs.LimitLemmas as limit
-use Rattle.rc_states.proofs.KindLemmas.{out_under}
+use Rattle.rc_states.proofs.UnderLemmas.{out_under}
 use Rattle.rc_states.proofs.RaceLemmas.{groups_below}
 use Rattle.rc_states.proofs.LongestLemmas.{flat_append}
 use Rattle.rc_states.proofs.RacingLemmas as racing

@@ -20,7 +20,7 @@ use Rattle.rc_states.proofs.Passes as passes
 use Rattle.rc_states.proofs.PositionLemmas.{still_stay}
 use Rattle.rc_states.proofs.MachineLemmas.{has_right}
 use Rattle.rc_states.proofs.LimitLemmas.{read_by, under_kept}
-use Rattle.rc_states.proofs.KindLemmas.{out_under}
+use Rattle.rc_states.proofs.UnderLemmas.{out_under}
 use Rattle.rc_states.proofs.TextLemmas.{get_some, byte_behind, byte_ahead, out_here, same_below, same_at_end, near, last}
 use Rattle.rc_states.proofs.CloseLemmas.{at_bound}
 use Rattle.rc_states.proofs.GroupLemmas.{full, full_append, parted_same, groups_parted, nothing_held, one_held, adds_parts}
