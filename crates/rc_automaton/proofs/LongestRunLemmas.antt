@@ -12,7 +12,7 @@ use Rattle.rc_states.specs.States.{Setting, IsSetting, State, IsInside, Stops}
 use Rattle.rc_states.specs.Longest.{AddsGroups, root_group, IsNextOfLongest}
 use Rattle.rc_states.specs.LongestLaws.{IsRacing, GivesLongest}
 use Rattle.rc_states.proofs.LongestStepLemmas.{longest_forward_law}
-use Rattle.rc_automaton.specs.Machine.{Machine, forwards, begins_by, IsMachine, is_dead}
+use Rattle.rc_automaton.specs.Machine.{Machine, forwards, begins_by, IsMachine}
 use Rattle.rc_automaton.specs.Runs.{RunEnd, met_last, Runs, begun, goes_on, EndsSo, at_bound, dead, early, quit, rests}
 use Rattle.rc_automaton.proofs.StartLemmas.{IsRoot, same_met, stop_no_met, rest_no_met}
 use Rattle.rc_automaton.proofs.FirstLemmas.{no_list}

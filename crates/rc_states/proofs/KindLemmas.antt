@@ -1,14 +1,9 @@
 -- The laws of the steps of each kind.
 use Rattle.std.proofs.Common.{◌≡◌, ℕ, ◌<◌, ◌≤◌, ◌⊎◌, ◌↔◌, Bool, true, false, List, [], ◌∷◌, length, Option, Some, inl, inr, ⊎_elim, sym, subst, ap, ◌∙◌, arith}
-use Rattle.std.specs.List.{AllByRecursion}
-use Rattle.std.proofs.lemmas.Bool.{cases_lt}
-use Rattle.std.proofs.lemmas.List.Elements.{recursion_from_All}
-use Rattle.rc_pattern.specs.declared.hir.Look.{Look}
-use Rattle.rc_program.specs.Program.{Place, choice, Way, stays, reads, ways_out, place_at}
-use Rattle.rc_program.specs.Laws.{IsClosed, targets}
-use Rattle.rc_program.proofs.PlaceLemmas.{ways_out_to, goal_of}
-use Rattle.rc_program.proofs.WayLemmas.{past_places}
-use Rattle.rc_states.specs.Steps.{HasPlace, AreOnce, AreBelow, IsStep, ahead_of, out_by}
+use Rattle.rc_program.specs.Program.{Way, stays, reads}
+use Rattle.rc_program.specs.Laws.{IsClosed}
+use Rattle.rc_program.proofs.PlaceLemmas.{goal_of}
+use Rattle.rc_states.specs.Steps.{HasPlace, AreOnce, AreBelow, IsStep}
 use Rattle.rc_states.specs.Sides.{holds_by, told, AreAlike, out_seen}
 use Rattle.rc_states.specs.States.{Setting, State, IsNext, root_if, is_match}
 use Rattle.rc_states.specs.Steps.{HasWay}

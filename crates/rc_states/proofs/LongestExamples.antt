@@ -1,5 +1,5 @@
 -- The step for the longest match, run on worked rows.
-use Rattle.std.proofs.Common.{◌≡◌, ◌≢◌, ℕ, zero, suc, ◌+◌, ◌*◌, ◌⊎◌, List, [], ◌∷◌, ◌++◌, length, map, Option, Some, None, Bool, true, false, true≢false, is_none, nat_eq, eqb-true, ◌&&◌, IsTrue, inl, inr, ⊎_elim, sym, subst, ◌∙◌, append_assoc, refl, codes}
+use Rattle.std.proofs.Common.{◌≡◌, ◌≢◌, ℕ, zero, suc, ◌+◌, ◌⊎◌, List, [], ◌∷◌, ◌++◌, length, map, Option, Some, None, Bool, true, false, true≢false, is_none, nat_eq, eqb-true, ◌&&◌, IsTrue, inl, inr, ⊎_elim, sym, subst, ◌∙◌, append_assoc, refl, codes}
 use Rattle.std.specs.Option.{option_or, option_map}
 use Rattle.std.proofs.lemmas.Bool.{eqb-false}
 use Rattle.std.proofs.lemmas.List.{append-nil}
