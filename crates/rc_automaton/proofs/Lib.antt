@@ -4,6 +4,7 @@ pub mod AutomatonLemmas
 pub mod WithinLemmas
 pub mod StartLemmas
 pub mod FirstLemmas
+pub mod LongestRunLemmas
 pub mod GatherLemmas
 pub mod MetLemmas
 pub mod NarrowLemmas

@@ -1,5 +1,5 @@
 -- What is met on the way forwards is the end of a walk.
-use Rattle.std.proofs.Common.{◌≡◌, ℕ, zero, suc, ◌-◌, ◌≤◌, Bool, List, [], ◌∷◌, map, take, drop, Option, Some, None, subst, refl, arith}
+use Rattle.std.proofs.Common.{◌≡◌, ℕ, zero, suc, ◌-◌, ◌≤◌, Bool, List, [], ◌∷◌, map, take, drop, Option, Some, None, inl, inr, ⊎_elim, subst, refl, arith}
 use Rattle.std.proofs.lemmas.Option.{none-some, same_Some}
 use Rattle.rc_pattern.specs.declared.hir.Look.{Look}
 use Rattle.rc_walks.specs.Walks.{Pair, IsIn, IsWalk, stops, goes, EndsAt}
@@ -8,6 +8,7 @@ use Rattle.rc_program.specs.Text.{Text, holds}
 use Rattle.rc_program.specs.Program.{Place, choice, byte, branch, scalar, guard, slot, accept, Way, pair_at, over_byte, ways_out, place_at, ways}
 use Rattle.rc_program.proofs.WayLemmas.{same_pair, ways_within}
 use Rattle.rc_states.specs.Gives.{Gives}
+use Rattle.rc_states.specs.LongestLaws.{FirstReaches}
 use Rattle.rc_states.specs.Run.{Reaches, arrived, goes_on, IsGoal}
 use Rattle.rc_bytes.specs.Laws.{IsBytePlace}
 use Rattle.rc_states.specs.Steps.{IsByBytes}
@@ -104,6 +105,15 @@ module _ (W : Pair → List Pair) (Ends : Pair → Type 0) (origin : List Pair) 
   -- where the first walk ends a walk ends
   pub gives_met : (n : Pair) → Gives W Ends [] origin (Some n) → Comes W origin n × Ends n
   gives_met n g = walk_comes n g.1.is_walk g.2 (λ k i. sets.begins k i)
+
+  -- and so where the longest walk of the first of the pairs ends
+  pub reaches_met : (n : Pair) (from : List Pair) → ((k : Pair) → IsIn k from → IsIn k origin) → FirstReaches W Ends from n → Comes W origin n × Ends n
+  reaches_met n [] those f = absurd f
+  reaches_met n (m ∷ from) those f =
+      ⊎_elim
+      (λ r. walk_comes n r.1.is_walk r.2 (λ k i. ⊎_elim (λ e. sets.begins k (those k (inl e))) (λ never. absurd never) i))
+      (λ r. reaches_met n from (λ k i. those k (inr i)) r.1)
+      f
 
   comes_back : (Goal : Pair → Type 0) {n : Pair} → Comes W origin n → Reaches W Goal n → (m : Pair) × IsIn m origin × Reaches W Goal m
   comes_back Goal (sets.begins n h) r = (n, h, r)

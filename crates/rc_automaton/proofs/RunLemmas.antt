@@ -1,25 +1,28 @@
 -- The laws of runs.
-use Rattle.std.proofs.Common.{◌≡◌, ℕ, ◌+◌, ◌⊎◌, Bool, false, not, List, [], Option, Some, None, inl, inr, ⊎_elim, sym, subst, ap, ◌∙◌, refl, arith}
+use Rattle.std.proofs.Common.{◌≡◌, ℕ, ◌+◌, ◌<◌, ◌⊎◌, Bool, false, not, List, [], length, Option, Some, None, inl, inr, ⊎_elim, sym, subst, ap, ◌∙◌, refl, arith}
 use Rattle.rc_states.specs.declared.kind.TableKind.{TableKind}
-use Rattle.rc_states.specs.declared.kind.TableKind.TheVariants.{All as all_matches, LeftmostFirst as leftmost_first}
+use Rattle.rc_states.specs.declared.kind.TableKind.TheVariants.{All as all_matches, LeftmostFirst as leftmost_first, LeftmostLongest as leftmost_longest}
 use Rattle.rc_text.specs.declared.types.Anchored.{Anchored}
 use Rattle.rc_walks.specs.Walks.{Pair, IsIn}
 use Rattle.rc_program.specs.Text.{Text}
 use Rattle.rc_program.specs.Program.{ways}
 use Rattle.rc_states.specs.Gives.{Gives}
+use Rattle.rc_states.specs.LongestLaws.{IsRacing, GivesLongest}
+use Rattle.rc_states.proofs.LongestStepLemmas.{longest_forward_law}
 use Rattle.rc_states.specs.Sets.{Comes}
 use Rattle.rc_states.specs.States.{Setting, IsSetting, State, IsInside, IsUnderWay, Stops, all_starts, best_at}
 use Rattle.rc_states.specs.Spans.{IsLastSoFar}
 use Rattle.rc_states.proofs.LawLemmas.{forward_law}
-use Rattle.rc_automaton.specs.Machine.{Direction, forwards, backwards, Machine}
+use Rattle.rc_automaton.specs.Machine.{Direction, forwards, backwards, Machine, IsMachine}
 use Rattle.rc_automaton.specs.Runs.{RunEnd, met_last, stopped_at, behind_at, MayRead, at_bound, SearchEnds, SearchEndsDown, ran, unread}
 use Rattle.rc_automaton.specs.Laws.{starts_of, position_of, RunLaw}
 use Rattle.rc_automaton.proofs.StartLemmas.{IsRoot, some_root, stop_no_met, fewer_starts, starts_within}
 use Rattle.rc_automaton.proofs.FirstLemmas as first
 use Rattle.rc_automaton.proofs.GatherLemmas as gather
+use Rattle.rc_automaton.proofs.LongestRunLemmas as longest
 use Rattle.rc_automaton.proofs.DownLemmas as down
 use Rattle.rc_automaton.proofs.StopLemmas as stop
-use Rattle.rc_automaton.proofs.MetLemmas.{IsMetAt, end_met, runs_below, runs_low, comes_more, gives_met, gives_none, comes_within}
+use Rattle.rc_automaton.proofs.MetLemmas.{IsMetAt, end_met, runs_below, runs_low, comes_more, gives_met, reaches_met, gives_none, comes_within}
 
 -- FORWARDS
 
@@ -77,28 +80,70 @@ module _ (g : Setting) (entries : List ℕ) (ok : IsSetting g) (t : Text) (same 
         c.1,
       )
 
-  met_run : (kind : TableKind) (earliest : Bool) (e : RunEnd) (n : Pair) → SearchEnds (machine kind) t hi from anchored earliest e → e ≡ met_last (Some n) → IsEnd kind n
-  met_run leftmost_first earliest e n (ran s may begins ends) is =
+  -- the longest match; the machine is closed, and its entries are places
+
+  abbrev Longest : Machine
+  Longest = machine leftmost_longest
+
+  racing_at : (bound : ℕ) (s : State) → MayRead Longest (behind_at t from) → (b : Begun leftmost_longest s) → b.root < length g.places →
+      IsRacing g t bound b.root (all_starts b.once b.root from bound) from s None
+  racing_at bound s may b placed = longest_forward_law.begins g t bound b.root from b.once s ok placed same may b.is_first
+
+  longest_run : (earliest : Bool) (e : RunEnd) (r : Option Pair) → IsMachine Longest → SearchEnds Longest t hi from anchored earliest e → e ≡ met_last r →
+      (earliest ≡ false) ⊎ (r ≡ None) → GivesLongest (ways g.places t hi) (Stops g.places) (starts_of Longest anchored from hi) r
+  longest_run earliest e r k (ran s may begins ends) is c =
+      let p = longest.placed_root g entries anchored (behind_at t from) from hi s k begins in
+      let b = p.0 in
+      subst (λ o. GivesLongest (ways g.places t hi) (Stops g.places) o r) (sym b.starts)
+      (longest.ends g entries ok k.closed t same hi from b.root p.1 inside (all_starts b.once b.root from hi) s (racing_at hi s may b p.1)
+      (rooted_so leftmost_longest s b) earliest e r ends is c)
+  longest_run earliest e r k (unread p q may) is c = absurd (stop_no_met is)
+
+  longest_met : (s : State) (n : Pair) → IsMachine Longest → MayRead Longest (behind_at t from) → (b : Begun leftmost_longest s) → b.root < length g.places →
+      IsMetAt Longest t hi from s n → IsEnd leftmost_longest n
+  longest_met s n k may b placed w =
+      let le = w.within in
+      let high = inside.high in
+      let low = runs_low Longest t hi from s w.run in
+      let near : IsInside t from n.1 = record { low = inside.low; high = omega (arith, le, high); bounded = inside.bounded } in
+      let origin = all_starts b.once b.root from n.1 in
+      let f = longest.ends g entries ok k.closed t same n.1 from b.root placed near origin s (racing_at n.1 s may b placed) (rooted_so leftmost_longest s b) false
+      (met_last (best_at n.1 w.next.stop w.before)) (Some n)
+      (at_bound w.state w.next (runs_below Longest t hi from s w.run n.1 (omega arith)) w.may w.step)
+      (ap (λ o. met_last (best_at n.1 o w.before)) w.stop) (inl refl) in
+      let c = reaches_met (ways g.places t n.1) (Stops g.places) origin n origin (λ j i. i) f in (
+        subst (λ o. Comes (ways g.places t hi) o n) (sym b.starts)
+            (comes_more g.places t n.1 hi ok.by_bytes le origin (all_starts b.once b.root from hi) (fewer_starts b.once b.root from n.1 hi low le) c.0),
+        c.1,
+      )
+
+  met_run : (kind : TableKind) (earliest : Bool) (e : RunEnd) (n : Pair) → IsMachine (machine kind) → SearchEnds (machine kind) t hi from anchored earliest e → e ≡ met_last (Some n) → IsEnd kind n
+  met_run leftmost_first earliest e n k (ran s may begins ends) is =
       first_met s n may (some_root leftmost_first g entries anchored (behind_at t from) from hi s begins)
       (end_met (machine leftmost_first) t hi from s earliest e n ends is)
-  met_run all_matches earliest e n (ran s may begins ends) is =
+  met_run all_matches earliest e n k (ran s may begins ends) is =
       let b = some_root all_matches g entries anchored (behind_at t from) from hi s begins in
       let w = end_met (machine all_matches) t hi from s earliest e n ends is in
       subst (λ o. Comes (ways g.places t hi) o n × Stops g.places n) (sym b.starts)
       (gather.meets g entries ok t same hi from b.root b.once inside s b.is_first may b.rooted n.1 n.0 w.state w.next w.before w.within w.run w.may w.step w.stop)
-  met_run kind earliest e n (unread p q may) is = absurd (stop_no_met is)
+  met_run leftmost_longest earliest e n k (ran s may begins ends) is =
+      let p = longest.placed_root g entries anchored (behind_at t from) from hi s k begins in
+      longest_met s n k may p.0 p.1 (end_met Longest t hi from s earliest e n ends is)
+  met_run kind earliest e n k (unread p q may) is = absurd (stop_no_met is)
 
-  none_run : (kind : TableKind) (earliest : Bool) (e : RunEnd) → SearchEnds (machine kind) t hi from anchored earliest e → e ≡ met_last None → (n : Pair) →
+  none_run : (kind : TableKind) (earliest : Bool) (e : RunEnd) → IsMachine (machine kind) → SearchEnds (machine kind) t hi from anchored earliest e → e ≡ met_last None → (n : Pair) →
       Comes (ways g.places t hi) (starts_of (machine kind) anchored from hi) n → ¬ Stops g.places n
-  none_run leftmost_first earliest e s is n c stop =
+  none_run leftmost_first earliest e k s is n c stop =
       gives_none g.places t hi ok.by_bytes (starts_of (machine leftmost_first) anchored from hi) (first_run earliest e None s is (inr refl)) n c stop
-  none_run all_matches earliest e (ran s may begins ends) is n c stop =
+  none_run leftmost_longest earliest e k s is n c stop =
+      gives_none g.places t hi ok.by_bytes (starts_of Longest anchored from hi) (longest_run earliest e None k s is (inr refl)) n c stop
+  none_run all_matches earliest e k (ran s may begins ends) is n c stop =
       let b = some_root all_matches g entries anchored (behind_at t from) from hi s begins in
       let le = gather.bounded g entries ok t same hi from b.root b.once inside s b.is_first may b.rooted earliest e ends is in
       let in_bound = comes_within g.places t hi (starts_of (machine all_matches) anchored from hi)
-      (λ k i. starts_within b.once b.root from hi le k (subst (λ o. IsIn k o) b.starts i)) c in
+      (λ j i. starts_within b.once b.root from hi le j (subst (λ o. IsIn j o) b.starts i)) c in
       last_run earliest e None (ran s may begins ends) is (inr refl) n.1 (omega (arith, in_bound)) (n.0, c, stop)
-  none_run all_matches earliest e (unread p q may) is n c stop = stop_no_met is
+  none_run all_matches earliest e k (unread p q may) is n c stop = stop_no_met is
 
 -- in this direction
 turned : (m : Machine) (d : Direction) → m.direction ≡ d → (P : Machine → Type 0) → P m → P (record m { direction = d })
@@ -112,11 +157,14 @@ run_law = record {
   last = λ m t hi from anchored r k d same inside s.
       last_run m.setting m.entries k.setting t same hi from inside anchored false (met_last r) r
       (turned m (forwards all_matches) d (λ x. SearchEnds x t hi from anchored false (met_last r)) s) refl (inl refl);
+  longest = λ m t hi from anchored r k d same inside s.
+      longest_run m.setting m.entries k.setting t same hi from inside anchored false (met_last r) r (turned m (forwards leftmost_longest) d IsMachine k)
+      (turned m (forwards leftmost_longest) d (λ x. SearchEnds x t hi from anchored false (met_last r)) s) refl (inl refl);
   met = λ kind m t hi from anchored earliest n k d same inside s.
-      met_run m.setting m.entries k.setting t same hi from inside anchored kind earliest (met_last (Some n)) n
+      met_run m.setting m.entries k.setting t same hi from inside anchored kind earliest (met_last (Some n)) n (turned m (forwards kind) d IsMachine k)
       (turned m (forwards kind) d (λ x. SearchEnds x t hi from anchored earliest (met_last (Some n))) s) refl;
   none = λ kind m t hi from anchored earliest k d same inside s.
-      none_run m.setting m.entries k.setting t same hi from inside anchored kind earliest (met_last None)
+      none_run m.setting m.entries k.setting t same hi from inside anchored kind earliest (met_last None) (turned m (forwards kind) d IsMachine k)
       (turned m (forwards kind) d (λ x. SearchEnds x t hi from anchored earliest (met_last None)) s) refl;
   least = λ m t hi lo end anchored r k d same inside within s.
       down.least_run m.setting m.entries k.setting t same hi lo end inside within anchored false (met_last r) r

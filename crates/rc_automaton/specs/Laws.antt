@@ -2,7 +2,7 @@
 use Rattle.std.specs.Prelude.{◌≡◌, ℕ, ◌+◌, ◌<◌, ◌≤◌, Bool, true, false, List, [], ◌∷◌, length, Option, Some, None, IsTrue, slice_get, slice_index}
 use Rattle.std.specs.Option.{option_map}
 use Rattle.rc_states.specs.declared.kind.TableKind.{TableKind}
-use Rattle.rc_states.specs.declared.kind.TableKind.TheVariants.{All as all_matches, LeftmostFirst as leftmost_first}
+use Rattle.rc_states.specs.declared.kind.TableKind.TheVariants.{All as all_matches, LeftmostFirst as leftmost_first, LeftmostLongest as leftmost_longest}
 use Rattle.rc_text.specs.declared.types.Anchored.{Anchored}
 use Rattle.rc_text.specs.declared.types.Anchored.TheVariants.{No, Yes, Pattern}
 use Rattle.rc_text.specs.Plain.{only_pattern}
@@ -10,20 +10,21 @@ use Rattle.rc_walks.specs.Walks.{Pair}
 use Rattle.rc_program.specs.Text.{Text}
 use Rattle.rc_program.specs.Program.{place_at, ways, is_match_place}
 use Rattle.rc_states.specs.Gives.{Gives}
+use Rattle.rc_states.specs.LongestLaws.{GivesLongest}
 use Rattle.rc_states.specs.Run.{Reaches, IsGoal}
-use Rattle.rc_states.specs.Steps.{AreOnce, AreBelow}
+use Rattle.rc_states.specs.Steps.{AreBelow}
 use Rattle.rc_states.specs.Sets.{Comes}
 use Rattle.rc_states.specs.States.{Setting, State, IsInside, Stops, all_starts}
 use Rattle.rc_states.specs.Backward.{IsFirstRoot, IsLeastSoFar}
 use Rattle.rc_states.specs.Spans.{IsLastSoFar}
-use Rattle.rc_automaton.specs.Machine.{Machine, forwards, backwards, Leads, Begins, IsMachine}
+use Rattle.rc_automaton.specs.Machine.{Machine, forwards, backwards, entry_bound, longest_in, IsListIn, Leads, Begins, IsMachine}
 use Rattle.rc_automaton.specs.Runs.{met_last, stopped_at, SearchEnds, SearchEndsDown}
 
--- The state has places of the program, each once, so it is no longer than the program.
+-- The state has places of the program, each once, so it is no longer than the program; or than twice the program where it has marks.
 pub record IsWithin (m : Machine) (s : State) : Type 0 where
-  pub once : AreOnce s.list
-  pub below : AreBelow (length m.setting.places) s.list
-  pub short : length s.list ≤ length m.setting.places
+  pub places : IsListIn m.direction (length m.setting.places) s.list
+  pub below : AreBelow (entry_bound m.direction (length m.setting.places)) s.list
+  pub short : length s.list ≤ longest_in m.direction (length m.setting.places)
 
 -- what holds of the states of a machine
 pub record MachineLaw : Type 0 where
@@ -70,6 +71,10 @@ pub record RunLaw : Type 0 where
   pub last : (m : Machine) (t : Text) (hi from : ℕ) (anchored : Anchored) (r : Option Pair) → IsMachine m → m.direction ≡ forwards all_matches →
       m.setting.terminator ≡ t.terminator → IsInside t from hi → SearchEnds m t hi from anchored false (met_last r) →
       IsLastSoFar m.setting t hi (starts_of m anchored from hi) (hi + 1) (position_of r)
+  -- forwards: where the longest walk of the least start ends
+  pub longest : (m : Machine) (t : Text) (hi from : ℕ) (anchored : Anchored) (r : Option Pair) → IsMachine m → m.direction ≡ forwards leftmost_longest →
+      m.setting.terminator ≡ t.terminator → IsInside t from hi → SearchEnds m t hi from anchored false (met_last r) →
+      GivesLongest (ways m.setting.places t hi) (Stops m.setting.places) (starts_of m anchored from hi) r
   -- forwards, whether or not the first match that is met is enough: what is met is the end of a walk
   pub met : (kind : TableKind) (m : Machine) (t : Text) (hi from : ℕ) (anchored : Anchored) (earliest : Bool) (n : Pair) → IsMachine m →
       m.direction ≡ forwards kind → m.setting.terminator ≡ t.terminator → IsInside t from hi → SearchEnds m t hi from anchored earliest (met_last (Some n)) →

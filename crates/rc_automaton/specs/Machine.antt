@@ -5,10 +5,10 @@ use Rattle.rc_text.specs.declared.types.Anchored.{Anchored}
 use Rattle.rc_text.specs.declared.types.Anchored.TheVariants.{No, Yes, Pattern}
 use Rattle.rc_program.specs.Laws.{IsClosed}
 use Rattle.rc_program.specs.Program.{accept, place_at}
-use Rattle.rc_states.specs.Steps.{HasPlace, AreBelow, IsRising}
+use Rattle.rc_states.specs.Steps.{HasPlace, AreOnce, AreBelow, IsRising}
 use Rattle.rc_states.specs.Sides.{told, IsReadable}
 use Rattle.rc_states.specs.States.{Setting, IsSetting, State, IsFirst}
-use Rattle.rc_states.specs.Kinds.{IsNextBy}
+use Rattle.rc_states.specs.Kinds.{IsNextBy, bound_of, longest, IsListOf}
 use Rattle.rc_states.specs.Backward.{IsPrior, IsLast}
 
 -- In which direction the bytes are read, and forwards, which kind of match is sought.
@@ -29,6 +29,20 @@ leads_by backwards g entries = IsPrior g entries
 
 abbrev pub Leads : Machine → State → Option ℕ → State → Type 0
 Leads m = leads_by m.direction m.setting m.entries
+
+-- below which number the entries of a state's list are, and how long it is at most, where the program has so many places
+abbrev pub entry_bound : Direction → ℕ → ℕ
+entry_bound (forwards kind) places = bound_of kind places
+entry_bound backwards places = places
+
+abbrev pub longest_in : Direction → ℕ → ℕ
+longest_in (forwards kind) places = longest kind places
+longest_in backwards places = places
+
+-- the list has places of the program, each once; forwards, where the longest match is sought, with marks between them
+abbrev pub IsListIn : Direction → ℕ → List ℕ → Type 0
+IsListIn (forwards kind) places list = IsListOf kind places list
+IsListIn backwards places list = AreOnce list × AreBelow places list
 
 -- the state at the end of a match of this pattern: as `IsLast`, with its match places alone
 pub record IsLastOf (p : ℕ) (g : Setting) (after : Option ℕ) (s : State) : Type 0 where

@@ -78,7 +78,7 @@ impl Automaton {
     ghost use Rattle.rc_states.specs.Sides.{IsReadable};
     ghost use Rattle.rc_automaton.specs.declared.automaton.Direction.{Direction};
     ghost use Rattle.rc_automaton.specs.declared.automaton.Direction.TheVariants.{Forwards, Backwards};
-    ghost use Rattle.rc_automaton.specs.Machine.{IsAsked, Begins, Leads, IsMachine, IsClassing};
+    ghost use Rattle.rc_automaton.specs.Machine.{IsAsked, Begins, Leads, IsMachine, IsClassing, entry_bound};
     ghost use Rattle.rc_automaton.specs.Automata.{machine_of, IsMadeOf, classes_of, samples_of};
     ghost use Rattle.rc_program.specs.Program.{place_at};
     ghost use Rattle.rc_program.specs.Answer.{pattern_at};
@@ -240,7 +240,7 @@ impl Automaton {
         beside: Option<u8>,
         to: &mut State,
     ) -> Result<(), AllocError>
-        requires below { AreBelow (length (machine_of self.now direction).setting.places) from.now.list.items }
+        requires below { AreBelow (entry_bound (machine_of self.now direction).direction (length (machine_of self.now direction).setting.places)) from.now.list.items }
         requires scratch { scratch.old ≡ length (machine_of self.now direction).setting.places }
         ensures scratch { scratch.new ≡ scratch.old }
         ensures leads { IfOk result (λ _. Leads (machine_of self.now direction) (state_of from.now) beside (state_of to.new)) }

@@ -22,7 +22,7 @@ abbrev pub count_of : Bool → ℕ → ℕ → ℕ
 count_of true from hi = 1
 count_of false from hi = suc (hi - from)
 
-counted : (anchored : Bool) (root from hi : ℕ) → all_starts anchored root from hi ≡ starts root from (count_of anchored from hi)
+pub counted : (anchored : Bool) (root from hi : ℕ) → all_starts anchored root from hi ≡ starts root from (count_of anchored from hi)
 counted true root from hi = refl
 counted false root from hi = refl
 
@@ -41,16 +41,16 @@ module _ (s : Search) (by_bytes : IsByBytes s.places) where
     pub start : IsStart s from
     pub passed : (y : ℕ) → IsStart s y → y < from → IsPassed s y
 
-  allowed_at : (w : List Pair) (e : Pair) → EndsAt w e → is_allowed s w ≡ (not s.passes_over || is_boundary s.text.content e.1)
+  pub allowed_at : (w : List Pair) (e : Pair) → EndsAt w e → is_allowed s w ≡ (not s.passes_over || is_boundary s.text.content e.1)
   allowed_at w e at = ap (λ (n : Pair). not s.passes_over || is_boundary s.text.content n.1) (last_at w e at)
 
-  in_count : (anchored : Bool) (from x : ℕ) → from ≤ s.hi → from ≤ x → x < from + count_of anchored from s.hi → (anchored ≡ true → from ≡ s.lo) →
+  pub in_count : (anchored : Bool) (from x : ℕ) → from ≤ s.hi → from ≤ x → x < from + count_of anchored from s.hi → (anchored ≡ true → from ≡ s.lo) →
       (x ≤ s.hi) × (anchored ≡ true → x ≡ s.lo)
   in_count true from x le ge lt e = let f = e refl in (omega (arith, le, ge, lt), λ h. omega (arith, ge, lt, f))
   in_count false from x le ge lt e = (omega (arith, le, ge, lt), λ h. absurd (true≢false (sym h)))
 
   -- each start is one of them
-  counts : (anchored : Bool) (from y : ℕ) → from ≤ y → y ≤ s.hi → (anchored ≡ true → y ≡ s.lo) → s.lo ≤ from → y < from + count_of anchored from s.hi
+  pub counts : (anchored : Bool) (from y : ℕ) → from ≤ y → y ≤ s.hi → (anchored ≡ true → y ≡ s.lo) → s.lo ≤ from → y < from + count_of anchored from s.hi
   counts true from y ge le e low = let f = e refl in omega (arith, ge, f, low)
   counts false from y ge le e low = omega (arith, ge, le)
 

@@ -38,7 +38,7 @@ branch_reads b (t ∷ ts) = both (nat_le t.0.0 b && nat_le b t.0.1) (branch_read
     both true h = ap (λ x. reads 1 t.1 ∷ x) h
     both false h = h
 
-plain : (test : Look → Bool) (after : Option ℕ) (place : Place) → IsBytePlace place → IsPlain (ways_out test (ahead_of after) place)
+pub plain : (test : Look → Bool) (after : Option ℕ) (place : Place) → IsBytePlace place → IsPlain (ways_out test (ahead_of after) place)
 plain test after (choice ns) p = inl (all_stay ns)
 plain test None (byte rs n) p = inl (refl, refl)
 plain test (Some b) (byte rs n) p = both (in_ranges rs b)

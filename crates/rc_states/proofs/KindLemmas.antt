@@ -1,24 +1,21 @@
 -- The laws of the steps of each kind.
 use Rattle.std.proofs.Common.{◌≡◌, ℕ, ◌<◌, ◌≤◌, ◌⊎◌, ◌↔◌, Bool, true, false, List, [], ◌∷◌, length, Option, Some, inl, inr, ⊎_elim, sym, subst, ap, ◌∙◌, arith}
-use Rattle.std.specs.List.{AllByRecursion}
-use Rattle.std.proofs.lemmas.Bool.{cases_lt}
-use Rattle.std.proofs.lemmas.List.Elements.{recursion_from_All}
-use Rattle.rc_pattern.specs.declared.hir.Look.{Look}
-use Rattle.rc_program.specs.Program.{Place, choice, Way, stays, reads, ways_out, place_at}
-use Rattle.rc_program.specs.Laws.{IsClosed, targets}
-use Rattle.rc_program.proofs.PlaceLemmas.{ways_out_to, goal_of}
-use Rattle.rc_program.proofs.WayLemmas.{past_places}
-use Rattle.rc_states.specs.Steps.{HasPlace, AreOnce, AreBelow, IsStep, ahead_of, out_by}
+use Rattle.rc_program.specs.Program.{Way, stays, reads}
+use Rattle.rc_program.specs.Laws.{IsClosed}
+use Rattle.rc_program.proofs.PlaceLemmas.{goal_of}
+use Rattle.rc_states.specs.Steps.{HasPlace, AreOnce, AreBelow, IsStep}
 use Rattle.rc_states.specs.Sides.{holds_by, told, AreAlike, out_seen}
 use Rattle.rc_states.specs.States.{Setting, State, IsNext, root_if, is_match}
 use Rattle.rc_states.specs.Steps.{HasWay}
 use Rattle.rc_states.proofs.SidesLemmas.{alike_out}
 use Rattle.rc_states.specs.declared.kind.TableKind.{TableKind}
-use Rattle.rc_states.specs.declared.kind.TableKind.TheVariants.{All as all_matches, LeftmostFirst as leftmost_first}
+use Rattle.rc_states.specs.declared.kind.TableKind.TheVariants.{All as all_matches, LeftmostFirst as leftmost_first, LeftmostLongest as leftmost_longest}
 use Rattle.rc_states.specs.Steps.{IsRising}
 use Rattle.rc_states.specs.Sets.{ComesBy, IsLeastMatch, IsNextOfAll}
-use Rattle.rc_states.specs.Kinds.{IsNextBy, longest, KindLaw}
+use Rattle.rc_states.specs.Kinds.{IsNextBy, longest, bound_of, IsListOf, KindLaw}
 use Rattle.rc_states.proofs.LimitLemmas as limit
+use Rattle.rc_states.proofs.UnderLemmas.{out_under}
+use Rattle.rc_states.proofs.LongestStepLemmas.{longest_step_law}
 
 pub rising_once : (qs : List ℕ) → IsRising qs → AreOnce qs
 rising_once [] h = tt
@@ -49,23 +46,7 @@ alike : (kind : TableKind) (g : Setting) (root b c : ℕ) (s t : State) → AreA
     IsNextBy kind g root s (Some b) t → IsNextBy kind g root s (Some c) t
 alike leftmost_first g root b c s t a n = alike_next g root b c s t a n
 alike all_matches g root b c s t a n = alike_all g root b c s t a n
-
--- the reading ways of a closed program lead to its places
-read_under : (n : ℕ) (ws : List Way) → AllByRecursion (λ w. goal_of w < n) ws → AreBelow n (limit.read_by ws)
-read_under n [] h k i = absurd i
-read_under n (stays q ∷ ws) h k i = read_under n ws h.1 k i
-read_under n (reads count q ∷ ws) h k i = ⊎_elim (λ e. subst (λ x. x < n) e h.0) (λ z. read_under n ws h.1 k z) i
-
-no_targets : (places : List Place) (q : ℕ) → length places ≤ q → AllByRecursion (λ k. k < length places) (targets (place_at places q))
-no_targets places q ge = subst (λ p. AllByRecursion (λ k. k < length places) (targets p)) (sym (past_places places q ge)) tt
-
-out_under : (places : List Place) → IsClosed places → (test : Look → Bool) (after : Option ℕ) (q : ℕ) →
-    AreBelow (length places) (limit.read_by (out_by places test after q))
-out_under places closed test after q =
-    read_under (length places) (ways_out test (ahead_of after) (place_at places q))
-    (ways_out_to (λ k. k < length places) test (ahead_of after) (place_at places q)
-    (⊎_elim (λ lt. recursion_from_All (λ k. k < length places) (targets (place_at places q)) (closed q (choice []) lt))
-    (λ ge. no_targets places q ge) (cases_lt q (length places))))
+alike leftmost_longest g root b c s t a n = longest_step_law.alike g root b c s t a n
 
 root_under : (b : Bool) (root n : ℕ) → root < n → AreBelow n (root_if b root)
 root_under true root n h k i = ⊎_elim (λ e. subst (λ x. x < n) e h) (λ never. absurd never) i
@@ -84,7 +65,7 @@ read_in n q (stays k ∷ ws) h = ⊎_elim (λ e. absurd (stays_reads e)) (λ z. 
 read_in n q (reads m k ∷ ws) h = ⊎_elim (λ e. inl (ap (λ w. goal_of w) e)) (λ z. inr (read_in n q ws z)) h
 
 inside : (kind : TableKind) (g : Setting) (root : ℕ) (s t : State) (after : Option ℕ) → IsClosed g.places → root < length g.places →
-    IsNextBy kind g root s after t → AreOnce t.list × AreBelow (length g.places) t.list
+    IsNextBy kind g root s after t → IsListOf kind (length g.places) t.list
 inside leftmost_first g root s t after closed rooted n =
     let f = limit.next_fits (out_seen g.places g.needs g.terminator s.beside after) (is_match g.places) (length g.places)
     (out_under g.places closed (holds_by s.beside (told g.needs g.terminator after)) after) n.is_step in
@@ -96,6 +77,12 @@ inside all_matches g root s t after closed rooted n = (
       (λ x. out_under g.places closed (holds_by s.beside (told g.needs g.terminator after)) after x.0 q (read_in 1 q _ x.2))
       ((n.list q).0 h),
 )
+inside leftmost_longest g root s t after closed rooted n = longest_step_law.inside g root s t after closed rooted n
+
+below : (kind : TableKind) (places : ℕ) (list : List ℕ) → IsListOf kind places list → AreBelow (bound_of kind places) list
+below leftmost_first places list i = i.1
+below all_matches places list i = i.1
+below leftmost_longest places list i = longest_step_law.within places list i
 
 short : (kind : TableKind) (g : Setting) (root : ℕ) (s t : State) (after : Option ℕ) → IsClosed g.places → root < length g.places →
     IsNextBy kind g root s after t → length t.list ≤ longest kind (length g.places)
@@ -103,6 +90,7 @@ short leftmost_first g root s t after closed rooted n =
     let f = inside leftmost_first g root s t after closed rooted n in limit.short (length g.places) t.list f.0 f.1
 short all_matches g root s t after closed rooted n =
     let f = inside all_matches g root s t after closed rooted n in limit.short (length g.places) t.list f.0 f.1
+short leftmost_longest g root s t after closed rooted n = longest_step_law.short g root s t after closed rooted n
 
 forgets : (kind : TableKind) (g : Setting) (root : ℕ) (s t : State) (after stop : Option ℕ) →
     IsNextBy kind g root s after t → IsNextBy kind g root (record s { stop = stop }) after t
@@ -110,11 +98,13 @@ forgets leftmost_first g root s t after stop n =
     record { next = n.next; is_step = n.is_step; goes_on = n.goes_on; joined = n.joined; beside = n.beside }
 forgets all_matches g root s t after stop n =
     record { list = n.list; rising = n.rising; stop = n.stop; goes_on = n.goes_on; beside = n.beside }
+forgets leftmost_longest g root s t after stop n = longest_step_law.forgets g root s t after stop n
 
 tells : (kind : TableKind) (g : Setting) (root : ℕ) (s t : State) (after : Option ℕ) →
     IsNextBy kind g root s after t → t.beside ≡ told g.needs g.terminator after
 tells leftmost_first g root s t after n = n.beside
 tells all_matches g root s t after n = n.beside
+tells leftmost_longest g root s t after n = n.beside
 
 pub kind_law : KindLaw
-kind_law = record { alike = alike; inside = inside; short = short; forgets = forgets; tells = tells }
+kind_law = record { alike = alike; inside = inside; below = below; short = short; forgets = forgets; tells = tells }

@@ -78,16 +78,16 @@ forward_law = record {
 }
 
 module _ (s : Search) (g : Setting) (ok : IsSettingOf s g) where
-  by_bytes : IsByBytes s.places
+  pub by_bytes : IsByBytes s.places
   by_bytes = subst (λ ps. IsByBytes ps) ok.places (let k = ok.setting in k.by_bytes)
 
-  ends_are : (n : Pair) → Stops g.places n ≡ IsTrue (ends s n)
+  pub ends_are : (n : Pair) → Stops g.places n ≡ IsTrue (ends s n)
   ends_are n = ap₂ (λ ps (o : Option ℕ). IsTrue (is_match_place o (place_at ps n.0))) ok.places (sym ok.all)
 
   same_gives : (from : List Pair) (r : Option Pair) → Gives (ways g.places s.text s.hi) (Stops g.places) [] from r → Gives (next_of s) (λ n. IsTrue (ends s n)) [] from r
   same_gives from r h = subst (λ E. Gives (next_of s) E [] from r) (λ i n. ends_are n i) (subst (λ ps. Gives (ways ps s.text s.hi) (Stops g.places) [] from r) ok.places h)
 
-  least_is : (from end x : ℕ) → IsLeastStart (ways g.places s.text s.hi) (Stops g.places) 0 from end x → IsLeastStart (next_of s) (λ n. IsTrue (ends s n)) 0 from end x
+  pub least_is : (from end x : ℕ) → IsLeastStart (ways g.places s.text s.hi) (Stops g.places) 0 from end x → IsLeastStart (next_of s) (λ n. IsTrue (ends s n)) 0 from end x
   least_is from end x h = subst (λ E. IsLeastStart (next_of s) E 0 from end x) (λ i n. ends_are n i) (subst (λ ps. IsLeastStart (ways ps s.text s.hi) (Stops g.places) 0 from end x) ok.places h)
 
   raised : (from : ℕ) → IsRaised s from → answer.IsRaised s by_bytes from

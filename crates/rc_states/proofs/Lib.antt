@@ -11,6 +11,7 @@ pub mod ForwardLemmas
 pub mod AnswerLemmas
 pub mod MachineLemmas
 pub mod LimitLemmas
+pub mod UnderLemmas
 pub mod BackwardLemmas
 pub mod KindLemmas
 pub mod LawLemmas
@@ -27,4 +28,14 @@ pub mod LastLemmas
 pub mod ReverseLemmas
 pub mod ClassLemmas
 pub mod SpanLemmas
+pub mod CloseLemmas
+pub mod GroupLemmas
+pub mod RaceLemmas
+pub mod LongestLemmas
+pub mod RacingLemmas
+pub mod LongestStepLemmas
+pub mod LongestSpanLemmas
+pub mod ShutLemmas
+pub mod PartedLemmas
 mod Examples
+mod LongestExamples

@@ -11,7 +11,7 @@ use Rattle.rc_states.specs.Machine.{Runs, done, adds, repeats, leaps, matches, o
 use Rattle.rc_states.proofs.PartsLemmas.{first_parts, first_ahead, first_behind, no_walk_left, no_walk_right, no_walk_both, dead_each}
 use Rattle.rc_states.proofs.StepLemmas.{in_at}
 
-adds_then : {a b c xs ys : List ℕ} → Adds a xs b → Adds b ys c → Adds a (xs ++ ys) c
+pub adds_then : {a b c xs ys : List ℕ} → Adds a xs b → Adds b ys c → Adds a (xs ++ ys) c
 adds_then all_added t = t
 adds_then (adds_one q new s) t = adds_one q new (adds_then s t)
 adds_then (leaves_out q old s) t = leaves_out q old (adds_then s t)
@@ -31,7 +31,7 @@ pub has_right : (q : ℕ) (xs ys : List ℕ) → HasPlace q ys → HasPlace q (x
 has_right q [] ys h = h
 has_right q (x ∷ xs) ys h = inr (has_right q xs ys h)
 
-mark : (visited entered : List ℕ) (q : ℕ) → IsMarked visited entered → IsMarked (q ∷ visited) (entered ++ q ∷ [])
+pub mark : (visited entered : List ℕ) (q : ℕ) → IsMarked visited entered → IsMarked (q ∷ visited) (entered ++ q ∷ [])
 mark visited entered q m p = (
   (λ h. ⊎_elim (λ e. has_right p entered (q ∷ []) (inl e)) (λ z. has_left p entered (q ∷ []) ((m p).0 z)) h),
   (λ h. ⊎_elim (λ z. inr ((m p).1 z)) (λ e. inl (⊎_elim (λ x. x) (λ never. absurd never) e)) (has_parts p entered (q ∷ []) h)),

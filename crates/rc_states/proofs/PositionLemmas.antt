@@ -13,11 +13,11 @@ use Rattle.rc_states.proofs.PassLemmas.{step_gives, either_or, no_ways}
 use Rattle.rc_states.proofs.StepLemmas.{lift, lift_still, with_later, without_later, in_at}
 use Rattle.rc_states.proofs.RunLemmas.{rises}
 
-stay_at : (i : ℕ) (list : List ℕ) → map (pair_at i) (map stays list) ≡ at i list
+pub stay_at : (i : ℕ) (list : List ℕ) → map (pair_at i) (map stays list) ≡ at i list
 stay_at i [] = refl
 stay_at i (q ∷ qs) = ap (λ x. (q, i) ∷ x) (stay_at i qs)
 
-still_stay : (list : List ℕ) → still (map stays list) ≡ map stays list
+pub still_stay : (list : List ℕ) → still (map stays list) ≡ map stays list
 still_stay [] = refl
 still_stay (q ∷ qs) = ap (λ x. stays q ∷ x) (still_stay qs)
 
@@ -43,7 +43,7 @@ module _ (ways : Pair → List Pair) (Ends : Pair → Type 0) (decide : (n m : P
       (subst (λ x. Gives ways Ends [] (x ++ (at j qs ++ later)) r) (map-append (λ k. (k, j)) list (q ∷ [])) (once_gives j later s r g))
   once_gives j later (leaves_out {list} {qs} {new} q old s) r g = again j q list (at j qs ++ later) r old (once_gives j later s r g)
 
-  or_none : (r : Option Pair) → option_or r None ≡ r
+  pub or_none : (r : Option Pair) → option_or r None ≡ r
   or_none None = refl
   or_none (Some e) = refl
 

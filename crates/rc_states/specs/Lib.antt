@@ -14,3 +14,5 @@ pub mod Sparse
 pub mod Reversed
 pub mod Classes
 pub mod Spans
+pub mod Longest
+pub mod LongestLaws

@@ -1,10 +1,11 @@
 -- Only proofs use this file.
 -- The step as a machine with a stack, a set of places that it has entered, and a list that grows.
-use Rattle.std.specs.Prelude.{ℕ, suc, List, [], ◌∷◌, ◌++◌, Option, Some, None, Bool, true, false, IsTrue, nat_eq, min, if◌then◌else◌, ◌↔◌}
+use Rattle.std.specs.Prelude.{◌≡◌, ℕ, suc, map, List, [], ◌∷◌, ◌++◌, Option, Some, None, Bool, true, false, IsTrue, nat_eq, min, if◌then◌else◌, ◌↔◌}
 use Rattle.std.specs.List.{list_any}
 use Rattle.rc_program.specs.Program.{Place, Way, stays, reads}
-use Rattle.rc_states.specs.Steps.{HasPlace, HasWay}
+use Rattle.rc_states.specs.Steps.{HasPlace, HasWay, Adds}
 use Rattle.rc_states.specs.Sets.{ComesBy, IsLeastMatch}
+use Rattle.rc_states.specs.Longest.{Closes, GroupSteps, AddsGroups, parted, flat}
 
 -- `Runs steps entered stack next new stop`: so many steps lead to the end
 pub data Runs (out : ℕ → List Way) (ends : ℕ → Bool) : ℕ → List ℕ → List Way → List ℕ → List ℕ → Option ℕ → Type 0 where
@@ -54,3 +55,34 @@ least_with true (Some p) q = Some (min p q)
 pub record IsGathered (out : ℕ → List Way) (places : List Place) (list next : List ℕ) (stop : Option ℕ) : Type 0 where
   pub listed : (q : ℕ) → HasPlace q next ↔ ((p : ℕ) × ComesBy out list p × HasWay (reads 1 q) (out p))
   pub least : IsLeastMatch places (ComesBy out list) stop
+
+-- the same places stand in both
+abbrev pub HaveSame : List ℕ → List ℕ → Type 0
+HaveSame xs ys = (q : ℕ) → HasPlace q xs ↔ HasPlace q ys
+
+-- The places were closed over, where these had been entered and those listed.
+abbrev pub IsShut : (ℕ → List Way) → (ℕ → Bool) → List ℕ → List ℕ → List ℕ → List ℕ → List ℕ → Option ℕ → Type 0
+IsShut out ends list entered entered2 listed listed2 stop =
+    (visited : List ℕ) → HaveSame visited entered → (onward : List ℕ) × (visited2 : List ℕ)
+    × Closes out ends visited (map stays list) onward stop visited2 × HaveSame visited2 entered2 × Adds listed onward listed2
+
+-- the first that was met, where the place counts
+abbrev pub first_with : Bool → Option ℕ → ℕ → Option ℕ
+first_with met (Some p) q = Some p
+first_with true None q = Some q
+first_with false None q = None
+
+-- the group behind those of the list, with a mark between
+abbrev pub with_group : ℕ → List ℕ → List ℕ → List ℕ
+with_group mark list [] = list
+with_group mark [] (q ∷ g) = q ∷ g
+with_group mark (p ∷ list) (q ∷ g) = (p ∷ list) ++ mark ∷ q ∷ g
+
+-- The groups were closed over in turn, up to one that met a match; the list holds what comes of them, and so do those listed.
+pub record IsParted (out : ℕ → List Way) (ends : ℕ → Bool) (mark : ℕ) (groups : List (List ℕ)) (listed2 list : List ℕ) (stop : Option ℕ) : Type 0 where
+  pub onward : List (List ℕ)
+  pub new : List (List ℕ)
+  pub steps : GroupSteps out ends [] groups onward stop
+  pub once : AddsGroups [] onward new
+  pub all : listed2 ≡ flat new
+  pub is_list : list ≡ parted mark new

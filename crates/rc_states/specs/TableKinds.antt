@@ -6,7 +6,7 @@ use Rattle.rc_text.specs.declared.types.MatchKind.TheVariants.{All as all_matche
 use Rattle.rc_program.specs.Answer.{Search}
 use Rattle.rc_program.specs.Kinds as kinds
 use Rattle.rc_states.specs.declared.kind.TableKind.{TableKind}
-use Rattle.rc_states.specs.declared.kind.TableKind.TheVariants.{All, LeftmostFirst}
+use Rattle.rc_states.specs.declared.kind.TableKind.TheVariants.{All, LeftmostFirst, LeftmostLongest}
 
 -- the kind of the states that serve searches for matches of a kind
 abbrev pub table_kind_of : MatchKind → TableKind
@@ -18,6 +18,7 @@ table_kind_of leftmost_longest = LeftmostFirst
 abbrev pub kind_of : TableKind → MatchKind
 kind_of All = all_matches
 kind_of LeftmostFirst = leftmost_first
+kind_of LeftmostLongest = leftmost_longest
 
 -- the match that they find
 abbrev pub answer_by : TableKind → Search → Option Found

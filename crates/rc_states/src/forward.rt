@@ -8,10 +8,11 @@ ghost use Rattle.rc_states.specs.Steps.{HasPlace, AreBelow, IsStep, IsRising, Ha
 ghost use Rattle.rc_states.specs.Sides.{holds_by};
 ghost use Rattle.rc_states.specs.States.{IsNext, IsFirst, is_match};
 ghost use Rattle.rc_states.specs.Sets.{ComesBy, IsNextOfAll};
-ghost use Rattle.rc_states.specs.Kinds.{IsNextBy};
+ghost use Rattle.rc_states.specs.Kinds.{IsNextBy, bound_of};
 ghost use Rattle.rc_states.specs.Machine.{IsGathered};
 
 use crate::kind::TableKind;
+use crate::longest::next_longest;
 use crate::open::{add_root, is_match, least_with, open, place_at};
 use crate::scratch::Scratch;
 use crate::sides::{Needs, Seen, told};
@@ -92,7 +93,7 @@ fn gather(
 }
 
 /// Walks may begin at the positions to come, unless a match was met.
-fn goes_on(from: &State, stop: Option<usize>) -> bool
+pub fn goes_on(from: &State, stop: Option<usize>) -> bool
     ensures { result ≡ (from.now.goes_on && is_none stop) }
 {
     from.goes_on && stop.is_none()
@@ -195,7 +196,7 @@ pub fn next_by(
 ) -> Result<(), AllocError>
     requires closed { IsClosed (places_of places.now) }
     requires rooted { root < length places.now }
-    requires below { AreBelow (length places.now) from.now.list.items }
+    requires below { AreBelow (bound_of kind (length places.now)) from.now.list.items }
     requires scratch { scratch.old ≡ length places.now }
     ensures scratch { scratch.new ≡ scratch.old }
     ensures next { IfOk result (λ _. IsNextBy kind (setting_of places.now needs terminator) root (state_of from.now) after (state_of to.new)) }
@@ -203,6 +204,9 @@ pub fn next_by(
     match kind {
         TableKind::LeftmostFirst => {
             next_preferred(places, needs, terminator, root, scratch, from, after, to)
+        }
+        TableKind::LeftmostLongest => {
+            next_longest(places, needs, terminator, root, scratch, from, after, to)
         }
         TableKind::All => next_of_all(places, needs, terminator, root, scratch, from, after, to),
     }

@@ -11,10 +11,12 @@ pub enum TableKind {
     All,
     /// The one with the least start, and there the one that the pattern prefers.
     LeftmostFirst,
+    /// The one with the least start, and there the longest; of those that are as long the one that the pattern prefers.
+    LeftmostLongest,
 }
 
-/// The kind of the states that serve searches for matches of a kind. No states find the longest match of the least start: those that
-/// find the preferred one tell at least where it begins.
+/// The kind of the states that serve searches for matches of a kind. Those that find the preferred match serve searches for the longest
+/// one of the least start too: they tell where it begins.
 pub fn table_kind(kind: MatchKind) -> TableKind
     ensures { result ≡ table_kind_of kind }
 {

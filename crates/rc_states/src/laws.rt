@@ -3,6 +3,7 @@ ghost use Rattle.rc_states.specs.Laws.{ForwardLaw, BackwardLaw, SpanLaw, GatherL
 ghost use Rattle.rc_states.specs.Classes.{ClassLaw};
 ghost use Rattle.rc_states.specs.Spans.{GreatestSpanLaw};
 ghost use Rattle.rc_states.specs.Kinds.{KindLaw};
+ghost use Rattle.rc_states.specs.LongestLaws.{LongestForwardLaw, LongestSpanLaw, LongestStepLaw};
 
 /// A search that goes from state to state, a byte at a time, gives where the first walk of the least start ends.
 pub fn states_carry_first_walks()
@@ -38,4 +39,21 @@ pub fn classes_are_alike()
 /// greatest span.
 pub fn last_ends_and_least_starts_are_greatest()
     ensures { GreatestSpanLaw }
+{}
+
+/// A search that goes from state to state, a byte at a time, where the longest match is sought, gives where the longest walk of the least
+/// start that has one ends.
+pub fn states_carry_longest_walks()
+    ensures { LongestForwardLaw }
+{}
+
+/// That end and the least start that is found backwards from it are those of the longest match of the least start.
+pub fn ends_and_starts_are_longest()
+    ensures { LongestSpanLaw }
+{}
+
+/// A step where the longest match is sought is the same over bytes that are alike, and its state holds places of the program, each once,
+/// and fewer marks than places.
+pub fn steps_part_starts()
+    ensures { LongestStepLaw }
 {}

@@ -6,6 +6,7 @@ pub mod classes;
 pub mod forward;
 pub mod kind;
 pub mod laws;
+pub mod longest;
 mod open;
 pub mod scratch;
 pub mod sides;

@@ -8,7 +8,7 @@ ghost use Rattle.rc_bytes.specs.declared.place.ByteWay.{ByteWay};
 ghost use Rattle.rc_states.specs.Sides.{holds_by};
 ghost use Rattle.rc_states.specs.Steps.{AreBelow, ahead_of};
 ghost use Rattle.rc_states.specs.States.{root_if};
-ghost use Rattle.rc_states.specs.Machine.{stay_places, read_places, add_one, add_all, least_with};
+ghost use Rattle.rc_states.specs.Machine.{stay_places, read_places, add_one, add_all, least_with, first_with};
 
 use crate::sides::{Seen, holds_by};
 use crate::sparse_set::SparseSet;
@@ -149,4 +149,14 @@ pub fn least_with(least: Option<usize>, here: &BytePlace, index: usize) -> Optio
         None => Some(index),
         Some(before) => Some(before.min(index)),
     }
+}
+
+/// What was met first, with this place behind, if a walk may end at it.
+pub fn first_with(first: Option<usize>, here: &BytePlace, index: usize) -> Option<usize>
+    ensures { result ≡ first_with (is_match_place None (place_of here.now)) first index }
+{
+    if first.is_none() && is_match(here) {
+        return Some(index);
+    }
+    first
 }

@@ -1,8 +1,9 @@
 //! A set of numbers that keeps the order of insertion, and is emptied in constant time.
-ghost use Rattle.std.specs.Prelude.{◌≡◌, ◌↔◌, ℕ, ◌<◌, ◌≤◌, [], ◌∷◌, ◌++◌, length, vec_len, vec_capacity, IfOk, slice_get, Some, slice_index};
+ghost use Rattle.std.specs.Prelude.{◌≡◌, ◌↔◌, ℕ, ◌<◌, ◌≤◌, [], ◌∷◌, ◌++◌, length, vec_len, vec_capacity, IfOk, slice_get, Some, slice_index, drop};
 ghost use Rattle.std.specs.Bool.{MatchBool};
 ghost use Rattle.rc_states.specs.Sparse.{Members, members_code, IsIndexed, IsSet};
 ghost use Rattle.rc_states.specs.Steps.{HasPlace, IsRising};
+ghost use Rattle.rc_states.specs.Machine.{with_group};
 
 use std::alloc::{AllocError, Global};
 use std::marker::Model;
@@ -42,6 +43,20 @@ impl SparseSet {
     {
         list.clear();
         list.extend_from_slice(&self.dense)
+    }
+
+    /// Adds the members from number `from` on to the list, in the order in which they were inserted, behind a mark if the list holds any.
+    pub fn part_to(&self, from: usize, mark: usize, list: &mut Vec<usize>) -> Result<(), AllocError>
+        requires { from ≤ length self.now.items }
+        ensures { IfOk result (λ _. list.new.items ≡ with_group mark list.old.items (drop from self.now.items)) }
+    {
+        if from == self.dense.len() {
+            return Ok(());
+        }
+        if !list.is_empty() {
+            list.push(mark)?;
+        }
+        list.extend_from_slice(&self.dense[from..])
     }
 
     /// Puts the members into the list in rising order, in place of what it held.

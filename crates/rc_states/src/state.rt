@@ -6,7 +6,8 @@ use crate::sides::Seen;
 #[derive(Drop)]
 pub struct State {
     /// The places, by their indices in the program, from none of which the search has gone on yet. Forwards these are the places to which
-    /// the byte before led, in order of preference; where each match counts, and backwards, they are a set, in rising order.
+    /// the byte before led, in order of preference; where each match counts, and backwards, they are a set, in rising order. Where the longest
+    /// match is sought, the number of places of the program stands between places of walks from different starts, as a mark.
     pub list: Vec<usize>,
     /// What is told of the byte that was read last: that behind it, or backwards that ahead of it.
     pub beside: Seen,

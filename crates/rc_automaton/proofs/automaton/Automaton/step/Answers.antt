@@ -2,19 +2,22 @@ use Rattle.std.proofs.Common.{length, ap, subst, sym, ◌∙◌}
 use Rattle.std.proofs.lemmas.List.{length-map}
 use Rattle.std.proofs.lemmas.Result.{IfOk-weaker}
 use Rattle.rc_bytes.specs.Places.{place_of, places_of}
+use Rattle.rc_states.specs.Kinds.{bound_of}
 use Rattle.rc_states.specs.Places.{state_of}
 use Rattle.rc_states.specs.Steps.{AreBelow}
 use Rattle.rc_states.specs.Backward.{IsPrior}
 use Rattle.rc_states.specs.States.{Setting}
-use Rattle.rc_automaton.specs.Machine.{Leads}
-use Rattle.rc_automaton.specs.Automata.{machine_of}
+use Rattle.rc_automaton.specs.Machine.{Leads, entry_bound}
+use Rattle.rc_automaton.specs.Automata.{machine_of, direction_of}
 use Rattle.rc_automaton.proofs.AutomatonLemmas.{is_reversed, as_many, is_inside}
 use Rattle.rc_automaton.proofs.automaton.Automaton.step.Goals as goal
 
 pub next_by-requires-clause-below : goal.next_by-requires-clause-below
 next_by-requires-clause-below c =
-    subst (λ n. AreBelow n c.args.from.now.list.items)
-    (length-map c.args.self.now.places.items place_of ∙ sym (ap length c.deref.ensures.value)) c.requires.below
+    subst (λ n. AreBelow (bound_of c.args.self.now.kind n) c.args.from.now.list.items)
+    (length-map c.args.self.now.places.items place_of ∙ sym (ap length c.deref.ensures.value))
+    (subst (λ d. AreBelow (entry_bound (direction_of c.args.self.now.kind d) (length (places_of c.args.self.now.places.items))) c.args.from.now.list.items)
+    c.in-Forwards.is c.requires.below)
 
 pub prior-requires-clause-edges : goal.prior-requires-clause-edges
 prior-requires-clause-edges c = is_inside c.args.self.now
@@ -26,7 +29,9 @@ prior-requires-clause-roots c =
 
 pub prior-requires-clause-below : goal.prior-requires-clause-below
 prior-requires-clause-below c =
-    subst (λ n. AreBelow n c.args.from.now.list.items) (length-map c.args.self.now.places.items place_of ∙ sym (as_many c.args.self.now)) c.requires.below
+    subst (λ n. AreBelow n c.args.from.now.list.items) (length-map c.args.self.now.places.items place_of ∙ sym (as_many c.args.self.now))
+    (subst (λ d. AreBelow (entry_bound (direction_of c.args.self.now.kind d) (length (places_of c.args.self.now.places.items))) c.args.from.now.list.items)
+    c.in-Backwards.is c.requires.below)
 
 pub returns-in-Backwards-clause-leads : goal.returns-in-Backwards-clause-leads
 returns-in-Backwards-clause-leads c =
