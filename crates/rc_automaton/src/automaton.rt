@@ -78,7 +78,7 @@ impl Automaton {
     ghost use Rattle.rc_states.specs.Sides.{IsReadable};
     ghost use Rattle.rc_automaton.specs.declared.automaton.Direction.{Direction};
     ghost use Rattle.rc_automaton.specs.declared.automaton.Direction.TheVariants.{Forwards, Backwards};
-    ghost use Rattle.rc_automaton.specs.Machine.{IsAsked, Begins, Leads, IsMachine, IsClassing, entry_bound};
+    ghost use Rattle.rc_automaton.specs.Machine.{IsAsked, Begins, Leads, IsMachine, IsClassing, entry_bound, longest_in};
     ghost use Rattle.rc_automaton.specs.Automata.{machine_of, IsMadeOf, classes_of, samples_of};
     ghost use Rattle.rc_program.specs.Program.{place_at};
     ghost use Rattle.rc_program.specs.Answer.{pattern_at};
@@ -119,6 +119,18 @@ impl Automaton {
         ensures { (direction : Direction) → result ≡ length (machine_of self.now direction).setting.places }
     {
         self.places.len()
+    }
+
+    /// How many entries the list of a state has at most that is gone through in this direction: as many as the program has places, and
+    /// twice as many forwards where the longest match is sought.
+    pub fn longest_list(&self, direction: Direction) -> usize
+        ensures { result ≡ longest_in (machine_of self.now direction).direction (length (machine_of self.now direction).setting.places) }
+    {
+        let places = &self.places;
+        match (direction, self.kind) {
+            (Direction::Forwards, TableKind::LeftmostLongest) => 2 * places.len(),
+            _ => places.len(),
+        }
     }
 
     /// The pattern whose match place this is; 0 where it is none.
