@@ -1,11 +1,16 @@
--- A table of no states.
+-- A table of no states, and what capacity serves in both directions.
 use Rattle.std.proofs.Common.{◌≡◌, ℕ, ◌+◌, ◌*◌, ◌≤◌, List, [], length, replicate, slice_index_or, inl, inr, sym, subst, ◌∙◌, arith}
 use Rattle.std.proofs.lemmas.Bool.{cases_lt}
 use Rattle.std.proofs.lemmas.List.{length-replicate, get_or-replicate, get_or_past}
 use Rattle.std.proofs.lemmas.Option.{none-some, slice_get_within}
+use Rattle.rc_states.specs.declared.kind.TableKind.{TableKind}
+use Rattle.rc_states.specs.declared.kind.TableKind.TheVariants.{All as all_matches, LeftmostFirst as leftmost_first, LeftmostLongest as leftmost_longest}
+use Rattle.rc_states.specs.Kinds.{longest}
+use Rattle.rc_automaton.specs.declared.automaton.Automaton.{Automaton}
+use Rattle.rc_automaton.specs.declared.automaton.Direction.TheVariants.{Backwards, Forwards}
 use Rattle.rc_automaton.specs.Machine.{IsMachine, IsClassing}
 use Rattle.rc_lazy.specs.Cells.{unknown}
-use Rattle.rc_lazy.specs.Stores.{Frame, IsFrame, Held, AreCells, AreStarts, AreWithin, listed_by, starts_in, minimum_of}
+use Rattle.rc_lazy.specs.Stores.{Frame, frame_of, IsFrame, Held, AreCells, AreStarts, AreWithin, listed_by, starts_in, minimum_of}
 use Rattle.rc_lazy.specs.declared.store.Store.{Store}
 
 pub frame_is : (f : Frame) (samples : List ℕ) → IsMachine f.machine → IsClassing f.machine f.classes samples → f.width ≡ length samples + 1 → IsFrame f
@@ -53,3 +58,12 @@ blank_held f s k b roomy fits =
       roomy = roomy;
       fits = fits;
     }
+
+no_shorter : (kind : TableKind) (places : ℕ) → places ≤ longest kind places
+no_shorter leftmost_first places = omega arith
+no_shorter all_matches places = omega arith
+no_shorter leftmost_longest places = omega arith
+
+-- what serves forwards serves backwards
+pub serves_both : (a : Automaton) → minimum_of (frame_of a Backwards) ≤ minimum_of (frame_of a Forwards)
+serves_both a = let more = no_shorter a.kind (length (frame_of a Forwards).machine.setting.places) in omega (arith, more)

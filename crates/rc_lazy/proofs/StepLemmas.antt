@@ -6,7 +6,7 @@ use Rattle.rc_text.specs.declared.types.Anchored.{Anchored}
 use Rattle.rc_text.specs.declared.types.Anchored.TheVariants.{No, Yes, Pattern}
 use Rattle.rc_states.specs.States.{State}
 use Rattle.rc_states.specs.Steps.{AreBelow}
-use Rattle.rc_automaton.specs.Machine.{Leads, Begins, IsAsked}
+use Rattle.rc_automaton.specs.Machine.{entry_bound, Leads, Begins, IsAsked}
 use Rattle.rc_automaton.specs.Runs.{MayRead}
 use Rattle.rc_automaton.specs.Laws.{IsWithin}
 use Rattle.rc_lazy.specs.Cells.{unknown, column_of}
@@ -26,8 +26,8 @@ pub led_by : (f g : Frame) (s u t : State) (beside : Option ℕ) → g ≡ f →
 led_by f g s u t beside same is h =
     subst (λ (k : Frame). Leads k.machine s beside t) same (subst (λ v. Leads g.machine v beside t) is h)
 
-pub below_by : (f g : Frame) (u : State) → g ≡ f → IsWithin f.machine u → AreBelow (length g.machine.setting.places) u.list
-below_by f g u same w = subst (λ (k : Frame). AreBelow (length k.machine.setting.places) u.list) (sym same) w.below
+pub below_by : (f g : Frame) (u : State) → g ≡ f → IsWithin f.machine u → AreBelow (entry_bound g.machine.direction (length g.machine.setting.places)) u.list
+below_by f g u same w = subst (λ (k : Frame). AreBelow (entry_bound k.machine.direction (length k.machine.setting.places)) u.list) (sym same) w.below
 
 pub begun_by : (f g : Frame) (t : State) (anchored : Anchored) (beside : Option ℕ) → g ≡ f → Begins g.machine anchored beside t → Begins f.machine anchored beside t
 begun_by f g t anchored beside same h = subst (λ (k : Frame). Begins k.machine anchored beside t) same h

@@ -12,7 +12,7 @@ use Rattle.rc_lazy.specs.declared.lazy.Cache.{Cache}
 use Rattle.rc_lazy.specs.declared.error.LazyError.{LazyError}
 use Rattle.rc_lazy.specs.declared.error.LazyError.TheVariants.{Memory, TooSmall}
 
--- the least capacity that serves is the same in both directions
+-- The least capacity that serves is the one forwards: backwards no more is needed.
 abbrev pub least_of : Automaton → ℕ
 least_of a = minimum_of (frame_of a Forwards)
 

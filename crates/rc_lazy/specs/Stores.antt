@@ -5,7 +5,7 @@ use Rattle.rc_text.specs.declared.types.Anchored.TheVariants.{No, Yes, Pattern}
 use Rattle.rc_states.specs.States.{State}
 use Rattle.rc_automaton.specs.declared.automaton.Automaton.{Automaton}
 use Rattle.rc_automaton.specs.declared.automaton.Direction.{Direction}
-use Rattle.rc_automaton.specs.Machine.{Machine, IsMachine, Leads, Begins, IsAsked, AreOfOneClass, is_dead}
+use Rattle.rc_automaton.specs.Machine.{Machine, IsMachine, longest_in, Leads, Begins, IsAsked, AreOfOneClass, is_dead}
 use Rattle.rc_automaton.specs.Automata.{machine_of, classes_of, samples_of}
 use Rattle.rc_automaton.specs.Laws.{IsWithin}
 use Rattle.rc_automaton.specs.Runs.{MayRead}
@@ -36,7 +36,7 @@ pub record IsFrame (f : Frame) : Type 0 where
 abbrev pub weight_of : ℕ → State → ℕ
 weight_of width s = 8 * width + 32 + 8 * length s.list
 
--- how many places their lists have
+-- how many entries their lists have
 abbrev pub listed_by : List State → ℕ
 listed_by [] = 0
 listed_by (s ∷ ss) = length s.list + listed_by ss
@@ -45,14 +45,15 @@ listed_by (s ∷ ss) = length s.list + listed_by ss
 abbrev pub starts_in : Frame → ℕ
 starts_in f = (length f.machine.entries + 2) * f.width
 
--- How many bytes hold these states: 8 for each cell of a row and each start, and for each state 32 and 8 for each place of its list. Three more
--- are counted, with no places: that of which nothing is known yet, the dead one, and that for a byte that isn't read.
+-- How many bytes hold these states: 8 for each cell of a row and each start, and for each state 32 and 8 for each entry of its list, a place or
+-- a mark that parts the places of different starts. Three more are counted, with no entries: that of which nothing is known yet, the dead one,
+-- and that for a byte that isn't read.
 abbrev pub count_of : Frame → List State → ℕ
 count_of f states = 8 * ((length states + 3) * f.width) + 8 * starts_in f + 32 * (length states + 3) + 8 * listed_by states
 
--- the least capacity: of five states, each with all places
+-- the least capacity: of five states, each with as many entries as a list has at most
 abbrev pub minimum_of : Frame → ℕ
-minimum_of f = 8 * (5 * f.width) + 8 * starts_in f + 5 * (32 + 8 * length f.machine.setting.places)
+minimum_of f = 8 * (5 * f.width) + 8 * starts_in f + 5 * (32 + 8 * longest_in f.machine.direction (length f.machine.setting.places))
 
 -- CELLS
 
@@ -98,7 +99,7 @@ pub record AreStarts (f : Frame) (states : List State) (starts : List ℕ) : Typ
   pub told : (anchored : Anchored) (column : ℕ) (beside : Option ℕ) → IsAsked f.machine anchored → IsColumn f beside column →
       IsCell f states beside (Begins f.machine anchored beside) (slice_index_or starts (mode_of anchored * f.width + column) unknown)
 
--- The states hold places of the program, each once.
+-- The states hold places of the program, each once, and marks between them where the longest match is sought.
 pub record AreWithin (f : Frame) (states : List State) : Type 0 where
   pub each : (id : ℕ) (s : State) → slice_get states id ≡ Some s → IsWithin f.machine s
 

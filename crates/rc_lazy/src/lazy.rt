@@ -41,7 +41,7 @@ fn minimum(automaton: &Automaton) -> Option<usize>
     let width = automaton.samples().len() + 1;
     let starts = starts_in(automaton, Direction::Forwards, width)?;
     let rows = 40 * width as u128 + 8 * starts as u128;
-    let bytes = rows + 160 + 40 * automaton.places_len() as u128;
+    let bytes = rows + 160 + 40 * automaton.longest_list(Direction::Forwards) as u128;
     if bytes > usize::MAX as u128 {
         return None;
     }

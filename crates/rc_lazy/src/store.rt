@@ -3,7 +3,7 @@ ghost use Rattle.std.specs.Prelude.{◌≡◌, ◌+◌, ◌*◌, ◌<◌, ◌≤
 ghost use Rattle.rc_states.specs.Places.{state_of};
 ghost use Rattle.rc_states.specs.States as states;
 ghost use Rattle.rc_automaton.specs.Keys.{IsAbsent};
-ghost use Rattle.rc_automaton.specs.Machine.{is_idle};
+ghost use Rattle.rc_automaton.specs.Machine.{is_idle, longest_in};
 ghost use Rattle.rc_automaton.specs.Laws.{IsWithin};
 ghost use Rattle.rc_lazy.specs.Stores.{Frame, Held, Spends, IsRefused, IsRow, weight_of};
 ghost use Rattle.rc_lazy.specs.Moves.{IsReset, HasRoom, Adds, IsNamed, HasCell, HasStart, Writes};
@@ -81,7 +81,7 @@ impl Store {
     fn make_room(&mut self, weight: usize, served: usize) -> Result<bool, Refusal>
         ghost f: { Frame }
         requires held { Held f self.old }
-        requires light { weight ≤ 8 * f.width + 32 + 8 * length f.machine.setting.places }
+        requires light { weight ≤ 8 * f.width + 32 + 8 * longest_in f.machine.direction (length f.machine.setting.places) }
         ensures held { Held f self.new }
         ensures room { IfOk result (HasRoom self.old self.new weight) }
         ensures refused { IfErr result (λ e. (self.new ≡ self.old) × IsRefused f self.old self.new e) }
