@@ -8,7 +8,7 @@ use Rattle.std.proofs.lemmas.Bool.{cases_lt}
 use Rattle.rc_text.specs.Found.{Found, HalfFound}
 use Rattle.rc_text.specs.Text.{is_boundary}
 use Rattle.rc_states.specs.declared.kind.TableKind.{TableKind}
-use Rattle.rc_states.specs.declared.kind.TableKind.TheVariants.{All as all_matches, LeftmostFirst as leftmost_first}
+use Rattle.rc_states.specs.declared.kind.TableKind.TheVariants.{All as all_matches, LeftmostFirst as leftmost_first, LeftmostLongest as leftmost_longest}
 use Rattle.rc_text.specs.declared.types.MatchError.{MatchError}
 use Rattle.rc_text.specs.declared.types.MatchError.TheVariants.{Quit, GaveUp}
 use Rattle.rc_pattern.specs.Re.{Re, empty, literal, byte_in, char_in, look, repeat, capture, cat, alt, none}
@@ -50,16 +50,21 @@ abbrev HalfWhere : Bool → TableKind → Search → HalfFound → Type 0
 HalfWhere early kind s h = (m : Found) × IsAnswerWhere early kind s (Some m) × (h.offset ≡ m.end) × IsToldWith kind s m h.pattern
 
 -- any that is spelled, of the pattern that is told
-from_early : (kind : TableKind) (s : Search) (h : HalfFound) → HalfWhere true kind s h → SpelledFrom s h.pattern h.offset
-from_early leftmost_first s h w = (
-  w.0.start,
-  subst (λ p. IsSpelledIn s (record { pattern = p; start = w.0.start; end = h.offset })) (sym w.3)
-      (subst (λ e. IsSpelledIn s (record { pattern = w.0.pattern; start = w.0.start; end = e })) (sym w.2) w.1),
+from_own : (s : Search) (h : HalfFound) (m : Found) → IsSpelledIn s m → h.offset ≡ m.end → h.pattern ≡ m.pattern → SpelledFrom s h.pattern h.offset
+from_own s h m w e p = (
+  m.start,
+  subst (λ k. IsSpelledIn s (record { pattern = k; start = m.start; end = h.offset })) (sym p)
+      (subst (λ k. IsSpelledIn s (record { pattern = m.pattern; start = m.start; end = k })) (sym e) w),
 )
+
+from_early : (kind : TableKind) (s : Search) (h : HalfFound) → HalfWhere true kind s h → SpelledFrom s h.pattern h.offset
+from_early leftmost_first s h w = from_own s h w.0 w.1 w.2 w.3
+from_early leftmost_longest s h w = from_own s h w.0 w.1 w.2 w.3
 from_early all_matches s h w = (w.3.0, subst (λ e. IsSpelledIn s (record { pattern = h.pattern; start = w.3.0; end = e })) (sym w.2) w.3.1)
 
 to_early : (kind : TableKind) (s : Search) (h : HalfFound) → SpelledFrom s h.pattern h.offset → HalfWhere true kind s h
 to_early leftmost_first s h w = (record { pattern = h.pattern; start = w.0; end = h.offset }, w.1, refl, refl)
+to_early leftmost_longest s h w = (record { pattern = h.pattern; start = w.0; end = h.offset }, w.1, refl, refl)
 to_early all_matches s h w = (record { pattern = h.pattern; start = w.0; end = h.offset }, w.1, refl, w)
 
 same_match : (o : Option Found) (m n : Found) → o ≡ Some n → Some m ≡ o → m ≡ n
@@ -67,6 +72,7 @@ same_match o m n e f = cc
 
 told_had : (kind : TableKind) (s : Search) (m : Found) (p : ℕ) → ∥ IsToldWith kind s m p ∥₁ → IsToldWith kind s m p
 told_had leftmost_first s m p t = ∥∥₁_elim t (hlevel props) (λ e. e)
+told_had leftmost_longest s m p t = ∥∥₁_elim t (hlevel props) (λ e. e)
 told_had all_matches s m p t = had (spelled_from_decided s p m.end) t
 
 by_answer : (kind : TableKind) (s : Search) (h : HalfFound) (o : Option Found) → answer_by kind s ≡ o → ∥ HalfWhere false kind s h ∥₁ →
