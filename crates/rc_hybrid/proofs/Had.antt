@@ -1,7 +1,7 @@
 -- How a search ended is had where it is only known to be so, and what it spent.
 use Rattle.std.proofs.Common.{◌≡◌, ◌∙◌, ℕ, ◌+◌, ◌-◌, ◌*◌, ◌<◌, ◌≤◌, Bool, true, false, inl, inr, ⊎_elim, max, ap₂, sym, arith}
 use Rattle.std.proofs.Math.Logic.{∥∥₁_elim}
-use Rattle.std.proofs.Math.Nat.{le-max_left, le-max_right}
+use Rattle.std.proofs.Math.Nat.{le-max_left, le-max_right, mul-le-mul_left}
 use Rattle.std.proofs.Props.{props}
 use Rattle.rc_text.specs.Text.{Searched, low, high}
 use Rattle.rc_text.specs.declared.types.MatchError.{MatchError}
@@ -10,7 +10,8 @@ use Rattle.rc_program.specs.Program.{shown}
 use Rattle.rc_program.specs.Sought.{search_for}
 use Rattle.rc_automaton.specs.declared.automaton.Direction.TheVariants.{Backwards, Forwards}
 use Rattle.rc_lazy.specs.Caches.{MayGiveUpEither, SpendsBoth}
-use Rattle.rc_lazy.specs.Stores.{IsShort, frame_of}
+use Rattle.rc_lazy.specs.Stores.{IsShort, frame_of, minimum_of}
+use Rattle.rc_lazy.proofs.MakeLemmas.{serves_both}
 use Rattle.rc_spans.specs.Faults.{IsFault}
 use Rattle.rc_dfa.proofs.Had.{fault_had as quit_had}
 use Rattle.rc_hybrid.specs.Caches.{IsCacheFor, capacity_of, usage_of}
@@ -26,6 +27,10 @@ module _ (re : Regex) (i : Searched) (old new : Cache) where
   abbrev pub Given : Bool → Type 0
   Given memory = MayGiveUpEither re.lazy old.inner new.inner cost memory
 
+  -- the least capacity backwards is no more than the one forwards
+  no_heavier : cost * minimum_of (frame_of re.lazy.automaton Backwards) ≤ cost * least_of re
+  no_heavier = mul-le-mul_left cost (serves_both re.lazy.automaton)
+
   short_ahead : IsShort (frame_of re.lazy.automaton Forwards) old.inner.forward.store cost → MayBeShort re i old
   short_ahead h =
       let g : capacity_of old < old.inner.forward.store.used + cost * least_of re = h in
@@ -34,8 +39,9 @@ module _ (re : Regex) (i : Searched) (old new : Cache) where
   short_behind : IsCacheFor re old → IsShort (frame_of re.lazy.automaton Backwards) old.inner.reverse.store cost → MayBeShort re i old
   short_behind made h =
       let same : old.inner.reverse.store.capacity ≡ old.inner.forward.store.capacity = made.reverse_capacity ∙ sym made.forward_capacity in
-      let g : old.inner.reverse.store.capacity < old.inner.reverse.store.used + cost * least_of re = h in
-      omega (arith, g, same)
+      let g : old.inner.reverse.store.capacity < old.inner.reverse.store.used + cost * minimum_of (frame_of re.lazy.automaton Backwards) = h in
+      let more = no_heavier in
+      omega (arith, g, more, same)
 
   given_up : IsCacheFor re old → (memory : Bool) → Given memory → MayGiveUp re i old new memory
   given_up made true h = tt
@@ -69,8 +75,9 @@ module _ (re : Regex) (i : Searched) (old new : Cache) where
       (λ a. ⊎_elim
       (λ b.
       let ahead : new.inner.forward.store.used ≤ old.inner.forward.store.used + cost * least_of re = a.1 in
-      let behind : new.inner.reverse.store.used ≤ old.inner.reverse.store.used + cost * least_of re = b.1 in
-      inl (omega (arith, ahead, behind)))
+      let behind : new.inner.reverse.store.used ≤ old.inner.reverse.store.used + cost * minimum_of (frame_of re.lazy.automaton Backwards) = b.1 in
+      let more = no_heavier in
+      inl (omega (arith, ahead, behind, more)))
       (λ h. inr (short_behind made h))
       s.behind.added)
       (λ h. inr (short_ahead h))

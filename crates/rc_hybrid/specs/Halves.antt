@@ -16,6 +16,7 @@ pub record IsLazyFor (q : Sought) (kind : TableKind) (lazy : Lazy) : Type 0 wher
   pub few : length q.patterns ≤ 2147483647
 
 -- The least capacity for searches of what is sought, in bytes for each direction, where of so many classes of bytes none is told from another.
+-- It is by the longest list that states of the kind have forwards: backwards no more is needed.
 pub record IsLeast (q : Sought) (kind : TableKind) (least : ℕ) : Type 0 where
   pub ahead : Machine
   pub behind : Machine

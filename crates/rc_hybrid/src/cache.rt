@@ -34,8 +34,8 @@ impl Cache {
 
     /// How many bytes hold the states of both directions, or the greatest number where that is more.
     ///
-    /// For each direction that are 8 for each cell of a row and each start, and for each state 32 and 8 for each place of its list. It is at most
-    /// twice the capacity.
+    /// For each direction that are 8 for each cell of a row and each start, and for each state 32 and 8 for each entry of its list: a place, or in
+    /// tables that seek the longest match a mark that parts the places of different starts. It is at most twice the capacity.
     pub fn memory_usage(&self) -> usize
         ensures { result ≡ min (usage_of self.now) usize.MAX }
     {

@@ -94,7 +94,9 @@ impl Regex {
         self.hirs.len()
     }
 
-    /// The least capacity with which it is built, in bytes for each direction.
+    /// The least capacity with which it is built, in bytes for each direction: what five states weigh whose lists have as many entries as a list
+    /// has at most. Those are as many as the program has places, and twice as many in tables that seek the longest match, whose lists have marks
+    /// that part the places of different starts.
     pub fn minimum_cache_capacity(&self) -> usize
         ensures { result ≡ least_of self.now }
     {
