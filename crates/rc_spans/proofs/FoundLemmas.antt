@@ -3,23 +3,26 @@ use Rattle.std.proofs.Common.{◌≡◌, ℕ, ◌≤◌, ◌⊎◌, Bool, true, 
 use Rattle.rc_text.specs.Found.{Found}
 use Rattle.rc_text.specs.Plain.{is_anchored as anchors}
 use Rattle.rc_states.specs.declared.kind.TableKind.{TableKind}
-use Rattle.rc_states.specs.declared.kind.TableKind.TheVariants.{All as all_matches, LeftmostFirst as leftmost_first}
+use Rattle.rc_states.specs.declared.kind.TableKind.TheVariants.{All as all_matches, LeftmostFirst as leftmost_first, LeftmostLongest as leftmost_longest}
 use Rattle.rc_text.specs.declared.types.Anchored.{Anchored}
 use Rattle.rc_text.specs.declared.types.Anchored.TheVariants.{No, Yes, Pattern}
 use Rattle.rc_pattern.specs.Re.{Re}
-use Rattle.rc_program.specs.Answer.{Search, answer, is_anchored}
+use Rattle.rc_program.specs.Answer.{Search, is_anchored}
 use Rattle.rc_program.specs.Greatest.{IsSpelledIn}
-use Rattle.rc_states.specs.TableKinds.{IsAnswerWhere}
+use Rattle.rc_bytes.specs.Laws.{by_bytes}
+use Rattle.rc_states.specs.Laws.{may_end_at}
+use Rattle.rc_states.specs.TableKinds.{answer_by, IsAnswerWhere}
 use Rattle.rc_program.proofs.GreatestLemmas.{spelled_within, greatest_some}
 use Rattle.rc_automaton.specs.Machine.{Machine}
 use Rattle.rc_automaton.specs.Runs.{met_last, SearchEnds, SearchEndsDown}
 use Rattle.rc_automaton.specs.declared.ended.Met.{Met}
 use Rattle.rc_spans.specs.declared.search.End.{End}
+use Rattle.rc_spans.specs.Leftmost.{IsLeftmost}
 use Rattle.rc_spans.specs.Laws.{pattern_met, met_from}
 use Rattle.rc_spans.specs.Halves.{IsToldWith}
 use Rattle.rc_spans.specs.Ends.{HasMetDown, IsEnd, begins_there, match_by, start_by}
 use Rattle.rc_spans.proofs.CaseLemmas.{is_anchored_so}
-use Rattle.rc_spans.proofs.FirstLemmas.{first_law}
+use Rattle.rc_spans.proofs.LeftmostLemmas.{leftmost_law, start_of}
 use Rattle.rc_spans.proofs.MetLemmas.{met_law}
 use Rattle.rc_spans.proofs.LastLemmas.{last_law}
 use Rattle.rc_spans.proofs.SeekLemmas.{from_low}
@@ -35,20 +38,20 @@ is_no No e = refl
 is_no Yes e = absurd (true≢false e)
 is_no (Pattern p) e = absurd (true≢false e)
 
--- where matches may begin anywhere, the preferred match begins at the least start that a run backwards meets
-free_none : (hs : List Re) (m n : Machine) (s : Search) (end : End) → IsEnd hs leftmost_first false m n No s end →
+-- where matches may begin anywhere, the match of the least start begins at the least one that a run backwards meets
+free_none : (hs : List Re) (kind : TableKind) → IsLeftmost kind → (m n : Machine) (s : Search) (end : End) → IsEnd hs kind false m n No s end → may_end_at s end.at ≡ true →
     ¬ HasMetDown n s.text end.from end.at No false None
-free_none hs m n s end h down =
-    let st = h.stands in first_law.some_start hs m n s end.from h.place end.at st.case (st.raised refl) h.ends (h.allowed refl) down
+free_none hs kind left m n s end h may down =
+    let st = h.stands in leftmost_law.some_start hs kind m n s end.from h.place end.at left st.case st.raised h.ends may down
 
-abbrev IsFirst : Search → End → Met → Type 0
-IsFirst s end met = (end.from ≤ met.at) × (met.at ≤ end.at) × (answer s ≡ Some (span end.pattern met.at end.at))
+abbrev IsFirst : TableKind → Search → End → Met → Type 0
+IsFirst kind s end met = (end.from ≤ met.at) × (met.at ≤ end.at) × (answer_by kind s ≡ Some (span end.pattern met.at end.at))
 
-free_start : (hs : List Re) (m n : Machine) (s : Search) (end : End) (met : Met) → IsEnd hs leftmost_first false m n No s end →
-    HasMetDown n s.text end.from end.at No false (Some met) → IsFirst s end met
-free_start hs m n s end met h down =
+free_start : (hs : List Re) (kind : TableKind) → IsLeftmost kind → (m n : Machine) (s : Search) (end : End) (met : Met) → IsEnd hs kind false m n No s end →
+    may_end_at s end.at ≡ true → HasMetDown n s.text end.from end.at No false (Some met) → IsFirst kind s end met
+free_start hs kind left m n s end met h may down =
     let st = h.stands in
-    let e = first_law.starts hs m n s end.from h.place end.at met.at met.pattern st.case (st.raised refl) h.ends (h.allowed refl) down in
+    let e = leftmost_law.starts hs kind m n s end.from h.place end.at met.at met.pattern left st.case st.raised h.ends may down in
     (e.0, e.1, e.3 ∙ ap (λ p. Some (span p met.at end.at)) h.pattern)
 
 module _ (hs : List Re) (m n : Machine) (anchored : Anchored) (s : Search) (end : End) where
@@ -76,10 +79,16 @@ module _ (hs : List Re) (m n : Machine) (anchored : Anchored) (s : Search) (end 
   pub forward_half : (kind : TableKind) (early : Bool) → IsMetEnd kind early → HasHalf kind early
   forward_half leftmost_first false h =
       let st = h.stands in
-      let e = first_law.ends hs m n anchored s end.from h.place end.at st.case (st.raised refl) h.ends (h.allowed refl) in
+      let e = leftmost_law.ends hs leftmost_first m n anchored s end.from h.place end.at tt st.case st.raised h.ends h.allowed in
+      (met_from m h.place e.0 end.at, sym e.4, refl, sym h.pattern)
+  forward_half leftmost_longest false h =
+      let st = h.stands in
+      let e = leftmost_law.ends hs leftmost_longest m n anchored s end.from h.place end.at tt st.case st.raised h.ends h.allowed in
       (met_from m h.place e.0 end.at, sym e.4, refl, sym h.pattern)
   forward_half leftmost_first true h =
       let st = h.stands in let e = spelled leftmost_first true h (st.alone (inr refl)) in (span end.pattern e.0 end.at, e.1, refl, refl)
+  forward_half leftmost_longest true h =
+      let st = h.stands in let e = spelled leftmost_longest true h (st.alone (inr refl)) in (span end.pattern e.0 end.at, e.1, refl, refl)
   forward_half all_matches true h =
       let st = h.stands in let e = spelled all_matches true h (st.alone (inl refl)) in (span end.pattern e.0 end.at, e.1, refl, (e.0, e.1))
   forward_half all_matches false h =
@@ -92,30 +101,30 @@ module _ (hs : List Re) (m n : Machine) (anchored : Anchored) (s : Search) (end 
 
   -- A KNOWN START
 
-  starts_low : (kind : TableKind) (early : Bool) (h : IsMetEnd kind early) → kind ≡ leftmost_first → anchors anchored ≡ true → end.from ≡ s.lo
-  starts_low kind early h is so =
+  known_leftmost : (kind : TableKind) → IsLeftmost kind → IsMetEnd kind false → may_end_at s end.at ≡ true → anchors anchored ≡ true →
+      IsAnswerWhere false kind s (Some (span end.pattern end.from end.at))
+  known_leftmost kind left h may so =
       let st = h.stands in
       let c = st.case in
-      let r = st.raised is in
-      let start = r.start in
-      start.2 (ap is_anchored c.anchoring ∙ is_anchored_so anchored ∙ so)
+      let start = start_of kind left (by_bytes s) end.from st.raised in
+      let low : end.from ≡ s.lo = start.2 (ap is_anchored c.anchoring ∙ is_anchored_so anchored ∙ so) in
+      let e = leftmost_law.at_start hs kind m n anchored s end.from h.place end.at left c st.raised h.ends may so in
+      ap Some (same_span end.pattern (pattern_met m h.place) end.from s.lo end.at end.at (sym h.pattern) low refl) ∙ sym e.2
+
+  known_early : (kind : TableKind) → IsMetEnd kind true → anchors anchored ≡ true → IsSpelledIn s (span end.pattern end.from end.at)
+  known_early kind h so =
+      let st = h.stands in
+      let low = st.alone (inr refl) in
+      let e = spelled kind true h low in
+      subst (λ x. IsSpelledIn s (span end.pattern x end.at)) (e.2 so ∙ sym low) e.1
 
   pub known_start : (kind : TableKind) (early : Bool) → IsMetEnd kind early → begins_there kind early (anchors anchored) ≡ true →
       IsAnswerWhere early kind s (Some (span end.pattern end.from end.at))
-  known_start leftmost_first false h so =
-      let st = h.stands in
-      let e = first_law.at_start hs m n anchored s end.from h.place end.at st.case (st.raised refl) h.ends (h.allowed refl) so in
-      ap Some (same_span end.pattern (pattern_met m h.place) end.from s.lo end.at end.at (sym h.pattern) (starts_low leftmost_first false h refl so) refl) ∙ sym e.2
-  known_start leftmost_first true h so =
-      let st = h.stands in
-      let low = st.alone (inr refl) in
-      let e = spelled leftmost_first true h low in
-      subst (λ x. IsSpelledIn s (span end.pattern x end.at)) (e.2 so ∙ sym low) e.1
-  known_start all_matches true h so =
-      let st = h.stands in
-      let low = st.alone (inl refl) in
-      let e = spelled all_matches true h low in
-      subst (λ x. IsSpelledIn s (span end.pattern x end.at)) (e.2 so ∙ sym low) e.1
+  known_start leftmost_first false h so = known_leftmost leftmost_first tt h h.allowed so
+  known_start leftmost_longest false h so = known_leftmost leftmost_longest tt h h.allowed so
+  known_start leftmost_first true h so = known_early leftmost_first h so
+  known_start leftmost_longest true h so = known_early leftmost_longest h so
+  known_start all_matches true h so = known_early all_matches h so
   known_start all_matches false h so = absurd (true≢false (sym so))
 
   -- AND BACKWARDS
@@ -135,11 +144,16 @@ module _ (hs : List Re) (m n : Machine) (anchored : Anchored) (s : Search) (end 
       let l = ends_low kind early h low in
       met_law.some_start hs kind m n anchored s early early l.0 end.at st.case l.2 (back_low early None low down)
 
+  some_leftmost : (kind : TableKind) → IsLeftmost kind → IsMetEnd kind false → may_end_at s end.at ≡ true → anchors anchored ≡ false → ¬ MetBack false None
+  some_leftmost kind left h may free down =
+      subst (λ a. IsEnd hs kind false m n a s end → ¬ HasMetDown n s.text end.from end.at a false None) (sym (is_no anchored free))
+      (λ k d. free_none hs kind left m n s end k may d) h down
+
   pub some_start : (kind : TableKind) (early : Bool) → IsMetEnd kind early → begins_there kind early (anchors anchored) ≡ false → ¬ MetBack early None
-  some_start leftmost_first false h free down =
-      subst (λ a. IsEnd hs leftmost_first false m n a s end → ¬ HasMetDown n s.text end.from end.at a false None) (sym (is_no anchored free))
-      (free_none hs m n s end) h down
+  some_start leftmost_first false h free down = some_leftmost leftmost_first tt h h.allowed free down
+  some_start leftmost_longest false h free down = some_leftmost leftmost_longest tt h h.allowed free down
   some_start leftmost_first true h free down = none_low leftmost_first true h (inr refl) down
+  some_start leftmost_longest true h free down = none_low leftmost_longest true h (inr refl) down
   some_start all_matches early h free down = none_low all_matches early h (inl refl) down
 
   -- and what is met is the start of the match
@@ -157,13 +171,19 @@ module _ (hs : List Re) (m n : Machine) (anchored : Anchored) (s : Search) (end 
       let above = w.0 in
       subst (λ x. IsSpelledIn s (span met.pattern x end.at)) (clamped met.at (omega (arith, above, low)) w.1) e
 
+  met_leftmost : (kind : TableKind) → IsLeftmost kind → IsMetEnd kind false → may_end_at s end.at ≡ true → anchors anchored ≡ false → (met : Met) →
+      MetBack false (Some met) → IsAnswerWhere false kind s (Some (span end.pattern (min (max met.at end.from) end.at) end.at))
+  met_leftmost kind left h may free met down =
+      let e = subst (λ a. IsEnd hs kind false m n a s end → HasMetDown n s.text end.from end.at a false (Some met) → IsFirst kind s end met) (sym (is_no anchored free))
+      (λ k d. free_start hs kind left m n s end met k may d) h down in
+      ap (λ x. Some (span end.pattern x end.at)) (sym (clamped met.at e.0 e.1)) ∙ sym e.2
+
   pub met_start : (kind : TableKind) (early : Bool) → IsMetEnd kind early → begins_there kind early (anchors anchored) ≡ false → (met : Met) → MetBack early (Some met) →
       IsAnswerWhere early kind s (Some (match_by end (start_by kind early end met)))
-  met_start leftmost_first false h free met down =
-      let e = subst (λ a. IsEnd hs leftmost_first false m n a s end → HasMetDown n s.text end.from end.at a false (Some met) → IsFirst s end met) (sym (is_no anchored free))
-      (free_start hs m n s end met) h down in
-      ap (λ x. Some (span end.pattern x end.at)) (sym (clamped met.at e.0 e.1)) ∙ sym e.2
+  met_start leftmost_first false h free met down = met_leftmost leftmost_first tt h h.allowed free met down
+  met_start leftmost_longest false h free met down = met_leftmost leftmost_longest tt h h.allowed free met down
   met_start leftmost_first true h free met down = start_early leftmost_first h free met down
+  met_start leftmost_longest true h free met down = start_early leftmost_longest h free met down
   met_start all_matches true h free met down = start_early all_matches h free met down
   met_start all_matches false h free met down =
       let st = h.stands in

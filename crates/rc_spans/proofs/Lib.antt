@@ -8,6 +8,9 @@ pub mod FoundLemmas
 pub mod StartLemmas
 pub mod FirstPattern
 pub mod FirstLemmas
+pub mod LongestOver
+pub mod LongestLemmas
+pub mod LeftmostLemmas
 pub mod ReverseWays
 pub mod ReverseRoots
 pub mod ReverseLemmas

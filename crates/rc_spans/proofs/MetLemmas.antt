@@ -239,6 +239,15 @@ module _ (hs : List Re) (kind : TableKind) (m n : Machine) (anchored : Anchored)
       let start = sp.is_start in
       none_met hs kind m n anchored s c x e start.1 (l x start.0 (spelled_onward s (pattern_met m q) x e span)) (pattern_met m q) span
 
+-- a span of the one pattern that is asked for is one from its entry
+pub leads_entry : (hs : List Re) (kind : TableKind) (m n : Machine) (p : ℕ) (s : Search) → IsCase hs kind m n (Pattern p) s → (f : Found) → IsSpelledIn s f →
+    LeadsTo m.setting.places s.text s.hi (Some f.pattern) f.end (slice_index m.entries p, s.lo)
+leads_entry hs kind m n p s c f spelled =
+    let l = leaves hs m s.text s.lo s.hi c.ordered (ahead_entries c) (Pattern p) f.pattern f.end (spelled_enters hs kind m n (Pattern p) s c f spelled) in
+    let at : (slice_index m.entries p, s.lo) ≡ l.0 = ⊎_elim (λ h. h) (λ never. absurd never) l.1 in
+    subst (λ ps. LeadsTo ps s.text s.hi (Some f.pattern) f.end (slice_index m.entries p, s.lo)) (sym (places_of hs kind m n (Pattern p) s c))
+    (subst (λ k. LeadsTo (bytes_of (program hs)) s.text s.hi (Some f.pattern) f.end k) (sym at) l.2)
+
 pub met_law : MetLaw
 met_law = record {
   ends = λ hs kind m n anchored s earliest q e c run. ends_so hs kind m n anchored s c earliest q e run;

@@ -1,5 +1,5 @@
 -- From needle to needle.
-use Rattle.std.proofs.Common.{◌≡◌, ℕ, ◌+◌, ◌-◌, ◌*◌, ◌<◌, ◌≤◌, Bool, true, false, not, ◌&&◌, ◌||◌, ◌⊎◌, List, Option, Some, None, Result, Ok, Err, IfOk, max, min, sym, subst, ap, ap₂, ◌∙◌, refl, arith}
+use Rattle.std.proofs.Common.{◌≡◌, ℕ, ◌+◌, ◌-◌, ◌*◌, ◌<◌, ◌≤◌, true, false, not, ◌&&◌, ◌||◌, ◌⊎◌, List, Option, Some, None, Result, Ok, Err, IfOk, max, min, sym, subst, ap, ap₂, ◌∙◌, refl, arith}
 use Rattle.std.proofs.lemmas.Nat.{mul-le}
 use Rattle.std.specs.Option.{option_map}
 use Rattle.rc_text.specs.Found.{Found, HalfFound, half_of}
@@ -8,20 +8,20 @@ use Rattle.rc_text.specs.declared.types.Anchored.{Anchored}
 use Rattle.rc_text.specs.declared.types.Anchored.TheVariants.{No}
 use Rattle.rc_text.specs.declared.types.MatchError.{MatchError}
 use Rattle.rc_states.specs.declared.kind.TableKind.{TableKind}
-use Rattle.rc_states.specs.declared.kind.TableKind.TheVariants.{LeftmostFirst as leftmost_first}
+use Rattle.rc_states.specs.declared.kind.TableKind.TheVariants.{All as all_matches, LeftmostFirst as leftmost_first, LeftmostLongest as leftmost_longest}
 use Rattle.rc_pattern.specs.Re.{Re}
-use Rattle.rc_program.specs.Program.{program}
-use Rattle.rc_program.specs.Answer.{Search, HasNoWalkFrom, answer}
-use Rattle.rc_states.specs.TableKinds.{IsAnswerBy}
+use Rattle.rc_program.specs.Answer.{Search, HasNoWalkFrom}
+use Rattle.rc_states.specs.TableKinds.{answer_by, IsAnswerBy}
 use Rattle.rc_program.specs.Sought.{text_of}
 use Rattle.rc_bytes.specs.Laws.{by_bytes}
-use Rattle.rc_states.specs.Laws.{IsRaised, may_end_at}
+use Rattle.rc_states.specs.Laws.{may_end_at}
 use Rattle.rc_automaton.specs.Machine.{Machine}
 use Rattle.rc_automaton.specs.Runs.{idle_at, SearchEnds}
 use Rattle.rc_automaton.specs.declared.ended.Met.{Met}
 use Rattle.rc_spans.specs.declared.search.Aim.{Aim}
 use Rattle.rc_spans.specs.declared.guarded.Leg.{Leg}
 use Rattle.rc_spans.specs.declared.guarded.Leg.TheVariants.{Ended, Rested}
+use Rattle.rc_spans.specs.Leftmost.{IsLeftmost, IsRaisedBy}
 use Rattle.rc_spans.specs.Machines.{IsCase}
 use Rattle.rc_spans.specs.Aims.{AreHalvesOf, is_early, search_for, cost}
 use Rattle.rc_spans.specs.Ends.{Asks, HasMet, HasMetDown, cost_forwards}
@@ -29,7 +29,7 @@ use Rattle.rc_spans.specs.Halves.{IsForwardHalf}
 use Rattle.rc_spans.specs.Rests.{GivesToo, StartsGive}
 use Rattle.rc_spans.specs.Legs.{ComesOn, GoesByNeedles, HasRun, IsGiven}
 use Rattle.rc_spans.proofs.RestLemmas.{rest_law, given_law}
-use Rattle.rc_spans.proofs.FirstLemmas.{first_law}
+use Rattle.rc_spans.proofs.LeftmostLemmas.{leftmost_law}
 use Rattle.rc_spans.proofs.SeekLemmas.{void_answer}
 use Rattle.rc_spans.proofs.ToldLemmas.{kept_search, kept_high, kept_low}
 use Rattle.rc_spans.proofs.CostLemmas.{cost_of_forwards, cost_of_both}
@@ -107,18 +107,18 @@ module _ (AreOf : Machine → Machine → Type 0) (aim : Aim) (hs : List Re) (te
   abbrev S : Search
   S = search_for aim hs terminator s
 
-  case : IsCase hs leftmost_first of.ahead of.back No S
-  case = subst (λ k. IsCase hs k of.ahead of.back No S) goes.kind (free_case AreOf aim hs terminator s of (omega (arith, ordered, is_lo, is_hi)) goes.free)
+  case : IsCase hs aim.kind of.ahead of.back No S
+  case = free_case AreOf aim hs terminator s of (omega (arith, ordered, is_lo, is_hi)) goes.free
 
   -- what the starts from here on give, all give
   abbrev Carried : ℕ → Type 0
-  Carried at = GivesToo of.ahead S at lo
+  Carried at = GivesToo aim.kind of.ahead S at lo
 
   pub all_carried : Carried lo
   all_carried r g = g
 
-  at_low : (r : Option (ℕ × ℕ)) → StartsGive of.ahead S lo r → StartsGive of.ahead S (low s) r
-  at_low r g = subst (λ x. StartsGive of.ahead S x r) is_lo g
+  at_low : (r : Option (ℕ × ℕ)) → StartsGive aim.kind of.ahead S lo r → StartsGive aim.kind of.ahead S (low s) r
+  at_low r g = subst (λ x. StartsGive aim.kind of.ahead S x r) is_lo g
 
   module _ (cur : Searched) (keeps : Keeps s cur) where
     here : (x : ℕ) → HasNoWalkFrom (search_for aim hs terminator cur) x → HasNoWalkFrom S x
@@ -126,16 +126,16 @@ module _ (AreOf : Machine → Machine → Type 0) (aim : Aim) (hs : List Re) (te
 
     -- no walk begins from here on
     pub none_left : (at : ℕ) → at ≤ hi → Carried at → ((x : ℕ) → at ≤ x → x ≤ hi → HasNoWalkFrom (search_for aim hs terminator cur) x) →
-        IsGiven of.ahead S None
+        IsGiven aim.kind of.ahead S None
     none_left at le carried none =
-        at_low None (carried None (rest_law.nowhere hs of.ahead of.back S at case (omega (arith, le, is_hi))
+        at_low None (carried None (rest_law.nowhere hs aim.kind of.ahead of.back S at goes.kind case (omega (arith, le, is_hi))
         (λ z a b. here z (none z a (omega (arith, b, is_hi))))))
 
     -- or none before a later position
     pub jumped : (at from : ℕ) → Carried at → at ≤ from → from ≤ hi → ((x : ℕ) → at ≤ x → x < from → HasNoWalkFrom (search_for aim hs terminator cur) x) →
         Carried from
     jumped at from carried on le none o g =
-        carried o (rest_law.jumps hs of.ahead of.back S at from case on (omega (arith, le, is_hi)) (λ z a b. here z (none z a b)) o g)
+        carried o (rest_law.jumps hs aim.kind of.ahead of.back S at from goes.kind case on (omega (arith, le, is_hi)) (λ z a b. here z (none z a b)) o g)
 
   module _ (cur : Searched) (keeps : Keeps s cur) (from : ℕ) (above : lo ≤ from) where
     same_run : (leg : Leg) → HasRun of.ahead (text_of terminator cur) (high cur) from leg → HasRun of.ahead S.text S.hi from leg
@@ -152,7 +152,7 @@ module _ (AreOf : Machine → Machine → Type 0) (aim : Aim) (hs : List Re) (te
     -- what is met is a pattern of those sought
     numbered : from ≤ hi → (met : Option Met) → HasMet of.ahead S.text S.hi from No false met → IsNumbered hs met
     numbered below met h =
-        numbered_met hs leftmost_first of.ahead of.back No S from false met case (omega (arith, above, is_lo)) (omega (arith, below, is_hi)) h
+        numbered_met hs aim.kind of.ahead of.back No S from false met case (omega (arith, above, is_lo)) (omega (arith, below, is_hi)) h
 
     pub leg_numbered : from ≤ hi → (leg : Leg) (met : Option Met) → HasRun of.ahead (text_of terminator cur) (high cur) from leg → leg ≡ Ended met → IsNumbered hs met
     leg_numbered below leg met h is = numbered below met (subst (λ l. HasRun of.ahead S.text S.hi from l) is (same_run leg h))
@@ -166,45 +166,45 @@ module _ (AreOf : Machine → Machine → Type 0) (aim : Aim) (hs : List Re) (te
       pub run_rested : (leg : Leg) (i : ℕ) → HasRun of.ahead (text_of terminator cur) (high cur) from leg → leg ≡ Rested i → Carried i
       run_rested leg i h is o g =
           let run : SearchEnds of.ahead S.text S.hi from No false (idle_at i) = subst (λ l. HasRun of.ahead S.text S.hi from l) is (same_run leg h) in
-          carried o ((rest_law.rests hs of.ahead of.back S from i false case (omega (arith, above, is_lo)) run).2 o g)
+          carried o ((rest_law.rests hs aim.kind of.ahead of.back S from i false goes.kind case (omega (arith, above, is_lo)) run).2 o g)
 
-      given : (met : Option Met) → HasMet of.ahead S.text S.hi from No false met → IsGiven of.ahead S met
-      given None h = at_low None (carried None (rest_law.met hs of.ahead of.back S from None case (omega (arith, above, is_lo)) h))
+      given : (met : Option Met) → HasMet of.ahead S.text S.hi from No false met → IsGiven aim.kind of.ahead S met
+      given None h = at_low None (carried None (rest_law.met hs aim.kind of.ahead of.back S from None goes.kind case (omega (arith, above, is_lo)) h))
       given (Some met) h =
-          (h.0, h.1, at_low (Some (h.0, met.at)) (carried (Some (h.0, met.at)) (rest_law.met hs of.ahead of.back S from (Some (h.0, met.at)) case (omega (arith, above, is_lo)) h.2)))
+          (h.0, h.1, at_low (Some (h.0, met.at)) (carried (Some (h.0, met.at)) (rest_law.met hs aim.kind of.ahead of.back S from (Some (h.0, met.at)) goes.kind case (omega (arith, above, is_lo)) h.2)))
 
-      pub run_ended : (leg : Leg) (met : Option Met) → HasRun of.ahead (text_of terminator cur) (high cur) from leg → leg ≡ Ended met → IsGiven of.ahead S met
+      pub run_ended : (leg : Leg) (met : Option Met) → HasRun of.ahead (text_of terminator cur) (high cur) from leg → leg ≡ Ended met → IsGiven aim.kind of.ahead S met
       run_ended leg met h is = given met (subst (λ l. HasRun of.ahead S.text S.hi from l) is (same_run leg h))
 
       -- a run that doesn't rest
       pub run_met : (r : Result (Option Met) MatchError) → IfOk r (HasMet of.ahead (text_of terminator cur) (high cur) from cur.anchored (is_early aim)) →
-          IfOk r (IsGiven of.ahead S)
+          IfOk r (IsGiven aim.kind of.ahead S)
       run_met (Err e) h = tt
       run_met (Ok met) h = given met (same_met met h)
 
   -- THE MATCH
 
-  begins : IsRaised (by_bytes S) (low s)
-  begins = first_law.begins hs of.ahead of.back No S case
+  begins : IsRaisedBy aim.kind (by_bytes S) (low s)
+  begins = leftmost_law.begins hs aim.kind of.ahead of.back No S case
 
   -- a search without a position
-  pub none_given : IsGiven of.ahead S None → None ≡ answer S
-  none_given given = sym (given_law.none hs of.ahead of.back S (low s) case begins given)
+  pub none_given : IsGiven aim.kind of.ahead S None → None ≡ answer_by aim.kind S
+  none_given given = sym (given_law.none hs aim.kind of.ahead of.back S (low s) goes.kind case begins given)
 
   may : (at : ℕ) → may_end_at S at ≡ true
   may at = ap (λ b. not b || is_boundary s.content at) goes.all
 
-  module _ (met : Met) (given : IsGiven of.ahead S (Some met)) (end : ℕ) (is_end : end ≡ min (max met.at lo) hi) where
+  module _ (met : Met) (given : IsGiven aim.kind of.ahead S (Some met)) (end : ℕ) (is_end : end ≡ min (max met.at lo) hi) where
     same_end : end ≡ met.at
     same_end =
-        let r = given_law.ends hs of.ahead of.back S (low s) given.0 met.at case begins given.2 (may met.at) in
+        let r = given_law.ends hs aim.kind of.ahead of.back S (low s) given.0 met.at goes.kind case begins given.2 (may met.at) in
         let a = r.1 in let b = r.2 in let d = r.3 in
         is_end ∙ within_both met.at lo hi (omega (arith, a, b, is_lo)) (omega (arith, d, is_hi))
 
     pub end_so : (pattern : ℕ) → pattern ≡ met.pattern →
-        (let h : HalfFound = record { pattern = pattern; offset = end } in Some h) ≡ option_map half_of (answer S)
+        (let h : HalfFound = record { pattern = pattern; offset = end } in Some h) ≡ option_map half_of (answer_by aim.kind S)
     end_so pattern is_pattern =
-        let r = given_law.ends hs of.ahead of.back S (low s) given.0 met.at case begins given.2 (may met.at) in
+        let r = given_law.ends hs aim.kind of.ahead of.back S (low s) given.0 met.at goes.kind case begins given.2 (may met.at) in
         ap₂ (λ (p e : ℕ). let h : HalfFound = record { pattern = p; offset = e } in Some h) (is_pattern ∙ sym given.1) same_end
         ∙ ap (option_map half_of) (sym r.4)
 
@@ -220,13 +220,13 @@ module _ (AreOf : Machine → Machine → Type 0) (aim : Aim) (hs : List Re) (te
           (subst (λ (q : Search). HasMetDown of.back q.text lo end cur.anchored (is_early aim) o) (kept_search aim hs terminator s cur keeps) h))))
 
       pub some_backwards : HasMetDown of.back (text_of terminator cur) lo end cur.anchored (is_early aim) None → ⊥
-      some_backwards h = given_law.some_start hs of.ahead of.back S (low s) given.0 met.at case begins given.2 (may met.at) (down None h)
+      some_backwards h = given_law.some_start hs aim.kind of.ahead of.back S (low s) given.0 met.at goes.kind case begins given.2 (may met.at) (down None h)
 
       pub found_so : (first : Met) → HasMetDown of.back (text_of terminator cur) lo end cur.anchored (is_early aim) (Some first) →
           (pattern start : ℕ) → pattern ≡ met.pattern → start ≡ min (max first.at lo) end →
-          (let f : Found = record { pattern = pattern; start = start; end = end } in Some f) ≡ answer S
+          (let f : Found = record { pattern = pattern; start = start; end = end } in Some f) ≡ answer_by aim.kind S
       found_so first h pattern start is_pattern is_start =
-          let r = given_law.starts hs of.ahead of.back S (low s) given.0 met.at first.at first.pattern case begins given.2 (may met.at) (down (Some first) h) in
+          let r = given_law.starts hs aim.kind of.ahead of.back S (low s) given.0 met.at first.at first.pattern goes.kind case begins given.2 (may met.at) (down (Some first) h) in
           let a = r.0 in let b = r.1 in
           let begin : start ≡ first.at = is_start ∙ within_both first.at lo end (omega (arith, a, is_lo)) (omega (arith, b, same_end)) in
           sym (r.3 ∙ ap₂ (λ (p : ℕ) (x : ℕ × ℕ). let f : Found = record { pattern = p; start = x.0; end = x.1 } in Some f) (given.1 ∙ sym is_pattern)
@@ -234,32 +234,26 @@ module _ (AreOf : Machine → Machine → Type 0) (aim : Aim) (hs : List Re) (te
 
 -- a search that has no position
 pub none_void : (AreOf : Machine → Machine → Type 0) (aim : Aim) (hs : List Re) (terminator : ℕ) (of : AreHalvesOf AreOf aim hs terminator) (s : Searched) →
-    (high s < low s) ⊎ (¬ Asks aim.patterns s.anchored) → None ≡ answer (search_for aim hs terminator s)
+    (high s < low s) ⊎ (¬ Asks aim.patterns s.anchored) → None ≡ answer_by aim.kind (search_for aim hs terminator s)
 none_void AreOf aim hs terminator of s void =
-    void_answer hs aim.patterns leftmost_first false s.anchored (search_for aim hs terminator s) refl refl of.counted void
+    void_answer hs aim.patterns aim.kind false s.anchored (search_for aim hs terminator s) refl refl of.counted void
 
 -- for this kind of match
-answer_so : (kind : TableKind) (earliest : Bool) (s : Search) (o : Option Found) → kind ≡ leftmost_first → earliest ≡ false → o ≡ answer s → IsAnswerBy kind earliest s o
-answer_so kind earliest s o is late h =
-    subst (λ k. IsAnswerBy k earliest s o) (sym is) (subst (λ e. IsAnswerBy leftmost_first e s o) (sym late) h)
-
-pub is_answer : (aim : Aim) (anchored : Anchored) (s : Search) (r : Result (Option Found) MatchError) → GoesByNeedles aim anchored → IfOk r (λ o. o ≡ answer s) →
-    IfOk r (IsAnswerBy aim.kind aim.earliest s)
-is_answer aim anchored s (Ok o) goes h = answer_so aim.kind aim.earliest s o goes.kind goes.late h
+pub is_answer : (aim : Aim) (anchored : Anchored) (s : Search) (r : Result (Option Found) MatchError) → GoesByNeedles aim anchored →
+    IfOk r (λ o. o ≡ answer_by aim.kind s) → IfOk r (IsAnswerBy aim.kind aim.earliest s)
+is_answer aim anchored s (Ok o) goes h = subst (λ e. IsAnswerBy aim.kind e s o) (sym goes.late) h
 is_answer aim anchored s (Err e) goes h = tt
 
--- the end of the preferred match
-half_so : (kind : TableKind) (earliest : Bool) (s : Search) (o : Option HalfFound) → kind ≡ leftmost_first → earliest ≡ false → o ≡ option_map half_of (answer s) →
-    IsForwardHalf kind earliest s o
-half_so kind earliest s o is late h =
-    subst (λ k. IsForwardHalf k earliest s o) (sym is)
-    (subst (λ e. IsForwardHalf leftmost_first e s o) (sym late) (subst (λ x. IsForwardHalf leftmost_first false s x) (sym h) (half_is (answer s) refl)))
-  where
-    half_is : (a : Option Found) → a ≡ answer s → IsForwardHalf leftmost_first false s (option_map half_of a)
-    half_is None e = e
-    half_is (Some m) e = (m, e, refl, refl)
+-- its end
+half_is : (kind : TableKind) → IsLeftmost kind → (s : Search) (a : Option Found) → a ≡ answer_by kind s → IsForwardHalf kind false s (option_map half_of a)
+half_is kind left s None e = e
+half_is all_matches left s (Some m) e = absurd left
+half_is leftmost_first left s (Some m) e = (m, e, refl, refl)
+half_is leftmost_longest left s (Some m) e = (m, e, refl, refl)
 
 pub is_half : (aim : Aim) (anchored : Anchored) (s : Search) (r : Result (Option HalfFound) MatchError) → GoesByNeedles aim anchored →
-    IfOk r (λ o. o ≡ option_map half_of (answer s)) → IfOk r (IsForwardHalf aim.kind aim.earliest s)
-is_half aim anchored s (Ok o) goes h = half_so aim.kind aim.earliest s o goes.kind goes.late h
+    IfOk r (λ o. o ≡ option_map half_of (answer_by aim.kind s)) → IfOk r (IsForwardHalf aim.kind aim.earliest s)
+is_half aim anchored s (Ok o) goes h =
+    subst (λ e. IsForwardHalf aim.kind e s o) (sym goes.late)
+    (subst (λ x. IsForwardHalf aim.kind false s x) (sym h) (half_is aim.kind goes.kind s (answer_by aim.kind s) refl))
 is_half aim anchored s (Err e) goes h = tt

@@ -4,7 +4,7 @@ use Rattle.rc_text.specs.Found.{Found, HalfFound}
 use Rattle.rc_text.specs.Text.{high, low}
 use Rattle.rc_text.specs.declared.types.Anchored.{Anchored}
 use Rattle.rc_states.specs.declared.kind.TableKind.{TableKind}
-use Rattle.rc_states.specs.declared.kind.TableKind.TheVariants.{All as all_matches, LeftmostFirst as leftmost_first}
+use Rattle.rc_states.specs.declared.kind.TableKind.TheVariants.{All as all_matches, LeftmostFirst as leftmost_first, LeftmostLongest as leftmost_longest}
 use Rattle.rc_pattern.specs.Re.{Re}
 use Rattle.rc_pattern.specs.WellFormed.{group_count}
 use Rattle.rc_program.specs.Program.{accept, choice_of_patterns, place_at, program}
@@ -15,6 +15,7 @@ use Rattle.rc_program.specs.Laws.{heaviness}
 use Rattle.rc_program.proofs.AnswerLemmas.{answer_pattern}
 use Rattle.rc_program.proofs.GreatestLemmas.{greatest_some}
 use Rattle.rc_program.proofs.PlaceLemmas.{accept_below, length-program}
+use Rattle.rc_program.proofs.ReachLemmas.{longest_law}
 use Rattle.rc_program.proofs.WeightLemmas.{length-le-heaviness}
 use Rattle.rc_states.specs.Spans.{IsSpelled}
 use Rattle.rc_automaton.specs.Machine.{Machine}
@@ -54,6 +55,7 @@ pub answer_below : (hs : List Re) (early : Bool) (kind : TableKind) (s : Search)
     m.pattern < length hs
 answer_below hs true kind s m places h = spelled_in_below hs s m places h
 answer_below hs false leftmost_first s m places h = answer_pattern hs s m places (sym h)
+answer_below hs false leftmost_longest s m places h = spelled_in_below hs s m places (longest_law.spelled s m (sym h))
 answer_below hs false all_matches s m places h = spelled_in_below hs s m places (let g = (greatest_some s m).0 (sym h) in g.is_spelled)
 
 pub start_below : (hs : List Re) (early : Bool) (s : Search) (h : HalfFound) → s.places ≡ program hs → IsStartWhere early s h → h.pattern < length hs

@@ -1,9 +1,10 @@
 -- Runs that rest, and what the starts give from where they are taken up anew.
-use Rattle.std.proofs.Common.{◌≡◌, ℕ, zero, suc, ◌+◌, ◌-◌, ◌*◌, ◌<◌, ◌≤◌, Bool, true, false, true≢false, ◌&&◌, List, [], ◌∷◌, ◌++◌, length, Option, Some, None, inl, sym, subst, ap, refl, arith, IsTrue}
+use Rattle.std.proofs.Common.{◌≡◌, ℕ, zero, suc, ◌+◌, ◌-◌, ◌*◌, ◌<◌, ◌≤◌, Bool, true, false, true≢false, ◌&&◌, List, [], ◌∷◌, ◌++◌, length, Option, Some, None, inl, inr, sym, subst, ap, refl, arith, IsTrue}
 use Rattle.std.specs.Option.{option_map, option_or}
 use Rattle.std.proofs.lemmas.Bool.{eqb-true}
 use Rattle.std.proofs.lemmas.Option.{none-some}
-use Rattle.rc_states.specs.declared.kind.TableKind.TheVariants.{LeftmostFirst as leftmost_first}
+use Rattle.rc_states.specs.declared.kind.TableKind.{TableKind}
+use Rattle.rc_states.specs.declared.kind.TableKind.TheVariants.{All as all_matches, LeftmostFirst as leftmost_first, LeftmostLongest as leftmost_longest}
 use Rattle.rc_text.specs.declared.types.Anchored.{Anchored}
 use Rattle.rc_text.specs.declared.types.Anchored.TheVariants.{No}
 use Rattle.rc_pattern.specs.Re.{Re}
@@ -24,16 +25,19 @@ use Rattle.rc_bytes.proofs.AnswerLemmas.{same_from}
 use Rattle.rc_states.specs.Gives.{Gives, starts}
 use Rattle.rc_states.specs.States.{Setting, IsSetting, State, IsInside, IsUnderWay, Stops, all_starts, later_starts}
 use Rattle.rc_states.specs.Steps.{at}
-use Rattle.rc_states.specs.Laws.{IsRaised}
+use Rattle.rc_states.specs.LongestLaws.{IsRacing, GivesLongest}
 use Rattle.rc_states.proofs.LawLemmas.{forward_law}
-use Rattle.rc_automaton.specs.Machine.{Machine, forwards, is_root_alone}
+use Rattle.rc_states.proofs.LongestStepLemmas.{longest_forward_law}
+use Rattle.rc_automaton.specs.Machine.{Machine, IsMachine, forwards, is_root_alone}
 use Rattle.rc_automaton.specs.Runs.{RunEnd, met_last, stopped_at, idle_at, Runs, begun, goes_on, EndsSo, at_bound, dead, early, quit, rests, SearchEnds, ran, unread}
-use Rattle.rc_automaton.proofs.RunLemmas.{run_law}
+use Rattle.rc_automaton.proofs.LongestRunLemmas as longest
+use Rattle.rc_spans.specs.Leftmost.{IsLeftmost, GivesBy}
 use Rattle.rc_spans.specs.Machines.{IsCase}
 use Rattle.rc_spans.specs.Rests.{StartsGive, HasNoWalkBetween, GivesToo, RestLaw, GivenLaw}
 use Rattle.rc_spans.proofs.CaseLemmas.{ahead_machine, ahead_direction, ahead_places, ahead_terminator, case_closed, only_is, starts_are}
-use Rattle.rc_spans.proofs.FirstLemmas as first
 use Rattle.rc_spans.proofs.FirstLemmas.{inside_from}
+use Rattle.rc_spans.proofs.LeftmostLemmas as leftmost
+use Rattle.rc_spans.proofs.LeftmostLemmas.{run_gives}
 
 -- HOW RUNS REST
 
@@ -141,44 +145,81 @@ rests_run g entries ok t same hi from inside earliest e i (ran first may begins 
     earliest e i so is
 rests_run g entries ok t same hi from inside earliest e i (unread p q may) is = absurd (true≢false (ap has_stopped is))
 
+-- and for the longest
+module _ (g : Setting) (entries : List ℕ) (k : IsMachine (record { setting = g; entries = entries; direction = forwards leftmost_longest })) (t : Text)
+    (same : g.terminator ≡ t.terminator) (hi from : ℕ) (inside : IsInside t from hi) where
+  abbrev longest_by : Machine
+  longest_by = record { setting = g; entries = entries; direction = forwards leftmost_longest }
+
+  longest_carry : (first : State) → IsRacing g t hi 0 (all_starts false 0 from hi) from first None → (earliest : Bool) (e : RunEnd) (i : ℕ) →
+      EndsSo longest_by t hi from first earliest e → e ≡ idle_at i → (r : Option Pair) →
+      GivesLongest (ways g.places t hi) (Stops g.places) (all_starts false 0 i hi) r →
+      GivesLongest (ways g.places t hi) (Stops g.places) (all_starts false 0 from hi) r
+  longest_carry first u earliest e i (at_bound s next runs may step) is = absurd (true≢false (ap has_met is))
+  longest_carry first u earliest e i (dead j s runs d) is = absurd (true≢false (ap has_met is))
+  longest_carry first u earliest e i (early j s t2 runs) is = absurd (true≢false (ap has_met is))
+  longest_carry first u earliest e i (quit j s runs le may) is = absurd (true≢false (ap has_stopped is))
+  longest_carry first u earliest e i (rests j s runs le idle) is = λ r gives.
+      let h = longest.runs_on g entries k.setting k.closed t same hi from 0 k.rooted inside (all_starts false 0 from hi) first u (inl refl) runs in
+      let idles = both (is_root_alone s.list) s.goes_on idle in
+      longest_forward_law.rests g t hi 0 (all_starts false 0 from hi) j s k.setting same h.1 (root_alone s.list idles.0) idles.1 r
+      (subst (λ x. GivesLongest (ways g.places t hi) (Stops g.places) (all_starts false 0 x hi) r) (sym (same_rest is)) gives)
+
+  rests_longest : (earliest : Bool) (e : RunEnd) (i : ℕ) → SearchEnds longest_by t hi from No earliest e → e ≡ idle_at i → (r : Option Pair) →
+      GivesLongest (ways g.places t hi) (Stops g.places) (all_starts false 0 i hi) r →
+      GivesLongest (ways g.places t hi) (Stops g.places) (all_starts false 0 from hi) r
+  rests_longest earliest e i (ran first may begins so) is =
+      longest_carry first (longest_forward_law.begins g t hi 0 from false first k.setting k.rooted same may begins) earliest e i so is
+  rests_longest earliest e i (unread p q may) is = absurd (true≢false (ap has_stopped is))
+
 -- STARTS WITHOUT A WALK
 
 module _ (W : Pair → List Pair) (E : Pair → Type 0) where
-  drop_start : (n : Pair) (f : List Pair) (r : Option Pair) → HasNoWalk W E [] (n ∷ []) → Gives W E [] f r → Gives W E [] (n ∷ f) r
-  drop_start n f None none g = λ v walk. g v (drop_way W E n none walk)
-  drop_start n f (Some e) none g = (g.0, first_after W E n none g.1, g.2)
-
-  drop_starts : (x count more : ℕ) (r : Option Pair) → ((z : ℕ) → x ≤ z → z < x + count → HasNoWalk W E [] ((0, z) ∷ [])) →
-      Gives W E [] (starts 0 (x + count) more) r → Gives W E [] (starts 0 x (count + more)) r
-  drop_starts x zero more r none g =
-      let a : x + 0 ≡ x = omega arith in let b : 0 + more ≡ more = omega arith in
-      subst (λ k. Gives W E [] (starts 0 x k) r) (sym b) (subst (λ y. Gives W E [] (starts 0 y more) r) a g)
-  drop_starts x (suc count) more r none g =
-      let a : x + suc count ≡ x + 1 + count = omega arith in let b : suc count + more ≡ suc (count + more) = omega arith in
-      subst (λ k. Gives W E [] (starts 0 x k) r) (sym b)
-      (drop_start (0, x) (starts 0 (x + 1) (count + more)) r (none x (omega arith) (omega arith))
-      (drop_starts (x + 1) count more r (λ z low lt. none z (omega (arith, low)) (omega (arith, lt)))
-      (subst (λ y. Gives W E [] (starts 0 y more) r) a g)))
-
-  -- all starts from i on, where those before x have no walk
-  pub jumps_over : (i x hi : ℕ) (r : Option Pair) → i ≤ x → x ≤ hi → ((z : ℕ) → i ≤ z → z < x → HasNoWalk W E [] ((0, z) ∷ [])) →
-      Gives W E [] (all_starts false 0 x hi) r → Gives W E [] (all_starts false 0 i hi) r
-  jumps_over i x hi r low high none g =
-      let at : i + (x - i) ≡ x = omega (arith, low) in
-      let count : (x - i) + suc (hi - x) ≡ suc (hi - i) = omega (arith, low, high) in
-      subst (λ k. Gives W E [] (starts 0 i k) r) count
-      (drop_starts i (x - i) (suc (hi - x)) r (λ z a b. none z a (omega (arith, b, low)))
-      (subst (λ y. Gives W E [] (starts 0 y (suc (hi - x))) r) (sym at) g))
+  drop_start : (kind : TableKind) → IsLeftmost kind → (n : Pair) (f : List Pair) (r : Option Pair) → HasNoWalk W E [] (n ∷ []) → GivesBy kind W E f r →
+      GivesBy kind W E (n ∷ f) r
+  drop_start all_matches left n f r none g = absurd left
+  drop_start leftmost_first left n f None none g = λ v walk. g v (drop_way W E n none walk)
+  drop_start leftmost_first left n f (Some e) none g = (g.0, first_after W E n none g.1, g.2)
+  drop_start leftmost_longest left n f None none g = λ v walk. g v (drop_way W E n none walk)
+  drop_start leftmost_longest left n f (Some e) none g = inr (none, g)
 
   no_starts : {v : List Pair} → ¬ IsWalk W E [] [] v
   no_starts (stops k here fresh ends) = here
   no_starts (goes k here fresh more) = here
 
-  pub jumps_out : (i hi : ℕ) → i ≤ hi → ((z : ℕ) → i ≤ z → z < hi + 1 → HasNoWalk W E [] ((0, z) ∷ [])) → Gives W E [] (all_starts false 0 i hi) None
+  none_given : (kind : TableKind) → IsLeftmost kind → GivesBy kind W E [] None
+  none_given all_matches left = absurd left
+  none_given leftmost_first left = λ v walk. no_starts walk
+  none_given leftmost_longest left = λ v walk. no_starts walk
+
+module _ (kind : TableKind) (left : IsLeftmost kind) (W : Pair → List Pair) (E : Pair → Type 0) where
+  drop_starts : (x count more : ℕ) (r : Option Pair) → ((z : ℕ) → x ≤ z → z < x + count → HasNoWalk W E [] ((0, z) ∷ [])) →
+      GivesBy kind W E (starts 0 (x + count) more) r → GivesBy kind W E (starts 0 x (count + more)) r
+  drop_starts x zero more r none g =
+      let a : x + 0 ≡ x = omega arith in let b : 0 + more ≡ more = omega arith in
+      subst (λ k. GivesBy kind W E (starts 0 x k) r) (sym b) (subst (λ y. GivesBy kind W E (starts 0 y more) r) a g)
+  drop_starts x (suc count) more r none g =
+      let a : x + suc count ≡ x + 1 + count = omega arith in let b : suc count + more ≡ suc (count + more) = omega arith in
+      subst (λ k. GivesBy kind W E (starts 0 x k) r) (sym b)
+      (drop_start W E kind left (0, x) (starts 0 (x + 1) (count + more)) r (none x (omega arith) (omega arith))
+      (drop_starts (x + 1) count more r (λ z low lt. none z (omega (arith, low)) (omega (arith, lt)))
+      (subst (λ y. GivesBy kind W E (starts 0 y more) r) a g)))
+
+  -- all starts from i on, where those before x have no walk
+  pub jumps_over : (i x hi : ℕ) (r : Option Pair) → i ≤ x → x ≤ hi → ((z : ℕ) → i ≤ z → z < x → HasNoWalk W E [] ((0, z) ∷ [])) →
+      GivesBy kind W E (all_starts false 0 x hi) r → GivesBy kind W E (all_starts false 0 i hi) r
+  jumps_over i x hi r low high none g =
+      let at : i + (x - i) ≡ x = omega (arith, low) in
+      let count : (x - i) + suc (hi - x) ≡ suc (hi - i) = omega (arith, low, high) in
+      subst (λ k. GivesBy kind W E (starts 0 i k) r) count
+      (drop_starts i (x - i) (suc (hi - x)) r (λ z a b. none z a (omega (arith, b, low)))
+      (subst (λ y. GivesBy kind W E (starts 0 y (suc (hi - x))) r) (sym at) g))
+
+  pub jumps_out : (i hi : ℕ) → i ≤ hi → ((z : ℕ) → i ≤ z → z < hi + 1 → HasNoWalk W E [] ((0, z) ∷ [])) → GivesBy kind W E (all_starts false 0 i hi) None
   jumps_out i hi low none =
       let count : suc (hi - i) + 0 ≡ suc (hi - i) = omega arith in
-      subst (λ k. Gives W E [] (starts 0 i k) None) count
-      (drop_starts i (suc (hi - i)) 0 None (λ z a b. none z a (omega (arith, b, low))) (λ v walk. no_starts walk))
+      subst (λ k. GivesBy kind W E (starts 0 i k) None) count
+      (drop_starts i (suc (hi - i)) 0 None (λ z a b. none z a (omega (arith, b, low))) (none_given W E kind left))
 
 -- OVER THE BYTE PROGRAM
 
@@ -204,26 +245,38 @@ no_walk_over s closed some x le none =
 -- LAWS
 
 -- in this direction
-turned : (m : Machine) (e : m.direction ≡ forwards leftmost_first) (P : Machine → Type 0) → P m → P (record m { direction = forwards leftmost_first })
-turned m e P h = subst (λ d. P (record m { direction = d })) e h
+turned : (m : Machine) (kind : TableKind) (e : m.direction ≡ forwards kind) (P : Machine → Type 0) → P m → P (record m { direction = forwards kind })
+turned m kind e P h = subst (λ d. P (record m { direction = d })) e h
 
-module _ (hs : List Re) (m n : Machine) (s : Search) (c : IsCase hs leftmost_first m n No s) where
+-- what the starts give from where a run rests
+rests_too : (kind : TableKind) → IsLeftmost kind → (m : Machine) → IsMachine m → m.direction ≡ forwards kind → (t : Text) → m.setting.terminator ≡ t.terminator →
+    (hi from : ℕ) → IsInside t from hi → (earliest : Bool) (i : ℕ) → SearchEnds m t hi from No earliest (idle_at i) → (r : Option Pair) →
+    GivesBy kind (ways m.setting.places t hi) (Stops m.setting.places) (all_starts false 0 i hi) r →
+    GivesBy kind (ways m.setting.places t hi) (Stops m.setting.places) (all_starts false 0 from hi) r
+rests_too all_matches left m k d t same hi from inside earliest i h r g = absurd left
+rests_too leftmost_first left m k d t same hi from inside earliest i h r g =
+    (rests_run m.setting m.entries k.setting t same hi from inside earliest (idle_at i) i
+    (turned m leftmost_first d (λ x. SearchEnds x t hi from No earliest (idle_at i)) h) refl).2 r g
+rests_too leftmost_longest left m k d t same hi from inside earliest i h r g =
+    rests_longest m.setting m.entries (turned m leftmost_longest d IsMachine k) t same hi from inside earliest (idle_at i) i
+    (turned m leftmost_longest d (λ x. SearchEnds x t hi from No earliest (idle_at i)) h) refl r g
+
+module _ (hs : List Re) (kind : TableKind) (left : IsLeftmost kind) (m n : Machine) (s : Search) (c : IsCase hs kind m n No s) where
   abbrev W : Pair → List Pair
   W = ways m.setting.places s.text s.hi
 
   abbrev E : Pair → Type 0
   E = Stops m.setting.places
 
-  met_so : (from : ℕ) (r : Option Pair) → s.lo ≤ from → SearchEnds m s.text s.hi from No false (met_last r) → StartsGive m s from r
+  met_so : (from : ℕ) (r : Option Pair) → s.lo ≤ from → SearchEnds m s.text s.hi from No false (met_last r) → StartsGive kind m s from r
   met_so from r low h =
-      run_law.first m s.text s.hi from No r (ahead_machine c) (ahead_direction c) (ahead_terminator c) (inside_from c.inside low) h
+      run_gives kind left m s.text s.hi from No r (ahead_machine c) (ahead_direction c) (ahead_terminator c) (inside_from c.inside low) h
 
   rests_so : (from i : ℕ) (earliest : Bool) → s.lo ≤ from → SearchEnds m s.text s.hi from No earliest (idle_at i) →
-      (from ≤ i) × (i ≤ s.hi) × GivesToo m s i from
+      (from ≤ i) × (i ≤ s.hi) × GivesToo kind m s i from
   rests_so from i earliest low h =
-      let k = ahead_machine c in
-      rests_run m.setting m.entries k.setting s.text (ahead_terminator c) s.hi from (inside_from c.inside low) earliest (idle_at i) i
-      (turned m (ahead_direction c) (λ x. SearchEnds x s.text s.hi from No earliest (idle_at i)) h) refl
+      let b = rests_between m s.text s.hi from No earliest (idle_at i) i h refl in
+      (b.0, b.1, λ r g. rests_too kind left m (ahead_machine c) (ahead_direction c) s.text (ahead_terminator c) s.hi from (inside_from c.inside low) earliest i h r g)
 
   none_here : (x : ℕ) → x ≤ s.hi → HasNoWalkFrom s x → HasNoWalk W E [] ((0, x) ∷ [])
   none_here x le none =
@@ -234,31 +287,35 @@ module _ (hs : List Re) (m n : Machine) (s : Search) (c : IsCase hs leftmost_fir
       (subst (λ o. HasNoWalk (ways (bytes_of s.places) s.text s.hi) (λ (p : Pair). IsTrue (is_match_place o (place_at (bytes_of s.places) p.0))) [] ((0, x) ∷ []))
       (only_is c) over)
 
-  jumps_so : (i x : ℕ) → i ≤ x → x ≤ s.hi → HasNoWalkBetween s i x → GivesToo m s x i
+  jumps_so : (i x : ℕ) → i ≤ x → x ≤ s.hi → HasNoWalkBetween s i x → GivesToo kind m s x i
   jumps_so i x low high none r g =
-      jumps_over W E i x s.hi r low high (λ z a b. none_here z (omega (arith, b, high)) (none z a b)) g
+      jumps_over kind left W E i x s.hi r low high (λ z a b. none_here z (omega (arith, b, high)) (none z a b)) g
 
-  nowhere_so : (i : ℕ) → i ≤ s.hi → HasNoWalkBetween s i (s.hi + 1) → StartsGive m s i None
-  nowhere_so i low none = jumps_out W E i s.hi low (λ z a b. none_here z (omega (arith, b)) (none z a b))
+  nowhere_so : (i : ℕ) → i ≤ s.hi → HasNoWalkBetween s i (s.hi + 1) → StartsGive kind m s i None
+  nowhere_so i low none = jumps_out kind left W E i s.hi low (λ z a b. none_here z (omega (arith, b)) (none z a b))
 
 pub rest_law : RestLaw
 rest_law = record {
-  met = λ hs m n s from r c low h. met_so hs m n s c from r low h;
-  rests = λ hs m n s from i earliest c low h. rests_so hs m n s c from i earliest low h;
-  jumps = λ hs m n s i x c low high none. jumps_so hs m n s c i x low high none;
-  nowhere = λ hs m n s i c low none. nowhere_so hs m n s c i low none;
+  met = λ hs kind m n s from r left c low h. met_so hs kind left m n s c from r low h;
+  rests = λ hs kind m n s from i earliest left c low h. rests_so hs kind left m n s c from i earliest low h;
+  jumps = λ hs kind m n s i x left c low high none. jumps_so hs kind left m n s c i x low high none;
+  nowhere = λ hs kind m n s i left c low none. nowhere_so hs kind left m n s c i low none;
 }
 
-module _ (hs : List Re) (m n : Machine) (s : Search) (from : ℕ) (c : IsCase hs leftmost_first m n No s) (raised : IsRaised (by_bytes s) from) where
-  given : (r : Option Pair) → StartsGive m s from r → first.Given hs m n No s from c raised refl r
-  given r g = subst (λ o. Gives (ways m.setting.places s.text s.hi) (Stops m.setting.places) [] o r) (starts_are c refl from s.hi) g
+module _ (hs : List Re) (kind : TableKind) (left : IsLeftmost kind) (m n : Machine) (s : Search) (from : ℕ) (c : IsCase hs kind m n No s) where
+  given : (r : Option Pair) → StartsGive kind m s from r → leftmost.Given hs m n No s from kind r
+  given r g = subst (λ o. GivesBy kind (ways m.setting.places s.text s.hi) (Stops m.setting.places) o r) (starts_are c refl from s.hi) g
 
 pub given_law : GivenLaw
 given_law = record {
-  ends = λ hs m n s from q e c raised g may. first.ends_free hs m n No s from c raised refl q e (given hs m n s from c raised (Some (q, e)) g) may;
-  starts = λ hs m n s from q e x k c raised g may d. first.starts_so hs m n s from q e c raised (given hs m n s from c raised (Some (q, e)) g) may x k d;
-  some_start = λ hs m n s from q e c raised g may d. first.some_start_so hs m n s from q e c raised (given hs m n s from c raised (Some (q, e)) g) may d;
-  raises = λ hs m n s from q e c raised g off.
-      let r = first.raises_free hs m n No s from c raised refl q e (given hs m n s from c raised (Some (q, e)) g) off in (λ lt. r.0 lt refl, λ le. r.1 (inl le));
-  none = λ hs m n s from c raised g. first.none_free hs m n No s from c raised refl (given hs m n s from c raised None g);
+  ends = λ hs kind m n s from q e left c raised g may.
+      leftmost.ends_free hs kind left m n No s from c raised refl q e (given hs kind left m n s from c (Some (q, e)) g) may;
+  starts = λ hs kind m n s from q e x k left c raised g may d.
+      leftmost.starts_so hs kind left m n s from q e c raised (given hs kind left m n s from c (Some (q, e)) g) may x k d;
+  some_start = λ hs kind m n s from q e left c raised g may d.
+      leftmost.some_start_so hs kind left m n s from q e c raised (given hs kind left m n s from c (Some (q, e)) g) may d;
+  raises = λ hs kind m n s from q e left c raised g off.
+      let r = leftmost.raises_free hs kind left m n No s from c raised refl q e (given hs kind left m n s from c (Some (q, e)) g) off in
+      (λ lt. r.0 lt refl, λ le. r.1 (inl le));
+  none = λ hs kind m n s from left c raised g. leftmost.none_free hs kind left m n No s from c raised refl (given hs kind left m n s from c None g);
 }

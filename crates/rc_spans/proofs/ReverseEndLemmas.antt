@@ -7,12 +7,18 @@ use Rattle.rc_walks.specs.Walks.{Pair, IsWalk, IsFirstWalk}
 use Rattle.rc_walks.specs.Tries.{walk_by}
 use Rattle.rc_walks.proofs.TryLemmas.{Finds, walk_by_finds}
 use Rattle.rc_program.specs.Program.{accept, place_at, ways, is_match_place, program}
-use Rattle.rc_program.specs.Answer.{Search, anywhere, only, next_of, ends, is_anchored, last_of, pattern_at, found, answer, Chosen, IsAnswer, IsStart, IsFirstFrom, HasNoWalkFrom}
+use Rattle.rc_program.specs.Answer.{Search, anywhere, only, next_of, ends, is_anchored, last_of, pattern_at, found, answer, Chosen, IsAnswer, IsStart, IsFirstFrom, IsPassed, HasNoWalkFrom}
+use Rattle.rc_program.specs.Longest.{IsLongestFrom, IsPassedOf, longest}
 use Rattle.rc_program.proofs.WayLemmas.{same_pair}
 use Rattle.rc_program.proofs.AnswerLemmas.{answer_law, is_bounded, last_pair, match_place_is, walk_ends}
 use Rattle.rc_program.proofs.GreatestLemmas.{no_span_no_answer}
+use Rattle.rc_program.proofs.ReachLemmas.{longest_law}
+use Rattle.rc_states.specs.declared.kind.TableKind.{TableKind}
+use Rattle.rc_states.specs.declared.kind.TableKind.TheVariants.{All as all_matches, LeftmostFirst as leftmost_first, LeftmostLongest as leftmost_longest}
+use Rattle.rc_states.specs.TableKinds.{answer_by}
 use Rattle.rc_states.specs.Spans.{IsSpelled}
 use Rattle.rc_spans.specs.Laws.{ReverseEndLaw}
+use Rattle.rc_spans.specs.Leftmost.{IsLeftmost}
 use Rattle.rc_spans.specs.Reverse.{EndsAtBound, HasNoStart, IsLeastStart, IsMatchToEnd, start_of}
 use Rattle.rc_spans.proofs.RootLemmas.{least_pattern}
 
@@ -108,5 +114,50 @@ module _ (hs : List Re) (s : Search) (is : s.places ≡ program hs) (free : s.an
   preferred (Some m) h =
       ap (λ (e : ℕ). let g : Found = record { pattern = m.pattern; start = m.start; end = e } in Some g) h.1 ∙ sym (from_least (start_of m) h.0.0 h.0.1)
 
+-- where each span ends at the upper bound, the preferred walk of a start is the longest
+module _ (s : Search) (last : EndsAtBound s) where
+  is_longest : (x : ℕ) (w : List Pair) → IsStart s x → IsFirstFrom s x w → IsLongestFrom s x w
+  is_longest x w start first = record {
+    is_walk = first.is_walk;
+    is_most = λ v walk. let a = end_of v walk in let b = end_of w first.is_walk in omega (arith, a, b);
+    is_least = λ v walk same. first.is_least v walk;
+  }
+    where
+      end_of : (v : List Pair) → IsWalk (next_of s) (λ n. IsTrue (ends s n)) [] ((0, x) ∷ []) v → (last_of v).1 ≡ s.hi
+      end_of v walk =
+          last (record { pattern = pattern_at (place_at s.places (last_of v).0); start = x; end = (last_of v).1 })
+          (record {
+            is_start = start;
+            walk = v;
+            is_walk = walk;
+            pattern = match_place_is (only s.anchoring) (place_at s.places (last_of v).0) (walk_ends (next_of s) (λ n. IsTrue (ends s n)) walk);
+            position = refl;
+          })
+
+  passed_too : (y : ℕ) → IsStart s y → IsPassed s y → IsPassedOf s (IsLongestFrom s) y
+  passed_too y start p = ⊎_elim (λ none. inl none) (λ r. inr (r.0, is_longest y r.0 start r.1, r.2)) p
+
+  same_answer : (o : Option Found) → answer s ≡ o → longest s ≡ o
+  same_answer None e = (longest_law.answer_none s).1 (λ y start. passed_too y start ((answer_law.answer_none s).0 e y start))
+  same_answer (Some m) e =
+      let r = (answer_law.answer_some s m).0 e in
+      let a = r.1 in
+      (longest_law.answer_some s m).1 (
+        r.0,
+        record {
+          is_start = a.is_start;
+          counts = is_longest r.0.start r.0.walk a.is_start a.is_first;
+          allowed = a.allowed;
+          none_before = λ y start lt. passed_too y start (a.none_before y start lt);
+        },
+        r.2,
+      )
+
+leftmost : (hs : List Re) (kind : TableKind) (s : Search) (o : Option Found) → IsLeftmost kind → s.places ≡ program hs → s.anchoring ≡ anywhere → EndsAtBound s →
+    IsMatchToEnd false s o → o ≡ answer_by kind s
+leftmost hs all_matches s o left is free last h = absurd left
+leftmost hs leftmost_first s o left is free last h = preferred hs s is free last o h
+leftmost hs leftmost_longest s o left is free last h = preferred hs s is free last o h ∙ sym (same_answer s last (answer s) refl)
+
 pub reverse_end_law : ReverseEndLaw
-reverse_end_law = record { preferred = λ hs s o is free last h. preferred hs s is free last o h }
+reverse_end_law = record { leftmost = leftmost }

@@ -5,7 +5,7 @@ use Rattle.rc_text.specs.Found.{Found}
 use Rattle.rc_text.specs.Text.{Searched, Keeps, high, is_boundary}
 use Rattle.rc_text.specs.Plain.{is_anchored as anchors}
 use Rattle.rc_states.specs.declared.kind.TableKind.{TableKind}
-use Rattle.rc_states.specs.declared.kind.TableKind.TheVariants.{All as all_matches, LeftmostFirst as leftmost_first}
+use Rattle.rc_states.specs.declared.kind.TableKind.TheVariants.{All as all_matches, LeftmostFirst as leftmost_first, LeftmostLongest as leftmost_longest}
 use Rattle.rc_text.specs.declared.types.Anchored.{Anchored}
 use Rattle.rc_text.specs.declared.types.Anchored.TheVariants.{No, Yes, Pattern}
 use Rattle.rc_pattern.specs.Re.{Re}
@@ -20,11 +20,13 @@ use Rattle.rc_program.proofs.PlaceLemmas.{accept_below}
 use Rattle.rc_program.proofs.AnswerLemmas.{answer_law, last_of_more, walk_ends, walk_within}
 use Rattle.rc_program.proofs.WayLemmas.{ways_onward}
 use Rattle.rc_program.proofs.GreatestLemmas.{spelled_within, greatest_none, no_span_no_answer}
+use Rattle.rc_states.specs.Laws.{may_end_at}
 use Rattle.rc_states.specs.Spans.{IsSpelled}
 use Rattle.rc_automaton.specs.Machine.{Machine}
 use Rattle.rc_automaton.specs.Runs.{met_last, SearchEnds}
 use Rattle.rc_automaton.specs.declared.ended.Met.{Met}
 use Rattle.rc_spans.specs.declared.search.End.{End}
+use Rattle.rc_spans.specs.Leftmost.{IsLeftmost}
 use Rattle.rc_spans.specs.Machines.{IsCase}
 use Rattle.rc_spans.specs.Laws.{met_from}
 use Rattle.rc_spans.specs.Reverse.{HasNoStart}
@@ -32,7 +34,8 @@ use Rattle.rc_spans.specs.declared.search.Aim.{Aim}
 use Rattle.rc_spans.specs.Aims.{AreHalvesOf, is_early, search_for}
 use Rattle.rc_spans.specs.Ends.{Asks, HasMet, Stands, IsEnd, may_end}
 use Rattle.rc_spans.proofs.ToldLemmas.{kept_text, kept_high}
-use Rattle.rc_spans.proofs.FirstLemmas.{first_law}
+use Rattle.rc_spans.proofs.LeftmostLemmas.{leftmost_law}
+use Rattle.rc_spans.proofs.LongestLemmas.{no_span_no_longest}
 use Rattle.rc_spans.proofs.MetLemmas.{met_law}
 
 -- WHERE NOTHING IS FOUND
@@ -44,6 +47,7 @@ no_answer kind false s e = sym e
 no_match : (kind : TableKind) (s : Search) → HasNoSpan s → answer_by kind s ≡ None
 no_match all_matches s none = (greatest_none s).1 none
 no_match leftmost_first s none = (answer_law.answer_none s).1 (no_span_no_answer s none)
+no_match leftmost_longest s none = no_span_no_longest s none
 
 walk_of : (s : Search) (m : Found) → IsSpelledIn s m → IsSpelled s m.pattern m.start m.end
 walk_of s m h = (h.walk, h.is_walk, h.pattern, h.position)
@@ -106,16 +110,12 @@ void_start hs patterns anchored s places anchoring counted void x p low h =
 
 -- FORWARDS
 
-case_as : (hs : List Re) (kind : TableKind) (m n : Machine) (anchored : Anchored) (s : Search) (to : TableKind) → IsCase hs kind m n anchored s → kind ≡ to →
-    IsCase hs to m n anchored s
-case_as hs kind m n anchored s to c e = subst (λ k. IsCase hs k m n anchored s) e c
-
 pub stands_first : (hs : List Re) (kind : TableKind) (early : Bool) (m n : Machine) (anchored : Anchored) (s : Search) → IsCase hs kind m n anchored s →
     Stands hs kind early m n anchored s s.lo
 stands_first hs kind early m n anchored s c = record {
   case = c;
   bounded = (omega arith, c.ordered);
-  raised = λ e. first_law.begins hs m n anchored s (case_as hs kind m n anchored s leftmost_first c e);
+  raised = leftmost_law.begins hs kind m n anchored s c;
   alone = λ _. refl;
 }
 
@@ -123,11 +123,17 @@ pub from_low : (m : Machine) (s : Search) (from : ℕ) (anchored : Anchored) (ea
     SearchEnds m s.text s.hi from anchored early (met_last o) → SearchEnds m s.text s.hi s.lo anchored early (met_last o)
 from_low m s from anchored early o e h = subst (λ x. SearchEnds m s.text s.hi x anchored early (met_last o)) e h
 
+none_early : (hs : List Re) (kind : TableKind) (m n : Machine) (anchored : Anchored) (s : Search) (from : ℕ) →
+    Stands hs kind true m n anchored s from → HasMet m s.text s.hi from anchored true None → IsAnswerWhere true kind s None
+none_early hs kind m n anchored s from st h =
+    no_match kind s (met_law.none hs kind m n anchored s true st.case (from_low m s from anchored true None (st.alone (inr refl)) h)).0
+
 pub none_met : (hs : List Re) (kind : TableKind) (early : Bool) (m n : Machine) (anchored : Anchored) (s : Search) (from : ℕ) →
     Stands hs kind early m n anchored s from → HasMet m s.text s.hi from anchored early None → IsAnswerWhere early kind s None
-none_met hs leftmost_first false m n anchored s from st h = sym (first_law.none hs m n anchored s from st.case (st.raised refl) h)
-none_met hs leftmost_first true m n anchored s from st h =
-    (met_law.none hs leftmost_first m n anchored s true st.case (from_low m s from anchored true None (st.alone (inr refl)) h)).1
+none_met hs leftmost_first false m n anchored s from st h = sym (leftmost_law.none hs leftmost_first m n anchored s from tt st.case st.raised h)
+none_met hs leftmost_longest false m n anchored s from st h = sym (leftmost_law.none hs leftmost_longest m n anchored s from tt st.case st.raised h)
+none_met hs leftmost_first true m n anchored s from st h = none_early hs leftmost_first m n anchored s from st h
+none_met hs leftmost_longest true m n anchored s from st h = none_early hs leftmost_longest m n anchored s from st h
 none_met hs all_matches early m n anchored s from st h =
     no_answer all_matches early s
     (met_law.none hs all_matches m n anchored s early st.case (from_low m s from anchored early None (st.alone (inl refl)) h)).2
@@ -140,13 +146,31 @@ end_met hs kind early m n anchored s from met st h ok = record {
   place = h.0;
   pattern = h.1;
   ends = h.2;
-  allowed = λ e. subst (λ k. may_end k s.passes_over s.text.content met.at ≡ true) e ok;
+  allowed = ok;
 }
 
-not_alone : (leftmost_first ≡ all_matches) ⊎ (false ≡ true) → ⊥
-not_alone = ⊎_elim (λ e. cc) (λ e. cc)
+not_alone : (kind : TableKind) → IsLeftmost kind → (kind ≡ all_matches) ⊎ (false ≡ true) → ⊥
+not_alone all_matches left e = absurd left
+not_alone leftmost_first left e = ⊎_elim (λ e. cc) (λ e. cc) e
+not_alone leftmost_longest left e = ⊎_elim (λ e. cc) (λ e. cc) e
 
 -- an end that is passed over
+raised_on : (hs : List Re) (kind : TableKind) → IsLeftmost kind → (m n : Machine) (anchored : Anchored) (s : Search) (from : ℕ) (met : Met) →
+    Stands hs kind false m n anchored s from → HasMet m s.text s.hi from anchored false (Some met) → may_end_at s met.at ≡ false →
+    (from < s.hi → anchors anchored ≡ false → Stands hs kind false m n anchored s (from + 1))
+    × ((anchors anchored ≡ true) ⊎ (s.hi ≤ from) → IsAnswerWhere false kind s None)
+raised_on hs kind left m n anchored s from met st h passed =
+    let r = leftmost_law.raises hs kind m n anchored s from h.0 met.at left st.case st.raised h.2 passed in
+    let b = st.bounded in (
+      (λ lt free. record {
+        case = st.case;
+        bounded = (let low = b.0 in omega (arith, low), omega (arith, lt));
+        raised = r.0 lt free;
+        alone = λ e. absurd (not_alone kind left e);
+      }),
+      ⊎_elim (λ is. sym (r.1 (inr is))) (λ le. sym (r.1 (inl le))),
+    )
+
 pub raised : (hs : List Re) (kind : TableKind) (early : Bool) (m n : Machine) (anchored : Anchored) (s : Search) (from : ℕ) (met : Met) →
     Stands hs kind early m n anchored s from → HasMet m s.text s.hi from anchored early (Some met) →
     may_end kind s.passes_over s.text.content met.at ≡ false → (early ≡ true → s.passes_over ≡ false) →
@@ -155,17 +179,10 @@ pub raised : (hs : List Re) (kind : TableKind) (early : Bool) (m n : Machine) (a
 raised hs all_matches early m n anchored s from met st h passed none = absurd (true≢false passed)
 raised hs leftmost_first true m n anchored s from met st h passed none =
     absurd (true≢false (sym (ap (λ over. not over || is_boundary s.text.content met.at) (none refl)) ∙ passed))
-raised hs leftmost_first false m n anchored s from met st h passed none =
-    let r = first_law.raises hs m n anchored s from h.0 met.at st.case (st.raised refl) h.2 passed in
-    let b = st.bounded in (
-      (λ lt free. record {
-        case = st.case;
-        bounded = (let low = b.0 in omega (arith, low), omega (arith, lt));
-        raised = λ _. r.0 lt free;
-        alone = λ e. absurd (not_alone e);
-      }),
-      ⊎_elim (λ is. sym (r.1 (inr is))) (λ le. sym (r.1 (inl le))),
-    )
+raised hs leftmost_longest true m n anchored s from met st h passed none =
+    absurd (true≢false (sym (ap (λ over. not over || is_boundary s.text.content met.at) (none refl)) ∙ passed))
+raised hs leftmost_first false m n anchored s from met st h passed none = raised_on hs leftmost_first tt m n anchored s from met st h passed
+raised hs leftmost_longest false m n anchored s from met st h passed none = raised_on hs leftmost_longest tt m n anchored s from met st h passed
 
 met_within : (hs : List Re) (kind : TableKind) (early : Bool) (m n : Machine) (anchored : Anchored) (s : Search) (end : End) →
     IsEnd hs kind early m n anchored s end → (kind ≡ all_matches) ⊎ (early ≡ true) → (end.from ≤ end.at) × (end.at ≤ s.hi)
@@ -181,8 +198,13 @@ pub end_within : (hs : List Re) (kind : TableKind) (early : Bool) (m n : Machine
     IsEnd hs kind early m n anchored s end → (end.from ≤ end.at) × (end.at ≤ s.hi)
 end_within hs leftmost_first false m n anchored s end h =
     let st = h.stands in
-    let e = first_law.ends hs m n anchored s end.from h.place end.at st.case (st.raised refl) h.ends (h.allowed refl) in
+    let e = leftmost_law.ends hs leftmost_first m n anchored s end.from h.place end.at tt st.case st.raised h.ends h.allowed in
     let a = e.1 in let b = e.2 in (omega (arith, a, b), e.3)
+end_within hs leftmost_longest false m n anchored s end h =
+    let st = h.stands in
+    let e = leftmost_law.ends hs leftmost_longest m n anchored s end.from h.place end.at tt st.case st.raised h.ends h.allowed in
+    let a = e.1 in let b = e.2 in (omega (arith, a, b), e.3)
+end_within hs leftmost_longest true m n anchored s end h = met_within hs leftmost_longest true m n anchored s end h (inr refl)
 end_within hs leftmost_first true m n anchored s end h = met_within hs leftmost_first true m n anchored s end h (inr refl)
 end_within hs all_matches early m n anchored s end h = met_within hs all_matches early m n anchored s end h (inl refl)
 

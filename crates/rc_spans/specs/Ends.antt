@@ -7,13 +7,12 @@ use Rattle.rc_text.specs.Text.{Searched, low, high, is_boundary}
 use Rattle.rc_text.specs.declared.types.Anchored.{Anchored}
 use Rattle.rc_text.specs.declared.types.Anchored.TheVariants.{Pattern}
 use Rattle.rc_states.specs.declared.kind.TableKind.{TableKind}
-use Rattle.rc_states.specs.declared.kind.TableKind.TheVariants.{All as all_matches, LeftmostFirst as leftmost_first}
+use Rattle.rc_states.specs.declared.kind.TableKind.TheVariants.{All as all_matches, LeftmostFirst as leftmost_first, LeftmostLongest as leftmost_longest}
 use Rattle.rc_text.specs.declared.types.MatchError as error
 use Rattle.rc_text.specs.declared.types.MatchError.TheVariants as errors
 use Rattle.rc_program.specs.Text.{Text}
 use Rattle.rc_program.specs.Answer.{Search}
 use Rattle.rc_bytes.specs.Laws.{by_bytes}
-use Rattle.rc_states.specs.Laws.{IsRaised, may_end_at}
 use Rattle.rc_automaton.specs.Machine.{Machine}
 use Rattle.rc_automaton.specs.Runs.{met_last, SearchEnds}
 use Rattle.rc_automaton.specs.Ended.{HasEnded, HasEndedDown}
@@ -21,6 +20,7 @@ use Rattle.rc_automaton.specs.declared.ended.Met.{Met}
 use Rattle.rc_automaton.specs.declared.ended.Ended.{Ended}
 use Rattle.rc_automaton.specs.declared.ended.Ended.TheVariants.{Found, Idle, Quit, GaveUp}
 use Rattle.rc_spans.specs.declared.search.End.{End}
+use Rattle.rc_spans.specs.Leftmost.{IsRaisedBy}
 use Rattle.rc_spans.specs.Machines.{IsCase}
 use Rattle.rc_spans.specs.Laws.{pattern_met}
 
@@ -47,12 +47,13 @@ HasMetDown m t lo end anchored earliest met = HasEndedDown m t lo end anchored e
 abbrev pub may_end : TableKind → Bool → List ℕ → ℕ → Bool
 may_end all_matches passes_over content at = true
 may_end leftmost_first passes_over content at = not passes_over || is_boundary content at
+may_end leftmost_longest passes_over content at = not passes_over || is_boundary content at
 
 -- The search stands here: what begins before was passed over; and where nothing is passed over, it stands where it begins.
 pub record Stands (hs : List Re) (kind : TableKind) (early : Bool) (m n : Machine) (anchored : Anchored) (s : Search) (from : ℕ) : Type 0 where
   pub case : IsCase hs kind m n anchored s
   pub bounded : (s.lo ≤ from) × (from ≤ s.hi)
-  pub raised : kind ≡ leftmost_first → IsRaised (by_bytes s) from
+  pub raised : IsRaisedBy kind (by_bytes s) from
   pub alone : (kind ≡ all_matches) ⊎ (early ≡ true) → from ≡ s.lo
 
 -- Forwards from where the search stands this end was met, where a match of the search may end.
@@ -61,17 +62,19 @@ pub record IsEnd (hs : List Re) (kind : TableKind) (early : Bool) (m n : Machine
   pub place : ℕ
   pub pattern : pattern_met m place ≡ end.pattern
   pub ends : SearchEnds m s.text s.hi end.from anchored early (met_last (Some (place, end.at)))
-  pub allowed : kind ≡ leftmost_first → may_end_at s end.at ≡ true
+  pub allowed : may_end kind s.passes_over s.text.content end.at ≡ true
 
 -- a match begins where the run forwards did that met its end
 abbrev pub begins_there : TableKind → Bool → Bool → Bool
 begins_there all_matches early anchored = early && anchored
 begins_there leftmost_first early anchored = anchored
+begins_there leftmost_longest early anchored = anchored
 
 -- the pattern that was met with the end is the match's
 abbrev pub keeps_pattern : TableKind → Bool → Bool
 keeps_pattern all_matches early = false
 keeps_pattern leftmost_first early = not early
+keeps_pattern leftmost_longest early = not early
 
 -- the start and the pattern of the match with this end, by what a run backwards met
 abbrev pub start_by : TableKind → Bool → End → Met → Met

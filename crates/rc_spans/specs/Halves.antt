@@ -2,7 +2,7 @@
 use Rattle.std.specs.Prelude.{◌≡◌, ℕ, Bool, Option, Some, None}
 use Rattle.rc_text.specs.Found.{Found, HalfFound}
 use Rattle.rc_states.specs.declared.kind.TableKind.{TableKind}
-use Rattle.rc_states.specs.declared.kind.TableKind.TheVariants.{All as all_matches, LeftmostFirst as leftmost_first}
+use Rattle.rc_states.specs.declared.kind.TableKind.TheVariants.{All as all_matches, LeftmostFirst as leftmost_first, LeftmostLongest as leftmost_longest}
 use Rattle.rc_program.specs.Answer.{Search}
 use Rattle.rc_program.specs.Greatest.{IsSpelledIn}
 use Rattle.rc_states.specs.TableKinds.{IsAnswerBy}
@@ -10,6 +10,7 @@ use Rattle.rc_states.specs.TableKinds.{IsAnswerBy}
 -- which pattern is told with the end of the match: its own; where each match counts, one of those that end there
 abbrev pub IsToldWith : TableKind → Search → Found → ℕ → Type 0
 IsToldWith leftmost_first s m p = p ≡ m.pattern
+IsToldWith leftmost_longest s m p = p ≡ m.pattern
 IsToldWith all_matches s m p = (x : ℕ) × IsSpelledIn s (record { pattern = p; start = x; end = m.end })
 
 -- the end of a match that the search may answer, or nothing where it may answer nothing

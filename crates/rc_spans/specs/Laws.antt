@@ -3,7 +3,7 @@ use Rattle.std.specs.Prelude.{◌≡◌, ℕ, ◌+◌, ◌<◌, ◌≤◌, ◌�
 use Rattle.rc_pattern.specs.Re.{Re}
 use Rattle.rc_text.specs.Found.{Found}
 use Rattle.rc_states.specs.declared.kind.TableKind.{TableKind}
-use Rattle.rc_states.specs.declared.kind.TableKind.TheVariants.{All as all_matches, LeftmostFirst as leftmost_first}
+use Rattle.rc_states.specs.declared.kind.TableKind.TheVariants.{All as all_matches}
 use Rattle.rc_text.specs.declared.types.Anchored.{Anchored}
 use Rattle.rc_text.specs.declared.types.Anchored.TheVariants.{No}
 use Rattle.rc_text.specs.Plain.{is_anchored as anchors}
@@ -12,9 +12,11 @@ use Rattle.rc_program.specs.Answer.{Search, answer, anywhere, pattern_at}
 use Rattle.rc_program.specs.Greatest.{IsSpelledIn, HasNoSpan, greatest}
 use Rattle.rc_bytes.specs.Laws.{by_bytes}
 use Rattle.rc_states.specs.States.{IsInside}
-use Rattle.rc_states.specs.Laws.{IsRaised, may_end_at}
+use Rattle.rc_states.specs.Laws.{may_end_at}
+use Rattle.rc_states.specs.TableKinds.{answer_by}
 use Rattle.rc_automaton.specs.Machine.{Machine}
 use Rattle.rc_automaton.specs.Runs.{met_last, stopped_at, SearchEnds, SearchEndsDown}
+use Rattle.rc_spans.specs.Leftmost.{IsLeftmost, IsRaisedBy}
 use Rattle.rc_spans.specs.Machines.{IsCase}
 use Rattle.rc_spans.specs.Reverse.{EndsAtBound, IsMatchToEnd, IsSpelledToEnd, IsLeastStart, HasNoStart}
 use Rattle.rc_spans.specs.Faults.{SpeaksOfUnicode}
@@ -27,30 +29,30 @@ pattern_met m q = pattern_at (place_at m.setting.places q)
 abbrev pub met_from : Machine → ℕ → ℕ → ℕ → Found
 met_from m q x e = record { pattern = pattern_met m q; start = x; end = e }
 
--- The preferred match. `from` is where the search stands, once what begins before was passed over.
-pub record FirstLaw : Type 0 where
-  pub begins : (hs : List Re) (m n : Machine) (anchored : Anchored) (s : Search) → IsCase hs leftmost_first m n anchored s → IsRaised (by_bytes s) s.lo
+-- The match of the least start: the preferred one, or the longest. `from` is where the search stands, once what begins before was passed over.
+pub record LeftmostLaw : Type 0 where
+  pub begins : (hs : List Re) (kind : TableKind) (m n : Machine) (anchored : Anchored) (s : Search) → IsCase hs kind m n anchored s → IsRaisedBy kind (by_bytes s) s.lo
   -- the end that is met is the answer's, and so is the pattern
-  pub ends : (hs : List Re) (m n : Machine) (anchored : Anchored) (s : Search) (from q e : ℕ) → IsCase hs leftmost_first m n anchored s → IsRaised (by_bytes s) from →
+  pub ends : (hs : List Re) (kind : TableKind) (m n : Machine) (anchored : Anchored) (s : Search) (from q e : ℕ) → IsLeftmost kind → IsCase hs kind m n anchored s → IsRaisedBy kind (by_bytes s) from →
       SearchEnds m s.text s.hi from anchored false (met_last (Some (q, e))) → may_end_at s e ≡ true →
-      (x : ℕ) × (from ≤ x) × (x ≤ e) × (e ≤ s.hi) × (answer s ≡ Some (met_from m q x e))
+      (x : ℕ) × (from ≤ x) × (x ≤ e) × (e ≤ s.hi) × (answer_by kind s ≡ Some (met_from m q x e))
   -- anchored, the start is known
-  pub at_start : (hs : List Re) (m n : Machine) (anchored : Anchored) (s : Search) (from q e : ℕ) → IsCase hs leftmost_first m n anchored s → IsRaised (by_bytes s) from →
+  pub at_start : (hs : List Re) (kind : TableKind) (m n : Machine) (anchored : Anchored) (s : Search) (from q e : ℕ) → IsLeftmost kind → IsCase hs kind m n anchored s → IsRaisedBy kind (by_bytes s) from →
       SearchEnds m s.text s.hi from anchored false (met_last (Some (q, e))) → may_end_at s e ≡ true → anchors anchored ≡ true →
-      (s.lo ≤ e) × (e ≤ s.hi) × (answer s ≡ Some (met_from m q s.lo e))
+      (s.lo ≤ e) × (e ≤ s.hi) × (answer_by kind s ≡ Some (met_from m q s.lo e))
   -- else it is the least from which an entry leads to that end
-  pub starts : (hs : List Re) (m n : Machine) (s : Search) (from q e x k : ℕ) → IsCase hs leftmost_first m n No s → IsRaised (by_bytes s) from →
+  pub starts : (hs : List Re) (kind : TableKind) (m n : Machine) (s : Search) (from q e x k : ℕ) → IsLeftmost kind → IsCase hs kind m n No s → IsRaisedBy kind (by_bytes s) from →
       SearchEnds m s.text s.hi from No false (met_last (Some (q, e))) → may_end_at s e ≡ true →
       SearchEndsDown n s.text from e No false (met_last (Some (x, k))) →
-      (from ≤ x) × (x ≤ e) × (e ≤ s.hi) × (answer s ≡ Some (met_from m q x e))
-  pub some_start : (hs : List Re) (m n : Machine) (s : Search) (from q e : ℕ) → IsCase hs leftmost_first m n No s → IsRaised (by_bytes s) from →
+      (from ≤ x) × (x ≤ e) × (e ≤ s.hi) × (answer_by kind s ≡ Some (met_from m q x e))
+  pub some_start : (hs : List Re) (kind : TableKind) (m n : Machine) (s : Search) (from q e : ℕ) → IsLeftmost kind → IsCase hs kind m n No s → IsRaisedBy kind (by_bytes s) from →
       SearchEnds m s.text s.hi from No false (met_last (Some (q, e))) → may_end_at s e ≡ true → ¬ SearchEndsDown n s.text from e No false (met_last None)
   -- an end that is passed over
-  pub raises : (hs : List Re) (m n : Machine) (anchored : Anchored) (s : Search) (from q e : ℕ) → IsCase hs leftmost_first m n anchored s → IsRaised (by_bytes s) from →
+  pub raises : (hs : List Re) (kind : TableKind) (m n : Machine) (anchored : Anchored) (s : Search) (from q e : ℕ) → IsLeftmost kind → IsCase hs kind m n anchored s → IsRaisedBy kind (by_bytes s) from →
       SearchEnds m s.text s.hi from anchored false (met_last (Some (q, e))) → may_end_at s e ≡ false →
-      (from < s.hi → anchors anchored ≡ false → IsRaised (by_bytes s) (from + 1)) × ((s.hi ≤ from) ⊎ (anchors anchored ≡ true) → answer s ≡ None)
-  pub none : (hs : List Re) (m n : Machine) (anchored : Anchored) (s : Search) (from : ℕ) → IsCase hs leftmost_first m n anchored s → IsRaised (by_bytes s) from →
-      SearchEnds m s.text s.hi from anchored false (met_last None) → answer s ≡ None
+      (from < s.hi → anchors anchored ≡ false → IsRaisedBy kind (by_bytes s) (from + 1)) × ((s.hi ≤ from) ⊎ (anchors anchored ≡ true) → answer_by kind s ≡ None)
+  pub none : (hs : List Re) (kind : TableKind) (m n : Machine) (anchored : Anchored) (s : Search) (from : ℕ) → IsLeftmost kind → IsCase hs kind m n anchored s → IsRaisedBy kind (by_bytes s) from →
+      SearchEnds m s.text s.hi from anchored false (met_last None) → answer_by kind s ≡ None
 
 -- The greatest span.
 pub record LastLaw : Type 0 where
@@ -86,9 +88,10 @@ pub record ReverseLaw : Type 0 where
   pub none : (hs : List Re) (kind : TableKind) (m n : Machine) (anchored : Anchored) (s : Search) (earliest : Bool) → IsCase hs kind m n anchored s →
       SearchEndsDown n s.text s.lo s.hi anchored earliest (met_last None) → HasNoStart s
 
--- Where each span ends at the upper bound, and the search isn't anchored, the match from the least start is the preferred one.
+-- Where each span ends at the upper bound, and the search isn't anchored, the match from the least start is the preferred one, and the longest.
 pub record ReverseEndLaw : Type 0 where
-  pub preferred : (hs : List Re) (s : Search) (o : Option Found) → s.places ≡ program hs → s.anchoring ≡ anywhere → EndsAtBound s → IsMatchToEnd false s o → o ≡ answer s
+  pub leftmost : (hs : List Re) (kind : TableKind) (s : Search) (o : Option Found) → IsLeftmost kind → s.places ≡ program hs → s.anchoring ≡ anywhere → EndsAtBound s →
+      IsMatchToEnd false s o → o ≡ answer_by kind s
 
 -- Where bytes aren't read.
 pub record UnreadLaw : Type 0 where

@@ -3,7 +3,7 @@
 use Rattle.std.specs.Prelude.{◌≡◌, ℕ, ◌≤◌, false, Option, Some, None, Result, Ok, Err, min, max}
 use Rattle.rc_text.specs.declared.types.Anchored.{Anchored}
 use Rattle.rc_text.specs.declared.types.Anchored.TheVariants.{No}
-use Rattle.rc_states.specs.declared.kind.TableKind.TheVariants.{LeftmostFirst as leftmost_first}
+use Rattle.rc_states.specs.declared.kind.TableKind.{TableKind}
 use Rattle.rc_program.specs.Text.{Text}
 use Rattle.rc_program.specs.Answer.{Search}
 use Rattle.rc_automaton.specs.Machine.{Machine}
@@ -17,12 +17,13 @@ use Rattle.rc_spans.specs.declared.search.Aim.{Aim}
 use Rattle.rc_spans.specs.declared.guarded.Leg.{Leg}
 use Rattle.rc_spans.specs.declared.guarded.Leg.TheVariants.{Ended, Rested}
 use Rattle.rc_spans.specs.Laws.{pattern_met}
+use Rattle.rc_spans.specs.Leftmost.{IsLeftmost}
 use Rattle.rc_spans.specs.Ends.{HasMet}
 use Rattle.rc_spans.specs.Rests.{StartsGive}
 
--- The search goes from needle to needle: it isn't anchored, and seeks the preferred match alone, none of which is passed over.
+-- The search goes from needle to needle: it isn't anchored, and seeks the preferred or the longest match alone, none of which is passed over.
 pub record GoesByNeedles (aim : Aim) (anchored : Anchored) : Type 0 where
-  pub kind : aim.kind ≡ leftmost_first
+  pub kind : IsLeftmost aim.kind
   pub late : aim.earliest ≡ false
   pub all : aim.passes_over ≡ false
   pub free : anchored ≡ No
@@ -45,6 +46,6 @@ ComesOn from hi (Ended met) = Unit {0}
 ComesOn from hi (Rested i) = (from ≤ i) × (i ≤ hi)
 
 -- what was met is what all starts of the search give
-abbrev pub IsGiven : Machine → Search → Option Met → Type 0
-IsGiven m s None = StartsGive m s s.lo None
-IsGiven m s (Some met) = (q : ℕ) × (pattern_met m q ≡ met.pattern) × StartsGive m s s.lo (Some (q, met.at))
+abbrev pub IsGiven : TableKind → Machine → Search → Option Met → Type 0
+IsGiven kind m s None = StartsGive kind m s s.lo None
+IsGiven kind m s (Some met) = (q : ℕ) × (pattern_met m q ≡ met.pattern) × StartsGive kind m s s.lo (Some (q, met.at))

@@ -1,5 +1,6 @@
 pub mod Machines
 pub mod Classes
+pub mod Leftmost
 pub mod Halves
 pub mod Reverse
 pub mod Faults

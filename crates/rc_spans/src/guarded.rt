@@ -5,8 +5,7 @@ ghost use Rattle.rc_text.specs.Found.{half_of};
 ghost use Rattle.rc_text.specs.Text.{Keeps, low, high};
 ghost use Rattle.rc_text.specs.declared.types.Anchored.TheVariants.{No};
 ghost use Rattle.rc_pattern.specs.Re.{Re};
-ghost use Rattle.rc_program.specs.Answer.{answer};
-ghost use Rattle.rc_states.specs.TableKinds.{IsAnswerBy};
+ghost use Rattle.rc_states.specs.TableKinds.{answer_by, IsAnswerBy};
 ghost use Rattle.rc_program.specs.Program.{program};
 ghost use Rattle.rc_program.specs.Sought.{text_of};
 ghost use Rattle.rc_guards.specs.Guard.{IsGuard};
@@ -35,13 +34,16 @@ enum Leg {
     Rested(usize),
 }
 
-/// Whether a search goes from needle to needle: it isn't anchored, and seeks the preferred match alone, none of which is passed over.
+/// Whether a search goes from needle to needle: it isn't anchored, and seeks the preferred or the longest match alone, none of which is
+/// passed over.
 #[inline(always)]
 pub fn goes_by_needles(aim: Aim, anchored: Anchored) -> bool
     ensures { IsTrue result ↔ GoesByNeedles aim anchored }
 {
     match (aim.kind, anchored) {
-        (TableKind::LeftmostFirst, Anchored::No) => !aim.earliest && !aim.passes_over,
+        (TableKind::LeftmostFirst | TableKind::LeftmostLongest, Anchored::No) => {
+            !aim.earliest && !aim.passes_over
+        }
         _ => false,
     }
 }
@@ -90,7 +92,7 @@ fn run_leg<H: Halves, C: Cursor>(
     )
 }
 
-/// The end of the preferred match: runs forwards begin where a match may that goes by the next needle, and where one rests behind that, the next is sought.
+/// The end of the match of the least start: runs forwards begin where a match may that goes by the next needle, and where one rests behind that, the next is sought.
 #[inline(always)]
 fn seek_by_needles<H: Halves, C: Cursor>(
     halves: &H,
@@ -106,7 +108,7 @@ fn seek_by_needles<H: Halves, C: Cursor>(
     ensures cache { H.IsCache halves.now cache.new }
     ensures keeps { Keeps input.old input.new }
     ensures given { (hs : List Re) (terminator : ℕ) (of : AreHalvesOf (H.AreOf halves.now) aim hs terminator) → IsGuard (program hs) terminator guard.entry
-        → IfOk result (IsGiven of.ahead (search_for aim hs terminator input.old)) }
+        → IfOk result (IsGiven aim.kind of.ahead (search_for aim hs terminator input.old)) }
     ensures numbered { (hs : List Re) (terminator : ℕ) → AreHalvesOf (H.AreOf halves.now) aim hs terminator
         → IfOk result (λ met. IfSome met (λ m. m.pattern < length hs)) }
     ensures fault { (hs : List Re) (terminator : ℕ) → AreHalvesOf (H.AreOf halves.now) aim hs terminator
@@ -131,7 +133,7 @@ fn seek_by_needles<H: Halves, C: Cursor>(
     }
 }
 
-/// The preferred match, from needle to needle.
+/// The match of the least start, from needle to needle.
 #[inline(always)]
 fn find_by_needles<H: Halves, C: Cursor>(
     halves: &H,
@@ -145,7 +147,7 @@ fn find_by_needles<H: Halves, C: Cursor>(
     ensures cache { H.IsCache halves.now cache.new }
     ensures keeps { Keeps input.old input.new }
     ensures found { (hs : List Re) (terminator : ℕ) → AreHalvesOf (H.AreOf halves.now) aim hs terminator → IsGuard (program hs) terminator guard.entry
-        → IfOk result (λ found. found ≡ answer (search_for aim hs terminator input.old)) }
+        → IfOk result (λ found. found ≡ answer_by aim.kind (search_for aim hs terminator input.old)) }
     ensures within { IfOk result (λ found. IfSome found (λ m. (low input.old ≤ m.start) × (m.start ≤ m.end) × (m.end ≤ high input.old))) }
     ensures fault { (hs : List Re) (terminator : ℕ) → AreHalvesOf (H.AreOf halves.now) aim hs terminator
         → IfErr result (IsFault hs (search_for aim hs terminator input.old) (H.GivesUp halves.now cache.old cache.new (cost input.old))) }
@@ -166,7 +168,7 @@ fn find_by_needles<H: Halves, C: Cursor>(
     Ok(Some(Match::new(pattern, Span { start, end })))
 }
 
-/// The end of the preferred match, from needle to needle, and its pattern.
+/// The end of the match of the least start, from needle to needle, and its pattern.
 fn find_end_by_needles<H: Halves, C: Cursor>(
     halves: &H,
     cache: &mut H::Cache,
@@ -179,7 +181,7 @@ fn find_end_by_needles<H: Halves, C: Cursor>(
     ensures cache { H.IsCache halves.now cache.new }
     ensures keeps { Keeps input.old input.new }
     ensures found { (hs : List Re) (terminator : ℕ) → AreHalvesOf (H.AreOf halves.now) aim hs terminator → IsGuard (program hs) terminator guard.entry
-        → IfOk result (λ found. found ≡ option_map half_of (answer (search_for aim hs terminator input.old))) }
+        → IfOk result (λ found. found ≡ option_map half_of (answer_by aim.kind (search_for aim hs terminator input.old))) }
     ensures within { IfOk result (λ found. IfSome found (λ half. (low input.old ≤ half.offset) × (half.offset ≤ high input.old))) }
     ensures fault { (hs : List Re) (terminator : ℕ) → AreHalvesOf (H.AreOf halves.now) aim hs terminator
         → IfErr result (IsFault hs (search_for aim hs terminator input.old) (H.GivesUp halves.now cache.old cache.new (cost input.old))) }
@@ -197,8 +199,8 @@ fn find_end_by_needles<H: Halves, C: Cursor>(
 }
 
 /// The match that `find` finds, by needles that guard the patterns: each match begins with one of them, or holds one. A search that isn't anchored
-/// goes from needle to needle wherever nothing is under way, if it is for the preferred match, the earliest flag is off, and no match is passed
-/// over. Each other search is that of `find`.
+/// goes from needle to needle wherever nothing is under way, if it is for the preferred match or the longest, the earliest flag is off, and no
+/// match is passed over. Each other search is that of `find`.
 ///
 /// An `Err` comes as for `find`.
 pub fn find_guarded<H: Halves, C: Cursor>(

@@ -1,10 +1,10 @@
 //! The laws of spans. Each function does nothing: its contract is the law.
-ghost use Rattle.rc_spans.specs.Laws.{FirstLaw, LastLaw, MetLaw, ReverseEndLaw, ReverseLaw, UnreadLaw};
+ghost use Rattle.rc_spans.specs.Laws.{LastLaw, LeftmostLaw, MetLaw, ReverseEndLaw, ReverseLaw, UnreadLaw};
 ghost use Rattle.rc_spans.specs.Rests.{GivenLaw, RestLaw};
 
-/// Where a search forwards ends and one backwards begins is the preferred match.
+/// Where a search forwards ends and one backwards begins is the match of the least start, the preferred one or the longest.
 pub fn halves_give_answers()
-    ensures { FirstLaw }
+    ensures { LeftmostLaw }
 {}
 
 /// A search backwards from the upper bound tells the least position from which a match may lead there.
@@ -32,12 +32,12 @@ pub fn runs_may_rest()
     ensures { RestLaw }
 {}
 
-/// Where the starts of a search lead, whichever runs told it, and where a search backwards begins is the preferred match.
+/// Where the starts of a search lead, whichever runs told it, and where a search backwards begins is the match of the least start.
 pub fn starts_give_answers()
     ensures { GivenLaw }
 {}
 
-/// Where each span ends at the upper bound, what a search backwards from there tells is the preferred match.
+/// Where each span ends at the upper bound, what a search backwards from there tells is the preferred match, and the longest one.
 pub fn last_spans_are_reversed()
     ensures { ReverseEndLaw }
 {}

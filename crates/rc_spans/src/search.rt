@@ -174,7 +174,7 @@ fn may_end<C: Cursor>(input: &mut Input<C>, aim: Aim, at: usize) -> bool
 {
     match aim.kind {
         TableKind::All => true,
-        TableKind::LeftmostFirst => is_allowed(input, aim, at),
+        TableKind::LeftmostFirst | TableKind::LeftmostLongest => is_allowed(input, aim, at),
     }
 }
 
@@ -228,7 +228,7 @@ fn begins_there(aim: Aim, anchored: Anchored) -> bool
 {
     match aim.kind {
         TableKind::All => is_early(aim) && anchored.is_anchored(),
-        TableKind::LeftmostFirst => anchored.is_anchored(),
+        TableKind::LeftmostFirst | TableKind::LeftmostLongest => anchored.is_anchored(),
     }
 }
 
@@ -239,7 +239,7 @@ fn keeps_pattern(aim: Aim) -> bool
 {
     match aim.kind {
         TableKind::All => false,
-        TableKind::LeftmostFirst => !is_early(aim),
+        TableKind::LeftmostFirst | TableKind::LeftmostLongest => !is_early(aim),
     }
 }
 
@@ -408,7 +408,7 @@ pub fn find_start<H: Halves, C: Cursor>(
 }
 
 /// The match from the start that `find_start` tells to where the search ends, of the pattern that it tells. Where each match ends there, and
-/// the search isn't anchored, it is the preferred one. It searches backwards alone. An `Err` comes as for `find`.
+/// the search isn't anchored, it is the preferred one, and the longest one. It searches backwards alone. An `Err` comes as for `find`.
 pub fn find_to_end<H: Halves, C: Cursor>(
     halves: &H,
     cache: &mut H::Cache,

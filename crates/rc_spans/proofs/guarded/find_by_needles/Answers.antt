@@ -42,10 +42,10 @@ spent g c =
     c.seek_by_needles.ensures.spends c.run_backwards.ensures.spends)
 
 given : (g : Over) (c : After-run_backwards g) (hs : List Re) (terminator : ℕ) (of : AreHalvesOf (g.H.Halves.AreOf c.args.halves.now) c.args.aim hs terminator) →
-    IsGuard (program hs) terminator c.args.guard → IsGiven of.ahead (search_for c.args.aim hs terminator c.args.input.now) (Some c.in-Some-2.met)
+    IsGuard (program hs) terminator c.args.guard → IsGiven c.args.aim.kind of.ahead (search_for c.args.aim hs terminator c.args.input.now) (Some c.in-Some-2.met)
 given g c hs terminator of guards =
-    subst (λ q. IsGiven of.ahead q (Some c.in-Some-2.met)) (kept_search c.args.aim hs terminator c.args.input.now c.bounds_of.new.input c.bounds_of.ensures.keeps)
-    (subst (λ o. IsGiven of.ahead (search_for c.args.aim hs terminator c.bounds_of.new.input) o) c.in-Some-2.is
+    subst (λ q. IsGiven c.args.aim.kind of.ahead q (Some c.in-Some-2.met)) (kept_search c.args.aim hs terminator c.args.input.now c.bounds_of.new.input c.bounds_of.ensures.keeps)
+    (subst (λ o. IsGiven c.args.aim.kind of.ahead (search_for c.args.aim hs terminator c.bounds_of.new.input) o) c.in-Some-2.is
     (c.in_ok-met.ensures.given hs terminator of guards))
 
 pub returns-in_err-met-clause-fault : goal.returns-in_err-met-clause-fault
@@ -66,8 +66,8 @@ returns-in_default-2-clause-found g c hs terminator of guards =
     let b = c.in-Some.ensures.some in
     needle.none_given (g.H.Halves.AreOf c.args.halves.now) c.args.aim hs terminator of c.args.input.now c.requires.goes c.in-Some.bounds.low c.in-Some.bounds.high b.0 b.1
     (omega (arith, b.0, b.1, b.2))
-    (subst (λ q. IsGiven of.ahead q None) (kept_search c.args.aim hs terminator c.args.input.now c.bounds_of.new.input c.bounds_of.ensures.keeps)
-    (subst (λ o. IsGiven of.ahead (search_for c.args.aim hs terminator c.bounds_of.new.input) o) c.in_default-2.is
+    (subst (λ q. IsGiven c.args.aim.kind of.ahead q None) (kept_search c.args.aim hs terminator c.args.input.now c.bounds_of.new.input c.bounds_of.ensures.keeps)
+    (subst (λ o. IsGiven c.args.aim.kind of.ahead (search_for c.args.aim hs terminator c.bounds_of.new.input) o) c.in_default-2.is
     (c.in_ok-met.ensures.given hs terminator of guards)))
 
 pub returns-in_err-first-clause-fault : goal.returns-in_err-first-clause-fault

@@ -34,8 +34,8 @@ returns-in_default-2-clause-found g c hs terminator of guards =
     ap (option_map half_of)
     (needle.none_given (g.H.Halves.AreOf c.args.halves.now) c.args.aim hs terminator of c.args.input.now c.requires.goes c.in-Some.bounds.low c.in-Some.bounds.high b.0 b.1
     (omega (arith, b.0, b.1, b.2))
-    (subst (λ q. IsGiven of.ahead q None) (kept_search c.args.aim hs terminator c.args.input.now c.bounds_of.new.input c.bounds_of.ensures.keeps)
-    (subst (λ o. IsGiven of.ahead (search_for c.args.aim hs terminator c.bounds_of.new.input) o) c.in_default-2.is
+    (subst (λ q. IsGiven c.args.aim.kind of.ahead q None) (kept_search c.args.aim hs terminator c.args.input.now c.bounds_of.new.input c.bounds_of.ensures.keeps)
+    (subst (λ o. IsGiven c.args.aim.kind of.ahead (search_for c.args.aim hs terminator c.bounds_of.new.input) o) c.in_default-2.is
     (c.in_ok-met.ensures.given hs terminator of guards))))
 
 pub returns-in_err-pattern-clause-fault : goal.returns-in_err-pattern-clause-fault
@@ -50,8 +50,8 @@ returns-clause-found g c hs terminator of guards =
     ∙ needle.end_so (g.H.Halves.AreOf c.args.halves.now) c.args.aim hs terminator of c.args.input.now c.requires.goes
     c.in-Some.bounds.low c.in-Some.bounds.high b.0 b.1 (omega (arith, b.0, b.1, b.2))
     c.in-Some-2.met
-    (subst (λ q. IsGiven of.ahead q (Some c.in-Some-2.met)) (kept_search c.args.aim hs terminator c.args.input.now c.bounds_of.new.input c.bounds_of.ensures.keeps)
-    (subst (λ o. IsGiven of.ahead (search_for c.args.aim hs terminator c.bounds_of.new.input) o) c.in-Some-2.is
+    (subst (λ q. IsGiven c.args.aim.kind of.ahead q (Some c.in-Some-2.met)) (kept_search c.args.aim hs terminator c.args.input.now c.bounds_of.new.input c.bounds_of.ensures.keeps)
+    (subst (λ o. IsGiven c.args.aim.kind of.ahead (search_for c.args.aim hs terminator c.bounds_of.new.input) o) c.in-Some-2.is
     (c.in_ok-met.ensures.given hs terminator of guards)))
     c.min-end.result (c.min-end.ensures ∙ ap (λ x. min x c.in-Some.bounds.high) c.max.ensures)
     c.in_ok-pattern.pattern c.in_ok-pattern.ensures.id

@@ -79,7 +79,7 @@ returns-in-Ended-clause-spends g c = spent_one g (goal.at.returns-in-Ended-claus
 -- what the starts from where the run begins give, all give
 carried : (g : Over) (c : After-run_leg g) (hs : List Re) (terminator : ℕ) (of : AreHalvesOf (g.H.Halves.AreOf c.args.halves.now) c.args.aim hs terminator) →
     IsGuard (program hs) terminator c.args.guard →
-    GivesToo of.ahead (search_for c.args.aim hs terminator c.args.input.now) c.in-Some.start.from c.args.bounds.low
+    GivesToo c.args.aim.kind of.ahead (search_for c.args.aim hs terminator c.args.input.now) c.in-Some.start.from c.args.bounds.low
 carried g c hs terminator of guards =
     let b = c.requires.bounds in
     let i = c.runs.invariant in

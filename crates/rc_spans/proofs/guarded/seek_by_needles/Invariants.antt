@@ -16,7 +16,7 @@ invariant-runs g l = record {
   high : l.at ≤ l.bounds.high;
   spends : g.H.Halves.Spends l.halves l.fn.cache l.cache ((l.at - l.bounds.low) * (l.bounds.high - l.bounds.low + 2));
   carried : (hs : List Re) (terminator : ℕ) (of : AreHalvesOf (g.H.Halves.AreOf l.halves) l.aim hs terminator) → IsGuard (program hs) terminator l.guard
-      → GivesToo of.ahead (search_for l.aim hs terminator l.fn.input) l.at l.bounds.low;
+      → GivesToo l.aim.kind of.ahead (search_for l.aim hs terminator l.fn.input) l.at l.bounds.low;
 }
 
 abbrev pub decreases-runs : goal.decreases-runs
