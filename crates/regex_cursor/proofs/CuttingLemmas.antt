@@ -6,10 +6,11 @@ use Rattle.rc_text.specs.Found.{Found, HalfFound, half_of}
 use Rattle.rc_text.specs.Text.{Searched, Keeps, is_boundary}
 use Rattle.rc_text.specs.declared.types.MatchKind.{MatchKind}
 use Rattle.rc_text.specs.declared.types.MatchError.{MatchError}
-use Rattle.rc_text.specs.declared.types.MatchKind.TheVariants.{LeftmostFirst as first_kind}
-use Rattle.rc_states.specs.declared.kind.TableKind.TheVariants.{LeftmostFirst as leftmost_first}
+use Rattle.rc_states.specs.declared.kind.TableKind.{TableKind}
+use Rattle.rc_states.specs.declared.kind.TableKind.TheVariants.{LeftmostFirst as leftmost_first, LeftmostLongest as leftmost_longest}
+use Rattle.rc_states.specs.TableKinds.{kind_of}
 use Rattle.rc_program.specs.Program.{program, shown}
-use Rattle.rc_program.specs.Answer.{Search, answer}
+use Rattle.rc_program.specs.Answer.{Search}
 use Rattle.rc_program.specs.Greatest.{IsSpelledIn}
 use Rattle.rc_program.specs.Kinds.{answer_by, is_early, IsAnswerBy, IsAnswerWhere, IsEarlyAnswer}
 use Rattle.rc_program.specs.Sought.{Sought, passes_over, search_for}
@@ -17,7 +18,8 @@ use Rattle.rc_program.proofs.AnswerLemmas.{answer_law}
 use Rattle.rc_program.proofs.GreatestLemmas.{no_answer_no_span}
 use Rattle.rc_program.proofs.KindLemmas.{kinds_law, missing_by}
 use Rattle.rc_engine.proofs.Steps.{search_kept}
-use Rattle.rc_spans.specs.Halves.{IsForwardHalf}
+use Rattle.rc_spans.specs.Halves.{IsForwardHalf, IsToldWith}
+use Rattle.rc_spans.specs.Leftmost.{IsLeftmost}
 use Rattle.rc_spans.specs.Reverse.{HasNoStart, IsLeastStart, IsReverseHalf, IsStartWhere}
 use Rattle.regex_cursor.specs.Cuttings.{AreAlike, EnginesLaw}
 
@@ -84,17 +86,24 @@ module _ (q : Sought) (s t : Searched) (k : Keeps s t) where
 
   -- THE END
 
-  end_is : (o : Option HalfFound) → is_early s.earliest S ≡ false → IsForwardHalf leftmost_first s.earliest S o → o ≡ option_map half_of (answer S)
-  end_is None off h = ap (option_map half_of) (subst (λ e. IsAnswerWhere e first_kind S None) off h)
-  end_is (Some half) off h =
-      let is = subst (λ e. IsAnswerWhere e first_kind S (Some h.0)) off h.1 in
-      ap₂ (λ (p x : ℕ). let f : HalfFound = record { pattern = p; offset = x } in Some f) h.3 h.2 ∙ ap (option_map half_of) is
+  -- the pattern that is told with the end is the match's
+  own_pattern : (kind : TableKind) (m : Found) (p : ℕ) → IsLeftmost kind → IsToldWith kind S m p → p ≡ m.pattern
+  own_pattern leftmost_first m p l h = h
+  own_pattern leftmost_longest m p l h = h
 
-  same_end : (a b : Result (Option HalfFound) MatchError) → is_early s.earliest S ≡ false → IfOk a (IsForwardHalf leftmost_first s.earliest S) →
-      IfOk b (IsForwardHalf leftmost_first t.earliest (search_for q t)) → AreAlike a b
-  same_end a b off ha hb =
-      both_ok (IsForwardHalf leftmost_first s.earliest S) (IsForwardHalf leftmost_first s.earliest S) a b
-      (λ m n x y. end_is m off x ∙ sym (end_is n off y)) ha (of_first (IsForwardHalf leftmost_first) q s t k b hb)
+  module _ (kind : TableKind) (leftmost : IsLeftmost kind) where
+    end_is : (o : Option HalfFound) → is_early s.earliest S ≡ false → IsForwardHalf kind s.earliest S o → o ≡ option_map half_of (answer_by (kind_of kind) S)
+    end_is None off h = ap (option_map half_of) (subst (λ e. IsAnswerWhere e (kind_of kind) S None) off h)
+    end_is (Some half) off h =
+        let is = subst (λ e. IsAnswerWhere e (kind_of kind) S (Some h.0)) off h.1 in
+        let own = own_pattern kind h.0 half.pattern leftmost h.3 in
+        ap₂ (λ (p x : ℕ). let f : HalfFound = record { pattern = p; offset = x } in Some f) own h.2 ∙ ap (option_map half_of) is
+
+    same_end : (a b : Result (Option HalfFound) MatchError) → is_early s.earliest S ≡ false → IfOk a (IsForwardHalf kind s.earliest S) →
+        IfOk b (IsForwardHalf kind t.earliest (search_for q t)) → AreAlike a b
+    same_end a b off ha hb =
+        both_ok (IsForwardHalf kind s.earliest S) (IsForwardHalf kind s.earliest S) a b
+        (λ m n x y. end_is m off x ∙ sym (end_is n off y)) ha (of_first (IsForwardHalf kind) q s t k b hb)
 
   -- THE START
 
@@ -143,6 +152,6 @@ engines_law = record {
   searches = kept;
   matches = λ q kind s t a b k off ha hb. same_match q s t k kind a b ha hb off;
   finds = λ q kind s t a b k ha hb. same_finds q s t k kind a b ha hb;
-  ends = λ q s t a b k off ha hb. same_end q s t k a b off ha hb;
+  ends = λ q kind s t a b leftmost k off ha hb. same_end q s t k kind leftmost a b off ha hb;
   starts = λ q s t a b k off ha hb. same_start q s t k a b off ha hb;
 }
