@@ -22,7 +22,7 @@ use Rattle.rc_literal.specs.Tables.{AreSome, BeginsWithByte, numbered}
 use Rattle.rc_literal.proofs.RelationLemmas.{get_some, within_true}
 use Rattle.rc_literal.proofs.StandLemmas.{begins_with}
 use Rattle.rc_states.specs.Laws.{may_end_at}
-use Rattle.rc_states.specs.TableKinds.{IsAnswerBy}
+use Rattle.rc_states.specs.TableKinds.{IsAnswerBy, answer_by}
 use Rattle.rc_states.specs.declared.kind.TableKind.TheVariants.{LeftmostFirst as leftmost_first}
 use Rattle.rc_automaton.specs.Machine.{Machine, IsAsked}
 use Rattle.rc_automaton.specs.Ended.{HasEnded}
@@ -32,12 +32,11 @@ use Rattle.rc_automaton.specs.declared.ended.Met.{Met}
 use Rattle.rc_spans.specs.declared.search.Aim.{Aim}
 use Rattle.rc_spans.specs.Aims.{AreHalvesOf, search_for}
 use Rattle.rc_spans.specs.Ends.{told_of}
-use Rattle.rc_spans.specs.Legs.{GoesByNeedles}
 use Rattle.rc_spans.specs.Machines.{IsCase}
-use Rattle.rc_spans.proofs.FirstLemmas.{first_law}
+use Rattle.rc_spans.proofs.LeftmostLemmas.{leftmost_law}
 use Rattle.rc_spans.proofs.LegLemmas.{free_case}
 use Rattle.rc_spans.proofs.ToldLemmas.{kept_search}
-use Rattle.rc_engines.specs.Firsts.{starting_at}
+use Rattle.rc_engines.specs.Firsts.{AsksFirst, starting_at}
 
 -- WHERE NO NEEDLE BEGINS
 
@@ -118,7 +117,7 @@ module _ (places : List Place) (text : Text) (lo hi : ℕ) where
         ))
 
 -- in the terms of an input
-pub as_any : (aim : Aim) (hs : List Re) (terminator : ℕ) (s : Searched) → GoesByNeedles aim s.anchored →
+pub as_any : (aim : Aim) (hs : List Re) (terminator : ℕ) (s : Searched) → AsksFirst aim s.anchored →
     search_for aim hs terminator s ≡ Any (program hs) (text_of terminator s) (low s) (high s) (low s)
 as_any aim hs terminator s goes =
     ap₂ (λ (over : Bool) (a : Anchored). let q : Search = record {
@@ -147,7 +146,7 @@ met_so s from met pattern end h same is =
     ap₂ (λ (p e : ℕ). let f : Found = record { pattern = p; start = from; end = e } in Some f) same there ∙ h.2
 
 module _ (AreOf : Machine → Machine → Type 0) (aim : Aim) (hs : List Re) (terminator : ℕ) (of : AreHalvesOf AreOf aim hs terminator) (s : Searched)
-    (goes : GoesByNeedles aim s.anchored) (from : ℕ) (above : low s ≤ from) (below : from ≤ high s) where
+    (goes : AsksFirst aim s.anchored) (from : ℕ) (above : low s ≤ from) (below : from ≤ high s) where
   abbrev S : Search
   S = search_for aim hs terminator s
 
@@ -168,10 +167,10 @@ module _ (AreOf : Machine → Machine → Type 0) (aim : Aim) (hs : List Re) (te
   may at = ap (λ b. not b || is_boundary s.content at) goes.all
 
   met_here : (e : Ended) → HasEnded of.ahead (text_of terminator s) (high s) from Yes false false e → IfOk (told_of e) (IsMetHere S from)
-  met_here (Finds None) h = sym (first_law.none hs of.ahead of.back Yes (starting_at from S) from case (first_law.begins hs of.ahead of.back Yes (starting_at from S) case) h)
+  met_here (Finds None) h = sym (leftmost_law.none hs leftmost_first of.ahead of.back Yes (starting_at from S) from tt case (leftmost_law.begins hs leftmost_first of.ahead of.back Yes (starting_at from S) case) h)
   met_here (Finds (Some met)) h =
-      let r = first_law.at_start hs of.ahead of.back Yes (starting_at from S) from h.0 met.at case
-      (first_law.begins hs of.ahead of.back Yes (starting_at from S) case) h.2 (may met.at) refl in
+      let r = leftmost_law.at_start hs leftmost_first of.ahead of.back Yes (starting_at from S) from h.0 met.at tt case
+      (leftmost_law.begins hs leftmost_first of.ahead of.back Yes (starting_at from S) case) h.2 (may met.at) refl in
       (r.0, r.1, sym (r.2 ∙ ap (λ (p : ℕ). let f : Found = record { pattern = p; start = from; end = met.at } in Some f) h.1))
   met_here (Idle i) h = absurd (true≢false (sym h.0))
   met_here (Quit b p) h = tt
@@ -216,7 +215,7 @@ none_on places terminator over s cur keeps from at to first beyond x low lt = el
   | inr h ↦ subst (λ (q : Search). HasNoWalkFrom q x) (over_kept places terminator over s cur keeps) (beyond x h lt)
 ]
 
-module _ (aim : Aim) (hs : List Re) (terminator : ℕ) (s t : Searched) (keeps : Keeps s t) (goes : GoesByNeedles aim s.anchored) (lo hi : ℕ)
+module _ (aim : Aim) (hs : List Re) (terminator : ℕ) (s t : Searched) (keeps : Keeps s t) (goes : AsksFirst aim s.anchored) (lo hi : ℕ)
     (is_lo : lo ≡ low s) (is_hi : hi ≡ high s) where
   abbrev T : ℕ → Search
   T x = Any (program hs) (text_of terminator s) (low s) (high s) x
@@ -253,3 +252,12 @@ module _ (aim : Aim) (hs : List Re) (terminator : ℕ) (s t : Searched) (keeps :
         where
           plain : (o : Option Found) (q : Search) → IsAnswerBy aim.kind aim.earliest q o → o ≡ answer q
           plain o q h = subst (λ e. IsAnswerBy leftmost_first e q o) goes.late (subst (λ k. IsAnswerBy k aim.earliest q o) goes.kind h)
+
+-- for this kind of match
+pub by_kind : (aim : Aim) (anchored : Anchored) (s : Search) → AsksFirst aim anchored → answer_by aim.kind s ≡ answer s
+by_kind aim anchored s goes = ap (λ k. answer_by k s) goes.kind
+
+pub is_first_answer : (aim : Aim) (anchored : Anchored) (s : Search) (r : Result (Option Found) MatchError) → AsksFirst aim anchored → IfOk r (λ o. o ≡ answer s) →
+    IfOk r (IsAnswerBy aim.kind aim.earliest s)
+is_first_answer aim anchored s (Ok o) goes h = subst (λ e. IsAnswerBy aim.kind e s o) (sym goes.late) (h ∙ sym (by_kind aim anchored s goes))
+is_first_answer aim anchored s (Err e) goes h = tt

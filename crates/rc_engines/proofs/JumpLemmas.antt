@@ -1,25 +1,24 @@
 -- From needle to needle, where any match is enough.
-use Rattle.std.proofs.Common.{◌≡◌, ◌∙◌, ℕ, ◌<◌, ◌≤◌, ◌&&◌, Bool, true, false, true≢false, List, Option, Some, None, Result, Ok, Err, IfOk, IsTrue, not, nat_lt, nat_le, if◌then◌else◌, sym, subst, ap, ap₂, refl, arith}
+use Rattle.std.proofs.Common.{◌≡◌, ◌∙◌, ℕ, ◌<◌, ◌≤◌, ◌&&◌, Bool, true, false, true≢false, List, Option, Some, None, Result, Ok, Err, IfOk, IsTrue, not, nat_lt, nat_le, if◌then◌else◌, inl, sym, subst, ap, ap₂, refl, arith}
 use Rattle.std.proofs.lemmas.Bool.{and_parts, ltb-true, leb-true}
 use Rattle.std.proofs.lemmas.Option.{none-some}
 use Rattle.rc_text.specs.Found.{Found}
 use Rattle.rc_text.specs.Text.{Searched, Keeps, low, high}
 use Rattle.rc_text.specs.declared.types.Anchored.TheVariants.{No}
 use Rattle.rc_text.specs.declared.types.MatchError.{MatchError}
-use Rattle.rc_text.specs.declared.types.MatchKind.TheVariants.{LeftmostFirst}
 use Rattle.rc_pattern.specs.Re.{Re}
 use Rattle.rc_walks.specs.Walks.{Pair}
 use Rattle.rc_program.specs.Text.{Text}
 use Rattle.rc_program.specs.Program.{place_at}
-use Rattle.rc_program.specs.Answer.{Search, HasNoWalkFrom, anywhere, answer, ends, is_anchored, last_of, next_of, only, pattern_at}
+use Rattle.rc_program.specs.Answer.{Search, HasNoWalkFrom, anywhere, ends, is_anchored, last_of, next_of, only, pattern_at}
 use Rattle.rc_program.specs.Greatest.{HasNoSpan, IsSpelledIn}
 use Rattle.rc_program.specs.Sought.{anchoring_of, text_of}
 use Rattle.rc_program.proofs.AnswerLemmas.{answer_law, match_place_is, walk_ends}
-use Rattle.rc_program.proofs.GreatestLemmas.{no_answer_no_span, no_span_no_answer, spelled_within}
+use Rattle.rc_program.proofs.GreatestLemmas.{no_answer_no_span}
 use Rattle.rc_program.proofs.KindLemmas.{kinds_law, missing_by}
 use Rattle.rc_states.specs.States.{State}
-use Rattle.rc_states.specs.TableKinds.{IsAnswerBy, kind_of}
-use Rattle.rc_states.specs.declared.kind.TableKind.TheVariants.{LeftmostFirst as leftmost_first}
+use Rattle.rc_states.specs.TableKinds.{IsAnswerBy, answer_by, kind_of}
+use Rattle.rc_states.specs.declared.kind.TableKind.{TableKind}
 use Rattle.rc_automaton.specs.Machine.{Machine, IsAsked}
 use Rattle.rc_automaton.specs.Runs.{RunEnd, met_last, stopped_at, idle_at, EndsSo, at_bound, dead, early, quit, rests, SearchEnds, ran, unread}
 use Rattle.rc_automaton.specs.Ended.{HasEnded}
@@ -28,6 +27,7 @@ use Rattle.rc_automaton.specs.declared.ended.Ended.TheVariants.{Found as Finds, 
 use Rattle.rc_spans.specs.declared.search.Aim.{Aim}
 use Rattle.rc_spans.specs.Aims.{AreHalvesOf, search_for}
 use Rattle.rc_spans.specs.Legs.{GoesByNeedles}
+use Rattle.rc_spans.specs.Leftmost.{IsLeftmost}
 use Rattle.rc_spans.specs.Machines.{IsCase}
 use Rattle.rc_spans.specs.Rests.{GivesToo, StartsGive}
 use Rattle.rc_spans.proofs.LegLemmas.{free_case}
@@ -58,16 +58,16 @@ late : (m : Machine) (t : Text) (hi from : ℕ) (e : RunEnd) → last_met e ≡ 
 late m t hi from e none (ran first may begins so) = ran first may begins (late_so m t hi from first e none so)
 late m t hi from e none (unread p at may) = unread p at may
 
-module _ (hs : List Re) (m n : Machine) (s : Search) (case : IsCase hs leftmost_first m n No s) (from : ℕ) (above : s.lo ≤ from) where
-  idle_tells : (i : ℕ) → SearchEnds m s.text s.hi from No true (idle_at i) → Tells m s from (idle_leg i from s.hi)
+module _ (hs : List Re) (kind : TableKind) (left : IsLeftmost kind) (m n : Machine) (s : Search) (case : IsCase hs kind m n No s) (from : ℕ) (above : s.lo ≤ from) where
+  idle_tells : (i : ℕ) → SearchEnds m s.text s.hi from No true (idle_at i) → Tells kind m s from (idle_leg i from s.hi)
   idle_tells i h = go (nat_lt from i && nat_le i s.hi)
     where
-      go : (b : Bool) → Tells m s from (if b then Later i else Here)
-      go true = (rest_law.rests hs m n s from i true case above h).2
+      go : (b : Bool) → Tells kind m s from (if b then Later i else Here)
+      go true = (rest_law.rests hs kind m n s from i true left case above h).2
       go false = tt
 
-  ended_tells : (e : Ended) → HasEnded m s.text s.hi from No true true e → IfOk (leg_of e from s.hi) (Tells m s from)
-  ended_tells (Finds None) h = rest_law.met hs m n s from None case above (late m s.text s.hi from (met_last None) refl h)
+  ended_tells : (e : Ended) → HasEnded m s.text s.hi from No true true e → IfOk (leg_of e from s.hi) (Tells kind m s from)
+  ended_tells (Finds None) h = rest_law.met hs kind m n s from None left case above (late m s.text s.hi from (met_last None) refl h)
   ended_tells (Finds (Some met)) h = tt
   ended_tells (Idle i) h = idle_tells i h.1
   ended_tells (Quit b p) h = tt
@@ -98,12 +98,11 @@ module _ (e : Ended) (from bound : ℕ) (leg : Result Leg MatchError) (is : leg 
         subst (λ x. HasEnded of.ahead (text_of x s) (high s) from No true true e) (ap (λ (m : Machine). m.setting.terminator) ms.ahead)
         (ends of.ahead of.back of.are_of tt)
 
-    pub leg_tells : IfOk leg (Tells of.ahead (search_for aim hs terminator s) from)
+    pub leg_tells : IfOk leg (Tells aim.kind of.ahead (search_for aim hs terminator s) from)
     leg_tells =
-        let case = subst (λ k. IsCase hs k of.ahead of.back No (search_for aim hs terminator s)) goes.kind
-        (free_case AreOf aim hs terminator s of (omega (arith, above, below, at_bound)) goes.free) in
-        subst (λ r. IfOk r (Tells of.ahead (search_for aim hs terminator s) from)) (sym (is ∙ ap (leg_of e from) at_bound))
-        (ended_tells hs of.ahead of.back (search_for aim hs terminator s) case from above e ended)
+        let case = free_case AreOf aim hs terminator s of (omega (arith, above, below, at_bound)) goes.free in
+        subst (λ r. IfOk r (Tells aim.kind of.ahead (search_for aim hs terminator s) from)) (sym (is ∙ ap (leg_of e from) at_bound))
+        (ended_tells hs aim.kind goes.kind of.ahead of.back (search_for aim hs terminator s) case from above e ended)
 
 -- FROM WHERE ON
 
@@ -148,31 +147,29 @@ module _ (AreOf : Machine → Machine → Type 0) (aim : Aim) (hs : List Re) (te
   abbrev Late : Aim
   Late = record aim { earliest = false }
 
-  -- the halves of a search for the preferred match
+  -- the halves of a search where not any match is enough
   abbrev pub late_of : AreHalvesOf AreOf Late hs terminator
   late_of = record { ahead = of.ahead; back = of.back; are_of = of.are_of; machines = of.machines; counted = of.counted; few = of.few }
 
   abbrev pub late_goes : GoesByNeedles Late s.anchored
   late_goes = record { kind = goes.kind; late = refl; all = goes.all; free = goes.free }
 
-  nothing_may : answer S ≡ None → IsAnswerBy aim.kind aim.earliest S None
-  nothing_may e = subst (λ k. IsAnswerBy k aim.earliest S None) (sym goes.kind) ((missing_by LeftmostFirst aim.earliest S).1 e)
+  nothing_may : answer_by aim.kind S ≡ None → IsAnswerBy aim.kind aim.earliest S None
+  nothing_may e = (missing_by (kind_of aim.kind) aim.earliest S).1 e
 
   -- a search without a position
   pub void_may : high s < low s → IsAnswerBy aim.kind aim.earliest S None
-  void_may void =
-      nothing_may ((answer_law.answer_none S).1
-      (no_span_no_answer S (λ m h. let w = spelled_within S m h in let a = w.0 in let b = w.1 in let d = w.2 in omega (arith, void, a, b, d))))
+  void_may void = nothing_may (sym (needle.none_void AreOf Late hs terminator late_of s (inl void)))
 
   module _ (lo hi : ℕ) (is_lo : lo ≡ low s) (is_hi : hi ≡ high s) (ordered : lo ≤ hi) where
     -- no start gives anything
-    pub none_may : StartsGive of.ahead S lo None → IsAnswerBy aim.kind aim.earliest S None
+    pub none_may : StartsGive aim.kind of.ahead S lo None → IsAnswerBy aim.kind aim.earliest S None
     none_may given =
-        nothing_may (sym (needle.none_given AreOf Late hs terminator late_of s late_goes lo hi is_lo is_hi ordered (subst (λ x. StartsGive of.ahead S x None) is_lo given)))
+        nothing_may (sym (needle.none_given AreOf Late hs terminator late_of s late_goes lo hi is_lo is_hi ordered (subst (λ x. StartsGive aim.kind of.ahead S x None) is_lo given)))
 
-    module _ (from : ℕ) (above : lo ≤ from) (below : from ≤ hi) (given : GivesToo of.ahead S from lo) where
-      case : IsCase hs leftmost_first of.ahead of.back No S
-      case = subst (λ k. IsCase hs k of.ahead of.back No S) goes.kind (free_case AreOf aim hs terminator s of (omega (arith, ordered, is_lo, is_hi)) goes.free)
+    module _ (from : ℕ) (above : lo ≤ from) (below : from ≤ hi) (given : GivesToo aim.kind of.ahead S from lo) where
+      case : IsCase hs aim.kind of.ahead of.back No S
+      case = free_case AreOf aim hs terminator s of (omega (arith, ordered, is_lo, is_hi)) goes.free
 
       answers_on : (o : Option Found) → IsAnswerBy aim.kind aim.earliest (record S { lo = from }) o → IsAnswerBy aim.kind aim.earliest S o
       answers_on (Some m) h =
@@ -181,7 +178,7 @@ module _ (AreOf : Machine → Machine → Type 0) (aim : Aim) (hs : List Re) (te
       answers_on None h =
           let none = no_answer_no_span (record S { lo = from }) goes.all
           ((answer_law.answer_none (record S { lo = from })).0 ((kinds_law.missing (kind_of aim.kind) aim.earliest (record S { lo = from }) goes.all).0 h)) in
-          none_may (given None (rest_law.nowhere hs of.ahead of.back S from case (omega (arith, below, is_hi))
+          none_may (given None (rest_law.nowhere hs aim.kind of.ahead of.back S from goes.kind case (omega (arith, below, is_hi))
           (λ z a b. no_walk_on S (ap anchoring_of goes.free) from (omega (arith, above, is_lo)) none z a (omega (arith, b)))))
 
       -- what is told from there on is told

@@ -24,19 +24,30 @@ use Rattle.rc_spans.specs.Machines.{AreMachines}
 use Rattle.rc_spans.proofs.PatternLemmas.{few_by_weight}
 use Rattle.rc_text.specs.declared.types.MatchKind.{MatchKind}
 use Rattle.rc_text.specs.declared.types.MatchKind.TheVariants.{All as all_matches, LeftmostFirst as leftmost_first, LeftmostLongest as leftmost_longest}
+use Rattle.rc_states.specs.declared.kind.TableKind.{TableKind}
+use Rattle.rc_states.specs.declared.kind.TableKind.TheVariants.{All, LeftmostFirst, LeftmostLongest}
 use Rattle.rc_states.specs.TableKinds.{kind_of, table_kind_of}
 use Rattle.rc_engine.specs.declared.engine.Engine.{Engine}
 use Rattle.rc_engines.specs.Limits.{AreOff, AreTooHeavy, NoneServe}
 use Rattle.rc_engines.specs.Makes.{AreMade}
 use Rattle.rc_engines.specs.Plans.{IsLazyFor, IsShortFor, plan_of}
-use Rattle.rc_engines.specs.Tables.{AreHalvesFor, MayBeTablesFor, is_tabled}
+use Rattle.rc_engines.specs.Tables.{AreHalvesFor, MayBeTablesFor, finds, is_tabled}
 use Rattle.rc_engines.specs.declared.engines.Limits.{Limits}
 
 -- where tables find matches of the kind, theirs is that kind
+found_kind : (states : TableKind) (kind : MatchKind) → finds states kind ≡ true → kind_of states ≡ kind
+found_kind All all_matches t = refl
+found_kind All leftmost_first t = absurd (true≢false (sym t))
+found_kind All leftmost_longest t = absurd (true≢false (sym t))
+found_kind LeftmostFirst all_matches t = absurd (true≢false (sym t))
+found_kind LeftmostFirst leftmost_first t = refl
+found_kind LeftmostFirst leftmost_longest t = absurd (true≢false (sym t))
+found_kind LeftmostLongest all_matches t = absurd (true≢false (sym t))
+found_kind LeftmostLongest leftmost_first t = absurd (true≢false (sym t))
+found_kind LeftmostLongest leftmost_longest t = refl
+
 same_kind : (kind : MatchKind) → is_tabled kind ≡ true → kind_of (table_kind_of kind) ≡ kind
-same_kind all_matches t = refl
-same_kind leftmost_first t = refl
-same_kind leftmost_longest t = absurd (true≢false (sym t))
+same_kind kind t = found_kind (table_kind_of kind) kind t
 
 module _ (e : Engine) (hs : List Re) (a : Automaton) (of : AreMachines hs e.program.terminator (table_kind_of e.kind) (machine_of a Forwards) (machine_of a Backwards)) where
   -- halves of searches by it are halves for the engine's program

@@ -15,6 +15,8 @@ use Rattle.rc_program.specs.Text.{Text, holds}
 use Rattle.rc_program.specs.Scalars.{scalar_at}
 use Rattle.rc_program.specs.Program.{Place, choice, byte, branch, scalar, guard, slot, accept, Way, stays, reads, in_ranges, over_byte, over_scalar, branch_ways, ways_out, pair_at, place_at, ways, is_match_place}
 use Rattle.rc_program.specs.Answer.{Search, Chosen, IsAnswer, answer, groups, found, ends, next_of, last_of, only, pattern_at, pattern_of, slots_of}
+use Rattle.rc_program.specs.Longest.{IsLongestWalk, IsLongestAnswer, longest, longest_groups}
+use Rattle.rc_program.proofs.ReachLemmas.{longest_law}
 use Rattle.rc_program.proofs.SideLemmas.{scalar_law}
 use Rattle.rc_program.proofs.WayLemmas.{scalar_at_short, in_map}
 use Rattle.rc_program.proofs.AnswerLemmas.{answer_law, chosen_law, chosen_accepts, last_of_more, match_place_is, walk_ends, walk_within}
@@ -72,6 +74,18 @@ module _ (low : ℕ) (wide slim : Pair → List Pair) (leaves : (n : Pair) → L
       record {
         is_walk = walk;
         is_least = λ v other. ⊎_elim (λ e. inl e) (λ b. inr (before_too Others walk v b)) (first.is_least v (widens Ends Others weaker other));
+      }
+
+  -- the longest walk without the bound, where it stays within, is the longest under it
+  longest_too : (Ends Others : Pair → Type 0) → ((n : Pair) → Others n → Ends n) → (p f w : List Pair) → IsLongestWalk wide Ends p f w →
+      ((k : Pair) → IsIn k w → k.1 ≤ low) → Others (last_of w) → IsLongestWalk slim Others p f w
+  longest_too Ends Others weaker p f w long within end =
+      let walk = narrows Ends Others long.is_walk within end in
+      record {
+        is_walk = walk;
+        is_most = λ v other. long.is_most v (widens Ends Others weaker other);
+        is_least = λ v other same.
+            ⊎_elim (λ e. inl e) (λ b. inr (before_too Others walk v b)) (long.is_least v (widens Ends Others weaker other) same);
       }
 
 -- the way reads something
@@ -212,11 +226,37 @@ narrow_answer s c a =
       none_before = λ y start l. absurd (omega (arith, start.0, l));
     }
 
+-- so is the longest match of the least start
+narrow_longest : (s : Search) (c : Chosen) → IsLongestAnswer s c → IsLongestAnswer (narrowed s (found s c)) c
+narrow_longest s c a =
+    let long = a.counts in
+    let within =
+    walk_within s.places s.text s.hi (λ n. IsTrue (ends s n)) c.start long.is_walk
+    (λ n i. ⊎_elim (λ (q : (0, c.start) ≡ n). let h : c.start ≡ n.1 = ap (λ (m : Pair). m.1) q in (omega (arith, h), omega (arith, h, a.is_start.1))) (λ never. absurd never) i) in
+    let p : ℕ = pattern_of s c in
+    let may : IsTrue (ends s (last_of c.walk)) = walk_ends (next_of s) (λ n. IsTrue (ends s n)) long.is_walk in
+    let end : place_at s.places (last_of c.walk).0 ≡ accept p = match_place_is (only s.anchoring) (place_at s.places (last_of c.walk).0) may in
+    let here : IsTrue (is_match_place (only s.anchoring) (accept p)) = subst (λ q. IsTrue (is_match_place (only s.anchoring) q)) end may in
+    record {
+      is_start = (omega arith, within.1, λ _. refl);
+      counts =
+          longest_too (last_of c.walk).1 (next_of s) (next_of (narrowed s (found s c))) (ways_leave s.places s.text (last_of c.walk).1 s.hi within.2)
+          (λ n. IsTrue (ends s n)) (λ n. IsTrue (is_match_place (Some p) (place_at s.places n.0)))
+          (λ n h. subst (λ q. IsTrue (is_match_place (only s.anchoring) q)) (sym (that_place p (place_at s.places n.0) h)) here)
+          [] ((0, c.start) ∷ []) c.walk long (λ k i. (within.0 k i).1)
+          (subst (λ q. IsTrue (is_match_place (Some p) q)) (sym end) (eq-eqb p p refl));
+      allowed = a.allowed;
+      none_before = λ y start l. absurd (omega (arith, start.0, l));
+    }
+
+longest_of : (s : Search) (m : Found) → longest s ≡ Some m → (c : Chosen) × IsLongestAnswer s c × (found s c ≡ m)
+longest_of s m = (longest_law.answer_some s m).0
+
 chosen_of : (s : Search) (m : Found) → answer s ≡ Some m → (c : Chosen) × IsAnswer s c × (found s c ≡ m)
 chosen_of s m = (answer_law.answer_some s m).0
 
 pub narrow_law : NarrowLaw
-unfolding answer groups
+unfolding answer groups longest longest_groups
 narrow_law = record {
   walk = narrow_answer;
   match = λ s m e.
@@ -227,4 +267,12 @@ narrow_law = record {
       let r = chosen_of s m e in
       subst (λ (f : Found). groups (narrowed s f) n ≡ groups s n) r.2
       (ap (λ o. option_map (slots_of s n) o) ((chosen_law (narrowed s (found s r.0)) r.0).1 (narrow_answer s r.0 r.1) ∙ sym ((chosen_law s r.0).1 r.1)));
+  longest_match = λ s m e.
+      let r = longest_of s m e in
+      subst (λ (f : Found). longest (narrowed s f) ≡ Some f) r.2
+      (ap (λ o. option_map (found s) o) ((longest_law.chosen_some (narrowed s (found s r.0)) r.0).1 (narrow_longest s r.0 r.1)));
+  longest_slots = λ s m n e.
+      let r = longest_of s m e in
+      subst (λ (f : Found). longest_groups (narrowed s f) n ≡ longest_groups s n) r.2
+      (ap (λ o. option_map (slots_of s n) o) ((longest_law.chosen_some (narrowed s (found s r.0)) r.0).1 (narrow_longest s r.0 r.1) ∙ sym ((longest_law.chosen_some s r.0).1 r.1)));
 }

@@ -1,5 +1,5 @@
 -- The slots of a match without its groups.
-use Rattle.std.proofs.Common.{◌≡◌, ◌≢◌, ℕ, ◌+◌, ◌*◌, ◌<◌, ◌≤◌, false, List, [], ◌∷◌, length, Option, Some, None, ⊎_elim, sym, subst, ap, ap₂, ◌∙◌, refl, arith, if◌then◌else◌, slice_set, slice_index_or, replicate, get_or-set_same, get_or-set_other, length-set, eq-eqb, ne_eqb, MatchOption, min, max}
+use Rattle.std.proofs.Common.{◌≡◌, ◌≢◌, ℕ, ◌+◌, ◌*◌, ◌<◌, ◌≤◌, true, false, true≢false, List, [], ◌∷◌, length, Option, Some, None, ⊎_elim, sym, subst, ap, ap₂, ◌∙◌, refl, arith, if◌then◌else◌, slice_set, slice_index_or, replicate, get_or-set_same, get_or-set_other, length-set, eq-eqb, ne_eqb, MatchOption, min, max}
 use Rattle.std.specs.Option.{option_map, option_or}
 use Rattle.std.proofs.lemmas.Bool.{cases_eq, cases_lt}
 use Rattle.std.proofs.lemmas.List.{length-replicate, get_or-replicate}
@@ -11,7 +11,9 @@ use Rattle.rc_text.specs.Found.{Found}
 use Rattle.rc_walks.specs.Walks.{Pair}
 use Rattle.rc_program.specs.Program.{Place, choice, byte, branch, scalar, guard, slot, accept, place_at, program}
 use Rattle.rc_program.specs.Answer.{Search, Chosen, answer, found, groups, last_of, last_visit, names, pattern_of, slot_of, slots_of}
+use Rattle.rc_program.specs.Longest.{longest, longest_groups}
 use Rattle.rc_program.proofs.AnswerLemmas.{answer_law, chosen_law}
+use Rattle.rc_program.proofs.ReachLemmas.{longest_law}
 use Rattle.rc_program.proofs.PlaceLemmas.{AnyNumber, LiesInPart, NamesGroup, Suit, each_always, program_sound}
 use Rattle.rc_program.proofs.WayLemmas.{past_places}
 use Rattle.rc_pass.specs.KindSlots.{span_slots}
@@ -25,6 +27,7 @@ use Rattle.rc_engine.specs.Engine.{engine_search}
 use Rattle.rc_engine.specs.declared.engine.Engine.{Engine}
 use Rattle.rc_engines.specs.Narrow.{narrowed}
 use Rattle.rc_engines.specs.Slots.{NamesGroups}
+use Rattle.rc_engines.specs.Spans.{is_leftmost}
 use Rattle.rc_engines.proofs.NarrowLemmas.{narrow_law}
 
 suits : (low p s : ℕ) (hs : List Re) → low ≤ s → Suit (λ k. low ≤ k) AnyNumber p s hs
@@ -94,22 +97,32 @@ length-span m n =
     ∙ length-set (replicate n None) (2 * m.pattern) (Some m.start) ∙ length-replicate n None
 
 -- as many slots as whole matches have tell the whole match alone
+bare_slots : (s : Search) (c : Chosen) (n patterns : ℕ) → NamesGroups patterns s.places → n ≤ 2 * patterns → span_slots n (found s c) ≡ slots_of s n c
+bare_slots s c n patterns numbered le =
+    fill_by_all (slot_of s c) (span_slots n (found s c)) n None (length-span (found s c) n)
+    (λ k l. slot_at s c n k l (not_visited s.places k (λ q j here. absurd (omega (arith, numbered q k j here, l, le))) c.walk))
+
 pub span_groups : (s : Search) (m : Found) (n patterns : ℕ) → NamesGroups patterns s.places → n ≤ 2 * patterns → answer s ≡ Some m →
     Some (span_slots n m) ≡ groups s n
 unfolding groups
 span_groups s m n patterns numbered le e =
     let r = (answer_law.answer_some s m).0 e in
-    let slots : span_slots n (found s r.0) ≡ slots_of s n r.0 =
-    fill_by_all (slot_of s r.0) (span_slots n (found s r.0)) n None (length-span (found s r.0) n)
-    (λ k l. slot_at s r.0 n k l (not_visited s.places k (λ q j here. absurd (omega (arith, numbered q k j here, l, le))) r.0.walk)) in
     subst (λ (f : Found). Some (span_slots n f) ≡ groups s n) r.2
-    (ap (λ xs. Some xs) slots ∙ ap (λ o. option_map (slots_of s n) o) (sym ((chosen_law s r.0).1 r.1)))
+    (ap (λ xs. Some xs) (bare_slots s r.0 n patterns numbered le) ∙ ap (λ o. option_map (slots_of s n) o) (sym ((chosen_law s r.0).1 r.1)))
+
+span_longest : (s : Search) (m : Found) (n patterns : ℕ) → NamesGroups patterns s.places → n ≤ 2 * patterns → longest s ≡ Some m →
+    Some (span_slots n m) ≡ longest_groups s n
+unfolding longest_groups
+span_longest s m n patterns numbered le e =
+    let r = (longest_law.answer_some s m).0 e in
+    subst (λ (f : Found). Some (span_slots n f) ≡ longest_groups s n) r.2
+    (ap (λ xs. Some xs) (bare_slots s r.0 n patterns numbered le) ∙ ap (λ o. option_map (slots_of s n) o) (sym ((longest_law.chosen_some s r.0).1 r.1)))
 
 -- the slots of the kind are those of the whole match, where no more are asked for
-pub span_told : (kind : MatchKind) (s : Search) (m : Found) (n patterns : ℕ) (slots : List (Option ℕ)) → kind ≡ leftmost_first → NamesGroups patterns s.places →
+pub span_told : (kind : MatchKind) (s : Search) (m : Found) (n patterns : ℕ) (slots : List (Option ℕ)) → is_leftmost kind ≡ true → NamesGroups patterns s.places →
     n ≤ 2 * patterns → answer_by kind s ≡ Some m → slots ≡ span_slots n m → Some slots ≡ slots_by kind s n
-span_told all_matches s m n patterns slots k numbered le e w = cc
-span_told leftmost_longest s m n patterns slots k numbered le e w = cc
+span_told all_matches s m n patterns slots k numbered le e w = absurd (true≢false (sym k))
+span_told leftmost_longest s m n patterns slots k numbered le e w = ap (λ xs. Some xs) w ∙ span_longest s m n patterns numbered le e
 span_told leftmost_first s m n patterns slots k numbered le e w = ap (λ xs. Some xs) w ∙ span_groups s m n patterns numbered le e
 
 -- the groups that the search over the match's span tells are those of the match
@@ -127,6 +140,13 @@ pub slots_there : (o : Option Found) (m : Found) (p : Option ℕ) (before after 
 slots_there o m p before after slots e q told =
     let some : p ≡ Some m.pattern = q ∙ ap (λ x. option_map (λ (f : Found). f.pattern) x) e in
     subst (λ x. MatchOption x (after ≡ before) (λ _. Some after ≡ slots)) some told
+
+-- and so where it is the longest match
+pub longest_told : (s t : Search) (m : Found) (p : Option ℕ) (before after : List (Option ℕ)) (n : ℕ) → t ≡ narrowed s m → longest s ≡ Some m →
+    p ≡ option_map (λ (f : Found). f.pattern) (longest t) → MatchOption p (after ≡ before) (λ _. Some after ≡ longest_groups t n) → Some after ≡ longest_groups s n
+longest_told s t m p before after n same e q told =
+    slots_there (longest t) m p before after (longest_groups t n) (ap longest same ∙ narrow_law.longest_match s m e) q told
+    ∙ ap (λ x. longest_groups x n) same ∙ narrow_law.longest_slots s m n e
 
 -- the search of an input whose span is the match's, and whose anchoring is for its pattern
 pub narrow_input : (e : Engine) (a b : Searched) (m : Found) → low a ≤ m.start → m.start ≤ m.end → m.end ≤ high a → KeepsText a b →

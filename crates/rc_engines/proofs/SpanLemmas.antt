@@ -26,12 +26,13 @@ use Rattle.rc_program.specs.Looks.{side_after, side_before, is_edge}
 use Rattle.rc_program.specs.Text.{Text, holds, behind, beyond}
 use Rattle.rc_program.specs.Program.{Place, place_at, program, shown}
 use Rattle.rc_program.specs.Spells.{SpelledBy}
-use Rattle.rc_program.specs.Answer.{Search, IsStart, answer}
+use Rattle.rc_program.specs.Answer.{Search, IsStart}
 use Rattle.rc_program.specs.Answer as answers
 use Rattle.rc_program.specs.Greatest.{IsSpelledIn, HasNoSpan}
 use Rattle.rc_program.specs.Kinds.{answer_by}
 use Rattle.rc_program.specs.Sought.{anchoring_of, search_over}
 use Rattle.rc_program.proofs.AnswerLemmas.{answer_law, match_place_is, walk_ends}
+use Rattle.rc_program.proofs.KindLemmas.{kind_spelled}
 use Rattle.rc_program.proofs.ReachLemmas.{longest_law}
 use Rattle.rc_program.proofs.GreatestLemmas.{greatest_law, no_span_no_answer, spelled_within}
 use Rattle.rc_program.proofs.GroupLemmas.{group_law}
@@ -281,18 +282,16 @@ early_none e k s b bound is so =
 abbrev pub of_length : ℕ → HalfFound → Found
 of_length n h = record { pattern = h.pattern; start = h.offset - n; end = h.offset }
 
-pub length_told : (e : Engine) (k : Spans) (s : Searched) (n : ℕ) → BoundsWalks k (places_of e.program.places.items) → IsOneLength k n → e.kind ≡ leftmost_first → (h : HalfFound) →
+pub length_told : (e : Engine) (k : Spans) (s : Searched) (n : ℕ) → BoundsWalks k (places_of e.program.places.items) → IsOneLength k n → (h : HalfFound) →
     Some h ≡ option_map half_of (answer_by e.kind (engine_search e s)) →
     (Some (of_length n h) ≡ answer_by e.kind (engine_search e s)) × (low s ≤ h.offset - n) × (h.offset - n ≤ h.offset)
-length_told e k s n bound one kind h told =
-    subst (λ x. (Some (of_length n h) ≡ answer_by x (engine_search e s)) × (low s ≤ h.offset - n) × (h.offset - n ≤ h.offset)) (sym kind)
-    (go (answer (engine_search e s)) refl (told ∙ ap (λ x. option_map half_of (answer_by x (engine_search e s))) kind))
+length_told e k s n bound one h told = go (answer_by e.kind (engine_search e s)) refl told
   where
-    go : (o : Option Found) → answer (engine_search e s) ≡ o → Some h ≡ option_map half_of (answer (engine_search e s)) →
-        (Some (of_length n h) ≡ answer (engine_search e s)) × (low s ≤ h.offset - n) × (h.offset - n ≤ h.offset)
+    go : (o : Option Found) → answer_by e.kind (engine_search e s) ≡ o → Some h ≡ option_map half_of (answer_by e.kind (engine_search e s)) →
+        (Some (of_length n h) ≡ answer_by e.kind (engine_search e s)) × (low s ≤ h.offset - n) × (h.offset - n ≤ h.offset)
     go None is t = absurd (none-some h (sym (t ∙ ap (option_map half_of) is)))
     go (Some m) is t =
         let half : h ≡ half_of m = same_Some h (half_of m) (t ∙ ap (option_map half_of) is) in
-        let b = by_length k (places_of e.program.places.items) e.program.terminator e.program.passes_over s bound n one m (greatest_law.answer_spelled (engine_search e s) m is) in
-        subst (λ (x : HalfFound). (Some (of_length n x) ≡ answer (engine_search e s)) × (low s ≤ x.offset - n) × (x.offset - n ≤ x.offset)) (sym half)
+        let b = by_length k (places_of e.program.places.items) e.program.terminator e.program.passes_over s bound n one m (kind_spelled e.kind (engine_search e s) m is) in
+        subst (λ (x : HalfFound). (Some (of_length n x) ≡ answer_by e.kind (engine_search e s)) × (low s ≤ x.offset - n) × (x.offset - n ≤ x.offset)) (sym half)
         (ap (λ x. let f : Found = record { pattern = m.pattern; start = x; end = m.end } in Some f) b.2 ∙ sym is, b.0, b.1)

@@ -9,8 +9,9 @@ use Rattle.rc_pattern.specs.Re.{Re}
 use Rattle.rc_text.specs.Found.{Found, HalfFound, half_of}
 use Rattle.rc_text.specs.Text.{Searched}
 use Rattle.rc_text.specs.declared.types.MatchError.{MatchError}
-use Rattle.rc_text.specs.declared.types.MatchKind.TheVariants.{LeftmostFirst as leftmost_first}
-use Rattle.rc_program.specs.Answer.{Search, answer}
+use Rattle.rc_text.specs.declared.types.MatchKind.{MatchKind}
+use Rattle.rc_text.specs.declared.types.MatchKind.TheVariants.{All as all_matches, LeftmostFirst as leftmost_first, LeftmostLongest as leftmost_longest}
+use Rattle.rc_program.specs.Answer.{Search}
 use Rattle.rc_program.specs.Kinds as kinds
 use Rattle.rc_program.specs.Kinds.{is_early}
 use Rattle.rc_states.specs.TableKinds.{IsAnswerBy, IsAnswerWhere, answer_by, kind_of, table_kind_of}
@@ -18,19 +19,21 @@ use Rattle.rc_states.specs.declared.kind.TableKind.{TableKind}
 use Rattle.rc_states.specs.declared.kind.TableKind.TheVariants as table
 use Rattle.rc_program.proofs.GreatestLemmas.{greatest_law}
 use Rattle.rc_program.proofs.KindLemmas.{missing_by}
+use Rattle.rc_program.proofs.ReachLemmas.{longest_law}
 use Rattle.rc_program.specs.Places.{places_of}
 use Rattle.rc_program.specs.Program.{place_at, program, slot}
 use Rattle.rc_program.specs.Sought.{anchoring_of, search_over}
 use Rattle.rc_automaton.specs.Machine.{Machine}
 use Rattle.rc_spans.specs.Aims.{AreHalvesOf, search_for}
 use Rattle.rc_spans.specs.Halves.{IsForwardHalf}
+use Rattle.rc_spans.specs.Leftmost.{IsLeftmost}
 use Rattle.rc_spans.specs.Reverse.{IsMatchToEnd}
 use Rattle.rc_spans.proofs.ReverseEndLemmas.{reverse_end_law}
 use Rattle.rc_spans.specs.declared.search.Aim.{Aim}
 use Rattle.rc_engine.specs.Engine.{engine_search}
 use Rattle.rc_engine.specs.declared.engine.Engine.{Engine}
 use Rattle.rc_engines.specs.Slots.{NamesGroups}
-use Rattle.rc_engines.specs.Spans.{BoundsWalks, SeeksFromEnd, SeeksGreatestFromEnd}
+use Rattle.rc_engines.specs.Spans.{BoundsWalks, SeeksFromEnd, SeeksGreatestFromEnd, is_leftmost}
 use Rattle.rc_engines.specs.declared.spans.Spans.{Spans}
 use Rattle.rc_engines.specs.Tables.{AreHalvesFor, aim_of}
 use Rattle.rc_engines.proofs.SettleLemmas.{answers_so, settled_by, settled_prop}
@@ -38,15 +41,20 @@ use Rattle.rc_engines.proofs.SlotLemmas.{program_names}
 use Rattle.rc_engines.proofs.SpanLemmas.{ends_at_bound}
 use Rattle.rc_engines.proofs.ToEndLemmas.{greatest_to_end}
 
--- the half that a search forwards tells is that of the preferred match
-half_told : (s : Search) (o : Option HalfFound) → IsForwardHalf table.LeftmostFirst false s o → o ≡ option_map half_of (answer s)
-half_told s None h = ap (option_map half_of) h
-half_told s (Some h) w =
+-- the half that a search forwards tells is that of the match of the least start
+half_told : (kind : TableKind) → IsLeftmost kind → (s : Search) (o : Option HalfFound) → IsForwardHalf kind false s o → o ≡ option_map half_of (answer_by kind s)
+half_told kind left s None h = ap (option_map half_of) h
+half_told table.All left s (Some h) w = absurd left
+half_told table.LeftmostFirst left s (Some h) w =
+    ap₂ (λ (p x : ℕ). let f : HalfFound = record { pattern = p; offset = x } in Some f) w.3 w.2 ∙ ap (option_map half_of) w.1
+half_told table.LeftmostLongest left s (Some h) w =
     ap₂ (λ (p x : ℕ). let f : HalfFound = record { pattern = p; offset = x } in Some f) w.3 w.2 ∙ ap (option_map half_of) w.1
 
-half_by : (kind : TableKind) (s : Search) (o : Option HalfFound) → kind ≡ table.LeftmostFirst → IsForwardHalf kind false s o → o ≡ option_map half_of (answer_by kind s)
-half_by kind s o is h =
-    subst (λ k. o ≡ option_map half_of (answer_by k s)) (sym is) (half_told s o (subst (λ k. IsForwardHalf k false s o) is h))
+-- where not each match counts, that is what tables find
+leftmost_kind : (kind : MatchKind) → is_leftmost kind ≡ true → IsLeftmost (table_kind_of kind)
+leftmost_kind all_matches h = absurd (true≢false (sym h))
+leftmost_kind leftmost_first h = tt
+leftmost_kind leftmost_longest h = tt
 
 not_so : (b : Bool) → not b ≡ true → b ≡ false
 not_so true e = absurd (true≢false (sym e))
@@ -56,6 +64,7 @@ not_so false e = refl
 some_missing : (kind : TableKind) (s : Search) (m : Found) (b : Bool) → is_early true s ≡ b → IsAnswerWhere b kind s (Some m) → answer_by kind s ≡ None → ⊥
 some_missing kind s m false is h e = none-some m (sym (h ∙ e))
 some_missing table.All s m true is h e = (greatest_law.none s).0 e m h
+some_missing table.LeftmostLongest s m true is h e = (greatest_law.none s).0 ((greatest_law.same_none s (not_so s.passes_over is)).1 ((longest_law.same_none s (not_so s.passes_over is)).0 e)) m h
 some_missing table.LeftmostFirst s m true is h e = (greatest_law.none s).0 ((greatest_law.same_none s (not_so s.passes_over is)).1 e) m h
 
 -- where any match is enough, an end is told exactly where there is a match
@@ -100,8 +109,8 @@ module _ (e : Engine) (patterns : ℕ) {AreOf : Machine → Machine → Type 0} 
   tables_tell (Ok found) tells =
       told (hlevel props) (λ x hs. IsAnswerBy x.kind x.earliest (search_for x hs e.program.terminator s) found) tells (λ hs tabled same h. h ∙ same_answer hs tabled same)
 
-  -- and a search forwards its end, where it is the preferred one
-  pub tables_tell_end : e.kind ≡ leftmost_first → (r : Result (Option HalfFound) MatchError) →
+  -- and a search forwards its end, where it is that of the least start
+  pub tables_tell_end : is_leftmost e.kind ≡ true → (r : Result (Option HalfFound) MatchError) →
       ((hs : List Re) → places_of e.program.places.items ≡ program hs → AreHalvesOf AreOf a hs e.program.terminator →
       IfOk r (IsForwardHalf a.kind a.earliest (search_for a hs e.program.terminator s))) →
       IfOk r (λ found. found ≡ option_map half_of (kinds.answer_by e.kind (engine_search e s)))
@@ -109,7 +118,7 @@ module _ (e : Engine) (patterns : ℕ) {AreOf : Machine → Machine → Type 0} 
   tables_tell_end kind (Ok found) tells =
       told (hlevel props) (λ x hs. IsForwardHalf x.kind x.earliest (search_for x hs e.program.terminator s) found) tells
       (λ hs tabled same h.
-      half_by (table_kind_of e.kind) (search_for (aim_of e patterns) hs e.program.terminator s) found (ap table_kind_of kind) h ∙ ap (option_map half_of) (same_answer hs tabled same))
+      half_told (table_kind_of e.kind) (leftmost_kind e.kind kind) (search_for (aim_of e patterns) hs e.program.terminator s) found h ∙ ap (option_map half_of) (same_answer hs tabled same))
 
   -- one forwards that stops early tells whether there is a match
   pub tables_tell_any : (o : Option HalfFound) →
@@ -156,8 +165,9 @@ module _ (e : Engine) (patterns : ℕ) {AreOf : Machine → Machine → Type 0} 
       told (hlevel props) (λ x hs. IsMatchToEnd x.earliest (search_for x hs e.program.terminator s) found) tells
       (λ hs tabled same h.
       let last = ends_at_bound k (program hs) e.program.terminator e.program.passes_over s (subst (BoundsWalks k) same bound) from_end.2.0 in
-      reverse_end_law.preferred hs (search_for (aim_of e patterns) hs e.program.terminator s) found refl (ap anchoring_of from_end.1) last h
-      ∙ ap (λ x. answer_by x (search_for (aim_of e patterns) hs e.program.terminator s)) (sym (ap table_kind_of from_end.0)) ∙ same_answer hs tabled same)
+      reverse_end_law.leftmost hs (table_kind_of e.kind) (search_for (aim_of e patterns) hs e.program.terminator s) found (leftmost_kind e.kind from_end.0)
+      refl (ap anchoring_of from_end.1) last h
+      ∙ same_answer hs tabled same)
 
   -- the greatest too, whether or not matches are passed over
   pub tables_tell_greatest_from_end : (k : Spans) → BoundsWalks k (places_of e.program.places.items) → SeeksGreatestFromEnd e.kind k s → (r : Result (Option Found) MatchError) →

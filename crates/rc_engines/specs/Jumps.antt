@@ -3,7 +3,7 @@
 use Rattle.std.specs.Prelude.{◌≡◌, ℕ, ◌<◌, ◌≤◌, ◌&&◌, true, false, nat_lt, nat_le, Option, Some, None, Result, Ok, Err, if◌then◌else◌}
 use Rattle.rc_text.specs.declared.types.Anchored.{Anchored}
 use Rattle.rc_text.specs.declared.types.Anchored.TheVariants.{No}
-use Rattle.rc_states.specs.declared.kind.TableKind.TheVariants.{LeftmostFirst as leftmost_first}
+use Rattle.rc_states.specs.declared.kind.TableKind.{TableKind}
 use Rattle.rc_text.specs.declared.types.MatchError as error
 use Rattle.rc_text.specs.declared.types.MatchError.TheVariants as errors
 use Rattle.rc_program.specs.Answer.{Search}
@@ -11,6 +11,7 @@ use Rattle.rc_automaton.specs.Machine.{Machine}
 use Rattle.rc_automaton.specs.declared.ended.Met.{Met}
 use Rattle.rc_automaton.specs.declared.ended.Ended.{Ended}
 use Rattle.rc_automaton.specs.declared.ended.Ended.TheVariants as endings
+use Rattle.rc_spans.specs.Leftmost.{IsLeftmost}
 use Rattle.rc_spans.specs.Rests.{GivesToo, StartsGive}
 use Rattle.rc_spans.specs.declared.search.Aim.{Aim}
 use Rattle.rc_engines.specs.declared.needles.Leg.{Leg}
@@ -18,7 +19,7 @@ use Rattle.rc_engines.specs.declared.needles.Leg.TheVariants.{Nowhere, Here, Lat
 
 -- The search goes from needle to needle: it isn't anchored, any match of these is enough, and none is passed over.
 pub record GoesEarly (aim : Aim) (anchored : Anchored) : Type 0 where
-  pub kind : aim.kind ≡ leftmost_first
+  pub kind : IsLeftmost aim.kind
   pub early : aim.earliest ≡ true
   pub all : aim.passes_over ≡ false
   pub free : anchored ≡ No
@@ -38,10 +39,10 @@ leg_of (endings.Quit b p) from hi = Err (errors.Quit b p)
 leg_of (endings.GaveUp p memory) from hi = Err (errors.GaveUp p memory)
 
 -- what that means for the starts from there on
-abbrev pub Tells : Machine → Search → ℕ → Leg → Type 0
-Tells m s from Nowhere = StartsGive m s from None
-Tells m s from Here = Unit {0}
-Tells m s from (Later i) = GivesToo m s i from
+abbrev pub Tells : TableKind → Machine → Search → ℕ → Leg → Type 0
+Tells kind m s from Nowhere = StartsGive kind m s from None
+Tells kind m s from Here = Unit {0}
+Tells kind m s from (Later i) = GivesToo kind m s i from
 
 -- a later position lies behind
 abbrev pub ComesOn : ℕ → ℕ → Leg → Type 0

@@ -2,6 +2,7 @@
 use Rattle.std.specs.Prelude.{◌≡◌, ℕ, Some}
 use Rattle.rc_text.specs.Found.{Found}
 use Rattle.rc_program.specs.Answer.{Search, Chosen, IsAnswer, by_pattern, found, answer, groups}
+use Rattle.rc_program.specs.Longest.{longest, longest_groups}
 
 -- the same search over the span of a match, for the match's pattern alone
 abbrev pub narrowed : Search → Found → Search
@@ -14,3 +15,6 @@ pub record NarrowLaw : Type 0 where
   pub match : (s : Search) (m : Found) → answer s ≡ Some m → answer (narrowed s m) ≡ Some m
   -- with the same groups
   pub groups : (s : Search) (m : Found) (n : ℕ) → answer s ≡ Some m → groups (narrowed s m) n ≡ groups s n
+  -- and so where it is the longest match of the least start
+  pub longest_match : (s : Search) (m : Found) → longest s ≡ Some m → longest (narrowed s m) ≡ Some m
+  pub longest_slots : (s : Search) (m : Found) (n : ℕ) → longest s ≡ Some m → longest_groups (narrowed s m) n ≡ longest_groups s n

@@ -2,12 +2,11 @@
 -- By what a search goes, and how a search by tables does.
 use Rattle.std.specs.Prelude.{◌≡◌, ◌⊎◌, ⊤, Bool, true, false, Option, Some, None, MatchOption}
 use Rattle.rc_text.specs.Text.{Searched}
-use Rattle.rc_text.specs.declared.types.MatchKind.TheVariants.{LeftmostFirst}
 use Rattle.rc_program.specs.Places.{places_of}
 use Rattle.rc_guards.specs.Guard.{IsGuard}
 use Rattle.rc_guards.specs.declared.guard.Guard.{Guard}
 use Rattle.rc_engine.specs.declared.engine.Engine.{Engine}
-use Rattle.rc_engines.specs.Spans.{IsOneLength, SeeksFromEnd, SeeksGreatestFromEnd}
+use Rattle.rc_engines.specs.Spans.{IsOneLength, SeeksFromEnd, SeeksGreatestFromEnd, is_leftmost}
 use Rattle.rc_engines.specs.declared.engines.Engines.{Engines}
 use Rattle.rc_engines.specs.declared.route.Route.{Route}
 use Rattle.rc_engines.specs.declared.route.Route.TheVariants.{FromEnd, GreatestFromEnd, OfLength, Along}
@@ -29,11 +28,11 @@ GoesBy e has_states NoTables = (e.tables ≡ None) × ((e.lazy ≡ None) ⊎ (ha
 
 -- What each route relies on.
 abbrev pub Relies : Engines → Searched → Route → Type 0
--- the preferred match is sought, not anchored, and each ends where the slice does
+-- the match of the least start is sought, not anchored, and each ends where the slice does
 Relies e s FromEnd = SeeksFromEnd e.engine.kind e.spans s
 -- so it is with the greatest match
 Relies e s GreatestFromEnd = SeeksGreatestFromEnd e.engine.kind e.spans s
--- the preferred match is sought, and each is of this length
-Relies e s (OfLength n guard) = (e.engine.kind ≡ LeftmostFirst) × IsOneLength e.spans n × MayGuard e.engine guard
+-- the match of the least start is sought, and each is of this length
+Relies e s (OfLength n guard) = (is_leftmost e.engine.kind ≡ true) × IsOneLength e.spans n × MayGuard e.engine guard
 -- nothing but the needles
 Relies e s (Along guard) = MayGuard e.engine guard

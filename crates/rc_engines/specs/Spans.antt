@@ -6,7 +6,7 @@ use Rattle.rc_text.specs.Plain.{is_anchored}
 use Rattle.rc_text.specs.Text.{Searched, low, high, slice_end}
 use Rattle.rc_text.specs.declared.types.Anchored.TheVariants.{No}
 use Rattle.rc_text.specs.declared.types.MatchKind.{MatchKind}
-use Rattle.rc_text.specs.declared.types.MatchKind.TheVariants.{All, LeftmostFirst}
+use Rattle.rc_text.specs.declared.types.MatchKind.TheVariants.{All, LeftmostFirst, LeftmostLongest}
 use Rattle.rc_pattern.specs.Re.{Re}
 use Rattle.rc_pattern.specs.Properties.{both}
 use Rattle.rc_pattern.specs.declared.hir.Look.TheVariants.{Start, End}
@@ -75,9 +75,15 @@ leave_none k s =
 abbrev pub EndAlone : Spans → Type 0
 EndAlone k = (k.ends ≡ true) × (k.begins ≡ false)
 
--- the preferred match is sought from the upper bound
+-- matches of the kind begin at the least start: the preferred match does, and the longest one
+abbrev pub is_leftmost : MatchKind → Bool
+is_leftmost All = false
+is_leftmost LeftmostFirst = true
+is_leftmost LeftmostLongest = true
+
+-- the match of the least start is sought from the upper bound
 abbrev pub SeeksFromEnd : MatchKind → Spans → Searched → Type 0
-SeeksFromEnd kind k s = (kind ≡ LeftmostFirst) × (s.anchored ≡ No) × EndAlone k
+SeeksFromEnd kind k s = (is_leftmost kind ≡ true) × (s.anchored ≡ No) × EndAlone k
 
 -- so is the greatest one
 abbrev pub SeeksGreatestFromEnd : MatchKind → Spans → Searched → Type 0

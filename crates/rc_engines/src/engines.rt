@@ -80,7 +80,7 @@ pub struct Engines {
 }
 
 impl Engines {
-    ghost use Rattle.std.specs.Prelude.{◌≡◌, ◌⊎◌, ◌≤◌, IfOk, IfSome, MatchOption, Option, Some, None, List, length, is_some};
+    ghost use Rattle.std.specs.Prelude.{◌≡◌, ◌⊎◌, ◌≤◌, true, IfOk, IfSome, MatchOption, Option, Some, None, List, length, is_some};
     ghost use Rattle.std.specs.Option.{option_map};
     ghost use Rattle.rc_text.specs.Found.{Found, half_of};
     ghost use Rattle.rc_pattern.specs.Re.{Re};
@@ -99,13 +99,12 @@ impl Engines {
     ghost use Rattle.rc_program.specs.Matches.{begin_of, end_of, next_match};
     ghost use Rattle.rc_engine.specs.Engine.{engine_search};
     ghost use Rattle.rc_engine.specs.Moved.{IsMoved};
-    ghost use Rattle.rc_text.specs.declared.types.MatchKind.TheVariants.{LeftmostFirst};
     ghost use Rattle.rc_engines.specs.Caches.{IsCacheIn, IsCacheOfBoth, IsSameCacheIn, KeepsStates};
     ghost use Rattle.rc_engines.specs.Needed.{NeedsConfine};
     ghost use Rattle.rc_engines.specs.Limits.{AreBarred, AreTooHeavy, IsLazyBarred};
     ghost use Rattle.rc_engines.specs.Plans.{IsLazyFor, IsShortFor, plan_of};
     ghost use Rattle.rc_engines.specs.Route.{MayGuard};
-    ghost use Rattle.rc_engines.specs.Spans.{BoundsWalks, IsOneLength, SeeksFromEnd};
+    ghost use Rattle.rc_engines.specs.Spans.{BoundsWalks, IsOneLength, SeeksFromEnd, is_leftmost};
     ghost use Rattle.rc_engines.specs.Tables.{AreHalvesFor, aim_of, bytes_taken};
 
     /// The engines of so many patterns, whose program `engine` searches, with tables where the limits allow some. An `Err` is want of memory.
@@ -195,7 +194,7 @@ impl Engines {
         }
     }
 
-    /// The preferred match, sought from where the search ends. An `Err` says why the tables tell none.
+    /// The match of the least start, sought from where the search ends. An `Err` says why the tables tell none.
     pub(crate) fn find_from_end<H: Halves, C: Cursor>(
         &self,
         halves: &H,
@@ -310,8 +309,8 @@ impl Engines {
         found
     }
 
-    /// The end of the preferred match, and its pattern, which the tables tell by searches forwards alone, from needle to needle where some are
-    /// given. An `Err` says why they tell none.
+    /// The end of the match of the least start, the preferred one or the longest, and its pattern, which the tables tell by searches forwards
+    /// alone, from needle to needle where some are given. An `Err` says why they tell none.
     fn find_first_end<H: Halves, C: Cursor>(
         &self,
         halves: &H,
@@ -322,7 +321,7 @@ impl Engines {
         requires own { ∥ AreHalvesFor self.now.engine self.now.patterns (H.AreOf halves.now) ∥₁ }
         requires cache { H.IsCache halves.now cache.old }
         requires guards { MayGuard self.now.engine guard }
-        requires kind { self.now.engine.kind ≡ LeftmostFirst }
+        requires kind { is_leftmost self.now.engine.kind ≡ true }
         ensures cache { H.IsCache halves.now cache.new }
         ensures keeps { Keeps input.old input.new }
         ensures found { IfOk result (λ found. found ≡ option_map half_of (answer_by self.now.engine.kind (engine_search self.now.engine input.old))) }
@@ -335,7 +334,7 @@ impl Engines {
         }
     }
 
-    /// The preferred match, where each is of this length: from where it ends nothing is searched backwards. An `Err` says why the tables
+    /// The match of the least start, where each is of this length: from where it ends nothing is searched backwards. An `Err` says why the tables
     /// tell none.
     fn find_of_length<H: Halves, C: Cursor>(
         &self,
@@ -348,7 +347,7 @@ impl Engines {
         requires own { ∥ AreHalvesFor self.now.engine self.now.patterns (H.AreOf halves.now) ∥₁ }
         requires cache { H.IsCache halves.now cache.old }
         requires guards { MayGuard self.now.engine guard }
-        requires kind { self.now.engine.kind ≡ LeftmostFirst }
+        requires kind { is_leftmost self.now.engine.kind ≡ true }
         requires length { IsOneLength self.now.spans length }
         ensures cache { H.IsCache halves.now cache.new }
         ensures keeps { Keeps input.old input.new }
@@ -388,7 +387,7 @@ impl Engines {
         }
     }
 
-    /// The end of the match that `find_along` tells, and its pattern. The preferred one is told by searches forwards alone.
+    /// The end of the match that `find_along` tells, and its pattern. That of the least start is told by searches forwards alone.
     fn find_end_along<H: Halves, C: Cursor>(
         &self,
         halves: &H,
@@ -405,10 +404,10 @@ impl Engines {
         ensures within { IfOk result (λ found. IfSome found (λ half. (low input.old ≤ half.offset) × (half.offset ≤ high input.old))) }
     {
         match self.engine.kind {
-            MatchKind::LeftmostFirst => self.find_first_end(halves, cache, input, guard),
-            MatchKind::All | MatchKind::LeftmostLongest => {
-                Ok(half_of(self.find_along(halves, cache, input, guard)?))
+            MatchKind::LeftmostFirst | MatchKind::LeftmostLongest => {
+                self.find_first_end(halves, cache, input, guard)
             }
+            MatchKind::All => Ok(half_of(self.find_along(halves, cache, input, guard)?)),
         }
     }
 

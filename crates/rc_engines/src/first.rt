@@ -1,5 +1,5 @@
 //! Searches that ask first whether a match begins where the first one may. Positions are in bytes of the whole content.
-ghost use Rattle.std.specs.Prelude.{◌≡◌, ◌<◌, ◌≤◌, ℕ, Bool, List, MatchOption, IfOk, IfSome, length, slice_index};
+ghost use Rattle.std.specs.Prelude.{◌≡◌, ◌↔◌, ◌<◌, ◌≤◌, ℕ, Bool, List, MatchOption, IfOk, IfSome, IsTrue, length, slice_index};
 ghost use Rattle.rc_text.specs.Text.{Keeps, low, high};
 ghost use Rattle.rc_pattern.specs.Re.{Re};
 ghost use Rattle.rc_program.specs.Program.{Place, program};
@@ -10,20 +10,31 @@ ghost use Rattle.rc_literal.specs.Prefilters.{needles_of};
 ghost use Rattle.rc_literal.specs.Tables.{BeginsWithByte, numbered};
 ghost use Rattle.rc_states.specs.TableKinds.{IsAnswerBy};
 ghost use Rattle.rc_spans.specs.Aims.{AreHalvesOf, search_for};
-ghost use Rattle.rc_spans.specs.Legs.{GoesByNeedles};
-ghost use Rattle.rc_engines.specs.Firsts.{starting_at};
+ghost use Rattle.rc_engines.specs.Firsts.{AsksFirst, starting_at};
 
 use rc_automaton::halves::Halves;
 use rc_guards::guard::{Guard, next_start};
 use rc_literal::prefilter::Prefilter;
-use rc_spans::guarded::goes_by_needles;
 use rc_spans::search::{Aim, find, id_of, told};
+use rc_states::kind::TableKind;
 use rc_text::cursor::Cursor;
 use rc_text::input::{Input, high, low, piece_from};
 use rc_text::types::{Anchored, Match, MatchError, Span};
 
 /// So many bytes are looked at one by one, before the next needle is sought.
 const NEAR: usize = 16;
+
+/// Whether a search asks first whether a match begins where the first one may: it isn't anchored, and seeks the preferred match alone, none of which
+/// is passed over.
+#[inline(always)]
+fn asks_first(aim: Aim, anchored: Anchored) -> bool
+    ensures { IsTrue result ↔ AsksFirst aim anchored }
+{
+    match (aim.kind, anchored) {
+        (TableKind::LeftmostFirst, Anchored::No) => !aim.earliest && !aim.passes_over,
+        _ => false,
+    }
+}
 
 /// How many bytes of a piece are passed over: those before the first with which a needle begins.
 #[inline(always)]
@@ -86,7 +97,7 @@ fn find_here<H: Halves, C: Cursor>(
     requires within { from ≤ bound }
     ensures cache { H.IsCache halves.now cache.new }
     ensures keeps { Keeps input.old input.new }
-    ensures found { (aim : Aim) (hs : List Re) (terminator : ℕ) → AreHalvesOf (H.AreOf halves.now) aim hs terminator → GoesByNeedles aim input.old.anchored
+    ensures found { (aim : Aim) (hs : List Re) (terminator : ℕ) → AreHalvesOf (H.AreOf halves.now) aim hs terminator → AsksFirst aim input.old.anchored
         → IfOk result (λ found. found ≡ answer (starting_at from (search_for aim hs terminator input.old))) }
     ensures within { IfOk result (λ found. IfSome found (λ m. (m.start ≡ from) × (m.start ≤ m.end) × (m.end ≤ bound))) }
 {
@@ -135,7 +146,7 @@ fn find_by_first<H: Halves, C: Cursor>(
     needles: &Prefilter,
 ) -> Result<Option<Match>, MatchError>
     requires cache { H.IsCache halves.now cache.old }
-    requires goes { GoesByNeedles aim input.old.anchored }
+    requires goes { AsksFirst aim input.old.anchored }
     ensures cache { H.IsCache halves.now cache.new }
     ensures keeps { Keeps input.old input.new }
     ensures found { (hs : List Re) (terminator : ℕ) → AreHalvesOf (H.AreOf halves.now) aim hs terminator → Guards (program hs) terminator (needles_of needles.now)
@@ -173,7 +184,7 @@ pub(crate) fn find_first<H: Halves, C: Cursor>(
         → IfOk result (IsAnswerBy aim.kind aim.earliest (search_for aim hs terminator input.old)) }
     ensures within { IfOk result (λ found. IfSome found (λ m. (low input.old ≤ m.start) × (m.start ≤ m.end) × (m.end ≤ high input.old))) }
 {
-    if goes_by_needles(aim, input.get_anchored()) {
+    if asks_first(aim, input.get_anchored()) {
         return find_by_first(halves, cache, input, aim, needles);
     }
     find(halves, cache, input, aim)

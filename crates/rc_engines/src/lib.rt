@@ -8,6 +8,7 @@ mod entries;
 mod first;
 mod last;
 pub mod laws;
+mod longest;
 mod needles;
 mod once;
 mod route;

@@ -81,7 +81,7 @@ fn run_leg<H: Halves, C: Cursor>(
     ensures cache { H.IsCache halves.now cache.new }
     ensures keeps { Keeps input.old input.new }
     ensures tells { (aim : Aim) (hs : List Re) (terminator : ℕ) (of : AreHalvesOf (H.AreOf halves.now) aim hs terminator) → GoesByNeedles aim input.old.anchored
-        → IfOk result (Tells of.ahead (search_for aim hs terminator input.old) from) }
+        → IfOk result (Tells aim.kind of.ahead (search_for aim hs terminator input.old) from) }
     ensures on { IfOk result (ComesOn from bound) }
 {
     leg_of(
@@ -107,10 +107,10 @@ fn start_by_needles<H: Halves, C: Cursor>(
     ensures keeps { Keeps input.old input.new }
     ensures none { (aim : Aim) (hs : List Re) (terminator : ℕ) (of : AreHalvesOf (H.AreOf halves.now) aim hs terminator) → GoesByNeedles aim input.old.anchored
         → IsGuard (program hs) terminator guard.entry
-        → IfOk result (λ o. IfNone o (StartsGive of.ahead (search_for aim hs terminator input.old) lo None)) }
+        → IfOk result (λ o. IfNone o (StartsGive aim.kind of.ahead (search_for aim hs terminator input.old) lo None)) }
     ensures some { (aim : Aim) (hs : List Re) (terminator : ℕ) (of : AreHalvesOf (H.AreOf halves.now) aim hs terminator) → GoesByNeedles aim input.old.anchored
         → IsGuard (program hs) terminator guard.entry
-        → IfOk result (λ o. IfSome o (λ from. GivesToo of.ahead (search_for aim hs terminator input.old) from lo)) }
+        → IfOk result (λ o. IfSome o (λ from. GivesToo aim.kind of.ahead (search_for aim hs terminator input.old) from lo)) }
     ensures within { IfOk result (λ o. IfSome o (λ from. (lo ≤ from) × (from ≤ hi))) }
 {
     let mut at = lo;
@@ -134,7 +134,9 @@ fn goes_early(aim: Aim, anchored: Anchored) -> bool
     ensures { IsTrue result ↔ GoesEarly aim anchored }
 {
     match (aim.kind, anchored) {
-        (TableKind::LeftmostFirst, Anchored::No) => aim.earliest && !aim.passes_over,
+        (TableKind::LeftmostFirst | TableKind::LeftmostLongest, Anchored::No) => {
+            aim.earliest && !aim.passes_over
+        }
         _ => false,
     }
 }

@@ -23,7 +23,7 @@ pub(crate) enum Way<'a> {
 /// How a search by tables goes.
 #[derive(Clone, Copy)]
 pub(crate) enum Route<'a> {
-    /// Backwards from where the search ends, for the preferred match.
+    /// Backwards from where the search ends, for the match of the least start.
     FromEnd,
     /// The same for the greatest match.
     GreatestFromEnd,
@@ -35,10 +35,9 @@ pub(crate) enum Route<'a> {
 }
 
 impl Engines {
-    ghost use Rattle.std.specs.Prelude.{◌≡◌, ◌↔◌, IfSome, IsTrue};
-    ghost use Rattle.rc_text.specs.declared.types.MatchKind.TheVariants.{LeftmostFirst};
+    ghost use Rattle.std.specs.Prelude.{◌≡◌, ◌↔◌, true, IfSome, IsTrue};
     ghost use Rattle.rc_engines.specs.Route.{GoesBy, MayGuard, Relies};
-    ghost use Rattle.rc_engines.specs.Spans.{IsOneLength, SeeksFromEnd, SeeksGreatestFromEnd};
+    ghost use Rattle.rc_engines.specs.Spans.{IsOneLength, SeeksFromEnd, SeeksGreatestFromEnd, is_leftmost};
 
     /// By what a search goes: by tables of all states, where there are some; else by those whose states are made as they are met, where there are
     /// some and a cache holds their states, as `has_states` says.
@@ -75,14 +74,16 @@ impl Engines {
         }
     }
 
-    /// Whether the preferred match is sought from where the search ends: each match ends where the slice does, not each begins where it
+    /// Whether the match of the least start is sought from where the search ends: each match ends where the slice does, not each begins where it
     /// does, and the search isn't anchored.
     #[inline(always)]
     fn seeks_from_end<C: Cursor>(&self, input: &Input<C>) -> bool
         ensures { IsTrue result ↔ SeeksFromEnd self.now.engine.kind self.now.spans input.now }
     {
         match (self.engine.kind, input.get_anchored()) {
-            (MatchKind::LeftmostFirst, Anchored::No) => self.spans.end_alone(),
+            (MatchKind::LeftmostFirst | MatchKind::LeftmostLongest, Anchored::No) => {
+                self.spans.end_alone()
+            }
             _ => false,
         }
     }
@@ -98,14 +99,14 @@ impl Engines {
         }
     }
 
-    /// The length of each match, where all are of one and the preferred one is sought.
+    /// The length of each match, where all are of one and that of the least start is sought.
     #[inline(always)]
     fn only_length(&self) -> Option<usize>
-        ensures { IfSome result (λ n. (self.now.engine.kind ≡ LeftmostFirst) × IsOneLength self.now.spans n) }
+        ensures { IfSome result (λ n. (is_leftmost self.now.engine.kind ≡ true) × IsOneLength self.now.spans n) }
     {
         match self.engine.kind {
-            MatchKind::LeftmostFirst => self.spans.only_length(),
-            MatchKind::All | MatchKind::LeftmostLongest => None,
+            MatchKind::LeftmostFirst | MatchKind::LeftmostLongest => self.spans.only_length(),
+            MatchKind::All => None,
         }
     }
 

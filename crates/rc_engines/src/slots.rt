@@ -9,6 +9,7 @@ ghost use Rattle.rc_engine.specs.Engine.{engine_search, IsEngineCache, IsSameCac
 ghost use Rattle.rc_engines.specs.Slots.{IsOfPatterns, NamesGroups};
 
 use crate::entries::entry_of;
+use crate::longest::search_longest_span;
 use rc_engine::engine::Engine;
 use rc_pass::cache::Cache;
 use rc_pass::search::search_slots_from;
@@ -87,7 +88,11 @@ pub(crate) fn fill_slots<C: Cursor>(
             }
         }
         MatchKind::LeftmostLongest => {
-            engine.find_slots(cache, input, slots);
+            if slots.len() <= patterns.saturating_mul(2) {
+                put_span(found, slots);
+            } else {
+                search_longest_span(engine, cache, input, found, slots);
+            }
         }
     }
 }

@@ -10,7 +10,7 @@ ghost use Rattle.rc_lazy.specs.Caches.{IsLazyOf, least_of};
 ghost use Rattle.rc_spans.specs.Machines.{AreMachines};
 ghost use Rattle.rc_engines.specs.Limits.{AreOff, AreTooHeavy};
 ghost use Rattle.rc_engines.specs.Makes.{AreMade};
-ghost use Rattle.rc_engines.specs.Tables.{MayBeTablesFor, is_tabled};
+ghost use Rattle.rc_engines.specs.Tables.{MayBeTablesFor, finds, is_tabled};
 ghost use Rattle.rc_states.specs.TableKinds.{table_kind_of};
 
 use crate::engines::Limits;
@@ -22,7 +22,7 @@ use rc_engine::strategy::{Strategy, guards_of, literals_of};
 use rc_lazy::error::LazyError;
 use rc_lazy::lazy::Lazy;
 use rc_spans::build::automaton_of;
-use rc_states::kind::table_kind;
+use rc_states::kind::{TableKind, table_kind};
 use rc_text::types::MatchKind;
 use std::alloc::{AllocError, Global};
 
@@ -64,14 +64,23 @@ fn are_to_rest(strategy: &Strategy, needed: bool, automaton: &Automaton) -> bool
     }
 }
 
-/// Whether tables find matches of the kind.
+/// Whether states of one kind find matches of another.
+fn finds(states: TableKind, kind: MatchKind) -> bool
+    ensures { result ≡ finds states kind }
+{
+    match (states, kind) {
+        (TableKind::All, MatchKind::All) => true,
+        (TableKind::LeftmostFirst, MatchKind::LeftmostFirst) => true,
+        (TableKind::LeftmostLongest, MatchKind::LeftmostLongest) => true,
+        _ => false,
+    }
+}
+
+/// Whether tables find matches of the kind: the states that serve it do.
 fn is_tabled(kind: MatchKind) -> bool
     ensures { result ≡ is_tabled kind }
 {
-    match kind {
-        MatchKind::All | MatchKind::LeftmostFirst => true,
-        MatchKind::LeftmostLongest => false,
-    }
+    finds(table_kind(kind), kind)
 }
 
 /// The tables of all states of the automaton, which is that of so many patterns by their engine's program, where the limits allow some; with `needed`
@@ -125,8 +134,7 @@ fn lazy_of(automaton: Automaton, limits: Limits) -> Option<Lazy>
 }
 
 /// The tables of so many patterns by their engine's program, where the limits allow some. Where needles alone tell each answer, none are
-/// made, nor for the longest match of the least start, which no tables find. With `needed` searches go by needles that each match holds. An `Err` is want of
-/// memory.
+/// made, nor for a kind of match that no tables find. With `needed` searches go by needles that each match holds. An `Err` is want of memory.
 pub(crate) fn tables_of(
     alloc: Global,
     engine: &Engine,

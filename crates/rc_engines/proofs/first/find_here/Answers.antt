@@ -4,8 +4,7 @@ use Rattle.rc_pattern.specs.Re.{Re}
 use Rattle.rc_program.specs.Answer.{answer}
 use Rattle.rc_spans.specs.declared.search.Aim.{Aim}
 use Rattle.rc_spans.specs.Aims.{AreHalvesOf, search_for}
-use Rattle.rc_spans.specs.Legs.{GoesByNeedles}
-use Rattle.rc_engines.specs.Firsts.{starting_at}
+use Rattle.rc_engines.specs.Firsts.{AsksFirst, starting_at}
 use Rattle.rc_engines.proofs.FirstLemmas.{IsMetHere, here_told, met_so}
 use Rattle.rc_engines.proofs.first.find_here.Given.{Over}
 use Rattle.rc_engines.proofs.first.find_here.Goals as goal
@@ -13,7 +12,7 @@ use Rattle.rc_engines.proofs.first.find_here.Goals.{In_ok-met}
 
 -- what the run met
 met_here : (g : Over) (c : In_ok-met g) (aim : Aim) (hs : List Re) (terminator : ℕ) → AreHalvesOf (g.H.Halves.AreOf c.args.halves.now) aim hs terminator →
-    GoesByNeedles aim c.args.input.now.anchored → IsMetHere (search_for aim hs terminator c.args.input.now) c.args.from c.in_ok-met.field-0
+    AsksFirst aim c.args.input.now.anchored → IsMetHere (search_for aim hs terminator c.args.input.now) c.args.from c.in_ok-met.field-0
 met_here g c aim hs terminator of goes =
     let s = c.args.input.now in
     subst (λ r. IfOk r (IsMetHere (search_for aim hs terminator s) c.args.from)) (sym c.told.ensures ∙ c.in_ok-met.was)

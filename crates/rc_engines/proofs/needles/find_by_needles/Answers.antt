@@ -23,11 +23,11 @@ returns-in_default-clause-found g c hs terminator of guards =
     let keeps = c.high-hi.ensures.keeps in
     let aim : Aim = record c.args.aim { earliest = false } in
     let goes = subst (GoesByNeedles aim) (sym keeps.anchored) (late_goes A c.args.aim hs terminator of s c.requires.goes) in
-    let given = subst (λ o. IfNone o (StartsGive of.ahead (search_for aim hs terminator t) c.low-lo.result None)) c.in_default.is
+    let given = subst (λ o. IfNone o (StartsGive c.args.aim.kind of.ahead (search_for aim hs terminator t) c.low-lo.result None)) c.in_default.is
     (c.in_ok-from.ensures.none aim hs terminator (late_of A c.args.aim hs terminator of s c.requires.goes) goes guards) in
     none_may A c.args.aim hs terminator of s c.requires.goes c.low-lo.result c.high-hi.result (c.low-lo.ensures ∙ kept_low s t keeps)
     c.high-hi.ensures.value c.if-lo-hi.false
-    (subst (λ q. StartsGive of.ahead q c.low-lo.result None) (kept_search aim hs terminator s t keeps) given)
+    (subst (λ q. StartsGive c.args.aim.kind of.ahead q c.low-lo.result None) (kept_search aim hs terminator s t keeps) given)
 
 pub returns-clause-found : goal.returns-clause-found
 returns-clause-found g c hs terminator of guards =
@@ -41,9 +41,9 @@ returns-clause-found g c hs terminator of guards =
     let hi : ℕ = c.high-hi.result in
     let goes = subst (GoesByNeedles aim) (sym keeps.anchored) (late_goes A c.args.aim hs terminator of s c.requires.goes) in
     let within = subst (λ o. IfSome o (λ (x : ℕ). (lo ≤ x) × (x ≤ hi))) c.in-Some.is c.in_ok-from.ensures.within in
-    let given = subst (λ o. IfSome o (λ (x : ℕ). GivesToo of.ahead (search_for aim hs terminator t) x lo)) c.in-Some.is
+    let given = subst (λ o. IfSome o (λ (x : ℕ). GivesToo c.args.aim.kind of.ahead (search_for aim hs terminator t) x lo)) c.in-Some.is
     (c.in_ok-from.ensures.some aim hs terminator (late_of A c.args.aim hs terminator of s c.requires.goes) goes guards) in
     told_on A c.args.aim hs terminator of s c.requires.goes lo hi (c.low-lo.ensures ∙ kept_low s t keeps) c.high-hi.ensures.value c.if-lo-hi.false
-    from within.0 within.1 (subst (λ q. GivesToo of.ahead q from lo) (kept_search aim hs terminator s t keeps) given)
+    from within.0 within.1 (subst (λ q. GivesToo c.args.aim.kind of.ahead q from lo) (kept_search aim hs terminator s t keeps) given)
     c.start_by_needles.new.input c.find_later.result (kept_then s t c.start_by_needles.new.input keeps c.in_ok-from.ensures.keeps)
     (c.find_later.ensures.found hs terminator of)

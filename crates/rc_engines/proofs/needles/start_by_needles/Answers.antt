@@ -28,7 +28,7 @@ begun g c =
 -- what the starts from there on give, all give
 carried : (g : Over) (c : After-run_leg g) (aim : Aim) (hs : List Re) (terminator : ℕ) (of : AreHalvesOf (g.H.Halves.AreOf c.args.halves.now) aim hs terminator) →
     GoesByNeedles aim c.args.input.now.anchored → IsGuard (program hs) terminator c.args.guard →
-    GivesToo of.ahead (search_for aim hs terminator c.args.input.now) c.in-Some.start.from c.args.lo
+    GivesToo aim.kind of.ahead (search_for aim hs terminator c.args.input.now) c.in-Some.start.from c.args.lo
 carried g c aim hs terminator of goes guards =
     let b = c.requires.bounds in
     let i = c.runs.invariant in
@@ -42,17 +42,17 @@ pub returns-in_default-clause-none : goal.returns-in_default-clause-none
 returns-in_default-clause-none g c aim hs terminator of goes guards =
     let b = c.requires.bounds in
     let i = c.runs.invariant in
-    subst (λ x. StartsGive of.ahead (search_for aim hs terminator c.args.input.now) x None) (sym b.0)
+    subst (λ x. StartsGive aim.kind of.ahead (search_for aim hs terminator c.args.input.now) x None) (sym b.0)
     (needle.none_left (g.H.Halves.AreOf c.args.halves.now) aim hs terminator of c.args.input.now goes c.args.lo c.args.hi b.0 b.1 b.2
     c.runs.input i.keeps c.runs.at i.high (i.carried aim hs terminator of goes guards)
     (c.in_default.ensures.passed (program hs) terminator aim.passes_over guards))
 
 -- what a run tells, it tells of the whole search
 told_of_all : (g : Over) (c : After-run_leg g) (aim : Aim) (hs : List Re) (terminator : ℕ) (of : AreHalvesOf (g.H.Halves.AreOf c.args.halves.now) aim hs terminator) (leg : Leg) →
-    Tells of.ahead (search_for aim hs terminator c.next_start.new.input) c.in-Some.start.from leg →
-    Tells of.ahead (search_for aim hs terminator c.args.input.now) c.in-Some.start.from leg
+    Tells aim.kind of.ahead (search_for aim hs terminator c.next_start.new.input) c.in-Some.start.from leg →
+    Tells aim.kind of.ahead (search_for aim hs terminator c.args.input.now) c.in-Some.start.from leg
 told_of_all g c aim hs terminator of leg h =
-    subst (λ q. Tells of.ahead q c.in-Some.start.from leg) (kept_search aim hs terminator c.args.input.now c.next_start.new.input (keeps g c)) h
+    subst (λ q. Tells aim.kind of.ahead q c.in-Some.start.from leg) (kept_search aim hs terminator c.args.input.now c.next_start.new.input (keeps g c)) h
 
 goes_there : (g : Over) (c : After-run_leg g) (aim : Aim) → GoesByNeedles aim c.args.input.now.anchored → GoesByNeedles aim c.next_start.new.input.anchored
 goes_there g c aim goes = subst (GoesByNeedles aim) (sym (keeps g c).anchored) goes
@@ -62,7 +62,7 @@ returns-in-Nowhere-clause-none g c aim hs terminator of goes guards =
     let k = (goal.at.returns-in-Nowhere-clause-none g c).After-run_leg in
     carried g k aim hs terminator of goes guards None
     (told_of_all g k aim hs terminator of Nowhere
-    (subst (Tells of.ahead (search_for aim hs terminator c.next_start.new.input) c.in-Some.start.from) c.in-Nowhere.is
+    (subst (Tells aim.kind of.ahead (search_for aim hs terminator c.next_start.new.input) c.in-Some.start.from) c.in-Nowhere.is
     (c.in_ok-run_leg.ensures.tells aim hs terminator of (goes_there g k aim goes))))
 
 pub returns-in-Here-clause-some : goal.returns-in-Here-clause-some
@@ -84,6 +84,6 @@ runs-preserved g c =
       carried = λ aim hs terminator of goes guards r h.
           carried g k aim hs terminator of goes guards r
           (told_of_all g k aim hs terminator of (Later c.in-Later.i)
-          (subst (Tells of.ahead (search_for aim hs terminator c.next_start.new.input) c.in-Some.start.from) c.in-Later.is
+          (subst (Tells aim.kind of.ahead (search_for aim hs terminator c.next_start.new.input) c.in-Some.start.from) c.in-Later.is
           (c.in_ok-run_leg.ensures.tells aim hs terminator of (goes_there g k aim goes))) r h);
     }

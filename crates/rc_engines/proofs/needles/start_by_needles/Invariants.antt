@@ -17,7 +17,7 @@ invariant-runs g l = record {
   low : l.lo ≤ l.at;
   high : l.at ≤ l.hi;
   carried : (aim : Aim) (hs : List Re) (terminator : ℕ) (of : AreHalvesOf (g.H.Halves.AreOf l.halves) aim hs terminator) → GoesByNeedles aim l.fn.input.anchored
-      → IsGuard (program hs) terminator l.guard → GivesToo of.ahead (search_for aim hs terminator l.fn.input) l.at l.lo;
+      → IsGuard (program hs) terminator l.guard → GivesToo aim.kind of.ahead (search_for aim hs terminator l.fn.input) l.at l.lo;
 }
 
 abbrev pub decreases-runs : goal.decreases-runs

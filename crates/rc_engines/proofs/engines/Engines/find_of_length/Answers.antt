@@ -21,7 +21,7 @@ told : (g : Over) (c : After-new g) →
     × (low c.args.input.now ≤ c.in-Some.half.offset - c.args.length) × (c.in-Some.half.offset - c.args.length ≤ c.in-Some.half.offset)
 told g c =
     let e = c.args.self.now in
-    length_told e.engine e.spans c.args.input.now c.args.length e.bound c.requires.length c.requires.kind c.in-Some.half (sym c.in-Some.is ∙ c.in_ok-half.ensures.found)
+    length_told e.engine e.spans c.args.input.now c.args.length e.bound c.requires.length c.in-Some.half (sym c.in-Some.is ∙ c.in_ok-half.ensures.found)
 
 pub returns-clause-found : goal.returns-clause-found
 returns-clause-found g c = ap (λ (m : Found). Some m) (made g c) ∙ (told g c).0
