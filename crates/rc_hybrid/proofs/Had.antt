@@ -14,7 +14,7 @@ use Rattle.rc_lazy.specs.Stores.{IsShort, frame_of, minimum_of}
 use Rattle.rc_lazy.proofs.MakeLemmas.{serves_both}
 use Rattle.rc_spans.specs.Faults.{IsFault}
 use Rattle.rc_dfa.proofs.Had.{fault_had as quit_had}
-use Rattle.rc_hybrid.specs.Caches.{IsCacheFor, capacity_of, usage_of}
+use Rattle.rc_hybrid.specs.Caches.{IsCacheFor, capacity_of}
 use Rattle.rc_hybrid.specs.Faults.{ClearsWhereShort, GrowsWhereRoomy, IsFaultOf, MayBeShort, MayGiveUp}
 use Rattle.rc_hybrid.specs.Views.{least_of, sought}
 use Rattle.rc_hybrid.specs.declared.cache.Cache.{Cache}

@@ -1,5 +1,5 @@
 -- What two searches for a next match spend, and why they end without an answer.
-use Rattle.std.proofs.Common.{◌≡◌, ◌∙◌, ℕ, ◌+◌, ◌-◌, ◌*◌, ◌<◌, ◌≤◌, Bool, true, false, inl, inr, ⊎_elim, ap, max, min, refl, subst, sym, arith}
+use Rattle.std.proofs.Common.{◌≡◌, ◌∙◌, ℕ, ◌+◌, ◌-◌, ◌*◌, ◌<◌, ◌≤◌, Bool, true, false, inl, inr, ⊎_elim, refl, subst, sym, arith}
 use Rattle.std.specs.Prelude.{IfErr, Result}
 use Rattle.std.specs.declared.result.Result.TheVariants.{Ok, Err}
 use Rattle.std.proofs.Math.Nat.{mul-le-mul_right}
@@ -8,12 +8,11 @@ use Rattle.rc_text.specs.Text.{Searched, low, high}
 use Rattle.rc_text.specs.declared.types.MatchError.{MatchError}
 use Rattle.rc_text.specs.declared.types.MatchError.TheVariants.{Quit, GaveUp}
 use Rattle.rc_program.specs.Answer.{Search}
-use Rattle.rc_program.specs.Matches.{from_on}
 use Rattle.rc_program.specs.Sought.{search_for}
 use Rattle.rc_engine.specs.Moved.{IsMoved}
 use Rattle.rc_spans.specs.Faults.{IsFault}
 use Rattle.rc_build.proofs.Fitted.{sought_moved}
-use Rattle.rc_hybrid.specs.Caches.{IsCacheFor, capacity_of, clears_of, usage_of}
+use Rattle.rc_hybrid.specs.Caches.{IsCacheFor, capacity_of, usage_of}
 use Rattle.rc_hybrid.specs.Faults.{ClearsWhereShort, ClearsWhereShortNext, GrowsWhereRoomy, IsFaultOf, IsNextFault, MayBeShort, MayBeShortNext, MayGiveUp, MayGiveUpNext}
 use Rattle.rc_hybrid.specs.Views.{least_of, sought}
 use Rattle.rc_hybrid.specs.declared.cache.Cache.{Cache}
