@@ -14,3 +14,4 @@ mod route;
 mod slots;
 pub mod spans;
 mod tables;
+mod which;
