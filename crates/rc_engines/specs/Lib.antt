@@ -10,4 +10,5 @@ pub mod Plans
 pub mod Route
 pub mod Slots
 pub mod Spans
+pub mod Starts
 pub mod Tables

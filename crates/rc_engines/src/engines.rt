@@ -26,8 +26,6 @@ use rc_guards::guard::{Guard, Needs};
 use rc_lazy::lazy;
 use rc_lazy::lazy::Lazy;
 use rc_literal::prefilter::Prefilter;
-use rc_pass::which::which_patterns;
-use rc_patterns::sets::PatternSet;
 use rc_spans::guarded::{find_end_guarded, find_guarded};
 use rc_spans::search;
 use rc_spans::search::Aim;
@@ -680,36 +678,6 @@ impl Engines {
         captures::clear(caps);
         let pattern = self.find_slots(cache, input, caps.slots_mut());
         captures::set_pattern(caps, pattern);
-    }
-}
-
-impl Engines {
-    ghost use Rattle.rc_program.specs.Places.{places_of};
-    ghost use Rattle.rc_engine.specs.Engine.{engine_search};
-    ghost use Rattle.rc_engines.specs.Caches.{IsCacheIn, IsSameCacheIn};
-    ghost use Rattle.rc_pass.specs.PatternSpans.{AddsSpelled, AreOfFirst};
-    ghost use Rattle.rc_text.specs.Text.{Keeps};
-
-    /// Puts into the set each of so many patterns, all that there are, that has a match within the bounds, as far as the set can hold it.
-    /// What the set has stays. Where what is known of the patterns' spans leaves none between the bounds, nothing is searched; else the
-    /// pass tells. It takes no memory.
-    pub fn which_patterns<C: Cursor>(
-        &self,
-        cache: &mut Cache,
-        input: &mut Input<C>,
-        patterns: usize,
-        set: &mut PatternSet,
-    )
-        requires made { IsCacheIn self.now 0 cache.old }
-        requires first { AreOfFirst patterns (places_of self.now.engine.program.places.items) }
-        ensures keeps { Keeps input.old input.new }
-        ensures adds { AddsSpelled (engine_search self.now.engine input.old) set.old set.new }
-        ensures cache { IsSameCacheIn self.now cache.old cache.new }
-    {
-        if self.spans.leave_none(input) {
-            return;
-        }
-        which_patterns(&mut cache.pass, input, &self.engine.program, patterns, set);
     }
 }
 

@@ -15,3 +15,4 @@ mod route;
 mod slots;
 pub mod spans;
 mod tables;
+mod which;

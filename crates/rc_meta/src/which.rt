@@ -28,9 +28,11 @@ impl Regex {
     /// Puts into the set each pattern that has a match within the bounds of a search of the input, as far as the set can hold it, in a
     /// cache that was made for this regex. What the set has stays. It takes no memory.
     ///
-    /// One pass over the content tells all of them, whatever the kind of match. A pattern has a match where it spells some span within
-    /// the bounds: none is left out because another begins earlier or is preferred, nor because it is empty and lies inside a character.
-    /// The pass ends where the set has each pattern that it can hold.
+    /// A pattern has a match where it spells some span within the bounds, whatever the kind of match: none is left out because another begins
+    /// earlier or is preferred, nor because it is empty and lies inside a character. A search tells first where the first match begins, if there
+    /// is one, and then one pass from there on tells all of them; of one pattern the search tells. The pass goes over all that lies within the
+    /// bounds where each match is sought, or the longest, and where matches that are empty may be passed over. It ends where the set has each
+    /// pattern that it can hold.
     pub fn which_patterns_with<C: Cursor>(
         &self,
         cache: &mut Cache,
