@@ -7,20 +7,23 @@ use Rattle.std.proofs.lemmas.Option.{slice_get_within}
 use Rattle.rc_text.specs.Found.{Found}
 use Rattle.rc_text.specs.Text.{Searched, Keeps, KeepsText, is_boundary, low}
 use Rattle.rc_text.specs.declared.types.MatchKind.{MatchKind}
-use Rattle.rc_text.specs.declared.types.MatchKind.TheVariants.{LeftmostFirst as leftmost_first}
+use Rattle.rc_text.specs.declared.types.MatchKind.TheVariants.{All as all_matches, LeftmostFirst as leftmost_first, LeftmostLongest as leftmost_longest}
 use Rattle.rc_patterns.specs.Sets.{Has}
 use Rattle.rc_patterns.proofs.SetLemmas.{has_set, set_has, set_keeps}
-use Rattle.rc_program.specs.Answer.{Search, IsPassed, IsStart, answer, last_of}
+use Rattle.rc_walks.specs.Walks.{Pair}
+use Rattle.rc_program.specs.Answer.{Search, Chosen, IsFirstFrom, IsStart, last_of}
 use Rattle.rc_program.specs.Greatest.{HasNoSpan, IsSpelledIn}
 use Rattle.rc_program.specs.Kinds.{IsAnswerBy, answer_by}
+use Rattle.rc_program.specs.Longest.{IsAnswerOf, IsLongestFrom, IsPassedOf}
 use Rattle.rc_program.specs.Places.{places_of}
 use Rattle.rc_program.proofs.AnswerLemmas.{answer_law}
 use Rattle.rc_program.proofs.GreatestLemmas.{greatest_law}
 use Rattle.rc_program.proofs.KindLemmas.{kind_spelled, kinds_law}
+use Rattle.rc_program.proofs.ReachLemmas.{longest_law}
 use Rattle.rc_engine.specs.Engine.{engine_search}
 use Rattle.rc_engine.specs.declared.engine.Engine.{Engine}
 use Rattle.rc_pass.specs.PatternSpans.{AddsSpelled, AreOfFirst}
-use Rattle.rc_engines.specs.Spans.{BoundsWalks, leave_none}
+use Rattle.rc_engines.specs.Spans.{BoundsWalks, is_leftmost, leave_none}
 use Rattle.rc_engines.specs.Starts.{IsFirstStart}
 use Rattle.rc_engines.specs.declared.spans.Spans.{Spans}
 use Rattle.rc_engines.proofs.SpanLemmas.{none_left}
@@ -104,27 +107,33 @@ none_over : (over b : Bool) → over ≡ false → (not over || b) ≡ false →
 none_over false b off e = true≢false e
 none_over true b off e = true≢false off
 
--- a start that gives no answer has no walk
-no_walk : (s : Search) (m : Found) → s.passes_over ≡ false → IsPassed s m.start → ¬ IsSpelledIn s m
-no_walk s m off passed h = ⊎_elim (λ none. none h.walk h.is_walk) (λ r. none_over s.passes_over (is_boundary s.text.content (last_of r.0).1) off r.2) passed
+-- a start that gives no answer has no walk, whichever walk of a start counts
+no_walk : (s : Search) (Counts : ℕ → List Pair → Type 0) (m : Found) → s.passes_over ≡ false → IsPassedOf s Counts m.start → ¬ IsSpelledIn s m
+no_walk s Counts m off passed h = ⊎_elim (λ none. none h.walk h.is_walk) (λ r. none_over s.passes_over (is_boundary s.text.content (last_of r.0).1) off r.2) passed
 
--- where the preferred match begins
-pub first_told : (s : Search) (m : Found) → s.passes_over ≡ false → Some m ≡ answer s → IsFirstStart s (Some m.start)
-first_told s m off e =
-    let r = (answer_law.answer_some s m).0 (sym e) in
-    let start : r.0.start ≡ m.start = ap (λ (f : Found). f.start) r.2 in (
-      subst (IsStart s) start r.1.is_start,
-      λ n h. elim (cases_lt n.start m.start) [
-        | inl lt ↦ absurd (no_walk s n off (r.1.none_before n.start h.is_start (subst (λ x. n.start < x) (sym start) lt)) h)
-        | inr ge ↦ ge
-      ],
-    )
+first_of : (s : Search) (Counts : ℕ → List Pair → Type 0) (c : Chosen) (x : ℕ) → s.passes_over ≡ false → IsAnswerOf s Counts c → c.start ≡ x → IsFirstStart s (Some x)
+first_of s Counts c x off a start = (
+  subst (IsStart s) start a.is_start,
+  λ n h. elim (cases_lt n.start x) [
+    | inl lt ↦ absurd (no_walk s Counts n off (a.none_before n.start h.is_start (subst (λ y. n.start < y) (sym start) lt)) h)
+    | inr ge ↦ ge
+  ],
+)
+
+-- where the match of the least start begins, the preferred one or the longest
+pub first_told : (kind : MatchKind) (s : Search) (m : Found) → is_leftmost kind ≡ true → s.passes_over ≡ false → answer_by kind s ≡ Some m → IsFirstStart s (Some m.start)
+first_told leftmost_first s m l off e =
+    let r = (answer_law.answer_some s m).0 e in
+    first_of s (IsFirstFrom s) r.0 m.start off ((longest_law.first_is s r.0).1 r.1) (ap (λ (f : Found). f.start) r.2)
+first_told leftmost_longest s m l off e =
+    let r = (longest_law.answer_some s m).0 e in
+    first_of s (IsLongestFrom s) r.0 m.start off r.1 (ap (λ (f : Found). f.start) r.2)
+first_told all_matches s m l off e = absurd (true≢false (sym l))
 
 -- the same of what is told
-pub least_told : (kind : MatchKind) (s : Search) (o : Option Found) (m : Found) (x : ℕ) → kind ≡ leftmost_first → s.passes_over ≡ false → o ≡ answer_by kind s → o ≡ Some m →
+pub least_told : (kind : MatchKind) (s : Search) (o : Option Found) (m : Found) (x : ℕ) → is_leftmost kind ≡ true → s.passes_over ≡ false → o ≡ answer_by kind s → o ≡ Some m →
     x ≡ m.start → IsFirstStart s (Some x)
-least_told kind s o m x preferred off is some at =
-    subst (λ y. IsFirstStart s (Some y)) (sym at) (first_told s m off (sym some ∙ is ∙ ap (λ k. answer_by k s) preferred))
+least_told kind s o m x leftmost off is some at = subst (λ y. IsFirstStart s (Some y)) (sym at) (first_told kind s m leftmost off (sym is ∙ some))
 
 -- where the shown chunk and the position alone change, the search is the same
 pub kept_search : (e : Engine) (a b : Searched) → Keeps a b → engine_search e b ≡ engine_search e a

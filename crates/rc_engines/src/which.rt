@@ -82,7 +82,8 @@ impl Engines {
 
     /// From where on a pass tells each walk: none begins before. With None there is none at all.
     ///
-    /// The preferred match begins at the least start of all walks. Where each match counts, tables tell no more than whether there is one.
+    /// The preferred match begins at the least start of all walks, and so does the longest. Where each match counts, tables tell no more than
+    /// whether there is one.
     fn least_start<C: Cursor>(&self, cache: &mut Cache, input: &mut Input<C>) -> Option<usize>
         requires made { IsCacheIn self.now 0 cache.old }
         requires ordered { low input.old ≤ high input.old }
@@ -92,7 +93,9 @@ impl Engines {
         ensures cache { IsSameCacheIn self.now cache.old cache.new }
     {
         match self.engine.kind {
-            MatchKind::LeftmostFirst => match self.find_told(cache, input) {
+            MatchKind::LeftmostFirst | MatchKind::LeftmostLongest => match self.find_told(
+                cache, input,
+            ) {
                 Some(Some(found)) => Some(found.start()),
                 Some(None) => None,
                 None => Some(low(input)),
@@ -101,16 +104,15 @@ impl Engines {
                 Some(false) => None,
                 _ => Some(low(input)),
             },
-            MatchKind::LeftmostLongest => Some(low(input)),
         }
     }
 
     /// Puts into the set each of so many patterns, all that there are, that has a match within the bounds, as far as the set can hold it.
     /// What the set has stays. It takes no memory but for states, as `find` does.
     ///
-    /// Where the set has each pattern that it can hold, or what is known of the patterns' spans leaves none between the bounds, nothing is searched. Else a search as that of `find` tells where
-    /// the first match begins, if there is one, and a pass from there on tells which patterns have one; of one pattern the search alone tells. Where
-    /// matches are passed over, which count here, the pass tells all.
+    /// Where the set has each pattern that it can hold, or what is known of the patterns' spans leaves none between the bounds, nothing is
+    /// searched. Else a search as that of `find` tells where the first match begins, if there is one, and a pass from there on tells which
+    /// patterns have one; of one pattern the search alone tells. Where matches are passed over, which count here, the pass tells all.
     pub fn which_patterns<C: Cursor>(
         &self,
         cache: &mut Cache,

@@ -12,7 +12,7 @@ use Rattle.rc_states.specs.declared.kind.TableKind.TheVariants.{All, LeftmostFir
 abbrev pub table_kind_of : MatchKind → TableKind
 table_kind_of all_matches = All
 table_kind_of leftmost_first = LeftmostFirst
-table_kind_of leftmost_longest = LeftmostFirst
+table_kind_of leftmost_longest = LeftmostLongest
 
 -- the kind of match that they find
 abbrev pub kind_of : TableKind → MatchKind

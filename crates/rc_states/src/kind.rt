@@ -15,13 +15,13 @@ pub enum TableKind {
     LeftmostLongest,
 }
 
-/// The kind of the states that serve searches for matches of a kind. Those that find the preferred match serve searches for the longest
-/// one of the least start too: they tell where it begins.
+/// The kind of the states that serve searches for matches of a kind.
 pub fn table_kind(kind: MatchKind) -> TableKind
     ensures { result ≡ table_kind_of kind }
 {
     match kind {
         MatchKind::All => TableKind::All,
-        MatchKind::LeftmostFirst | MatchKind::LeftmostLongest => TableKind::LeftmostFirst,
+        MatchKind::LeftmostFirst => TableKind::LeftmostFirst,
+        MatchKind::LeftmostLongest => TableKind::LeftmostLongest,
     }
 }

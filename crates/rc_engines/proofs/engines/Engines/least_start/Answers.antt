@@ -1,12 +1,14 @@
-use Rattle.std.proofs.Common.{◌∙◌, sym}
+use Rattle.std.proofs.Common.{◌∙◌, ap, sym, ⊎_elim}
 use Rattle.rc_engine.specs.Engine.{engine_search}
+use Rattle.rc_engines.specs.Spans.{is_leftmost}
 use Rattle.rc_engines.proofs.PatternLemmas.{least_told, no_span, no_span_told}
 use Rattle.rc_engines.proofs.engines.Engines.least_start.Goals as goal
 
 pub returns-in-Some-Some-clause-first : goal.returns-in-Some-Some-clause-first
 returns-in-Some-Some-clause-first g c =
     let e = c.args.self.now.engine in
-    least_told e.kind (engine_search e c.args.input.now) c.in-Some-Some.field-0 c.in-Some-Some.found c.start.result c.in-LeftmostFirst.is c.requires.all
+    least_told e.kind (engine_search e c.args.input.now) c.in-Some-Some.field-0 c.in-Some-Some.found c.start.result (⊎_elim (λ a. ap is_leftmost a) (λ b. ap is_leftmost b) c.in-LeftmostFirst.is)
+    c.requires.all
     c.in-Some-Some.ensures.found c.in-Some-Some.field-0-is c.start.ensures.value
 
 pub returns-in-Some-None-clause-first : goal.returns-in-Some-None-clause-first
