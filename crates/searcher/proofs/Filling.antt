@@ -1,13 +1,13 @@
 -- How a batch is filled: one match after another is taken from the list of those that are left.
-use Rattle.std.proofs.Common.{◌≡◌, ◌∙◌, ◌+◌, ◌<◌, ◌≤◌, ℕ, suc, List, [], ◌∷◌, ◌++◌, Option, Some, None, ap, refl, arith, length, map, set, subst, sym, take, append_assoc}
+use Rattle.std.proofs.Common.{◌≡◌, ◌∙◌, ◌+◌, ◌<◌, ◌≤◌, ℕ, suc, List, [], ◌∷◌, ◌++◌, All, IfSome, MatchOption, Option, Some, None, ap, refl, arith, length, map, set, subst, sym, take, append_assoc}
 use Rattle.std.proofs.lemmas.List.{map-append, take_more_set}
 use Rattle.rc_text.specs.Found.{Found}
 use Rattle.rc_text.specs.Text.{Searched, Keeps}
 use Rattle.rc_text.specs.declared.types.Span.{Span}
 use Rattle.rc_text.specs.declared.types.MatchKind.{MatchKind}
 use Rattle.rc_program.specs.Answer.{Search}
-use Rattle.rc_program.specs.Kinds.{answer_by_from, matches_by_kind}
-use Rattle.rc_program.specs.Matches.{begin_of, end_of, from_on, next_match}
+use Rattle.rc_program.specs.Kinds.{answer_by, answer_by_from, matches_by_kind}
+use Rattle.rc_program.specs.Matches.{begin_of, end_of, from_on, next_match, unless_again}
 use Rattle.rc_program.specs.Program.{program, shown}
 use Rattle.rc_program.specs.Sought.{Sought, passes_over, search_for}
 use Rattle.rc_engine.specs.Moved.{IsMoved}
@@ -36,12 +36,42 @@ one_listed xs n x m rest inside is =
     sym (ap (λ l. l ++ rest) (ap (map found_at) (take_more_set xs n x inside) ∙ map-append found_at (take n xs) (x ∷ []) ∙ ap (λ y. map found_at (take n xs) ++ y ∷ []) is)
     ∙ append_assoc (map found_at (take n xs)) (m ∷ []) rest)
 
+-- what a list begins with
+abbrev first_in : List Found → Option Found
+first_in [] = None
+first_in (m ∷ ms) = Some m
+
+-- it was taken from the list, or there was nothing to take
+abbrev IsTaken : Option Found → (left rest : List Found) → Type 0
+IsTaken o left rest = MatchOption o ((left ≡ []) × (rest ≡ [])) (λ m. left ≡ m ∷ rest)
+
+taken_first : (o : Option Found) (left rest : List Found) → IsTaken o left rest → first_in left ≡ o
+taken_first None left rest t = ap first_in t.0
+taken_first (Some m) left rest t = ap first_in t
+
+pub taken_within : (P : Found → Type 0) (o : Option Found) (left rest : List Found) → All P left → IsTaken o left rest → IfSome o P
+taken_within P None left rest all t = _
+taken_within P (Some m) left rest all t = subst (All P) t all 0 m (omega arith)
+
 module _ (kind : MatchKind) (q : Sought) where
   abbrev Left : Searched → ℕ → Option ℕ → List Found
   Left i from last = matches_by_kind kind (search_for q i) from last
 
   abbrev Finds : Searched → Option ℕ → Option Found → Type 0
   Finds j last o = o ≡ next_match begin_of end_of (answer_by_from kind (search_for q j)) j.span.start last
+
+  listed_first : (i : Searched) (o : Option Found) → o ≡ answer_by kind (search_for q i) → first_in (Left i i.span.start None) ≡ o
+  listed_first i None e =
+      let next = ap (unless_again begin_of end_of (answer_by_from kind (search_for q i)) i.span.start None) e in
+      ap first_in (step_none kind (search_for q i) i.span.start None next)
+  listed_first i (Some m) e =
+      let next = ap (unless_again begin_of end_of (answer_by_from kind (search_for q i)) i.span.start None) e in
+      ap first_in (step_some kind (search_for q i) i.span.start None m next)
+
+  -- what is taken from the list of an input's matches is what a search of that input finds
+  pub taken_is_found : (i : Searched) (o : Option Found) (left rest : List Found) → left ≡ Left i i.span.start None → IsTaken o left rest →
+      o ≡ answer_by kind (search_for q i)
+  taken_is_found i o left rest e t = sym (taken_first o left rest t) ∙ ap first_in e ∙ listed_first i (answer_by kind (search_for q i)) refl
 
   -- the next match was written: it is listed, and those behind it are left
   pub listed_more : (i j : Searched) (last : Option ℕ) (m : Found) (all : List Found) (xs : List MatchAt) (n : ℕ) (x : MatchAt) (from end : ℕ) →

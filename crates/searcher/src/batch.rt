@@ -53,7 +53,19 @@ fn is_again(last: Option<usize>, found: Match) -> bool
     }
 }
 
-/// The next match of the list, where the one before ended at `last`. The span may start a byte later then.
+/// The same match, as the first of the list of the input's matches: that doesn't read the earliest flag. The span may start elsewhere then.
+fn first<C: Cursor>(regex: &Regex, cache: &mut Cache, input: &mut Input<C>) -> Option<Match>
+    requires made { IsCacheFor (regex_patterns regex.now) (regex_settings regex.now) cache.old }
+    ensures cache { IsCacheFor (regex_patterns regex.now) (regex_settings regex.now) cache.new }
+    ensures moves { IsMoved input.old input.new }
+    ensures found { result ≡ answer_by (regex_kind regex.now) (search_for (sought regex.now) input.old) }
+    ensures within { IfSome result (λ m. (low input.old ≤ m.start) × (m.start ≤ m.end) × (m.end ≤ high input.old)) }
+{
+    let mut matches = regex.find_iter_with(cache, input);
+    matches.next()
+}
+
+/// The next match of the list, where the one before ended at `last`. The span may start elsewhere then.
 fn next_match<C: Cursor>(
     regex: &Regex,
     cache: &mut Cache,
@@ -68,13 +80,14 @@ fn next_match<C: Cursor>(
         ≡ next_match begin_of end_of (answer_by_from (regex_kind regex.now) (search_for (sought regex.now) input.old)) input.old.span.start last }
     ensures within { IfSome result (λ m. m.end ≤ high input.new) }
 {
-    let found = search(regex, cache, input)?;
+    // The content is shorter than the greatest number.
+    let _offset = input.chunk_offset();
+    let start = input.start();
+    let found = first(regex, cache, input)?;
     if !is_again(last, found) {
         return Some(found);
     }
-    // The content is shorter than the greatest number.
-    let _offset = input.chunk_offset();
-    input.set_start(input.start() + 1);
+    input.set_start(start + 1);
     search(regex, cache, input)
 }
 
