@@ -13,6 +13,7 @@ ghost use Rattle.rc_pass.specs.Trace.{Trace, done};
 ghost use Rattle.rc_pass.specs.Passing.{Carries, pending, AllIn, AllFrom, count_from, HasRoom, waiting_starts, Pending, IsLined, IsCounted, GivesTrace, Tells, best_of};
 ghost use Rattle.rc_pass.specs.Scratches.{IsSame};
 
+use crate::alone::glide;
 use crate::closure::close;
 use crate::entrance::entrance;
 use crate::growth::{Growth, copy_row};
@@ -334,6 +335,15 @@ pub(crate) fn pass_from<C: Cursor>(
         };
         at = next_at;
         reach(&mut window, input, at);
+        at = glide(
+            course,
+            &window,
+            root,
+            prefilter.is_none(),
+            best,
+            at,
+            scratch,
+        );
         best = turn(&spot_at(course, &window, at), root, best, scratch);
         if earliest && best.is_some() {
             return best;
