@@ -1,5 +1,5 @@
 -- Places from which no walk leads on, and threads that go on alone.
-use Rattle.std.proofs.Common.{◌≡◌, ℕ, ◌+◌, ◌<◌, ◌≤◌, ◌-◌, ◌*◌, List, [], ◌∷◌, length, map, min, ⊎_elim, sym, subst, ap, ◌∙◌, refl, arith, Bool, true, false, true≢false, IsTrue, Option, Some, None, ◌&&◌, slice_get, nat_le, is_none}
+use Rattle.std.proofs.Common.{◌≡◌, ◌≢◌, ℕ, ◌+◌, ◌<◌, ◌≤◌, ◌-◌, ◌*◌, List, [], ◌∷◌, length, map, min, ⊎_elim, sym, subst, ap, ◌∙◌, refl, arith, Bool, true, false, true≢false, IsTrue, Option, Some, None, ◌&&◌, slice_get, nat_le, is_none, replicate, MatchOption, IfSome}
 use Rattle.std.proofs.lemmas.Bool.{cases_lt}
 use Rattle.std.proofs.lemmas.List.{length-map}
 use Rattle.std.proofs.lemmas.Option.{none-some, same_Some}
@@ -9,14 +9,14 @@ use Rattle.rc_walks.specs.Threads.{passes}
 use Rattle.rc_walks.proofs.WalkLemmas.{drop_way}
 use Rattle.rc_walks.proofs.StackLemmas.{no_ways, dead_if_passed, dead_if_tried}
 use Rattle.rc_walks.proofs.ThreadLemmas.{fewer_passed, of_rest}
-use Rattle.rc_program.specs.Program.{slot, place_at, ways_out, pair_at, is_match_place}
+use Rattle.rc_program.specs.Program.{ways_out, pair_at, is_match_place}
 use Rattle.rc_program.specs.Text.{holds, ahead}
 use Rattle.rc_program.specs.Answer.{only}
 use Rattle.rc_pass.specs.Sights.{Sight, is_there, ends, next_of}
 use Rattle.rc_pass.specs.Moves.{IsMove}
 use Rattle.rc_pass.specs.Threads.{Thread, ThreadList, thread_of}
-use Rattle.rc_pass.specs.Trace.{Trace, note, trace, sets_out}
-use Rattle.rc_pass.specs.Passing.{IsMoveInside, pairs, Carries, waiting_starts, AllIn, AllFrom, count_from, Pending, best_of, IsCounted, IsPassing}
+use Rattle.rc_pass.specs.Trace.{Trace, note, trace, done, sets_out}
+use Rattle.rc_pass.specs.Passing.{IsMoveInside, pairs, Carries, waiting_starts, AllIn, AllFrom, count_from, Pending, best_of, IsCounted, IsLined, IsPassing}
 use Rattle.rc_pass.specs.Near.{seen_from, size}
 use Rattle.rc_text.specs.Text.{Searched}
 use Rattle.rc_program.specs.Places.{place_of}
@@ -25,9 +25,12 @@ use Rattle.rc_pass.specs.declared.pass.Ending.{Ending}
 use Rattle.rc_pass.specs.declared.threads.Head.{Head}
 use Rattle.rc_pass.specs.declared.moves.Move.{Move}
 use Rattle.rc_pass.proofs.GrownLemmas.{move_inside, one_at_most}
-use Rattle.rc_pass.specs.Alone.{IsDead, LeadsTo}
-use Rattle.rc_pass.specs.declared.moves.Move.TheVariants.{Fork, Save, Stays, Reads, Stops}
-use Rattle.rc_pass.proofs.MoveLemmas.{slot_on, plain_on, waited, turned}
+use Rattle.rc_pass.specs.Roots.{StandsFor}
+use Rattle.rc_pass.specs.Alone.{EndsAlone, IsDead, LeadsTo, ReadsOne}
+use Rattle.rc_pass.specs.declared.moves.Move.TheVariants.{Fork, Save, Matches, Stays, Reads, Stops}
+use Rattle.rc_pass.proofs.MoveLemmas.{slot_on, plain_on, matched, waited, turned}
+use Rattle.rc_pass.proofs.PassingLemmas.{no_threads}
+use Rattle.rc_pass.proofs.RootLemmas.{carries_root}
 use Rattle.rc_pass.proofs.OnwardLemmas.{only_one, only_first, only_second, carries_by}
 use Rattle.rc_pass.proofs.StartLemmas.{waiting_next, waiting_over, waiting_past}
 
@@ -118,6 +121,24 @@ only_thread [] t one e = absurd (none-some t e)
 only_thread (u ∷ []) t one e = ap (λ x. x ∷ []) (same_Some u t e)
 only_thread (u ∷ v ∷ ts) t one e = absurd (omega (arith, one))
 
+-- what has ended of a lone thread that goes on at the place
+pub ends_by : (s : Sight) (at : ℕ) (items : List Thread) (t : Thread) (place : ℕ) (step : Move) (r : Option ℕ) → items ≡ t ∷ [] → t.at ≡ at →
+    LeadsTo s at t.place place → IsMove s (place, at) step → MatchOption r ((p : ℕ) → step ≢ Matches p) (λ p. step ≡ Matches p) →
+    IfSome r (λ p. EndsAlone s at items p)
+ends_by s at items t place step None one here leads m other = tt
+ends_by s at items t place step (Some p) one here leads m is = record {
+  thread = t;
+  only = one;
+  here = here;
+  place = place;
+  leads = leads;
+  move = subst (λ v. IsMove s (place, at) v) is m;
+}
+
+pub none_is : (best : Option Ending) → is_none best ≡ true → best ≡ None
+none_is None e = refl
+none_is (Some r) e = absurd (true≢false (sym e))
+
 counted_more : (insertions more : ℕ) (best : Option Ending) → insertions ≤ more → IsCounted insertions best → IsCounted more best
 counted_more insertions more None h c = tt
 counted_more insertions more (Some r) h c = omega (arith, h, c)
@@ -162,4 +183,70 @@ module _ (s : Sight) (n hi width from last at insertions : ℕ) (curr : ThreadLi
         omega (arith, e, m, one_times, count, p.few);
     reached = omega (arith, later, p.reached);
     within = omega (arith, within);
+  }
+
+module _ (s : Sight) (n hi width last at insertions : ℕ) (curr : ThreadList) (lined : IsLined n hi width at insertions curr) where
+  -- The walk of the only thread ends.
+  pub ends_alone : (pattern : ℕ) (best : Option Ending) (found : List (Option ℕ)) (o : Option Trace) (slots : List (Option ℕ)) (t : Thread) (next : List Thread) →
+      EndsAlone s at curr.items pattern → curr.items ≡ t ∷ [] → t.slots ≡ slots → next ≡ [] →
+      Pending s width last (at + 1) next (Some (record { pattern = pattern; start = t.start; end = at })) slots o →
+      Pending s width last at curr.items best found o
+  ends_alone pattern best found o slots t next e one same none x =
+      let is : t ≡ e.thread = one_is e.thread t curr.items one e.only in
+      let here = waiting_starts (is_none best) width at last in
+      subst (λ ts. Pending s width last at ts best found o) (sym e.only)
+      (subst (λ y. Carries s at [] [] ((trace e.thread.start e.thread.slots, (e.thread.place, y)) ∷ here) (best_of best found) o) (sym e.here)
+      (e.leads (trace e.thread.start e.thread.slots) [] here (best_of best found) o
+      (matched s at [] [] (best_of best found) o e.place pattern e.thread.start e.thread.slots [] here (λ i. i) e.move.0 e.move.1
+      (subst (λ (u : Thread). Carries s at [] [] [] (Some (done pattern u.start at u.slots)) o) is
+      (subst (λ l. Carries s at [] [] [] (Some (done pattern t.start at l)) o) (sym same)
+      (turned s at [] [] (Some (done pattern t.start at slots)) o [] tt
+      (subst (λ ts. Pending s width last (at + 1) ts (Some (record { pattern = pattern; start = t.start; end = at })) slots o) none x)))))))
+    where
+      one_is : (u t : Thread) (ts : List Thread) → ts ≡ t ∷ [] → ts ≡ u ∷ [] → t ≡ u
+      one_is u t ts a b = let both : t ∷ [] ≡ u ∷ [] = sym a ∙ b in cc
+
+  -- A thread sets out that reads one byte, where none is under way.
+  pub sets_out_alone : (root q m : ℕ) (found : List (Option ℕ)) (o : Option Trace) (slots : List (Option ℕ)) (next : List Thread) →
+      length curr.items ≡ 0 → at ≤ last → at ≤ s.hi → StandsFor s root → ReadsOne s n at root (q, m) → slots ≡ replicate width None →
+      next ≡ record { place = m; at = at + 1; start = at; slots = slots } ∷ [] →
+      Pending s width last (at + 1) next None found o → Pending s width last at curr.items None found o
+  sets_out_alone root q m found o slots next none low within stands reads empty is x =
+      let h : Trace = trace at (replicate width None) in
+      let later = waiting_starts true width (at + 1) last in
+      let t : Thread = record { place = m; at = at + 1; start = at; slots = replicate width None } in
+      subst (λ ts. Pending s width last at ts None found o) (sym (no_threads curr.items none))
+      (subst (λ ts. Carries s at [] [] ts None o) (sym (waiting_next true width at last refl low))
+      (carries_root s root stands h at later None o within
+      (reads.leads h [] later None o
+      (plain_on s at [] [] None o q at (replicate width None) (λ i. i) ((m, at + 1) ∷ []) later reads.move.0 reads.move.1
+      (waited s at [] (q ∷ []) None o t later (omega arith)
+      (turned s at (t ∷ []) (q ∷ []) None o later (waiting_past true width at last)
+      (subst (λ l. Pending s width last (at + 1) (record { place = m; at = at + 1; start = at; slots = l } ∷ []) None found o) empty
+      (subst (λ ts. Pending s width last (at + 1) ts None found o) is x))))))))
+
+  -- no thread is left
+  pub lined_none : (x insertions2 width2 : ℕ) (next : ThreadList) → next ≡ record curr { items = []; width = width2 } → width2 ≡ width →
+      IsLined n hi width x insertions2 next
+  lined_none x insertions2 width2 next e wide = record {
+    inside = subst (λ (l : ThreadList). AllIn n x (min hi (x + 3)) l.items) (sym e) tt;
+    width_is = ap (λ (l : ThreadList). l.width) e ∙ wide;
+    room = ap (λ (l : ThreadList). l.room) e ∙ lined.room;
+    counts = λ k h. subst (λ (l : ThreadList). count_from (x + k) l.items + k * n ≤ 4 * n) (sym e)
+        (let m : k * n ≤ 3 * n = mul-le-mul_right n h in omega (arith, m));
+    begun = subst (λ (l : ThreadList). AllFrom (x - insertions2) l.items) (sym e) tt;
+  }
+
+  -- one thread waits for the next position
+  pub lined_one : (r : Head) (slots : List (Option ℕ)) (next : ThreadList) → next ≡ record curr { items = thread_of r slots ∷ [] } →
+      r.at ≡ at + 1 → r.start ≡ at → r.place < n → at + 1 ≤ hi → IsLined n hi width (at + 1) (insertions + 1) next
+  lined_one r slots next e here start place within = record {
+    inside = subst (λ (l : ThreadList). AllIn n (at + 1) (min hi (at + 1 + 3)) l.items) (sym e) ((place, omega (arith, here), omega (arith, here, within)), tt);
+    width_is = ap (λ (l : ThreadList). l.width) e ∙ lined.width_is;
+    room = ap (λ (l : ThreadList). l.room) e ∙ lined.room;
+    counts = λ k h. subst (λ (l : ThreadList). count_from (at + 1 + k) l.items + k * n ≤ 4 * n) (sym e)
+        (let m : k * n ≤ 3 * n = mul-le-mul_right n h in
+        let l = one_at_most (nat_le (at + 1 + k) r.at) in
+        omega (arith, m, l, place));
+    begun = subst (λ (l : ThreadList). AllFrom (at + 1 - (insertions + 1)) l.items) (sym e) (omega (arith, start), tt);
   }

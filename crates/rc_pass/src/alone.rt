@@ -1,7 +1,7 @@
 //! Threads that go on alone, and starts from which no walk leads on: for neither a list of places is kept.
 ghost use Rattle.std.specs.Prelude.{◌≡◌, ◌+◌, ◌-◌, ◌<◌, ◌≤◌, ◌^◌, [], ◌∷◌, IsTrue, IfSome, List, Option, Bool, true, ℕ, length, min};
 ghost use Rattle.rc_text.specs.Text.{Searched};
-ghost use Rattle.rc_pass.specs.Alone.{IsDead, ReadsOne, tried_at};
+ghost use Rattle.rc_pass.specs.Alone.{EndsAlone, IsDead, LeadsTo, ReadsOne, tried_at};
 ghost use Rattle.rc_pass.specs.Moves.{IsSetting, seen_by};
 ghost use Rattle.rc_pass.specs.Near.{IsHere, seen_from, size};
 ghost use Rattle.rc_pass.specs.Passing.{AllIn, Carries, IsPassing, waiting_starts};
@@ -11,12 +11,14 @@ ghost use Rattle.rc_pass.specs.Sights.{HasNoWalkFrom};
 ghost use Rattle.rc_pass.specs.Trace.{Trace, trace};
 ghost use Rattle.rc_pass.specs.Windows.{IsWindow, IsBegun, IsAround};
 
+use crate::closure::ended;
 use crate::moves::{Move, look_up};
 use crate::pass::Ending;
 use crate::scratch::Scratch;
 use crate::spot::{Course, Spot};
-use crate::threads::Head;
+use crate::threads::{Head, Threads};
 use crate::window::{Window, limit, spot_at};
+use rc_program::place::Place;
 
 /// How many places are followed at most.
 const MOST: usize = 8;
@@ -66,10 +68,13 @@ fn is_dead(spot: &Spot, from: usize, tried: Option<usize>) -> bool
             Move::Stays(next) => place = next,
             Move::Save(_, next) => place = next,
             Move::Fork(first, second) => {
-                if !is_spent(spot, first, tried) {
+                if is_spent(spot, second, tried) {
+                    place = first;
+                } else if is_spent(spot, first, tried) {
+                    place = second;
+                } else {
                     return false;
                 }
-                place = second;
             }
             Move::Reads(_, _) => return false,
             Move::Matches(_) => return false,
@@ -78,23 +83,29 @@ fn is_dead(spot: &Spot, from: usize, tried: Option<usize>) -> bool
     false
 }
 
-/// Where a thread reads one byte that goes on from the place, and where it goes on after that; where it has one way alone
-/// to go, and that is told by a few places.
-fn go_on(spot: &Spot, from: usize) -> Option<(usize, usize)>
+/// Whether walks go through the place, and read nothing there.
+#[inline(always)]
+fn is_through(place: &Place) -> bool {
+    matches!(
+        place,
+        Place::Choice(_, _) | Place::Pass(_) | Place::Guard(_, _)
+    )
+}
+
+/// A place at which a thread may go on in place of this one, since it has one way alone to go as far as there.
+fn way_on(spot: &Spot, from: usize) -> usize
     ghost text: { Searched }
     requires here { IsHere spot.now text }
     requires place_in { from < size spot.now.course }
-    ensures { IfSome result (λ r. ReadsOne (seen_from spot.now text) (size spot.now.course) spot.now.at from r) }
+    ensures inside { result < size spot.now.course }
+    ensures leads { LeadsTo (seen_from spot.now text) spot.now.at from result }
 {
     let mut place = from;
     'ways: for _ in 0..MOST {
+        if !is_through(&spot.course.program.places[place]) {
+            return place;
+        }
         match look_up(spot, place) {
-            Move::Reads(next, to) => {
-                if to == spot.at + 1 {
-                    return Some((place, next));
-                }
-                return None;
-            }
             Move::Stays(next) => place = next,
             Move::Fork(first, second) => {
                 if is_dead(spot, second, Some(place)) {
@@ -102,15 +113,51 @@ fn go_on(spot: &Spot, from: usize) -> Option<(usize, usize)>
                 } else if is_dead(spot, first, Some(place)) {
                     place = second;
                 } else {
-                    return None;
+                    return place;
                 }
             }
-            Move::Save(_, _) => return None,
-            Move::Matches(_) => return None,
-            Move::Stops => return None,
+            _ => return place,
         }
     }
-    None
+    place
+}
+
+/// Where a thread reads one byte that goes on from the place, and where it goes on after that; where it has one way alone
+/// to go, and that is told by a few places.
+pub fn go_on(spot: &Spot, from: usize) -> Option<(usize, usize)>
+    ghost text: { Searched }
+    requires here { IsHere spot.now text }
+    requires place_in { from < size spot.now.course }
+    ensures { IfSome result (λ r. ReadsOne (seen_from spot.now text) (size spot.now.course) spot.now.at from r) }
+{
+    let place = way_on(spot, from);
+    match look_up(spot, place) {
+        Move::Reads(next, to) => {
+            if to == spot.at + 1 {
+                return Some((place, next));
+            }
+            None
+        }
+        _ => None,
+    }
+}
+
+/// The pattern of which the walk of a lone thread ends at the spot, where that is told by a few places.
+pub fn end_of(spot: &Spot, curr: &Threads) -> Option<usize>
+    ghost text: { Searched }
+    requires here { IsHere spot.now text }
+    requires inside { AllIn (size spot.now.course) spot.now.at (min spot.now.course.hi (spot.now.at + 3)) curr.now.items }
+    ensures { IfSome result (λ p. EndsAlone (seen_from spot.now text) spot.now.at curr.now.items p) }
+{
+    if curr.len() != 1 {
+        return None;
+    }
+    let (head, _) = curr.get(0);
+    if head.at != spot.at {
+        return None;
+    }
+    let place = way_on(spot, head.place);
+    ended(look_up(spot, place))
 }
 
 /// Lets a lone thread go on through the window, as long as it reads single bytes and no other sets out, where `is_open`.

@@ -1,4 +1,4 @@
-use Rattle.std.proofs.Common.{◌≡◌, ◌+◌, ◌-◌, List, [], ◌∷◌, min, refl, sym, ap, subst, ◌∙◌, arith}
+use Rattle.std.proofs.Common.{◌≡◌, ◌+◌, ◌-◌, [], ◌∷◌, min, refl, sym, ap, subst, ◌∙◌, arith}
 use Rattle.rc_pass.specs.Near.{size}
 use Rattle.rc_pass.specs.Moves.{seen_by}
 use Rattle.rc_pass.specs.Threads.{ThreadList, thread_of}

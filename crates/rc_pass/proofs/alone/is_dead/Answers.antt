@@ -7,7 +7,7 @@ use Rattle.rc_pass.specs.Alone.{IsDead, tried_at}
 use Rattle.rc_pass.specs.declared.moves.Move.TheVariants.{Fork, Save, Stays}
 use Rattle.rc_pass.proofs.AloneLemmas.{inside_program, dead_stops, dead_stays, dead_saves, dead_forks}
 use Rattle.rc_pass.proofs.alone.is_dead.Goals as goal
-use Rattle.rc_pass.proofs.alone.is_dead.Goals.{in-Stays, in-Save, in-Fork+else-not-is_spent}
+use Rattle.rc_pass.proofs.alone.is_dead.Goals.{in-Stays, in-Save, in-Fork+then-is_spent, in-Fork+else-is_spent+then-is_spent-2}
 
 pub returns-in-Stops : goal.returns-in-Stops
 returns-in-Stops g c _ =
@@ -17,6 +17,13 @@ returns-in-Stops g c _ =
 
 pub is_spent-requires : goal.is_spent-requires
 is_spent-requires g c = (
+  c.requires.0,
+  (inside_program c.args.spot.now g.text c.ways.place (Fork c.in-Fork.first c.in-Fork.second)
+      (subst (IsMove (seen_from c.args.spot.now g.text) (c.ways.place, c.args.spot.now.at)) c.in-Fork.is c.look_up.ensures)).1,
+)
+
+pub is_spent-requires-else-is_spent : goal.is_spent-requires-else-is_spent
+is_spent-requires-else-is_spent g c = (
   c.requires.0,
   (inside_program c.args.spot.now g.text c.ways.place (Fork c.in-Fork.first c.in-Fork.second)
       (subst (IsMove (seen_from c.args.spot.now g.text) (c.ways.place, c.args.spot.now.at)) c.in-Fork.is c.look_up.ensures)).0,
@@ -43,12 +50,20 @@ ways-preserved g c =
             dead = λ d. c.ways.invariant.dead
                 (dead_saves s at passed c.ways.place w.in-Save.field-0 w.in-Save.next m (subst (λ p. IsDead s passed (p, at)) w.place-is d));
           }
-      | in-Fork+else-not-is_spent w ↦
+      | in-Fork+then-is_spent w ↦
+          let m = subst (IsMove s (c.ways.place, at)) w.in-Fork.is c.look_up.ensures in
+          record {
+            place_in = subst (λ p. p < n) (sym w.place-is) (inside_program c.args.spot.now g.text c.ways.place (Fork w.in-Fork.first w.in-Fork.second) m).0;
+            dead = λ d. c.ways.invariant.dead
+                (dead_forks s at passed c.ways.place w.in-Fork.first w.in-Fork.second m (subst (λ p. IsDead s passed (p, at)) w.place-is d)
+                (w.is_spent.ensures w.if-is_spent.true));
+          }
+      | in-Fork+else-is_spent+then-is_spent-2 w ↦
           let m = subst (IsMove s (c.ways.place, at)) w.in-Fork.is c.look_up.ensures in
           record {
             place_in = subst (λ p. p < n) (sym w.place-is) (inside_program c.args.spot.now g.text c.ways.place (Fork w.in-Fork.first w.in-Fork.second) m).1;
             dead = λ d. c.ways.invariant.dead
-                (dead_forks s at passed c.ways.place w.in-Fork.first w.in-Fork.second m (w.is_spent.ensures w.if-not-is_spent.false)
+                (dead_forks s at passed c.ways.place w.in-Fork.first w.in-Fork.second m (w.is_spent-else-is_spent.ensures w.if-is_spent-2.true)
                 (subst (λ p. IsDead s passed (p, at)) w.place-is d));
           }
     ]
