@@ -24,10 +24,9 @@ use rc_text::types::{HalfMatch, Match, MatchError};
 
 /// The match that a search of the input finds.
 ///
-/// Under `MatchKind::LeftmostFirst` it is the one that is preferred of the least start, and under `LeftmostLongest` too, whose matches no
-/// tables find. Under `MatchKind::All` it is the one with the
-/// greatest end, then the least start, then the least pattern, and no match is passed over. With the input's earliest flag on it may be
-/// any match, unless matches are passed over.
+/// Under `MatchKind::LeftmostFirst` it is the one that is preferred of the least start, and under `LeftmostLongest` the longest of the least
+/// start, of these the one that is preferred. Under `MatchKind::All` it is the one with the greatest end, then the least start, then the
+/// least pattern, and no match is passed over. With the input's earliest flag on it may be any match, unless matches are passed over.
 ///
 /// An `Err` is `Quit`: where an assertion of the patterns speaks of Unicode's words, the search doesn't go past a byte above 127.
 pub fn find<C: Cursor>(re: &Regex, input: &mut Input<C>) -> Result<Option<Match>, MatchError>

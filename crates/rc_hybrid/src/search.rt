@@ -25,10 +25,9 @@ use rc_text::types::{HalfMatch, Match, MatchError};
 
 /// The match that a search of the input finds, in a cache that was made for this regex. The cache stays so, also after an `Err`.
 ///
-/// Under `MatchKind::LeftmostFirst` it is the one that is preferred of the least start, and under `LeftmostLongest` too, whose matches no
-/// tables find. Under `MatchKind::All` it is the one with the
-/// greatest end, then the least start, then the least pattern, and no match is passed over. With the input's earliest flag on it may be
-/// any match, unless matches are passed over.
+/// Under `MatchKind::LeftmostFirst` it is the one that is preferred of the least start, and under `LeftmostLongest` the longest of the least
+/// start, of these the one that is preferred. Under `MatchKind::All` it is the one with the greatest end, then the least start, then the
+/// least pattern, and no match is passed over. With the input's earliest flag on it may be any match, unless matches are passed over.
 ///
 /// An `Err` is `Quit` where an assertion of the patterns speaks of Unicode's words: the search doesn't go past a byte above 127. It is `GaveUp`
 /// with `memory` where memory was refused, and without where the states of a direction were let go three times and would have to be again. A

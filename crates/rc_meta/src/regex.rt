@@ -122,7 +122,7 @@ impl Regex {
     ///
     /// Under `MatchKind::All` it is the match with the greatest end, of these the one with the least start, and of these the one of
     /// the least pattern. Empty matches inside a character aren't passed over then. Under `MatchKind::LeftmostLongest` it is, of the
-    /// matches of the least start, the longest; no tables are made for it then.
+    /// matches of the least start, the longest.
     ///
     /// With the input's earliest flag on, unless matches are passed over, any span that a pattern spells may be the answer, and there is
     /// one where there is one with the flag off. The search then stops at the first position at which some match ends.
