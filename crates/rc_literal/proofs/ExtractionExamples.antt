@@ -1,6 +1,6 @@
 -- Prefixes of some patterns, by the definition.
 use Rattle.std.proofs.Common.{◌≡◌, ℕ, [], ◌∷◌, true, Some, None, refl}
-use Rattle.rc_pattern.specs.Re.{Re, empty, literal, byte_in, cat, repeat}
+use Rattle.rc_pattern.specs.Re.{Re, empty, literal, byte_in, capture, cat, alt, none, repeat}
 use Rattle.rc_literal.specs.Extraction.{first_bytes}
 
 -- a letter in both cases
@@ -23,3 +23,34 @@ left_out = refl
 -- two bytes and twenty-five behind them: fifty are too many
 too_many : first_bytes (cat (byte_in ((48, 49) ∷ [])) (cat (byte_in ((48, 72) ∷ [])) empty)) ≡ Some ((48 ∷ []) ∷ (49 ∷ []) ∷ [])
 too_many = refl
+
+-- `(fn|do|match) `: a group is lengthened by what stands behind it, since one of its words is short
+words_in_group : first_bytes (cat (capture 1 None (alt (literal (102 ∷ 110 ∷ [])) (alt (literal (100 ∷ 111 ∷ []))
+    (alt (literal (109 ∷ 97 ∷ 116 ∷ 99 ∷ 104 ∷ [])) none)))) (cat (literal (32 ∷ [])) empty))
+    ≡ Some ((102 ∷ 110 ∷ 32 ∷ []) ∷ (100 ∷ 111 ∷ 32 ∷ []) ∷ (109 ∷ 97 ∷ 116 ∷ 99 ∷ 104 ∷ 32 ∷ []) ∷ [])
+words_in_group = refl
+
+-- `(a|b)(c|d)x`
+group_behind_group : first_bytes (cat (capture 1 None (byte_in ((97, 98) ∷ []))) (cat (capture 2 None (alt (literal (99 ∷ [])) (alt (literal (100 ∷ [])) none)))
+    (cat (literal (120 ∷ [])) empty)))
+    ≡ Some ((97 ∷ 99 ∷ 120 ∷ []) ∷ (97 ∷ 100 ∷ 120 ∷ []) ∷ (98 ∷ 99 ∷ 120 ∷ []) ∷ (98 ∷ 100 ∷ 120 ∷ []) ∷ [])
+group_behind_group = refl
+
+-- `(?:foo|ba)r`
+one_short : first_bytes (cat (alt (literal (102 ∷ 111 ∷ 111 ∷ [])) (alt (literal (98 ∷ 97 ∷ [])) none)) (cat (literal (114 ∷ [])) empty))
+    ≡ Some ((102 ∷ 111 ∷ 111 ∷ 114 ∷ []) ∷ (98 ∷ 97 ∷ 114 ∷ []) ∷ [])
+one_short = refl
+
+-- `(a|)b`: with an empty alternative nothing is known
+empty_alternative : first_bytes (cat (capture 1 None (alt (literal (97 ∷ [])) (alt empty none))) (cat (literal (98 ∷ [])) empty)) ≡ None
+empty_alternative = refl
+
+-- `(ab|c*)d`: nor where an alternative may spell what isn't known
+left_out_in_group : first_bytes (cat (capture 1 None (alt (literal (97 ∷ 98 ∷ [])) (alt (repeat 0 None true (literal (99 ∷ []))) none)))
+    (cat (literal (100 ∷ [])) empty)) ≡ None
+left_out_in_group = refl
+
+-- `a(b|c+)`: what isn't known behind lengthens nothing
+unknown_behind : first_bytes (cat (literal (97 ∷ [])) (cat (capture 1 None (alt (literal (98 ∷ [])) (alt (repeat 1 None true (literal (99 ∷ []))) none))) empty))
+    ≡ Some ((97 ∷ []) ∷ [])
+unknown_behind = refl

@@ -21,7 +21,7 @@ use Rattle.rc_program.specs.Program.{in_ranges}
 use Rattle.rc_program.specs.Spells.{Stands, Turns, Spells, SpelledBy}
 use Rattle.rc_literal.specs.Literals.{Covers}
 use Rattle.rc_literal.specs.Needles.{StandsAt}
-use Rattle.rc_literal.specs.Extraction.{greatest_count, greatest_length, range_bytes, range_chars, is_still, both, whole_bytes, crossed, may_cross, lengthened, begun_by, first_bytes, filled, grown, Extends}
+use Rattle.rc_literal.specs.Extraction.{greatest_count, greatest_length, range_bytes, range_chars, is_still, both, spelled_bytes, whole_bytes, crossed, may_cross, lengthened, begun_by, first_bytes, filled, grown, Extends}
 use Rattle.rc_literal.specs.Prefixes.{ArePrefixes}
 use Rattle.rc_literal.specs.Tables.{IsUsable, needles_in}
 use Rattle.rc_literal.proofs.RelationLemmas.{range_of}
@@ -223,19 +223,41 @@ whole_literal bs t i j s =
 kept_whole : (xs vs : List (List ℕ)) (h : Re) → filled [] xs ≡ Some vs → AreWhole xs h → AreWhole vs h
 kept_whole xs vs h e whole = subst (λ z. AreWhole z h) (sym (filled_some [] xs vs (omega arith) e).0) whole
 
-are_whole : (a : Re) (vs : List (List ℕ)) → whole_bytes a ≡ Some vs → AreWhole vs a
-are_whole empty vs e = absurd (none-some vs e)
-are_whole (literal bs) vs e =
+whole_among : (ws vs : List (List ℕ)) (h : Re) → ((w : List ℕ) → IsAmong ws w → IsAmong vs w) → AreWhole ws h → AreWhole vs h
+whole_among ws vs h keeps whole t i j s = let b = whole t i j s in let a = keeps b.1 (b.0, b.2) in (a.0, b.1, a.1, b.3, b.4)
+
+whole_either : (us vs : List (List ℕ)) (a rest : Re) → AreWhole us a → AreWhole vs rest → AreWhole (us ++ vs) (alt a rest)
+whole_either us vs a rest one other t i j (inl s) = whole_among us (us ++ vs) a (λ w. among_left us vs w) one t i j s
+whole_either us vs a rest one other t i j (inr s) = whole_among vs (us ++ vs) rest (λ w. among_right us vs w) other t i j s
+
+spelled_whole : (a : Re) (vs : List (List ℕ)) → spelled_bytes a ≡ Some vs → AreWhole vs a
+spelled_whole empty vs e = absurd (none-some vs e)
+spelled_whole (literal bs) vs e =
     ⊎_elim (λ y. subst (λ z. AreWhole z (literal bs)) (same_Some (bs ∷ []) vs (rw y at e)) (whole_literal bs))
     (λ f. absurd (none-some vs (rw f at e))) (cases_Bool (nat_le (length bs) greatest_length))
-are_whole (byte_in rs) vs e = kept_whole (flat_map range_bytes rs) vs (byte_in rs) e (whole_bytes_in rs)
-are_whole (char_in rs) vs e = kept_whole (flat_map range_chars rs) vs (char_in rs) e (whole_chars_in rs)
-are_whole (look l) vs e = absurd (none-some vs e)
-are_whole (repeat min max greedy a) vs e = absurd (none-some vs e)
-are_whole (capture n name a) vs e = absurd (none-some vs e)
-are_whole (cat a rest) vs e = absurd (none-some vs e)
-are_whole (alt a rest) vs e = absurd (none-some vs e)
-are_whole none vs e = absurd (none-some vs e)
+spelled_whole (byte_in rs) vs e = subst (λ z. AreWhole z (byte_in rs)) (same_Some (flat_map range_bytes rs) vs e) (whole_bytes_in rs)
+spelled_whole (char_in rs) vs e = subst (λ z. AreWhole z (char_in rs)) (same_Some (flat_map range_chars rs) vs e) (whole_chars_in rs)
+spelled_whole (look l) vs e = absurd (none-some vs e)
+spelled_whole (repeat min max greedy a) vs e = absurd (none-some vs e)
+spelled_whole (capture n name a) vs e = spelled_whole a vs e
+spelled_whole (cat a rest) vs e = absurd (none-some vs e)
+spelled_whole (alt a rest) vs e =
+    by_both (spelled_bytes a) (spelled_bytes rest) (λ us. spelled_whole a us) (λ us. spelled_whole rest us) e
+  where
+    by_both : (o p : Option (List (List ℕ))) → ((us : List (List ℕ)) → o ≡ Some us → AreWhole us a) →
+        ((us : List (List ℕ)) → p ≡ Some us → AreWhole us rest) → both o p ≡ Some vs → AreWhole vs (alt a rest)
+    by_both None p one other is = absurd (none-some vs is)
+    by_both (Some us) None one other is = absurd (none-some vs is)
+    by_both (Some us) (Some ws) one other is =
+        subst (λ z. AreWhole z (alt a rest)) (same_Some (us ++ ws) vs is) (whole_either us ws a rest (one us refl) (other ws refl))
+spelled_whole none vs e = λ t i j never. absurd never
+
+are_whole : (a : Re) (vs : List (List ℕ)) → whole_bytes a ≡ Some vs → AreWhole vs a
+are_whole a vs e = by_spelled (spelled_bytes a) (λ ws. spelled_whole a ws) e
+  where
+    by_spelled : (o : Option (List (List ℕ))) → ((ws : List (List ℕ)) → o ≡ Some ws → AreWhole ws a) → grown [] o ≡ Some vs → AreWhole vs a
+    by_spelled None whole is = absurd (none-some vs is)
+    by_spelled (Some ws) whole is = kept_whole ws vs a is (whole ws refl)
 
 among_map : (f : List ℕ → List ℕ) (vs : List (List ℕ)) (v : List ℕ) → IsAmong vs v → IsAmong (map f vs) (f v)
 among_map f vs v a = (a.0, slice_get-map f vs a.0 ∙ ap (option_map f) a.1)
@@ -423,6 +445,10 @@ module _ {X : Type 0} (f : X → Option (List (List ℕ))) where
 pub each_alt : (hs : List Hir) → each (λ h. first_bytes (meaning h)) hs ≡ first_bytes (alt_all (map meaning hs))
 each_alt [] = refl
 each_alt (h ∷ hs) = ap (both (first_bytes (meaning h))) (each_alt hs)
+
+pub each_spelled : (hs : List Hir) → each (λ h. spelled_bytes (meaning h)) hs ≡ spelled_bytes (alt_all (map meaning hs))
+each_spelled [] = refl
+each_spelled (h ∷ hs) = ap (both (spelled_bytes (meaning h))) (each_spelled hs)
 
 pub each_needle : (vs : List (Vec ℕ Global)) → each (λ v. Some (v.items ∷ [])) vs ≡ Some (needles_in vs)
 each_needle [] = refl

@@ -14,7 +14,7 @@ use Rattle.rc_pattern.specs.declared.hir.HirKind.TheVariants as HirKind
 use Rattle.rc_pattern.specs.declared.hir.Repetition.{Repetition}
 use Rattle.rc_pattern.specs.declared.hir.Capture.{Capture}
 use Rattle.rc_pattern.proofs.FoldLemmas.{kind_Empty, kind_Literal, kind_Class, kind_Look, kind_Repetition, kind_Capture, kind_Concat, kind_Alternation, meaning_of_repetition, meaning_of_capture}
-use Rattle.rc_literal.specs.Extraction.{is_still, whole_bytes}
+use Rattle.rc_literal.specs.Extraction.{is_still, spelled_bytes}
 use Rattle.rc_literal.specs.Literals.{literal_bytes, literals_of}
 
 class_bytes : (c : Class) → literal_bytes (class_meaning c) ≡ None
@@ -109,25 +109,17 @@ pub still_concat : (h : Re) (k : HirKind) (subs : Vec Hir Global) (xs : List Hir
 still_concat h k subs xs value is same =
     ap (λ (ys : List Hir). length ys == 0) same ∙ no_member subs.items ∙ ap is_still (sym (kind_Concat subs) ∙ ap kind_meaning (sym is) ∙ value)
 
--- a node that is neither a literal nor a class
+-- a node of whose texts nothing is known
 abbrev pub IsUnread : HirKind → Type 0
-IsUnread k =
-    (k ≡ HirKind.Empty) ⊎ (((l : Look) × (k ≡ HirKind.Look l)) ⊎ (((r : Repetition) × (k ≡ HirKind.Repetition r))
-    ⊎ (((c : Capture) × (k ≡ HirKind.Capture c)) ⊎ (IsConcat k ⊎ IsAlternation k))))
+IsUnread k = (k ≡ HirKind.Empty) ⊎ (((l : Look) × (k ≡ HirKind.Look l)) ⊎ (((r : Repetition) × (k ≡ HirKind.Repetition r)) ⊎ IsConcat k))
 
-cat_whole : (hs : List Re) → whole_bytes (cat_all hs) ≡ None
-cat_whole [] = refl
-cat_whole (h ∷ hs) = refl
+cat_spelled : (hs : List Re) → spelled_bytes (cat_all hs) ≡ None
+cat_spelled [] = refl
+cat_spelled (h ∷ hs) = refl
 
-alt_whole : (hs : List Re) → whole_bytes (alt_all hs) ≡ None
-alt_whole [] = refl
-alt_whole (h ∷ hs) = refl
-
-pub none_whole : (k : HirKind) → IsUnread k → whole_bytes (kind_meaning k) ≡ None
-none_whole k (inl e) = of_kind (List (List ℕ)) whole_bytes k HirKind.Empty _ e kind_Empty refl
-none_whole k (inr (inl (l, e))) = of_kind (List (List ℕ)) whole_bytes k (HirKind.Look l) _ e (kind_Look l) refl
-none_whole k (inr (inr (inl (r, e)))) = of_kind (List (List ℕ)) whole_bytes k (HirKind.Repetition r) _ e (kind_Repetition r ∙ meaning_of_repetition r) refl
-none_whole k (inr (inr (inr (inl (c, e))))) = of_kind (List (List ℕ)) whole_bytes k (HirKind.Capture c) _ e (kind_Capture c ∙ meaning_of_capture c) refl
-none_whole k (inr (inr (inr (inr (inl (s, e)))))) = of_kind (List (List ℕ)) whole_bytes k (HirKind.Concat s) _ e (kind_Concat s) (cat_whole (map meaning s.items))
-none_whole k (inr (inr (inr (inr (inr (s, e)))))) =
-    of_kind (List (List ℕ)) whole_bytes k (HirKind.Alternation s) _ e (kind_Alternation s) (alt_whole (map meaning s.items))
+pub none_spelled : (k : HirKind) → IsUnread k → spelled_bytes (kind_meaning k) ≡ None
+none_spelled k (inl e) = of_kind (List (List ℕ)) spelled_bytes k HirKind.Empty _ e kind_Empty refl
+none_spelled k (inr (inl (l, e))) = of_kind (List (List ℕ)) spelled_bytes k (HirKind.Look l) _ e (kind_Look l) refl
+none_spelled k (inr (inr (inl (r, e)))) =
+    of_kind (List (List ℕ)) spelled_bytes k (HirKind.Repetition r) _ e (kind_Repetition r ∙ meaning_of_repetition r) refl
+none_spelled k (inr (inr (inr (s, e)))) = of_kind (List (List ℕ)) spelled_bytes k (HirKind.Concat s) _ e (kind_Concat s) (cat_spelled (map meaning s.items))

@@ -49,12 +49,25 @@ abbrev pub filled : List (List ℕ) → List (List ℕ) → Option (List (List �
 filled list [] = Some list
 filled list (w ∷ ws) = if nat_lt (length list) greatest_count then filled (list ++ w ∷ []) ws else None
 
--- what each text is that a literal or a class spells, where all of it can be kept
+-- what is added to the list, where it is known and there is room for it
+abbrev pub grown : List (List ℕ) → Option (List (List ℕ)) → Option (List (List ℕ))
+grown list None = None
+grown list (Some ws) = filled list ws
+
+-- each text that is spelled by literals and classes, in groups and alternations as they come. None for other patterns, and where a
+-- literal is too long to be kept.
+abbrev pub spelled_bytes : Re → Option (List (List ℕ))
+spelled_bytes (literal bs) = if nat_le (length bs) greatest_length then Some (bs ∷ []) else None
+spelled_bytes (byte_in rs) = Some (flat_map range_bytes rs)
+spelled_bytes (char_in rs) = Some (flat_map range_chars rs)
+spelled_bytes (capture n name a) = spelled_bytes a
+spelled_bytes (alt a rest) = both (spelled_bytes a) (spelled_bytes rest)
+spelled_bytes none = Some []
+spelled_bytes _ = None
+
+-- what each text is that the pattern spells, where all of it can be kept
 abbrev pub whole_bytes : Re → Option (List (List ℕ))
-whole_bytes (literal bs) = if nat_le (length bs) greatest_length then Some (bs ∷ []) else None
-whole_bytes (byte_in rs) = filled [] (flat_map range_bytes rs)
-whole_bytes (char_in rs) = filled [] (flat_map range_chars rs)
-whole_bytes _ = None
+whole_bytes a = grown [] (spelled_bytes a)
 
 -- each of the one list with each of the other behind it
 abbrev pub crossed : List (List ℕ) → List (List ℕ) → List (List ℕ)
@@ -70,7 +83,7 @@ abbrev pub may_cross : List (List ℕ) → Option (List (List ℕ)) → Bool
 may_cross ws None = false
 may_cross ws (Some vs) = has_short ws && nat_le (length ws * length vs) greatest_variants
 
--- the needles with what is read behind them, by one literal or class after another, while one of them is short and there are few enough
+-- the needles with what is read behind them, by one part after another that is kept whole, while one of them is short and there are few enough
 abbrev pub lengthened : List (List ℕ) → Re → List (List ℕ)
 lengthened ws (cat a rest) =
     if may_cross ws (whole_bytes a) then lengthened (crossed ws (unwrap_or (whole_bytes a) [])) rest else ws
@@ -95,10 +108,6 @@ first_bytes (capture n name a) = first_bytes a
 first_bytes (cat a rest) = if is_still a then first_bytes rest else begun_by (whole_bytes a) (first_bytes a) rest
 first_bytes (alt a rest) = both (first_bytes a) (first_bytes rest)
 first_bytes none = Some []
-
-abbrev pub grown : List (List ℕ) → Option (List (List ℕ)) → Option (List (List ℕ))
-grown list None = None
-grown list (Some ws) = filled list ws
 
 -- Where it is done, the old list with these prefixes is the new one; where it isn't, there are none or there is no room for them.
 abbrev pub Extends : Bool → List (List ℕ) → List (List ℕ) → Option (List (List ℕ)) → Type 0

@@ -4,7 +4,7 @@ ghost use Rattle.std.specs.Bool.{Decides};
 ghost use Rattle.rc_pattern.specs.Meaning.{alt_all, byte_range, cat_all, char_range, class_meaning, meaning};
 ghost use Rattle.rc_pattern.specs.Re.{byte_in, char_in, literal};
 ghost use Rattle.rc_program.specs.Text.{Text};
-ghost use Rattle.rc_literal.specs.Extraction.{Extends, begun_by, crossed, first_bytes, has_short, is_still, lengthened, may_cross, range_bytes, range_chars, whole_bytes};
+ghost use Rattle.rc_literal.specs.Extraction.{Extends, begun_by, crossed, first_bytes, has_short, is_still, lengthened, may_cross, range_bytes, range_chars, spelled_bytes, whole_bytes};
 ghost use Rattle.rc_literal.specs.Literals.{Covers};
 ghost use Rattle.rc_literal.specs.Prefilters.{needles_of};
 ghost use Rattle.rc_literal.specs.Prefixes.{ArePrefixes, BeginsWithOne, EachBegins};
@@ -30,7 +30,8 @@ const GREATEST_VARIANTS: usize = 32;
 ///
 /// They are what may be read first: a literal, of which at most 32 bytes are taken, or each byte or
 /// character of a class. Where one of these has fewer than 3 bytes, they are lengthened by the literals and
-/// classes behind it, one after another, as long as that makes no more than 32 of them. None where in some pattern a body that may be left out, or nothing but
+/// classes behind it, in groups and alternations too, one after another, as long as that makes no more than
+/// 32 of them. None where in some pattern a body that may be left out, or nothing but
 /// assertions, is read first, where there are more than 64, and where there is none. An `Err` is want
 /// of memory. It takes time linear in the patterns' size, and calls itself as deep as a pattern is.
 pub fn prefixes(alloc: Global, hirs: &[Hir]) -> Result<Option<Vec<Vec<u8>>>, AllocError>
@@ -86,8 +87,8 @@ fn add_alternation(alloc: Global, subs: &[Hir], list: &mut Vec<Vec<u8>>) -> Resu
     Ok(true)
 }
 
-/// Adds the prefixes of what may be read first: where that is a literal or a class, and short, with what is read behind it. False where it
-/// has none of use.
+/// Adds the prefixes of what may be read first: where each text of it is known, and one is short, with what is read behind it. False where
+/// it has none of use.
 #[cycle(add)]
 fn add_begun(
     alloc: Global,
@@ -107,43 +108,63 @@ fn add_begun(
     }
 }
 
-/// What a literal or a class spells, each text of it. None for other patterns, and where that is too much to be kept.
+/// Each text that a pattern spells: a literal, a class, a group of these and an alternation of these. None for other patterns, and where that
+/// is too much to be kept.
 fn whole_bytes(alloc: Global, hir: &Hir) -> Result<Option<Vec<Vec<u8>>>, AllocError>
     ensures { IfOk result (λ found. option_map (λ v. needles_in v.items) found ≡ whole_bytes (meaning hir.now)) }
 {
-    match hir.kind() {
-        HirKind::Literal(bytes) => whole_literal(alloc, bytes),
-        HirKind::Class(class) => whole_class(alloc, class),
-        HirKind::Empty
-        | HirKind::Look(_)
-        | HirKind::Repetition(_)
-        | HirKind::Capture(_)
-        | HirKind::Concat(_)
-        | HirKind::Alternation(_) => Ok(None),
-    }
-}
-
-/// The bytes of a literal; None where they are too many.
-fn whole_literal(alloc: Global, bytes: &[u8]) -> Result<Option<Vec<Vec<u8>>>, AllocError>
-    ensures { IfOk result (λ found. option_map (λ v. needles_in v.items) found ≡ whole_bytes (literal bytes.now)) }
-{
-    if bytes.len() > GREATEST_LENGTH {
-        return Ok(None);
-    }
-    let mut list = Vec::with_capacity(alloc, 1)?;
-    list.push(bytes.to_vec(alloc)?)?;
-    Ok(Some(list))
-}
-
-/// Each member of a class; None where they are too many.
-fn whole_class(alloc: Global, class: &Class) -> Result<Option<Vec<Vec<u8>>>, AllocError>
-    ensures { IfOk result (λ found. option_map (λ v. needles_in v.items) found ≡ whole_bytes (class_meaning class.now)) }
-{
     let mut list = Vec::new(alloc);
-    if add_class(alloc, class, &mut list)? {
+    if add_whole(alloc, hir, &mut list)? {
         return Ok(Some(list));
     }
     Ok(None)
+}
+
+/// Adds each text that a pattern spells; false where that is not known, or there is no room.
+#[cycle(add_whole)]
+fn add_whole(alloc: Global, hir: &Hir, list: &mut Vec<Vec<u8>>) -> Result<bool, AllocError>
+    ensures { IfOk result (λ done. Extends done (needles_in list.old.items) (needles_in list.new.items) (spelled_bytes (meaning hir.now))) }
+{
+    match hir.kind() {
+        HirKind::Literal(bytes) => add_whole_literal(alloc, bytes, list),
+        HirKind::Class(class) => add_class(alloc, class, list),
+        HirKind::Capture(capture) => add_whole(alloc, &capture.sub, list),
+        HirKind::Alternation(subs) => add_whole_alternation(alloc, subs, list),
+        HirKind::Empty | HirKind::Look(_) | HirKind::Repetition(_) | HirKind::Concat(_) => Ok(
+            false,
+        ),
+    }
+}
+
+/// Adds each text that one of the patterns spells; false where that is not known of one, or there is no room.
+#[cycle(add_whole)]
+fn add_whole_alternation(
+    alloc: Global,
+    subs: &[Hir],
+    list: &mut Vec<Vec<u8>>,
+) -> Result<bool, AllocError>
+    ensures { IfOk result (λ done. Extends done (needles_in list.old.items) (needles_in list.new.items) (spelled_bytes (alt_all (map meaning subs.now)))) }
+{
+    for sub in subs {
+        if !add_whole(alloc, sub, list)? {
+            return Ok(false);
+        }
+    }
+    Ok(true)
+}
+
+/// Adds the bytes of a literal; false where they are too many.
+fn add_whole_literal(
+    alloc: Global,
+    bytes: &[u8],
+    list: &mut Vec<Vec<u8>>,
+) -> Result<bool, AllocError>
+    ensures { IfOk result (λ done. Extends done (needles_in list.old.items) (needles_in list.new.items) (spelled_bytes (literal bytes.now))) }
+{
+    if bytes.len() > GREATEST_LENGTH {
+        return Ok(false);
+    }
+    add_needle(alloc, bytes, list)
 }
 
 /// The needles with what is read behind them.
@@ -164,7 +185,8 @@ fn lengthened(
     Ok(longer)
 }
 
-/// Each needle with each text behind it that a literal or a class spells. None where no needle is short, or they would be too many.
+/// Each needle with each text behind it that the pattern spells. None where no needle is short, the texts are not known, or they would be
+/// too many.
 fn crossed_with(
     alloc: Global,
     needles: &[Vec<u8>],
