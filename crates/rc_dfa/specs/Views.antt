@@ -29,7 +29,7 @@ dfa_settings d = search_settings_of d.config
 abbrev pub table_kind : DFA → TableKind
 table_kind d = table_kind_of (match_kind_of (dfa_settings d))
 
--- the kind of match that its tables find: for the longest match of the least start they find the preferred one
+-- the kind of match that its tables find
 abbrev pub dfa_kind : DFA → MatchKind
 dfa_kind d = kind_of (table_kind d)
 

@@ -29,7 +29,7 @@ regex_settings re = search_settings_of re.config
 abbrev pub table_kind : Regex → TableKind
 table_kind re = table_kind_of (match_kind_of (regex_settings re))
 
--- the kind of match that its searches find: for the longest match of the least start they find the preferred one
+-- the kind of match that its searches find
 abbrev pub regex_kind : Regex → MatchKind
 regex_kind re = kind_of (table_kind re)
 
