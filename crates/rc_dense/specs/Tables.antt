@@ -87,12 +87,12 @@ pub data IsReached (m : Machine) : State → Type 0 where
       Begins m anchored beside s → IsReached m s
   goes_on : {s : State} (r : State) (b : ℕ) → IsReached m r → b < 256 → IsReadable m.setting.needs (Some b) → Leads m r (Some b) s → IsReached m s
 
--- how many places their lists have
+-- how many entries their lists have
 abbrev pub listed_by : List State → ℕ
 listed_by [] = 0
 listed_by (s ∷ ss) = length s.list + listed_by ss
 
--- What states weigh: 8 bytes for each cell of a row and of the table of starts, and for each state 32 bytes and 8 for each place of its list. Two
--- more states are counted, with no places: those that stand for a row not known yet, and for a byte that isn't read.
+-- What states weigh: 8 bytes for each cell of a row and of the table of starts, and for each state 32 bytes and 8 for each entry of its list. Two
+-- more states are counted, with no entries: those that stand for a row not known yet, and for a byte that isn't read.
 abbrev pub weight_of : ℕ → ℕ → List State → ℕ
 weight_of width starts states = 8 * width * (length states + 2) + 8 * starts + 32 * (length states + 2) + 8 * listed_by states
