@@ -3,8 +3,8 @@
 //! The words are the pattern, the length of a chunk in bytes (0 for one chunk), the number of
 //! rounds (3 where it is left out) and what is timed: `matches`, which is the default, `captures` (the
 //! matches with their groups), `texts` (each chunk is searched as a text of its own, in one cache, and
-//! those with a match are counted), `finds` (the same, each in a cache of its own), `which` (each line
-//! of the pattern is a pattern, and those with a match are counted) or `build` (the pattern is built). A word more says by what is searched: `all`, which is the default, `plain` (no
+//! those with a match are counted), `finds` (the same, each in a cache of its own) or `build` (the
+//! pattern is built). A word more says by what is searched: `all`, which is the default, `plain` (no
 //! needles), `met` (no tables of all states), `lazy` (neither) or `pass` (no needles, and no tables). With no
 //! words it prints nothing.
 #![tactic(auto)]
@@ -12,7 +12,6 @@
 use regex_cursor::Input;
 use regex_cursor::cursor::{ChunkCursor, TooLong};
 use regex_cursor::engines::meta::{BuildError, Config, Regex};
-use regex_cursor::types::PatternSet;
 use std::alloc::{AllocError, Global};
 use std::io;
 use std::io::{Read, Write};
@@ -26,7 +25,7 @@ const FAULT: u8 = 2;
 const ROUNDS: u32 = 3;
 
 const USAGE: &str =
-    "usage: bench_find PATTERN CHUNK [ROUNDS [matches|captures|texts|finds|which|build [all|plain|met|lazy|pass]]]";
+    "usage: bench_find PATTERN CHUNK [ROUNDS [matches|captures|texts|finds|build [all|plain|met|lazy|pass]]]";
 
 /// What is timed.
 #[derive(Clone, Copy)]
@@ -39,8 +38,6 @@ enum What {
     Texts,
     /// The same, in no cache.
     Finds,
-    /// A search for the patterns that have a match.
-    Which,
     /// A build of the pattern.
     Build,
 }
@@ -117,7 +114,6 @@ fn what_of(word: &str) -> Option<What> {
         "captures" => Some(What::Captures),
         "texts" => Some(What::Texts),
         "finds" => Some(What::Finds),
-        "which" => Some(What::Which),
         "build" => Some(What::Build),
         _ => None,
     }
@@ -176,21 +172,10 @@ fn config_of(by: By) -> Config {
     }
 }
 
-/// The patterns: each line of the words' pattern where it is asked which have a match, else that pattern alone.
-fn patterns_of<'a>(alloc: Global, job: &Job<'a>) -> Result<Vec<&'a str>, AllocError> {
-    match job.what {
-        What::Which => job.pattern.lines().collect(alloc),
-        _ => std::iter::once(job.pattern).collect(alloc),
-    }
-}
-
-/// The patterns, built so that a search goes as the job says.
-fn built(alloc: Global, job: &Job<'_>) -> Result<Regex, BuildError> {
-    let patterns = patterns_of(alloc, job)?;
+/// The pattern, built so that a search goes by this.
+fn built(alloc: Global, pattern: &str, by: By) -> Result<Regex, BuildError> {
     let mut builder = Regex::builder();
-    let built = builder
-        .configure(config_of(job.by))
-        .build_many(alloc, &patterns);
+    let built = builder.configure(config_of(by)).build(alloc, pattern);
     drop(builder);
     built
 }
@@ -251,19 +236,9 @@ fn count_finds(alloc: Global, regex: &Regex, chunks: &[&[u8]]) -> Result<usize, 
     Ok(count)
 }
 
-/// The number of patterns that have a match in the chunks.
-fn count_which(alloc: Global, regex: &Regex, chunks: &[&[u8]]) -> Result<usize, BenchError> {
-    let mut cache = regex.create_cache(alloc)?;
-    let mut set = PatternSet::new(alloc, regex.pattern_len())?;
-    let mut input = Input::new(ChunkCursor::new(chunks)?);
-    regex.which_patterns_with(&mut cache, &mut input, &mut set);
-    drop(cache);
-    Ok(set.len())
-}
-
 /// The number of patterns that are built, which is one unless memory is refused.
 fn count_built(alloc: Global, job: &Job<'_>) -> usize {
-    let built = built(alloc, job);
+    let built = built(alloc, job.pattern, job.by);
     let count = usize::from(built.is_ok());
     drop(built);
     count
@@ -281,7 +256,6 @@ fn count(
         What::Captures => count_captures(alloc, regex, chunks),
         What::Texts => count_texts(alloc, regex, chunks),
         What::Finds => count_finds(alloc, regex, chunks),
-        What::Which => count_which(alloc, regex, chunks),
         What::Build => Ok(count_built(alloc, job)),
     }
 }
@@ -345,7 +319,7 @@ fn run_with(rt: &HostRuntime, words: &[&str]) -> u8 {
         let _ = writeln!(rt.stderr(), "{USAGE}");
         return FAULT;
     };
-    match built(rt.alloc(), &job) {
+    match built(rt.alloc(), job.pattern, job.by) {
         Ok(regex) => {
             let done = bench(rt, &regex, &job);
             drop(regex);
