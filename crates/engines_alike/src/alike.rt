@@ -86,8 +86,8 @@ fn want_found(
     engines: &Engines,
     row: &mut Row,
 ) -> Result<Vec<Option<(usize, usize)>>, Fault> {
-    let cursor = Cut::whole(&row.text);
-    let spans = searches::matches(alloc, &engines.unfiltered, input(row, cursor)?)?;
+    let mut cursor = Cut::whole(&row.text);
+    let spans = searches::matches(alloc, &engines.unfiltered, input(row, &mut cursor)?)?;
     let (number, groups) = first_found(alloc, engines, row)?;
     row.number = number;
     row.spans = spans;

@@ -4,8 +4,8 @@ ghost use Rattle.std.specs.Prelude.{◌≤◌, length};
 ghost use Rattle.rc_program.specs.Sought.{IsRunnable};
 ghost use Rattle.rc_program.specs.Places.{places_of};
 
-use crate::cut::Cut;
 use crate::faults::{Fault, same};
+use crate::inputs::Request;
 use crate::settings::Settings;
 use crate::tables::{Hybrid, TableEngine};
 use rc_build::compile::compile_all;
@@ -20,6 +20,7 @@ use rc_program::place::Place;
 use rc_program::program::Program;
 use rc_settings::error::BuildError;
 use rc_settings::meta::Config;
+use rc_text::cursor::Cursor;
 use rc_text::input::Input;
 use rc_text::types::{HalfMatch, Match, MatchKind, PatternID};
 use rc_walker::walker;
@@ -84,8 +85,7 @@ impl Engines {
     ) -> Result<Engines, BuildError>
         requires { length patterns.now ≤ 2147483647 }
     {
-        let has_words = have_words(alloc, patterns, settings)?;
-        let passes_over = pass_over(alloc, patterns, settings)?;
+        let (has_words, passes_over) = known_of(alloc, patterns, settings)?;
         let beside = engines_beside(alloc, patterns, settings)?;
         match regexes(alloc, patterns, settings) {
             Ok((regex, unfiltered, tabled)) => Ok(Engines {
@@ -112,7 +112,11 @@ impl Engines {
     }
 
     /// What a search of the input finds, by each engine alike.
-    pub fn found(&self, alloc: Global, input: &mut Input<Cut>) -> Result<Option<Match>, Fault> {
+    pub fn found<C: Cursor>(
+        &self,
+        alloc: Global,
+        input: &mut Input<&mut C>,
+    ) -> Result<Option<Match>, Fault> {
         let told = by_regex(alloc, &self.regex, input)?;
         by_vm(alloc, &self.vm, &told, input)?;
         if let Some(program) = &self.program {
@@ -287,26 +291,31 @@ fn regexes(
     }
 }
 
-/// Whether an assertion of these patterns is decided by the characters around it.
-fn have_words(alloc: Global, patterns: &[&str], settings: &Settings) -> Result<bool, BuildError>
+/// Whether an assertion of these patterns is decided by the characters around it, and whether matches may be passed over: empty ones stand
+/// on boundaries of characters alone, and some pattern may be empty.
+fn known_of(
+    alloc: Global,
+    patterns: &[&str],
+    settings: &Settings,
+) -> Result<(bool, bool), BuildError>
     requires { length patterns.now ≤ 2147483647 }
 {
     let hirs = parse_all(alloc, patterns, &settings.syntax)?;
-    for hir in &hirs {
-        let looks = hir.properties().look_set();
-        if WORDS.iter().any(|look| looks.contains(*look)) {
-            return Ok(true);
-        }
-    }
-    Ok(false)
+    let has_words = have_words(&hirs);
+    let passes_over = settings.utf8_empty && may_be_empty(&hirs);
+    drop(hirs);
+    Ok((has_words, passes_over))
 }
 
-/// Whether matches may be passed over: empty ones stand on boundaries of characters alone, and some pattern may be empty.
-fn pass_over(alloc: Global, patterns: &[&str], settings: &Settings) -> Result<bool, BuildError>
-    requires { length patterns.now ≤ 2147483647 }
-{
-    let hirs = parse_all(alloc, patterns, &settings.syntax)?;
-    Ok(settings.utf8_empty && may_be_empty(&hirs))
+/// Whether an assertion of these patterns is decided by the characters around it.
+fn have_words(hirs: &[Hir]) -> bool {
+    for hir in hirs {
+        let looks = hir.properties().look_set();
+        if WORDS.iter().any(|look| looks.contains(*look)) {
+            return true;
+        }
+    }
+    false
 }
 
 /// The engines that search by tables: the DFA, unless the row wants none, a hybrid, and one with the least capacity. None finds longest
@@ -422,13 +431,19 @@ fn may_be_empty(hirs: &[Hir]) -> bool {
 }
 
 /// What the searches of the regex tell in caches that are lent, which is the same.
-fn by_regex(alloc: Global, regex: &Regex, input: &mut Input<Cut>) -> Result<Told, Fault> {
+fn by_regex<C: Cursor>(
+    alloc: Global,
+    regex: &Regex,
+    input: &mut Input<&mut C>,
+) -> Result<Told, Fault> {
+    let before = Request::of(input);
     let found = found_by_regex(alloc, regex, input)?;
     let half = half_by_regex(alloc, regex, input)?;
-    same(half == half_of(found), Fault::SearchHalfWith)?;
+    let stays = Request::of(input) == before;
+    same(half == half_of(found) && stays, Fault::SearchHalfWith)?;
     let slots = slots_by_regex(alloc, regex, found, input)?;
     let captures = captured_by_regex(alloc, regex, input)?;
-    let has_match = captures.get_match() == found;
+    let has_match = captures.get_match() == found && Request::of(input) == before;
     let has_slots = slots_of(&captures) == slots.as_slice();
     drop(captures);
     same(has_match, Fault::SearchCapturesWith)?;
@@ -437,10 +452,10 @@ fn by_regex(alloc: Global, regex: &Regex, input: &mut Input<Cut>) -> Result<Told
 }
 
 /// The match that the regex finds, in a cache that is lent.
-pub fn found_by_regex(
+pub fn found_by_regex<C: Cursor>(
     alloc: Global,
     regex: &Regex,
-    input: &mut Input<Cut>,
+    input: &mut Input<&mut C>,
 ) -> Result<Option<Match>, Fault> {
     let mut cache = regex.create_cache(alloc)?;
     let found = regex.search_with(&mut cache, input);
@@ -449,10 +464,10 @@ pub fn found_by_regex(
 }
 
 /// The end of the match that the regex finds.
-fn half_by_regex(
+fn half_by_regex<C: Cursor>(
     alloc: Global,
     regex: &Regex,
-    input: &mut Input<Cut>,
+    input: &mut Input<&mut C>,
 ) -> Result<Option<HalfMatch>, Fault> {
     let mut cache = regex.create_cache(alloc)?;
     let half = regex.search_half_with(&mut cache, input);
@@ -461,10 +476,10 @@ fn half_by_regex(
 }
 
 /// The captures of the match that the regex finds.
-fn captured_by_regex(
+fn captured_by_regex<C: Cursor>(
     alloc: Global,
     regex: &Regex,
-    input: &mut Input<Cut>,
+    input: &mut Input<&mut C>,
 ) -> Result<Captures, Fault> {
     let mut captures = regex.create_captures(alloc)?;
     let mut cache = regex.create_cache(alloc)?;
@@ -473,23 +488,33 @@ fn captured_by_regex(
     Ok(captures)
 }
 
-/// The slots of the match that the regex finds, which is of the pattern that was told.
-fn slots_by_regex(
+/// The slots of the match that the regex finds, which is of the pattern that was told. A search with half as many slots tells the first
+/// of them.
+fn slots_by_regex<C: Cursor>(
     alloc: Global,
     regex: &Regex,
     found: Option<Match>,
-    input: &mut Input<Cut>,
+    input: &mut Input<&mut C>,
 ) -> Result<Vec<Option<usize>>, Fault> {
-    let mut slots = vec![in alloc; None; regex.group_info().slot_len()]?;
+    let len = regex.group_info().slot_len();
+    let mut slots = vec![in alloc; None; len]?;
+    let mut few = vec![in alloc; None; len / 2]?;
     let mut cache = regex.create_cache(alloc)?;
     let pattern = regex.search_slots_with(&mut cache, input, slots.as_mut_slice());
+    let again = regex.search_slots_with(&mut cache, input, few.as_mut_slice());
     drop(cache);
-    same(pattern == pattern_of(found), Fault::SearchSlotsWith)?;
+    let is_same = pattern == pattern_of(found) && again == pattern && slots.starts_with(&few);
+    same(is_same, Fault::SearchSlotsWith)?;
     Ok(slots)
 }
 
 /// The searches of the `PikeVM` tell what was told.
-fn by_vm(alloc: Global, vm: &PikeVM, told: &Told, input: &mut Input<Cut>) -> Result<(), Fault> {
+fn by_vm<C: Cursor>(
+    alloc: Global,
+    vm: &PikeVM,
+    told: &Told,
+    input: &mut Input<&mut C>,
+) -> Result<(), Fault> {
     let captures = captured_by_vm(alloc, vm, told, input)?;
     let has_match = captures.get_match() == told.found;
     let has_slots = slots_of(&captures) == told.slots.as_slice();
@@ -500,48 +525,59 @@ fn by_vm(alloc: Global, vm: &PikeVM, told: &Told, input: &mut Input<Cut>) -> Res
 }
 
 /// The captures of the match that the `PikeVM` finds, where it tells that there is one if one was told; in one cache.
-fn captured_by_vm(
+fn captured_by_vm<C: Cursor>(
     alloc: Global,
     vm: &PikeVM,
     told: &Told,
-    input: &mut Input<Cut>,
+    input: &mut Input<&mut C>,
 ) -> Result<Captures, Fault> {
+    let before = Request::of(input);
     let mut captures = Captures::all(alloc, vm.get_group_info())?;
     let mut cache = vm.create_cache(alloc)?;
     let is_match = search::is_match(vm, &mut cache, input);
     search::search(vm, &mut cache, input, &mut captures);
     drop(cache);
-    same(is_match == told.found.is_some(), Fault::VmIsMatch)?;
+    let stays = Request::of(input) == before;
+    same(is_match == told.found.is_some() && stays, Fault::VmIsMatch)?;
     Ok(captures)
 }
 
-/// The slots of the match that the `PikeVM` finds are those that were told.
-fn slots_by_vm(
+/// The slots of the match that the `PikeVM` finds are those that were told, also where it is given half as many.
+fn slots_by_vm<C: Cursor>(
     alloc: Global,
     vm: &PikeVM,
     told: &Told,
-    input: &mut Input<Cut>,
+    input: &mut Input<&mut C>,
 ) -> Result<(), Fault> {
-    let mut slots = vec![in alloc; None; vm.get_group_info().slot_len()]?;
+    let before = Request::of(input);
+    let len = vm.get_group_info().slot_len();
+    let mut slots = vec![in alloc; None; len]?;
+    let mut few = vec![in alloc; None; len / 2]?;
     let mut cache = vm.create_cache(alloc)?;
     let pattern = search::search_slots(vm, &mut cache, input, slots.as_mut_slice());
+    let again = search::search_slots(vm, &mut cache, input, few.as_mut_slice());
     drop(cache);
-    same(pattern == pattern_of(told.found), Fault::VmSearchSlots)?;
-    same(slots == told.slots, Fault::VmSearchSlots)
+    let is_same = pattern == pattern_of(told.found)
+        && again == pattern
+        && Request::of(input) == before;
+    let has_slots = slots == told.slots && slots.starts_with(&few);
+    same(is_same && has_slots, Fault::VmSearchSlots)
 }
 
 /// The walker's searches tell what was told.
-fn by_walker(
+fn by_walker<C: Cursor>(
     alloc: Global,
     program: &Program,
     told: &Told,
-    input: &mut Input<Cut>,
+    input: &mut Input<&mut C>,
 ) -> Result<(), Fault> {
+    let before = Request::of(input);
     let found = walker::find(alloc, input, program)?;
     same(found == told.found, Fault::Walker)?;
     let mut slots = vec![in alloc; None; told.slots.len()]?;
     let pattern = walker::find_slots(alloc, input, program, slots.as_mut_slice())?;
-    same(pattern == pattern_of(found), Fault::WalkerPattern)?;
+    let stays = Request::of(input) == before;
+    same(pattern == pattern_of(found) && stays, Fault::WalkerPattern)?;
     same(slots == told.slots, Fault::WalkerSlots)
 }
 

@@ -44,8 +44,8 @@ pub enum Fault {
     Hybrid(Part),
     SmallHybrid(Part),
     Find,
-    /// What `find` finds over a cursor that is lent.
-    FindOver,
+    /// What `find` finds over a cursor that isn't lent.
+    FindByValue,
     FindUnfiltered,
     FindByTables,
     /// What a regex finds with the earliest flag on, in a cache that is made for the call, and in one that is lent.
@@ -66,6 +66,8 @@ pub enum Fault {
     Split,
     SplitUnfiltered,
     SplitByTables,
+    /// The pieces over a cursor that isn't lent.
+    SplitByValue,
 }
 
 /// Which search by tables isn't answered as wanted.

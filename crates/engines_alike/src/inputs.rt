@@ -1,19 +1,34 @@
 //! Inputs of rows.
 
-use crate::cut::Cut;
 use crate::faults::Fault;
 use crate::row::{Pair, Row, span_of};
 use rc_text::cursor::Cursor;
 use rc_text::input::Input;
-use rc_text::types::Match;
+use rc_text::types::{Anchored, Match, Span};
 
-/// The input that a row asks for.
-pub fn input<'a>(row: &Row, cursor: Cut<'a>) -> Result<Input<Cut<'a>>, Fault> {
-    input_over(row, cursor)
+/// What an input asks for beside its text, which no search changes.
+#[derive(Clone, Copy, PartialEq)]
+pub struct Request {
+    span: Span,
+    slice: Span,
+    anchored: Anchored,
+    earliest: bool,
 }
 
-/// The input that a row asks for over any cursor, which may begin in the middle.
-pub fn input_over<C: Cursor + Drop>(row: &Row, cursor: C) -> Result<Input<C>, Fault> {
+impl Request {
+    /// What the input asks for.
+    pub fn of<C: Cursor>(input: &Input<C>) -> Request {
+        Request {
+            span: input.get_span(),
+            slice: input.get_slice_span(),
+            anchored: input.get_anchored(),
+            earliest: input.get_earliest(),
+        }
+    }
+}
+
+/// The input that a row asks for over a cursor, which may begin in the middle.
+pub fn input<C: Cursor + Drop>(row: &Row, cursor: C) -> Result<Input<C>, Fault> {
     let mut input = Input::new(cursor);
     input.set_start(0);
     if let Some(slice) = row.slice {
@@ -27,14 +42,14 @@ pub fn input_over<C: Cursor + Drop>(row: &Row, cursor: C) -> Result<Input<C>, Fa
 }
 
 /// Sets where the span begins, at most one above its end.
-pub fn start_at(input: &mut Input<Cut>, start: usize) {
+pub fn start_at<C: Cursor>(input: &mut Input<C>, start: usize) {
     if start.saturating_sub(1) <= input.end() {
         input.set_start(start);
     }
 }
 
 /// Sets where the span ends, at most one below its start.
-pub fn end_at(input: &mut Input<Cut>, end: usize) {
+pub fn end_at<C: Cursor>(input: &mut Input<C>, end: usize) {
     if input.start().saturating_sub(1) <= end {
         input.set_end(end);
     }

@@ -1,9 +1,11 @@
 //! What is found over one cursor, and whether it is what the row wants.
+ghost use Rattle.rc_captures.specs.Captures.{IsCapturesFor};
+ghost use Rattle.rc_meta.specs.Views.{regex_names};
 
 use crate::cut::Cut;
 use crate::engines::{Engines, found_by_regex, half_of};
 use crate::faults::{Fault, Part, same};
-use crate::inputs::{end_at, input, input_over, is_again, pair_of, start_at};
+use crate::inputs::{Request, end_at, input, is_again, pair_of, start_at};
 use crate::row::{Pair, Quits, Row, Want};
 use crate::tables::{Listed, TableEngine};
 use rc_captures::captures::Captures;
@@ -30,7 +32,7 @@ fn is_wanted(row: &Row, found: Option<Match>) -> bool {
 
 /// The first match is the one wanted, by each engine: in a cache that is made once, and in one that is made for the call.
 pub fn first(alloc: Global, engines: &mut Engines, row: &Row, cursor: Cut) -> Result<(), Fault> {
-    let found = engines.found(alloc, &mut input(row, cursor)?)?;
+    let found = found_alike(alloc, engines, row, cursor)?;
     same(is_wanted(row, found), Fault::InACache)?;
     let other = found_by(alloc, &engines.unfiltered, row, cursor)?;
     same(other == found, Fault::FindUnfiltered)?;
@@ -41,6 +43,16 @@ pub fn first(alloc: Global, engines: &mut Engines, row: &Row, cursor: Cut) -> Re
     by_calls(alloc, &engines.regex, found, row, cursor)
 }
 
+/// What all engines find that search in a cache that is lent.
+fn found_alike<C: Cursor + Drop>(
+    alloc: Global,
+    engines: &Engines,
+    row: &Row,
+    mut cursor: C,
+) -> Result<Option<Match>, Fault> {
+    engines.found(alloc, &mut input(row, &mut cursor)?)
+}
+
 /// With the earliest flag on each regex finds some match exactly where one is wanted.
 fn early(alloc: Global, engines: &Engines, row: &Row, cursor: Cut) -> Result<(), Fault> {
     early_by(alloc, &engines.regex, row, cursor)?;
@@ -49,10 +61,17 @@ fn early(alloc: Global, engines: &Engines, row: &Row, cursor: Cut) -> Result<(),
 }
 
 /// With the earliest flag on the regex finds some match exactly where one is wanted.
-fn early_by(alloc: Global, regex: &Regex, row: &Row, cursor: Cut) -> Result<(), Fault> {
-    let mut input = input(row, cursor)?.with_earliest(true);
+fn early_by<C: Cursor + Drop>(
+    alloc: Global,
+    regex: &Regex,
+    row: &Row,
+    mut cursor: C,
+) -> Result<(), Fault> {
+    let mut input = input(row, &mut cursor)?.with_earliest(true);
+    let before = Request::of(&input);
     let found = found_by_regex(alloc, regex, &mut input)?;
-    same(is_as_wanted(row, found), Fault::EarlyWith)?;
+    let stays = Request::of(&input) == before;
+    same(is_as_wanted(row, found) && stays, Fault::EarlyWith)?;
     let found = regex.find(alloc, input)?;
     same(is_as_wanted(row, found), Fault::Early)
 }
@@ -72,8 +91,8 @@ fn by_calls(
 ) -> Result<(), Fault> {
     let other = found_by(alloc, regex, row, cursor)?;
     same(other == found, Fault::Find)?;
-    let other = found_over(alloc, regex, row, cursor)?;
-    same(other == found, Fault::FindOver)?;
+    let other = found_by_value(alloc, regex, row, cursor)?;
+    same(other == found, Fault::FindByValue)?;
     let other = searched_by(alloc, regex, row, cursor)?;
     same(other == found, Fault::Search)?;
     let other = half_by(alloc, regex, row, cursor)?;
@@ -87,48 +106,63 @@ fn by_calls(
 }
 
 /// The match that `find` finds.
-fn found_by(alloc: Global, regex: &Regex, row: &Row, cursor: Cut) -> Result<Option<Match>, Fault> {
-    Ok(regex.find(alloc, input(row, cursor)?)?)
-}
-
-/// The match that `find` finds over the cursor when it is lent.
-fn found_over<C: Cursor + Drop>(
+fn found_by<C: Cursor + Drop>(
     alloc: Global,
     regex: &Regex,
     row: &Row,
     mut cursor: C,
 ) -> Result<Option<Match>, Fault> {
-    Ok(regex.find(alloc, input_over(row, &mut cursor)?)?)
+    Ok(regex.find(alloc, input(row, &mut cursor)?)?)
 }
 
-/// The match that `search` finds.
-fn searched_by(
+/// The match that `find` finds over the cursor itself, which isn't lent.
+fn found_by_value(
     alloc: Global,
     regex: &Regex,
     row: &Row,
     cursor: Cut,
 ) -> Result<Option<Match>, Fault> {
-    Ok(regex.search(alloc, input(row, cursor)?)?)
+    Ok(regex.find(alloc, input(row, cursor)?)?)
 }
 
-/// The end of the match that `search_half` finds.
-fn half_by(
+/// The match that `search` finds.
+fn searched_by<C: Cursor + Drop>(
     alloc: Global,
     regex: &Regex,
     row: &Row,
-    cursor: Cut,
+    mut cursor: C,
+) -> Result<Option<Match>, Fault> {
+    Ok(regex.search(alloc, input(row, &mut cursor)?)?)
+}
+
+/// The end of the match that `search_half` finds.
+fn half_by<C: Cursor + Drop>(
+    alloc: Global,
+    regex: &Regex,
+    row: &Row,
+    mut cursor: C,
 ) -> Result<Option<HalfMatch>, Fault> {
-    Ok(regex.search_half(alloc, input(row, cursor)?)?)
+    Ok(regex.search_half(alloc, input(row, &mut cursor)?)?)
 }
 
 /// Whether `is_match` finds one.
-fn is_match_by(alloc: Global, regex: &Regex, row: &Row, cursor: Cut) -> Result<bool, Fault> {
-    Ok(regex.is_match(alloc, input(row, cursor)?)?)
+fn is_match_by<C: Cursor + Drop>(
+    alloc: Global,
+    regex: &Regex,
+    row: &Row,
+    mut cursor: C,
+) -> Result<bool, Fault> {
+    Ok(regex.is_match(alloc, input(row, &mut cursor)?)?)
 }
 
 /// The captures of the match that `captures` finds.
-fn captured_by(alloc: Global, regex: &Regex, row: &Row, cursor: Cut) -> Result<Captures, Fault> {
-    Ok(regex.captures(alloc, input(row, cursor)?)?)
+fn captured_by<C: Cursor + Drop>(
+    alloc: Global,
+    regex: &Regex,
+    row: &Row,
+    mut cursor: C,
+) -> Result<Captures, Fault> {
+    Ok(regex.captures(alloc, input(row, &mut cursor)?)?)
 }
 
 /// The engines that search by tables find the match that the row wants, or stop where it says so.
@@ -147,7 +181,8 @@ fn by_table(
     passes_over: bool,
     cursor: Cut,
 ) -> Result<(), Fault> {
-    let mut input = input(row, cursor)?;
+    let mut lent = cursor;
+    let mut input = input(row, &mut lent)?;
     let found = found_by_table(engine, row, &mut input)?;
     end_by_table(engine, row, &mut input)?;
     early_by_table(engine, row, cursor)?;
@@ -161,41 +196,51 @@ fn by_table(
 }
 
 /// The match that the engine finds is the one wanted, or it stops where the row says so.
-fn found_by_table(
+fn found_by_table<C: Cursor>(
     engine: &mut TableEngine,
     row: &Row,
-    input: &mut Input<Cut>,
+    input: &mut Input<&mut C>,
 ) -> Result<Option<Match>, Fault> {
+    let before = Request::of(input);
     let (found, is_same) = match engine.find(input) {
         Ok(found) => (found, is_wanted(row, found) && !has_to_quit(row)),
         Err(error) => (None, engine.may_end_by(error, row.quits)?),
     };
-    same(is_same, engine.fault(Part::Find))?;
+    let stays = Request::of(input) == before;
+    same(is_same && stays, engine.fault(Part::Find))?;
     Ok(found)
 }
 
 /// The end that the engine finds is the one wanted, or it stops where the row says so.
-fn end_by_table(engine: &mut TableEngine, row: &Row, input: &mut Input<Cut>) -> Result<(), Fault> {
+fn end_by_table<C: Cursor>(
+    engine: &mut TableEngine,
+    row: &Row,
+    input: &mut Input<&mut C>,
+) -> Result<(), Fault> {
+    let before = Request::of(input);
     let is_same = match engine.find_end(input) {
         Ok(half) => is_end_wanted(row, half) && !has_to_quit(row),
         Err(error) => engine.may_end_by(error, row.quits)?,
     };
-    same(is_same, engine.fault(Part::Forward))
+    let stays = Request::of(input) == before;
+    same(is_same && stays, engine.fault(Part::Forward))
 }
 
 /// The start that the engine finds from the input's end, where the match ends, is that of the match, or it stops where the row says so.
-fn start_by_table(
+fn start_by_table<C: Cursor>(
     engine: &mut TableEngine,
     row: &Row,
     found: Match,
     passes_over: bool,
-    input: &mut Input<Cut>,
+    input: &mut Input<&mut C>,
 ) -> Result<(), Fault> {
+    let before = Request::of(input);
     let is_same = match engine.find_start(input) {
         Ok(half) => is_start(half, found, passes_over),
         Err(error) => engine.may_end_by(error, row.quits)?,
     };
-    same(is_same, engine.fault(Part::Backward))
+    let stays = Request::of(input) == before;
+    same(is_same && stays, engine.fault(Part::Backward))
 }
 
 /// The match begins here. Where matches may be passed over, one that was may begin below it and end where it does, and none may be told
@@ -209,43 +254,53 @@ fn is_start(half: Option<HalfMatch>, found: Match, passes_over: bool) -> bool {
 }
 
 /// With the earliest flag on the engine finds some match, and some end, exactly where one is wanted, or stops where the row says so.
-fn early_by_table(engine: &mut TableEngine, row: &Row, cursor: Cut) -> Result<(), Fault> {
-    let mut input = input(row, cursor)?.with_earliest(true);
+fn early_by_table<C: Cursor + Drop>(
+    engine: &mut TableEngine,
+    row: &Row,
+    mut cursor: C,
+) -> Result<(), Fault> {
+    let mut input = input(row, &mut cursor)?.with_earliest(true);
+    let before = Request::of(&input);
     let is_same = match engine.find(&mut input) {
         Ok(found) => is_as_wanted(row, found),
         Err(error) => engine.may_end_by(error, row.quits)?,
     };
-    same(is_same, engine.fault(Part::Early))?;
+    let stays = Request::of(&input) == before;
+    same(is_same && stays, engine.fault(Part::Early))?;
     early_end_by_table(engine, row, &mut input)
 }
 
 /// With the earliest flag on the engine finds some end exactly where a match is wanted, or stops where the row says so.
-fn early_end_by_table(
+fn early_end_by_table<C: Cursor>(
     engine: &mut TableEngine,
     row: &Row,
-    input: &mut Input<Cut>,
+    input: &mut Input<&mut C>,
 ) -> Result<(), Fault> {
+    let before = Request::of(input);
     let is_same = match engine.find_end(input) {
         Ok(half) => half.is_some() != row.spans.is_empty(),
         Err(error) => engine.may_end_by(error, row.quits)?,
     };
-    same(is_same, engine.fault(Part::EarlyForward))
+    let stays = Request::of(input) == before;
+    same(is_same && stays, engine.fault(Part::EarlyForward))
 }
 
 /// With the earliest flag on the engine finds some start of what ends where the match does, or stops where the row says so. None may be told
 /// where matches may be passed over.
-fn early_start_by_table(
+fn early_start_by_table<C: Cursor>(
     engine: &mut TableEngine,
     row: &Row,
     passes_over: bool,
-    input: &mut Input<Cut>,
+    input: &mut Input<&mut C>,
 ) -> Result<(), Fault> {
     input.set_earliest(true);
+    let before = Request::of(input);
     let is_same = match engine.find_start(input) {
         Ok(half) => half.is_some() || passes_over,
         Err(error) => engine.may_end_by(error, row.quits)?,
     };
-    same(is_same, engine.fault(Part::EarlyBackward))
+    let stays = Request::of(input) == before;
+    same(is_same && stays, engine.fault(Part::EarlyBackward))
 }
 
 /// The match that the row wants ends here. Of greatest matches any pattern may be told of which one ends there.
@@ -280,13 +335,13 @@ fn lists_by_tables(
 }
 
 /// The matches that the engine finds one after another, up to where it stops, are those wanted.
-fn list_by_table(
+fn list_by_table<C: Cursor + Drop>(
     alloc: Global,
     engine: &mut TableEngine,
     row: &Row,
-    cursor: Cut,
+    mut cursor: C,
 ) -> Result<(), Fault> {
-    let listed = engine.list(alloc, input(row, cursor)?)?;
+    let listed = engine.list(alloc, input(row, &mut cursor)?)?;
     let is_same = is_listed(engine, row, &listed);
     drop(listed);
     same(is_same?, engine.fault(Part::List))
@@ -354,11 +409,31 @@ fn groups_by(alloc: Global, regex: &Regex, row: &Row, cursor: Cut) -> Result<Spa
     spans
 }
 
-/// The groups that a search fills in where those of the same match stand.
-fn captured_again(alloc: Global, regex: &Regex, row: &Row, cursor: Cut) -> Result<Spans, Fault> {
-    let mut captures = regex.captures(alloc, input(row, cursor)?)?;
-    regex.search_captures(alloc, input(row, cursor)?, &mut captures)?;
-    spans_of(alloc, &captures)
+/// The groups that a search fills in where those of the same match stand, over the same cursor, wherever the search before left it.
+fn captured_again<C: Cursor + Drop>(
+    alloc: Global,
+    regex: &Regex,
+    row: &Row,
+    mut cursor: C,
+) -> Result<Spans, Fault> {
+    let mut captures = regex.captures(alloc, input(row, &mut cursor)?)?;
+    let spans = filled_again(alloc, regex, row, &mut cursor, &mut captures);
+    drop(captures);
+    spans
+}
+
+/// The groups that a search fills into these captures.
+fn filled_again<C: Cursor + Drop>(
+    alloc: Global,
+    regex: &Regex,
+    row: &Row,
+    cursor: &mut C,
+    captures: &mut Captures,
+) -> Result<Spans, Fault>
+    requires { IsCapturesFor (regex_names regex.now) captures.old }
+{
+    regex.search_captures(alloc, input(row, cursor)?, captures)?;
+    spans_of(alloc, captures)
 }
 
 /// The spans of the groups, none where there is no match.
@@ -389,20 +464,25 @@ pub fn all(alloc: Global, engines: &mut Engines, row: &Row, cursor: Cut) -> Resu
 }
 
 /// The matches that `find_iter` gives are those wanted, else this fault.
-fn are_matches(
+fn are_matches<C: Cursor + Drop>(
     alloc: Global,
     regex: &Regex,
     row: &Row,
-    cursor: Cut,
+    mut cursor: C,
     fault: Fault,
 ) -> Result<(), Fault> {
-    let spans = matches(alloc, regex, input(row, cursor)?)?;
+    let spans = matches(alloc, regex, input(row, &mut cursor)?)?;
     same(spans == row.spans, fault)
 }
 
 /// The matches that `captures_iter` gives are those wanted.
-fn are_captured(alloc: Global, regex: &Regex, row: &Row, cursor: Cut) -> Result<(), Fault> {
-    let spans = captured(alloc, regex, input(row, cursor)?)?;
+fn are_captured<C: Cursor + Drop>(
+    alloc: Global,
+    regex: &Regex,
+    row: &Row,
+    mut cursor: C,
+) -> Result<(), Fault> {
+    let spans = captured(alloc, regex, input(row, &mut cursor)?)?;
     same(spans == row.spans, Fault::CapturesIter)
 }
 
@@ -413,7 +493,11 @@ fn are_in_turn(alloc: Global, engines: &Engines, row: &Row, cursor: Cut) -> Resu
 }
 
 /// The spans of the matches.
-pub fn matches(alloc: Global, regex: &Regex, input: Input<Cut>) -> Result<Spans, Fault> {
+pub fn matches<C: Cursor + Drop>(
+    alloc: Global,
+    regex: &Regex,
+    input: Input<&mut C>,
+) -> Result<Spans, Fault> {
     let mut matches = regex.find_iter(alloc, input)?;
     let spans = spans_of_matches(alloc, &mut matches);
     drop(matches);
@@ -421,7 +505,10 @@ pub fn matches(alloc: Global, regex: &Regex, input: Input<Cut>) -> Result<Spans,
 }
 
 /// The spans of the matches that an iterator gives.
-fn spans_of_matches(alloc: Global, matches: &mut FindMatches<Cut>) -> Result<Spans, Fault> {
+fn spans_of_matches<C: Cursor + Drop>(
+    alloc: Global,
+    matches: &mut FindMatches<&mut C>,
+) -> Result<Spans, Fault> {
     let mut spans = Vec::new(alloc);
     for found in matches {
         spans.push(pair_of(Some(found)))?;
@@ -430,7 +517,11 @@ fn spans_of_matches(alloc: Global, matches: &mut FindMatches<Cut>) -> Result<Spa
 }
 
 /// The spans of the matches that come with their groups.
-fn captured(alloc: Global, regex: &Regex, input: Input<Cut>) -> Result<Spans, Fault> {
+fn captured<C: Cursor + Drop>(
+    alloc: Global,
+    regex: &Regex,
+    input: Input<&mut C>,
+) -> Result<Spans, Fault> {
     let mut matches = regex.captures_iter(alloc, input)?;
     let spans = spans_of_captures(alloc, &mut matches);
     drop(matches);
@@ -438,7 +529,10 @@ fn captured(alloc: Global, regex: &Regex, input: Input<Cut>) -> Result<Spans, Fa
 }
 
 /// The spans of the matches that an iterator gives with their groups.
-fn spans_of_captures(alloc: Global, matches: &mut CapturesMatches<Cut>) -> Result<Spans, Fault> {
+fn spans_of_captures<C: Cursor + Drop>(
+    alloc: Global,
+    matches: &mut CapturesMatches<&mut C>,
+) -> Result<Spans, Fault> {
     let mut spans = Vec::new(alloc);
     for captures in matches {
         spans.push(pair_of(captures?.get_match()))?;
@@ -448,13 +542,13 @@ fn spans_of_captures(alloc: Global, matches: &mut CapturesMatches<Cut>) -> Resul
 
 /// The spans of the matches that each engine finds one after another, at most one more than are wanted. Each search starts where the
 /// match before ended.
-fn matches_in_turn(
+fn matches_in_turn<C: Cursor + Drop>(
     alloc: Global,
     engines: &Engines,
     row: &Row,
-    cursor: Cut,
+    mut cursor: C,
 ) -> Result<Spans, Fault> {
-    let mut input = input(row, cursor)?;
+    let mut input = input(row, &mut cursor)?;
     let mut spans = Vec::new(alloc);
     let mut last = None;
     for _ in 0..=row.spans.len() {
@@ -469,10 +563,10 @@ fn matches_in_turn(
 }
 
 /// The next match. One that is empty and stands where the last ended gives way to the answer from a byte later.
-fn next_match(
+fn next_match<C: Cursor>(
     alloc: Global,
     engines: &Engines,
-    input: &mut Input<Cut>,
+    input: &mut Input<&mut C>,
     last: Option<usize>,
 ) -> Result<Option<Pair>, Fault> {
     let found = pair_of(engines.found(alloc, input)?);
@@ -495,27 +589,34 @@ pub fn pieces(alloc: Global, engines: &Engines, row: &Row, cursor: Cut) -> Resul
         cursor,
         Fault::SplitUnfiltered,
     )?;
-    are_pieces(alloc, &engines.tabled, row, cursor, Fault::SplitByTables)
+    are_pieces(alloc, &engines.tabled, row, cursor, Fault::SplitByTables)?;
+    are_pieces_by_value(alloc, &engines.regex, row, cursor)
 }
 
 /// The pieces are those wanted, else this fault.
-fn are_pieces(
+fn are_pieces<C: Cursor + Drop>(
     alloc: Global,
     regex: &Regex,
     row: &Row,
-    cursor: Cut,
+    mut cursor: C,
     fault: Fault,
 ) -> Result<(), Fault> {
-    let spans = split(alloc, regex, row.number, input(row, cursor)?)?;
+    let spans = split(alloc, regex, row.number, input(row, &mut cursor)?)?;
     same(spans == row.spans, fault)
 }
 
+/// The pieces over the cursor itself, which isn't lent, are those wanted.
+fn are_pieces_by_value(alloc: Global, regex: &Regex, row: &Row, cursor: Cut) -> Result<(), Fault> {
+    let spans = split(alloc, regex, row.number, input(row, cursor)?)?;
+    same(spans == row.spans, Fault::SplitByValue)
+}
+
 /// The pieces, so many at most.
-fn split(
+fn split<C: Cursor + Drop>(
     alloc: Global,
     regex: &Regex,
     most: Option<usize>,
-    input: Input<Cut>,
+    input: Input<C>,
 ) -> Result<Spans, Fault> {
     match most {
         None => all_pieces(alloc, regex, input),
@@ -524,7 +625,11 @@ fn split(
 }
 
 /// The pieces.
-fn all_pieces(alloc: Global, regex: &Regex, input: Input<Cut>) -> Result<Spans, Fault> {
+fn all_pieces<C: Cursor + Drop>(
+    alloc: Global,
+    regex: &Regex,
+    input: Input<C>,
+) -> Result<Spans, Fault> {
     let mut pieces = regex.split(alloc, input)?;
     let spans = spans_of_pieces(alloc, &mut pieces);
     drop(pieces);
@@ -532,7 +637,7 @@ fn all_pieces(alloc: Global, regex: &Regex, input: Input<Cut>) -> Result<Spans, 
 }
 
 /// The spans of the pieces that an iterator gives.
-fn spans_of_pieces(alloc: Global, pieces: &mut Split<Cut>) -> Result<Spans, Fault> {
+fn spans_of_pieces<C: Cursor + Drop>(alloc: Global, pieces: &mut Split<C>) -> Result<Spans, Fault> {
     let mut spans = Vec::new(alloc);
     for piece in pieces {
         spans.push(Some((piece.start, piece.end)))?;
@@ -541,11 +646,11 @@ fn spans_of_pieces(alloc: Global, pieces: &mut Split<Cut>) -> Result<Spans, Faul
 }
 
 /// The pieces that a limit leaves.
-fn first_pieces(
+fn first_pieces<C: Cursor + Drop>(
     alloc: Global,
     regex: &Regex,
     most: usize,
-    input: Input<Cut>,
+    input: Input<C>,
 ) -> Result<Spans, Fault> {
     let mut pieces = regex.splitn(alloc, input, most)?;
     let spans = spans_of_first_pieces(alloc, &mut pieces);
@@ -554,7 +659,10 @@ fn first_pieces(
 }
 
 /// The spans of the pieces that an iterator with a limit gives.
-fn spans_of_first_pieces(alloc: Global, pieces: &mut SplitN<Cut>) -> Result<Spans, Fault> {
+fn spans_of_first_pieces<C: Cursor + Drop>(
+    alloc: Global,
+    pieces: &mut SplitN<C>,
+) -> Result<Spans, Fault> {
     let mut spans = Vec::new(alloc);
     for piece in pieces {
         spans.push(Some((piece.start, piece.end)))?;

@@ -3,13 +3,13 @@
 ghost use Rattle.std.specs.Prelude.{ℕ};
 ghost use Rattle.rc_hybrid.specs.Caches.{IsCacheFor, capacity_of};
 
-use crate::cut::Cut;
 use crate::faults::{Fault, Part};
 use crate::inputs::pair_of;
 use crate::row::{Pair, Quits};
 use rc_dfa::search as dfa;
 use rc_hybrid::cache::Cache;
 use rc_hybrid::search as hybrid;
+use rc_text::cursor::Cursor;
 use rc_text::input::Input;
 use rc_text::types::{HalfMatch, Match, MatchError};
 use std::alloc::{AllocError, Global};
@@ -61,17 +61,23 @@ impl Hybrid {
     }
 
     /// The match that a search of the input finds.
-    fn find(&mut self, input: &mut Input<Cut>) -> Result<Option<Match>, MatchError> {
+    fn find<C: Cursor>(&mut self, input: &mut Input<&mut C>) -> Result<Option<Match>, MatchError> {
         hybrid::find(&self.regex, &mut self.cache, input)
     }
 
     /// Where that match ends.
-    fn find_end(&mut self, input: &mut Input<Cut>) -> Result<Option<HalfMatch>, MatchError> {
+    fn find_end<C: Cursor>(
+        &mut self,
+        input: &mut Input<&mut C>,
+    ) -> Result<Option<HalfMatch>, MatchError> {
         hybrid::try_search_fwd(&self.regex, &mut self.cache, input)
     }
 
     /// Where the longest match begins that ends where the input does.
-    fn find_start(&mut self, input: &mut Input<Cut>) -> Result<Option<HalfMatch>, MatchError> {
+    fn find_start<C: Cursor>(
+        &mut self,
+        input: &mut Input<&mut C>,
+    ) -> Result<Option<HalfMatch>, MatchError> {
         hybrid::try_search_rev(&self.regex, &mut self.cache, input)
     }
 }
@@ -85,7 +91,10 @@ pub struct Listed {
 
 impl TableEngine {
     /// The match that a search of the input finds.
-    pub fn find(&mut self, input: &mut Input<Cut>) -> Result<Option<Match>, MatchError> {
+    pub fn find<C: Cursor>(
+        &mut self,
+        input: &mut Input<&mut C>,
+    ) -> Result<Option<Match>, MatchError> {
         match self {
             TableEngine::Dfa(regex) => dfa::find(regex, input),
             TableEngine::Hybrid(hybrid) => hybrid.find(input),
@@ -93,7 +102,10 @@ impl TableEngine {
     }
 
     /// Where that match ends.
-    pub fn find_end(&mut self, input: &mut Input<Cut>) -> Result<Option<HalfMatch>, MatchError> {
+    pub fn find_end<C: Cursor>(
+        &mut self,
+        input: &mut Input<&mut C>,
+    ) -> Result<Option<HalfMatch>, MatchError> {
         match self {
             TableEngine::Dfa(regex) => dfa::try_search_fwd(regex.forward(), input),
             TableEngine::Hybrid(hybrid) => hybrid.find_end(input),
@@ -101,7 +113,10 @@ impl TableEngine {
     }
 
     /// Where the longest match begins that ends where the input does.
-    pub fn find_start(&mut self, input: &mut Input<Cut>) -> Result<Option<HalfMatch>, MatchError> {
+    pub fn find_start<C: Cursor>(
+        &mut self,
+        input: &mut Input<&mut C>,
+    ) -> Result<Option<HalfMatch>, MatchError> {
         match self {
             TableEngine::Dfa(regex) => dfa::try_search_rev(regex.reverse(), input),
             TableEngine::Hybrid(hybrid) => hybrid.find_start(input),
@@ -109,7 +124,11 @@ impl TableEngine {
     }
 
     /// The matches one after another.
-    pub fn list(&mut self, alloc: Global, input: Input<Cut>) -> Result<Listed, AllocError> {
+    pub fn list<C: Cursor + Drop>(
+        &mut self,
+        alloc: Global,
+        input: Input<&mut C>,
+    ) -> Result<Listed, AllocError> {
         match self {
             TableEngine::Dfa(regex) => listed_by_dfa(alloc, regex, input),
             TableEngine::Hybrid(hybrid) => listed_by_hybrid(alloc, hybrid, input),
@@ -161,10 +180,10 @@ impl TableEngine {
 }
 
 /// The matches that the DFA's iterator gives.
-fn listed_by_dfa(
+fn listed_by_dfa<C: Cursor + Drop>(
     alloc: Global,
     regex: &rc_dfa::regex::Regex,
-    input: Input<Cut>,
+    input: Input<&mut C>,
 ) -> Result<Listed, AllocError> {
     let mut listed = Listed {
         spans: Vec::new(alloc),
@@ -180,22 +199,35 @@ fn listed_by_dfa(
 }
 
 /// The matches that the hybrid's iterator gives, in a cache of its own.
-fn listed_by_hybrid(
+fn listed_by_hybrid<C: Cursor + Drop>(
     alloc: Global,
     hybrid: &Hybrid,
-    input: Input<Cut>,
+    input: Input<&mut C>,
 ) -> Result<Listed, AllocError> {
     let mut cache = hybrid.regex.create_cache(alloc)?;
+    let listed = listed_in(alloc, &hybrid.regex, &mut cache, input);
+    drop(cache);
+    listed
+}
+
+/// The matches that the iterator of a hybrid's regex gives, in this cache.
+fn listed_in<C: Cursor + Drop>(
+    alloc: Global,
+    regex: &rc_hybrid::regex::Regex,
+    cache: &mut Cache,
+    input: Input<&mut C>,
+) -> Result<Listed, AllocError>
+    requires { IsCacheFor regex.now cache.old }
+{
     let mut listed = Listed {
         spans: Vec::new(alloc),
         error: None,
     };
-    for item in hybrid::find_iter(&hybrid.regex, &mut cache, input) {
+    for item in hybrid::find_iter(regex, cache, input) {
         match item {
             Ok(found) => listed.spans.push(pair_of(Some(found)))?,
             Err(error) => listed.error = Some(error),
         }
     }
-    drop(cache);
     Ok(listed)
 }
