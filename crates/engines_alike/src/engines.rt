@@ -318,8 +318,7 @@ fn have_words(hirs: &[Hir]) -> bool {
     false
 }
 
-/// The engines that search by tables: the DFA, unless the row wants none, a hybrid, and one with the least capacity. None finds longest
-/// matches.
+/// The engines that search by tables: the DFA, unless the row wants none, a hybrid, and one with the least capacity.
 fn tables(
     alloc: Global,
     patterns: &[&str],
@@ -346,9 +345,6 @@ fn push_tables(
 ) -> Result<(), BuildError>
     requires { length patterns.now ≤ 2147483647 }
 {
-    if settings.kind == MatchKind::LeftmostLongest {
-        return Ok(());
-    }
     if settings.tables {
         tables.push(TableEngine::Dfa(dfa_of(alloc, patterns, settings)?))?;
     }
