@@ -24,38 +24,27 @@ use Rattle.rc_spans.specs.Machines.{AreMachines}
 use Rattle.rc_spans.proofs.PatternLemmas.{few_by_weight}
 use Rattle.rc_text.specs.declared.types.MatchKind.{MatchKind}
 use Rattle.rc_text.specs.declared.types.MatchKind.TheVariants.{All as all_matches, LeftmostFirst as leftmost_first, LeftmostLongest as leftmost_longest}
-use Rattle.rc_states.specs.declared.kind.TableKind.{TableKind}
-use Rattle.rc_states.specs.declared.kind.TableKind.TheVariants.{All, LeftmostFirst, LeftmostLongest}
 use Rattle.rc_states.specs.TableKinds.{kind_of, table_kind_of}
 use Rattle.rc_engine.specs.declared.engine.Engine.{Engine}
 use Rattle.rc_engines.specs.Limits.{AreOff, AreTooHeavy, NoneServe}
 use Rattle.rc_engines.specs.Makes.{AreMade}
 use Rattle.rc_engines.specs.Plans.{IsLazyFor, IsShortFor, plan_of}
-use Rattle.rc_engines.specs.Tables.{AreHalvesFor, MayBeTablesFor, finds, is_tabled}
+use Rattle.rc_engines.specs.Tables.{AreHalvesFor, MayBeTablesFor}
 use Rattle.rc_engines.specs.declared.engines.Limits.{Limits}
 
--- where tables find matches of the kind, theirs is that kind
-found_kind : (states : TableKind) (kind : MatchKind) → finds states kind ≡ true → kind_of states ≡ kind
-found_kind All all_matches t = refl
-found_kind All leftmost_first t = absurd (true≢false (sym t))
-found_kind All leftmost_longest t = absurd (true≢false (sym t))
-found_kind LeftmostFirst all_matches t = absurd (true≢false (sym t))
-found_kind LeftmostFirst leftmost_first t = refl
-found_kind LeftmostFirst leftmost_longest t = absurd (true≢false (sym t))
-found_kind LeftmostLongest all_matches t = absurd (true≢false (sym t))
-found_kind LeftmostLongest leftmost_first t = absurd (true≢false (sym t))
-found_kind LeftmostLongest leftmost_longest t = refl
-
-same_kind : (kind : MatchKind) → is_tabled kind ≡ true → kind_of (table_kind_of kind) ≡ kind
-same_kind kind t = found_kind (table_kind_of kind) kind t
+-- the states that serve a kind of match find it
+same_kind : (kind : MatchKind) → kind_of (table_kind_of kind) ≡ kind
+same_kind all_matches = refl
+same_kind leftmost_first = refl
+same_kind leftmost_longest = refl
 
 module _ (e : Engine) (hs : List Re) (a : Automaton) (of : AreMachines hs e.program.terminator (table_kind_of e.kind) (machine_of a Forwards) (machine_of a Backwards)) where
   -- halves of searches by it are halves for the engine's program
-  halves_by : (tabled : is_tabled e.kind ≡ true) {AreOf : Machine → Machine → Type 0} (patterns : ℕ) → places_of e.program.places.items ≡ program hs → patterns ≡ length hs →
+  halves_by : {AreOf : Machine → Machine → Type 0} (patterns : ℕ) → places_of e.program.places.items ≡ program hs → patterns ≡ length hs →
       heaviness (places_of e.program.places.items) ≤ 2147483646 → AreOf (machine_of a Forwards) (machine_of a Backwards) → AreHalvesFor e patterns AreOf
-  halves_by tabled patterns same counted light halves = record {
+  halves_by patterns same counted light halves = record {
     hs = hs;
-    tabled = same_kind e.kind tabled;
+    tabled = same_kind e.kind;
     program = same;
     halves = record {
       ahead = machine_of a Forwards;
@@ -67,14 +56,14 @@ module _ (e : Engine) (hs : List Re) (a : Automaton) (of : AreMachines hs e.prog
     };
   }
 
-  pub tables_by : is_tabled e.kind ≡ true → (patterns : ℕ) (d : Dense) → places_of e.program.places.items ≡ program hs → patterns ≡ length hs → heaviness (places_of e.program.places.items) ≤ 2147483646 →
+  pub tables_by : (patterns : ℕ) (d : Dense) → places_of e.program.places.items ≡ program hs → patterns ≡ length hs → heaviness (places_of e.program.places.items) ≤ 2147483646 →
       AreHalves d (machine_of a Forwards) (machine_of a Backwards) → AreHalvesFor e patterns (AreHalves d)
-  tables_by tabled patterns d same counted light halves = halves_by tabled {AreOf = AreHalves d} patterns same counted light halves
+  tables_by patterns d same counted light halves = halves_by {AreOf = AreHalves d} patterns same counted light halves
 
-  pub lazy_by : is_tabled e.kind ≡ true → (patterns capacity : ℕ) (l : Lazy) → places_of e.program.places.items ≡ program hs → patterns ≡ length hs → heaviness (places_of e.program.places.items) ≤ 2147483646 →
+  pub lazy_by : (patterns capacity : ℕ) (l : Lazy) → places_of e.program.places.items ≡ program hs → patterns ≡ length hs → heaviness (places_of e.program.places.items) ≤ 2147483646 →
       IsLazyOf a capacity l → AreHalvesFor e patterns (lazy.AreHalves l)
-  lazy_by tabled patterns capacity l same counted light h =
-      halves_by tabled {AreOf = lazy.AreHalves l} patterns same counted light
+  lazy_by patterns capacity l same counted light h =
+      halves_by {AreOf = lazy.AreHalves l} patterns same counted light
       (ap (λ b. machine_of b Forwards) h.automaton_is, ap (λ b. machine_of b Backwards) h.automaton_is)
 
   module _ (limits : Limits) (classed : AreClassesOf limits.byte_classes hs e.program.terminator (classes_of a)) where
@@ -171,11 +160,11 @@ module _ (e : Engine) (patterns : ℕ) (hs : List Re) (limits : Limits) where
     }
 
     -- none do, so that those come whose states are made as they are met
-    pub lazy_so : is_tabled e.kind ≡ true → (a : Automaton) → AreMachines hs e.program.terminator (table_kind_of e.kind) (machine_of a Forwards) (machine_of a Backwards) →
+    pub lazy_so : (a : Automaton) → AreMachines hs e.program.terminator (table_kind_of e.kind) (machine_of a Forwards) (machine_of a Backwards) →
         AreClassesOf limits.byte_classes hs e.program.terminator (classes_of a) → places_of e.program.places.items ≡ program hs → patterns ≡ length hs →
         heaviness (places_of e.program.places.items) ≤ 2147483646 → is_some dense ≡ false → (met : Option Lazy) → IfSome met (IsLazyOf a limits.capacity) →
         (limits.hybrid ≡ false → met ≡ None) → (met ≡ None → (limits.hybrid ≡ false) ⊎ (limits.capacity < least_of a)) → AreMade e patterns hs limits dense met
-    lazy_so tabled a of classed same counted light nowhere met made hybrid short = record {
+    lazy_so a of classed same counted light nowhere met made hybrid short = record {
       fit = fit;
       barred = λ b. ⊎_elim (λ dfa. off (inl dfa)) (λ r. ⊎_elim (λ answers. absurd (bare answers)) (λ more. off (inr more)) r) b;
       none = λ n. ⊎_elim (λ h. inl (⊎_elim (λ dfa. inl dfa) (λ more. inr (inr more)) h)) (λ heavy. inr heavy) (none n);
@@ -187,7 +176,7 @@ module _ (e : Engine) (patterns : ℕ) (hs : List Re) (limits : Limits) where
       where
         fits : (o : Option Lazy) → IfSome o (IsLazyOf a limits.capacity) → IfSome o (λ l. AreHalvesFor e patterns (lazy.AreHalves l))
         fits None h = tt
-        fits (Some l) h = lazy_by e hs a of tabled patterns limits.capacity l same counted light h
+        fits (Some l) h = lazy_by e hs a of patterns limits.capacity l same counted light h
 
         plans : (o : Option Lazy) → IfSome o (IsLazyOf a limits.capacity) → IfSome o (IsLazyFor (plan_of e hs limits))
         plans None h = tt

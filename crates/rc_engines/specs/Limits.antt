@@ -12,16 +12,15 @@ use Rattle.rc_dense.specs.declared.error.TableError.TheVariants.{TooBig}
 use Rattle.rc_spans.specs.Machines.{AreMachines}
 use Rattle.rc_engine.specs.Choices.{answering_for}
 use Rattle.rc_engine.specs.declared.engine.Engine.{Engine}
-use Rattle.rc_engines.specs.Tables.{is_tabled}
 use Rattle.rc_engines.specs.declared.engines.Limits.{Limits}
 
 -- None of all states may be made: they are switched off, or the byte program has more places than the limit allows.
 abbrev pub AreOff : List Re → Limits → Type 0
 AreOff hs limits = (limits.dfa ≡ false) ⊎ IsSomeAnd limits.state_limit (λ most. most < length (bytes_of (program hs)))
 
--- No tables serve: needles alone tell each answer, or no tables find matches of the kind.
+-- No tables serve: needles alone tell each answer.
 abbrev pub NoneServe : Engine → Type 0
-NoneServe e = IsSome (answering_for e.kind e.strategy) ⊎ (is_tabled e.kind ≡ false)
+NoneServe e = IsSome (answering_for e.kind e.strategy)
 
 -- None of all states may be made of the patterns: they are switched off, or none serve, or the byte program has more places than the limit allows.
 abbrev pub AreBarred : Engine → List Re → Limits → Type 0

@@ -4,10 +4,6 @@ use Rattle.std.specs.Prelude.{◌≡◌, ℕ, ◌+◌, ◌*◌, Bool, true, fals
 use Rattle.rc_pattern.specs.Re.{Re}
 use Rattle.rc_program.specs.Places.{places_of}
 use Rattle.rc_program.specs.Program.{program}
-use Rattle.rc_text.specs.declared.types.MatchKind.{MatchKind}
-use Rattle.rc_text.specs.declared.types.MatchKind.TheVariants.{All as all_matches, LeftmostFirst as leftmost_first, LeftmostLongest as leftmost_longest}
-use Rattle.rc_states.specs.declared.kind.TableKind.{TableKind}
-use Rattle.rc_states.specs.declared.kind.TableKind.TheVariants.{All, LeftmostFirst, LeftmostLongest}
 use Rattle.rc_states.specs.TableKinds.{kind_of, table_kind_of}
 use Rattle.rc_automaton.specs.Machine.{Machine}
 use Rattle.rc_dense.specs.Halves.{AreHalves, bytes_of}
@@ -17,17 +13,6 @@ use Rattle.rc_lazy.specs.declared.lazy.Lazy.{Lazy}
 use Rattle.rc_spans.specs.Aims.{AreHalvesOf}
 use Rattle.rc_spans.specs.declared.search.Aim.{Aim}
 use Rattle.rc_engine.specs.declared.engine.Engine.{Engine}
-
--- states of this kind find matches of that kind
-abbrev pub finds : TableKind → MatchKind → Bool
-finds All all_matches = true
-finds LeftmostFirst leftmost_first = true
-finds LeftmostLongest leftmost_longest = true
-finds _ _ = false
-
--- tables find matches of the kind: the states that serve it do
-abbrev pub is_tabled : MatchKind → Bool
-is_tabled kind = finds (table_kind_of kind) kind
 
 -- what a search by tables seeks: the match of the engine's kind
 abbrev pub aim_of : Engine → ℕ → Aim

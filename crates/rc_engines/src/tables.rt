@@ -10,7 +10,7 @@ ghost use Rattle.rc_lazy.specs.Caches.{IsLazyOf, least_of};
 ghost use Rattle.rc_spans.specs.Machines.{AreMachines};
 ghost use Rattle.rc_engines.specs.Limits.{AreOff, AreTooHeavy};
 ghost use Rattle.rc_engines.specs.Makes.{AreMade};
-ghost use Rattle.rc_engines.specs.Tables.{MayBeTablesFor, finds, is_tabled};
+ghost use Rattle.rc_engines.specs.Tables.{MayBeTablesFor};
 ghost use Rattle.rc_states.specs.TableKinds.{table_kind_of};
 
 use crate::engines::Limits;
@@ -22,8 +22,7 @@ use rc_engine::strategy::{Strategy, guards_of, literals_of};
 use rc_lazy::error::LazyError;
 use rc_lazy::lazy::Lazy;
 use rc_spans::build::automaton_of;
-use rc_states::kind::{TableKind, table_kind};
-use rc_text::types::MatchKind;
+use rc_states::kind::table_kind;
 use std::alloc::{AllocError, Global};
 
 /// Tables of all states, or tables whose states are made as they are met, or neither.
@@ -64,25 +63,6 @@ fn are_to_rest(strategy: &Strategy, needed: bool, automaton: &Automaton) -> bool
     }
 }
 
-/// Whether states of one kind find matches of another.
-fn finds(states: TableKind, kind: MatchKind) -> bool
-    ensures { result ≡ finds states kind }
-{
-    match (states, kind) {
-        (TableKind::All, MatchKind::All) => true,
-        (TableKind::LeftmostFirst, MatchKind::LeftmostFirst) => true,
-        (TableKind::LeftmostLongest, MatchKind::LeftmostLongest) => true,
-        _ => false,
-    }
-}
-
-/// Whether tables find matches of the kind: the states that serve it do.
-fn is_tabled(kind: MatchKind) -> bool
-    ensures { result ≡ is_tabled kind }
-{
-    finds(table_kind(kind), kind)
-}
-
 /// The tables of all states of the automaton, which is that of so many patterns by their engine's program, where the limits allow some; with `needed`
 /// searches go by needles that each match holds. An `Err` is want of memory.
 fn dense_of(
@@ -98,7 +78,6 @@ fn dense_of(
     requires program { places_of engine.now.program.places.items ≡ program hs }
     requires patterns { patterns ≡ length hs }
     requires light { heaviness (places_of engine.now.program.places.items) ≤ 2147483646 }
-    requires tabled { is_tabled engine.now.kind ≡ true }
     ensures fit { IfOk result (MayBeTablesFor engine.now patterns) }
     ensures off { AreOff hs limits → IfOk result (λ tables. tables ≡ None) }
     ensures none { IfOk result (λ tables. tables ≡ None → AreOff hs limits ⊎ AreTooHeavy engine.now hs limits) }
@@ -134,7 +113,7 @@ fn lazy_of(automaton: Automaton, limits: Limits) -> Option<Lazy>
 }
 
 /// The tables of so many patterns by their engine's program, where the limits allow some. Where needles alone tell each answer, none are
-/// made, nor for a kind of match that no tables find. With `needed` searches go by needles that each match holds. An `Err` is want of memory.
+/// made. With `needed` searches go by needles that each match holds. An `Err` is want of memory.
 pub(crate) fn tables_of(
     alloc: Global,
     engine: &Engine,
@@ -149,12 +128,6 @@ pub(crate) fn tables_of(
     ensures { IfOk result (λ tables. AreMade engine.now patterns hs limits tables.dense tables.lazy) }
 {
     if literals_of(&engine.strategy, engine.kind).is_some() {
-        return Ok(Tables {
-            dense: None,
-            lazy: None,
-        });
-    }
-    if !is_tabled(engine.kind) {
         return Ok(Tables {
             dense: None,
             lazy: None,

@@ -12,8 +12,8 @@ returns-then-exceeds-clause-none g c none =
 
 pub returns-in-Ok-clause-fit : goal.returns-in-Ok-clause-fit
 returns-in-Ok-clause-fit g c =
-    tables_by c.args.engine.now g.hs c.args.automaton.now c.requires.0 c.requires.1.1.1.1 c.args.patterns c.in-Ok.tables c.requires.1.0 c.requires.1.1.0
-    c.requires.1.1.1.0
+    tables_by c.args.engine.now g.hs c.args.automaton.now c.requires.0 c.args.patterns c.in-Ok.tables c.requires.1.0 c.requires.1.1.0
+    c.requires.1.1.1
     c.in-Ok.ensures.halves
 
 pub returns-in-Ok-clause-off : goal.returns-in-Ok-clause-off
