@@ -21,7 +21,7 @@ use crate::window::{Window, limit, spot_at};
 use rc_program::place::Place;
 
 /// How many places are followed at most.
-const MOST: usize = 8;
+const MOST: usize = 6;
 
 /// Whether it is the place that was tried.
 #[inline(always)]
@@ -52,7 +52,8 @@ fn is_spent(spot: &Spot, place: usize, tried: Option<usize>) -> bool
 }
 
 /// Whether no walk leads on from the place, where that is told by a few places. Walks over the place that was tried don't count.
-fn is_dead(spot: &Spot, from: usize, tried: Option<usize>) -> bool
+#[inline(always)]
+fn leads_nowhere(spot: &Spot, from: usize, tried: Option<usize>) -> bool
     ghost text: { Searched }
     requires here { IsHere spot.now text }
     requires place_in { from < size spot.now.course }
@@ -83,6 +84,17 @@ fn is_dead(spot: &Spot, from: usize, tried: Option<usize>) -> bool
     false
 }
 
+/// As `leads_nowhere`, by a call.
+#[inline(never)]
+fn is_dead(spot: &Spot, from: usize, tried: Option<usize>) -> bool
+    ghost text: { Searched }
+    requires here { IsHere spot.now text }
+    requires place_in { from < size spot.now.course }
+    ensures { IsTrue result → IsDead (seen_from spot.now text) (tried_at spot.now.at tried) (from, spot.now.at) }
+{
+    leads_nowhere(spot, from, tried)
+}
+
 /// Whether walks go through the place, and read nothing there.
 #[inline(always)]
 fn is_through(place: &Place) -> bool {
@@ -93,6 +105,7 @@ fn is_through(place: &Place) -> bool {
 }
 
 /// A place at which a thread may go on in place of this one, since it has one way alone to go as far as there.
+#[inline(always)]
 fn way_on(spot: &Spot, from: usize) -> usize
     ghost text: { Searched }
     requires here { IsHere spot.now text }
@@ -124,6 +137,7 @@ fn way_on(spot: &Spot, from: usize) -> usize
 
 /// Where a thread reads one byte that goes on from the place, and where it goes on after that; where it has one way alone
 /// to go, and that is told by a few places.
+#[inline(always)]
 pub fn go_on(spot: &Spot, from: usize) -> Option<(usize, usize)>
     ghost text: { Searched }
     requires here { IsHere spot.now text }
@@ -218,7 +232,7 @@ fn leave_out(course: Course, window: &Window, root: usize, at: usize) -> usize
     let mut here = at;
     let end = limit(window).min(course.last);
     'starts: while here < end {
-        if !is_dead(&spot_at(course, window, here), root, None) {
+        if !leads_nowhere(&spot_at(course, window, here), root, None) {
             return here;
         }
         here += 1;
@@ -265,7 +279,7 @@ fn go_alone(
 }
 
 /// The position from which all threads have to go on together, of a pass that has come to `at`: up to there, starts from which no walk leads on
-/// were left out, where `skips`, or a lone thread went on.
+/// were left out, where `skips`, or a lone thread went on that has slots: without slots, going on together costs less.
 pub fn glide(
     course: Course,
     window: &Window,
@@ -295,6 +309,9 @@ pub fn glide(
     ensures around { IsAround text result window.now }
 {
     if scratch.curr.len() > 0 {
+        if scratch.next.slots.is_empty() {
+            return at;
+        }
         return go_alone(course, window, best, at, scratch);
     }
     if skips && best.is_none() {

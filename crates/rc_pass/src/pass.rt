@@ -299,6 +299,9 @@ fn turn(spot: &Spot, root: usize, best: Option<Ending>, scratch: &mut Scratch) -
     ensures counted { IsCounted scratch.new.insertions result }
     ensures few { scratch.new.insertions ≤ scratch.old.insertions + size spot.now.course }
 {
+    if scratch.next.slots.is_empty() {
+        return turn_all(spot, root, best, scratch);
+    }
     if let Some(number) = end_of(spot, &scratch.curr) {
         return Some(end_walk(spot, number, scratch));
     }

@@ -8,7 +8,7 @@ pub starts-preserved : goal.starts-preserved
 starts-preserved g c =
     let s : Sight = seen_by c.args.course g.text in
     let here : ℕ = c.starts.here in
-    let dead = rw (c.spot_at.ensures.course, c.spot_at.ensures.at) at (c.is_dead.ensures c.if-not-is_dead.false) in
+    let dead = rw (c.spot_at.ensures.course, c.spot_at.ensures.at) at (c.leads_nowhere.ensures c.if-not-leads_nowhere.false) in
     let none : HasNoWalkFrom s here = (c.requires.1.1.1.1.1 here).1 dead in
     record {
       later = omega (arith, c.starts.invariant.later);

@@ -21,5 +21,5 @@ ghost-limit g a = g.text
 abbrev pub ghost-spot_at : goal.ghost-spot_at
 ghost-spot_at g a = g.text
 
-abbrev pub ghost-is_dead : goal.ghost-is_dead
-ghost-is_dead g a = g.text
+abbrev pub ghost-leads_nowhere : goal.ghost-leads_nowhere
+ghost-leads_nowhere g a = g.text

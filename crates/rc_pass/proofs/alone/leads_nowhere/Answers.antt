@@ -6,8 +6,8 @@ use Rattle.rc_pass.specs.Moves.{IsMove}
 use Rattle.rc_pass.specs.Alone.{IsDead, tried_at}
 use Rattle.rc_pass.specs.declared.moves.Move.TheVariants.{Fork, Save, Stays}
 use Rattle.rc_pass.proofs.AloneLemmas.{inside_program, dead_stops, dead_stays, dead_saves, dead_forks}
-use Rattle.rc_pass.proofs.alone.is_dead.Goals as goal
-use Rattle.rc_pass.proofs.alone.is_dead.Goals.{in-Stays, in-Save, in-Fork+then-is_spent, in-Fork+else-is_spent+then-is_spent-2}
+use Rattle.rc_pass.proofs.alone.leads_nowhere.Goals as goal
+use Rattle.rc_pass.proofs.alone.leads_nowhere.Goals.{in-Stays, in-Save, in-Fork+then-is_spent, in-Fork+else-is_spent+then-is_spent-2}
 
 pub returns-in-Stops : goal.returns-in-Stops
 returns-in-Stops g c _ =
