@@ -27,5 +27,3 @@ pub mod VisitLemmas
 pub mod MarkLemmas
 pub mod MarkMoveLemmas
 pub mod MarkStepLemmas
-pub mod OnwardLemmas
-pub mod AloneLemmas

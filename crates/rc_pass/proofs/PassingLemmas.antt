@@ -158,12 +158,6 @@ counts_fit n k insertions few short counted =
     let m : n * k ≤ n * 18446744073709551616 = mul-le-mul_left n (omega (arith, short)) in
     omega (arith, m, few, counted)
 
--- so it does with one for each position more
-pub counts_small : (n k insertions : ℕ) → n < 2 ^ 63 → k < 2 ^ 64 → insertions ≤ n * k → insertions + 2 ^ 64 < 2 ^ 128
-counts_small n k insertions few short counted =
-    let m : n * k ≤ n * 18446744073709551616 = mul-le-mul_left n (omega (arith, short)) in
-    omega (arith, m, few, counted)
-
 -- the same, where the last of the positions adds n at most
 pub counted_at_last : (n at from hi insertions insertions2 : ℕ) → insertions ≤ n * (at - from) → insertions2 ≤ insertions + n → at < hi + 1 → from ≤ at →
     insertions2 ≤ n * (hi - from + 1)

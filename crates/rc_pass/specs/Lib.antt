@@ -17,4 +17,3 @@ pub mod Entered
 pub mod Entrances
 pub mod PatternSpans
 pub mod Marking
-pub mod Alone

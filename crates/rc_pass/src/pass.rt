@@ -12,15 +12,13 @@ ghost use Rattle.rc_pass.specs.Roots.{StandsFor};
 ghost use Rattle.rc_pass.specs.Trace.{Trace, done};
 ghost use Rattle.rc_pass.specs.Passing.{Carries, pending, AllIn, AllFrom, count_from, HasRoom, waiting_starts, Pending, IsLined, IsCounted, GivesTrace, Tells, best_of};
 ghost use Rattle.rc_pass.specs.Scratches.{IsSame};
-ghost use Rattle.rc_pass.specs.Alone.{EndsAlone, ReadsOne};
 
-use crate::alone::{end_of, glide, go_on};
 use crate::closure::close;
 use crate::entrance::entrance;
 use crate::growth::{Growth, copy_row};
 use crate::scratch::Scratch;
 use crate::spot::{Course, Spot};
-use crate::threads::{Head, Threads};
+use crate::threads::Threads;
 use crate::window::{open, reach, spot_at};
 use rc_literal::literal::find_from;
 use rc_literal::prefilter::Prefilter;
@@ -176,8 +174,9 @@ fn empty(slots: &mut Vec<Option<usize>>)
     slots.fill(None);
 }
 
-/// One position of a pass, as in `turn`, whatever threads are under way.
-fn turn_all(spot: &Spot, root: usize, best: Option<Ending>, scratch: &mut Scratch) -> Option<Ending>
+/// One position of a pass: lets the threads go on, counts the places entered, and answers the best
+/// walk that has ended so far, with its slots in `found`.
+fn turn(spot: &Spot, root: usize, best: Option<Ending>, scratch: &mut Scratch) -> Option<Ending>
     ghost text: { Searched }
     requires here { IsHere spot.now text }
     requires made { scratch.old.next.entered.capacity ≡ size spot.now.course }
@@ -210,108 +209,6 @@ fn turn_all(spot: &Spot, root: usize, best: Option<Ending>, scratch: &mut Scratc
         });
     }
     best
-}
-
-/// Ends the walk of the only thread, one of the pattern, at the spot. The rest is as in `turn`.
-fn end_walk(spot: &Spot, number: usize, scratch: &mut Scratch) -> Ending
-    ghost text: { Searched }
-    requires here { IsHere spot.now text }
-    requires lined { IsLined (size spot.now.course) spot.now.course.hi scratch.old.next.threads.width spot.now.at scratch.old.insertions
-        scratch.old.curr }
-    requires small { scratch.old.insertions + 1 < 2 ^ 128 }
-    requires ends { EndsAlone (seen_from spot.now text) spot.now.at scratch.old.curr.items number }
-    ensures carries { (best : Option Ending) (o : Option Trace)
-        → Pending (seen_from spot.now text) scratch.old.next.threads.width spot.now.course.last (spot.now.at + 1) scratch.new.curr.items
-        (Some result) scratch.new.found.items o
-        → Pending (seen_from spot.now text) scratch.old.next.threads.width spot.now.course.last spot.now.at scratch.old.curr.items
-        best scratch.old.found.items o }
-    ensures lined { IsLined (size spot.now.course) spot.now.course.hi scratch.old.next.threads.width (spot.now.at + 1)
-        scratch.new.insertions scratch.new.curr }
-    ensures same { IsSame scratch.old scratch.new }
-    ensures counted { IsCounted scratch.new.insertions (Some result) }
-    ensures few { scratch.new.insertions ≤ scratch.old.insertions + 1 }
-{
-    let (head, row) = scratch.curr.get(0);
-    let start = head.start;
-    copy_row(&mut scratch.found, row);
-    scratch.curr.clear(scratch.next.slots.len());
-    scratch.insertions += 1;
-    Ending {
-        pattern: number,
-        start,
-        end: spot.at,
-    }
-}
-
-/// Lets a thread set out at the spot that reads one byte there and goes on at `next`, where none is under way. The rest is as in `turn`.
-fn set_out_alone(spot: &Spot, root: usize, next: usize, scratch: &mut Scratch)
-    ghost text: { Searched }
-    requires here { IsHere spot.now text }
-    requires lined { IsLined (size spot.now.course) spot.now.course.hi scratch.old.next.threads.width spot.now.at scratch.old.insertions
-        scratch.old.curr }
-    requires small { scratch.old.insertions + 1 < 2 ^ 128 }
-    requires none { length scratch.old.curr.items ≡ 0 }
-    requires within { spot.now.at ≤ spot.now.course.last }
-    requires stands { StandsFor (seen_from spot.now text) root }
-    requires reads { (p : ℕ) × ReadsOne (seen_from spot.now text) (size spot.now.course) spot.now.at root (p, next) }
-    ensures carries { (o : Option Trace)
-        → Pending (seen_from spot.now text) scratch.old.next.threads.width spot.now.course.last (spot.now.at + 1) scratch.new.curr.items
-        None scratch.new.found.items o
-        → Pending (seen_from spot.now text) scratch.old.next.threads.width spot.now.course.last spot.now.at scratch.old.curr.items
-        None scratch.old.found.items o }
-    ensures lined { IsLined (size spot.now.course) spot.now.course.hi scratch.old.next.threads.width (spot.now.at + 1)
-        scratch.new.insertions scratch.new.curr }
-    ensures same { IsSame scratch.old scratch.new }
-    ensures few { scratch.new.insertions ≤ scratch.old.insertions + 1 }
-{
-    empty(&mut scratch.next.slots);
-    scratch.curr.push(
-        Head {
-            place: next,
-            at: spot.at + 1,
-            start: spot.at,
-        },
-        &scratch.next.slots,
-    );
-    scratch.insertions += 1;
-}
-
-/// One position of a pass: lets the threads go on, counts the places entered, and answers the best
-/// walk that has ended so far, with its slots in `found`.
-fn turn(spot: &Spot, root: usize, best: Option<Ending>, scratch: &mut Scratch) -> Option<Ending>
-    ghost text: { Searched }
-    requires here { IsHere spot.now text }
-    requires made { scratch.old.next.entered.capacity ≡ size spot.now.course }
-    requires lined { IsLined (size spot.now.course) spot.now.course.hi scratch.old.next.threads.width spot.now.at scratch.old.insertions
-        scratch.old.curr }
-    requires counted { IsCounted scratch.old.insertions best }
-    requires small { scratch.old.insertions + size spot.now.course < 2 ^ 128 }
-    requires root { root < size spot.now.course }
-    requires stands { StandsFor (seen_from spot.now text) root }
-    ensures carries { (o : Option Trace)
-        → Pending (seen_from spot.now text) scratch.old.next.threads.width spot.now.course.last (spot.now.at + 1) scratch.new.curr.items
-        result scratch.new.found.items o
-        → Pending (seen_from spot.now text) scratch.old.next.threads.width spot.now.course.last spot.now.at scratch.old.curr.items
-        best scratch.old.found.items o }
-    ensures lined { IsLined (size spot.now.course) spot.now.course.hi scratch.old.next.threads.width (spot.now.at + 1)
-        scratch.new.insertions scratch.new.curr }
-    ensures same { IsSame scratch.old scratch.new }
-    ensures counted { IsCounted scratch.new.insertions result }
-    ensures few { scratch.new.insertions ≤ scratch.old.insertions + size spot.now.course }
-{
-    if scratch.next.slots.is_empty() {
-        return turn_all(spot, root, best, scratch);
-    }
-    if let Some(number) = end_of(spot, &scratch.curr) {
-        return Some(end_walk(spot, number, scratch));
-    }
-    if scratch.curr.len() == 0 && best.is_none() && spot.at <= spot.course.last {
-        if let Some((_, next)) = go_on(spot, root) {
-            set_out_alone(spot, root, next, scratch);
-            return None;
-        }
-    }
-    turn_all(spot, root, best, scratch)
 }
 
 /// Whether after the position `at` no thread is left to go on, and none to set out.
@@ -437,15 +334,6 @@ pub(crate) fn pass_from<C: Cursor>(
         };
         at = next_at;
         reach(&mut window, input, at);
-        at = glide(
-            course,
-            &window,
-            root,
-            prefilter.is_none(),
-            best,
-            at,
-            scratch,
-        );
         best = turn(&spot_at(course, &window, at), root, best, scratch);
         if earliest && best.is_some() {
             return best;

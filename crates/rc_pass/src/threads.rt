@@ -47,7 +47,7 @@ impl Model for Threads {
 
 impl Threads {
     ghost use Rattle.std.specs.Prelude.{◌≡◌, ◌<◌, ◌≤◌, [], ◌∷◌, ◌++◌, length, IfOk, Some, slice_get};
-    ghost use Rattle.rc_pass.specs.Threads.{Thread, thread_of};
+    ghost use Rattle.rc_pass.specs.Threads.{thread_of};
 
     /// Room for `room` threads of at most `most` slots each.
     pub fn new(alloc: Global, room: usize, most: usize) -> Result<Threads, AllocError>
@@ -93,14 +93,6 @@ impl Threads {
         let head = self.heads[index];
         let from = index * self.width;
         (head, &self.rows[from..from + self.width])
-    }
-
-    /// Lets the only thread go on elsewhere.
-    pub fn move_first(&mut self, head: Head)
-        requires { length self.old.items ≡ 1 }
-        ensures { (t : Thread) → self.old.items ≡ t ∷ [] → self.new ≡ record self.old { items = thread_of head t.slots ∷ [] } }
-    {
-        self.heads[0] = head;
     }
 
     /// Puts a thread behind the others.

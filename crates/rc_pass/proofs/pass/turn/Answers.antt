@@ -4,9 +4,9 @@ use Rattle.rc_pass.specs.Near.{seen_from, size}
 use Rattle.rc_pass.specs.Trace.{done}
 use Rattle.rc_pass.specs.Passing.{Carries, Pending, AllIn, IsLined, pending, waiting_starts}
 use Rattle.rc_pass.proofs.TurnLemmas.{none_from, lined_next, turned_on, turned_ends}
-use Rattle.rc_pass.proofs.pass.turn_all.Given.{Over}
-use Rattle.rc_pass.proofs.pass.turn_all.Goals as goal
-use Rattle.rc_pass.proofs.pass.turn_all.Goals.{After-clear}
+use Rattle.rc_pass.proofs.pass.turn.Given.{Over}
+use Rattle.rc_pass.proofs.pass.turn.Goals as goal
+use Rattle.rc_pass.proofs.pass.turn.Goals.{After-clear}
 
 wide : (g : Over) (c : After-clear g) → c.clear.new.self.threads.width ≡ c.args.scratch.now.next.threads.width
 wide g c = ap (λ (l : ThreadList). l.width) c.clear.ensures.threads
