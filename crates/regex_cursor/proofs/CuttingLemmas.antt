@@ -7,7 +7,7 @@ use Rattle.rc_text.specs.Text.{Searched, Keeps, is_boundary}
 use Rattle.rc_text.specs.declared.types.MatchKind.{MatchKind}
 use Rattle.rc_text.specs.declared.types.MatchError.{MatchError}
 use Rattle.rc_states.specs.declared.kind.TableKind.{TableKind}
-use Rattle.rc_states.specs.declared.kind.TableKind.TheVariants.{LeftmostFirst as leftmost_first, LeftmostLongest as leftmost_longest}
+use Rattle.rc_states.specs.declared.kind.TableKind.TheVariants.{All as all_matches, LeftmostFirst as leftmost_first, LeftmostLongest as leftmost_longest}
 use Rattle.rc_states.specs.TableKinds.{kind_of}
 use Rattle.rc_program.specs.Program.{program, shown}
 use Rattle.rc_program.specs.Answer.{Search}
@@ -90,6 +90,7 @@ module _ (q : Sought) (s t : Searched) (k : Keeps s t) where
   own_pattern : (kind : TableKind) (m : Found) (p : ℕ) → IsLeftmost kind → IsToldWith kind S m p → p ≡ m.pattern
   own_pattern leftmost_first m p l h = h
   own_pattern leftmost_longest m p l h = h
+  own_pattern all_matches m p l h = absurd l
 
   module _ (kind : TableKind) (leftmost : IsLeftmost kind) where
     end_is : (o : Option HalfFound) → is_early s.earliest S ≡ false → IsForwardHalf kind s.earliest S o → o ≡ option_map half_of (answer_by (kind_of kind) S)
