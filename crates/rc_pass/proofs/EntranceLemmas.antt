@@ -56,7 +56,7 @@ module _ (ways : Pair → List Pair) (Ends : Pair → Type 0) (n a b : Pair) (ou
   }
 
   module _ (H : Type 0) (note : H → Pair → H) (last : (n m : Pair) → Ends n → ¬ IsIn m (ways n)) where
-    first_on : {R : Option H → Type 0} (h : H) (v : List Pair) (ts : List (H × Pair)) (o : Option H) → ¬ IsIn n v → note h n ≡ h →
+    pub first_on : {R : Option H → Type 0} (h : H) (v : List Pair) (ts : List (H × Pair)) (o : Option H) → ¬ IsIn n v → note h n ≡ h →
         IsFirstOf ways Ends H note v R ((h, a) ∷ ts) o → IsFirstOf ways Ends H note v R ((h, n) ∷ ts) o
     first_on {R} h v ts o fresh silent x =
         ⊎_elim
@@ -78,13 +78,13 @@ choice_on None ns = refl
 choice_on (Some p) ns = refl
 
 module _ (s : Sight) (at : ℕ) where
-  no_end : (p : ℕ) (ns : List ℕ) → place_at s.places p ≡ choice ns → ¬ IsTrue (ends s (p, at))
+  pub no_end : (p : ℕ) (ns : List ℕ) → place_at s.places p ≡ choice ns → ¬ IsTrue (ends s (p, at))
   no_end p ns is e =
       let f : ends s (p, at) ≡ false =
       ap (λ b. b && is_there s.until at) (ap (is_match_place (only s.anchoring)) is ∙ choice_on (only s.anchoring) ns) in
       true≢false (sym e ∙ f)
 
-  ways_by : (p : ℕ) (q : Place) → place_at s.places p ≡ q →
+  pub ways_by : (p : ℕ) (q : Place) → place_at s.places p ≡ q →
       next_of s (p, at) ≡ map (pair_at at) (ways_out (λ l. holds s.text l at) (ahead s.text s.hi at) q)
   ways_by p q is = ap (λ r. map (pair_at at) (ways_out (λ l. holds s.text l at) (ahead s.text s.hi at) r)) is
 

@@ -18,7 +18,7 @@ pub mod SparseLemmas
 pub mod SpreadLemmas
 pub mod SpreadMoveLemmas
 pub mod SpreadPassLemmas
-pub mod ReachLemmas
+pub mod LongestLemmas
 pub mod SpreadStepLemmas
 pub mod StartLemmas
 pub mod StepLemmas
@@ -27,3 +27,8 @@ pub mod VisitLemmas
 pub mod MarkLemmas
 pub mod MarkMoveLemmas
 pub mod MarkStepLemmas
+pub mod RaceListLemmas
+pub mod RaceLemmas
+pub mod RaceMoveLemmas
+pub mod RaceStepLemmas
+pub mod RacePassLemmas

@@ -33,7 +33,7 @@ no_slot (s ∷ slots) zero v h = absurd (omega arith)
 no_slot (s ∷ slots) (suc k) v h = ap (λ l. s ∷ l) (no_slot slots k v (omega arith))
 
 -- what waits on the stack once the position stands in a slot
-waits_saved : (start at k n : ℕ) (slots : List (Option ℕ)) (frames : List Frame) →
+pub waits_saved : (start at k n : ℕ) (slots : List (Option ℕ)) (frames : List Frame) →
     waits start at (frames_of slots (Save k n) ++ frames) (slice_set slots k (Some at))
     ≡ (trace start (slice_set slots k (Some at)), (n, at)) ∷ waits start at frames slots
 waits_saved start at k n slots frames =

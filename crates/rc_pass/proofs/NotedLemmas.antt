@@ -10,7 +10,7 @@ use Rattle.rc_program.specs.Answer.{names, last_visit, last_of, pattern_at}
 use Rattle.rc_program.proofs.AnswerLemmas.{last_of_more}
 use Rattle.rc_pass.specs.Trace.{Trace, note, note_at}
 
-start_kept : (q : Place) (h : Trace) (i : ℕ) → (note_at q h i).start ≡ h.start
+pub start_kept : (q : Place) (h : Trace) (i : ℕ) → (note_at q h i).start ≡ h.start
 start_kept (choice ns) h i = refl
 start_kept (byte rs n) h i = refl
 start_kept (branch ts) h i = refl

@@ -10,7 +10,7 @@ use Rattle.rc_pass.specs.declared.pass.Ending.{Ending}
 use Rattle.rc_pass.proofs.MoveLemmas.{Ends}
 use Rattle.rc_pass.proofs.StartLemmas.{starts_give, waiting_over, starts_skipped}
 
-none_in : (n lo hi : ℕ) (ts : List Thread) → AllIn n lo hi ts → hi < lo → ts ≡ []
+pub none_in : (n lo hi : ℕ) (ts : List Thread) → AllIn n lo hi ts → hi < lo → ts ≡ []
 none_in n lo hi [] all h = refl
 none_in n lo hi (t ∷ ts) all h = absurd (omega (arith, h, all.0))
 

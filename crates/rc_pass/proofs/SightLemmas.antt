@@ -1,7 +1,7 @@
 -- What a pass sees, and the search itself.
-use Rattle.std.proofs.Common.{ℕ, ◌+◌, [], ◌∷◌, List, length, Option, Some, None, IsTrue, refl, eqb-true, eq-eqb, nat_eq, false}
+use Rattle.std.proofs.Common.{ℕ, ◌+◌, List, length, Option, None, IsTrue, refl, false}
 use Rattle.std.proofs.lemmas.Bool.{and_parts, and_from}
-use Rattle.rc_walks.specs.Walks.{Pair, IsIn, IsWalk, IsFirstWalk, HasNoWalk}
+use Rattle.rc_walks.specs.Walks.{Pair, IsIn, IsWalk}
 use Rattle.rc_walks.proofs.TryLemmas.{IsBounded}
 use Rattle.rc_program.specs.Text.{holds, ahead}
 use Rattle.rc_program.specs.Program.{place_at, is_match_place}
@@ -11,7 +11,6 @@ use Rattle.rc_program.proofs.WayLemmas.{no_way_from}
 use Rattle.rc_program.proofs.AnswerLemmas as answers
 use Rattle.rc_program.proofs.AnswerLemmas.{walk_ends}
 use Rattle.rc_program.proofs.GreatestLemmas.{other_ends}
-use Rattle.rc_program.proofs.LongestLemmas.{EndsThere}
 use Rattle.rc_pass.specs.Sights.{Sight, sight_of, is_there, ends, next_of, IsFirstFrom, HasNoWalkFrom}
 
 -- a walk that may end at a pair may end at its place
@@ -58,23 +57,3 @@ module _ (s : Search) where
 
   pub first_whole : (x : ℕ) (w : List Pair) → IsFirstFrom (sight_of None s) x w → whole.IsFirstFrom s x w
   first_whole x w h = record { is_walk = walk_whole None h.is_walk; is_least = λ v b. h.is_least v (walk_seen b) }
-
-  -- where it may end at e alone, those to e are seen
-  there : (e : ℕ) (n : Pair) → Narrow (Some e) n → EndsThere Ends e n
-  there e n h = let a = and_parts (whole.ends s n) (nat_eq n.1 e) h in (a.0, eqb-true n.1 e a.1)
-
-  seen_there : (e : ℕ) (n : Pair) → EndsThere Ends e n → Narrow (Some e) n
-  seen_there e n h = and_from (whole.ends s n) (nat_eq n.1 e) h.0 (eq-eqb n.1 e h.1)
-
-  walk_there : (e : ℕ) {p f w : List Pair} → IsWalk (whole.next_of s) (Narrow (Some e)) p f w → IsWalk (whole.next_of s) (EndsThere Ends e) p f w
-  walk_there e {w = w} b = other_ends (whole.next_of s) (Narrow (Some e)) (EndsThere Ends e) b (there e (last_of w) (walk_ends (whole.next_of s) (Narrow (Some e)) b))
-
-  walk_to : (e : ℕ) {p f w : List Pair} → IsWalk (whole.next_of s) (EndsThere Ends e) p f w → IsWalk (whole.next_of s) (Narrow (Some e)) p f w
-  walk_to e {w = w} b =
-      other_ends (whole.next_of s) (EndsThere Ends e) (Narrow (Some e)) b (seen_there e (last_of w) (walk_ends (whole.next_of s) (EndsThere Ends e) b))
-
-  pub first_there : (e x : ℕ) (w : List Pair) → IsFirstFrom (sight_of (Some e) s) x w → IsFirstWalk (whole.next_of s) (EndsThere Ends e) [] ((0, x) ∷ []) w
-  first_there e x w h = record { is_walk = walk_there e h.is_walk; is_least = λ v b. h.is_least v (walk_to e b) }
-
-  pub none_there : (e x : ℕ) → HasNoWalkFrom (sight_of (Some e) s) x → HasNoWalk (whole.next_of s) (EndsThere Ends e) [] ((0, x) ∷ [])
-  none_there e x none v b = none v (walk_to e b)

@@ -38,7 +38,7 @@ fn is_shut(spot: &Spot, place: usize) -> bool
 
 /// The first way on from the place, where the second is seen to be shut; else the place itself.
 #[inline(always)]
-fn way_on(spot: &Spot, place: usize) -> usize
+pub(crate) fn way_on(spot: &Spot, place: usize) -> usize
     ghost text: { Searched }
     requires here { IsHere spot.now text }
     requires place_in { place < size spot.now.course }

@@ -11,6 +11,8 @@ pub mod kinds;
 pub mod longest;
 mod moves;
 mod pass;
+mod race;
+mod race_closure;
 mod scratch;
 pub mod search;
 mod sides;

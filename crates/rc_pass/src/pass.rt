@@ -167,7 +167,7 @@ fn advance(
 }
 
 /// Forgets what stands in the slots.
-fn empty(slots: &mut Vec<Option<usize>>)
+pub(crate) fn empty(slots: &mut Vec<Option<usize>>)
     ensures slots { slots.new.items ≡ replicate (length slots.old.items) None }
     ensures capacity { vec_capacity slots.new ≡ vec_capacity slots.old }
 {
@@ -225,7 +225,7 @@ pub fn is_done(curr: &Threads, best: Option<Ending>, at: usize, last: usize) -> 
 }
 
 /// Whether no thread is left to go on, and no walk has ended.
-fn is_idle(curr: &Threads, best: Option<Ending>) -> bool
+pub(crate) fn is_idle(curr: &Threads, best: Option<Ending>) -> bool
     ensures { IsTrue result → (length curr.now.items ≡ 0) × (is_none best ≡ true) }
 {
     curr.len() == 0 && best.is_none()
@@ -234,7 +234,7 @@ fn is_idle(curr: &Threads, best: Option<Ending>) -> bool
 /// Where a pass goes on that has come to `at`: there, or, where it is idle and `last` is not yet
 /// reached, at the next position where a needle stands. None where it is idle and no needle stands
 /// from `at` on.
-fn next_position<C: Cursor>(
+pub(crate) fn next_position<C: Cursor>(
     input: &mut Input<C>,
     course: Course,
     prefilter: Option<&Prefilter>,

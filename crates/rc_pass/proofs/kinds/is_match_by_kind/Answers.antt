@@ -1,7 +1,7 @@
 use Rattle.std.proofs.Common.{◌∙◌}
 use Rattle.rc_program.specs.Programs.{search_of}
 use Rattle.rc_pass.proofs.EarlyLemmas.{greatest_answer}
-use Rattle.rc_pass.proofs.ReachLemmas.{greatest_longest}
+use Rattle.rc_pass.proofs.LongestLemmas.{greatest_longest}
 use Rattle.rc_pass.proofs.kinds.is_match_by_kind.Goals as goal
 
 pub returns-else-program-clause-found : goal.returns-else-program-clause-found

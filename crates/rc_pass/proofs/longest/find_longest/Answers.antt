@@ -1,7 +1,7 @@
 use Rattle.std.proofs.Common.{◌∙◌, sym, ap, Some}
 use Rattle.rc_text.specs.Found.{Found}
 use Rattle.rc_program.specs.Programs.{search_of}
-use Rattle.rc_pass.proofs.ReachLemmas.{longest_is, longest_none, within}
+use Rattle.rc_pass.proofs.LongestLemmas.{longest_is, longest_none, within}
 use Rattle.rc_pass.proofs.longest.find_longest.Goals as goal
 
 pub returns-in_default-clause-found : goal.returns-in_default-clause-found

@@ -5,7 +5,7 @@ use Rattle.rc_text.specs.Found.{Found}
 use Rattle.rc_program.specs.Answer.{Search}
 use Rattle.rc_program.specs.Longest.{longest_groups}
 use Rattle.rc_program.specs.Programs.{search_of}
-use Rattle.rc_pass.proofs.ReachLemmas.{longest_groups_are, longest_is, longest_none, within}
+use Rattle.rc_pass.proofs.LongestLemmas.{longest_groups_are, longest_is, longest_none, within}
 use Rattle.rc_pass.proofs.longest.search_longest_slots.Goals as goal
 
 pub returns-in_default-clause-pattern : goal.returns-in_default-clause-pattern

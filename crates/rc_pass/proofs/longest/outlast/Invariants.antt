@@ -2,8 +2,8 @@ use Rattle.std.proofs.Common.{◌+◌, ◌-◌, ◌*◌, ◌≤◌, length}
 use Rattle.rc_text.specs.Text.{Keeps}
 use Rattle.rc_program.specs.Programs.{search_of}
 use Rattle.rc_pass.specs.Scratches.{IsSame}
-use Rattle.rc_pass.proofs.ReachLemmas.{PassedBelow}
-use Rattle.rc_pass.proofs.longest.extent.Given as goal
+use Rattle.rc_pass.proofs.LongestLemmas.{PassedBelow}
+use Rattle.rc_pass.proofs.longest.outlast.Given as goal
 
 abbrev pub invariant-starts : goal.invariant-starts
 invariant-starts g l = record {
@@ -16,3 +16,6 @@ invariant-starts g l = record {
 
 abbrev pub decreases-starts : goal.decreases-starts
 decreases-starts g l = l.last + 1 - l.from
+
+abbrev pub ghost-race : goal.ghost-race
+ghost-race g a = a.input.now
