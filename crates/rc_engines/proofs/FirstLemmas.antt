@@ -1,11 +1,12 @@
 -- Searches that ask first whether a match begins where the first one may.
-use Rattle.std.proofs.Common.{◌≡◌, ◌∙◌, ℕ, ◌+◌, ◌-◌, ◌<◌, ◌≤◌, Bool, true, false, not, ◌||◌, true≢false, List, length, Option, Some, None, Result, Ok, Err, IfOk, sym, subst, ap, ap₂, refl, arith, inl, inr, slice_get, slice_range, take, min, max}
+use Rattle.std.proofs.Common.{◌≡◌, ◌↔◌, ◌∙◌, ℕ, ◌+◌, ◌-◌, ◌<◌, ◌≤◌, Bool, true, false, not, ◌||◌, true≢false, List, length, Option, Some, None, Result, Ok, Err, IfOk, sym, subst, ap, ap₂, refl, arith, inl, inr, slice_get, slice_range, take, min, max}
 use Rattle.std.specs.Prelude.{slice_index}
 use Rattle.std.proofs.lemmas.Bool.{cases_lt}
 use Rattle.std.proofs.lemmas.List.{get_or-take, length-take-le}
 use Rattle.std.proofs.lemmas.Option.{slice_get-get_or}
 use Rattle.rc_text.proofs.Ranges.{slice_get-slice_range}
 use Rattle.rc_text.specs.Found.{Found}
+use Rattle.rc_walks.specs.Walks.{Pair}
 use Rattle.rc_text.specs.Text.{Searched, Keeps, is_boundary, low, high}
 use Rattle.rc_text.specs.declared.types.MatchError.{MatchError}
 use Rattle.rc_text.specs.declared.types.Anchored.{Anchored}
@@ -13,9 +14,11 @@ use Rattle.rc_text.specs.declared.types.Anchored.TheVariants.{Yes, No}
 use Rattle.rc_pattern.specs.Re.{Re}
 use Rattle.rc_program.specs.Text.{Text}
 use Rattle.rc_program.specs.Program.{Place, program}
-use Rattle.rc_program.specs.Answer.{Search, HasNoWalkFrom, anywhere, answer, at_start}
+use Rattle.rc_program.specs.Answer.{Search, Chosen, HasNoWalkFrom, IsFirstFrom, anywhere, answer, at_start, found}
+use Rattle.rc_program.specs.Longest.{HasNoAnswerOf, IsAnswerOf, IsLongestFrom, longest}
 use Rattle.rc_program.specs.Sought.{anchoring_of, search_over, text_of}
 use Rattle.rc_program.proofs.AnswerLemmas.{answer_law}
+use Rattle.rc_program.proofs.ReachLemmas.{longest_law}
 use Rattle.rc_literal.specs.Guards.{Guards}
 use Rattle.rc_literal.specs.Needles.{NoneAt}
 use Rattle.rc_literal.specs.Tables.{AreSome, BeginsWithByte, numbered}
@@ -23,7 +26,8 @@ use Rattle.rc_literal.proofs.RelationLemmas.{get_some, within_true}
 use Rattle.rc_literal.proofs.StandLemmas.{begins_with}
 use Rattle.rc_states.specs.Laws.{may_end_at}
 use Rattle.rc_states.specs.TableKinds.{IsAnswerBy, answer_by}
-use Rattle.rc_states.specs.declared.kind.TableKind.TheVariants.{LeftmostFirst as leftmost_first}
+use Rattle.rc_states.specs.declared.kind.TableKind.{TableKind}
+use Rattle.rc_states.specs.declared.kind.TableKind.TheVariants.{All as all_matches, LeftmostFirst as leftmost_first, LeftmostLongest as leftmost_longest}
 use Rattle.rc_automaton.specs.Machine.{Machine, IsAsked}
 use Rattle.rc_automaton.specs.Ended.{HasEnded}
 use Rattle.rc_automaton.specs.declared.ended.Ended.{Ended}
@@ -32,6 +36,7 @@ use Rattle.rc_automaton.specs.declared.ended.Met.{Met}
 use Rattle.rc_spans.specs.declared.search.Aim.{Aim}
 use Rattle.rc_spans.specs.Aims.{AreHalvesOf, search_for}
 use Rattle.rc_spans.specs.Ends.{told_of}
+use Rattle.rc_spans.specs.Leftmost.{IsLeftmost}
 use Rattle.rc_spans.specs.Machines.{IsCase}
 use Rattle.rc_spans.proofs.LeftmostLemmas.{leftmost_law}
 use Rattle.rc_spans.proofs.LegLemmas.{free_case}
@@ -62,6 +67,16 @@ module _ (needles : List (List ℕ)) (some : AreSome needles) (content piece : L
 
 -- WHERE NO WALK BEGINS BEFORE
 
+-- the match is told exactly where it is that of a walk that counts
+abbrev IsTold : Option Found → Search → (ℕ → List Pair → Type 0) → Found → Type 0
+IsTold o s Counts m = (o ≡ Some m) ↔ ((c : Chosen) × IsAnswerOf s Counts c × (found s c ≡ m))
+
+first_told : (s : Search) (m : Found) → IsTold (answer s) s (IsFirstFrom s) m
+first_told s m = (
+  λ e. let r = (answer_law.answer_some s m).0 e in (r.0, (longest_law.first_is s r.0).1 r.1, r.2),
+  λ r. (answer_law.answer_some s m).1 (r.0, (longest_law.first_is s r.0).0 r.1, r.2),
+)
+
 module _ (places : List Place) (text : Text) (lo hi : ℕ) where
   -- the search from x on
   abbrev pub Any : ℕ → Search
@@ -71,50 +86,81 @@ module _ (places : List Place) (text : Text) (lo hi : ℕ) where
   abbrev pub Here : ℕ → Search
   Here x = record { places = places; text = text; lo = x; hi = hi; anchoring = at_start; passes_over = false }
 
-  pub none_anywhere : ((x : ℕ) → lo ≤ x → x ≤ hi → HasNoWalkFrom (Any lo) x) → None ≡ answer (Any lo)
-  none_anywhere none = sym ((answer_law.answer_none (Any lo)).1 (λ y is. inl (none y is.0 is.1)))
+  -- Whichever walk of a start counts.
+  module _ (Counts : ℕ → List Pair → Type 0) (gives : Search → Option Found)
+      (any_some : (x : ℕ) (m : Found) → IsTold (gives (Any x)) (Any x) Counts m)
+      (any_none : (x : ℕ) → (gives (Any x) ≡ None) ↔ HasNoAnswerOf (Any x) Counts)
+      (here_some : (x : ℕ) (m : Found) → IsTold (gives (Here x)) (Here x) Counts m) where
+    none_of : ((x : ℕ) → lo ≤ x → x ≤ hi → HasNoWalkFrom (Any lo) x) → None ≡ gives (Any lo)
+    none_of none = sym ((any_none lo).1 (λ y is. inl (none y is.0 is.1)))
+
+    module _ (from : ℕ) (above : lo ≤ from) (none : (x : ℕ) → lo ≤ x → x < from → HasNoWalkFrom (Any lo) x) where
+      here_of : (m : Found) → Some m ≡ gives (Here from) → Some m ≡ gives (Any lo)
+      here_of m e =
+          let r = (here_some from m).0 (sym e) in
+          let a = r.1 in
+          let start : r.0.start ≡ from = a.is_start.2 refl in
+          sym ((any_some lo m).1 (
+            r.0,
+            record {
+              is_start = (omega (arith, above, start), a.is_start.1, λ t. absurd (true≢false (sym t)));
+              counts = a.counts;
+              allowed = a.allowed;
+              none_before = λ y is lt. inl (none y is.0 (omega (arith, lt, start)));
+            },
+            r.2,
+          ))
+
+      later_of : (o : Option Found) → o ≡ gives (Any from) → o ≡ gives (Any lo)
+      later_of None e =
+          let r = (any_none from).0 (sym e) in
+          sym ((any_none lo).1 (λ y is. elim (cases_lt y from) [
+            | inl h ↦ inl (none y is.0 h)
+            | inr h ↦ r y (h, is.1, λ t. absurd (true≢false (sym t)))
+          ]))
+      later_of (Some m) e =
+          let r = (any_some from m).0 (sym e) in
+          let a = r.1 in
+          let first = a.is_start.0 in
+          sym ((any_some lo m).1 (
+            r.0,
+            record {
+              is_start = (omega (arith, above, first), a.is_start.1, λ t. absurd (true≢false (sym t)));
+              counts = a.counts;
+              allowed = a.allowed;
+              none_before = λ y is lt. elim (cases_lt y from) [
+                | inl h ↦ inl (none y is.0 h)
+                | inr h ↦ a.none_before y (h, is.1, λ t. absurd (true≢false (sym t))) lt
+              ];
+            },
+            r.2,
+          ))
+
+  -- by the kind
+  pub none_anywhere : (kind : TableKind) → IsLeftmost kind → ((x : ℕ) → lo ≤ x → x ≤ hi → HasNoWalkFrom (Any lo) x) → None ≡ answer_by kind (Any lo)
+  none_anywhere all_matches l = absurd l
+  none_anywhere leftmost_first l =
+      none_of (IsFirstFrom (Any lo)) answer (λ x. first_told (Any x)) (λ x. answer_law.answer_none (Any x)) (λ x. first_told (Here x))
+  none_anywhere leftmost_longest l =
+      none_of (IsLongestFrom (Any lo)) longest (λ x. longest_law.answer_some (Any x)) (λ x. longest_law.answer_none (Any x))
+      (λ x. longest_law.answer_some (Here x))
 
   module _ (from : ℕ) (above : lo ≤ from) (none : (x : ℕ) → lo ≤ x → x < from → HasNoWalkFrom (Any lo) x) where
-    pub here_first : (m : Found) → Some m ≡ answer (Here from) → Some m ≡ answer (Any lo)
-    here_first m e =
-        let r = (answer_law.answer_some (Here from) m).0 (sym e) in
-        let a = r.1 in
-        let start : r.0.start ≡ from = a.is_start.2 refl in
-        sym ((answer_law.answer_some (Any lo) m).1 (
-          r.0,
-          record {
-            is_start = (omega (arith, above, start), a.is_start.1, λ t. absurd (true≢false (sym t)));
-            is_first = a.is_first;
-            allowed = a.allowed;
-            none_before = λ y is lt. inl (none y is.0 (omega (arith, lt, start)));
-          },
-          r.2,
-        ))
+    pub here_first : (kind : TableKind) → IsLeftmost kind → (m : Found) → Some m ≡ answer_by kind (Here from) → Some m ≡ answer_by kind (Any lo)
+    here_first all_matches l = absurd l
+    here_first leftmost_first l =
+        here_of (IsFirstFrom (Any lo)) answer (λ x. first_told (Any x)) (λ x. answer_law.answer_none (Any x)) (λ x. first_told (Here x)) from above none
+    here_first leftmost_longest l =
+        here_of (IsLongestFrom (Any lo)) longest (λ x. longest_law.answer_some (Any x)) (λ x. longest_law.answer_none (Any x))
+        (λ x. longest_law.answer_some (Here x)) from above none
 
-    pub later_first : (o : Option Found) → o ≡ answer (Any from) → o ≡ answer (Any lo)
-    later_first None e =
-        let r = (answer_law.answer_none (Any from)).0 (sym e) in
-        sym ((answer_law.answer_none (Any lo)).1 (λ y is. elim (cases_lt y from) [
-          | inl h ↦ inl (none y is.0 h)
-          | inr h ↦ r y (h, is.1, λ t. absurd (true≢false (sym t)))
-        ]))
-    later_first (Some m) e =
-        let r = (answer_law.answer_some (Any from) m).0 (sym e) in
-        let a = r.1 in
-        let first = a.is_start.0 in
-        sym ((answer_law.answer_some (Any lo) m).1 (
-          r.0,
-          record {
-            is_start = (omega (arith, above, first), a.is_start.1, λ t. absurd (true≢false (sym t)));
-            is_first = a.is_first;
-            allowed = a.allowed;
-            none_before = λ y is lt. elim (cases_lt y from) [
-              | inl h ↦ inl (none y is.0 h)
-              | inr h ↦ a.none_before y (h, is.1, λ t. absurd (true≢false (sym t))) lt
-            ];
-          },
-          r.2,
-        ))
+    pub later_first : (kind : TableKind) → IsLeftmost kind → (o : Option Found) → o ≡ answer_by kind (Any from) → o ≡ answer_by kind (Any lo)
+    later_first all_matches l = absurd l
+    later_first leftmost_first l =
+        later_of (IsFirstFrom (Any lo)) answer (λ x. first_told (Any x)) (λ x. answer_law.answer_none (Any x)) (λ x. first_told (Here x)) from above none
+    later_first leftmost_longest l =
+        later_of (IsLongestFrom (Any lo)) longest (λ x. longest_law.answer_some (Any x)) (λ x. longest_law.answer_none (Any x))
+        (λ x. longest_law.answer_some (Here x)) from above none
 
 -- in the terms of an input
 pub as_any : (aim : Aim) (hs : List Re) (terminator : ℕ) (s : Searched) → AsksFirst aim s.anchored →
@@ -132,14 +178,15 @@ as_any aim hs terminator s goes =
 -- ONE RUN
 
 -- what was met is the end of the match that begins at the position
-abbrev pub IsMetHere : Search → ℕ → Option Met → Type 0
-IsMetHere s from None = None ≡ answer (starting_at from s)
-IsMetHere s from (Some met) = (from ≤ met.at) × (met.at ≤ s.hi)
-    × ((let f : Found = record { pattern = met.pattern; start = from; end = met.at } in Some f) ≡ answer (starting_at from s))
+abbrev pub IsMetHere : TableKind → Search → ℕ → Option Met → Type 0
+IsMetHere kind s from None = None ≡ answer_by kind (starting_at from s)
+IsMetHere kind s from (Some met) = (from ≤ met.at) × (met.at ≤ s.hi)
+    × ((let f : Found = record { pattern = met.pattern; start = from; end = met.at } in Some f) ≡ answer_by kind (starting_at from s))
 
-pub met_so : (s : Search) (from : ℕ) (met : Met) (pattern end : ℕ) → IsMetHere s from (Some met) → pattern ≡ met.pattern → end ≡ min (max met.at from) s.hi →
-    (let f : Found = record { pattern = pattern; start = from; end = end } in Some f) ≡ answer (starting_at from s)
-met_so s from met pattern end h same is =
+pub met_so : (kind : TableKind) (s : Search) (from : ℕ) (met : Met) (pattern end : ℕ) → IsMetHere kind s from (Some met) → pattern ≡ met.pattern →
+    end ≡ min (max met.at from) s.hi →
+    (let f : Found = record { pattern = pattern; start = from; end = end } in Some f) ≡ answer_by kind (starting_at from s)
+met_so kind s from met pattern end h same is =
     let low = h.0 in
     let high = h.1 in
     let there : end ≡ met.at = omega (arith, is, low, high) in
@@ -150,9 +197,9 @@ module _ (AreOf : Machine → Machine → Type 0) (aim : Aim) (hs : List Re) (te
   abbrev S : Search
   S = search_for aim hs terminator s
 
-  case : IsCase hs leftmost_first of.ahead of.back Yes (starting_at from S)
+  case : IsCase hs aim.kind of.ahead of.back Yes (starting_at from S)
   case =
-      let c = subst (λ k. IsCase hs k of.ahead of.back No S) goes.kind (free_case AreOf aim hs terminator s of (omega (arith, above, below)) goes.free) in
+      let c = free_case AreOf aim hs terminator s of (omega (arith, above, below)) goes.free in
       let in_slice = c.inside in
       record {
         machines = c.machines;
@@ -166,11 +213,11 @@ module _ (AreOf : Machine → Machine → Type 0) (aim : Aim) (hs : List Re) (te
   may : (at : ℕ) → may_end_at (starting_at from S) at ≡ true
   may at = ap (λ b. not b || is_boundary s.content at) goes.all
 
-  met_here : (e : Ended) → HasEnded of.ahead (text_of terminator s) (high s) from Yes false false e → IfOk (told_of e) (IsMetHere S from)
-  met_here (Finds None) h = sym (leftmost_law.none hs leftmost_first of.ahead of.back Yes (starting_at from S) from tt case (leftmost_law.begins hs leftmost_first of.ahead of.back Yes (starting_at from S) case) h)
+  met_here : (e : Ended) → HasEnded of.ahead (text_of terminator s) (high s) from Yes false false e → IfOk (told_of e) (IsMetHere aim.kind S from)
+  met_here (Finds None) h = sym (leftmost_law.none hs aim.kind of.ahead of.back Yes (starting_at from S) from goes.kind case (leftmost_law.begins hs aim.kind of.ahead of.back Yes (starting_at from S) case) h)
   met_here (Finds (Some met)) h =
-      let r = leftmost_law.at_start hs leftmost_first of.ahead of.back Yes (starting_at from S) from h.0 met.at tt case
-      (leftmost_law.begins hs leftmost_first of.ahead of.back Yes (starting_at from S) case) h.2 (may met.at) refl in
+      let r = leftmost_law.at_start hs aim.kind of.ahead of.back Yes (starting_at from S) from h.0 met.at goes.kind case
+      (leftmost_law.begins hs aim.kind of.ahead of.back Yes (starting_at from S) case) h.2 (may met.at) refl in
       (r.0, r.1, sym (r.2 ∙ ap (λ (p : ℕ). let f : Found = record { pattern = p; start = from; end = met.at } in Some f) h.1))
   met_here (Idle i) h = absurd (true≢false (sym h.0))
   met_here (Quit b p) h = tt
@@ -178,7 +225,7 @@ module _ (AreOf : Machine → Machine → Type 0) (aim : Aim) (hs : List Re) (te
 
   -- in code
   pub here_told : (e : Ended) → ((m n : Machine) → AreOf m n → IsAsked m Yes → HasEnded m (text_of m.setting.terminator s) (high s) from Yes false false e) →
-      IfOk (told_of e) (IsMetHere S from)
+      IfOk (told_of e) (IsMetHere aim.kind S from)
   here_told e ends =
       let ms = of.machines in
       met_here e (subst (λ x. HasEnded of.ahead (text_of x s) (high s) from Yes false false e) (ap (λ (m : Machine). m.setting.terminator) ms.ahead)
@@ -226,38 +273,35 @@ module _ (aim : Aim) (hs : List Re) (terminator : ℕ) (s t : Searched) (keeps :
   moved : (x : ℕ) → HasNoWalkFrom (search_for aim hs terminator t) x → HasNoWalkFrom (T (low s)) x
   moved x h = subst (λ (q : Search). HasNoWalkFrom q x) (kept_search aim hs terminator s t keeps ∙ same) h
 
-  pub no_first : ((x : ℕ) → lo ≤ x → x ≤ hi → HasNoWalkFrom (search_for aim hs terminator t) x) → None ≡ answer (search_for aim hs terminator s)
+  pub no_first : ((x : ℕ) → lo ≤ x → x ≤ hi → HasNoWalkFrom (search_for aim hs terminator t) x) → None ≡ answer_by aim.kind (search_for aim hs terminator s)
   no_first none =
-      none_anywhere (program hs) (text_of terminator s) (low s) (high s) (λ x low le. moved x (none x (omega (arith, low, is_lo)) (omega (arith, le, is_hi))))
-      ∙ sym (ap answer same)
+      none_anywhere (program hs) (text_of terminator s) (low s) (high s) aim.kind goes.kind (λ x low le. moved x (none x (omega (arith, low, is_lo)) (omega (arith, le, is_hi))))
+      ∙ sym (ap (answer_by aim.kind) same)
 
   module _ (from : ℕ) (above : lo ≤ from) (none : (x : ℕ) → lo ≤ x → x < from → HasNoWalkFrom (search_for aim hs terminator t) x) where
     passed : (x : ℕ) → low s ≤ x → x < from → HasNoWalkFrom (T (low s)) x
     passed x low lt = moved x (none x (omega (arith, low, is_lo)) lt)
 
     module _ (u : Searched) (kept : Keeps s u) where
-      pub found_here : (m : Found) → Some m ≡ answer (starting_at from (search_for aim hs terminator u)) → Some m ≡ answer (search_for aim hs terminator s)
+      pub found_here : (m : Found) → Some m ≡ answer_by aim.kind (starting_at from (search_for aim hs terminator u)) → Some m ≡ answer_by aim.kind (search_for aim hs terminator s)
       found_here m h =
-          here_first (program hs) (text_of terminator s) (low s) (high s) from (omega (arith, above, is_lo)) passed m
-          (h ∙ ap (λ q. answer (starting_at from q)) (kept_search aim hs terminator s u kept ∙ same))
-          ∙ sym (ap answer same)
+          here_first (program hs) (text_of terminator s) (low s) (high s) from (omega (arith, above, is_lo)) passed aim.kind goes.kind m
+          (h ∙ ap (λ q. answer_by aim.kind (starting_at from q)) (kept_search aim hs terminator s u kept ∙ same))
+          ∙ sym (ap (answer_by aim.kind) same)
 
       pub found_later : (r : Result (Option Found) MatchError) → IfOk r (IsAnswerBy aim.kind aim.earliest (record (search_for aim hs terminator u) { lo = from })) →
-          IfOk r (λ o. o ≡ answer (search_for aim hs terminator s))
+          IfOk r (λ o. o ≡ answer_by aim.kind (search_for aim hs terminator s))
       found_later (Err e) h = tt
       found_later (Ok o) h =
-          later_first (program hs) (text_of terminator s) (low s) (high s) from (omega (arith, above, is_lo)) passed o
-          (plain o (record (search_for aim hs terminator u) { lo = from }) h ∙ ap (λ (q : Search). answer (record q { lo = from })) (kept_search aim hs terminator s u kept ∙ same))
-          ∙ sym (ap answer same)
+          later_first (program hs) (text_of terminator s) (low s) (high s) from (omega (arith, above, is_lo)) passed aim.kind goes.kind o
+          (plain o (record (search_for aim hs terminator u) { lo = from }) h ∙ ap (λ (q : Search). answer_by aim.kind (record q { lo = from })) (kept_search aim hs terminator s u kept ∙ same))
+          ∙ sym (ap (answer_by aim.kind) same)
         where
-          plain : (o : Option Found) (q : Search) → IsAnswerBy aim.kind aim.earliest q o → o ≡ answer q
-          plain o q h = subst (λ e. IsAnswerBy leftmost_first e q o) goes.late (subst (λ k. IsAnswerBy k aim.earliest q o) goes.kind h)
+          plain : (o : Option Found) (q : Search) → IsAnswerBy aim.kind aim.earliest q o → o ≡ answer_by aim.kind q
+          plain o q h = subst (λ e. IsAnswerBy aim.kind e q o) goes.late h
 
--- for this kind of match
-pub by_kind : (aim : Aim) (anchored : Anchored) (s : Search) → AsksFirst aim anchored → answer_by aim.kind s ≡ answer s
-by_kind aim anchored s goes = ap (λ k. answer_by k s) goes.kind
-
-pub is_first_answer : (aim : Aim) (anchored : Anchored) (s : Search) (r : Result (Option Found) MatchError) → AsksFirst aim anchored → IfOk r (λ o. o ≡ answer s) →
-    IfOk r (IsAnswerBy aim.kind aim.earliest s)
-is_first_answer aim anchored s (Ok o) goes h = subst (λ e. IsAnswerBy aim.kind e s o) (sym goes.late) (h ∙ sym (by_kind aim anchored s goes))
+-- what is told whether or not any match would do
+pub is_first_answer : (aim : Aim) (anchored : Anchored) (s : Search) (r : Result (Option Found) MatchError) → AsksFirst aim anchored →
+    IfOk r (λ o. o ≡ answer_by aim.kind s) → IfOk r (IsAnswerBy aim.kind aim.earliest s)
+is_first_answer aim anchored s (Ok o) goes h = subst (λ e. IsAnswerBy aim.kind e s o) (sym goes.late) h
 is_first_answer aim anchored s (Err e) goes h = tt

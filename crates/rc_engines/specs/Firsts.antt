@@ -4,17 +4,17 @@ use Rattle.std.specs.Prelude.{◌≡◌, ℕ, false}
 use Rattle.rc_text.specs.declared.types.Anchored.{Anchored}
 use Rattle.rc_text.specs.declared.types.Anchored.TheVariants.{No}
 use Rattle.rc_program.specs.Answer.{Search, at_start}
-use Rattle.rc_states.specs.declared.kind.TableKind.TheVariants.{LeftmostFirst as leftmost_first}
 use Rattle.rc_spans.specs.declared.search.Aim.{Aim}
+use Rattle.rc_spans.specs.Leftmost.{IsLeftmost}
 
 -- the search for a match that begins at x
 abbrev pub starting_at : ℕ → Search → Search
 starting_at x s = record s { lo = x; anchoring = at_start }
 
--- The search asks first whether a match begins where the first one may: it isn't anchored, and seeks the preferred match alone, none of which is
--- passed over.
+-- The search asks first whether a match begins where the first one may: it isn't anchored, and seeks the match of the least start alone, the
+-- preferred one or the longest, none of which is passed over.
 pub record AsksFirst (aim : Aim) (anchored : Anchored) : Type 0 where
-  pub kind : aim.kind ≡ leftmost_first
+  pub kind : IsLeftmost aim.kind
   pub late : aim.earliest ≡ false
   pub all : aim.passes_over ≡ false
   pub free : anchored ≡ No

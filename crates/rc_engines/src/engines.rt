@@ -590,7 +590,7 @@ impl Engines {
     /// Whether the pass seeks the match alone before its groups: each of its threads has the slots of all patterns, and where these are many, they
     /// would be handed on at each byte for each pattern.
     fn finds_first(&self) -> bool {
-        self.patterns > FEW_PATTERNS && self.engine.kind != MatchKind::LeftmostLongest
+        self.patterns > FEW_PATTERNS
     }
 
     /// The pattern that a search finds, with the first of its slots. Without a match the slots stay. It takes memory as `find` does.

@@ -3,12 +3,12 @@ ghost use Rattle.std.specs.Prelude.{◌≡◌, ◌↔◌, ◌<◌, ◌≤◌, �
 ghost use Rattle.rc_text.specs.Text.{Keeps, low, high};
 ghost use Rattle.rc_pattern.specs.Re.{Re};
 ghost use Rattle.rc_program.specs.Program.{Place, program};
-ghost use Rattle.rc_program.specs.Answer.{HasNoWalkFrom, answer};
+ghost use Rattle.rc_program.specs.Answer.{HasNoWalkFrom};
 ghost use Rattle.rc_program.specs.Sought.{search_over};
 ghost use Rattle.rc_literal.specs.Guards.{Guards};
 ghost use Rattle.rc_literal.specs.Prefilters.{needles_of};
 ghost use Rattle.rc_literal.specs.Tables.{BeginsWithByte, numbered};
-ghost use Rattle.rc_states.specs.TableKinds.{IsAnswerBy};
+ghost use Rattle.rc_states.specs.TableKinds.{IsAnswerBy, answer_by};
 ghost use Rattle.rc_spans.specs.Aims.{AreHalvesOf, search_for};
 ghost use Rattle.rc_engines.specs.Firsts.{AsksFirst, starting_at};
 
@@ -24,14 +24,16 @@ use rc_text::types::{Anchored, Match, MatchError, Span};
 /// So many bytes are looked at one by one, before the next needle is sought.
 const NEAR: usize = 16;
 
-/// Whether a search asks first whether a match begins where the first one may: it isn't anchored, and seeks the preferred match alone, none of which
-/// is passed over.
+/// Whether a search asks first whether a match begins where the first one may: it isn't anchored, and seeks the match of the least start alone, the
+/// preferred one or the longest, none of which is passed over.
 #[inline(always)]
 fn asks_first(aim: Aim, anchored: Anchored) -> bool
     ensures { IsTrue result ↔ AsksFirst aim anchored }
 {
     match (aim.kind, anchored) {
-        (TableKind::LeftmostFirst, Anchored::No) => !aim.earliest && !aim.passes_over,
+        (TableKind::LeftmostFirst | TableKind::LeftmostLongest, Anchored::No) => {
+            !aim.earliest && !aim.passes_over
+        }
         _ => false,
     }
 }
@@ -82,7 +84,7 @@ fn first_start<C: Cursor>(
     Some(start.from)
 }
 
-/// The match that begins at the position, if one does. An `Err` says why the tables tell nothing.
+/// The match of the kind that begins at the position, if one does. An `Err` says why the tables tell nothing.
 #[inline(always)]
 fn find_here<H: Halves, C: Cursor>(
     halves: &H,
@@ -98,7 +100,7 @@ fn find_here<H: Halves, C: Cursor>(
     ensures cache { H.IsCache halves.now cache.new }
     ensures keeps { Keeps input.old input.new }
     ensures found { (aim : Aim) (hs : List Re) (terminator : ℕ) → AreHalvesOf (H.AreOf halves.now) aim hs terminator → AsksFirst aim input.old.anchored
-        → IfOk result (λ found. found ≡ answer (starting_at from (search_for aim hs terminator input.old))) }
+        → IfOk result (λ found. found ≡ answer_by aim.kind (starting_at from (search_for aim hs terminator input.old))) }
     ensures within { IfOk result (λ found. IfSome found (λ m. (m.start ≡ from) × (m.start ≤ m.end) × (m.end ≤ bound))) }
 {
     let ended = halves.run_forwards(cache, input, Anchored::Yes, from, false, false, 0);
@@ -135,8 +137,8 @@ pub(crate) fn find_later<H: Halves, C: Cursor>(
     found
 }
 
-/// The preferred match, where each begins with a needle: a run from where the first may begin tells it, if one begins there; else it is sought
-/// from there on.
+/// The match of the least start, where each begins with a needle: a run from where the first may begin tells it, if one begins there; else it is
+/// sought from there on.
 #[inline(always)]
 fn find_by_first<H: Halves, C: Cursor>(
     halves: &H,
@@ -150,7 +152,7 @@ fn find_by_first<H: Halves, C: Cursor>(
     ensures cache { H.IsCache halves.now cache.new }
     ensures keeps { Keeps input.old input.new }
     ensures found { (hs : List Re) (terminator : ℕ) → AreHalvesOf (H.AreOf halves.now) aim hs terminator → Guards (program hs) terminator (needles_of needles.now)
-        → IfOk result (λ found. found ≡ answer (search_for aim hs terminator input.old)) }
+        → IfOk result (λ found. found ≡ answer_by aim.kind (search_for aim hs terminator input.old)) }
     ensures within { IfOk result (λ found. IfSome found (λ m. (low input.old ≤ m.start) × (m.start ≤ m.end) × (m.end ≤ high input.old))) }
 {
     let hi = high(input);
@@ -167,8 +169,8 @@ fn find_by_first<H: Halves, C: Cursor>(
     find_later(halves, cache, input, aim, from)
 }
 
-/// The match that `find` finds, where each begins with a needle. A search for the preferred one, which isn't anchored and passes none over, asks
-/// first whether one begins where the first may. Each other search is that of `find`.
+/// The match that `find` finds, where each begins with a needle. A search for that of the least start, which isn't anchored and passes none over,
+/// asks first whether one begins where the first may. Each other search is that of `find`.
 #[inline(always)]
 pub(crate) fn find_first<H: Halves, C: Cursor>(
     halves: &H,

@@ -24,9 +24,9 @@ pub struct FindMatches<'r, C: Cursor> {
 
 /// The matches of a regex in an input, from left to right, each with its groups.
 ///
-/// Each call of `next` searches, and takes the memory of the captures that it gives, and no other. It keeps the regex, and the input
-/// but for where its span starts. Want of memory is an item, after which None comes, whatever the input becomes; so it does after the
-/// last match.
+/// Each call of `next` searches, and takes the memory of one match's captures, and no other: it gives them with the match, or gives the
+/// memory back where none is left. It keeps the regex, and the input but for where its span starts. Want of memory is an item, where a
+/// match is left, after which None comes, whatever the input becomes; so it does after the last match.
 #[derive(Drop)]
 pub struct CapturesMatches<'r, C: Cursor> {
     pub(crate) seeker: GroupSeeker<'r>,

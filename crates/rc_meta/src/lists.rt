@@ -26,8 +26,9 @@ pub struct FindMatchesWith<'r, 'c, 'i, C: Cursor> {
 
 /// The matches of a regex in an input, from left to right, each with its groups, in a cache that is lent as the input is.
 ///
-/// Each call of `next` searches, and takes the memory of the captures that it gives, and no other. It keeps what a call of
-/// `FindMatchesWith` keeps. Want of memory is an item, after which None comes; so it does after the last match.
+/// Each call of `next` searches, and takes the memory of one match's captures, and no other: it gives them with the match, or gives the memory
+/// back where none is left. It keeps what a call of `FindMatchesWith` keeps. Want of memory is an item, where a match is left, after which None
+/// comes; so it does after the last match.
 #[derive(Drop)]
 pub struct CapturesMatchesWith<'r, 'c, 'i, C: Cursor> {
     pub(crate) regex: &'r Regex,

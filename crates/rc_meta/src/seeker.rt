@@ -1,8 +1,18 @@
 //! What finds the matches of a list, one after another, in an input that is lent to it.
 
+ghost use Rattle.std.specs.Prelude.{◌≡◌, ◌≤◌, IfSome};
+ghost use Rattle.rc_text.specs.Text.{Keeps, high, low};
+ghost use Rattle.rc_program.specs.Kinds.{answer_by, answer_by_from};
+ghost use Rattle.rc_program.specs.Matches.{begin_of, end_of, is_again, next_match};
 ghost use Rattle.rc_captures.specs.Groups.{names_of};
 ghost use Rattle.rc_captures.specs.Names.{slot_len};
+ghost use Rattle.rc_engine.specs.Engine.{engine_search};
+ghost use Rattle.rc_engine.specs.Moved.{IsMoved};
+ghost use Rattle.rc_engine.specs.Tells.{KeepsAll, TellsBy};
+ghost use Rattle.rc_engine.specs.Walks.{next_start};
+ghost use Rattle.rc_engines.specs.Caches.{IsSameCacheIn};
 ghost use Rattle.rc_meta.specs.Caches.{IsCacheIn};
+ghost use Rattle.rc_meta.specs.Views.{regex_names};
 
 use crate::regex::Regex;
 use rc_captures::captures::Captures;
@@ -69,10 +79,72 @@ impl<'r> Model for GroupSeeker<'r> {
     ghost invariant = { λ s. IsCacheIn s.seeker.regex (slot_len (names_of s.seeker.regex.info)) s.seeker.cache };
 }
 
+/// Whether the match is empty and ends at `last`.
+fn is_again(last: Option<usize>, found: Match) -> bool
+    ensures { result ≡ is_again begin_of end_of last found }
+{
+    match last {
+        Some(last) => found.is_empty() && found.end() == last,
+        None => false,
+    }
+}
+
+/// The match that a search finds, with its groups in the captures.
+fn find_groups<C: Cursor>(
+    regex: &Regex,
+    cache: &mut Cache,
+    input: &mut Input<C>,
+    caps: &mut Captures,
+) -> Option<Match>
+    requires made { IsCacheIn regex.now (slot_len (names_of regex.now.info)) cache.old }
+    requires whole { KeepsAll (regex_names regex.now) caps.old }
+    ensures made { IsCacheIn regex.now (slot_len (names_of regex.now.info)) cache.new }
+    ensures same { IsSameCacheIn regex.now.engines cache.old cache.new }
+    ensures keeps { Keeps input.old input.new }
+    ensures whole { KeepsAll (regex_names regex.now) caps.new }
+    ensures told { TellsBy regex.now.engines.engine.kind (engine_search regex.now.engines.engine input.old) caps.new }
+    ensures found { result ≡ answer_by regex.now.engines.engine.kind (engine_search regex.now.engines.engine input.old) }
+    ensures within { IfSome result (λ m. (low input.old ≤ m.start) × (m.start ≤ m.end) × (m.end ≤ high input.old)) }
+{
+    regex.engines.find_captures(cache, input, caps);
+    caps.get_match()
+}
+
+/// The next match of a list, with its groups in the captures: the match from where the span starts, and where that is empty and ends at `last`, the
+/// match from a byte later. The span then starts where the match was looked for.
+fn next_groups<C: Cursor>(
+    regex: &Regex,
+    cache: &mut Cache,
+    input: &mut Input<C>,
+    last: Option<usize>,
+    caps: &mut Captures,
+) -> Option<Match>
+    requires made { IsCacheIn regex.now (slot_len (names_of regex.now.info)) cache.old }
+    requires whole { KeepsAll (regex_names regex.now) caps.old }
+    ensures made { IsCacheIn regex.now (slot_len (names_of regex.now.info)) cache.new }
+    ensures same { IsSameCacheIn regex.now.engines cache.old cache.new }
+    ensures moves { IsMoved input.old input.new }
+    ensures whole { KeepsAll (regex_names regex.now) caps.new }
+    ensures found { result
+        ≡ next_match begin_of end_of (answer_by_from regex.now.engines.engine.kind (engine_search regex.now.engines.engine input.old)) input.old.span.start last }
+    ensures start { input.new.span.start
+        ≡ next_start regex.now.engines.engine.kind (engine_search regex.now.engines.engine input.old) input.old.span.start last }
+    ensures told { TellsBy regex.now.engines.engine.kind (engine_search regex.now.engines.engine input.new) caps.new }
+    ensures there { result ≡ answer_by regex.now.engines.engine.kind (engine_search regex.now.engines.engine input.new) }
+    ensures within { IfSome result (λ m. (low input.new ≤ m.start) × (m.start ≤ m.end) × (m.end ≤ high input.new)) }
+{
+    let found = find_groups(regex, cache, input, caps)?;
+    if !is_again(last, found) {
+        return Some(found);
+    }
+    // The content is shorter than the greatest number.
+    let _offset = input.chunk_offset();
+    input.set_start(input.start() + 1);
+    find_groups(regex, cache, input, caps)
+}
+
 impl Standing {
-    ghost use Rattle.std.specs.Prelude.{◌≡◌, IfErr, IfNone, IsTrue, MatchOption};
-    ghost use Rattle.rc_engine.specs.Moved.{IsMoved};
-    ghost use Rattle.rc_engines.specs.Caches.{IsSameCacheIn};
+    ghost use Rattle.std.specs.Prelude.{IfErr, IfNone, IsTrue, MatchOption, false};
     ghost use Rattle.rc_meta.specs.Left.{GivesNext, GivesCaptures};
     ghost use Rattle.rc_meta.specs.Seeking.{seeking};
 
@@ -102,7 +174,30 @@ impl Standing {
         Some(found)
     }
 
-    /// The captures of the next match of the list in the input. It takes their memory alone, and ends where that is refused.
+    /// What is given where no memory is there for captures: want of memory where a match is left, else nothing. The list is over.
+    fn lacks_memory<C: Cursor>(
+        &mut self,
+        regex: &Regex,
+        cache: &mut Cache,
+        input: &mut Input<C>,
+    ) -> Option<Result<Captures, AllocError>>
+        requires made { IsCacheIn regex.now (slot_len (names_of regex.now.info)) cache.old }
+        requires going { self.old.is_done ≡ false }
+        ensures cache { IsCacheIn regex.now (slot_len (names_of regex.now.info)) cache.new }
+        ensures same { IsSameCacheIn regex.now.engines cache.old cache.new }
+        ensures steps { GivesCaptures (seeking regex.now cache.old self.old) input.old result (seeking regex.now cache.new self.new) input.new }
+        ensures moves { IsMoved input.old input.new }
+        ensures over { MatchOption result (IsTrue self.new.is_done) (λ item. IfErr item (λ _. IsTrue self.new.is_done)) }
+    {
+        self.is_done = true;
+        if let Some(_) = regex.engines.next_match(cache, input, self.last) {
+            return Some(Err(AllocError));
+        }
+        None
+    }
+
+    /// The captures of the next match of the list in the input. It takes their memory alone, which it gives back where no match is left, and ends
+    /// where that is refused.
     pub(crate) fn next_captures<C: Cursor>(
         &mut self,
         regex: &Regex,
@@ -120,16 +215,13 @@ impl Standing {
         if self.is_done {
             return None;
         }
-        let engines = &regex.engines;
-        let Some(found) = engines.next_match(cache, input, self.last) else {
+        let Ok(mut caps) = regex.create_captures(alloc) else {
+            return self.lacks_memory(regex, cache, input);
+        };
+        let Some(found) = next_groups(regex, cache, input, self.last, &mut caps) else {
             self.is_done = true;
             return None;
         };
-        let Ok(mut caps) = regex.create_captures(alloc) else {
-            self.is_done = true;
-            return Some(Err(AllocError));
-        };
-        engines.find_captures(cache, input, &mut caps);
         input.set_start(found.end());
         self.last = Some(found.end());
         Some(Ok(caps))

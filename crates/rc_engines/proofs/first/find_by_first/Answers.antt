@@ -3,13 +3,14 @@ use Rattle.std.specs.Prelude.{MatchOption}
 use Rattle.rc_text.specs.Text.{low}
 use Rattle.rc_pattern.specs.Re.{Re}
 use Rattle.rc_program.specs.Program.{program}
-use Rattle.rc_program.specs.Answer.{HasNoWalkFrom, answer}
+use Rattle.rc_program.specs.Answer.{HasNoWalkFrom}
+use Rattle.rc_states.specs.TableKinds.{answer_by}
 use Rattle.rc_literal.specs.Guards.{Guards}
 use Rattle.rc_literal.specs.Prefilters.{needles_of}
 use Rattle.rc_spans.specs.Aims.{search_for}
 use Rattle.rc_spans.proofs.NeedleLemmas.{none_void}
 use Rattle.rc_spans.proofs.ToldLemmas.{kept_low, kept_then}
-use Rattle.rc_engines.proofs.FirstLemmas.{by_kind, found_here, found_later, no_first}
+use Rattle.rc_engines.proofs.FirstLemmas.{found_here, found_later, no_first}
 use Rattle.rc_engines.specs.Firsts.{AsksFirst, starting_at}
 use Rattle.rc_engines.proofs.first.find_by_first.Given.{Over}
 use Rattle.rc_engines.proofs.first.find_by_first.Goals as goal
@@ -21,7 +22,6 @@ returns-then-lo-hi-clause-found g c hs terminator of guards =
     let value = c.high-hi.ensures.value in
     let crossed = c.if-lo-hi.true in
     none_void (g.H.Halves.AreOf c.args.halves.now) c.args.aim hs terminator of c.args.input.now (inl (omega (arith, same, value, crossed)))
-    ∙ by_kind c.args.aim c.args.input.now.anchored (search_for c.args.aim hs terminator c.args.input.now) c.requires.goes
 
 -- what the place tells where the first match may begin
 told : (g : Over) (c : After-first_start g) (hs : List Re) (terminator : ℕ) → Guards (program hs) terminator (needles_of c.args.needles.now) → (o : Option ℕ) →
@@ -53,7 +53,7 @@ returns-in-Some-2-clause-found g c hs terminator of guards =
     let goes = subst (AsksFirst c.args.aim) (sym kept.anchored) c.requires.goes in
     found_here c.args.aim hs terminator s t c.high-hi.ensures.keeps c.requires.goes c.low-lo.result c.high-hi.result
     (same_low g k) c.high-hi.ensures.value c.in-Some.from within.0 (told g k hs terminator guards (Some c.in-Some.from) c.in-Some.is) u kept c.in-Some-2.found
-    (subst (λ o. o ≡ answer (starting_at c.in-Some.from (search_for c.args.aim hs terminator u))) c.in-Some-2.is (c.in_ok-found.ensures.found c.args.aim hs terminator of goes))
+    (subst (λ o. o ≡ answer_by c.args.aim.kind (starting_at c.in-Some.from (search_for c.args.aim hs terminator u))) c.in-Some-2.is (c.in_ok-found.ensures.found c.args.aim hs terminator of goes))
 
 pub returns-clause-found : goal.returns-clause-found
 returns-clause-found g c hs terminator of guards =
