@@ -5,6 +5,7 @@ pub mod BackwardLemmas
 pub mod ForwardLemmas
 pub mod MarkLemmas
 pub mod ExitLemmas
+pub mod LeapLemmas
 pub mod SkipLemmas
 pub mod SideLemmas
 pub mod StartLemmas

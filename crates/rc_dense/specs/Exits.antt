@@ -1,9 +1,10 @@
 -- Only proofs use this file.
 -- The bytes that lead away from a row.
-use Rattle.std.specs.Prelude.{◌≡◌, ℕ, ◌+◌, ◌<◌, Bool, true, false, List, slice_index_or}
+use Rattle.std.specs.Prelude.{◌≡◌, ℕ, ◌+◌, ◌<◌, Bool, true, false, IsTrue, List, All, slice_index_or}
 use Rattle.memchr.specs.Find.{is_byte, is_byte2, is_byte3}
 use Rattle.rc_dense.specs.Cells.{quit, row_of}
 use Rattle.rc_dense.specs.declared.exits.Exits.{Exits}
+use Rattle.rc_dense.specs.declared.leaps.Leap.{Leap}
 use Rattle.rc_dense.specs.declared.exits.Exits.TheVariants.{Zero, One, Two, Three, Many}
 
 abbrev pub is_exit : Exits → ℕ → Bool
@@ -21,3 +22,14 @@ Stays mark classes cells row b =
 -- each other byte stays
 abbrev pub AreExitsOf : ℕ → List ℕ → List ℕ → ℕ → Exits → Type 0
 AreExitsOf mark classes cells row exits = (b : ℕ) → b < 256 → is_exit exits b ≡ false → Stays mark classes cells row b
+
+-- each byte of which it is told that it stays does
+abbrev pub AreStays : ℕ → List ℕ → List ℕ → ℕ → List Bool → Type 0
+AreStays mark classes cells row stays = (b : ℕ) → IsTrue (slice_index_or stays b false) → Stays mark classes cells row b
+
+abbrev pub AreLeaps : ℕ → List ℕ → List ℕ → List Leap → Type 0
+AreLeaps mark classes cells leaps = All (λ (leap : Leap). AreStays mark classes cells leap.row leap.stays) leaps
+
+-- so many bytes at the beginning of the piece are told to stay
+abbrev pub AllStay : List Bool → List ℕ → ℕ → Type 0
+AllStay stays piece n = (k : ℕ) → k < n → IsTrue (slice_index_or stays (slice_index_or piece k 0) false)

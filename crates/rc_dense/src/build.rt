@@ -11,6 +11,7 @@ ghost use Rattle.rc_dense.specs.declared.error.TableError.TheVariants.{Memory};
 
 use crate::error::TableError;
 use crate::exits::{Exits, are_few, exits_of};
+use crate::leaps::{Leap, is_told, leaps_of};
 use crate::maker::Maker;
 use crate::marks::mark;
 use crate::names::{Names, dead};
@@ -278,20 +279,25 @@ fn have_few(exits: &[Exits]) -> bool {
     false
 }
 
-/// Which rows are marked: those with few exits, and with `rests` those at which searches may rest.
+/// Which rows are marked: those with few exits or of which a leap is told, and with `rests` those at which searches may rest.
 fn hints_of(
     alloc: Global,
     exits: &[Exits],
+    leaps: &[Leap],
+    width: usize,
     idles: &[bool],
     rests: bool,
-) -> Result<Vec<bool>, AllocError> {
+) -> Result<Vec<bool>, AllocError>
+    requires { 0 < width }
+{
     let mut hints = Vec::new(alloc);
     for number in 0..idles.len() {
         let few = match exits.get(number) {
             Some(exits) => are_few(*exits),
             None => false,
         };
-        hints.push(few || rests && idles[number])?;
+        let leaps = is_told(leaps, number, width);
+        hints.push(few || leaps || rests && idles[number])?;
     }
     Ok(hints)
 }
@@ -313,7 +319,8 @@ pub(crate) fn table_of(
     let width = automaton.samples().len();
     let mut parts = parts_of(alloc, automaton, direction, limit)?;
     let exits = exits_of(alloc, &classes, &parts.rows.cells, width, direction)?;
-    let hints = hints_of(alloc, &exits, &parts.idles, rests)?;
+    let leaps = leaps_of(alloc, &classes, &parts.rows.cells, &exits, width)?;
+    let hints = hints_of(alloc, &exits, &leaps, width, &parts.idles, rests)?;
     let skips = have_few(&exits);
     mark(&mut parts.rows.cells, width, &hints);
     Ok(Table {
@@ -325,6 +332,7 @@ pub(crate) fn table_of(
         idles: parts.idles,
         exits,
         skips,
+        leaps,
         starts: parts.starts,
     })
 }

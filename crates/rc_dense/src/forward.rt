@@ -9,7 +9,10 @@ ghost use Rattle.rc_dense.specs.Tables.{IsByte, IsTable};
 ghost use Rattle.rc_dense.specs.Searches.{Course, Ends, InRow, IsLeg, MayEnd, Stands, run_end};
 
 use crate::exits::first_exit;
-use crate::look::{cell_of, exits_at, has_died, is_idle, met_at_end, noted_by, row_of, told};
+use crate::leaps::first_leaving;
+use crate::look::{
+    cell_of, exits_at, has_died, is_idle, leap_at, met_at_end, noted_by, row_of, told,
+};
 use crate::run::{Ended, Leg, Stand};
 use crate::sides::{byte_ahead, byte_behind};
 use crate::start::start;
@@ -18,12 +21,9 @@ use rc_text::cursor::Cursor;
 use rc_text::input::{Input, high, piece_from};
 use rc_text::types::Anchored;
 
-/// The position from which on a mark `SKIP` is heeded.
+/// The position from which on a search rests where it may.
 #[inline(always)]
-fn looks_from(table: &Table, may_rest: bool, rest_from: usize) -> usize {
-    if table.skips {
-        return 0;
-    }
+fn looks_from(may_rest: bool, rest_from: usize) -> usize {
     if may_rest {
         return rest_from;
     }
@@ -134,8 +134,40 @@ fn stride(table: &Table, piece: &[u8], from: usize, start: usize, stand: Stand) 
     (index, row)
 }
 
+/// Leaps over the bytes of a piece from an index on, up to the first that may lead away from the row, or to the position `looks`, and answers how many bytes were
+/// read. No byte is read where no leap is told of the row; None where the table has rows with few exits besides.
+#[inline(always)]
+fn leap(
+    table: &Table,
+    piece: &[u8],
+    from: usize,
+    start: usize,
+    stand: Stand,
+    looks: usize,
+) -> Option<usize>
+    ghost course: { Course }
+    requires stands { Stands table.now course (start + from) stand }
+    requires bound { course.bound ≤ slice_end course.seen }
+    requires piece { piece.now ≡ slice_range course.seen.content start (start + length piece.now) }
+    requires within { start + length piece.now ≤ course.bound }
+    requires from { from ≤ length piece.now }
+    requires looks { start + from ≤ looks }
+    ensures read { IfSome result (λ read. (from ≤ read) × (read ≤ length piece.now)) }
+    ensures stands { IfSome result (λ read. Stands table.now course (start + read) stand) }
+{
+    let Some(leap) = leap_at(table, stand.row) else {
+        if table.skips {
+            return None;
+        }
+        return Some(from);
+    };
+    let end = piece.len().min(looks - start);
+    Some(from + first_leaving(&leap.stays, &piece[from..end]))
+}
+
 /// Runs over the bytes of a piece from an index on, up to one of which the cell needs a look, and answers how many bytes were read. A mark of something met
-/// needs none where `limit` is `SKIP`, and one where it is 0; a mark `SKIP` needs one from the position `looks` on.
+/// needs none where `limit` is `SKIP`, and one where it is 0; a mark `SKIP` needs one from the position `looks` on, and where the table has rows with few exits, unless
+/// a leap is told of its row.
 #[inline(never)]
 fn run(
     table: &Table,
@@ -175,8 +207,15 @@ fn run(
             if cell >= DEAD || start + index >= looks {
                 return (index, Stand { row, noted });
             }
-            row = cell - SKIP;
-            index += 1;
+            let behind = Stand {
+                row: cell - SKIP,
+                noted,
+            };
+            let Some(read) = leap(table, piece, index + 1, start, behind, looks) else {
+                return (index, Stand { row, noted });
+            };
+            row = behind.row;
+            index = read;
         } else {
             if cell - MET >= limit {
                 return (index, Stand { row, noted });
@@ -271,7 +310,7 @@ fn cross<C: Cursor>(
     ensures leg { IsLeg table.now course end result }
 {
     let limit = if earliest { 0 } else { SKIP };
-    let looks = looks_from(table, may_rest, rest_from);
+    let looks = looks_from(may_rest, rest_from);
     let mut stand = begin;
     let mut at = from;
     while at < end {

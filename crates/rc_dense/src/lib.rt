@@ -7,6 +7,7 @@ pub mod dense;
 pub mod error;
 pub mod exits;
 pub mod forward;
+pub mod leaps;
 mod look;
 mod maker;
 mod marks;

@@ -1,11 +1,13 @@
 //! What cells of a table say.
-ghost use Rattle.std.specs.Prelude.{◌≡◌, ◌+◌, ◌/◌, ◌<◌, ◌≤◌, ◌^◌, false, length, slice_index_or};
-ghost use Rattle.rc_dense.specs.Cells.{IsNamed, row_of};
+ghost use Rattle.std.specs.Prelude.{◌≡◌, ◌+◌, ◌/◌, ◌<◌, ◌≤◌, ◌^◌, IfSome, false, length, slice_index_or};
+ghost use Rattle.rc_dense.specs.Cells.{IsNamed, met, row_of};
+ghost use Rattle.rc_dense.specs.Exits.{AreStays};
 ghost use Rattle.rc_dense.specs.Tables.{cell_at, class_at};
 ghost use Rattle.rc_dense.specs.declared.exits.Exits.TheVariants.{Many};
 ghost use Rattle.rc_dense.specs.Searches.{InRow, has_died, met_by, noted_by, swapped, told};
 
 use crate::exits::Exits;
+use crate::leaps::Leap;
 use crate::table::{DEAD, MET, SKIP, Table};
 
 /// The row that a cell names.
@@ -69,6 +71,19 @@ pub(crate) fn exits_at(table: &Table, row: usize) -> Exits
         Some(exits) => *exits,
         None => Exits::Many,
     }
+}
+
+/// The leap of the row, if one is told.
+#[inline(always)]
+pub(crate) fn leap_at(table: &Table, row: usize) -> Option<&Leap>
+    ensures { IfSome result (λ leap. AreStays met table.now.classes.items table.now.cells.items row leap.now.stays) }
+{
+    for leap in table.leaps.iter() {
+        if leap.row == row {
+            return Some(leap);
+        }
+    }
+    None
 }
 
 /// The code of the row in a list of codes, or 0 where it has none.

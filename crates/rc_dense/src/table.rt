@@ -1,10 +1,11 @@
 //! A table of states.
 ghost use Rattle.std.specs.Prelude.{◌≡◌, ◌<◌, ◌*◌, ℕ, length, slice_index_or, All};
 ghost use Rattle.rc_dense.specs.Cells.{IsNamed, met};
-ghost use Rattle.rc_dense.specs.Exits.{AreExitsOf};
+ghost use Rattle.rc_dense.specs.Exits.{AreExitsOf, AreLeaps};
 ghost use Rattle.rc_dense.specs.declared.exits.Exits.TheVariants.{Many};
 
 use crate::exits::Exits;
+use crate::leaps::Leap;
 
 /// A table of states, in one direction. Each state has a row of cells, one for each class of bytes. A row is named by the index of its first
 /// cell, and a cell names the row to which a byte leads; where that row needs a look, `MET`, `DEAD` or `SKIP` or more of them are added to its name.
@@ -26,11 +27,15 @@ pub struct Table {
     pub exits: Vec<Exits>,
     /// Whether some row has few exits. Where none has, and a search may not rest, it heeds no mark `SKIP`.
     pub skips: bool,
+    /// What is told of some rows in which a run stays over most bytes, so that it may look at more than one of them at a time; nothing is told where searches read
+    /// each byte.
+    pub leaps: Vec<Leap>,
     /// The rows in which searches begin: for each way of anchoring, the class of the byte beside and the end of what is seen.
     pub starts: Vec<usize>,
     ghost classed: { (length classes.items ≡ 256) × All (λ c. c < width) classes.items },
     ghost inside: { All (IsNamed width (length cells.items)) cells.items × All (IsNamed width (length cells.items)) starts.items },
     ghost passed: { (k : ℕ) → AreExitsOf met classes.items cells.items (k * width) (slice_index_or exits.items k Many) },
+    ghost leaped: { AreLeaps met classes.items cells.items leaps.items },
     ghost small: { length cells.items < 2305843009213693952 },
 }
 

@@ -4,6 +4,7 @@ use Rattle.rc_automaton.specs.Automata.{machine_of, samples_of, classes_of}
 use Rattle.rc_dense.specs.Rows.{AreParts}
 use Rattle.rc_dense.proofs.PartLemmas.{has_samples, classes_below, few_cells, inside_by, small_by, made_by}
 use Rattle.rc_dense.proofs.ExitLemmas.{marked_exits}
+use Rattle.rc_dense.proofs.LeapLemmas.{marked_leaps}
 use Rattle.rc_dense.proofs.build.table_of.Goals as goal
 use Rattle.rc_dense.proofs.build.table_of.Goals.{In_ok-parts}
 
@@ -56,6 +57,7 @@ invariant_of-result c =
       classed = (k.size, classes_below m c.in_ok-classes.classes.items c.samples-width.result.now k);
       inside = inside_by m c.in_ok-classes.classes.items c.samples-width.result.now c.args.limit c.in_ok-parts.parts.maker.names _ _ _ _ _ _ k p c.mark.ensures;
       passed = λ i. marked_exits _ _ _ _ _ _ _ c.deref.ensures.value c.deref-2.ensures.value c.mark.ensures (c.in_ok-exits.ensures i);
+      leaped = marked_leaps _ _ _ _ _ _ c.deref-3.ensures.value c.deref-4.ensures.value c.mark.ensures c.in_ok-leaps.ensures;
       small = small_by m c.in_ok-classes.classes.items c.samples-width.result.now c.args.limit c.in_ok-parts.parts.maker.names _ _ _ _ _ _ k p c.mark.ensures;
     }
 

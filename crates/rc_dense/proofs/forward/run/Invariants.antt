@@ -5,6 +5,9 @@ use Rattle.rc_dense.proofs.forward.run.Given as goal
 abbrev pub ghost-stride : goal.ghost-stride
 ghost-stride g a = g.course
 
+abbrev pub ghost-leap : goal.ghost-leap
+ghost-leap g a = g.course
+
 abbrev pub invariant-loop-index : goal.invariant-loop-index
 invariant-loop-index g l = record {
   index : l.index ≤ length l.piece;
