@@ -25,9 +25,6 @@ module _ (ways : Pair → List Pair) (Ends : Pair → Type 0) (H : Type 0) (note
     (keeps : (h : H) (n : Pair) → start (note h n) ≡ start h)
     (decide : (n m : Pair) → (n ≡ m) ⊎ (n ≢ m)) (last : (n m : Pair) → Ends n → ¬ IsIn m (ways n))
     (onward : (n m : Pair) → IsIn m (ways n) → n.1 ≤ m.1) where
-  abbrev Ends_at : ℕ → Pair → Type 0
-  Ends_at e = EndsThere Ends e
-
   -- what the threads up to y give for the end e
   abbrev State : ℕ → ℕ → List (H × Pair) → List Pair → List (H × Pair) → Option H → Type 0
   State y e rs v ts o = Pends ways (EndsThere Ends e) H note (upto start y rs) v (upto start y ts) None o

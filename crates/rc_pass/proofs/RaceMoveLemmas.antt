@@ -1,5 +1,5 @@
 -- What a thread's entering of a place does to a pass for the longest walk.
-use Rattle.std.proofs.Common.{◌≡◌, ◌≢◌, ℕ, ◌<◌, ◌≤◌, List, [], ◌∷◌, ◌++◌, map, reverse, ⊎_elim, sym, subst, ap, ◌∙◌, refl, arith, false, true≢false, IsTrue, Option, Some, None, ◌&&◌, slice_set}
+use Rattle.std.proofs.Common.{◌≡◌, ◌≢◌, ℕ, ◌<◌, List, [], ◌∷◌, ◌++◌, map, reverse, ⊎_elim, sym, subst, ap, ◌∙◌, refl, arith, false, true≢false, IsTrue, Option, Some, None, ◌&&◌, slice_set}
 use Rattle.std.proofs.lemmas.List.{map-append, append-nil}
 use Rattle.rc_walks.specs.Walks.{Pair}
 use Rattle.rc_walks.specs.Threads.{threads}
@@ -13,8 +13,7 @@ use Rattle.rc_pass.specs.Threads.{Thread}
 use Rattle.rc_pass.specs.Trace.{Trace, note, note_at, trace, done}
 use Rattle.rc_pass.specs.Moves.{IsMove, IsPlain}
 use Rattle.rc_pass.specs.Entered.{IsSkipped, IsEntered}
-use Rattle.rc_pass.specs.Passing.{pending, pairs, waits, resting_of, frames_of, slots_after, IsCounted}
-use Rattle.rc_pass.specs.Spread.{StaysCounted}
+use Rattle.rc_pass.specs.Passing.{pending, pairs, waits, resting_of, frames_of, slots_after}
 use Rattle.rc_pass.specs.Races.{IsRacing, EndedBefore, upto, began, leading, kept, Races, IsSought, IsCutOff, EndedBy, IsRecorded, IsWayIn}
 use Rattle.rc_pass.specs.declared.moves.Move.{Move}
 use Rattle.rc_pass.specs.declared.moves.Move.TheVariants.{Fork, Save, Matches, Stays, Reads, Stops}
@@ -181,17 +180,6 @@ module _ (s : Sight) (all : List (Trace × Pair)) (at : ℕ) where
         (entered_on rest items best found p (trace start slots) (waits start at frames slots ++ below) fresh
         (ap (λ b. b && is_there s.until at) (ap (is_match_place (only s.anchoring)) m ∙ slot_on (only s.anchoring) k n)) sought x)))
 
--- a walk that begins at `start` stays sought, whichever is recorded
-recorded_sought : (start : ℕ) (best0 : Option Ending) (found0 : List (Option ℕ)) (new : Ending) (slots : List (Option ℕ)) (best : Option Ending)
-    (found : List (Option ℕ)) → IsRecorded best0 found0 new slots best found → start ≤ new.start → IsSought best0 start → IsSought best start
-recorded_sought start best0 found0 new slots best found r low sought =
-    ⊎_elim (λ a. subst (λ b. IsSought b start) (sym a.1) sought) (λ b. subst (λ b. IsSought b start) (sym b.1) low) r
-
-recorded_counted : (best0 : Option Ending) (found0 : List (Option ℕ)) (new : Ending) (slots : List (Option ℕ)) (best : Option Ending)
-    (found : List (Option ℕ)) → IsRecorded best0 found0 new slots best found → StaysCounted new.start new.end best0 best
-recorded_counted best0 found0 new slots best found r k h x =
-    ⊎_elim (λ a. subst (IsCounted k) (sym a.1) x) (λ b. subst (IsCounted k) (sym b.1) h) r
-
 module _ (s : Sight) (at p start : ℕ) (g0 g : Growth) (best0 : Option Ending) (found0 : List (Option ℕ)) (sought : IsSought best0 start)
     (all below : List (Trace × Pair)) where
   abbrev pub Entering : Type 0
@@ -230,11 +218,3 @@ module _ (s : Sight) (at p start : ℕ) (g0 g : Growth) (best0 : Option Ending) 
       (λ b. rw (b.1, b.2, slots)
       (raced_matches s all at g0.threads.items g0.entered.items best0 found0 p q start g0.slots.items
       (waits start at (reverse g0.stack.items) g0.slots.items ++ below) m.fresh i.0 i.1 b.0 sought x)) r)
-
-  pub recorded_stays : (q : ℕ) (best : Option Ending) (found : List (Option ℕ)) →
-      IsRecorded best0 found0 (record { pattern = q; start = start; end = at }) g.slots.items best found → IsSought best start
-  recorded_stays q best found r = recorded_sought start best0 found0 (record { pattern = q; start = start; end = at }) g.slots.items best found r (omega arith) sought
-
-  pub recorded_counts : (q : ℕ) (best : Option Ending) (found : List (Option ℕ)) →
-      IsRecorded best0 found0 (record { pattern = q; start = start; end = at }) g.slots.items best found → StaysCounted start at best0 best
-  recorded_counts q best found r = recorded_counted best0 found0 (record { pattern = q; start = start; end = at }) g.slots.items best found r

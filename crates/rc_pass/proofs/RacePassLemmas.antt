@@ -45,6 +45,10 @@ starts_ready : (width x y count : ℕ) → x ≤ y → AreReady x (starts width 
 starts_ready width x y zero l = tt
 starts_ready width x y (suc count) l = (l, starts_ready width x (y + 1) count (omega (arith, l)))
 
+none_kept : (best : Option Ending) → kept best [] ≡ []
+none_kept None = refl
+none_kept (Some r) = refl
+
 -- of later starts none is kept
 cut_starts : (best : Option Ending) (width at last : ℕ) → IsCutOff best at → kept best (starts_to width at last) ≡ []
 cut_starts None width at last cut = absurd cut
@@ -184,10 +188,6 @@ module _ (s : Sight) (n hi width from last : ℕ) where
       (race_ends (next_of s) (Ends s) Trace (note s.places) began (note_keeps s.places) same_pair (last_pair s) (onward s) (starts_to width from last) at []
       (leading best found) (starts_apart width from (last + 1 - from))
       (subst (λ ts. IsRacing (next_of s) (Ends s) Trace (note s.places) began (starts_to width from last) at [] [] ts (leading best found)) (none_kept best) x)))
-    where
-      none_kept : (best : Option Ending) → kept best [] ≡ []
-      none_kept None = refl
-      none_kept (Some r) = refl
 
   -- no thread is left
   alone : (at insertions : ℕ) (curr : ThreadList) (best : Option Ending) (found : List (Option ℕ)) →
@@ -213,10 +213,6 @@ module _ (s : Sight) (n hi width from last : ℕ) where
       (λ cut. done (at + 1) best found
       (subst (λ ts. IsRacing (next_of s) (Ends s) Trace (note s.places) began (starts_to width from last) (at + 1) [] [] ts (leading best found))
       (cut_starts best width (at + 1) last cut ∙ sym (none_kept best)) (alone (at + 1) insertions curr best found p no_items)) low) no_start
-    where
-      none_kept : (best : Option Ending) → kept best [] ≡ []
-      none_kept None = refl
-      none_kept (Some r) = refl
 
   -- all positions are done
   pub runs_end : (at insertions : ℕ) (curr : ThreadList) (best : Option Ending) (found : List (Option ℕ)) →

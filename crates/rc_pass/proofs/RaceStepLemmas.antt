@@ -1,5 +1,5 @@
 -- The threads of one position, of which a match cuts off those of later starts alone.
-use Rattle.std.proofs.Common.{◌≡◌, ℕ, ◌+◌, ◌-◌, ◌<◌, ◌≤◌, List, [], ◌∷◌, ◌++◌, length, map, drop, min, inl, inr, sym, subst, ap, ◌∙◌, refl, arith, Option, Some, if◌then◌else◌, nat_le, slice_get, add-one}
+use Rattle.std.proofs.Common.{◌≡◌, ℕ, ◌+◌, ◌-◌, ◌<◌, ◌≤◌, List, [], ◌∷◌, ◌++◌, length, map, drop, min, inr, sym, subst, ap, ◌∙◌, arith, Option, Some, if◌then◌else◌, nat_le, slice_get, add-one}
 use Rattle.std.proofs.lemmas.Bool.{le-leb}
 use Rattle.std.proofs.lemmas.List.{length_push}
 use Rattle.rc_walks.specs.Walks.{Pair}
@@ -16,27 +16,6 @@ use Rattle.rc_pass.proofs.StepLemmas.{drop_get, in_at, from_at}
 use Rattle.rc_pass.proofs.RaceMoveLemmas.{raced_drops, raced_waits, raced_way_in}
 
 module _ (s : Sight) (n hi at : ℕ) (all : List Thread) (threads0 : ThreadList) (best0 : Option Ending) (found0 : List (Option ℕ)) where
-  pub run_begins : (entered : Members) → threads0.items ≡ [] → entered.items ≡ [] → entered.capacity ≡ n → n ≤ threads0.room →
-      IsRunOn s n hi at all all threads0 best0 found0 threads0 entered best0 found0
-  run_begins entered no_threads no_places capacity room = record {
-    races = λ from below x.
-        subst (λ v. Races s from at threads0.items v (map pending all ++ below) best0 found0) (sym no_places)
-        (subst (λ r. Races s from at r [] (map pending all ++ below) best0 found0) (sym no_threads) x);
-    sound = record {
-      capacity = capacity;
-      few = rw no_places (omega arith);
-      room = rw (no_threads, no_places) (omega (arith, room));
-      inside = rw no_threads tt;
-    };
-    same_room = refl;
-    same_most = refl;
-    same_width = refl;
-    counts = λ q. rw (no_threads, no_places) (omega arith);
-    begun = λ x h. rw no_threads tt;
-    counted = λ k h x. x;
-    still = inl refl;
-  }
-
   module _ (threads : ThreadList) (entered : Members) (best : Option Ending) (found : List (Option ℕ)) (index : ℕ) (t : Thread)
       (item : slice_get all index ≡ Some t) (inside : AllIn n at (min hi (at + 3)) all)
       (so_far : IsRunOn s n hi at all (drop index all) threads0 best0 found0 threads entered best found) where
