@@ -54,7 +54,7 @@ marked_exits shown shown_cells classes cells after row e same same_cells marked 
 module _ (d : Table) (q : Course) (start row : ℕ) (noted : Option (ℕ × ℕ)) (piece : List ℕ) (inside : q.bound ≤ slice_end q.seen)
     (is : piece ≡ slice_range q.seen.content start (start + length piece)) (within : start + length piece ≤ q.bound)
     (bytes : (k : ℕ) → slice_index_or piece k 0 < 256) (x : Stands d q start (record { row = row; noted = noted })) where
-  pub stay : (n : ℕ) → n ≤ length piece → ((k : ℕ) → k < n → Stays met d.classes.items d.cells.items row (slice_index_or piece k 0)) →
+  stay : (n : ℕ) → n ≤ length piece → ((k : ℕ) → k < n → Stays met d.classes.items d.cells.items row (slice_index_or piece k 0)) →
       Stands d q (start + n) (record { row = row; noted = noted })
   stay zero le h = let at : start ≡ start + zero = omega arith in subst (λ i. Stands d q i (record { row = row; noted = noted })) at x
   stay (suc n) le h =

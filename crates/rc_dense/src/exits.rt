@@ -50,7 +50,7 @@ pub(crate) fn are_few(exits: Exits) -> bool {
 }
 
 /// Whether the byte leads from the row to the row itself, and nothing is met.
-pub(crate) fn stays(classes: &[u8], cells: &[usize], row: usize, byte: usize) -> bool
+fn stays(classes: &[u8], cells: &[usize], row: usize, byte: usize) -> bool
     requires { row < 9223372036854775808 }
     ensures { IsTrue result → Stays dead classes.now cells.now row byte }
 {

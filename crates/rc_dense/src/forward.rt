@@ -134,8 +134,8 @@ fn stride(table: &Table, piece: &[u8], from: usize, start: usize, stand: Stand) 
     (index, row)
 }
 
-/// Leaps over the bytes of a piece from an index on, up to the first that may lead away from the row, or to the position `looks`, and answers how many bytes were
-/// read. No byte is read where no leap is told of the row; None where the table has rows with few exits besides.
+/// Leaps over the bytes of a piece from an index on, up to the first that may lead away, or to the position `looks`, and answers how many bytes were
+/// read and the row behind them. No byte is read where no leap is told of the row; None where the table has rows with few exits besides.
 #[inline(always)]
 fn leap(
     table: &Table,
@@ -144,25 +144,33 @@ fn leap(
     start: usize,
     stand: Stand,
     looks: usize,
-) -> Option<usize>
+) -> Option<(usize, usize)>
     ghost course: { Course }
+    requires row { InRow table.now stand.row }
     requires stands { Stands table.now course (start + from) stand }
     requires bound { course.bound ≤ slice_end course.seen }
     requires piece { piece.now ≡ slice_range course.seen.content start (start + length piece.now) }
     requires within { start + length piece.now ≤ course.bound }
     requires from { from ≤ length piece.now }
     requires looks { start + from ≤ looks }
-    ensures read { IfSome result (λ read. (from ≤ read) × (read ≤ length piece.now)) }
-    ensures stands { IfSome result (λ read. Stands table.now course (start + read) stand) }
+    ensures read { IfSome result (λ read. (from ≤ read.0) × (read.0 ≤ length piece.now)) }
+    ensures row { IfSome result (λ read. InRow table.now read.1) }
+    ensures stands { IfSome result (λ read. Stands table.now course (start + read.0) (record { row = read.1; noted = stand.noted })) }
 {
     let Some(leap) = leap_at(table, stand.row) else {
         if table.skips {
             return None;
         }
-        return Some(from);
+        return Some((from, stand.row));
     };
     let end = piece.len().min(looks - start);
-    Some(from + first_leaving(&leap.stays, &piece[from..end]))
+    let part = &piece[from..end];
+    let passed = first_leaving(&leap.stays, part);
+    if passed == 0 {
+        return Some((from, stand.row));
+    }
+    let cell = cell_of(table, stand.row, part[passed - 1]);
+    Some((from + passed, row_of(cell)))
 }
 
 /// Runs over the bytes of a piece from an index on, up to one of which the cell needs a look, and answers how many bytes were read. A mark of something met
@@ -211,10 +219,10 @@ fn run(
                 row: cell - SKIP,
                 noted,
             };
-            let Some(read) = leap(table, piece, index + 1, start, behind, looks) else {
+            let Some((read, behind)) = leap(table, piece, index + 1, start, behind, looks) else {
                 return (index, Stand { row, noted });
             };
-            row = behind.row;
+            row = behind;
             index = read;
         } else {
             if cell - MET >= limit {

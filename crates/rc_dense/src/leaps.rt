@@ -1,23 +1,30 @@
 //! Rows in which a run stays over most bytes.
-ghost use Rattle.std.specs.Prelude.{◌≡◌, ◌<◌, ◌≤◌, IfOk, IfSome, false, length, slice_index_or};
-ghost use Rattle.rc_dense.specs.Cells.{dead};
-ghost use Rattle.rc_dense.specs.Exits.{AllStay, AreLeaps, AreStays};
+ghost use Rattle.std.specs.Prelude.{◌≡◌, ◌<◌, ◌≤◌, IfOk, IfSome, IsTrue, false, length, slice_index_or};
+ghost use Rattle.rc_dense.specs.Cells.{dead, row_of};
+ghost use Rattle.rc_dense.specs.Exits.{AllStay, AreLeaps, AreStays, StaysAmong, cell_by};
 
-use crate::exits::{Exits, are_few, stays};
+use crate::exits::{Exits, are_few};
+use crate::look::row_of;
+use crate::table::{DEAD, QUIT};
 use std::alloc::{AllocError, Global};
 
-/// So many rows are told of at most.
+/// So many leaps are told of at most.
 const MOST: usize = 4;
 
-/// Of a thousand bytes of most texts, so many lead away at most from a row that is told of.
-const LEAVING: usize = 100;
+/// Of a thousand bytes of most texts, so many lead away at most where a leap is told.
+const LEAVING: usize = 60;
 
-/// A row in which a run stays over most bytes of most texts.
+/// Bytes of most texts, the most common ones first.
+const LIKELY: &[u8] = b" etsranolicudfpmhbgwyvk\n0";
+
+/// Two rows among which a run stays over most bytes of most texts.
 #[derive(Clone, Copy)]
 pub struct Leap {
-    /// The row.
+    /// A row.
     pub row: usize,
-    /// For each byte whether it is known to lead from the row to the row itself, where nothing is met.
+    /// Another one, or the same again.
+    pub other: usize,
+    /// For each byte whether it is known to lead from both rows to the same one of the two, where nothing is met.
     pub stays: [bool; 256],
 }
 
@@ -29,33 +36,145 @@ fn share(byte: u8) -> usize {
         b'a' | b'i' | b'n' | b'o' | b'r' | b's' => 45,
         b'\n' | b'c' | b'd' | b'h' | b'l' | b'm' | b'p' | b'u' => 25,
         b'b' | b'f' | b'g' | b'k' | b'v' | b'w' | b'y' => 15,
-        b'0'..=b'9' | b'x' => 5,
         b'(' | b')' | b',' | b'.' | b'_' => 10,
-        _ => 2,
+        b'\t' | b'0'..=b'9' | b'x' => 5,
+        b'!'..=255 => 2,
+        _ => 1,
     }
 }
 
-/// What is told of a row, where few bytes of most texts lead away.
-fn leap_of(classes: &[u8], cells: &[usize], row: usize) -> Option<Leap>
+/// The row to which a byte leads, if it goes on from there and nothing is met.
+fn row_behind(classes: &[u8], cells: &[usize], row: usize, byte: usize) -> Option<usize>
     requires { row < 9223372036854775808 }
-    ensures { IfSome result (λ leap. AreStays dead classes.now cells.now leap.row leap.stays) }
+    ensures small { IfSome result (λ behind. behind < 9223372036854775808) }
+    ensures below { IfSome result (λ _. cell_by classes.now cells.now row byte < dead) }
+    ensures value { IfSome result (λ behind. behind ≡ row_of (cell_by classes.now cells.now row byte)) }
 {
-    let mut staying = [false; 256];
-    let mut leaving = 0usize;
-    for byte in 0..256usize {
-        if stays(classes, cells, row, byte) {
-            staying[byte] = true;
-        } else {
-            leaving = leaving.saturating_add(share(byte as u8));
-            if leaving > LEAVING {
-                return None;
+    let Some(class) = classes.get(byte) else {
+        return None;
+    };
+    let Some(cell) = cells.get(row + *class as usize) else {
+        return None;
+    };
+    if *cell >= DEAD {
+        return None;
+    }
+    Some(row_of(*cell))
+}
+
+/// Whether the byte leads from both rows to the same one of the two, and nothing is met.
+fn stays_among(classes: &[u8], cells: &[usize], row: usize, other: usize, byte: usize) -> bool
+    requires row { row < 9223372036854775808 }
+    requires other { other < 9223372036854775808 }
+    ensures { IsTrue result → StaysAmong dead classes.now cells.now row other byte }
+{
+    let Some(behind) = row_behind(classes, cells, row, byte) else {
+        return false;
+    };
+    let Some(beside) = row_behind(classes, cells, other, byte) else {
+        return false;
+    };
+    behind == beside && (behind == row || behind == other)
+}
+
+/// Whether the byte isn't read in the row: a search ends there, so it is no matter how it comes there.
+fn quits(classes: &[u8], cells: &[usize], row: usize, byte: usize) -> bool
+    requires { row < 9223372036854775808 }
+{
+    let Some(class) = classes.get(byte) else {
+        return false;
+    };
+    let Some(cell) = cells.get(row + *class as usize) else {
+        return false;
+    };
+    *cell == QUIT
+}
+
+/// How many of a thousand bytes of most texts lead away from the two rows, about. Where it is more than `LEAVING`, it may be more still.
+fn leaving(classes: &[u8], cells: &[usize], row: usize, other: usize) -> usize
+    requires row { row < 9223372036854775808 }
+    requires other { other < 9223372036854775808 }
+{
+    let mut sum = 0usize;
+    for number in 0..256usize {
+        // Letters come first, since they decide soonest.
+        let byte = (number + 97) % 256;
+        if !stays_among(classes, cells, row, other, byte) && !quits(classes, cells, row, byte) {
+            sum = sum.saturating_add(share(byte as u8));
+            if sum > LEAVING {
+                return sum;
             }
         }
     }
-    Some(Leap {
-        row,
-        stays: staying,
-    })
+    sum
+}
+
+/// Another row, to which the most common byte leads that leads away from the row; or the row itself.
+fn likely(classes: &[u8], cells: &[usize], row: usize) -> usize
+    requires { row < 9223372036854775808 }
+    ensures { result < 9223372036854775808 }
+{
+    for byte in LIKELY {
+        if let Some(behind) = row_behind(classes, cells, row, *byte as usize)
+            && behind != row
+        {
+            return behind;
+        }
+    }
+    row
+}
+
+/// What is told of two rows.
+fn among(classes: &[u8], cells: &[usize], row: usize, other: usize) -> Leap
+    requires row { row < 9223372036854775808 }
+    requires other { other < 9223372036854775808 }
+    ensures { AreStays dead classes.now cells.now result.row result.other result.stays }
+{
+    let mut stays = [false; 256];
+    for byte in 0..256usize {
+        if stays_among(classes, cells, row, other, byte) {
+            stays[byte] = true;
+        }
+    }
+    Leap { row, other, stays }
+}
+
+/// What is told of a row, where few bytes of most texts lead away from it, or from it and another.
+fn leap_of(classes: &[u8], cells: &[usize], row: usize) -> Option<Leap>
+    requires { row < 9223372036854775808 }
+    ensures { IfSome result (λ leap. AreStays dead classes.now cells.now leap.row leap.other leap.stays) }
+{
+    let alone = leaving(classes, cells, row, row);
+    let other = likely(classes, cells, row);
+    let both = leaving(classes, cells, row, other);
+    if both < alone && both <= LEAVING {
+        return Some(among(classes, cells, row, other));
+    }
+    if alone <= LEAVING {
+        return Some(among(classes, cells, row, row));
+    }
+    None
+}
+
+/// Whether something is told of the row.
+fn is_in(leaps: &[Leap], row: usize) -> bool {
+    for leap in leaps {
+        if leap.row == row || leap.other == row {
+            return true;
+        }
+    }
+    false
+}
+
+/// What is told of a row with these exits, unless they are few, or something is told of it already.
+fn wanted(classes: &[u8], cells: &[usize], exits: Exits, leaps: &[Leap], row: usize) -> Option<Leap>
+    requires { row < 9223372036854775808 }
+    ensures { IfSome result (λ leap. AreStays dead classes.now cells.now leap.row leap.other leap.stays) }
+{
+    if are_few(exits) || is_in(leaps, row) {
+        return None;
+    }
+    leap_of(classes, cells, row)
 }
 
 /// What is told of some rows, of which these are the exits. Rows with few exits are left out.
@@ -76,9 +195,7 @@ pub(crate) fn leaps_of(
         if row >= cells.len() || leaps.len() >= MOST {
             return Ok(leaps);
         }
-        if !are_few(*exits)
-            && let Some(leap) = leap_of(classes, cells, row)
-        {
+        if let Some(leap) = wanted(classes, cells, *exits, &leaps, row) {
             leaps.push(leap)?;
         }
         row += width;
@@ -91,7 +208,7 @@ pub(crate) fn is_told(leaps: &[Leap], number: usize, width: usize) -> bool
     requires { 0 < width }
 {
     for leap in leaps {
-        if leap.row / width == number {
+        if leap.row / width == number || leap.other / width == number {
             return true;
         }
     }

@@ -1,5 +1,5 @@
 //! What cells of a table say.
-ghost use Rattle.std.specs.Prelude.{◌≡◌, ◌+◌, ◌/◌, ◌<◌, ◌≤◌, ◌^◌, IfSome, false, length, slice_index_or};
+ghost use Rattle.std.specs.Prelude.{◌≡◌, ◌+◌, ◌/◌, ◌<◌, ◌≤◌, ◌^◌, ◌⊎◌, IfSome, false, length, slice_index_or};
 ghost use Rattle.rc_dense.specs.Cells.{IsNamed, met, row_of};
 ghost use Rattle.rc_dense.specs.Exits.{AreStays};
 ghost use Rattle.rc_dense.specs.Tables.{cell_at, class_at};
@@ -76,10 +76,11 @@ pub(crate) fn exits_at(table: &Table, row: usize) -> Exits
 /// The leap of the row, if one is told.
 #[inline(always)]
 pub(crate) fn leap_at(table: &Table, row: usize) -> Option<&Leap>
-    ensures { IfSome result (λ leap. AreStays met table.now.classes.items table.now.cells.items row leap.now.stays) }
+    ensures here { IfSome result (λ leap. (row ≡ leap.now.row) ⊎ (row ≡ leap.now.other)) }
+    ensures stays { IfSome result (λ leap. AreStays met table.now.classes.items table.now.cells.items leap.now.row leap.now.other leap.now.stays) }
 {
     for leap in table.leaps.iter() {
-        if leap.row == row {
+        if leap.row == row || leap.other == row {
             return Some(leap);
         }
     }

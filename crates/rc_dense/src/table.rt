@@ -27,7 +27,7 @@ pub struct Table {
     pub exits: Vec<Exits>,
     /// Whether some row has few exits. Where none has, and a search may not rest, it heeds no mark `SKIP`.
     pub skips: bool,
-    /// What is told of some rows in which a run stays over most bytes, so that it may look at more than one of them at a time; nothing is told where searches read
+    /// What is told of some rows among which a run stays over most bytes, so that it may leap over them; nothing is told where searches read
     /// each byte.
     pub leaps: Vec<Leap>,
     /// The rows in which searches begin: for each way of anchoring, the class of the byte beside and the end of what is seen.
