@@ -19,6 +19,7 @@ use rc_text::input::{Input, byte_at, high, low, piece_from};
 use rc_text::types::{Anchored, Match, PatternID, Span};
 
 /// Whether the needle stands from `at` to `to`, read a piece of a chunk at a time.
+#[inline(always)]
 fn stands<C: Cursor>(input: &mut Input<C>, needle: &[u8], at: usize, to: usize) -> bool
     requires long { to ≡ at + length needle.now }
     requires within { to ≤ length input.old.content }
@@ -39,6 +40,7 @@ fn stands<C: Cursor>(input: &mut Input<C>, needle: &[u8], at: usize, to: usize) 
 
 /// The least number of a needle that may stand at `at`, as far as the trie tells. Where none does, how
 /// many needles there are.
+#[inline(always)]
 fn least_number<C: Cursor>(
     input: &mut Input<C>,
     trie: &Trie,
@@ -80,6 +82,7 @@ fn begins_with(needle: &[u8], byte: u8) -> bool
 
 /// A number below which no needle stands at `at`, where the content has this byte: that of a needle
 /// that begins with it, or how many needles there are.
+#[inline(always)]
 fn start_number<C: Cursor>(
     input: &mut Input<C>,
     table: &Table,
@@ -140,7 +143,7 @@ fn needle_at<C: Cursor>(input: &mut Input<C>, table: &Table, at: usize, end: usi
 
 /// The same, out of line.
 #[inline(never)]
-fn needle_across<C: Cursor>(
+fn needle_there<C: Cursor>(
     input: &mut Input<C>,
     table: &Table,
     at: usize,
@@ -194,7 +197,7 @@ fn find_by_trie<C: Cursor>(
             });
         }
         if seen.passed < len {
-            if let Some(hit) = needle_across(input, table, at, end) {
+            if let Some(hit) = needle_there(input, table, at, end) {
                 return Some(hit);
             }
             at += 1;
@@ -204,7 +207,7 @@ fn find_by_trie<C: Cursor>(
 }
 
 /// What `find_from` finds, by places where a needle may stand.
-#[inline(always)]
+#[inline(never)]
 fn find_by_places<C: Cursor>(
     input: &mut Input<C>,
     prefilter: &Prefilter,
@@ -277,7 +280,7 @@ pub fn prefix<C: Cursor>(input: &mut Input<C>, prefilter: &Prefilter) -> Option<
     let end = high(input);
     let at = low(input);
     if at < end {
-        return needle_at(input, &prefilter.searcher.table, at, end);
+        return needle_there(input, &prefilter.searcher.table, at, end);
     }
     None
 }

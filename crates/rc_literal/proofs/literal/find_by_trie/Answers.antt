@@ -41,7 +41,7 @@ returns-in-Some-clause-value g c =
     let within : at + length piece ≤ hi = omega (arith, c.piece_from-piece.ensures.within, c.loop-at-test.true) in
     let before = c.piece_from-piece.follows.lender-at-none in
     let text : before.content ≡ content = c.piece_from-piece.follows.holds-at-none.content ∙ same in
-    let here : Some c.in-Some.hit ≡ needle_at needles content hi (at + seen.passed) = sym c.in-Some.is ∙ c.needle_across.ensures.value
+    let here : Some c.in-Some.hit ≡ needle_at needles content hi (at + seen.passed) = sym c.in-Some.is ∙ c.needle_there.ensures.value
     ∙ same_at needles before.content content hi hi (at + seen.passed) (at + seen.passed) text refl refl in
     first_found needles content lo hi (at + seen.passed) c.in-Some.hit
     (omega (arith, c.loop-at.invariant.from)) (omega (arith, within, c.seen_in-seen.ensures.within))
@@ -52,7 +52,7 @@ returns-in-Some-clause-within g c =
     let needles = needles_in c.args.table.now.needles.items in
     let x = c.loop-at.at + c.seen_in-seen.result.passed in
     let r = needle_within needles c.piece_from-piece.follows.lender-at-none.content c.args.end x c.in-Some.hit c.args.table.now.some
-    (sym c.in-Some.is ∙ c.needle_across.ensures.value) in
+    (sym c.in-Some.is ∙ c.needle_there.ensures.value) in
     (omega (arith, r.0, c.loop-at.invariant.from), omega (arith, r.0, r.1), r.2)
 
 pub loop-at-preserved-then-seen-len-2 : goal.loop-at-preserved-then-seen-len-2
@@ -68,10 +68,10 @@ loop-at-preserved-then-seen-len-2 g c =
     let before = c.piece_from-piece.follows.lender-at-none in
     let text : before.content ≡ content = c.piece_from-piece.follows.holds-at-none.content ∙ same in
     let none : needle_at needles content hi x ≡ None =
-    sym (sym c.in_default.is ∙ c.needle_across.ensures.value ∙ same_at needles before.content content hi hi x x text refl refl) in
+    sym (sym c.in_default.is ∙ c.needle_there.ensures.value ∙ same_at needles before.content content hi hi x x text refl refl) in
     record {
-      keeps = keeps_on c.args.input.now before c.needle_across.new.input
-          (keeps_on c.args.input.now c.loop-at.input before c.loop-at.invariant.keeps c.piece_from-piece.follows.holds-at-none) c.needle_across.ensures.keeps;
+      keeps = keeps_on c.args.input.now before c.needle_there.new.input
+          (keeps_on c.args.input.now c.loop-at.input before c.loop-at.invariant.keeps c.piece_from-piece.follows.holds-at-none) c.needle_there.ensures.keeps;
       from = omega (arith, c.loop-at.invariant.from);
       none_before = one_more_start needles content c.args.from hi x
           (more_before needles content piece hi c.args.from at c.seen_in-seen.result.passed c.loop-at.invariant.none_before is c.seen_in-seen.ensures.passed) none;
