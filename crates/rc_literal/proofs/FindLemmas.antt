@@ -1,5 +1,5 @@
 -- A search over rising starts.
-use Rattle.std.proofs.Common.{◌≡◌, ℕ, zero, suc, ◌+◌, ◌-◌, ◌<◌, ◌≤◌, List, [], ◌∷◌, length, true, Option, Some, None, IfSome, sym, ap, subst, ◌∙◌, refl, arith, inl, inr, slice_range, slice_index, drop, length-drop}
+use Rattle.std.proofs.Common.{◌≡◌, ℕ, zero, suc, ◌+◌, ◌-◌, ◌<◌, ◌≤◌, List, [], ◌∷◌, length, true, Option, Some, None, IfSome, sym, ap, subst, ◌∙◌, refl, arith, inl, inr, slice_range, slice_index, drop, take, length-drop}
 use Rattle.std.proofs.lemmas.Bool.{cases_lt, cases_Bool}
 use Rattle.std.proofs.lemmas.List.{get_or-drop}
 use Rattle.std.proofs.lemmas.Option.{none-some, same_Some}
@@ -12,7 +12,9 @@ use Rattle.rc_literal.specs.declared.scan.Scan.{Scan}
 use Rattle.rc_literal.specs.declared.scan.Scan.TheVariants.{Needle, Heads, Sieve}
 use Rattle.rc_literal.specs.Scans.{IsScanOf}
 use Rattle.rc_literal.specs.Tables.{numbered, Agrees, IsRuledOut, AreSome}
-use Rattle.rc_literal.proofs.StandLemmas.{stands_parts, false_if_not, none_from}
+use Rattle.rc_literal.specs.Tries.{IsFirstIn}
+use Rattle.rc_literal.proofs.RangeLemmas.{range_of_range}
+use Rattle.rc_literal.proofs.StandLemmas.{NoneBelow, stands_parts, stands_from, false_if_not, none_from, first_here}
 
 -- a needle that stands agrees, from the offset on, with a piece that its place there is the place k of
 stands_agrees : (content piece needle : List ℕ) (hi offset i from k : ℕ) → piece ≡ slice_range content from (from + length piece) →
@@ -189,3 +191,39 @@ pub same_at : (needles : List (List ℕ)) (content text : List ℕ) (hi end i j 
     needle_at needles content hi i ≡ needle_at needles text end j
 same_at needles content text hi end i j c h e =
     ap (λ t. needle_at needles t hi i) c ∙ ap (λ z. needle_at needles text z i) h ∙ ap (needle_at needles text end) e
+
+-- below the first needle that stands in a piece none stands
+first_in_below : (needles : List (List ℕ)) (content piece : List ℕ) (hi at k number : ℕ) → piece ≡ slice_range content at (at + length piece) →
+    IsFirstIn needles piece k number → NoneBelow needles content hi (at + k) number
+first_in_below needles content piece hi at k number is first j l m =
+    let here : at + k + 0 ≡ at + k = omega arith in
+    false_if_not (stands_within content hi (at + k) (numbered needles j))
+    (λ e. first.none_earlier j l m (stands_agrees content piece (numbered needles j) hi 0 (at + k) at k is here e))
+
+-- and it stands in the content
+first_in_stands : (needles : List (List ℕ)) (content piece : List ℕ) (hi at k number : ℕ) → piece ≡ slice_range content at (at + length piece) →
+    at + length piece ≤ hi → IsFirstIn needles piece k number → stands_within content hi (at + k) (numbered needles number) ≡ true
+first_in_stands needles content piece hi at k number is within first =
+    let long = length (numbered needles number) in
+    let n : k + long - k ≡ long = omega arith in
+    let read : slice_range piece k (k + long) ≡ slice_range content (at + k) (at + k + long) =
+    ap (λ xs. slice_range xs k (k + long)) is ∙ ap (λ m. take m (drop k (slice_range content at (at + length piece)))) n
+    ∙ range_of_range content at (length piece) k long first.fits in
+    stands_from content hi (at + k) (numbered needles number) (omega (arith, within, first.fits)) (sym read ∙ first.stands)
+
+-- so it is the first at its place
+pub first_in_piece : (needles : List (List ℕ)) (content piece : List ℕ) (hi at k number : ℕ) → piece ≡ slice_range content at (at + length piece) →
+    at + length piece ≤ hi → number < length needles → IsFirstIn needles piece k number →
+    Some (record { start = at + k; end = at + k + length (numbered needles number); number = number }) ≡ needle_at needles content hi (at + k)
+first_in_piece needles content piece hi at k number is within l first =
+    first_here needles content hi (at + k) number l (first_in_below needles content piece hi at k number is first)
+    (first_in_stands needles content piece hi at k number is within first)
+
+-- no needle stands at the places of a piece that are ruled out
+pub more_before : (needles : List (List ℕ)) (content piece : List ℕ) (hi lo at passed : ℕ) → NoneBefore needles content hi lo at →
+    piece ≡ slice_range content at (at + length piece) → ((k : ℕ) → k < passed → IsRuledOut needles 0 piece k) → NoneBefore needles content hi lo (at + passed)
+more_before needles content piece hi lo at passed before is out i low high =
+    elim (cases_lt i at) [
+      | inl l ↦ before i low l
+      | inr g ↦ none_ruled_out needles content piece hi 0 i at (i - at) is (omega (arith, g)) (out (i - at) (omega (arith, g, high)))
+    ]

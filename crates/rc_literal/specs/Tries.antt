@@ -1,9 +1,9 @@
 -- Only proofs use this file.
 -- Needles as paths of nodes.
-use Rattle.std.specs.Prelude.{◌≢◌, ℕ, ◌+◌, ◌<◌, ◌≤◌, ◌==◌, List, [], ◌∷◌, Option, Some, None, ⊤, length, slice_get, take, if◌then◌else◌}
+use Rattle.std.specs.Prelude.{◌≡◌, ◌≢◌, ℕ, ◌+◌, ◌<◌, ◌≤◌, ◌==◌, List, [], ◌∷◌, Option, Some, None, ⊤, length, slice_get, slice_range, take, if◌then◌else◌}
 use denote.Struct.Props.{props}
 use Rattle.rc_literal.specs.Openings.{AreOpened}
-use Rattle.rc_literal.specs.Tables.{numbered}
+use Rattle.rc_literal.specs.Tables.{Agrees, numbered}
 use Rattle.rc_literal.specs.declared.trie.Node.{Node}
 use Rattle.rc_literal.specs.declared.trie.Trie.{Trie}
 
@@ -50,3 +50,9 @@ AreCarriedBy (Some trie) needles = AreCarried trie.nodes.items needles × AreOpe
 pub AreCarriedBy-is_fact : (trie : Option Trie) (needles : List (List ℕ)) → IsProp (AreCarriedBy trie needles)
 AreCarriedBy-is_fact None needles = hlevel props
 AreCarriedBy-is_fact (Some trie) needles = hlevel props
+
+-- the needle of the number stands in the piece at a place, and none of a smaller number agrees there
+pub record IsFirstIn (needles : List (List ℕ)) (piece : List ℕ) (at number : ℕ) : Type 0 where
+  pub fits : at + length (numbered needles number) ≤ length piece
+  pub stands : slice_range piece at (at + length (numbered needles number)) ≡ numbered needles number
+  pub none_earlier : (k : ℕ) → k < number → k < length needles → ¬ Agrees piece (numbered needles k) at

@@ -102,7 +102,7 @@ impl Candidates for ByHead<'_> {
             Heads::Three(one, two, three) => {
                 memchr3(one, two, three, piece).unwrap_or(piece.len())
             }
-            Heads::Many => trie_candidate(&self.searcher.table, piece),
+            Heads::Many => head_candidate(&self.searcher.table, piece),
         }
     }
 }
@@ -167,26 +167,6 @@ fn head_candidate(table: &Table, piece: &[u8]) -> usize
         if table.heads[*byte as usize] < table.needles.len() {
             return i;
         }
-    }
-    piece.len()
-}
-
-/// The first place where a needle of the trie may begin. Where there is no trie, the first with a byte
-/// with which a needle begins.
-fn trie_candidate(table: &Table, piece: &[u8]) -> usize
-    ensures within { result ≤ length piece.now }
-    ensures passed { (k : ℕ) → k < result → IsRuledOut (needles_in table.now.needles.items) 0 piece.now k }
-{
-    let Some(trie) = &table.trie else {
-        return head_candidate(table, piece);
-    };
-    let count = table.needles.len();
-    let mut at = trie.opened_from(piece, 0);
-    while at < piece.len() {
-        if trie.may_begin(&piece[at..], count) {
-            return at;
-        }
-        at = trie.opened_from(piece, at + 1);
     }
     piece.len()
 }

@@ -10,6 +10,7 @@ pub mod exact;
 pub mod hit;
 pub mod laws;
 pub mod literal;
+mod many;
 mod openings;
 mod pairs;
 pub mod prefilter;

@@ -5,11 +5,13 @@ ghost use Rattle.rc_literal.specs.Needles.{find_needle, needle_at, prefix_needle
 ghost use Rattle.rc_literal.specs.Literals.{literal_answer};
 ghost use Rattle.rc_literal.specs.Prefilters.{needles_of};
 ghost use Rattle.rc_literal.specs.Tables.{BeginsWithByte, needles_in, numbered};
-ghost use Rattle.rc_literal.specs.Tries.{IsCarried};
+ghost use Rattle.rc_literal.specs.Tries.{AreCarriedBy, IsCarried};
 
 use crate::candidates::place_from;
 use crate::hit::Hit;
+use crate::many::seen_in;
 use crate::prefilter::Prefilter;
+use crate::scan::{Heads, Scan, Searcher};
 use crate::table::Table;
 use crate::trie::{ROOT, Trie};
 use rc_text::cursor::Cursor;
@@ -17,6 +19,7 @@ use rc_text::input::{Input, byte_at, high, low, piece_from};
 use rc_text::types::{Anchored, Match, PatternID, Span};
 
 /// Whether the needle stands from `at` to `to`, read a piece of a chunk at a time.
+#[inline(always)]
 fn stands<C: Cursor>(input: &mut Input<C>, needle: &[u8], at: usize, to: usize) -> bool
     requires long { to ≡ at + length needle.now }
     requires within { to ≤ length input.old.content }
@@ -37,6 +40,7 @@ fn stands<C: Cursor>(input: &mut Input<C>, needle: &[u8], at: usize, to: usize) 
 
 /// The least number of a needle that may stand at `at`, as far as the trie tells. Where none does, how
 /// many needles there are.
+#[inline(always)]
 fn least_number<C: Cursor>(
     input: &mut Input<C>,
     trie: &Trie,
@@ -78,6 +82,7 @@ fn begins_with(needle: &[u8], byte: u8) -> bool
 
 /// A number below which no needle stands at `at`, where the content has this byte: that of a needle
 /// that begins with it, or how many needles there are.
+#[inline(always)]
 fn start_number<C: Cursor>(
     input: &mut Input<C>,
     table: &Table,
@@ -109,6 +114,7 @@ fn start_number<C: Cursor>(
 }
 
 /// The first of the needles that stands at `at`, wholly at or below `end`.
+#[inline(always)]
 fn needle_at<C: Cursor>(input: &mut Input<C>, table: &Table, at: usize, end: usize) -> Option<Hit>
     requires low { at < end }
     requires high { end ≤ length input.old.content }
@@ -135,12 +141,74 @@ fn needle_at<C: Cursor>(input: &mut Input<C>, table: &Table, at: usize, end: usi
     None
 }
 
-/// The least start from `from` on at which a needle stands, wholly at or below `end`, and the first
-/// of the needles there, in bytes.
-///
-/// It reads on the uncut bytes, wherever the input stood before, takes no memory and copies nothing.
-/// The input's bounds are not read.
-pub fn find_from<C: Cursor>(
+/// The same, out of line.
+#[inline(never)]
+fn needle_there<C: Cursor>(
+    input: &mut Input<C>,
+    table: &Table,
+    at: usize,
+    end: usize,
+) -> Option<Hit>
+    requires low { at < end }
+    requires high { end ≤ length input.old.content }
+    ensures keeps { Keeps input.old input.new }
+    ensures value { result ≡ needle_at (needles_in table.now.needles.items) input.old.content end at }
+{
+    needle_at(input, table, at, end)
+}
+
+/// The trie by which needles are sought: where there is one, and they begin with many bytes.
+#[inline(always)]
+fn trie_sought(searcher: &Searcher) -> Option<&Trie>
+    ensures { IfSome result (λ trie. AreCarriedBy (Some trie.now) (needles_in searcher.now.table.needles.items)) }
+{
+    match &searcher.scan {
+        Scan::Heads(Heads::Many) => searcher.table.trie.as_ref(),
+        _ => None,
+    }
+}
+
+/// What `find_from` finds, by the trie.
+#[inline(never)]
+fn find_by_trie<C: Cursor>(
+    input: &mut Input<C>,
+    table: &Table,
+    trie: &Trie,
+    from: usize,
+    end: usize,
+) -> Option<Hit>
+    requires inside { end ≤ length input.old.content }
+    requires carried { AreCarriedBy (Some trie.now) (needles_in table.now.needles.items) }
+    ensures keeps { Keeps input.old input.new }
+    ensures value { result ≡ find_needle (needles_in table.now.needles.items) input.old.content from end }
+    ensures within { IfSome result (λ hit. (from ≤ hit.start) × (hit.start < hit.end) × (hit.end ≤ end)) }
+{
+    let mut at = from;
+    while at < end {
+        let piece = piece_from(input, at, end);
+        let len = piece.len();
+        let seen = seen_in(table, trie, piece);
+        at += seen.passed;
+        if seen.number < table.needles.len() {
+            return Some(Hit {
+                start: at,
+                end: at + table.needles[seen.number].as_slice().len(),
+                number: seen.number,
+            });
+        }
+        if seen.passed < len {
+            if let Some(hit) = needle_there(input, table, at, end) {
+                return Some(hit);
+            }
+            at += 1;
+        }
+    }
+    None
+}
+
+/// What `find_from` finds, by places where a needle may stand.
+#[inline(never)]
+fn find_by_places<C: Cursor>(
     input: &mut Input<C>,
     prefilter: &Prefilter,
     from: usize,
@@ -167,6 +235,29 @@ pub fn find_from<C: Cursor>(
     None
 }
 
+/// The least start from `from` on at which a needle stands, wholly at or below `end`, and the first
+/// of the needles there, in bytes.
+///
+/// It reads on the uncut bytes, wherever the input stood before, takes no memory and copies nothing.
+/// The input's bounds are not read.
+pub fn find_from<C: Cursor>(
+    input: &mut Input<C>,
+    prefilter: &Prefilter,
+    from: usize,
+    end: usize,
+) -> Option<Hit>
+    requires inside { end ≤ length input.old.content }
+    ensures keeps { Keeps input.old input.new }
+    ensures value { result ≡ find_needle (needles_of prefilter.now) input.old.content from end }
+    ensures within { IfSome result (λ hit. (from ≤ hit.start) × (hit.start < hit.end) × (hit.end ≤ end)) }
+{
+    let searcher = &prefilter.searcher;
+    if let Some(trie) = trie_sought(searcher) {
+        return find_by_trie(input, &searcher.table, trie, from, end);
+    }
+    find_by_places(input, prefilter, from, end)
+}
+
 /// The least start at which a needle stands, and the first of the needles there, within the bounds.
 ///
 /// It reads on the uncut bytes, wherever the input stood before, takes no memory and copies nothing.
@@ -189,7 +280,7 @@ pub fn prefix<C: Cursor>(input: &mut Input<C>, prefilter: &Prefilter) -> Option<
     let end = high(input);
     let at = low(input);
     if at < end {
-        return needle_at(input, &prefilter.searcher.table, at, end);
+        return needle_there(input, &prefilter.searcher.table, at, end);
     }
     None
 }

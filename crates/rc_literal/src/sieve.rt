@@ -29,9 +29,11 @@ pub struct Sift {
 
 /// Which buckets take a byte as the first, the second and the third of a needle.
 ///
-/// Each needle is in a bucket. It takes any byte past the needle's end.
+/// Each needle is in a bucket. It takes any byte past the needle's end. Where no needle goes on behind its
+/// first byte, the second and the third aren't looked up.
 #[derive(Clone, Copy)]
 pub struct Sieve {
+    pub is_set: bool,
     pub first: Sift,
     pub second: Sift,
     pub third: Sift,
@@ -118,8 +120,8 @@ impl Sieve {
         bits != 0
     }
 
-    /// A number whose bit k is set where a bucket takes the three bytes from `at + k` on, for each k
-    /// below 16.
+    /// A number whose bit k is set where a bucket takes the three bytes from `at + k` on, or in a set the
+    /// first of them, for each k below 16.
     #[inline(always)]
     fn marks(&self, piece: &[u8], at: usize) -> u64
         requires { at + 18 ≤ length piece.now }
@@ -128,6 +130,9 @@ impl Sieve {
             (slice_index piece.now (at + 1 + k)) (slice_index piece.now (at + 2 + k)) → bit_at result k ≡ 1 }
     {
         let first = self.first.lanes(piece, at);
+        if self.is_set {
+            return first.simd_ne(u8x16::splat(0)).to_bitmask();
+        }
         let second = self.second.lanes(piece, at + 1);
         let third = self.third.lanes(piece, at + 2);
         let bits = first & (second & third);
@@ -179,6 +184,7 @@ pub fn sieve_of(needles: &[Vec<u8>]) -> Option<Sieve>
 /// three bytes share one.
 fn filled(needles: &[Vec<u8>]) -> Sieve {
     let mut sieve = Sieve {
+        is_set: needles.iter().all(|needle| needle.len() == 1),
         first: Sift::new(),
         second: Sift::new(),
         third: Sift::new(),

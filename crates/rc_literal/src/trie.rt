@@ -1,5 +1,5 @@
 //! Needles as paths of nodes, so that a look at a place doesn't go over all of them.
-ghost use Rattle.std.specs.Prelude.{◌≡◌, ◌+◌, ◌<◌, ◌≤◌, ℕ, IfOk, IsTrue, List, false, length, slice_index};
+ghost use Rattle.std.specs.Prelude.{◌≡◌, ◌+◌, ◌<◌, ◌≤◌, ℕ, IfOk, IfSome, IsTrue, List, length, slice_index};
 ghost use Rattle.rc_literal.specs.Openings.{ArePassed};
 ghost use Rattle.rc_literal.specs.Tables.{Agrees, needles_in};
 ghost use Rattle.rc_literal.specs.Tries.{AreCarriedBy, IsCarried, number_at, step};
@@ -91,23 +91,29 @@ impl Trie {
         self.number(at) <= number
     }
 
-    /// Whether a needle of a number below the count may begin where the bytes do, as far as they go.
+    /// The least number of a needle that stands where the bytes begin, as far as the paths tell; the count
+    /// where none below it does. None where the bytes end on the way, or there is no path.
     #[inline(always)]
-    pub fn may_begin(&self, bytes: &[u8], count: usize) -> bool
-        ensures { result ≡ false → (needle : List ℕ) (n : ℕ) → IsCarried self.now.nodes.items needle n → n < count → 0 < length needle
-            → ¬ Agrees bytes.now needle 0 }
+    pub fn lead(&self, bytes: &[u8], count: usize) -> Option<usize>
+        ensures { IfSome result (λ number. (needle : List ℕ) (n : ℕ) → IsCarried self.now.nodes.items needle n → 0 < length needle
+            → Agrees bytes.now needle 0 → number ≤ n) }
     {
         let mut at = ROOT;
+        let mut base = self.nodes.get(ROOT)?.base;
+        let mut number = count;
         for byte in bytes {
-            at = self.step(at, *byte);
-            if at == 0 {
-                return false;
+            let to = base as usize + *byte as usize;
+            let Some(next) = self.nodes.get(to) else {
+                return Some(number);
+            };
+            if next.parent as usize != at {
+                return Some(number);
             }
-            if self.number(at) < count {
-                return true;
-            }
+            at = to;
+            base = next.base;
+            number = number.min(next.number as usize);
         }
-        true
+        None
     }
 
     /// The first place from one on where a needle may begin, as far as the bits of first bytes tell. Where

@@ -9,8 +9,8 @@ pub returns-then-at-end-clause-value : goal.returns-then-at-end-clause-value
 returns-then-at-end-clause-value g c =
     let needles = needles_of c.args.prefilter.now in
     let lo : c.low-at.result ≡ low c.args.input.now = c.low-at.ensures ∙ same_low c.args.input.now c.high-end.new.input c.high-end.ensures.keeps in
-    let here : c.needle_at.result ≡ needle_at needles c.args.input.now.content (high c.args.input.now) (low c.args.input.now) =
-    c.needle_at.ensures.value
+    let here : c.needle_there.result ≡ needle_at needles c.args.input.now.content (high c.args.input.now) (low c.args.input.now) =
+    c.needle_there.ensures.value
     ∙ same_at needles c.high-end.new.input.content c.args.input.now.content c.high-end.result (high c.args.input.now) c.low-at.result (low c.args.input.now)
     c.high-end.ensures.keeps.content c.high-end.ensures.value lo in
     here ∙ prefix_is needles c.args.input.now.content (low c.args.input.now) (high c.args.input.now)
@@ -19,11 +19,11 @@ pub returns-then-at-end-clause-within : goal.returns-then-at-end-clause-within
 returns-then-at-end-clause-within g c =
     let needles = needles_of c.args.prefilter.now in
     let lo : c.low-at.result ≡ low c.args.input.now = c.low-at.ensures ∙ same_low c.args.input.now c.high-end.new.input c.high-end.ensures.keeps in
-    let here : c.needle_at.result ≡ needle_at needles c.args.input.now.content (high c.args.input.now) (low c.args.input.now) =
-    c.needle_at.ensures.value
+    let here : c.needle_there.result ≡ needle_at needles c.args.input.now.content (high c.args.input.now) (low c.args.input.now) =
+    c.needle_there.ensures.value
     ∙ same_at needles c.high-end.new.input.content c.args.input.now.content c.high-end.result (high c.args.input.now) c.low-at.result (low c.args.input.now)
     c.high-end.ensures.keeps.content c.high-end.ensures.value lo in
-    if_needle_within needles c.args.input.now.content (high c.args.input.now) (low c.args.input.now) c.needle_at.result
+    if_needle_within needles c.args.input.now.content (high c.args.input.now) (low c.args.input.now) c.needle_there.result
     c.args.prefilter.now.searcher.table.some here
 
 pub returns-clause-value : goal.returns-clause-value

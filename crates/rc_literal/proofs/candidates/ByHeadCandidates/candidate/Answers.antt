@@ -1,8 +1,9 @@
-use Rattle.std.proofs.Common.{subst, sym, arith, ◌<◌}
+use Rattle.std.proofs.Common.{subst, arith, ◌<◌}
 use Rattle.memchr.specs.Find.{is_byte, is_byte2, is_byte3}
-use Rattle.rc_literal.specs.Tables.{IsRuledOut, needles_in}
+use Rattle.rc_literal.specs.Tables.{needles_in}
 use Rattle.rc_literal.specs.Scans.{AreHeadsOf}
-use Rattle.rc_literal.proofs.ScanLemmas.{ruled_out_before}
+use Rattle.rc_literal.proofs.ScanLemmas.{ruled_out_before, ruled_out_by_head}
+use Rattle.rc_literal.proofs.StandLemmas.{needle_count}
 use Rattle.rc_literal.proofs.candidates.ByHeadCandidates.candidate.Goals as goal
 
 pub returns-in-One-clause-passed : goal.returns-in-One-clause-passed
@@ -38,7 +39,8 @@ returns-in-Three-clause-passed c k l =
 pub returns-in-Many-clause-passed : goal.returns-in-Many-clause-passed
 returns-in-Many-clause-passed c k l =
     let look = c.args.self.now in
-    let searcher = look.searcher.now in
+    let table = look.searcher.now.table in
     let piece = c.args.piece.now in
-    let needles = needles_in searcher.table.needles.items in
-    subst (λ offset. IsRuledOut needles offset piece k) (sym look.from_start) (c.trie_candidate.ensures.passed k l)
+    let none = c.head_candidate.ensures.passed k l in
+    ruled_out_by_head (needles_in table.needles.items) look.searcher.now.offset table.heads.items piece k look.from_start table.some table.headed
+    (omega (arith, l, c.head_candidate.ensures.within)) (c.type_inv.piece k).fits (omega (arith, none, needle_count table.needles.items))

@@ -2,7 +2,7 @@ use Rattle.std.proofs.Common.{arith, ◌≡◌, ◌-◌, ◌∙◌, refl, sym, S
 use Rattle.rc_literal.specs.Needles.{needle_at}
 use Rattle.rc_literal.specs.Prefilters.{needles_of}
 use Rattle.rc_literal.proofs.FindLemmas.{starts_passed, first_found, none_found, are_past, needle_within, same_at}
-use Rattle.rc_literal.proofs.literal.find_from.Goals as goal
+use Rattle.rc_literal.proofs.literal.find_by_places.Goals as goal
 
 pub returns-in-Some-clause-value : goal.returns-in-Some-clause-value
 returns-in-Some-clause-value g c =
