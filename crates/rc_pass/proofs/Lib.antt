@@ -27,3 +27,5 @@ pub mod VisitLemmas
 pub mod MarkLemmas
 pub mod MarkMoveLemmas
 pub mod MarkStepLemmas
+pub mod OnwardLemmas
+pub mod AloneLemmas

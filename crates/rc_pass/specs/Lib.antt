@@ -17,3 +17,4 @@ pub mod Entered
 pub mod Entrances
 pub mod PatternSpans
 pub mod Marking
+pub mod Alone
