@@ -43,7 +43,7 @@ frames_inside n width slots (Stays p) frames e m all = (m, all)
 frames_inside n width slots (Reads p to) frames e m all = all
 frames_inside n width slots Stops frames e m all = all
 
-one_at_most : (b : Bool) → (if b then 1 else 0) ≤ 1
+pub one_at_most : (b : Bool) → (if b then 1 else 0) ≤ 1
 one_at_most true = omega arith
 one_at_most false = omega arith
 

@@ -32,3 +32,5 @@ pub mod RaceLemmas
 pub mod RaceMoveLemmas
 pub mod RaceStepLemmas
 pub mod RacePassLemmas
+pub mod OnwardLemmas
+pub mod AloneLemmas

@@ -104,7 +104,7 @@ module _ (s : Sight) where
       here : Trace
       here = trace start slots
 
-      plain_on : (ms : List Pair) (ts : List (Trace × Pair)) → next_of s (p, at) ≡ ms → IsPlain s (p, at) →
+      pub plain_on : (ms : List Pair) (ts : List (Trace × Pair)) → next_of s (p, at) ≡ ms → IsPlain s (p, at) →
           Carries s at rest (items ++ p ∷ []) (threads (trace start slots) ms ++ ts) best o → Carries s at rest items ((trace start slots, (p, at)) ∷ ts) best o
       plain_on ms ts out plain x =
           entered_on p (trace start slots) ts fresh plain.on

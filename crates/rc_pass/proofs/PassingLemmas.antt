@@ -83,6 +83,13 @@ module _ (s : Sight) (n hi width from last : ℕ) where
       passing_done (at + 1) insertions curr best found p none
       (⊎_elim (λ e. ap (λ b. waiting_starts b width (at + 1) last) e) (λ l. waiting_over (is_none best) width (at + 1) last (omega arith)) ended)
 
+  -- no thread is left, and a walk has ended
+  pub passing_over : (at insertions : ℕ) (curr : ThreadList) (best : Option Ending) (found : List (Option ℕ)) →
+      IsPassing s n hi width from last at insertions curr best found → length curr.items ≡ 0 → is_none best ≡ false →
+      GivesTrace s width from last (best_of best found)
+  passing_over at insertions curr best found p none ended =
+      passing_done at insertions curr best found p none (ap (λ b. waiting_starts b width at last) ended)
+
   -- what an idle pass carries at a later start, it carries at an earlier one, where no start between them has a walk
   skips_carries : (at x : ℕ) (curr : ThreadList) (best : Option Ending) (found : List (Option ℕ)) (o : Option Trace) → length curr.items ≡ 0 →
       is_none best ≡ true → at ≤ x → ((y : ℕ) → at ≤ y → y < x → HasNoWalkFrom s y) → Pending s width last x curr.items best found o →
@@ -155,6 +162,12 @@ counted_in_all n at from hi insertions few within low =
 -- what was counted fits a u128, with the places of one position more
 pub counts_fit : (n k insertions : ℕ) → n < 2 ^ 63 → k < 2 ^ 64 → insertions ≤ n * k → insertions + n < 2 ^ 128
 counts_fit n k insertions few short counted =
+    let m : n * k ≤ n * 18446744073709551616 = mul-le-mul_left n (omega (arith, short)) in
+    omega (arith, m, few, counted)
+
+-- so it does with one for each position more
+pub counts_small : (n k insertions : ℕ) → n < 2 ^ 63 → k < 2 ^ 64 → insertions ≤ n * k → insertions + 2 ^ 66 < 2 ^ 128
+counts_small n k insertions few short counted =
     let m : n * k ≤ n * 18446744073709551616 = mul-le-mul_left n (omega (arith, short)) in
     omega (arith, m, few, counted)
 

@@ -4,12 +4,13 @@ use Rattle.std.specs.Option.{option_map}
 use Rattle.std.proofs.lemmas.Bool.{cases_lt}
 use Rattle.std.proofs.lemmas.List.{append-nil}
 use Rattle.std.proofs.lemmas.Option.{none-some}
-use Rattle.rc_walks.specs.Walks.{Pair, IsIn, HasNoWalk}
+use Rattle.rc_walks.specs.Walks.{Pair, IsIn, IsWalk, HasNoWalk}
 use Rattle.rc_walks.specs.Threads.{IsFirstOf, over, passes, threads, AllPast, Pends}
+use Rattle.rc_walks.proofs.StackLemmas.{dead_if_tried, no_ways}
 use Rattle.rc_walks.proofs.ThreadLemmas.{of_none, of_one, of_rest, skips_pends, enters_pends, matches_pends}
 use Rattle.rc_program.proofs.LongestLemmas.{longest_of, none_of_all, none_back}
 use Rattle.rc_pass.specs.Races.{EndsThere, IsLongestOf, ended, longest, next, EndedBefore, AreReady, upto, Each, IsRising, AreApart, IsQuiet, IsOpen, IsKnown, AreWithin, IsRacing}
-use Rattle.rc_pass.proofs.EntranceLemmas.{first_on}
+use Rattle.rc_pass.proofs.OnwardLemmas.{first_on, only_first}
 use Rattle.rc_pass.proofs.PassLemmas.{waits_pends, turned_pends}
 use Rattle.rc_pass.proofs.RaceListLemmas.{upto_in, upto_out, upto_none, upto_append, upto_upto, upto_threads_in, upto_threads_out, past_upto, each_threads, each_swap, each_to, rising_upto, rising_threads, rising_tail, rising_swap, moved_over}
 
@@ -198,6 +199,11 @@ module _ (ways : Pair → List Pair) (Ends : Pair → Type 0) (H : Type 0) (note
     here = r.here;
   }
     where
+      dead : (e : ℕ) → HasNoWalk ways (EndsThere Ends e) (n ∷ []) (b ∷ [])
+      dead e w x =
+          dead_if_tried ways (EndsThere Ends e) (λ k. off k.0)
+          (λ u r. no_ways ways (EndsThere Ends e) (subst (λ ms. IsWalk ways (EndsThere Ends e) (b ∷ n ∷ []) ms u) shut r)) x
+
       there : (y e : ℕ) (o : Option H) → State y e rs v ((h, a) ∷ ts) o → State y e rs v ((h, n) ∷ ts) o
       there y e o x =
           ⊎_elim
@@ -205,7 +211,8 @@ module _ (ways : Pair → List Pair) (Ends : Pair → Type 0) (H : Type 0) (note
           (subst (λ k. Pends ways (EndsThere Ends e) H note (upto start y rs) v k None o) (upto_out H start y (h, a) ts l) x))
           (λ g. subst (λ k. Pends ways (EndsThere Ends e) H note (upto start y rs) v k None o) (sym (upto_in H start y (h, n) ts g))
           (of_rest ways (EndsThere Ends e) H note
-          (λ q z. first_on ways (EndsThere Ends e) n a b out shut (λ k. on k.0) (λ k. off k.0) H note (last_at e) h v (upto start y ts) q fresh silent z)
+          (λ q z. first_on ways (EndsThere Ends e) n a (λ k. on k.0) (only_first ways (EndsThere Ends e) n a b (dead e) out) H note (last_at e) h v (upto start y ts) q
+          fresh silent z)
           (subst (λ k. Pends ways (EndsThere Ends e) H note (upto start y rs) v k None o) (upto_in H start y (h, a) ts g) x)))
           (cases_lt y (start h))
 

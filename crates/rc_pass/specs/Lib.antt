@@ -18,3 +18,4 @@ pub mod Entrances
 pub mod PatternSpans
 pub mod Marking
 pub mod Races
+pub mod Alone

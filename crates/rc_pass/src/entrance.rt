@@ -21,7 +21,7 @@ fn is_quick(place: &Place) -> bool {
 
 /// Whether no thread goes on from the place, where that is quickly told.
 #[inline(always)]
-fn is_shut(spot: &Spot, place: usize) -> bool
+pub fn is_shut(spot: &Spot, place: usize) -> bool
     ghost text: { Searched }
     requires here { IsHere spot.now text }
     requires place_in { place < size spot.now.course }

@@ -1,6 +1,7 @@
 //! The ordered pass over a text: all threads at once, in order, each place entered once at a position.
 #![tactic(auto)]
 
+mod alone;
 pub mod cache;
 mod closure;
 pub mod early;

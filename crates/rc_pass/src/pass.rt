@@ -6,6 +6,7 @@ ghost use Rattle.rc_pass.specs.Sights.{HasNoWalkFrom};
 ghost use Rattle.rc_literal.specs.Guards.{Guards};
 ghost use Rattle.rc_literal.specs.Prefilters.{needles_of};
 ghost use Rattle.rc_program.specs.Places.{places_of};
+ghost use Rattle.rc_pass.specs.Alone.{EndsAlone, ReadsOne};
 ghost use Rattle.rc_pass.specs.Near.{IsHere, seen_from, size};
 ghost use Rattle.rc_pass.specs.Moves.{IsSetting, seen_by};
 ghost use Rattle.rc_pass.specs.Roots.{StandsFor};
@@ -13,17 +14,21 @@ ghost use Rattle.rc_pass.specs.Trace.{Trace, done};
 ghost use Rattle.rc_pass.specs.Passing.{Carries, pending, AllIn, AllFrom, count_from, HasRoom, waiting_starts, Pending, IsLined, IsCounted, GivesTrace, Tells, best_of};
 ghost use Rattle.rc_pass.specs.Scratches.{IsSame};
 
+use crate::alone::glide;
 use crate::closure::close;
 use crate::entrance::entrance;
 use crate::growth::{Growth, copy_row};
 use crate::scratch::Scratch;
 use crate::spot::{Course, Spot};
-use crate::threads::Threads;
+use crate::threads::{Head, Threads};
 use crate::window::{open, reach, spot_at};
 use rc_literal::literal::find_from;
 use rc_literal::prefilter::Prefilter;
 use rc_text::cursor::Cursor;
 use rc_text::input::Input;
+
+/// How often in a row a lone thread, or a lone start, may be seen not to be simple.
+const PATIENCE: u32 = 4;
 
 /// A walk that has ended.
 #[derive(Clone, Copy)]
@@ -211,6 +216,78 @@ fn turn(spot: &Spot, root: usize, best: Option<Ending>, scratch: &mut Scratch) -
     best
 }
 
+/// Ends the walk of the only thread, one of the pattern, at the position. The rest is as in `turn`.
+#[inline(always)]
+pub fn end_walk(course: Course, at: usize, number: usize, scratch: &mut Scratch) -> Ending
+    ghost text: { Searched }
+    requires lined { IsLined (size course) course.hi scratch.old.next.threads.width at scratch.old.insertions scratch.old.curr }
+    requires small { scratch.old.insertions + 1 < 2 ^ 128 }
+    requires ends { EndsAlone (seen_by course text) at scratch.old.curr.items number }
+    ensures carries { (best : Option Ending) (o : Option Trace)
+        → Pending (seen_by course.entry text) scratch.old.next.threads.width course.entry.last (at + 1) scratch.new.curr.items
+        (Some result) scratch.new.found.items o
+        → Pending (seen_by course.entry text) scratch.old.next.threads.width course.entry.last at scratch.old.curr.items
+        best scratch.old.found.items o }
+    ensures lined { IsLined (size course.entry) course.entry.hi scratch.old.next.threads.width (at + 1) scratch.new.insertions scratch.new.curr }
+    ensures same { IsSame scratch.old scratch.new }
+    ensures counted { IsCounted scratch.new.insertions (Some result) }
+    ensures few { scratch.new.insertions ≤ scratch.old.insertions + 1 }
+{
+    let (head, row) = scratch.curr.get(0);
+    let start = head.start;
+    copy_row(&mut scratch.found, row);
+    scratch.curr.clear(scratch.next.slots.len());
+    scratch.insertions += 1;
+    Ending {
+        pattern: number,
+        start,
+        end: at,
+    }
+}
+
+/// Lets a thread set out at the position that reads one byte there and goes on at `next`, where none is under way. The rest is as in `turn`.
+#[inline(always)]
+pub fn set_out_alone(course: Course, at: usize, root: usize, next: usize, scratch: &mut Scratch)
+    ghost text: { Searched }
+    requires setting { IsSetting course text }
+    requires lined { IsLined (size course) course.hi scratch.old.next.threads.width at scratch.old.insertions scratch.old.curr }
+    requires small { scratch.old.insertions + 1 < 2 ^ 128 }
+    requires none { length scratch.old.curr.items ≡ 0 }
+    requires within { at ≤ course.last }
+    requires stands { StandsFor (seen_by course text) root }
+    requires reads { (p : ℕ) × ReadsOne (seen_by course text) (size course) at root (p, next) }
+    ensures carries { (o : Option Trace)
+        → Pending (seen_by course.entry text) scratch.old.next.threads.width course.entry.last (at + 1) scratch.new.curr.items
+        None scratch.new.found.items o
+        → Pending (seen_by course.entry text) scratch.old.next.threads.width course.entry.last at scratch.old.curr.items
+        None scratch.old.found.items o }
+    ensures lined { IsLined (size course.entry) course.entry.hi scratch.old.next.threads.width (at + 1) scratch.new.insertions scratch.new.curr }
+    ensures same { IsSame scratch.old scratch.new }
+    ensures few { scratch.new.insertions ≤ scratch.old.insertions + 1 }
+{
+    empty(&mut scratch.next.slots);
+    scratch.curr.push(
+        Head {
+            place: next,
+            at: at + 1,
+            start: at,
+        },
+        &scratch.next.slots,
+    );
+    scratch.insertions += 1;
+}
+
+/// How often what is simple is tried after it was in vain: where it is often in vain, it isn't tried to the end of the pass.
+fn patience_left(patience: u32, has_moved: bool, threads: usize) -> u32 {
+    if has_moved {
+        return PATIENCE;
+    }
+    if threads > 1 {
+        return patience;
+    }
+    patience.saturating_sub(1)
+}
+
 /// Whether after the position `at` no thread is left to go on, and none to set out.
 pub fn is_done(curr: &Threads, best: Option<Ending>, at: usize, last: usize) -> bool
     ensures { IsTrue result → (length curr.now.items ≡ 0) × ((is_none best ≡ false) ⊎ (last ≤ at)) }
@@ -222,6 +299,13 @@ pub fn is_done(curr: &Threads, best: Option<Ending>, at: usize, last: usize) -> 
         return true;
     }
     at >= last
+}
+
+/// Whether no thread is left to go on, and a walk has ended.
+fn is_over(curr: &Threads, best: Option<Ending>) -> bool
+    ensures { IsTrue result → (length curr.now.items ≡ 0) × (is_none best ≡ false) }
+{
+    curr.len() == 0 && best.is_some()
 }
 
 /// Whether no thread is left to go on, and no walk has ended.
@@ -327,6 +411,7 @@ pub(crate) fn pass_from<C: Cursor>(
     scratch.curr.clear(scratch.next.slots.len());
     let mut window = open(input, from);
     let mut at = from;
+    let mut patience = PATIENCE;
     'positions: while at <= course.hi {
         let idle = is_idle(&scratch.curr, best);
         let Some(next_at) = next_position(input, course, prefilter, at, idle) else {
@@ -334,6 +419,21 @@ pub(crate) fn pass_from<C: Cursor>(
         };
         at = next_at;
         reach(&mut window, input, at);
+        let here = glide(
+            course,
+            &window,
+            root,
+            patience > 0,
+            prefilter.is_none(),
+            &mut best,
+            at,
+            scratch,
+        );
+        patience = patience_left(patience, here > at, scratch.curr.len());
+        if is_over(&scratch.curr, best) {
+            return best;
+        }
+        at = here;
         best = turn(&spot_at(course, &window, at), root, best, scratch);
         if earliest && best.is_some() {
             return best;

@@ -6,7 +6,6 @@ use crate::growth::{Growth, make_row};
 use crate::sparse_set::SparseSet;
 use crate::threads::Threads;
 use std::alloc::{AllocError, Global};
-use std::mem;
 
 /// What passes work in: all memory that they need, made once.
 #[derive(Drop)]
@@ -98,6 +97,8 @@ impl Scratch {
     {
         touch(&mut self.next.entered, &self.next.threads);
         self.insertions += self.next.entered.len() as u128;
-        mem::swap(&mut self.curr, &mut self.next.threads);
+        if self.curr.len() > 0 || self.next.threads.len() > 0 {
+            self.curr.exchange(&mut self.next.threads);
+        }
     }
 }

@@ -24,13 +24,15 @@ fn holds_in_ascii(look: Look, terminator: u8, before: &[u8], after: &[u8]) -> bo
     requires after { IsPlain (side_after after.now) }
     ensures { result ≡ holds_between terminator (side_before before.now) (side_after after.now) look }
 {
+    let ends = ends_word(before);
+    let begins = begins_word(after);
     match look {
-        Look::WordUnicode => ends_word(before) != begins_word(after),
-        Look::WordUnicodeNegate => ends_word(before) == begins_word(after),
-        Look::WordStartUnicode => !ends_word(before) && begins_word(after),
-        Look::WordEndUnicode => ends_word(before) && !begins_word(after),
-        Look::WordStartHalfUnicode => !ends_word(before),
-        Look::WordEndHalfUnicode => !begins_word(after),
+        Look::WordUnicode => ends != begins,
+        Look::WordUnicodeNegate => ends == begins,
+        Look::WordStartUnicode => !ends && begins,
+        Look::WordEndUnicode => ends && !begins,
+        Look::WordStartHalfUnicode => !ends,
+        Look::WordEndHalfUnicode => !begins,
         _ => look::holds(look, terminator, before, after),
     }
 }

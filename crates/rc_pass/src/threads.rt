@@ -3,6 +3,7 @@ ghost use Rattle.std.specs.Prelude.{◌≡◌, ◌+◌, ◌≤◌, ◌++◌, len
 
 use std::alloc::{AllocError, Global};
 use std::marker::Model;
+use std::mem;
 
 /// A thread without its slots.
 #[derive(Clone, Copy)]
@@ -47,7 +48,7 @@ impl Model for Threads {
 
 impl Threads {
     ghost use Rattle.std.specs.Prelude.{◌≡◌, ◌<◌, ◌≤◌, [], ◌∷◌, ◌++◌, length, IfOk, Some, slice_get};
-    ghost use Rattle.rc_pass.specs.Threads.{thread_of};
+    ghost use Rattle.rc_pass.specs.Threads.{Thread, thread_of};
 
     /// Room for `room` threads of at most `most` slots each.
     pub fn new(alloc: Global, room: usize, most: usize) -> Result<Threads, AllocError>
@@ -93,6 +94,27 @@ impl Threads {
         let head = self.heads[index];
         let from = index * self.width;
         (head, &self.rows[from..from + self.width])
+    }
+
+    /// Lets the only thread go on elsewhere.
+    pub fn move_first(&mut self, head: Head)
+        requires { length self.old.items ≡ 1 }
+        ensures { (t : Thread) → self.old.items ≡ t ∷ [] → self.new ≡ record self.old { items = thread_of head t.slots ∷ [] } }
+    {
+        self.heads[0] = head;
+    }
+
+    /// Exchanges the threads for those of the other list, which has as much room, and as many slots for each.
+    #[inline(always)]
+    pub fn exchange(&mut self, other: &mut Threads)
+        requires room { self.old.room ≡ other.old.room }
+        requires most { self.old.most ≡ other.old.most }
+        requires width { self.old.width ≡ other.old.width }
+        ensures here { self.new ≡ other.old }
+        ensures there { other.new ≡ self.old }
+    {
+        mem::swap(&mut self.heads, &mut other.heads);
+        mem::swap(&mut self.rows, &mut other.rows);
     }
 
     /// Puts a thread behind the others.

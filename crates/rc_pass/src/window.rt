@@ -1,5 +1,5 @@
 //! The bytes of a text around the positions that a pass is at.
-ghost use Rattle.std.specs.Prelude.{◌≡◌, ◌+◌, ◌-◌, ◌≤◌, ◌<◌, length, take, slice_range, min, ◌++◌};
+ghost use Rattle.std.specs.Prelude.{◌≡◌, ◌+◌, ◌-◌, ◌≤◌, ◌<◌, length, take, slice_range, min, ◌++◌, ℕ};
 ghost use Rattle.rc_text.specs.Text.{Searched, Keeps, slice_end};
 ghost use Rattle.rc_pass.specs.Moves.{IsSetting};
 ghost use Rattle.rc_pass.specs.Near.{IsHere};
@@ -66,6 +66,19 @@ pub fn reach<C: Cursor>(window: &mut Window, input: &mut Input<C>, at: usize)
     if window.len == 64 && at - window.start > 60 {
         *window = open(input, at);
     }
+}
+
+/// A position up to which the window shows four bytes after each, or all that the slice has.
+#[inline(always)]
+pub fn limit(window: &Window) -> usize
+    ghost text: { Searched }
+    requires window { IsWindow text window.now }
+    ensures { (at : ℕ) → at ≤ result → IsAround text at window.now }
+{
+    if window.len == 64 {
+        return window.start.saturating_add(60);
+    }
+    window.start.saturating_add(window.len)
 }
 
 /// What a pass sees at the byte `at`, through a window that shows four bytes on both sides of it.
