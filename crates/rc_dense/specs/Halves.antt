@@ -48,4 +48,4 @@ pub record SaysBackwards (ended : Ended) (said : halves.Ended) : Type 0 where
 
 -- how many bytes the parts of a table take
 abbrev pub bytes_of : Table → ℕ
-bytes_of d = length d.classes.items + length d.idles.items + 4 * length d.exits.items + 272 * length d.leaps.items + 8 * (length d.cells.items + length d.ends.items + length d.tells.items + length d.starts.items)
+bytes_of d = length d.classes.items + length d.idles.items + 4 * length d.exits.items + 280 * length d.leaps.items + 8 * (length d.cells.items + length d.ends.items + length d.tells.items + length d.starts.items)

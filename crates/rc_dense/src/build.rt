@@ -319,7 +319,14 @@ pub(crate) fn table_of(
     let width = automaton.samples().len();
     let mut parts = parts_of(alloc, automaton, direction, limit)?;
     let exits = exits_of(alloc, &classes, &parts.rows.cells, width, direction)?;
-    let leaps = leaps_of(alloc, &classes, &parts.rows.cells, &exits, width)?;
+    let leaps = leaps_of(
+        alloc,
+        &classes,
+        &parts.rows.cells,
+        &exits,
+        &parts.idles,
+        width,
+    )?;
     let hints = hints_of(alloc, &exits, &leaps, width, &parts.idles, rests)?;
     let skips = have_few(&exits);
     mark(&mut parts.rows.cells, width, &hints);

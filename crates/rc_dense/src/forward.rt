@@ -9,7 +9,7 @@ ghost use Rattle.rc_dense.specs.Tables.{IsByte, IsTable};
 ghost use Rattle.rc_dense.specs.Searches.{Course, Ends, InRow, IsLeg, MayEnd, Stands, run_end};
 
 use crate::exits::first_exit;
-use crate::leaps::first_leaving;
+use crate::leaps::{first_leaving, leap_end};
 use crate::look::{
     cell_of, exits_at, has_died, is_idle, leap_at, met_at_end, noted_by, row_of, told,
 };
@@ -134,8 +134,9 @@ fn stride(table: &Table, piece: &[u8], from: usize, start: usize, stand: Stand) 
     (index, row)
 }
 
-/// Leaps over the bytes of a piece from an index on, up to the first that may lead away, or to the position `looks`, and answers how many bytes were
-/// read and the row behind them. No byte is read where no leap is told of the row; None where the table has rows with few exits besides.
+/// Leaps over the bytes of a piece from an index on, behind a cell with the mark `SKIP`, up to the first that may lead away, and answers how many bytes were read and
+/// the row behind them. No byte is read where no leap is told of the row. None where that cell needs a look: a search may rest at the row from the position
+/// `looks` on, or a search for its few exits serves better.
 #[inline(always)]
 fn leap(
     table: &Table,
@@ -151,19 +152,19 @@ fn leap(
     requires bound { course.bound ≤ slice_end course.seen }
     requires piece { piece.now ≡ slice_range course.seen.content start (start + length piece.now) }
     requires within { start + length piece.now ≤ course.bound }
+    requires fits { start + length piece.now ≤ usize.MAX }
     requires from { from ≤ length piece.now }
-    requires looks { start + from ≤ looks }
     ensures read { IfSome result (λ read. (from ≤ read.0) × (read.0 ≤ length piece.now)) }
     ensures row { IfSome result (λ read. InRow table.now read.1) }
     ensures stands { IfSome result (λ read. Stands table.now course (start + read.0) (record { row = read.1; noted = stand.noted })) }
 {
     let Some(leap) = leap_at(table, stand.row) else {
-        if table.skips {
+        if table.skips || start + from > looks {
             return None;
         }
         return Some((from, stand.row));
     };
-    let end = piece.len().min(looks - start);
+    let end = leap_end(leap, stand.row, from, piece.len(), start, looks)?;
     let part = &piece[from..end];
     let passed = first_leaving(&leap.stays, part);
     if passed == 0 {
@@ -174,8 +175,7 @@ fn leap(
 }
 
 /// Runs over the bytes of a piece from an index on, up to one of which the cell needs a look, and answers how many bytes were read. A mark of something met
-/// needs none where `limit` is `SKIP`, and one where it is 0; a mark `SKIP` needs one from the position `looks` on, and where the table has rows with few exits, unless
-/// a leap is told of its row.
+/// needs none where `limit` is `SKIP`, and one where it is 0; a mark `SKIP` needs none where `leap` tells how far to go.
 #[inline(never)]
 fn run(
     table: &Table,
@@ -212,7 +212,7 @@ fn run(
             index = read;
             row = behind;
         } else if cell < MET {
-            if cell >= DEAD || start + index >= looks {
+            if cell >= DEAD {
                 return (index, Stand { row, noted });
             }
             let behind = Stand {

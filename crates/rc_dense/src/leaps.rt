@@ -1,5 +1,5 @@
 //! Rows in which a run stays over most bytes.
-ghost use Rattle.std.specs.Prelude.{◌≡◌, ◌<◌, ◌≤◌, IfOk, IfSome, IsTrue, false, length, slice_index_or};
+ghost use Rattle.std.specs.Prelude.{◌≡◌, ◌<◌, ◌≤◌, ◌+◌, IfOk, IfSome, IsTrue, false, length, slice_index_or};
 ghost use Rattle.rc_dense.specs.Cells.{dead, row_of};
 ghost use Rattle.rc_dense.specs.Exits.{AllStay, AreLeaps, AreStays, StaysAmong, cell_by};
 
@@ -26,6 +26,10 @@ pub struct Leap {
     pub other: usize,
     /// For each byte whether it is known to lead from both rows to the same one of the two, where nothing is met.
     pub stays: [bool; 256],
+    /// Whether a search may rest at the row.
+    pub rests: bool,
+    /// Whether it may rest at the other.
+    pub other_rests: bool,
 }
 
 /// How many of a thousand bytes of most texts are this one, about.
@@ -136,7 +140,13 @@ fn among(classes: &[u8], cells: &[usize], row: usize, other: usize) -> Leap
             stays[byte] = true;
         }
     }
-    Leap { row, other, stays }
+    Leap {
+        row,
+        other,
+        stays,
+        rests: false,
+        other_rests: false,
+    }
 }
 
 /// What is told of a row, where few bytes of most texts lead away from it, or from it and another.
@@ -177,15 +187,36 @@ fn wanted(classes: &[u8], cells: &[usize], exits: Exits, leaps: &[Leap], row: us
     leap_of(classes, cells, row)
 }
 
+/// Whether a search may rest at the row.
+fn may_rest_at(idles: &[bool], row: usize, width: usize) -> bool
+    requires { 0 < width }
+{
+    match idles.get(row / width) {
+        Some(idle) => *idle,
+        None => false,
+    }
+}
+
+/// The same, with the rows at which a search may rest.
+fn resting(mut leap: Leap, idles: &[bool], width: usize) -> Leap
+    requires { 0 < width }
+    ensures { (result.row ≡ leap.row) × (result.other ≡ leap.other) × (result.stays ≡ leap.stays) }
+{
+    leap.rests = may_rest_at(idles, leap.row, width);
+    leap.other_rests = may_rest_at(idles, leap.other, width);
+    leap
+}
+
 /// What is told of some rows, of which these are the exits. Rows with few exits are left out.
 pub(crate) fn leaps_of(
     alloc: Global,
     classes: &[u8],
     cells: &[usize],
     exits: &[Exits],
+    idles: &[bool],
     width: usize,
 ) -> Result<Vec<Leap>, AllocError>
-    requires wide { width < 9223372036854775808 }
+    requires wide { (0 < width) × (width < 9223372036854775808) }
     requires small { length cells.now < 2305843009213693952 }
     ensures { IfOk result (λ leaps. AreLeaps dead classes.now cells.now leaps.items) }
 {
@@ -196,7 +227,7 @@ pub(crate) fn leaps_of(
             return Ok(leaps);
         }
         if let Some(leap) = wanted(classes, cells, *exits, &leaps, row) {
-            leaps.push(leap)?;
+            leaps.push(resting(leap, idles, width))?;
         }
         row += width;
     }
@@ -262,4 +293,36 @@ pub(crate) fn first_leaving(stays: &[bool; 256], piece: &[u8]) -> usize
         index += 4;
     }
     rest(stays, piece, index)
+}
+
+/// Where a leap ends at most that begins at an index of a piece, of so many bytes: the piece's length, or the position `looks` where a search may rest at one of
+/// the two rows. From there on a byte at a time is read; None where the search may rest where it stands.
+#[inline(always)]
+pub(crate) fn leap_end(
+    leap: &Leap,
+    row: usize,
+    from: usize,
+    len: usize,
+    start: usize,
+    looks: usize,
+) -> Option<usize>
+    requires from { from ≤ len }
+    requires fits { start + len ≤ usize.MAX }
+    ensures { IfSome result (λ end. (from ≤ end) × (end ≤ len)) }
+{
+    if !leap.rests && !leap.other_rests {
+        return Some(len);
+    }
+    if start + from <= looks {
+        return Some(len.min(looks - start));
+    }
+    let rests = if leap.row == row {
+        leap.rests
+    } else {
+        leap.other_rests
+    };
+    if rests {
+        return None;
+    }
+    Some(from)
 }

@@ -15,14 +15,9 @@ went g c =
     let piece = c.args.piece.now in
     let leap = c.in-Some.leap.now in
     let n = c.first_leaving-passed.result in
-    let end = c.min-end.ensures in
     let given = c.requires.1.1 in
-    let from = given.1.1.1.0 in
-    let looks = given.1.1.1.1 in
-    let short : c.min-end.result ≤ length piece = omega (arith, end) in
-    let ordered : c.args.from ≤ c.min-end.result = omega (arith, end, from, looks) in
-    let l = leapt d g.course c.args.start c.args.from c.min-end.result c.args.stand.row leap.row leap.other c.args.stand.noted piece leap.stays given.0 given.1.0
-    given.1.1.0 (λ k. let fits = c.type_inv.piece k in omega (arith, fits)) ordered short c.in-Some.ensures.here c.in-Some.ensures.stays c.requires.1.0 n
+    let l = leapt d g.course c.args.start c.args.from c.in_ok-end.end c.args.stand.row leap.row leap.other c.args.stand.noted piece leap.stays given.0 given.1.0
+    given.1.1.0 (λ k. let fits = c.type_inv.piece k in omega (arith, fits)) c.in_ok-end.ensures.0 c.in_ok-end.ensures.1 c.in-Some.ensures.here c.in-Some.ensures.stays c.requires.1.0 n
     (omega (arith, c.if-passed-eq0.false)) c.first_leaving-passed.ensures.within c.first_leaving-passed.ensures.passed in
     let is = sym c.cell_of-cell.ensures.value in (
       subst (λ cell. cell < met) is l.0,

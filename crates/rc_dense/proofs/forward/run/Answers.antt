@@ -20,7 +20,7 @@ leap-requires g c =
     let on = piece_skip c.args.table.now g.course c.as_slice-cells.result.now c.as_slice-classes.result.now c.args.piece.now c.args.start index c.loop-index.row
     c.loop-index.noted c.as_slice-cells.ensures.value c.as_slice-classes.ensures.value c.loop-index.invariant.row c.loop-index.invariant.stands given.0 given.1.0
     given.1.1.0 c.loop-index-test.true byte c.if-cell-lt-SKIP.false c.if-cell-ge-DEAD.false in
-    (on.0, (on.1, (given.0, (given.1.0, (given.1.1.0, (omega (arith, c.loop-index-test.true), omega (arith, c.if-start-index.false)))))))
+    (on.0, (on.1, (given.0, (given.1.0, (given.1.1.0, (given.1.1.1.0, omega (arith, c.loop-index-test.true)))))))
 
 pub loop-index-preserved-then-cell-lt-MET : goal.loop-index-preserved-then-cell-lt-MET
 loop-index-preserved-then-cell-lt-MET g c = record { index = c.in-Some.ensures.read.1; row = c.in-Some.ensures.row; stands = c.in-Some.ensures.stands }
