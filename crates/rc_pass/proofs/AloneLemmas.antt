@@ -9,7 +9,9 @@ use Rattle.rc_walks.specs.Threads.{passes}
 use Rattle.rc_walks.proofs.WalkLemmas.{drop_way}
 use Rattle.rc_walks.proofs.StackLemmas.{no_ways, dead_if_passed, dead_if_tried}
 use Rattle.rc_walks.proofs.ThreadLemmas.{fewer_passed, of_rest}
-use Rattle.rc_program.specs.Program.{choice, place_at, ways_out, pair_at, is_match_place}
+use Rattle.std.specs.Prelude.{All}
+use Rattle.rc_program.specs.Laws.{IsClosed, targets}
+use Rattle.rc_program.specs.Program.{Place, choice, slot, place_at, ways_out, pair_at, is_match_place}
 use Rattle.rc_program.specs.Text.{holds, ahead}
 use Rattle.rc_program.specs.Answer.{only}
 use Rattle.rc_pass.specs.Sights.{Sight, is_there, ends, next_of}
@@ -172,6 +174,13 @@ module _ (s : Sight) (at : ℕ) where
         (waited s at [] (q ∷ []) best o t here (omega arith)
         (quiet_start is_open (t ∷ []) (q ∷ []) dead
         (turned s at (t ∷ []) (q ∷ []) best o later (waiting_past is_open width at last) x))))
+
+-- the place behind a slot is one of the program
+pub slot_inside : (places : List Place) (p k q : ℕ) → IsClosed places → p < length places → place_at places p ≡ slot k q → q < length places
+slot_inside places p k q closed l is =
+    let all = closed p (choice []) l in
+    let next = subst (λ r. All (λ n. n < length places) (targets r)) is all in
+    next 0 0 (omega arith)
 
 -- the way on from a choice whose second way is a dead end
 pub opens : (s : Sight) (at p a b : ℕ) → place_at s.places p ≡ choice (a ∷ b ∷ []) → place_at s.places b ≡ choice [] → IsOnWay s at p a

@@ -1,6 +1,9 @@
 //! Threads that go on alone, and starts from which no walk leads on: for neither a list of places is kept.
-ghost use Rattle.std.specs.Prelude.{◌≡◌, ◌+◌, ◌<◌, ◌≤◌, ◌^◌, [], ◌∷◌, IsTrue, IfSome, List, Option, MatchOption, ⊤, true, false, ℕ, length};
+ghost use Rattle.std.specs.Prelude.{◌≡◌, ◌+◌, ◌<◌, ◌≤◌, ◌⊎◌, ◌^◌, [], ◌∷◌, IsTrue, IfSome, List, Option, MatchOption, ⊤, true, false, ℕ, length};
 ghost use Rattle.rc_text.specs.Text.{Searched};
+ghost use Rattle.rc_walks.specs.Walks.{Pair};
+ghost use Rattle.rc_program.specs.Places.{places_of};
+ghost use Rattle.rc_program.specs.Program.{place_at, slot};
 ghost use Rattle.rc_pass.specs.Alone.{EndsBy, IsChosen, IsDead, IsOnward, ReadsOne, tried_at};
 ghost use Rattle.rc_pass.specs.Entrances.{IsOnWay};
 ghost use Rattle.rc_pass.specs.Moves.{IsMove, IsSetting, seen_by};
@@ -79,6 +82,30 @@ fn leads_nowhere(spot: &Spot, from: usize, tried: Option<usize>) -> bool
     false
 }
 
+/// The place behind this one, where this one fills a slot; else the place itself.
+#[inline(always)]
+fn past_slot(spot: &Spot, place: usize) -> usize
+    requires place_in { place < size spot.now.course }
+    ensures inside { result < size spot.now.course }
+    ensures past { (result ≡ place) ⊎ ((k : ℕ) × (place_at (places_of spot.now.course.program.now.places.items) place ≡ slot k result)) }
+{
+    match &spot.course.program.places[place] {
+        Place::Slot(_, next) => *next,
+        _ => place,
+    }
+}
+
+/// Whether no walk leads on from the place, where that is quickly told.
+#[inline(always)]
+fn is_closed(spot: &Spot, place: usize) -> bool
+    ghost text: { Searched }
+    requires here { IsHere spot.now text }
+    requires place_in { place < size spot.now.course }
+    ensures { IsTrue result → (passed : List Pair) → IsDead (seen_from spot.now text) passed (place, spot.now.at) }
+{
+    is_shut(spot, past_slot(spot, place))
+}
+
 /// The one of two ways on from the place by which alone walks lead on, where that is told by a few places.
 #[inline(always)]
 fn only_way(spot: &Spot, place: usize, first: usize, second: usize) -> Option<usize>
@@ -88,14 +115,14 @@ fn only_way(spot: &Spot, place: usize, first: usize, second: usize) -> Option<us
     requires second_in { second < size spot.now.course }
     ensures { IfSome result (λ way. IsChosen (seen_from spot.now text) spot.now.at place first second way) }
 {
-    if is_shut(spot, second) {
+    if is_closed(spot, second) {
         return Some(first);
     }
     'ways: for round in 0..2u32 {
         let (tested, other) = if round == 0 {
-            (second, first)
-        } else {
             (first, second)
+        } else {
+            (second, first)
         };
         if leads_nowhere(spot, tested, Some(place)) {
             return Some(other);
@@ -338,6 +365,53 @@ fn move_alone(head: Head, count: usize, scratch: &mut Scratch)
     scratch.curr.move_first(head);
 }
 
+/// The position to which a pass goes on that has come to `at`, and whether a lone thread may go on there: starts from which no walk leads on were
+/// left out, where `skips`, and a thread set out.
+fn begin(
+    course: Course,
+    window: &Window,
+    root: usize,
+    skips: bool,
+    best: Option<Ending>,
+    at: usize,
+    scratch: &mut Scratch,
+) -> (usize, bool)
+    ghost text: { Searched }
+    requires setting { IsSetting course text }
+    requires window { IsWindow text window.now }
+    requires begun { IsBegun text at window.now }
+    requires around { IsAround text at window.now }
+    requires within { at ≤ course.hi }
+    requires root { root < size course }
+    requires stands { StandsFor (seen_by course text) root }
+    requires small { scratch.old.insertions + 2 ^ 66 < 2 ^ 128 }
+    requires passing { (from : ℕ) × IsPassing (seen_by course text) (size course) course.hi scratch.old.next.threads.width from course.last at
+        scratch.old.insertions scratch.old.curr best scratch.old.found.items }
+    ensures passing { (from : ℕ) → IsPassing (seen_by course.entry text) (size course.entry) course.entry.hi scratch.old.next.threads.width from
+        course.entry.last at scratch.old.insertions scratch.old.curr best scratch.old.found.items
+        → IsPassing (seen_by course.entry text) (size course.entry) course.entry.hi scratch.old.next.threads.width from course.entry.last result.0
+        scratch.new.insertions scratch.new.curr best scratch.new.found.items }
+    ensures same { IsSame scratch.old scratch.new }
+    ensures few { scratch.new.insertions ≤ scratch.old.insertions + 1 }
+    ensures later { at ≤ result.0 }
+    ensures within { result.0 ≤ course.entry.hi }
+    ensures around { IsAround text result.0 window.now }
+{
+    if scratch.curr.len() > 0 {
+        return (at, true);
+    }
+    if !skips || best.is_some() {
+        return (at, false);
+    }
+    let way = opening(course, root);
+    let (here, next) = seek(course, window, root, way, at);
+    let Some(place) = next else {
+        return (here, false);
+    };
+    set_out_alone(course, here, root, place, scratch);
+    (here + 1, true)
+}
+
 /// The position from which all threads have to go on together, of a pass that has come to `at`, and the best walk that has ended so far, with
 /// its slots in `found`: up to there, starts from which no walk leads on were left out, where `skips`, and a lone thread went on.
 #[inline(never)]
@@ -370,19 +444,11 @@ fn wander(
     ensures within { result ≤ course.entry.hi }
     ensures around { IsAround text result window.now }
 {
-    if scratch.curr.len() > 0 {
-        return go_alone(course, window, best, at, scratch);
-    }
-    if !skips || best.is_some() {
-        return at;
-    }
-    let way = opening(course, root);
-    let (here, next) = seek(course, window, root, way, at);
-    let Some(place) = next else {
+    let (here, is_alone) = begin(course, window, root, skips, *best, at, scratch);
+    if !is_alone {
         return here;
-    };
-    set_out_alone(course, here, root, place, scratch);
-    go_alone(course, window, best, here + 1, scratch)
+    }
+    go_alone(course, window, best, here, scratch)
 }
 
 /// As `wander`, where `is_on` and there is one thread at most; else the position and the best walk are those given.

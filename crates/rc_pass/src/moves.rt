@@ -160,5 +160,13 @@ fn next_scalar(after: &[u8], room: usize) -> Option<(char, usize)>
             return Some((char::from(byte), 1));
         }
     }
+    long_scalar(after, room)
+}
+
+/// As `next_scalar`, whatever byte comes first.
+#[inline(never)]
+fn long_scalar(after: &[u8], room: usize) -> Option<(char, usize)>
+    ensures { result ≡ scalar_at (take room after.now) }
+{
     scalar_at(&after[..after.len().min(room)])
 }

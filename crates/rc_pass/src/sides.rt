@@ -11,6 +11,9 @@ use rc_program::look;
 pub fn holds(look: Look, terminator: u8, before: &[u8], after: &[u8]) -> bool
     ensures { result ≡ holds_between terminator (side_before before.now) (side_after after.now) look }
 {
+    if before.is_empty() || after.is_empty() {
+        return look::holds(look, terminator, before, after);
+    }
     if is_ascii_before(before) && is_ascii_after(after) {
         return holds_in_ascii(look, terminator, before, after);
     }
@@ -26,6 +29,9 @@ fn holds_in_ascii(look: Look, terminator: u8, before: &[u8], after: &[u8]) -> bo
 {
     let ends = ends_word(before);
     let begins = begins_word(after);
+    if matches!(look, Look::WordUnicode) {
+        return ends != begins;
+    }
     match look {
         Look::WordUnicode => ends != begins,
         Look::WordUnicodeNegate => ends == begins,

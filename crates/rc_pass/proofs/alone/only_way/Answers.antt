@@ -2,14 +2,11 @@ use Rattle.std.proofs.Common.{ℕ, [], ◌∷◌, inl, inr, refl, sym, subst}
 use Rattle.rc_pass.specs.Near.{seen_from}
 use Rattle.rc_pass.specs.Sights.{Sight}
 use Rattle.rc_pass.specs.Alone.{IsChosen, IsDead}
-use Rattle.rc_pass.proofs.EntranceLemmas.{shut_dead}
 use Rattle.rc_pass.proofs.alone.only_way.Goals as goal
 use Rattle.rc_pass.proofs.alone.only_way.Goals.{then-round-eq0, else-round-eq0}
 
-pub returns-then-is_shut : goal.returns-then-is_shut
-returns-then-is_shut g c =
-    let s : Sight = seen_from c.args.spot.now g.text in
-    inl (refl, shut_dead s c.args.spot.now.at c.args.second ((c.args.place, c.args.spot.now.at) ∷ []) (c.is_shut.ensures c.if-is_shut.true))
+pub returns-then-is_closed : goal.returns-then-is_closed
+returns-then-is_closed g c = inl (refl, c.is_closed.ensures c.if-is_closed.true ((c.args.place, c.args.spot.now.at) ∷ []))
 
 pub returns-then-leads_nowhere : goal.returns-then-leads_nowhere
 returns-then-leads_nowhere g c =
@@ -20,8 +17,8 @@ returns-then-leads_nowhere g c =
     elim c.if-round-eq0.branch [
       | then-round-eq0 w ↦
           subst (λ (t : ℕ × ℕ). IsChosen s at place c.args.first c.args.second t.1) (sym w.tested-is)
-          (inl (refl, subst (λ (t : ℕ × ℕ). IsDead s ((place, at) ∷ []) (t.0, at)) w.tested-is dead))
+          (inr (refl, subst (λ (t : ℕ × ℕ). IsDead s ((place, at) ∷ []) (t.0, at)) w.tested-is dead))
       | else-round-eq0 w ↦
           subst (λ (t : ℕ × ℕ). IsChosen s at place c.args.first c.args.second t.1) (sym w.tested-is)
-          (inr (refl, subst (λ (t : ℕ × ℕ). IsDead s ((place, at) ∷ []) (t.0, at)) w.tested-is dead))
+          (inl (refl, subst (λ (t : ℕ × ℕ). IsDead s ((place, at) ∷ []) (t.0, at)) w.tested-is dead))
     ]

@@ -1,13 +1,7 @@
 use Rattle.rc_pass.proofs.alone.wander.Given as goal
 
+abbrev pub ghost-begin : goal.ghost-begin
+ghost-begin g a = g.text
+
 abbrev pub ghost-go_alone : goal.ghost-go_alone
 ghost-go_alone g a = g.text
-
-abbrev pub ghost-seek : goal.ghost-seek
-ghost-seek g a = g.text
-
-abbrev pub ghost-set_out_alone : goal.ghost-set_out_alone
-ghost-set_out_alone g a = g.text
-
-abbrev pub ghost-opening : goal.ghost-opening
-ghost-opening g a = g.text

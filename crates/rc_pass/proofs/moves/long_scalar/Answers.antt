@@ -2,7 +2,7 @@ use Rattle.std.proofs.Common.{◌∙◌, ap, length, take, arith, sym, ⊎_elim}
 use Rattle.std.proofs.lemmas.Bool.{cases_lt}
 use Rattle.std.proofs.lemmas.List.{take_all}
 use Rattle.rc_program.specs.Scalars.{scalar_at}
-use Rattle.rc_pass.proofs.moves.next_scalar.Goals as goal
+use Rattle.rc_pass.proofs.moves.long_scalar.Goals as goal
 
 pub returns : goal.returns
 returns c =
