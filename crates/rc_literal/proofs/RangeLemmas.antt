@@ -1,9 +1,9 @@
 -- A needle read piece by piece.
-use Rattle.std.proofs.Common.{◌≡◌, ◌≢◌, ℕ, ◌+◌, ◌-◌, ◌≤◌, List, ◌++◌, length, take, drop, true, false, true≢false, sym, ap, ap₂, ◌∙◌, refl, arith, slice_range, take-add}
+use Rattle.std.proofs.Common.{◌≡◌, ◌≢◌, ℕ, ◌+◌, ◌-◌, ◌≤◌, List, [], ◌∷◌, ◌++◌, length, take, drop, true, false, true≢false, sym, ap, ap₂, ◌∙◌, refl, arith, slice_get, slice_range, take-add}
 use Rattle.std.specs.Prelude.{bytes_eq}
 use Rattle.std.proofs.lemmas.List.{drop-take, drop-drop, take-take}
 use Rattle.std.proofs.lemmas.Slice.Eq.{bytes_eq-Decides}
-use Rattle.rc_text.proofs.Ranges.{slice_range_grown}
+use Rattle.rc_text.proofs.Ranges.{slice_range-add_one, slice_range_grown}
 
 -- a range of a range
 pub range_of_range : (xs : List ℕ) (i m d n : ℕ) → d + n ≤ m → take n (drop d (slice_range xs i (i + m))) ≡ slice_range xs (i + d) (i + d + n)
@@ -38,3 +38,12 @@ other_piece content needle piece at done is short e same =
     let p : piece ≡ take (done + length piece - done) (drop done needle) =
     is ∙ sym r ∙ ap (λ xs. take (length piece) (drop done xs)) same ∙ ap (λ m. take m (drop done needle)) (sym n) in
     true≢false (sym ((bytes_eq-Decides piece (take (done + length piece - done) (drop done needle))).1 p) ∙ e)
+
+-- the only byte of a needle, where it stands
+pub one_byte : (content needle : List ℕ) (at : ℕ) → length needle ≡ 1 → slice_get needle 0 ≡ slice_get content at →
+    slice_range content at (at + length needle) ≡ needle
+one_byte content [] at one same = absurd (omega (arith, one))
+one_byte content (b ∷ []) at one same =
+    let none : at - at ≡ 0 = omega arith in
+    slice_range-add_one content at at b (omega arith) (sym same) ∙ ap (λ k. take k (drop at content) ++ b ∷ []) none
+one_byte content (b ∷ x ∷ xs) at one same = absurd (omega (arith, one))

@@ -20,7 +20,7 @@ use rc_text::types::{Anchored, Match, PatternID, Span};
 
 /// Whether the needle stands from `at` to `to`, read a piece of a chunk at a time.
 #[inline(always)]
-fn stands<C: Cursor>(input: &mut Input<C>, needle: &[u8], at: usize, to: usize) -> bool
+fn stands_by_pieces<C: Cursor>(input: &mut Input<C>, needle: &[u8], at: usize, to: usize) -> bool
     requires long { to ≡ at + length needle.now }
     requires within { to ≤ length input.old.content }
     ensures keeps { Keeps input.old input.new }
@@ -36,6 +36,21 @@ fn stands<C: Cursor>(input: &mut Input<C>, needle: &[u8], at: usize, to: usize) 
         done += len;
     }
     true
+}
+
+/// Whether the needle stands from `at` to `to`, where its first byte does.
+#[inline(always)]
+fn stands<C: Cursor>(input: &mut Input<C>, needle: &[u8], at: usize, to: usize) -> bool
+    requires long { to ≡ at + length needle.now }
+    requires within { to ≤ length input.old.content }
+    requires begins { slice_get needle.now 0 ≡ slice_get input.old.content at }
+    ensures keeps { Keeps input.old input.new }
+    ensures value { result ≡ bytes_eq (slice_range input.old.content at (at + length needle.now)) needle.now }
+{
+    if needle.len() == 1 {
+        return true;
+    }
+    stands_by_pieces(input, needle, at, to)
 }
 
 /// The least number of a needle that may stand at `at`, as far as the trie tells. Where none does, how

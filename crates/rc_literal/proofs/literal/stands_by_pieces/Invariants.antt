@@ -1,6 +1,6 @@
 use Rattle.std.proofs.Common.{length, ◌-◌, ◌≡◌, ◌+◌, ◌≤◌, slice_range, take}
 use Rattle.rc_text.specs.Text.{Keeps}
-use Rattle.rc_literal.proofs.literal.stands.Given as goal
+use Rattle.rc_literal.proofs.literal.stands_by_pieces.Given as goal
 
 abbrev pub invariant-loop-done : goal.invariant-loop-done
 invariant-loop-done g l = record {
