@@ -1,5 +1,5 @@
 -- Places from which no walk leads on, and threads that go on alone.
-use Rattle.std.proofs.Common.{◌≡◌, ◌≢◌, ℕ, ◌+◌, ◌<◌, ◌≤◌, ◌-◌, ◌*◌, List, [], ◌∷◌, length, map, min, inr, ⊎_elim, sym, subst, ap, ◌∙◌, refl, arith, Bool, true, false, not, true≢false, IsTrue, Option, Some, None, ◌&&◌, slice_get, nat_le, is_none, is_some, replicate}
+use Rattle.std.proofs.Common.{◌≡◌, ℕ, ◌+◌, ◌<◌, ◌≤◌, ◌-◌, ◌*◌, List, [], ◌∷◌, ◌++◌, length, map, min, inr, ⊎_elim, sym, subst, ap, ◌∙◌, refl, arith, Bool, true, false, not, true≢false, IsTrue, Option, Some, None, ◌&&◌, slice_get, nat_le, is_none, is_some, replicate}
 use Rattle.std.proofs.lemmas.Bool.{cases_lt}
 use Rattle.std.proofs.lemmas.List.{length-map}
 use Rattle.std.proofs.lemmas.Option.{none-some, same_Some}
@@ -20,7 +20,7 @@ use Rattle.rc_pass.specs.Threads.{Thread, ThreadList, thread_of}
 use Rattle.rc_pass.specs.Entrances.{IsOnWay}
 use Rattle.rc_pass.proofs.EntranceLemmas.{choice_on, shut_dead, carries_on}
 use Rattle.rc_pass.specs.Trace.{Trace, note, note_at, trace, done, sets_out}
-use Rattle.rc_pass.specs.Passing.{IsMoveInside, pairs, Carries, waiting_starts, AllIn, AllFrom, count_from, Pending, best_of, IsCounted, IsLined, IsPassing}
+use Rattle.rc_pass.specs.Passing.{IsMoveInside, pending, pairs, Carries, waiting_starts, AllIn, AllFrom, count_from, Pending, best_of, IsCounted, IsLined, IsPassing}
 use Rattle.rc_pass.specs.Near.{seen_from, size}
 use Rattle.rc_text.specs.Text.{Searched}
 use Rattle.rc_program.specs.Places.{place_of}
@@ -31,9 +31,12 @@ use Rattle.rc_pass.specs.declared.moves.Move.{Move}
 use Rattle.rc_pass.proofs.GrownLemmas.{move_inside, one_at_most}
 use Rattle.rc_pass.specs.Roots.{StandsFor}
 use Rattle.rc_pass.specs.Alone.{EndsAlone, EndsBy, IsChosen, IsDead, LeadsTo, ReadsOne}
-use Rattle.rc_pass.specs.declared.moves.Move.TheVariants.{Fork, Save, Matches, Stays, Reads, Stops}
+use Rattle.rc_pass.specs.declared.moves.Move.TheVariants.{Fork, Save, Stays, Reads, Stops}
 use Rattle.rc_pass.proofs.MoveLemmas.{slot_on, plain_on, matched, waited, turned}
 use Rattle.rc_pass.proofs.PassingLemmas.{no_threads}
+use Rattle.rc_pass.specs.Races.{EndsThere, IsWayIn, Races, starts_to, IsRunFrom}
+use Rattle.rc_pass.proofs.RaceMoveLemmas.{raced_way_in}
+use Rattle.rc_pass.proofs.RaceAloneLemmas.{stays_there, first_there, second_there, raced_goes}
 use Rattle.rc_pass.proofs.RootLemmas.{carries_root}
 use Rattle.rc_pass.proofs.OnwardLemmas.{IsOnlyWay, none_on, only_one, only_first, only_second, carries_by}
 use Rattle.rc_pass.proofs.StartLemmas.{waiting_next, waiting_over, waiting_past}
@@ -117,18 +120,26 @@ module _ (s : Sight) (at : ℕ) where
   pub none_second : (p a b : ℕ) → IsMove s (p, at) (Fork a b) → IsDead s ((p, at) ∷ []) (a, at) → IsDead s [] (b, at) → IsDead s [] (p, at)
   none_second p a b m d e = dead_by p b m.1.on (only_second (next_of s) Ends (p, at) (b, at) (a, at) d m.0) e
 
+  -- how a thread goes on by the only way
+  leads_only : (p a : ℕ) → ¬ Ends (p, at) → ((h : Trace) → note s.places h (p, at) ≡ h) → IsOnlyWay (next_of s) Ends (p, at) (a, at) →
+      ((e : ℕ) → IsOnlyWay (next_of s) (EndsThere Ends e) (p, at) (a, at)) → LeadsTo s at p a
+  leads_only p a on silent only there = record {
+    carries = λ h rest below best o x. carries_by s at rest [] best o p a h below (λ i. i) on only (silent h) x;
+    races = λ h all below best found sought x. raced_goes s all at [] [] best found p a h below (λ i. i) (silent h) on there sought x;
+  }
+
   -- how a thread goes on by a move
   pub leads_stays : (p q : ℕ) → IsMove s (p, at) (Stays q) → LeadsTo s at p q
-  leads_stays p q m h rest below best o x =
-      carries_by s at rest [] best o p q h below (λ i. i) (open_here p m.1.on) (only_one (next_of s) Ends (p, at) (q, at) m.0) (m.1.silent h) x
+  leads_stays p q m =
+      leads_only p q (open_here p m.1.on) m.1.silent (only_one (next_of s) Ends (p, at) (q, at) m.0) (λ e. stays_there s at p q m.0 e)
 
   pub leads_first : (p a b : ℕ) → IsMove s (p, at) (Fork a b) → IsDead s ((p, at) ∷ []) (b, at) → LeadsTo s at p a
-  leads_first p a b m d h rest below best o x =
-      carries_by s at rest [] best o p a h below (λ i. i) (open_here p m.1.on) (only_first (next_of s) Ends (p, at) (a, at) (b, at) d m.0) (m.1.silent h) x
+  leads_first p a b m d =
+      leads_only p a (open_here p m.1.on) m.1.silent (only_first (next_of s) Ends (p, at) (a, at) (b, at) d m.0) (λ e. first_there s at p a b d m.0 e)
 
   pub leads_second : (p a b : ℕ) → IsMove s (p, at) (Fork a b) → IsDead s ((p, at) ∷ []) (a, at) → LeadsTo s at p b
-  leads_second p a b m d h rest below best o x =
-      carries_by s at rest [] best o p b h below (λ i. i) (open_here p m.1.on) (only_second (next_of s) Ends (p, at) (b, at) (a, at) d m.0) (m.1.silent h) x
+  leads_second p a b m d =
+      leads_only p b (open_here p m.1.on) m.1.silent (only_second (next_of s) Ends (p, at) (b, at) (a, at) d m.0) (λ e. second_there s at p b a d m.0 e)
 
   -- and by the only one of two ways
   pub leads_chosen : (p a b q : ℕ) → IsMove s (p, at) (Fork a b) → IsChosen s at p a b q → LeadsTo s at p q
@@ -142,10 +153,19 @@ module _ (s : Sight) (at : ℕ) where
       (λ w. none_second p a b m w.1 (subst (λ z. IsDead s [] (z, at)) w.0 d)) way
 
   pub leads_on : (p a : ℕ) → IsOnWay s at p a → LeadsTo s at p a
-  leads_on p a way h rest below best o x = carries_on s at rest [] best o p a h below (λ i. i) way x
+  leads_on p a way = record {
+    carries = λ h rest below best o x. carries_on s at rest [] best o p a h below (λ i. i) way x;
+    races = λ h all below best found sought x. raced_way_in s all at [] [] best found p a h below (way_in p a way) sought x;
+  }
+    where
+      way_in : (p a : ℕ) → IsOnWay s at p a → IsWayIn s at [] p a
+      way_in p a way = inr (λ i. i, way)
 
   pub leads_then : (p q r : ℕ) → LeadsTo s at p q → LeadsTo s at q r → LeadsTo s at p r
-  leads_then p q r f g h rest below best o x = f h rest below best o (g h rest below best o x)
+  leads_then p q r f g = record {
+    carries = λ h rest below best o x. f.carries h rest below best o (g.carries h rest below best o x);
+    races = λ h all below best found sought x. g.races h all below best found sought (f.races h all below best found sought x);
+  }
 
   module _ (width last : ℕ) (best o : Option Trace) where
     -- a start from which no walk leads on is left out
@@ -169,7 +189,7 @@ module _ (s : Sight) (at : ℕ) where
         let t : Thread = record { place = m; at = at + 1; start = start; slots = slots } in
         let later = waiting_starts is_open width (at + 1) last in
         let here = waiting_starts is_open width at last in
-        leads (trace start slots) [] here best o
+        leads.carries (trace start slots) [] here best o
         (plain_on s at [] [] best o q start slots (λ i. i) ((m, at + 1) ∷ []) here move.0 move.1
         (waited s at [] (q ∷ []) best o t here (omega arith)
         (quiet_start is_open (t ∷ []) (q ∷ []) dead
@@ -231,9 +251,35 @@ pub none_is : (best : Option Ending) → is_none best ≡ true → best ≡ None
 none_is None e = refl
 none_is (Some r) e = absurd (true≢false (sym e))
 
-counted_more : (insertions more : ℕ) (best : Option Ending) → insertions ≤ more → IsCounted insertions best → IsCounted more best
+pub counted_more : (insertions more : ℕ) (best : Option Ending) → insertions ≤ more → IsCounted insertions best → IsCounted more best
 counted_more insertions more None h c = tt
 counted_more insertions more (Some r) h c = omega (arith, h, c)
+
+module _ (n hi width at insertions insertions2 : ℕ) (curr next : ThreadList) (t : Thread) (r : Head) (one : curr.items ≡ t ∷ [])
+    (moved : next ≡ record curr { items = thread_of r t.slots ∷ [] }) (later : at ≤ r.at) (count : insertions2 ≡ insertions + (r.at - at)) where
+  -- the only thread has gone on
+  pub lined_moved : IsLined n hi width at insertions curr → r.start ≡ t.start → r.place < n → r.at ≤ hi → IsLined n hi width r.at insertions2 next
+  lined_moved lined start place within = record {
+    inside = subst (λ (l : ThreadList). AllIn n r.at (min hi (r.at + 3)) l.items) (sym moved)
+        ((place, omega arith, omega (arith, within)), tt);
+    width_is = ap (λ (l : ThreadList). l.width) moved ∙ lined.width_is;
+    room = ap (λ (l : ThreadList). l.room) moved ∙ lined.room;
+    counts = λ k h. subst (λ (l : ThreadList). count_from (r.at + k) l.items + k * n ≤ 4 * n) (sym moved)
+        (let m : k * n ≤ 3 * n = mul-le-mul_right n h in
+        let l = one_at_most (nat_le (r.at + k) r.at) in
+        omega (arith, m, l, place));
+    begun = subst (λ (l : ThreadList). AllFrom (r.at - insertions2) l.items) (sym moved)
+        (let b = subst (AllFrom (at - insertions)) one lined.begun in
+        (omega (arith, b.0, start, count, later), tt));
+  }
+
+  pub few_moved : (from : ℕ) → insertions ≤ n * (at - from) → from ≤ at → r.place < n → insertions2 ≤ n * (r.at - from)
+  few_moved from few reached place =
+      let e : n * (r.at - from) ≡ n * (at - from) + n * (r.at - at) =
+      ap (λ z. n * z) (omega (arith, later, reached)) ∙ mul-add n (at - from) (r.at - at) in
+      let m : 1 * (r.at - at) ≤ n * (r.at - at) = mul-le-mul_right (r.at - at) (omega (arith, place)) in
+      let one_times : 1 * (r.at - at) ≡ r.at - at = omega arith in
+      omega (arith, e, m, one_times, count, few)
 
 module _ (s : Sight) (n hi width from last at insertions : ℕ) (curr : ThreadList) (best : Option Ending) (found : List (Option ℕ)) where
   -- A pass whose only thread has gone on to x.
@@ -253,26 +299,9 @@ module _ (s : Sight) (n hi width from last at insertions : ℕ) (curr : ThreadLi
         (run t.slots width (best_of best found) o
         (subst (λ b. Carries s r.at [] [] ((trace r.start t.slots, (r.place, r.at)) ∷ waiting_starts b width r.at last) (best_of best found) o) (sym open_is)
         (subst (λ (l : ThreadList). Pending s width last r.at l.items best found o) moved x))))));
-    lined = record {
-      inside = subst (λ (l : ThreadList). AllIn n r.at (min hi (r.at + 3)) l.items) (sym moved)
-          ((place, omega arith, omega (arith, within)), tt);
-      width_is = ap (λ (l : ThreadList). l.width) moved ∙ p.lined.width_is;
-      room = ap (λ (l : ThreadList). l.room) moved ∙ p.lined.room;
-      counts = λ k h. subst (λ (l : ThreadList). count_from (r.at + k) l.items + k * n ≤ 4 * n) (sym moved)
-          (let m : k * n ≤ 3 * n = mul-le-mul_right n h in
-          let l = one_at_most (nat_le (r.at + k) r.at) in
-          omega (arith, m, l, place));
-      begun = subst (λ (l : ThreadList). AllFrom (r.at - insertions2) l.items) (sym moved)
-          (let b = subst (AllFrom (at - insertions)) one p.lined.begun in
-          (omega (arith, b.0, start, count, later), tt));
-    };
+    lined = lined_moved n hi width at insertions insertions2 curr next t r one moved later count p.lined start place within;
     ended = counted_more insertions insertions2 best (omega (arith, count)) p.ended;
-    few =
-        let e : n * (r.at - from) ≡ n * (at - from) + n * (r.at - at) =
-        ap (λ z. n * z) (omega (arith, later, p.reached)) ∙ mul-add n (at - from) (r.at - at) in
-        let m : 1 * (r.at - at) ≤ n * (r.at - at) = mul-le-mul_right (r.at - at) (omega (arith, place)) in
-        let one_times : 1 * (r.at - at) ≡ r.at - at = omega arith in
-        omega (arith, e, m, one_times, count, p.few);
+    few = few_moved n hi width at insertions insertions2 curr next t r one moved later count from p.few p.reached place;
     reached = omega (arith, later, p.reached);
     within = omega (arith, within);
   }
@@ -288,7 +317,7 @@ module _ (s : Sight) (n hi width last at insertions : ℕ) (curr : ThreadList) (
       let here = waiting_starts (is_none best) width at last in
       subst (λ ts. Pending s width last at ts best found o) (sym e.only)
       (subst (λ y. Carries s at [] [] ((trace e.thread.start e.thread.slots, (e.thread.place, y)) ∷ here) (best_of best found) o) (sym e.here)
-      (e.leads (trace e.thread.start e.thread.slots) [] here (best_of best found) o
+      (e.leads.carries (trace e.thread.start e.thread.slots) [] here (best_of best found) o
       (matched s at [] [] (best_of best found) o e.place pattern e.thread.start e.thread.slots [] here (λ i. i) e.move.0 e.move.1
       (subst (λ (u : Thread). Carries s at [] [] [] (Some (done pattern u.start at u.slots)) o) is
       (subst (λ l. Carries s at [] [] [] (Some (done pattern t.start at l)) o) (sym same)
@@ -310,7 +339,7 @@ module _ (s : Sight) (n hi width last at insertions : ℕ) (curr : ThreadList) (
       subst (λ ts. Pending s width last at ts None found o) (sym (no_threads curr.items none))
       (subst (λ ts. Carries s at [] [] ts None o) (sym (waiting_next true width at last refl low))
       (carries_root s root stands h at later None o within
-      (reads.leads h [] later None o
+      (reads.leads.carries h [] later None o
       (plain_on s at [] [] None o q at (replicate width None) (λ i. i) ((m, at + 1) ∷ []) later reads.move.0 reads.move.1
       (waited s at [] (q ∷ []) None o t later (omega arith)
       (turned s at (t ∷ []) (q ∷ []) None o later (waiting_past true width at last)
@@ -341,4 +370,24 @@ module _ (s : Sight) (n hi width last at insertions : ℕ) (curr : ThreadList) (
         let l = one_at_most (nat_le (at + 1 + k) r.at) in
         omega (arith, m, l, place));
     begun = subst (λ (l : ThreadList). AllFrom (at + 1 - (insertions + 1)) l.items) (sym e) (omega (arith, start), tt);
+  }
+
+module _ (s : Sight) (n hi width from last at insertions : ℕ) (curr : ThreadList) (best : Option Ending) (found : List (Option ℕ)) where
+  -- A pass for the longest walk whose only thread has gone on to x.
+  pub runs_alone : (t : Thread) (r : Head) (insertions2 : ℕ) (next : ThreadList) → IsRunFrom s n hi width from last at insertions curr best found →
+      curr.items ≡ t ∷ [] → next ≡ record curr { items = thread_of r t.slots ∷ [] } → t.at ≡ at → r.start ≡ t.start → r.place < n → at ≤ r.at →
+      r.at ≤ hi → insertions2 ≡ insertions + (r.at - at) →
+      ((all : List (Trace × Pair)) → Races s all t.at [] [] ((trace t.start t.slots, (t.place, t.at)) ∷ starts_to width t.at last) best found →
+      Races s all r.at [] [] ((trace r.start t.slots, (r.place, r.at)) ∷ starts_to width r.at last) best found) →
+      IsRunFrom s n hi width from last r.at insertions2 next best found
+  runs_alone t r insertions2 next p one moved here start place later within count run = record {
+    races = subst (λ (l : ThreadList). Races s (starts_to width from last) r.at [] [] (map pending l.items ++ starts_to width r.at last) best found) (sym moved)
+        (run (starts_to width from last)
+        (subst (λ y. Races s (starts_to width from last) y [] [] ((trace t.start t.slots, (t.place, t.at)) ∷ starts_to width y last) best found) (sym here)
+        (subst (λ ts. Races s (starts_to width from last) at [] [] (map pending ts ++ starts_to width at last) best found) one p.races)));
+    lined = lined_moved n hi width at insertions insertions2 curr next t r one moved later count p.lined start place within;
+    ended = counted_more insertions insertions2 best (omega (arith, count)) p.ended;
+    few = few_moved n hi width at insertions insertions2 curr next t r one moved later count from p.few p.reached place;
+    reached = omega (arith, later, p.reached);
+    within = omega (arith, within);
   }

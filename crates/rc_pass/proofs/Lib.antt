@@ -32,5 +32,6 @@ pub mod RaceLemmas
 pub mod RaceMoveLemmas
 pub mod RaceStepLemmas
 pub mod RacePassLemmas
+pub mod RaceAloneLemmas
 pub mod OnwardLemmas
 pub mod AloneLemmas

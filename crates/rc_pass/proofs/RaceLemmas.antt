@@ -99,7 +99,7 @@ module _ (ways : Pair → List Pair) (Ends : Pair → Type 0) (H : Type 0) (note
       (past_upto H start at y ts past)
       (subst (λ k. Pends ways (EndsThere Ends e) H note [] [] k None o) (upto_append H start y rs ts) x)
 
-  within_swap : (best : Option (H × ℕ)) (rs a b : List (H × Pair)) → ((Holds : ℕ → Type 0) → Each start Holds a → Each start Holds b) →
+  pub within_swap : (best : Option (H × ℕ)) (rs a b : List (H × Pair)) → ((Holds : ℕ → Type 0) → Each start Holds a → Each start Holds b) →
       AreWithin start best (rs ++ a) → AreWithin start best (rs ++ b)
   within_swap None rs a b f w = tt
   within_swap (Some c) rs a b f w = each_swap H start (λ y. y ≤ start c.0) rs a b (f (λ y. y ≤ start c.0)) w

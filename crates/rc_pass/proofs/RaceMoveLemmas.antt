@@ -140,7 +140,7 @@ module _ (s : Sight) (all : List (Trace × Pair)) (at : ℕ) where
         (upto_all Trace began start (map pending rest) (rising_before Trace began (map pending rest) (trace start slots, (p, at)) (kept best ts) y.rising)) z)))
 
     module _ (p start : ℕ) (slots : List (Option ℕ)) (fresh : ¬ Has items p) (sought : IsSought best start) where
-      plain_on : (ms : List Pair) (ts : List (Trace × Pair)) → next_of s (p, at) ≡ ms → IsPlain s (p, at) →
+      pub plain_on : (ms : List Pair) (ts : List (Trace × Pair)) → next_of s (p, at) ≡ ms → IsPlain s (p, at) →
           Races s all at rest items ((trace start slots, (p, at)) ∷ ts) best found →
           Races s all at rest (items ++ p ∷ []) (threads (trace start slots) ms ++ ts) best found
       plain_on ms ts out plain x =

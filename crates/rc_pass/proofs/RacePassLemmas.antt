@@ -50,7 +50,7 @@ none_kept None = refl
 none_kept (Some r) = refl
 
 -- of later starts none is kept
-cut_starts : (best : Option Ending) (width at last : ℕ) → IsCutOff best at → kept best (starts_to width at last) ≡ []
+pub cut_starts : (best : Option Ending) (width at last : ℕ) → IsCutOff best at → kept best (starts_to width at last) ≡ []
 cut_starts None width at last cut = absurd cut
 cut_starts (Some r) width at last cut = upto_none Trace began at r.start (starts_to width at last) cut (each_from width at at (last + 1 - at) (omega arith))
 
@@ -204,15 +204,20 @@ module _ (s : Sight) (n hi width from last : ℕ) where
       (subst (λ ts. Races s (starts_to width from last) at [] [] ts best found) (starts_over width at last past) (alone at insertions curr best found p none)) low
 
   -- no thread is left, and no start that is sought
+  pub runs_spent : (at insertions : ℕ) (curr : ThreadList) (best : Option Ending) (found : List (Option ℕ)) →
+      IsRunFrom s n hi width from last at insertions curr best found → length curr.items ≡ 0 → IsCutOff best at → from ≤ last →
+      GivesLongest s width from last (best_of best found)
+  runs_spent at insertions curr best found p none cut low =
+      done at best found
+      (subst (λ ts. IsRacing (next_of s) (Ends s) Trace (note s.places) began (starts_to width from last) at [] [] ts (leading best found))
+      (cut_starts best width at last cut ∙ sym (none_kept best)) (alone at insertions curr best found p (no_threads curr.items none))) low
+
   pub runs_stop : (at insertions : ℕ) (curr : ThreadList) (best : Option Ending) (found : List (Option ℕ)) →
       IsRunFrom s n hi width from last (at + 1) insertions curr best found → length curr.items ≡ 0 → (last ≤ at) ⊎ IsCutOff best (at + 1) → from ≤ last →
       GivesLongest s width from last (best_of best found)
   runs_stop at insertions curr best found p none no_start low =
-      let no_items = no_threads curr.items none in
-      ⊎_elim (λ l. past_last (at + 1) insertions curr best found p no_items (omega (arith, l)) low)
-      (λ cut. done (at + 1) best found
-      (subst (λ ts. IsRacing (next_of s) (Ends s) Trace (note s.places) began (starts_to width from last) (at + 1) [] [] ts (leading best found))
-      (cut_starts best width (at + 1) last cut ∙ sym (none_kept best)) (alone (at + 1) insertions curr best found p no_items)) low) no_start
+      ⊎_elim (λ l. past_last (at + 1) insertions curr best found p (no_threads curr.items none) (omega (arith, l)) low)
+      (λ cut. runs_spent (at + 1) insertions curr best found p none cut low) no_start
 
   -- all positions are done
   pub runs_end : (at insertions : ℕ) (curr : ThreadList) (best : Option Ending) (found : List (Option ℕ)) →
@@ -222,7 +227,7 @@ module _ (s : Sight) (n hi width from last : ℕ) where
       past_last at insertions curr best found p (none_in n at (min hi (at + 3)) curr.items p.lined.inside (omega (arith, past))) (omega (arith, past, high)) low
 
   -- an idle pass goes on at a later position, where no start between has a walk
-  runs_skip : (at x insertions : ℕ) (curr : ThreadList) (found : List (Option ℕ)) → IsRunFrom s n hi width from last at insertions curr None found →
+  pub runs_skip : (at x insertions : ℕ) (curr : ThreadList) (found : List (Option ℕ)) → IsRunFrom s n hi width from last at insertions curr None found →
       curr.items ≡ [] → at ≤ x → x ≤ hi → ((y : ℕ) → at ≤ y → y < x → HasNoWalkFrom s y) → IsRunFrom s n hi width from last x insertions curr None found
   runs_skip at x insertions curr found p no_items low high none = record {
     races = subst (λ ts. Races s (starts_to width from last) x [] [] (map pending ts ++ starts_to width x last) None found) (sym no_items)

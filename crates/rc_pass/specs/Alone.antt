@@ -1,12 +1,14 @@
 -- Only proofs use this file.
 -- Places from which no walk leads on, and threads that go on alone.
-use Rattle.std.specs.Prelude.{◌≡◌, ℕ, ◌+◌, ◌<◌, ◌⊎◌, List, [], ◌∷◌, Option, Some, None, IsTrue}
+use Rattle.std.specs.Prelude.{◌≡◌, ℕ, ◌+◌, ◌<◌, ◌≤◌, ◌⊎◌, List, [], ◌∷◌, Option, Some, None, IsTrue}
 use Rattle.rc_walks.specs.Walks.{Pair, HasNoWalk}
 use Rattle.rc_pass.specs.Sights.{Sight, ends, next_of}
 use Rattle.rc_pass.specs.Moves.{IsMove}
 use Rattle.rc_pass.specs.Threads.{Thread}
 use Rattle.rc_pass.specs.Trace.{Trace}
 use Rattle.rc_pass.specs.Passing.{Carries}
+use Rattle.rc_pass.specs.Races.{Races, IsSought}
+use Rattle.rc_pass.specs.declared.pass.Ending.{Ending}
 use Rattle.rc_pass.specs.declared.moves.Move.{Move}
 use Rattle.rc_pass.specs.declared.moves.Move.TheVariants.{Matches, Reads}
 
@@ -19,10 +21,12 @@ abbrev pub tried_at : ℕ → Option ℕ → List Pair
 tried_at at None = []
 tried_at at (Some p) = (p, at) ∷ []
 
--- what a thread gives that goes on at q, one gives that goes on at p
-abbrev pub LeadsTo : Sight → ℕ → ℕ → ℕ → Type 0
-LeadsTo s at p q = (h : Trace) (resting : List Thread) (below : List (Trace × Pair)) (best o : Option Trace)
-    → Carries s at resting [] ((h, (q, at)) ∷ below) best o → Carries s at resting [] ((h, (p, at)) ∷ below) best o
+-- What a thread gives that goes on at q, one gives that goes on at p; and in a pass for the longest walk one at p may go on at q.
+pub record LeadsTo (s : Sight) (at p q : ℕ) : Type 0 where
+  pub carries : (h : Trace) (resting : List Thread) (below : List (Trace × Pair)) (best o : Option Trace) →
+      Carries s at resting [] ((h, (q, at)) ∷ below) best o → Carries s at resting [] ((h, (p, at)) ∷ below) best o
+  pub races : (h : Trace) (all below : List (Trace × Pair)) (best : Option Ending) (found : List (Option ℕ)) → IsSought best h.start →
+      Races s all at [] [] ((h, (p, at)) ∷ below) best found → Races s all at [] [] ((h, (q, at)) ∷ below) best found
 
 -- Of the two ways on from p, walks lead on by q alone.
 abbrev pub IsChosen : Sight → ℕ → ℕ → ℕ → ℕ → ℕ → Type 0
@@ -53,3 +57,9 @@ pub record EndsAlone (s : Sight) (at : ℕ) (threads : List Thread) (p : ℕ) : 
   pub place : ℕ
   pub leads : LeadsTo s at thread.place place
   pub move : IsMove s (place, at) (Matches p)
+
+-- Of a walk that began at `start` and goes on at `at` no other one can stand in the way: it began before, and the best so far began no
+-- earlier, and ended before.
+abbrev pub IsAhead : Option Ending → ℕ → ℕ → Type 0
+IsAhead None start at = start < at
+IsAhead (Some r) start at = (start ≤ r.start) × (r.start < at) × (r.end < at)

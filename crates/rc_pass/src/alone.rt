@@ -9,6 +9,7 @@ ghost use Rattle.rc_pass.specs.Entrances.{IsOnWay};
 ghost use Rattle.rc_pass.specs.Moves.{IsMove, IsSetting, seen_by};
 ghost use Rattle.rc_pass.specs.Near.{IsHere, seen_from, size};
 ghost use Rattle.rc_pass.specs.Passing.{Carries, IsPassing, waiting_starts};
+ghost use Rattle.rc_pass.specs.Races.{Races, IsCutOff, IsSought, starts_to};
 ghost use Rattle.rc_pass.specs.Roots.{StandsFor};
 ghost use Rattle.rc_pass.specs.Scratches.{IsSame};
 ghost use Rattle.rc_pass.specs.Sights.{HasNoWalkFrom};
@@ -156,7 +157,7 @@ fn onward(spot: &Spot, from: usize) -> Option<(usize, Move)>
 }
 
 /// The first way on from the place, where the second is a dead end; else the place itself.
-fn opening(course: Course, place: usize) -> usize
+pub(crate) fn opening(course: Course, place: usize) -> usize
     ghost text: { Searched }
     requires place_in { place < size course }
     ensures inside { result < size course.entry }
@@ -196,7 +197,7 @@ fn may_set_out(spot: &Spot, is_open: bool, way: usize, tried: usize) -> bool
 
 /// Lets a lone thread go on through the window, as long as it reads single bytes and no other sets out, where `is_open`. Beside the thread
 /// stands the pattern of which its walk ends, where one is seen to end. The place `way` is the opening of place 0.
-fn run(
+pub(crate) fn run(
     course: Course,
     window: &Window,
     is_open: bool,
@@ -216,6 +217,12 @@ fn run(
         ((trace result.0.start slots, (result.0.place, result.0.at)) ∷ waiting_starts is_open width result.0.at course.entry.last) best o
         → Carries (seen_by course.entry text) head.at [] []
         ((trace head.start slots, (head.place, head.at)) ∷ waiting_starts is_open width head.at course.entry.last) best o }
+    ensures races { (all : List (Trace × Pair)) (slots : List (Option ℕ)) (width : ℕ) (best : Option Ending) (found : List (Option ℕ))
+        → IsSought best head.start → (is_open ≡ false → IsCutOff best head.at)
+        → Races (seen_by course.entry text) all head.at [] []
+        ((trace head.start slots, (head.place, head.at)) ∷ starts_to width head.at course.entry.last) best found
+        → Races (seen_by course.entry text) all result.0.at [] []
+        ((trace result.0.start slots, (result.0.place, result.0.at)) ∷ starts_to width result.0.at course.entry.last) best found }
     ensures start { result.0.start ≡ head.start }
     ensures place_in { result.0.place < size course.entry }
     ensures later { head.at ≤ result.0.at }
@@ -257,7 +264,7 @@ fn run(
 /// The position from which a pass goes on that has come to `at`, with no thread under way: no walk leads on from the starts before it. Beside
 /// it stands the place at which a thread goes on that sets out there and reads one byte, where that is seen.
 /// The place `root` stands for place 0, and `way` is its opening.
-fn seek(
+pub(crate) fn seek(
     course: Course,
     window: &Window,
     root: usize,
@@ -352,7 +359,7 @@ fn go_alone(
 
 /// Lets the only thread go on elsewhere, so many positions later.
 #[inline(always)]
-fn move_alone(head: Head, count: usize, scratch: &mut Scratch)
+pub(crate) fn move_alone(head: Head, count: usize, scratch: &mut Scratch)
     requires small { scratch.old.insertions + count < 2 ^ 128 }
     requires alone { length scratch.old.curr.items ≡ 1 }
     ensures insertions { scratch.new.insertions ≡ scratch.old.insertions + count }

@@ -13,6 +13,7 @@ pub mod longest;
 mod moves;
 mod pass;
 mod race;
+mod race_alone;
 mod race_closure;
 mod scratch;
 pub mod search;

@@ -6,7 +6,9 @@ ghost use Rattle.rc_pass.specs.Sights.{HasNoWalkFrom};
 ghost use Rattle.rc_literal.specs.Guards.{Guards};
 ghost use Rattle.rc_literal.specs.Prefilters.{needles_of};
 ghost use Rattle.rc_program.specs.Places.{places_of};
-ghost use Rattle.rc_pass.specs.Alone.{EndsAlone, ReadsOne};
+ghost use Rattle.rc_pass.specs.Alone.{EndsAlone, IsAhead, ReadsOne};
+ghost use Rattle.rc_pass.specs.Races.{Races, starts_to};
+ghost use Rattle.rc_pass.specs.Threads.{Thread};
 ghost use Rattle.rc_pass.specs.Near.{IsHere, seen_from, size};
 ghost use Rattle.rc_pass.specs.Moves.{IsSetting, seen_by};
 ghost use Rattle.rc_pass.specs.Roots.{StandsFor};
@@ -28,7 +30,7 @@ use rc_text::cursor::Cursor;
 use rc_text::input::Input;
 
 /// How often in a row a lone thread, or a lone start, may be seen not to be simple.
-const PATIENCE: u32 = 4;
+pub(crate) const PATIENCE: u32 = 4;
 
 /// A walk that has ended.
 #[derive(Clone, Copy)]
@@ -228,6 +230,14 @@ pub fn end_walk(course: Course, at: usize, number: usize, scratch: &mut Scratch)
         (Some result) scratch.new.found.items o
         → Pending (seen_by course.entry text) scratch.old.next.threads.width course.entry.last at scratch.old.curr.items
         best scratch.old.found.items o }
+    ensures races { (all : List (Trace × Pair)) (best : Option Ending)
+        → IsAhead best result.start at
+        → Races (seen_by course.entry text) all at [] []
+        (map pending scratch.old.curr.items ++ starts_to scratch.old.next.threads.width at course.entry.last) best scratch.old.found.items
+        → Races (seen_by course.entry text) all (at + 1) [] []
+        (map pending scratch.new.curr.items ++ starts_to scratch.old.next.threads.width (at + 1) course.entry.last) (Some result)
+        scratch.new.found.items }
+    ensures start { (t : Thread) → scratch.old.curr.items ≡ t ∷ [] → result.start ≡ t.start }
     ensures lined { IsLined (size course.entry) course.entry.hi scratch.old.next.threads.width (at + 1) scratch.new.insertions scratch.new.curr }
     ensures same { IsSame scratch.old scratch.new }
     ensures counted { IsCounted scratch.new.insertions (Some result) }
@@ -261,6 +271,11 @@ pub fn set_out_alone(course: Course, at: usize, root: usize, next: usize, scratc
         None scratch.new.found.items o
         → Pending (seen_by course.entry text) scratch.old.next.threads.width course.entry.last at scratch.old.curr.items
         None scratch.old.found.items o }
+    ensures races { root ≡ 0 → (all : List (Trace × Pair))
+        → Races (seen_by course.entry text) all at [] []
+        (map pending scratch.old.curr.items ++ starts_to scratch.old.next.threads.width at course.entry.last) None scratch.old.found.items
+        → Races (seen_by course.entry text) all (at + 1) [] []
+        (map pending scratch.new.curr.items ++ starts_to scratch.old.next.threads.width (at + 1) course.entry.last) None scratch.new.found.items }
     ensures lined { IsLined (size course.entry) course.entry.hi scratch.old.next.threads.width (at + 1) scratch.new.insertions scratch.new.curr }
     ensures same { IsSame scratch.old scratch.new }
     ensures few { scratch.new.insertions ≤ scratch.old.insertions + 1 }
@@ -278,7 +293,7 @@ pub fn set_out_alone(course: Course, at: usize, root: usize, next: usize, scratc
 }
 
 /// How often what is simple is tried after it was in vain: where it is often in vain, it isn't tried to the end of the pass.
-fn patience_left(patience: u32, has_moved: bool, threads: usize) -> u32 {
+pub(crate) fn patience_left(patience: u32, has_moved: bool, threads: usize) -> u32 {
     if has_moved {
         return PATIENCE;
     }

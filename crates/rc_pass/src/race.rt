@@ -13,7 +13,8 @@ ghost use Rattle.rc_pass.specs.Races.{Races, IsCutOff, starts_to, GivesLongest};
 ghost use Rattle.rc_pass.specs.Scratches.{IsSame};
 
 use crate::growth::{Growth, copy_row};
-use crate::pass::{Ending, empty, is_idle, next_position};
+use crate::pass::{Ending, PATIENCE, empty, is_idle, next_position, patience_left};
+use crate::race_alone::glide;
 use crate::race_closure::{is_sought, run, way_in};
 use crate::scratch::Scratch;
 use crate::spot::{Course, Spot};
@@ -150,6 +151,13 @@ fn is_over(curr: &Threads, best: Option<Ending>, at: usize, last: usize) -> bool
     at >= last || !is_sought(best, at + 1)
 }
 
+/// Whether at the position no thread is left to go on, and no start is sought.
+fn is_spent(curr: &Threads, best: Option<Ending>, at: usize) -> bool
+    ensures { IsTrue result → (length curr.now.items ≡ 0) × IsCutOff best at }
+{
+    curr.len() == 0 && !is_sought(best, at)
+}
+
 /// One pass over the positions from `from` on: of the starts from there on the least that has a walk, and its longest walk, with its slots in
 /// `found`. Without a match, `found` is left as it was.
 ///
@@ -181,6 +189,7 @@ pub fn race<C: Cursor>(
     scratch.curr.clear(scratch.next.slots.len());
     let mut window = open(input, from);
     let mut at = from;
+    let mut patience = PATIENCE;
     'positions: while at <= course.hi {
         let idle = is_idle(&scratch.curr, best);
         let Some(next_at) = next_position(input, course, prefilter, at, idle) else {
@@ -188,6 +197,20 @@ pub fn race<C: Cursor>(
         };
         at = next_at;
         reach(&mut window, input, at);
+        let here = glide(
+            course,
+            &window,
+            patience > 0,
+            prefilter.is_none(),
+            &mut best,
+            at,
+            scratch,
+        );
+        patience = patience_left(patience, here > at, scratch.curr.len());
+        if is_spent(&scratch.curr, best, here) {
+            return best;
+        }
+        at = here;
         turn(&spot_at(course, &window, at), &mut best, scratch);
         if is_over(&scratch.curr, best, at, course.last) {
             return best;

@@ -1,8 +1,7 @@
-use Rattle.std.proofs.Common.{◌≡◌, ℕ, ◌+◌, ◌≤◌, None, is_none, sym, ap, subst, ◌∙◌, arith}
+use Rattle.std.proofs.Common.{◌≡◌, ℕ, ◌+◌, None, is_none, sym, ap, subst, ◌∙◌, arith}
 use Rattle.rc_pass.specs.Near.{size}
 use Rattle.rc_pass.specs.Moves.{seen_by}
 use Rattle.rc_pass.specs.Passing.{IsPassing}
-use Rattle.rc_pass.proofs.KeptLemmas.{begun_from}
 use Rattle.rc_pass.proofs.PassingLemmas.{passing_skips, passing_turns}
 use Rattle.rc_pass.proofs.AloneLemmas.{none_yet}
 use Rattle.rc_pass.proofs.alone.begin.Given.{Over}

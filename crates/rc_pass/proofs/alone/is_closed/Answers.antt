@@ -1,4 +1,4 @@
-use Rattle.std.proofs.Common.{⊎_elim, sym, subst}
+use Rattle.std.proofs.Common.{⊎_elim, subst}
 use Rattle.rc_pass.specs.Near.{seen_from}
 use Rattle.rc_pass.specs.Sights.{Sight}
 use Rattle.rc_pass.specs.Alone.{IsDead}

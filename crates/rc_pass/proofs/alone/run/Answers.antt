@@ -1,10 +1,11 @@
-use Rattle.std.proofs.Common.{◌≡◌, ℕ, ◌+◌, [], ◌∷◌, subst, sym, arith}
-use Rattle.rc_pass.specs.Near.{seen_from, size}
+use Rattle.std.proofs.Common.{◌≡◌, ℕ, ◌+◌, ◌≤◌, true, [], ◌∷◌, subst, arith}
+use Rattle.rc_pass.specs.Near.{seen_from}
 use Rattle.rc_pass.specs.Sights.{Sight}
 use Rattle.rc_pass.specs.Moves.{IsMove, seen_by}
 use Rattle.rc_pass.specs.Alone.{IsDead}
-use Rattle.rc_pass.specs.declared.moves.Move.TheVariants.{Reads, Matches}
+use Rattle.rc_pass.specs.declared.moves.Move.TheVariants.{Reads}
 use Rattle.rc_pass.proofs.AloneLemmas.{inside_program, reads_alone}
+use Rattle.rc_pass.proofs.RaceAloneLemmas.{cut_later, raced_alone}
 use Rattle.rc_pass.proofs.alone.run.Goals as goal
 
 pub positions-preserved : goal.positions-preserved
@@ -17,6 +18,10 @@ positions-preserved g c =
     let inside = inside_program c.spot_at-spot.result g.text tried (Reads next c.in-Reads.to) m in
     let here = rw (c.spot_at-spot.ensures.course, c.spot_at-spot.ensures.at) at m in
     let to : c.in-Reads.to ≡ at + 1 = omega (arith, c.if-to-at.false) in
+    let reads = subst (λ to. IsMove s (tried, at) (Reads next to)) to here in
+    let leads = rw (c.spot_at-spot.ensures.course, c.spot_at-spot.ensures.at) at c.in-Some.ensures.leads in
+    let dead : c.args.is_open ≡ true → at ≤ c.args.course.last → IsDead s ((tried, at) ∷ []) (0, at) =
+    λ e le. rw (c.spot_at-spot.ensures.course, c.spot_at-spot.ensures.at) at (c.may_set_out.ensures c.if-may_set_out.false) e le in
     record {
       place_in = rw c.spot_at-spot.ensures.course at inside;
       later = omega (arith, c.positions.invariant.later);
@@ -25,9 +30,11 @@ positions-preserved g c =
       carries = λ slots width best o x.
           c.positions.invariant.carries slots width best o
           (reads_alone s at width c.args.course.last best o c.args.is_open c.positions.place tried next c.args.head.start slots
-          (rw (c.spot_at-spot.ensures.course, c.spot_at-spot.ensures.at) at c.in-Some.ensures.leads)
-          (subst (λ to. IsMove s (tried, at) (Reads next to)) to here)
-          (λ e le. rw (c.spot_at-spot.ensures.course, c.spot_at-spot.ensures.at) at (c.may_set_out.ensures c.if-may_set_out.false) e le) x);
+          leads reads dead x);
+      races = λ all slots width best found sought cut x.
+          raced_alone s all at width c.args.course.last best found c.args.is_open c.positions.place tried next c.args.head.start slots leads reads
+          (λ e. cut_later best c.args.head.at at c.positions.invariant.later (cut e)) dead sought
+          (c.positions.invariant.races all slots width best found sought cut x);
     }
 
 pub may_set_out-requires : goal.may_set_out-requires

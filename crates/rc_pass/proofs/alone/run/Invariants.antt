@@ -1,8 +1,11 @@
-use Rattle.std.proofs.Common.{ℕ, ◌-◌, ◌<◌, ◌≤◌, List, [], ◌∷◌, Option}
+use Rattle.std.proofs.Common.{◌≡◌, ℕ, false, ◌-◌, ◌<◌, ◌≤◌, List, [], ◌∷◌, Option}
 use Rattle.rc_pass.specs.Moves.{seen_by}
 use Rattle.rc_pass.specs.Near.{size}
 use Rattle.rc_pass.specs.Trace.{Trace, trace}
 use Rattle.rc_pass.specs.Passing.{Carries, waiting_starts}
+use Rattle.rc_walks.specs.Walks.{Pair}
+use Rattle.rc_pass.specs.Races.{Races, IsCutOff, IsSought, starts_to}
+use Rattle.rc_pass.specs.declared.pass.Ending.{Ending}
 use Rattle.rc_pass.specs.Windows.{IsAround}
 use Rattle.rc_pass.proofs.alone.run.Given as goal
 
@@ -16,6 +19,11 @@ invariant-positions g l = record {
       → Carries (seen_by l.course g.text) l.at [] [] ((trace l.head.start slots, (l.place, l.at)) ∷ waiting_starts l.is_open width l.at l.course.last) best o
       → Carries (seen_by l.course g.text) l.head.at [] []
       ((trace l.head.start slots, (l.head.place, l.head.at)) ∷ waiting_starts l.is_open width l.head.at l.course.last) best o;
+  races : (all : List (Trace × Pair)) (slots : List (Option ℕ)) (width : ℕ) (best : Option Ending) (found : List (Option ℕ))
+      → IsSought best l.head.start → (l.is_open ≡ false → IsCutOff best l.head.at)
+      → Races (seen_by l.course g.text) all l.head.at [] [] ((trace l.head.start slots, (l.head.place, l.head.at)) ∷ starts_to width l.head.at l.course.last)
+      best found
+      → Races (seen_by l.course g.text) all l.at [] [] ((trace l.head.start slots, (l.place, l.at)) ∷ starts_to width l.at l.course.last) best found;
 }
 
 abbrev pub decreases-positions : goal.decreases-positions

@@ -1,10 +1,10 @@
 use Rattle.std.proofs.Common.{◌≡◌, ℕ, ◌+◌, [], ⊎_elim, subst, arith}
 use Rattle.std.proofs.lemmas.Bool.{cases_lt}
 use Rattle.rc_pass.specs.Sights.{Sight, HasNoWalkFrom}
-use Rattle.rc_pass.specs.Near.{seen_from, size}
+use Rattle.rc_pass.specs.Near.{seen_from}
 use Rattle.rc_pass.specs.Moves.{IsMove, seen_by}
 use Rattle.rc_pass.specs.Alone.{IsDead}
-use Rattle.rc_pass.specs.declared.moves.Move.TheVariants.{Reads, Stops}
+use Rattle.rc_pass.specs.declared.moves.Move.TheVariants.{Reads}
 use Rattle.rc_pass.proofs.AloneLemmas.{inside_program, dead_stops, dead_on, leads_on, leads_then}
 use Rattle.rc_pass.proofs.alone.seek.Goals as goal
 use Rattle.rc_pass.proofs.alone.seek.Goals.{in-Stops, in_default-step+else-not-leads_nowhere}

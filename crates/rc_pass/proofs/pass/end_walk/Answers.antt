@@ -1,9 +1,10 @@
-use Rattle.std.proofs.Common.{◌≡◌, ◌+◌, ◌-◌, [], ◌∷◌, length, sym, ap, arith}
+use Rattle.std.proofs.Common.{◌≡◌, ◌+◌, ◌-◌, [], ◌∷◌, length, sym, ap, ◌∙◌, arith}
 use Rattle.rc_pass.specs.Moves.{seen_by}
 use Rattle.rc_pass.specs.Near.{size}
-use Rattle.rc_pass.specs.Threads.{ThreadList, thread_of}
+use Rattle.rc_pass.specs.Threads.{Thread, ThreadList, thread_of}
 use Rattle.rc_pass.proofs.StepLemmas.{from_at}
 use Rattle.rc_pass.proofs.AloneLemmas.{only_thread, ends_alone, lined_none}
+use Rattle.rc_pass.proofs.RaceAloneLemmas.{raced_ends_alone}
 use Rattle.rc_pass.proofs.pass.end_walk.Given.{Over}
 use Rattle.rc_pass.proofs.pass.end_walk.Goals as goal
 use Rattle.rc_pass.proofs.pass.end_walk.Goals.{After-get}
@@ -34,3 +35,18 @@ returns-clause-counted g c =
     let b = from_at (c.args.at - c.args.scratch.now.insertions) c.args.scratch.now.curr.items 0
     (thread_of c.get.result.0 c.get.result.1.now) c.requires.0.begun c.get.ensures.item in
     omega (arith, b)
+
+pub returns-clause-races : goal.returns-clause-races
+returns-clause-races g c all best ahead x =
+    raced_ends_alone (seen_by c.args.course g.text) all c.args.at c.args.scratch.now.next.threads.width c.args.course.last
+    c.args.scratch.now.curr.items c.args.number best c.args.scratch.now.found.items c.copy_row.new.slots.items
+    (thread_of c.get.result.0 c.get.result.1.now) c.clear.new.self.items c.requires.1.1 (one g (goal.at.returns-clause-races g c).After-get)
+    c.copy_row.ensures.items (ap (λ (l : ThreadList). l.items) c.clear.ensures) ahead x
+
+pub returns-clause-start : goal.returns-clause-start
+returns-clause-start g c t e =
+    let both = sym (one g (goal.at.returns-clause-start g c).After-get) ∙ e in
+    ap (λ (u : Thread). u.start) (same_first (thread_of c.get.result.0 c.get.result.1.now) t both)
+  where
+    same_first : (u t : Thread) → u ∷ [] ≡ t ∷ [] → u ≡ t
+    same_first u t e = cc

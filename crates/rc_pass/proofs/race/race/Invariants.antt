@@ -25,3 +25,6 @@ ghost-spot_at g a = g.text
 
 abbrev pub ghost-turn : goal.ghost-turn
 ghost-turn g a = g.text
+
+abbrev pub ghost-glide : goal.ghost-glide
+ghost-glide g a = g.text
