@@ -1,4 +1,4 @@
-use Rattle.std.proofs.Common.{◌+◌, ◌<◌, ◌≤◌, length, sym, subst, arith}
+use Rattle.std.proofs.Common.{◌+◌, ◌<◌, sym, subst, arith}
 use Rattle.rc_dense.specs.Cells.{met, row_of}
 use Rattle.rc_dense.specs.Searches.{InRow, Stands}
 use Rattle.rc_dense.proofs.LeapLemmas.{leapt}
