@@ -9,6 +9,7 @@ use crate::judge::{CUTTINGS, over_each_cutting};
 use crate::row::{Quits, Row, Want};
 use crate::{parses, searches};
 use rc_settings::error::BuildError;
+use rc_text::types::Match;
 use std::alloc::Global;
 
 /// A DFA's tables for a direction are left out where they are larger than this, in bytes.
@@ -103,8 +104,13 @@ fn first_found(
 ) -> Result<(Option<usize>, Vec<Option<(usize, usize)>>), Fault> {
     let cursor = Cut::whole(&row.text);
     let captures = engines.unfiltered.captures(alloc, input(row, cursor)?)?;
-    let number = captures.get_match().map(|found| found.pattern().as_usize());
+    let number = number_of(captures.get_match());
     let groups = searches::spans_of(alloc, &captures);
     drop(captures);
     Ok((number, groups?))
+}
+
+/// The number of the match's pattern.
+fn number_of(found: Option<Match>) -> Option<usize> {
+    Some(found?.pattern().as_usize())
 }

@@ -9,10 +9,10 @@ use crate::inputs::{input, start_at};
 use crate::row::{Pair, Row};
 use rc_build::texts::parse_all;
 use rc_captures::captures::Captures;
-use rc_pattern::hir::{Class, Hir, HirKind, Look, Repetition};
+use rc_pattern::hir::{Capture, Class, Hir, HirKind, Look, Repetition};
 use rc_program::look::{holds, scalar_at};
 use rc_text::types::{Anchored, MatchKind};
-use std::alloc::Global;
+use std::alloc::{AllocError, Global};
 
 /// How many choices of one repetition are made at most.
 const MOST_CHOICES: u32 = 1000000;
@@ -223,18 +223,31 @@ fn parses(alloc: Global, view: &View, hir: &Hir, start: usize) -> Result<Vec<Par
         HirKind::Class(class) => ending(alloc, end_of_class(view, class, start)),
         HirKind::Look(look) => ending(alloc, end_of_look(view, *look, start)),
         HirKind::Repetition(repetition) => repeated(alloc, view, repetition, start),
-        HirKind::Capture(capture) => {
-            let mut found = parses(alloc, view, &capture.sub, start)?;
-            for parse in &mut found {
-                parse
-                    .marks
-                    .push((capture.index as usize, (start, parse.end)))?;
-            }
-            Ok(found)
-        }
+        HirKind::Capture(capture) => captured(alloc, view, capture, start),
         HirKind::Concat(subs) => all_in_turn(alloc, view, subs, start),
         HirKind::Alternation(subs) => any(alloc, view, subs, start),
     }
+}
+
+/// The parses of a group: those of its pattern, each with the group's span.
+#[cycle(parses)]
+fn captured(
+    alloc: Global,
+    view: &View,
+    capture: &Capture,
+    start: usize,
+) -> Result<Vec<Parse>, Fault> {
+    let mut found = parses(alloc, view, &capture.sub, start)?;
+    mark(&mut found, capture.index as usize, start)?;
+    Ok(found)
+}
+
+/// Gives each of the parses from a start the group's span.
+fn mark(found: &mut Vec<Parse>, group: usize, start: usize) -> Result<(), AllocError> {
+    for parse in found {
+        parse.marks.push((group, (start, parse.end)))?;
+    }
+    Ok(())
 }
 
 /// The parses of patterns one after another: by the first one's choices before those of the others.

@@ -81,6 +81,14 @@ impl Capacity {
 /// The limit on the tables of a DFA where a row sets none.
 const DFA_LIMIT: usize = 1048576;
 
+/// What a word says of a limit: `none`, or a number.
+fn limit(word: &str) -> Result<Option<usize>, Fault> {
+    if word == "none" {
+        return Ok(None);
+    }
+    Ok(Some(number(word)?))
+}
+
 impl<'a> Settings<'a> {
     /// What holds where a row sets nothing.
     pub fn new() -> Settings<'a> {
@@ -103,7 +111,22 @@ impl<'a> Settings<'a> {
 
     /// Sets what has this name.
     pub fn set(&mut self, name: &str, value: &'a str) -> Result<(), Fault> {
-        match (name, value) {
+        match name {
+            "limit" => self.limit = limit(value)?,
+            "terminator" => {
+                self.terminator = value.parse().ok().ok_or(Fault::UnreadSetting)?;
+            }
+            "needle" => self.needle = Some(value),
+            "capacity" => self.capacity = Some(Capacity::read(value)?),
+            "dfa_limit" => self.dfa_limit = Some(number(value)?),
+            _ => return same(self.set_to(name, value), Fault::UnreadSetting),
+        }
+        Ok(())
+    }
+
+    /// Sets what has this name to one of the words that it may have. Answers whether there is such a word.
+    fn set_to(&mut self, name: &str, word: &str) -> bool {
+        match (name, word) {
             ("utf8", "no") => self.syntax = self.syntax.utf8(false),
             ("unicode", "no") => self.syntax = self.syntax.unicode(false),
             ("nocase", "yes") => self.syntax = self.syntax.case_insensitive(true),
@@ -113,21 +136,13 @@ impl<'a> Settings<'a> {
             ("utf8_empty", "no") => self.utf8_empty = false,
             ("captures", "implicit") => self.which = WhichCaptures::Implicit,
             ("captures", "none") => self.which = WhichCaptures::None,
-            ("limit", "none") => self.limit = None,
-            ("limit", _) => self.limit = Some(number(value)?),
-            ("terminator", _) => {
-                self.terminator = value.parse().ok().ok_or(Fault::UnreadSetting)?;
-            }
-            ("needle", _) => self.needle = Some(value),
             ("walker", "no") => self.walker = false,
             ("tables", "no") => self.tables = false,
-            ("capacity", _) => self.capacity = Some(Capacity::read(value)?),
             ("clears", "may") => self.clears = true,
             ("byte_classes", "no") => self.byte_classes = false,
-            ("dfa_limit", _) => self.dfa_limit = Some(number(value)?),
-            _ => return Err(Fault::UnreadSetting),
+            _ => return false,
         }
-        Ok(())
+        true
     }
 
     /// The settings of a regex.
