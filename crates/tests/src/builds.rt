@@ -85,27 +85,46 @@ fn ill_formed_patterns(rt: HostRuntime) -> Result<(), Fail> {
     let alloc = rt.alloc();
     let pattern = PatternID::new(1).ok_or("no number")?;
     let refusal = BuildError::IllFormed { pattern };
-    let named = vec![in alloc; group(alloc, 1)?, group(alloc, 2)?]?;
-    for hir in [
-        group(alloc, 2)?,
-        Hir::concat(alloc, named)?,
-        nested(alloc, 1, 3, 2)?,
-        nested(alloc, 1024, 1, 1)?,
-    ] {
-        let hirs = [Hir::literal(alloc, b"a")?, hir];
-        assert!(rt; check(alloc, &hirs, Some(0)) == Err(refusal));
-        let built = Regex::builder().build_many_from_hir(alloc, &hirs);
-        assert!(rt; built.err() == Some(refusal));
+    let two = two_of_a_name(alloc)?;
+    assert!(rt; is_refused_behind_a_letter(alloc, two, refusal)?);
+    let late = group(alloc, 2)?;
+    assert!(rt; is_refused_behind_a_letter(alloc, late, refusal)?);
+    for (depth, min, max) in [(1, 3, 2), (1024, 1, 1)] {
+        let hir = nested(alloc, depth, min, max)?;
+        assert!(rt; is_refused_behind_a_letter(alloc, hir, refusal)?, "{depth}");
     }
     Ok(())
+}
+
+/// Two groups of one name, one behind the other.
+fn two_of_a_name(alloc: Global) -> Result<Hir, AllocError> {
+    let groups = vec![in alloc; group(alloc, 1)?, group(alloc, 2)?]?;
+    Hir::concat(alloc, groups)
+}
+
+/// Whether the pattern is refused behind a letter, by a check and by a build.
+fn is_refused_behind_a_letter(
+    alloc: Global,
+    hir: Hir,
+    refusal: BuildError,
+) -> Result<bool, AllocError> {
+    let hirs = [Hir::literal(alloc, b"a")?, hir];
+    let checked = check(alloc, &hirs, Some(0));
+    let built = Regex::builder().build_many_from_hir(alloc, &hirs);
+    drop(hirs);
+    Ok(checked == Err(refusal) && built.err() == Some(refusal))
 }
 
 #[test]
 fn a_regex_nested_to_the_limit(rt: HostRuntime) -> Result<(), Fail> {
     let alloc = rt.alloc();
     let hir = nested(alloc, 1023, 1, 1)?;
-    let regex = Regex::builder().build_from_hir(alloc, &hir)?;
-    assert!(rt; end_of(alloc, &regex, b"a")? == Some(1));
+    let built = Regex::builder().build_from_hir(alloc, &hir);
+    drop(hir);
+    let regex = built?;
+    let end = end_of(alloc, &regex, b"a");
+    drop(regex);
+    assert!(rt; end? == Some(1));
     Ok(())
 }
 
@@ -113,7 +132,11 @@ fn a_regex_nested_to_the_limit(rt: HostRuntime) -> Result<(), Fail> {
 fn a_vm_nested_to_the_limit(rt: HostRuntime) -> Result<(), Fail> {
     let alloc = rt.alloc();
     let hir = nested(alloc, 1023, 1, 1)?;
-    let vm = PikeVM::builder().build_many_from_hir(alloc, std::slice::from_ref(&hir))?;
-    assert!(rt; matches(alloc, &vm, b"a")?);
+    let built = PikeVM::builder().build_many_from_hir(alloc, std::slice::from_ref(&hir));
+    drop(hir);
+    let vm = built?;
+    let matches = matches(alloc, &vm, b"a");
+    drop(vm);
+    assert!(rt; matches?);
     Ok(())
 }

@@ -6,7 +6,7 @@ use rc_settings::error::BuildError;
 use rc_settings::states::Config as States;
 use rc_text::chunks::ChunkCursor;
 use rc_text::input::Input;
-use rc_text::types::{MatchError, MatchKind};
+use rc_text::types::{Match, MatchError, MatchKind};
 use regex_cursor::engines::meta::{Config, Regex};
 use regex_cursor::engines::pikevm::{PikeVM, is_match};
 use regex_cursor::engines::{dfa, hybrid};
@@ -27,9 +27,12 @@ pub fn end_of(alloc: Global, regex: &Regex, text: &[u8]) -> Result<Option<usize>
 /// Whether the `PikeVM` matches in the text, in a cache that is reset and takes memory.
 pub fn matches(alloc: Global, vm: &PikeVM, text: &[u8]) -> Result<bool, AllocError> {
     let mut cache = vm.create_cache(alloc)?;
-    cache.reset(vm)?;
+    let reset = cache.reset(vm);
     let found = is_match(vm, &mut cache, &mut Input::new(text));
-    Ok(found && cache.memory_usage() > 0)
+    let bytes = cache.memory_usage();
+    drop(cache);
+    reset?;
+    Ok(found && bytes > 0)
 }
 
 /// Where the match of the tables in `xab` starts and ends.
@@ -51,10 +54,10 @@ fn ends_by_states(
 ) -> Result<Option<(usize, usize)>, AllocError> {
     let mut cache = states.create_cache(alloc)?;
     let mut input = Input::new(b"xab".as_slice());
-    let Ok(Some(found)) = hybrid::try_search(states, &mut cache, &mut input) else {
-        return Ok(None);
-    };
-    let Ok(Some(start)) = hybrid::try_search_rev(states, &mut cache, &mut input) else {
+    let found = hybrid::try_search(states, &mut cache, &mut input);
+    let start = hybrid::try_search_rev(states, &mut cache, &mut input);
+    drop(cache);
+    let (Ok(Some(found)), Ok(Some(start))) = (found, start) else {
         return Ok(None);
     };
     Ok(Some((start.offset(), found.end())))
@@ -135,8 +138,11 @@ fn inputs(rt: HostRuntime) -> Result<(), Fail> {
 /// Whether the regex and its cache, which is reset, take memory.
 fn takes_memory(alloc: Global, regex: &Regex) -> Result<bool, AllocError> {
     let mut cache = regex.create_cache(alloc)?;
-    cache.reset(regex)?;
-    Ok(regex.memory_usage() > 0 && cache.memory_usage() > 0)
+    let reset = cache.reset(regex);
+    let bytes = cache.memory_usage();
+    drop(cache);
+    reset?;
+    Ok(regex.memory_usage() > 0 && bytes > 0)
 }
 
 #[test]
@@ -199,6 +205,19 @@ fn ends_at(
     })
 }
 
+/// What a search in the text by states tells in a cache of its own, and how many bytes the cache takes then.
+fn told_by(
+    alloc: Global,
+    states: &hybrid::Regex,
+    text: &[u8],
+) -> Result<(Result<Option<Match>, MatchError>, usize), AllocError> {
+    let mut cache = states.create_cache(alloc)?;
+    let found = hybrid::find(states, &mut cache, &mut Input::new(text));
+    let bytes = cache.memory_usage();
+    drop(cache);
+    Ok((found, bytes))
+}
+
 /// Whether a search in the text by states in a cache as small as may be ends where it should or is given up, within that capacity twice.
 fn ends_within(
     alloc: Global,
@@ -209,12 +228,12 @@ fn ends_within(
 ) -> Result<bool, BuildError> {
     let mut builder = hybrid::Regex::builder();
     builder.dfa(States::new().cache_capacity(least));
-    let states = builder.build(alloc, pattern)?;
-    let mut cache = states.create_cache(alloc)?;
-    let found = hybrid::find(&states, &mut cache, &mut Input::new(text));
-    let bytes = cache.memory_usage();
-    drop(cache);
+    let built = builder.build(alloc, pattern);
+    drop(builder);
+    let states = built?;
+    let told = told_by(alloc, &states, text);
     drop(states);
+    let (found, bytes) = told?;
     let is_right = match found {
         Ok(Some(found)) => Some(found.end()) == want,
         Ok(None) => want.is_none(),

@@ -24,6 +24,7 @@ fn ends(alloc: Global, regex: &Regex) -> Result<(usize, usize), AllocError> {
     for found in regex.find_iter_with(&mut cache, &mut again) {
         last = found.end();
     }
+    drop(cache);
     Ok((total, last))
 }
 
@@ -31,11 +32,12 @@ fn ends(alloc: Global, regex: &Regex) -> Result<(usize, usize), AllocError> {
 fn last_group(alloc: Global, regex: &Regex) -> Result<Option<Span>, AllocError> {
     let mut cache = regex.create_cache(alloc)?;
     let mut input = Input::new(TEXT);
-    let mut group = None;
+    let mut group = Ok(None);
     for item in regex.captures_iter_with(alloc, &mut cache, &mut input) {
-        group = item?.get_group(2);
+        group = item.map(|captures| captures.get_group(2));
     }
-    Ok(group)
+    drop(cache);
+    group
 }
 
 /// The first match, its end, and its first group, by what keeps its cache.
@@ -47,8 +49,9 @@ fn kept(
     let mut input = Input::new(TEXT);
     let found = finder.find(&mut input);
     let half = finder.find_end(&mut input);
-    let group = finder.captures(alloc, &mut input)?.get_group(1);
-    Ok((found, half, group))
+    let captures = finder.captures(alloc, &mut input);
+    drop(finder);
+    Ok((found, half, captures?.get_group(1)))
 }
 
 #[test]

@@ -83,32 +83,39 @@ fn lists(alloc: Global, regex: &Regex) -> Result<bool, AllocError> {
 /// Whether the list of captures has two matches, or ends after its refusal.
 fn ends_once_refused(alloc: Global, regex: &Regex) -> Result<bool, AllocError> {
     let mut matches = 0u8;
-    let mut refused = false;
+    let mut refusals = 0u8;
+    let mut is_last = true;
     for item in again!(regex.captures_iter(alloc, Input::new(TEXT))) {
-        if refused {
-            return Ok(false);
-        }
-        match item {
-            Ok(_) => matches = matches.saturating_add(1),
-            Err(_) => refused = true,
+        is_last = is_last && refusals == 0;
+        if item.is_ok() {
+            matches = matches.saturating_add(1);
+        } else {
+            refusals = refusals.saturating_add(1);
         }
     }
-    Ok(refused || matches == 2)
+    Ok(is_last && (refusals == 1 || matches == 2))
 }
 
 /// Whether the other engines and calls serve, made again where they were refused.
 fn engines(alloc: Global) -> Result<bool, BuildError> {
     let vm = again!(PikeVM::new(alloc, PATTERN));
-    let mut cache = again!(vm.create_cache(alloc));
-    let matches = is_match(&vm, &mut cache, &mut Input::new(TEXT));
-    drop(cache);
+    let matches = matches_by(alloc, &vm);
     drop(vm);
+    let matches = matches?;
     let tables = again!(dfa::Regex::new(alloc, PATTERN));
     let found = dfa::find(&tables, &mut Input::new(TEXT));
     drop(tables);
     let needles: [&[u8]; 2] = [b"ab", b"cd"];
     let prefilter = again!(Prefilter::new(alloc, MatchKind::LeftmostFirst, &needles));
     Ok(matches && matches!(found, Ok(Some(_))) && prefilter.is_some() && met(alloc)?)
+}
+
+/// Whether the `PikeVM` matches.
+fn matches_by(alloc: Global, vm: &PikeVM) -> Result<bool, AllocError> {
+    let mut cache = again!(vm.create_cache(alloc));
+    let matches = is_match(vm, &mut cache, &mut Input::new(TEXT));
+    drop(cache);
+    Ok(matches)
 }
 
 /// Whether a search by states that are made as they are met answers, or says that memory was refused.
