@@ -153,6 +153,13 @@ placed_on needles content text hi offset from at to same before after i low high
       | inr g ↦ subst (λ t. needle_at needles t hi i ≡ None) same (after i g high)
     ]
 
+-- nor at both
+pub placed_behind : (needles : List (List ℕ)) (content text piece : List ℕ) (hi offset from at passed to : ℕ) → text ≡ content →
+    NonePlaced needles offset content hi from at → piece ≡ slice_range content at (at + length piece) →
+    ((k : ℕ) → k < passed → IsRuledOut needles offset piece k) → NonePlaced needles offset text hi (at + passed) to → NonePlaced needles offset content hi from to
+placed_behind needles content text piece hi offset from at passed to same before is out after =
+    placed_on needles content text hi offset from (at + passed) to same (more_placed needles content piece hi offset from at passed before is out) after
+
 -- so none stands from the start on up to where the places end
 pub starts_passed : (needles : List (List ℕ)) (content : List ℕ) (lo hi offset at place : ℕ) → NoneBefore needles content hi lo at →
     NonePlaced needles offset content hi (at + offset) place → NoneBefore needles content hi lo (place - offset)

@@ -1,5 +1,5 @@
 //! Where a needle may stand, in a piece of a chunk and in the content.
-ghost use Rattle.std.specs.Prelude.{◌≡◌, ◌+◌, ◌<◌, ◌≤◌, ℕ, IsTrue, List, None, length, slice_index};
+ghost use Rattle.std.specs.Prelude.{◌≡◌, ◌+◌, ◌<◌, ◌≤◌, ℕ, IfSome, IsTrue, List, None, length, slice_index};
 ghost use Rattle.rc_text.specs.Text.{Keeps};
 ghost use Rattle.rc_literal.specs.Needles.{needle_at};
 ghost use Rattle.rc_literal.specs.Scans.{AreHeadsOf, AreHeadsOf-is_fact, IsRestOf};
@@ -24,6 +24,13 @@ const LONG_PIECE: usize = 8192;
 /// A needle with more bytes from the offset on is left to the library, whose search stays linear.
 const LONG_REST: usize = 32;
 
+/// A place up to which chunks were passed over, and whether a needle may belong to it.
+#[derive(Clone, Copy)]
+struct Reached {
+    at: usize,
+    is_candidate: bool,
+}
+
 /// A way to look for needles in a piece of a chunk.
 trait Candidates {
     /// The needles.
@@ -32,15 +39,16 @@ trait Candidates {
     /// How many bytes behind a needle's start that stands which is looked for.
     ghost offset: { Self → ℕ };
 
-    /// Whether it is seen at once that no needle belongs to a place of the piece.
-    fn passes(&self, piece: &[u8]) -> bool
-        ensures { IsTrue result → (k : ℕ) → k < length piece.now → IsRuledOut (needles self.now) (offset self.now) piece.now k };
-
     /// The first place of the piece to which a needle may belong that starts the offset before it, or
     /// the piece's length.
     fn candidate(&self, piece: &[u8]) -> usize
         ensures within { result ≤ length piece.now }
         ensures passed { (k : ℕ) → k < result → IsRuledOut (needles self.now) (offset self.now) piece.now k };
+
+    /// The same, if a quick look tells it.
+    fn quick_candidate(&self, piece: &[u8]) -> Option<usize>
+        ensures within { IfSome result (λ at. at ≤ length piece.now) }
+        ensures passed { IfSome result (λ at. (k : ℕ) → k < at → IsRuledOut (needles self.now) (offset self.now) piece.now k) };
 }
 
 /// Looks for the only needle from the offset on.
@@ -61,17 +69,20 @@ impl Candidates for ByRest<'_> {
     ghost offset = { λ s. s.searcher.now.offset };
 
     #[inline(always)]
-    fn passes(&self, piece: &[u8]) -> bool {
-        is_between(piece, LANES, SHORT_PIECE) && are_nowhere(piece, self.first, self.second)
-    }
-
-    #[inline(always)]
     fn candidate(&self, piece: &[u8]) -> usize {
         let rest = self.rest.needle();
         if rest.len() <= LONG_REST && is_between(piece, LANES, LONG_PIECE) {
             return first_place(piece, rest);
         }
         rest_candidate(self.rest, piece)
+    }
+
+    #[inline(always)]
+    fn quick_candidate(&self, piece: &[u8]) -> Option<usize> {
+        if is_between(piece, LANES, SHORT_PIECE) && are_nowhere(piece, self.first, self.second) {
+            return Some(piece.len());
+        }
+        None
     }
 }
 
@@ -90,11 +101,6 @@ impl Candidates for ByHead<'_> {
     ghost offset = { λ s. s.searcher.now.offset };
 
     #[inline(always)]
-    fn passes(&self, _: &[u8]) -> bool {
-        false
-    }
-
-    #[inline(always)]
     fn candidate(&self, piece: &[u8]) -> usize {
         match self.heads {
             Heads::One(one) => memchr(one, piece).unwrap_or(piece.len()),
@@ -104,6 +110,11 @@ impl Candidates for ByHead<'_> {
             }
             Heads::Many => head_candidate(&self.searcher.table, piece),
         }
+    }
+
+    #[inline(always)]
+    fn quick_candidate(&self, _: &[u8]) -> Option<usize> {
+        None
     }
 }
 
@@ -122,13 +133,13 @@ impl Candidates for BySieve<'_> {
     ghost offset = { λ s. s.searcher.now.offset };
 
     #[inline(always)]
-    fn passes(&self, piece: &[u8]) -> bool {
-        is_between(piece, LANES, SHORT_PIECE) && self.candidate(piece) == piece.len()
+    fn candidate(&self, piece: &[u8]) -> usize {
+        sieve_candidate(self.sieve, &self.searcher.table, piece)
     }
 
     #[inline(always)]
-    fn candidate(&self, piece: &[u8]) -> usize {
-        sieve_candidate(self.sieve, &self.searcher.table, piece)
+    fn quick_candidate(&self, piece: &[u8]) -> Option<usize> {
+        Some(self.candidate(piece))
     }
 }
 
@@ -213,31 +224,49 @@ fn look_from<C: Cursor, L: Candidates>(
         if passed < len {
             return at;
         }
-        at = chunks_passed(input, look, at, end);
+        let reached = chunks_passed(input, look, at, end);
+        at = reached.at;
+        if reached.is_candidate {
+            return at;
+        }
     }
     at
 }
 
-/// Where the chunks end that follow one another from `from` on and are passed over at once, at or
-/// below `end`.
+/// Where quick looks no longer pass over the chunks that follow one another from `from` on, at or below
+/// `end`.
 #[inline(always)]
 fn chunks_passed<C: Cursor, L: Candidates>(
     input: &mut Input<C>,
     look: &L,
     from: usize,
     end: usize,
-) -> usize
+) -> Reached
     requires inside { end ≤ length input.old.content }
     ensures keeps { Keeps input.old input.new }
-    ensures low { from ≤ result }
-    ensures passed { (i : ℕ) → from ≤ i + L.offset look.now → i + L.offset look.now < result
+    ensures low { from ≤ result.at }
+    ensures passed { (i : ℕ) → from ≤ i + L.offset look.now → i + L.offset look.now < result.at
         → needle_at (L.needles look.now) input.old.content end i ≡ None }
 {
     let mut at = from;
-    while takes_next(input, at, end) && look.passes(input.chunk()) {
-        at += input.chunk().len();
+    while takes_next(input, at, end) {
+        let chunk = input.chunk();
+        let len = chunk.len();
+        let Some(passed) = look.quick_candidate(chunk) else {
+            break;
+        };
+        at += passed;
+        if passed < len {
+            return Reached {
+                at,
+                is_candidate: true,
+            };
+        }
     }
-    at
+    Reached {
+        at,
+        is_candidate: false,
+    }
 }
 
 /// The same, by the searcher's needles and offset.

@@ -5,7 +5,7 @@ ghost use Rattle.rc_literal.specs.Tables.{IsUsable, needles_in};
 ghost use Rattle.std.specs.Bool.{Decides};
 ghost use Rattle.rc_literal.specs.Prefilters.{needles_of};
 
-use crate::scan::{Heads, Scan, Searcher, are_long, searcher_of};
+use crate::scan::{Heads, Scan, Searcher, are_long, have_few_heads, searcher_of};
 use rc_text::types::MatchKind;
 use std::alloc::{AllocError, Global};
 use std::fmt;
@@ -14,8 +14,9 @@ use std::fmt;
 ///
 /// A search for one needle passes over short chunks by two of its bytes that stand side by side, and
 /// goes by those behind them too; one for needles that begin with at most three bytes goes by these.
-/// Several needles of at least three bytes, and up to 64 others that begin with more, go by a sieve
-/// of their first three bytes; more go by a trie, so that the work at a place grows with the bytes that
+/// Several needles of at least three bytes, or of at least two where one begins with a byte that is common
+/// in typical text, and up to 64 others that begin with more than three bytes go by a sieve of their first
+/// three bytes; more go by a trie, so that the work at a place grows with the bytes that
 /// are read there, and not with how many needles there are. Where each of more than 64 has two bytes, the
 /// trie is asked where a table of bits lets the first three stand. Fewer than 16 needles have no trie: of
 /// those alone are compared that begin with the byte there.
@@ -54,12 +55,13 @@ impl Prefilter {
         most
     }
 
-    /// Whether a search goes by a needle, by at most three bytes, or by a sieve of needles that have all
-    /// the bytes that it reads.
+    /// Whether a search goes by a needle, by at most three bytes, or by a sieve of needles that begin with
+    /// at most three, or that have all the bytes that it reads.
     pub fn is_fast(&self) -> bool {
+        let table = &self.searcher.table;
         match &self.searcher.scan {
             Scan::Heads(Heads::Many) => false,
-            Scan::Sieve(_) => are_long(&self.searcher.table.needles),
+            Scan::Sieve(_) => are_long(&table.needles) || have_few_heads(table),
             _ => true,
         }
     }

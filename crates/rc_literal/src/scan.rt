@@ -10,6 +10,9 @@ use memchr::arch::all::packedpair::{DefaultFrequencyRank, HeuristicFrequencyRank
 use memchr::memmem::Finder;
 use std::alloc::{AllocError, Global};
 
+/// A byte is common in typical text from this rank of the library's on.
+const LEAST_COMMON: u8 = 210;
+
 /// The bytes with which needles begin.
 #[derive(Clone, Copy, Drop)]
 pub enum Heads {
@@ -73,8 +76,7 @@ fn scan_of(table: &Table) -> Scan
     ensures { IsScanOf (needles_in table.now.needles.items) 0 result }
 {
     let heads = heads_of(table);
-    let is_many = matches!(heads, Heads::Many);
-    if is_many || (table.needles.len() > 1 && are_long(&table.needles)) {
+    if matches!(heads, Heads::Many) || suits_sieve(&table.needles) {
         if let Some(sieve) = sieve_of(&table.needles) {
             return Scan::Sieve(sieve);
         }
@@ -82,9 +84,39 @@ fn scan_of(table: &Table) -> Scan
     Scan::Heads(heads)
 }
 
+/// Whether several needles are sought sooner by a sieve than by few bytes with which they begin: each has
+/// the three bytes that it reads, or each has two, and one begins with a byte that stands close together.
+fn suits_sieve(needles: &[Vec<u8>]) -> bool {
+    if needles.len() < 2 {
+        return false;
+    }
+    let have_two = needles.iter().all(|needle| needle.len() >= 2);
+    are_long(needles) || (have_two && needles.iter().any(|needle| begins_common(needle)))
+}
+
 /// Whether each of the needles has at least the three bytes that a sieve reads.
 pub fn are_long(needles: &[Vec<u8>]) -> bool {
     needles.iter().all(|needle| needle.len() >= 3)
+}
+
+/// Whether the needles begin with at most three bytes.
+pub fn have_few_heads(table: &Table) -> bool {
+    !matches!(heads_of(table), Heads::Many)
+}
+
+/// Whether the needle begins with a byte that is common in typical text.
+fn begins_common(needle: &[u8]) -> bool {
+    match needle.first() {
+        Some(byte) => is_common(*byte),
+        None => false,
+    }
+}
+
+/// Whether the byte is common in typical text. The library ranks most bytes past ASCII as common, which
+/// they are in few texts; here none is.
+fn is_common(byte: u8) -> bool {
+    let ranks = DefaultFrequencyRank;
+    byte < 128 && ranks.rank(byte) >= LEAST_COMMON
 }
 
 /// Where in the needle its two bytes side by side stand that are rarest in typical text.

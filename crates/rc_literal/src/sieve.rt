@@ -1,4 +1,4 @@
-//! A sieve that passes over the places where none of some needles begins, 16 places at a time.
+//! A sieve that passes over the places where none of some needles begins, 32 places at a time.
 ghost use Rattle.std.specs.Prelude.{◌≡◌, ◌+◌, ◌*◌, ◌/◌, ◌<◌, ◌≤◌, ◌^◌, ℕ, IfSome, IsTrue, List, length, slice_index};
 ghost use Rattle.std.specs.Int.{bit_at};
 ghost use Rattle.rc_literal.specs.Sieves.{AreLanes, AreSifted, IsSifted, buckets, sifted};
@@ -7,12 +7,15 @@ ghost use Rattle.rc_literal.specs.Tables.{Agrees, needles_in};
 use crate::pairs::lowest;
 use std::simd::prelude::*;
 
-/// How many places a vector covers.
-const LANES: usize = 16;
+/// How many places a vector covers: half of those that are looked up at a time.
+const HALF: usize = 16;
+
+/// How many places are looked up at a time.
+const LANES: usize = 2 * HALF;
 
 /// How many bytes a piece has at least in which the sieve is used: those of a vector, and two that
 /// are read behind them.
-pub const LEAST_PIECE: usize = LANES + 2;
+pub const LEAST_PIECE: usize = HALF + 2;
 
 /// How many needles a sieve is made for at most.
 const GREATEST_COUNT: usize = 64;
@@ -121,9 +124,22 @@ impl Sieve {
     }
 
     /// A number whose bit k is set where a bucket takes the three bytes from `at + k` on, or in a set the
-    /// first of them, for each k below 16.
+    /// first of them, for each k below 32.
     #[inline(always)]
     fn marks(&self, piece: &[u8], at: usize) -> u64
+        requires { at + 34 ≤ length piece.now }
+        ensures small { result < 2 ^ 32 }
+        ensures set { (k : ℕ) → k < 32 → 0 < sifted self.now (slice_index piece.now (at + k))
+            (slice_index piece.now (at + 1 + k)) (slice_index piece.now (at + 2 + k)) → bit_at result k ≡ 1 }
+    {
+        let low = self.half_marks(piece, at);
+        let high = self.half_marks(piece, at + HALF);
+        low | high << HALF
+    }
+
+    /// The same for each k below 16.
+    #[inline(always)]
+    fn half_marks(&self, piece: &[u8], at: usize) -> u64
         requires { at + 18 ≤ length piece.now }
         ensures small { result < 2 ^ 16 }
         ensures set { (k : ℕ) → k < 16 → 0 < sifted self.now (slice_index piece.now (at + k))
@@ -149,14 +165,32 @@ impl Sieve {
     {
         let last = piece.len() - LEAST_PIECE;
         let mut at = 0;
-        while at < last {
+        while at + HALF < last {
             let marks = self.marks(piece, at);
             if marks != 0 {
                 return at + lowest(marks);
             }
             at += LANES;
         }
-        let marks = self.marks(piece, last);
+        self.place_at_end(piece, at)
+    }
+
+    /// The same from a place on, where at most 32 places are left to be looked up.
+    #[inline(always)]
+    fn place_at_end(&self, piece: &[u8], from: usize) -> usize
+        requires long { LEAST_PIECE ≤ length piece.now }
+        requires near { length piece.now ≤ from + 34 }
+        ensures within { result + 2 ≤ length piece.now }
+        ensures passed { (needle : List ℕ) → IsSifted self.now needle → (k : ℕ) → from ≤ k → k < result → ¬ Agrees piece.now needle k }
+    {
+        let last = piece.len() - LEAST_PIECE;
+        if from < last {
+            let marks = self.half_marks(piece, from);
+            if marks != 0 {
+                return from + lowest(marks);
+            }
+        }
+        let marks = self.half_marks(piece, last);
         if marks != 0 {
             return last + lowest(marks);
         }

@@ -1,9 +1,9 @@
-use Rattle.std.proofs.Common.{◌-◌}
+use Rattle.std.proofs.Common.{◌+◌, ◌-◌, ◌≤◌, length}
 use Rattle.rc_literal.proofs.SieveLemmas.{NoneSifted}
 use Rattle.rc_literal.proofs.sieve.Sieve.place.Given as goal
 
 abbrev pub invariant-loop-at : goal.invariant-loop-at
-invariant-loop-at l = NoneSifted l.self l.piece l.at
+invariant-loop-at l = record { within : l.at + 2 ≤ length l.piece; passed : NoneSifted l.self l.piece 0 l.at }
 
 abbrev pub decreases-loop-at : goal.decreases-loop-at
 decreases-loop-at l = l.last - l.at
