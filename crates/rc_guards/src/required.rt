@@ -1,13 +1,14 @@
 //! Needles of which each match of some patterns holds one.
-ghost use Rattle.std.specs.Prelude.{◌≡◌, ℕ, List, Some, IfOk, IfSome, MatchOption, map, option_map};
+ghost use Rattle.std.specs.Prelude.{◌≡◌, ℕ, List, ◌∷◌, Some, IfOk, IfSome, MatchOption, map, option_map};
 ghost use Rattle.rc_pattern.specs.Meaning.{alt_all, cat_all, meaning};
-ghost use Rattle.rc_pattern.specs.Re.{literal};
 ghost use Rattle.rc_program.specs.Text.{Text};
+ghost use Rattle.rc_literal.specs.Literals.{literal_bytes};
 ghost use Rattle.rc_literal.specs.Tables.{IsUsable, needles_in};
 ghost use Rattle.rc_guards.specs.Needs.{Holds};
-ghost use Rattle.rc_guards.specs.Required.{AreNeeded, better, joined, needed, shortest};
+ghost use Rattle.rc_guards.specs.Required.{AreNeeded, better, joined, literal_needle, needed, next_bytes, only_byte, shortest, with_rest};
 
 use rc_literal::prefilter::is_usable;
+use rc_literal::prefixes::prefixes;
 use rc_pattern::hir::{Hir, HirKind};
 use std::alloc::{AllocError, Global};
 
@@ -17,20 +18,29 @@ const GREATEST_COUNT: usize = 64;
 /// How many bytes of a literal are kept at most.
 const GREATEST_LENGTH: usize = 32;
 
+/// How many needles a byte becomes at most with what is read behind it.
+const GREATEST_REST: usize = 16;
+
 /// Needles of which each text holds one, somewhere, that one of the patterns spells; none of them is empty.
 ///
 /// They are literals that have to be read, of each at most its first 32 bytes: of a concatenation those of the
 /// member whose shortest is the longest, and of an alternation those of each member. An alternation has none
-/// where a member has none, or where they would be more than 64. The patterns are taken as an alternation:
+/// where a member has none, or where they would be more than 64. With `longer` a literal of one byte in a
+/// concatenation has each of the prefixes of the next member behind it, as `rc_literal::prefixes` tells
+/// them, where these are at most 16: so those of `:[0-9]` are `:0` to `:9`. The patterns are taken as an alternation:
 /// None where that has none. An `Err` is want of memory. It takes time linear in the patterns' size, with
 /// at most 64 needles moved for each node, and calls itself as deep as a pattern is.
-pub fn required(alloc: Global, hirs: &[Hir]) -> Result<Option<Vec<Vec<u8>>>, AllocError>
+pub fn required(
+    alloc: Global,
+    hirs: &[Hir],
+    longer: bool,
+) -> Result<Option<Vec<Vec<u8>>>, AllocError>
     ensures usable { IfOk result (λ found. IfSome found (λ v. IsUsable (needles_in v.items))) }
-    ensures exact { IfOk result (λ found. MatchOption found ((ws : List (List ℕ)) → ¬ AreNeeded (map meaning hirs.now) ws)
-        (λ v. AreNeeded (map meaning hirs.now) (needles_in v.items))) }
+    ensures exact { IfOk result (λ found. MatchOption found ((ws : List (List ℕ)) → ¬ AreNeeded longer (map meaning hirs.now) ws)
+        (λ v. AreNeeded longer (map meaning hirs.now) (needles_in v.items))) }
     ensures holds { IfOk result (λ found. IfSome found (λ v. (t : Text) → Holds t (map meaning hirs.now) (needles_in v.items))) }
 {
-    let Some(needles) = needed_by_each(alloc, hirs)? else {
+    let Some(needles) = needed_by_each(alloc, hirs, longer)? else {
         return Ok(None);
     };
     if !is_usable(&needles) {
@@ -41,8 +51,8 @@ pub fn required(alloc: Global, hirs: &[Hir]) -> Result<Option<Vec<Vec<u8>>>, All
 
 /// The needles of a pattern; None where it has to read no literal, and where they are too many.
 #[cycle(needed)]
-fn needed(alloc: Global, hir: &Hir) -> Result<Option<Vec<Vec<u8>>>, AllocError>
-    ensures { IfOk result (λ found. option_map (λ v. needles_in v.items) found ≡ needed (meaning hir.now)) }
+fn needed(alloc: Global, hir: &Hir, longer: bool) -> Result<Option<Vec<Vec<u8>>>, AllocError>
+    ensures { IfOk result (λ found. option_map (λ v. needles_in v.items) found ≡ needed longer (meaning hir.now)) }
 {
     match hir.kind() {
         HirKind::Empty | HirKind::Look(_) | HirKind::Class(_) => Ok(None),
@@ -51,34 +61,46 @@ fn needed(alloc: Global, hir: &Hir) -> Result<Option<Vec<Vec<u8>>>, AllocError>
             if repetition.min == 0 {
                 return Ok(None);
             }
-            needed(alloc, &repetition.sub)
+            needed(alloc, &repetition.sub, longer)
         }
-        HirKind::Capture(capture) => needed(alloc, &capture.sub),
-        HirKind::Concat(subs) => needed_by_one(alloc, subs),
-        HirKind::Alternation(subs) => needed_by_each(alloc, subs),
+        HirKind::Capture(capture) => needed(alloc, &capture.sub, longer),
+        HirKind::Concat(subs) => needed_by_one(alloc, subs, longer),
+        HirKind::Alternation(subs) => needed_by_each(alloc, subs, longer),
     }
 }
 
 /// The needles of the member of a concatenation whose shortest is the longest; None where no member has some.
 #[cycle(needed)]
-fn needed_by_one(alloc: Global, subs: &[Hir]) -> Result<Option<Vec<Vec<u8>>>, AllocError>
-    ensures { IfOk result (λ found. option_map (λ v. needles_in v.items) found ≡ needed (cat_all (map meaning subs.now))) }
+fn needed_by_one(
+    alloc: Global,
+    subs: &[Hir],
+    longer: bool,
+) -> Result<Option<Vec<Vec<u8>>>, AllocError>
+    ensures { IfOk result (λ found. option_map (λ v. needles_in v.items) found ≡ needed longer (cat_all (map meaning subs.now))) }
 {
     let mut best = None;
     for i in (0..subs.len()).rev() {
-        best = better(needed(alloc, &subs[i])?, best);
+        let mut first = needed(alloc, &subs[i], longer)?;
+        if longer {
+            first = with_rest(alloc, &subs[i], &subs[i + 1..], first)?;
+        }
+        best = better(first, best);
     }
     Ok(best)
 }
 
 /// The needles of each member of an alternation; None where one has none, and where they are too many.
 #[cycle(needed)]
-fn needed_by_each(alloc: Global, subs: &[Hir]) -> Result<Option<Vec<Vec<u8>>>, AllocError>
-    ensures { IfOk result (λ found. option_map (λ v. needles_in v.items) found ≡ needed (alt_all (map meaning subs.now))) }
+fn needed_by_each(
+    alloc: Global,
+    subs: &[Hir],
+    longer: bool,
+) -> Result<Option<Vec<Vec<u8>>>, AllocError>
+    ensures { IfOk result (λ found. option_map (λ v. needles_in v.items) found ≡ needed longer (alt_all (map meaning subs.now))) }
 {
     let mut list = Vec::new(alloc);
     for i in (0..subs.len()).rev() {
-        let Some(first) = needed(alloc, &subs[i])? else {
+        let Some(first) = needed(alloc, &subs[i], longer)? else {
             return Ok(None);
         };
         match joined(first, list)? {
@@ -91,7 +113,7 @@ fn needed_by_each(alloc: Global, subs: &[Hir]) -> Result<Option<Vec<Vec<u8>>>, A
 
 /// The first bytes of a literal; None where it has none.
 fn literal_needle(alloc: Global, bytes: &[u8]) -> Result<Option<Vec<Vec<u8>>>, AllocError>
-    ensures { IfOk result (λ found. option_map (λ v. needles_in v.items) found ≡ needed (literal bytes.now)) }
+    ensures { IfOk result (λ found. option_map (λ v. needles_in v.items) found ≡ literal_needle bytes.now) }
 {
     if bytes.is_empty() {
         return Ok(None);
@@ -99,6 +121,77 @@ fn literal_needle(alloc: Global, bytes: &[u8]) -> Result<Option<Vec<Vec<u8>>>, A
     let mut list = Vec::with_capacity(alloc, 1)?;
     list.push(bytes[..bytes.len().min(GREATEST_LENGTH)].to_vec(alloc)?)?;
     Ok(Some(list))
+}
+
+/// The needles of a member of a concatenation before the others; those of a literal of one byte with what is read behind it, where that
+/// begins with few prefixes.
+fn with_rest(
+    alloc: Global,
+    member: &Hir,
+    rest: &[Hir],
+    needles: Option<Vec<Vec<u8>>>,
+) -> Result<Option<Vec<Vec<u8>>>, AllocError>
+    ensures { IfOk result (λ found. option_map (λ v. needles_in v.items) found
+        ≡ with_rest (meaning member.now) (cat_all (map meaning rest.now)) (option_map (λ v. needles_in v.items) needles)) }
+{
+    let Some(byte) = only_byte(member) else {
+        return Ok(needles);
+    };
+    let Some(behind) = next_bytes(alloc, rest)? else {
+        return Ok(needles);
+    };
+    Ok(Some(with_each(alloc, byte, &behind)?))
+}
+
+/// The byte of a literal that has no other.
+fn only_byte(hir: &Hir) -> Option<u8>
+    ensures { result ≡ only_byte (literal_bytes (meaning hir.now)) }
+{
+    match hir.kind() {
+        HirKind::Literal(bytes) => {
+            if bytes.len() != 1 {
+                return None;
+            }
+            Some(bytes[0])
+        }
+        HirKind::Empty
+        | HirKind::Class(_)
+        | HirKind::Look(_)
+        | HirKind::Repetition(_)
+        | HirKind::Capture(_)
+        | HirKind::Concat(_)
+        | HirKind::Alternation(_) => None,
+    }
+}
+
+/// The prefixes of a concatenation's first member; None where there is no member, or it has none or many.
+fn next_bytes(alloc: Global, subs: &[Hir]) -> Result<Option<Vec<Vec<u8>>>, AllocError>
+    ensures { IfOk result (λ found. option_map (λ v. needles_in v.items) found ≡ next_bytes (cat_all (map meaning subs.now))) }
+{
+    if subs.is_empty() {
+        return Ok(None);
+    }
+    let Some(list) = prefixes(alloc, &subs[..1])? else {
+        return Ok(None);
+    };
+    if list.len() > GREATEST_REST {
+        return Ok(None);
+    }
+    Ok(Some(list))
+}
+
+/// The byte with each of the others behind it.
+fn with_each(alloc: Global, byte: u8, behind: &[Vec<u8>]) -> Result<Vec<Vec<u8>>, AllocError>
+    ensures { IfOk result (λ list. needles_in list.items ≡ map (λ w. byte ∷ w) (needles_in behind.now)) }
+{
+    let mut list = Vec::with_capacity(alloc, behind.len())?;
+    for rest in behind {
+        let mut needle = Vec::new(alloc);
+        needle.push(byte)?;
+        needle.extend_from_slice(rest)?;
+        list.push(needle)?;
+    }
+    Ok(list)
 }
 
 /// Of two members' needles those whose shortest is longer, and the first member's where they are alike.
