@@ -1,5 +1,5 @@
 -- What a thread's entering of a place does to the patterns that are owed.
-use Rattle.std.proofs.Common.{◌≡◌, ◌≢◌, ◌↔◌, ℕ, ◌+◌, ◌<◌, ◌≤◌, ◌⊎◌, ◌&&◌, Bool, true, false, List, [], ◌∷◌, ◌++◌, length, map, set, reverse, inl, inr, ⊎_elim, sym, subst, ap, ◌∙◌, refl, arith, IsTrue}
+use Rattle.std.proofs.Common.{◌≡◌, ◌≢◌, ◌↔◌, ℕ, ◌+◌, ◌<◌, ◌≤◌, ◌⊎◌, ◌&&◌, Bool, true, false, List, [], ◌∷◌, ◌++◌, length, map, set, reverse, inl, inr, ⊎_elim, sym, subst, ap, ◌∙◌, refl, arith, IsTrue, Some, None}
 use Rattle.std.proofs.lemmas.Bool.{le-ltb}
 use Rattle.std.proofs.lemmas.List.{map-append, append-nil}
 use Rattle.rc_patterns.specs.Sets.{Has as IsMember}
@@ -8,7 +8,7 @@ use Rattle.rc_program.specs.Program.{accept, place_at, ways_out, pair_at, is_mat
 use Rattle.rc_program.specs.Text.{holds, ahead}
 use Rattle.rc_program.specs.Answer.{only}
 use Rattle.rc_pass.specs.Sights.{Sight, is_there, ends, next_of}
-use Rattle.rc_pass.specs.Entered.{IsSkipped, IsEntered}
+use Rattle.rc_pass.specs.Entered.{IsSkipped, IsEntered, IsVisited}
 use Rattle.rc_pass.specs.Marking.{SomeLeads, Owed, going, explored}
 use Rattle.rc_pass.specs.Moves.{IsMove}
 use Rattle.rc_pass.specs.Passing.{pairs, resting_of, frames_of}
@@ -22,7 +22,7 @@ use Rattle.rc_pass.specs.declared.moves.Move.TheVariants.{Fork, Save, Matches, S
 use Rattle.rc_pass.proofs.EnteredLemmas.{has_pairs, pairs_has, pairs_at, pairs_push}
 use Rattle.rc_pass.proofs.MarkLemmas.{enters_same, matches_same, skips_same, later_same, some_left, some_right, some_parts, AllLater}
 use Rattle.rc_pass.proofs.MoveLemmas.{slot_on}
-use Rattle.rc_pass.proofs.VisitLemmas.{no_slots, same_threads}
+use Rattle.rc_pass.proofs.VisitLemmas.{no_slots, same_threads, quiet, entered_end}
 
 pub same_then : {A B C : Type 0} → A ↔ B → B ↔ C → A ↔ C
 same_then f g = (λ a. g.0 (f.0 a), λ c. f.1 (g.1 c))
@@ -119,32 +119,37 @@ module _ (s : Sight) (at q start : ℕ) (g0 g : Growth) (below : List Pair) (mar
   Before = Owed s at g0.threads.items g0.entered.items ((q, at) ∷ (explored at (reverse g0.stack.items) ++ below)) marks p
 
   -- the place was entered before
-  pub skipped_owed : IsSkipped q g0 g →
+  skipped_owed : IsSkipped q g0 g →
       Before ↔ Owed s at g.threads.items g.entered.items (explored at (reverse g.stack.items) ++ below) marks p
   skipped_owed m =
       rw (m.threads, m.entered, m.frames)
       (passed_over s p at marks g0.threads.items g0.entered.items q start (explored at (reverse g0.stack.items) ++ below) m.before)
 
   -- it is entered, and its move is made
-  pub moved_owed : (move : Move) → IsEntered s at q start move g0 g → length g0.slots.items ≡ 0 → ((k : ℕ) → move ≢ Matches k) →
+  moved_owed : (move : Move) → IsEntered s at q start move g0 g → length g0.slots.items ≡ 0 → ((k : ℕ) → move ≢ Matches k) →
       Before ↔ Owed s at g.threads.items g.entered.items (explored at (reverse g.stack.items) ++ below) marks p
   moved_owed move m none other =
       rw (m.threads, m.entered, m.frames, no_slots g0.slots.items none)
       (moved_on s p at marks g0.threads.items g0.entered.items q start m.fresh move (reverse g0.stack.items) below m.is_move other)
 
+  -- no walk ends there
+  pub quiet_owed : IsVisited s at q start None g0 g → length g0.slots.items ≡ 0 →
+      Before ↔ Owed s at g.threads.items g.entered.items (explored at (reverse g.stack.items) ++ below) marks p
+  quiet_owed v none = quiet s at q start g0 g v skipped_owed (λ move m other. moved_owed move m none other)
+
   -- a walk ends there
-  pub ended_owed : (move : Move) (number : ℕ) → IsEntered s at q start move g0 g → move ≡ Matches number → p < length marks →
+  pub ended_owed : (number : ℕ) → IsVisited s at q start (Some number) g0 g → p < length marks →
       Before ↔ Owed s at g.threads.items g.entered.items (explored at (reverse g.stack.items) ++ below) (set marks number true) p
-  ended_owed move number m is low =
-      let i = subst (IsMove s (q, at)) is m.is_move in
-      let frames : reverse g.stack.items ≡ reverse g0.stack.items = rw is at m.frames in
-      rw (same_threads s at q start g0 g move number is m, m.entered, frames)
-      (ended_here s p at marks g0.threads.items g0.entered.items q start m.fresh number (explored at (reverse g0.stack.items) ++ below) i.1 i.0 low)
+  ended_owed number v low =
+      let m = entered_end s at q start g0 g number v in
+      rw (same_threads s at q start g0 g (Matches number) number refl m, m.entered, m.frames)
+      (ended_here s p at marks g0.threads.items g0.entered.items q start m.fresh number (explored at (reverse g0.stack.items) ++ below)
+      m.is_move.1 m.is_move.0 low)
 
 -- the pattern of a walk that ends has a number of `PatternID`
-pub accepted : (s : Sight) (at q start : ℕ) (g0 g : Growth) (move : Move) (number : ℕ) → IsEntered s at q start move g0 g → move ≡ Matches number →
+pub accepted : (s : Sight) (at q start : ℕ) (g0 g : Growth) (number : ℕ) → IsVisited s at q start (Some number) g0 g →
     ((n p : ℕ) → place_at s.places n ≡ accept p → p ≤ 2147483646) → number ≤ 2147483646
-accepted s at q start g0 g move number m is numbered = numbered q number (subst (IsMove s (q, at)) is m.is_move).0
+accepted s at q start g0 g number v numbered = numbered q number (entered_end s at q start g0 g number v).is_move.0
 
 pub low_in : (p : ℕ) (set0 set : List Bool) → length set ≡ length set0 → p < length set0 → p < length set
 low_in p set0 set e low = omega (arith, e, low)

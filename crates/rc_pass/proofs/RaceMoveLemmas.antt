@@ -12,7 +12,7 @@ use Rattle.rc_pass.specs.Sparse.{Has}
 use Rattle.rc_pass.specs.Threads.{Thread}
 use Rattle.rc_pass.specs.Trace.{Trace, note, note_at, trace, done}
 use Rattle.rc_pass.specs.Moves.{IsMove, IsPlain}
-use Rattle.rc_pass.specs.Entered.{IsSkipped, IsEntered}
+use Rattle.rc_pass.specs.Entered.{IsSkipped, IsEntered, IsVisited}
 use Rattle.rc_pass.specs.Passing.{pending, pairs, waits, resting_of, frames_of, slots_after}
 use Rattle.rc_pass.specs.Races.{IsRacing, EndedBefore, upto, began, leading, kept, Races, IsSought, IsCutOff, EndedBy, IsRecorded, IsWayIn}
 use Rattle.rc_pass.specs.declared.moves.Move.{Move}
@@ -25,7 +25,7 @@ use Rattle.rc_pass.proofs.MoveLemmas.{Ends, onward, slot_on, waits_saved}
 use Rattle.rc_pass.proofs.EnteredLemmas.{has_pairs, pairs_has, pairs_push}
 use Rattle.rc_pass.proofs.EntranceLemmas.{no_end, ways_by}
 use Rattle.rc_pass.proofs.NotedLemmas.{start_kept}
-use Rattle.rc_pass.proofs.VisitLemmas.{same_threads}
+use Rattle.rc_pass.proofs.VisitLemmas.{same_threads, quiet, entered_end}
 use Rattle.rc_pass.proofs.RaceListLemmas.{upto_in, upto_out, upto_upto, upto_threads_in, upto_all, rising_before}
 use Rattle.rc_pass.proofs.RaceLemmas.{race_skips, race_enters, race_waits, race_matches, race_ignores, race_way_in}
 
@@ -190,31 +190,32 @@ module _ (s : Sight) (at p start : ℕ) (g0 g : Growth) (best0 : Option Ending) 
   Entered best found = Races s all at g.threads.items g.entered.items (waits start at (reverse g.stack.items) g.slots.items ++ below) best found
 
   -- the place was entered before
-  pub skipped_races : IsSkipped p g0 g → Entering → Entered best0 found0
+  skipped_races : IsSkipped p g0 g → Entering → Entered best0 found0
   skipped_races m x =
       rw (m.threads, m.entered, m.frames, m.slots)
       (raced_skips s all at g0.threads.items g0.entered.items best0 found0 p (trace start g0.slots.items)
       (waits start at (reverse g0.stack.items) g0.slots.items ++ below) m.before sought x)
 
   -- it is entered, and no walk ends there
-  pub moved_races : (move : Move) → IsEntered s at p start move g0 g → ((q : ℕ) → move ≢ Matches q) → Entering → Entered best0 found0
+  moved_races : (move : Move) → IsEntered s at p start move g0 g → ((q : ℕ) → move ≢ Matches q) → Entering → Entered best0 found0
   moved_races move m other x =
       rw (m.threads, m.entered, m.frames, m.slots)
       (raced_moves s all at g0.threads.items g0.entered.items best0 found0 p start g0.slots.items m.fresh sought move (reverse g0.stack.items) below m.is_move
       other x)
 
+  pub quiet_races : IsVisited s at p start None g0 g → Entering → Entered best0 found0
+  quiet_races v = quiet s at p start g0 g v skipped_races moved_races
+
   -- a walk ends there
-  pub ended_races : (move : Move) (q : ℕ) (best : Option Ending) (found : List (Option ℕ)) → IsEntered s at p start move g0 g → move ≡ Matches q →
+  pub ended_races : (q : ℕ) (best : Option Ending) (found : List (Option ℕ)) → IsVisited s at p start (Some q) g0 g →
       IsRecorded best0 found0 (record { pattern = q; start = start; end = at }) g.slots.items best found → Entering → Entered best found
-  ended_races move q best found m is r x =
-      let i = subst (IsMove s (p, at)) is m.is_move in
-      let slots : g.slots.items ≡ g0.slots.items = m.slots ∙ ap (slots_after at g0.slots.items) is in
-      let frames : reverse g.stack.items ≡ reverse g0.stack.items = rw is at m.frames in
-      rw (same_threads s at p start g0 g move q is m, m.entered, frames)
+  ended_races q best found v r x =
+      let m = entered_end s at p start g0 g q v in
+      rw (same_threads s at p start g0 g (Matches q) q refl m, m.entered, m.frames)
       (⊎_elim
-      (λ a. rw (a.1, a.2, slots)
+      (λ a. rw (a.1, a.2, m.slots)
       (raced_ignores s all at g0.threads.items g0.entered.items best0 found0 p (trace start g0.slots.items)
-      (waits start at (reverse g0.stack.items) g0.slots.items ++ below) m.fresh i.1 a.0 sought x))
-      (λ b. rw (b.1, b.2, slots)
+      (waits start at (reverse g0.stack.items) g0.slots.items ++ below) m.fresh m.is_move.1 a.0 sought x))
+      (λ b. rw (b.1, b.2, m.slots)
       (raced_matches s all at g0.threads.items g0.entered.items best0 found0 p q start g0.slots.items
-      (waits start at (reverse g0.stack.items) g0.slots.items ++ below) m.fresh i.0 i.1 b.0 sought x)) r)
+      (waits start at (reverse g0.stack.items) g0.slots.items ++ below) m.fresh m.is_move.0 m.is_move.1 b.0 sought x)) r)

@@ -1,9 +1,9 @@
 -- Only proofs use this file.
 -- How a thread goes on from a place that it enters.
-use Rattle.std.specs.Prelude.{◌≡◌, ◌+◌, ◌<◌, ◌≤◌, [], ◌∷◌, false, IsTrue}
+use Rattle.std.specs.Prelude.{◌≡◌, ℕ, ◌+◌, ◌<◌, ◌≤◌, [], ◌∷◌, Bool, true, false, IsTrue, Option, Some, None}
 use Rattle.rc_text.specs.Text.{Searched, high}
 use Rattle.rc_walks.specs.Walks.{Pair}
-use Rattle.rc_program.specs.Program.{slot, accept, place_at}
+use Rattle.rc_program.specs.Program.{Place, slot, accept, place_at}
 use Rattle.rc_program.specs.Answer.{Search, only}
 use Rattle.rc_pass.specs.Sights.{Sight, sight_of, ends, next_of}
 use Rattle.rc_program.specs.Sought.{anchoring_of, search_over}
@@ -40,3 +40,22 @@ IsMove s n (Matches p) = (place_at s.places n.0 ≡ accept p) × IsTrue (ends s 
 IsMove s n (Stays m) = (next_of s n ≡ (m, n.1) ∷ []) × IsPlain s n
 IsMove s n (Reads m to) = (next_of s n ≡ (m, to) ∷ []) × IsPlain s n × (n.1 < to) × (to ≤ n.1 + 4) × (to ≤ s.hi)
 IsMove s n Stops = (next_of s n ≡ []) × (ends s n ≡ false)
+
+-- where a place of the program is this one, its move is that one
+abbrev pub IsMoveAt : Sight → ℕ → Place → Move → Type 0
+IsMoveAt s at place move = (p : ℕ) → place_at s.places p ≡ place → IsMove s (p, at) move
+
+-- the move, where the test lets it be made
+abbrev pub moving : Move → Bool → Move
+moving move true = move
+moving move false = Stops
+
+-- on to the place and to the position, where one is told
+abbrev pub reading : ℕ → Option ℕ → Move
+reading n None = Stops
+reading n (Some to) = Reads n to
+
+-- the pattern of a walk that ends by the move
+abbrev pub ended_by : Move → Option ℕ
+ended_by (Matches p) = Some p
+ended_by move = None

@@ -4,14 +4,16 @@ ghost use Rattle.rc_walks.specs.Walks.{Pair};
 ghost use Rattle.rc_text.specs.Text.{Searched};
 ghost use Rattle.rc_pass.specs.Near.{IsHere, seen_from, size};
 ghost use Rattle.rc_pass.specs.Trace.{Trace, trace, done};
-ghost use Rattle.rc_pass.specs.Passing.{Carries, waits, AllInside, HasRoom, IsGrown, frames_of, resting_of, slots_after};
-ghost use Rattle.rc_pass.specs.Entered.{IsSkipped, IsEntered};
-ghost use Rattle.rc_pass.specs.declared.moves.Move.TheVariants.{Matches};
+ghost use Rattle.rc_pass.specs.Moves.{reading};
+ghost use Rattle.rc_pass.specs.Passing.{Carries, waits, AllInside, HasRoom, IsGrown};
+ghost use Rattle.rc_pass.specs.Entered.{IsMade, IsActed, IsVisited};
+ghost use Rattle.rc_pass.specs.declared.moves.Move.TheVariants.{Fork, Save, Stays};
 
 use crate::growth::{Frame, Growth};
-use crate::moves::{Move, look_up};
+use crate::moves::{after_byte, after_one_of, after_scalar, is_open, may_end};
 use crate::spot::Spot;
 use crate::threads::Head;
+use rc_program::place::Place;
 
 /// Writes the position to the slot, and pushes the frame that undoes the write.
 #[inline(always)]
@@ -31,74 +33,121 @@ fn save(slot: usize, at: usize, growth: &mut Growth)
     growth.slots[slot] = Some(at);
 }
 
-/// Makes a move: its places go on the stack, the first uppermost, and a thread that reads goes
-/// behind the threads.
+/// Puts the places on the stack, the first uppermost.
 #[inline(always)]
-fn follow(step: Move, at: usize, start: usize, growth: &mut Growth)
+fn fork(first: usize, second: usize, growth: &mut Growth)
+    requires deep { vec_len growth.old.stack + 2 ≤ vec_capacity growth.old.stack }
+    ensures made { (at start : ℕ) → IsMade at start (Fork first second) growth.old growth.new }
+    ensures deep { vec_len growth.new.stack ≤ vec_len growth.old.stack + 2 }
+{
+    growth.stack.push_reserved(Frame::Explore(second));
+    growth.stack.push_reserved(Frame::Explore(first));
+}
+
+/// Puts the place on the stack.
+#[inline(always)]
+fn stay(place: usize, growth: &mut Growth)
+    requires deep { vec_len growth.old.stack + 1 ≤ vec_capacity growth.old.stack }
+    ensures made { (at start : ℕ) → IsMade at start (Stays place) growth.old growth.new }
+    ensures deep { vec_len growth.new.stack ≤ vec_len growth.old.stack + 1 }
+{
+    growth.stack.push_reserved(Frame::Explore(place));
+}
+
+/// Writes the position to the slot, if the thread has it, and puts the place on the stack.
+#[inline(always)]
+fn note(slot: usize, place: usize, at: usize, growth: &mut Growth)
+    requires deep { vec_len growth.old.stack + 2 ≤ vec_capacity growth.old.stack }
+    ensures made { (start : ℕ) → IsMade at start (Save slot place) growth.old growth.new }
+    ensures deep { vec_len growth.new.stack ≤ vec_len growth.old.stack + 2 }
+{
+    if slot < growth.slots.len() {
+        save(slot, at, growth);
+        growth.stack.push_reserved(Frame::Explore(place));
+    } else {
+        growth.stack.push_reserved(Frame::Explore(place));
+    }
+}
+
+/// Puts a thread behind the others that goes on at the place, if the position is told at which it does.
+#[inline(always)]
+fn read(place: usize, to: Option<usize>, start: usize, growth: &mut Growth)
+    requires room { length growth.old.threads.items < growth.old.threads.room }
+    ensures made { (at : ℕ) → IsMade at start (reading place to) growth.old growth.new }
+    ensures deep { vec_len growth.new.stack ≤ vec_len growth.old.stack }
+{
+    let Some(at) = to else {
+        return;
+    };
+    growth
+        .threads
+        .push(Head { place, at, start }, &growth.slots);
+}
+
+/// Makes the move of a place: the places to which it leads go on the stack, the first uppermost, and a thread that reads goes behind the
+/// threads. Answers the pattern where a walk ends there.
+#[inline(always)]
+fn act(spot: &Spot, place: usize, start: usize, growth: &mut Growth) -> Option<usize>
+    ghost text: { Searched }
+    requires here { IsHere spot.now text }
+    requires place_in { place < size spot.now.course }
     requires deep { vec_len growth.old.stack + 2 ≤ vec_capacity growth.old.stack }
     requires room { length growth.old.threads.items < growth.old.threads.room }
-    ensures threads { growth.new.threads
-        ≡ record growth.old.threads { items = growth.old.threads.items ++ resting_of start growth.old.slots.items step } }
-    ensures entered { growth.new.entered ≡ growth.old.entered }
-    ensures stack { reverse growth.new.stack.items ≡ frames_of growth.old.slots.items step ++ reverse growth.old.stack.items }
+    ensures acted { IsActed (seen_from spot.now text) spot.now.at place start result growth.old growth.new }
     ensures deep { vec_len growth.new.stack ≤ vec_len growth.old.stack + 2 }
-    ensures slots { growth.new.slots.items ≡ slots_after at growth.old.slots.items step }
 {
-    match step {
-        Move::Fork(first, second) => {
-            growth.stack.push_reserved(Frame::Explore(second));
-            growth.stack.push_reserved(Frame::Explore(first));
+    match &spot.course.program.places[place] {
+        Place::Choice(first, second) => {
+            fork(*first, *second, growth);
+            None
         }
-        Move::Save(slot, place) => {
-            if slot < growth.slots.len() {
-                save(slot, at, growth);
-                growth.stack.push_reserved(Frame::Explore(place));
-            } else {
-                growth.stack.push_reserved(Frame::Explore(place));
+        Place::Pass(next) => {
+            stay(*next, growth);
+            None
+        }
+        Place::Dead => None,
+        Place::Byte(byte, next) => {
+            read(*next, after_byte(spot, *byte), start, growth);
+            None
+        }
+        Place::Bytes(ranges, next) => {
+            read(*next, after_one_of(spot, ranges), start, growth);
+            None
+        }
+        Place::Scalar(ranges, next) => {
+            read(*next, after_scalar(spot, ranges), start, growth);
+            None
+        }
+        Place::Guard(look, next) => {
+            if is_open(spot, *look) {
+                stay(*next, growth);
+                return None;
             }
+            None
         }
-        Move::Stays(place) => growth.stack.push_reserved(Frame::Explore(place)),
-        Move::Reads(place, to) => growth.threads.push(
-            Head {
-                place,
-                at: to,
-                start,
-            },
-            &growth.slots,
-        ),
-        Move::Matches(_) => {}
-        Move::Stops => {}
+        Place::Slot(slot, next) => {
+            note(*slot, *next, spot.at, growth);
+            None
+        }
+        Place::Accept(number) => {
+            if may_end(spot, *number) {
+                return Some(*number);
+            }
+            None
+        }
     }
 }
 
-/// The pattern of which a walk ends by the move.
+/// Enters a place, unless it was entered at this position already, and makes its move. Answers the pattern where a walk ends there.
 #[inline(always)]
-pub fn ended(step: Move) -> Option<usize>
-    ensures { MatchOption result ((p : ℕ) → step ≢ Matches p) (λ p. step ≡ Matches p) }
-{
-    match step {
-        Move::Fork(_, _) => None,
-        Move::Save(_, _) => None,
-        Move::Stays(_) => None,
-        Move::Reads(_, _) => None,
-        Move::Matches(pattern) => Some(pattern),
-        Move::Stops => None,
-    }
-}
-
-/// Enters a place, unless it was entered at this position already, and makes its move. Answers the
-/// move.
-#[inline(always)]
-pub fn enter(spot: &Spot, place: usize, start: usize, growth: &mut Growth) -> Option<Move>
+pub fn enter(spot: &Spot, place: usize, start: usize, growth: &mut Growth) -> Option<usize>
     ghost text: { Searched }
     requires here { IsHere spot.now text }
     requires place_in { place < size spot.now.course }
     requires sound { HasRoom (size spot.now.course) spot.now.course.hi spot.now.at growth.old.threads growth.old.entered }
     requires frames { AllInside (size spot.now.course) growth.old.threads.width (reverse growth.old.stack.items) }
     requires deep { vec_len growth.old.stack ≤ length growth.old.entered.items }
-    ensures entered { MatchOption result
-        (IsSkipped place growth.old growth.new)
-        (λ move. IsEntered (seen_from spot.now text) spot.now.at place start move growth.old growth.new) }
+    ensures visited { IsVisited (seen_from spot.now text) spot.now.at place start result growth.old growth.new }
     ensures grown { IsGrown (size spot.now.course) spot.now.course.hi start spot.now.at growth.old.threads growth.old.entered
         growth.new.threads growth.new.entered }
     ensures some { 0 < length growth.new.entered.items }
@@ -110,13 +159,10 @@ pub fn enter(spot: &Spot, place: usize, start: usize, growth: &mut Growth) -> Op
     if !growth.entered.insert(place) {
         return None;
     }
-    let step = look_up(spot, place);
-    follow(step, spot.at, start, growth);
-    Some(step)
+    act(spot, place, start, growth)
 }
 
-/// Enters a place, unless it was entered at this position already. Answers the pattern where a walk
-/// ends there.
+/// Enters a place, as `enter` does.
 #[inline(always)]
 fn visit(spot: &Spot, place: usize, start: usize, growth: &mut Growth) -> Option<usize>
     ghost text: { Searched }
@@ -142,10 +188,7 @@ fn visit(spot: &Spot, place: usize, start: usize, growth: &mut Growth) -> Option
     ensures falls { vec_len growth.new.stack + 3 * length growth.old.entered.items
         ≤ vec_len growth.old.stack + 3 * length growth.new.entered.items }
 {
-    let Some(step) = enter(spot, place, start, growth) else {
-        return None;
-    };
-    ended(step)
+    enter(spot, place, start, growth)
 }
 
 /// Goes on from the frames of the stack, the uppermost first. The rest is as in `close`.

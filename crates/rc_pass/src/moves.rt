@@ -1,16 +1,17 @@
 //! How a thread goes on from a place.
-ghost use Rattle.std.specs.Prelude.{◌≡◌, ◌<◌, ◌≤◌, length, slice_get, take, map};
+ghost use Rattle.std.specs.Prelude.{◌≡◌, ◌<◌, ◌≤◌, ℕ, [], ◌∷◌, length, slice_get, take, map};
 ghost use Rattle.rc_pattern.specs.Meaning.{byte_range, char_range};
 ghost use Rattle.rc_text.specs.Text.{Searched};
 ghost use Rattle.rc_pass.specs.Near.{IsHere, seen_from, size};
-ghost use Rattle.rc_program.specs.Program.{in_ranges, is_match_place, accept};
+ghost use Rattle.rc_program.specs.Program.{in_ranges, is_match_place, accept, byte as byte_place, guard, scalar};
 ghost use Rattle.rc_program.specs.Scalars.{scalar_at};
-ghost use Rattle.rc_pass.specs.Moves.{IsMove};
+ghost use Rattle.rc_pass.specs.Moves.{IsMove, IsMoveAt, moving, reading};
 ghost use Rattle.rc_pass.specs.Sights.{is_there as there};
+ghost use Rattle.rc_pass.specs.declared.moves.Move.TheVariants.{Matches, Stays};
 
 use crate::sides::holds;
 use crate::spot::Spot;
-use rc_pattern::hir::{ClassBytesRange, ClassUnicodeRange};
+use rc_pattern::hir::{ClassBytesRange, ClassUnicodeRange, Look};
 use rc_program::look::scalar_at;
 use rc_program::place::Place;
 
@@ -43,52 +44,107 @@ pub fn look_up(spot: &Spot, place: usize) -> Move
         Place::Choice(first, second) => Move::Fork(*first, *second),
         Place::Pass(next) => Move::Stays(*next),
         Place::Dead => Move::Stops,
-        Place::Byte(byte, next) => {
-            let Some(found) = next_byte(spot.after, spot.course.hi - spot.at) else {
-                return Move::Stops;
-            };
-            if found != *byte {
-                return Move::Stops;
-            }
-            Move::Reads(*next, spot.at + 1)
-        }
-        Place::Bytes(ranges, next) => {
-            let Some(found) = next_byte(spot.after, spot.course.hi - spot.at) else {
-                return Move::Stops;
-            };
-            if !has_byte(ranges, found) {
-                return Move::Stops;
-            }
-            Move::Reads(*next, spot.at + 1)
-        }
-        Place::Scalar(ranges, next) => {
-            let Some((c, count)) = next_scalar(spot.after, spot.course.hi - spot.at) else {
-                return Move::Stops;
-            };
-            if !has_char(ranges, c) {
-                return Move::Stops;
-            }
-            Move::Reads(*next, spot.at + count)
-        }
+        Place::Byte(byte, next) => reading(*next, after_byte(spot, *byte)),
+        Place::Bytes(ranges, next) => reading(*next, after_one_of(spot, ranges)),
+        Place::Scalar(ranges, next) => reading(*next, after_scalar(spot, ranges)),
         Place::Guard(look, next) => {
-            if !holds(
-                *look,
-                spot.course.program.terminator,
-                spot.before,
-                spot.after,
-            ) {
+            if !is_open(spot, *look) {
                 return Move::Stops;
             }
             Move::Stays(*next)
         }
         Place::Slot(slot, next) => Move::Save(*slot, *next),
         Place::Accept(number) => {
-            if is_allowed(spot.course.pattern, *number) && is_there(spot.course.until, spot.at) {
-                return Move::Matches(*number);
+            if !may_end(spot, *number) {
+                return Move::Stops;
             }
-            Move::Stops
+            Move::Matches(*number)
         }
     }
+}
+
+/// How a thread goes on that reads on to the place and the position, if one is told.
+#[inline(always)]
+fn reading(place: usize, to: Option<usize>) -> Move
+    ensures { result ≡ reading place to }
+{
+    let Some(at) = to else {
+        return Move::Stops;
+    };
+    Move::Reads(place, at)
+}
+
+/// The position after the next byte, where it is this one.
+#[inline(always)]
+pub fn after_byte(spot: &Spot, byte: u8) -> Option<usize>
+    ghost text: { Searched }
+    requires here { IsHere spot.now text }
+    ensures { (n : ℕ) → IsMoveAt (seen_from spot.now text) spot.now.at (byte_place ((byte, byte) ∷ []) n) (reading n result) }
+{
+    let Some(found) = next_byte(spot.after, spot.course.hi - spot.at) else {
+        return None;
+    };
+    if found != byte {
+        return None;
+    }
+    Some(spot.at + 1)
+}
+
+/// The position after the next byte, where one of the ranges has it.
+#[inline(always)]
+pub fn after_one_of(spot: &Spot, ranges: &Vec<ClassBytesRange>) -> Option<usize>
+    ghost text: { Searched }
+    requires here { IsHere spot.now text }
+    ensures { (n : ℕ) → IsMoveAt (seen_from spot.now text) spot.now.at (byte_place (map byte_range ranges.now.items) n) (reading n result) }
+{
+    let Some(found) = next_byte(spot.after, spot.course.hi - spot.at) else {
+        return None;
+    };
+    if !has_byte(ranges, found) {
+        return None;
+    }
+    Some(spot.at + 1)
+}
+
+/// The position after the next scalar, where one of the ranges has it.
+#[inline(always)]
+pub fn after_scalar(spot: &Spot, ranges: &Vec<ClassUnicodeRange>) -> Option<usize>
+    ghost text: { Searched }
+    requires here { IsHere spot.now text }
+    ensures { (n : ℕ) → IsMoveAt (seen_from spot.now text) spot.now.at (scalar (map char_range ranges.now.items) n) (reading n result) }
+{
+    let Some((c, count)) = next_scalar(spot.after, spot.course.hi - spot.at) else {
+        return None;
+    };
+    if !has_char(ranges, c) {
+        return None;
+    }
+    Some(spot.at + count)
+}
+
+/// Whether the assertion holds at the spot.
+#[inline(always)]
+pub fn is_open(spot: &Spot, look: Look) -> bool
+    ghost text: { Searched }
+    requires here { IsHere spot.now text }
+    ensures { (n : ℕ) → IsMoveAt (seen_from spot.now text) spot.now.at (guard look n) (moving (Stays n) result) }
+{
+    holds(
+        look,
+        spot.course.program.terminator,
+        spot.before,
+        spot.after,
+    )
+}
+
+/// Whether a walk of the pattern counts that ends at the spot.
+#[inline(always)]
+pub fn may_end(spot: &Spot, number: usize) -> bool
+    ghost text: { Searched }
+    requires here { IsHere spot.now text }
+    ensures { IsMoveAt (seen_from spot.now text) spot.now.at (accept number) (moving (Matches number) result) }
+{
+    is_allowed(spot.course.pattern, number) && is_there(spot.course.until, spot.at)
 }
 
 /// Whether walks of the pattern count.

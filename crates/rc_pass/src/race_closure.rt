@@ -8,7 +8,7 @@ ghost use Rattle.rc_pass.specs.Passing.{waits, AllInside, HasRoom, IsGrown};
 ghost use Rattle.rc_pass.specs.Spread.{StaysCounted};
 ghost use Rattle.rc_pass.specs.Races.{Races, IsSought, IsCutOff, IsRecorded, IsWayIn};
 
-use crate::closure::{ended, enter};
+use crate::closure::enter;
 use crate::entrance::way_on;
 use crate::growth::{Frame, Growth};
 use crate::pass::Ending;
@@ -80,10 +80,7 @@ fn visit(
     ensures falls { vec_len growth.new.stack + 3 * length growth.old.entered.items
         ≤ vec_len growth.old.stack + 3 * length growth.new.entered.items }
 {
-    let Some(step) = enter(spot, place, start, growth) else {
-        return;
-    };
-    if let Some(pattern) = ended(step) {
+    if let Some(pattern) = enter(spot, place, start, growth) {
         let new = Ending {
             pattern,
             start,

@@ -6,6 +6,27 @@ ghost use Rattle.rc_pass.specs.Plain.{IsPlain};
 use rc_pattern::hir::Look;
 use rc_program::look;
 
+/// For each byte whether it is a letter, a digit or `_` of ASCII.
+#[rattlefmt::skip]
+static WORDS: [bool; 256] = [
+    false, false, false, false, false, false, false, false, false, false, false, false, false, false, false, false,
+    false, false, false, false, false, false, false, false, false, false, false, false, false, false, false, false,
+    false, false, false, false, false, false, false, false, false, false, false, false, false, false, false, false,
+    true, true, true, true, true, true, true, true, true, true, false, false, false, false, false, false,
+    false, true, true, true, true, true, true, true, true, true, true, true, true, true, true, true,
+    true, true, true, true, true, true, true, true, true, true, true, false, false, false, false, true,
+    false, true, true, true, true, true, true, true, true, true, true, true, true, true, true, true,
+    true, true, true, true, true, true, true, true, true, true, true, false, false, false, false, false,
+    false, false, false, false, false, false, false, false, false, false, false, false, false, false, false, false,
+    false, false, false, false, false, false, false, false, false, false, false, false, false, false, false, false,
+    false, false, false, false, false, false, false, false, false, false, false, false, false, false, false, false,
+    false, false, false, false, false, false, false, false, false, false, false, false, false, false, false, false,
+    false, false, false, false, false, false, false, false, false, false, false, false, false, false, false, false,
+    false, false, false, false, false, false, false, false, false, false, false, false, false, false, false, false,
+    false, false, false, false, false, false, false, false, false, false, false, false, false, false, false, false,
+    false, false, false, false, false, false, false, false, false, false, false, false, false, false, false, false,
+];
+
 /// Whether the assertion holds at a position, as `rc_program::look::holds` says it. Between bytes of ASCII no character is decoded.
 #[inline(always)]
 pub fn holds(look: Look, terminator: u8, before: &[u8], after: &[u8]) -> bool
@@ -97,8 +118,5 @@ fn is_word_after(after: &[u8]) -> bool
 fn is_word_byte(byte: u8) -> bool
     ensures { result ≡ is_word_byte byte }
 {
-    if byte >= b'a' && byte <= b'z' {
-        return true;
-    }
-    matches!(byte, b'0'..=b'9' | b'A'..=b'Z' | b'_')
+    WORDS[byte as usize]
 }

@@ -7,7 +7,7 @@ ghost use Rattle.rc_pass.specs.Near.{IsHere, seen_from, size};
 ghost use Rattle.rc_pass.specs.Passing.{AllInside, HasRoom, IsGrown};
 ghost use Rattle.rc_pass.specs.Spread.{Runner, Seeks, BeginFrom, IsOrdered, IsGreater, StaysCounted, runners_of, span_of};
 
-use crate::closure::{ended, enter};
+use crate::closure::enter;
 use crate::growth::{Frame, Growth};
 use crate::pass::Ending;
 use crate::spot::Spot;
@@ -65,10 +65,7 @@ fn visit(spot: &Spot, place: usize, start: usize, best: &mut Option<Ending>, gro
     ensures falls { vec_len growth.new.stack + 3 * length growth.old.entered.items
         ≤ vec_len growth.old.stack + 3 * length growth.new.entered.items }
 {
-    let Some(step) = enter(spot, place, start, growth) else {
-        return;
-    };
-    if let Some(number) = ended(step) {
+    if let Some(number) = enter(spot, place, start, growth) {
         let new = Ending {
             pattern: number,
             start,

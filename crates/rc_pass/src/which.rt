@@ -15,7 +15,7 @@ ghost use Rattle.rc_pass.specs.PatternSpans.{AddsSpelled, AreOfFirst};
 ghost use Rattle.rc_pass.specs.Scratches.{IsSame};
 
 use crate::cache::Cache;
-use crate::closure::{ended, enter};
+use crate::closure::enter;
 use crate::growth::{Frame, Growth};
 use crate::pass::is_done;
 use crate::scratch::Scratch;
@@ -63,10 +63,7 @@ fn visit(spot: &Spot, place: usize, start: usize, set: &mut PatternSet, growth: 
     ensures falls { vec_len growth.new.stack + 3 * length growth.old.entered.items
         ≤ vec_len growth.old.stack + 3 * length growth.new.entered.items }
 {
-    let Some(step) = enter(spot, place, start, growth) else {
-        return;
-    };
-    if let Some(number) = ended(step) {
+    if let Some(number) = enter(spot, place, start, growth) {
         mark(set, number);
     }
 }
