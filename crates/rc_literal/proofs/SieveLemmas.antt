@@ -1,17 +1,19 @@
 -- Places that a sieve passes over.
-use Rattle.std.proofs.Common.{◌≡◌, ℕ, ◌+◌, ◌*◌, ◌/◌, ◌%◌, ◌^◌, ◌<◌, ◌≤◌, ◌-◌, List, map, take, drop, length, eqb, not, true, false, get_or, replicate, cond, slice_index, bit_and, bit_or, inl, inr, ap, sym, refl, ◌∙◌, arith, w8}
+use Rattle.std.proofs.Common.{◌≡◌, ℕ, ◌+◌, ◌*◌, ◌/◌, ◌%◌, ◌^◌, ◌<◌, ◌≤◌, ◌-◌, ◌++◌, List, map, take, drop, length, eqb, not, true, false, get_or, replicate, cond, slice_index, bit_and, bit_or, inl, inr, ap, sym, refl, ◌∙◌, arith, w8}
 use Rattle.std.specs.Int.{bit_at, trailing_zeros}
 use Rattle.std.specs.Int.Bits.{or_add_and}
-use Rattle.std.specs.Simd.Lanes.{chunk, mask_l, top, zip2}
+use Rattle.std.specs.List.{range_with_len}
+use Rattle.std.specs.Simd.Lanes.{chunk, mask_l, pick_l, top, zip2}
 use Rattle.std.proofs.lemmas.Bool.{cases_lt}
 use Rattle.std.proofs.lemmas.Bool.Decides.{nat_tests}
-use Rattle.std.proofs.lemmas.List.{get_or-map, get_or-take, get_or-drop, length-map}
+use Rattle.std.proofs.lemmas.List.{get_or-append_right, get_or-map, get_or-take, get_or-drop, get_or_append_left, length-map}
+use Rattle.std.proofs.lemmas.List.FromFn.{get_or-range_with_len, length-range_with_len}
 use Rattle.std.proofs.lemmas.Nat.{and_mask}
 use Rattle.std.proofs.lemmas.Nat.Bits.{bit_at_and, bit_at_or, bit_at-zero, bit_at-trailing_zeros, bit_at_cat_high}
 use Rattle.std.proofs.lemmas.Simd.{bitmask_splat, bit_mask_l, mask_l-lt, length-chunk, get_or-chunk, length-zip2, get_or-zip2, get_or-replicate, length-swz_l, get_or-swz_l_below, swz_l, SwzOk, SwzOk-from_below, Each1-from_get_or}
 use Rattle.rc_literal.specs.declared.sieve.Sift.{Sift}
 use Rattle.rc_literal.specs.declared.sieve.Sieve.{Sieve}
-use Rattle.rc_literal.specs.Sieves.{AreLanes, IsSifted, MayStand, buckets, sifted}
+use Rattle.rc_literal.specs.Sieves.{AreLanes, AreMarked, AreTaken, IsSifted, MayStand, buckets, sifted}
 use Rattle.rc_literal.specs.Tables.{Agrees, IsRuledOut}
 use Rattle.rc_literal.proofs.PairLemmas.{zero_bits}
 use Rattle.rc_literal.proofs.ScanLemmas.{tail_length}
@@ -123,54 +125,72 @@ sifted_by_bit s needle x y z k one two three e a b c la lb lc ma mb mc =
     (bit_of_both (buckets s.first a) (bit_and (buckets s.second b) (buckets s.third c)) k (one k p.0 a la ma)
     (bit_of_both (buckets s.second b) (buckets s.third c) k (two k q.0 b lb mb) (three k q.1 c lc mc)))
 
--- the bits say at which of n places three bytes are taken, from a place on
-abbrev pub MarksTaken : Sieve → List ℕ → ℕ → ℕ → ℕ → Type 0
-MarksTaken s piece n at bits = (k : ℕ) → k < n →
-    0 < sifted s (slice_index piece (at + k)) (slice_index piece (at + 1 + k)) (slice_index piece (at + 2 + k)) → bit_at bits k ≡ 1
-
 -- the bits of two halves, side by side
 pub halves_fit : (low high : ℕ) → low < 2 ^ 16 → high < 2 ^ 16 → bit_or low (high * 2 ^ 16 % 2 ^ 64) < 2 ^ 32
 halves_fit low high a b =
     let both = or_add_and low (high * 2 ^ 16 % 2 ^ 64) in
     omega (arith, both, a, b)
 
-pub halves_taken : (s : Sieve) (piece : List ℕ) (at low high : ℕ) → high < 2 ^ 16 → MarksTaken s piece 16 at low → MarksTaken s piece 16 (at + 16) high →
-    MarksTaken s piece 32 at (bit_or low (high * 2 ^ 16 % 2 ^ 64))
-halves_taken s piece at low high small ones twos k l some =
+pub halves_marked : (s : Sieve) (piece : List ℕ) (back at low high : ℕ) → high < 2 ^ 16 → AreMarked s piece back 16 at low →
+    AreMarked s piece back 16 (at + 16) high → AreMarked s piece back 32 at (bit_or low (high * 2 ^ 16 % 2 ^ 64))
+halves_marked s piece back at low high small ones twos k place l there some =
     let above : ℕ = high * 2 ^ 16 % 2 ^ 64 in
     let either = bit_at_or low above k in
     let x = bit_at_below low k in
     let y = bit_at_below above k in
     elim (cases_lt k 16) [
-      | inl h ↦ let one = ones k h some in omega (arith, either, one, y)
+      | inl h ↦ let one = ones k place h there some in omega (arith, either, one, y)
       | inr g ↦
-          let i : ℕ = k - 16 in
-          let first : at + k ≡ at + 16 + i = omega (arith, g) in
-          let second : at + 1 + k ≡ at + 16 + 1 + i = omega (arith, g) in
-          let third : at + 2 + k ≡ at + 16 + 2 + i = omega (arith, g) in
-          let here : 0 < sifted s (slice_index piece (at + 16 + i)) (slice_index piece (at + 16 + 1 + i)) (slice_index piece (at + 16 + 2 + i)) =
-          rw (← first, ← second, ← third) some in
-          let two = twos i (omega (arith, l, g)) here in
+          let two = twos (k - 16) place (omega (arith, l, g)) (omega (arith, g, there)) some in
           let same : above ≡ high * 2 ^ 16 + 0 = omega (arith, small) in
           let bit : bit_at above k ≡ 1 = ap (λ n. bit_at n k) same ∙ bit_at_cat_high high 16 0 k (omega arith) g ∙ two in
           omega (arith, either, bit, x)
     ]
 
+-- the bits that a vector has of the places from one on
+pub lanes_marked : (s : Sieve) (piece v : List ℕ) (f : ℕ → ℕ) (at : ℕ) → AreLanes v f →
+    ((k : ℕ) → 0 < sifted s (slice_index piece (at + k)) (slice_index piece (at + 1 + k)) (slice_index piece (at + 2 + k)) → 0 < f k) →
+    AreMarked s piece 0 16 at (mask_l (map (top 7) (zip2 (λ a b. cond (not (eqb a b)) 255 0) v (replicate 16 0))) % 2 ^ 64)
+lanes_marked s piece v f at lanes some k place l there taken =
+    let first : place ≡ at + k = omega (arith, there) in
+    let second : place + 1 ≡ at + 1 + k = omega (arith, there) in
+    let third : place + 2 ≡ at + 2 + k = omega (arith, there) in
+    nonzero_set v f k lanes l (some k (rw (← first, ← second, ← third) taken))
+
+-- 16 of the numbers in a list, one after another
+pub picked : (xs : List ℕ) (n : ℕ) → AreLanes (pick_l 0 xs (range_with_len n 16)) (λ k. slice_index xs (n + k))
+picked xs n = record {
+  long = length-map (range_with_len n 16) (λ k. get_or xs k 0) ∙ length-range_with_len n 16;
+  each = λ k l. get_or-map (λ i. get_or xs i 0) (range_with_len n 16) k 0 0 (omega (arith, l, length-range_with_len n 16))
+      ∙ ap (λ i. get_or xs i 0) (get_or-range_with_len n 16 k 0 l);
+}
+
+-- two vectors of what bytes are taken as, side by side, from some places before the second
+pub taken_back : (t : Sift) (piece u v : List ℕ) (at n k place : ℕ) → n ≤ 16 → AreTaken t piece at u → AreTaken t piece (at + 16) v → k < 16 → place + n ≡ at + k →
+    slice_index (u ++ v) (16 - n + k) ≡ buckets t (slice_index piece place)
+taken_back t piece u v at n k place some before now l there =
+    elim (cases_lt k n) [
+      | inl h ↦
+          get_or_append_left u v 0 (16 - n + k) (omega (arith, h, some, before.long))
+          ∙ before.each (16 - n + k) place (omega (arith, h, some)) (omega (arith, some, there))
+      | inr g ↦
+          get_or-append_right u v 16 (16 - n + k) 0 before.long (omega (arith, g, some))
+          ∙ now.each (16 - n + k - 16) place (omega (arith, g, some, l)) (omega (arith, g, some, there))
+    ]
+
 -- no needle that is sifted agrees where no bit is set
-pub no_sifted_from : (s : Sieve) (piece needle : List ℕ) (n at bits to k : ℕ) → ((i : ℕ) → slice_index piece i < 256) → IsSifted s needle →
-    MarksTaken s piece n at bits → ((i : ℕ) → i < to → bit_at bits i ≡ 0) → to ≤ n → at + n + 2 ≤ length piece → at ≤ k → k < at + to → ¬ Agrees piece needle k
-no_sifted_from s piece needle n at bits to k small is set zeros fits room low high agrees =
-    let i : ℕ = k - at in
-    let within : i < n = omega (arith, low, high, fits) in
-    let x : k + 0 ≡ at + i = omega (arith, low) in
-    let y : k + 1 ≡ at + 1 + i = omega (arith, low) in
-    let z : k + 2 ≡ at + 2 + i = omega (arith, low) in
-    let here : 0 < sifted s (slice_index piece (at + i)) (slice_index piece (at + 1 + i)) (slice_index piece (at + 2 + i)) =
-    is (slice_index piece (at + i)) (slice_index piece (at + 1 + i)) (slice_index piece (at + 2 + i)) (small (at + i)) (small (at + 1 + i)) (small (at + 2 + i))
-    (λ l. ap (slice_index piece) (sym x) ∙ agrees 0 l (omega (arith, x, within, room)))
-    (λ l. ap (slice_index piece) (sym y) ∙ agrees 1 l (omega (arith, y, within, room)))
-    (λ l. ap (slice_index piece) (sym z) ∙ agrees 2 l (omega (arith, z, within, room))) in
-    let one = set i within here in
+pub no_sifted_from : (s : Sieve) (piece needle : List ℕ) (back n at bits to place : ℕ) → ((i : ℕ) → slice_index piece i < 256) → IsSifted s needle →
+    AreMarked s piece back n at bits → ((i : ℕ) → i < to → bit_at bits i ≡ 0) → to ≤ n → at + n + 2 ≤ length piece + back → at ≤ place + back →
+    place + back < at + to → ¬ Agrees piece needle place
+no_sifted_from s piece needle back n at bits to place small is set zeros fits room low high agrees =
+    let i : ℕ = place + back - at in
+    let z : place + 0 ≡ place = omega arith in
+    let here : 0 < sifted s (slice_index piece place) (slice_index piece (place + 1)) (slice_index piece (place + 2)) =
+    is (slice_index piece place) (slice_index piece (place + 1)) (slice_index piece (place + 2)) (small place) (small (place + 1)) (small (place + 2))
+    (λ l. ap (slice_index piece) (sym z) ∙ agrees 0 l (omega (arith, fits, high, room)))
+    (λ l. agrees 1 l (omega (arith, fits, high, room)))
+    (λ l. agrees 2 l (omega (arith, fits, high, room))) in
+    let one = set i place (omega (arith, low, high, fits)) (omega (arith, low)) here in
     let zero = zeros i (omega (arith, low, high)) in
     omega (arith, one, zero)
 
@@ -178,19 +198,21 @@ no_sifted_from s piece needle n at bits to k small is set zeros fits room low hi
 abbrev pub NoneSifted : Sieve → List ℕ → ℕ → ℕ → Type 0
 NoneSifted s piece from to = (needle : List ℕ) → IsSifted s needle → (k : ℕ) → from ≤ k → k < to → ¬ Agrees piece needle k
 
-pub no_sifted_there : (s : Sieve) (piece : List ℕ) (from seen n at bits to : ℕ) → ((i : ℕ) → slice_index piece i < 256) → NoneSifted s piece from seen → at ≤ seen →
-    MarksTaken s piece n at bits → ((i : ℕ) → i < to → bit_at bits i ≡ 0) → to ≤ n → at + n + 2 ≤ length piece → NoneSifted s piece from (at + to)
-no_sifted_there s piece from seen n at bits to small before near set zeros fits room needle is k low high =
+pub no_sifted_there : (s : Sieve) (piece : List ℕ) (from seen end back n at bits to : ℕ) → ((i : ℕ) → slice_index piece i < 256) → NoneSifted s piece from seen →
+    at ≤ seen + back → AreMarked s piece back n at bits → ((i : ℕ) → i < to → bit_at bits i ≡ 0) → to ≤ n → at + n + 2 ≤ length piece + back →
+    end + back ≤ at + to → NoneSifted s piece from end
+no_sifted_there s piece from seen end back n at bits to small before near set zeros fits room last needle is k low high =
     elim (cases_lt k seen) [
       | inl l ↦ before needle is k low l
-      | inr g ↦ no_sifted_from s piece needle n at bits to k small is set zeros fits room (omega (arith, near, g)) high
+      | inr g ↦ no_sifted_from s piece needle back n at bits to k small is set zeros fits room (omega (arith, near, g)) (omega (arith, high, last))
     ]
 
 -- where no bit of a half is set
-pub none_in_half : (s : Sieve) (piece : List ℕ) (from to bits : ℕ) → ((i : ℕ) → slice_index piece i < 256) → MarksTaken s piece 16 from bits → bits ≡ 0 →
+pub none_in_half : (s : Sieve) (piece : List ℕ) (from to bits : ℕ) → ((i : ℕ) → slice_index piece i < 256) → AreMarked s piece 0 16 from bits → bits ≡ 0 →
     from + 18 ≤ length piece → to ≤ from + 16 → NoneSifted s piece from to
 none_in_half s piece from to bits small set zero room near needle is k low high =
-    no_sifted_from s piece needle 16 from bits 16 k small is set (λ i _. zero_bits bits i zero) (omega arith) (omega (arith, room)) low (omega (arith, high, near))
+    no_sifted_from s piece needle 0 16 from bits 16 k small is set (λ i _. zero_bits bits i zero) (omega arith) (omega (arith, room)) (omega (arith, low))
+    (omega (arith, high, near))
 
 -- a bit that is set, where some is
 pub set_bit : (bits : ℕ) → 0 < bits → bits < 256 → (k : ℕ) × (bit_at bits k ≡ 1)

@@ -1,9 +1,11 @@
 -- Only proofs use this file.
 -- What a sieve lets through.
-use Rattle.std.specs.Prelude.{◌≡◌, ℕ, ◌/◌, ◌%◌, ◌<◌, List, bit_and, length, slice_index}
+use Rattle.std.specs.Prelude.{◌≡◌, ℕ, ◌+◌, ◌/◌, ◌%◌, ◌<◌, List, bit_and, length, slice_index}
+use Rattle.std.specs.Int.{bit_at}
 use Rattle.rc_literal.specs.Tables.{numbered}
 use Rattle.rc_literal.specs.declared.sieve.Sift.{Sift}
 use Rattle.rc_literal.specs.declared.sieve.Sieve.{Sieve}
+use Rattle.rc_literal.specs.declared.sieve.Begun.{Begun}
 
 -- a vector of 16 numbers: the place k holds f k
 pub record AreLanes (v : List ℕ) (f : ℕ → ℕ) : Type 0 where
@@ -17,6 +19,22 @@ buckets t byte = bit_and (slice_index t.low (byte % 16)) (slice_index t.high (by
 -- the buckets that take three bytes, one after another
 abbrev pub sifted : Sieve → ℕ → ℕ → ℕ → ℕ
 sifted s a b c = bit_and (buckets s.first a) (bit_and (buckets s.second b) (buckets s.third c))
+
+-- Of n places bits say where a bucket takes the three bytes from there on. The bit k is that of the place
+-- which is so many behind `at` as k is above `back`.
+abbrev pub AreMarked : Sieve → List ℕ → ℕ → ℕ → ℕ → ℕ → Type 0
+AreMarked s piece back n at bits = (k place : ℕ) → k < n → place + back ≡ at + k →
+    0 < sifted s (slice_index piece place) (slice_index piece (place + 1)) (slice_index piece (place + 2)) → bit_at bits k ≡ 1
+
+-- a vector of the buckets that take each of the 16 bytes of a piece before a place, where there are as many
+pub record AreTaken (t : Sift) (piece : List ℕ) (end : ℕ) (v : List ℕ) : Type 0 where
+  pub long : length v ≡ 16
+  pub each : (k place : ℕ) → k < 16 → place + 16 ≡ end + k → slice_index v k ≡ buckets t (slice_index piece place)
+
+-- those that take them as the first byte of a needle, and as the second
+pub record HaveBegun (s : Sieve) (piece : List ℕ) (end : ℕ) (b : Begun) : Type 0 where
+  pub first : AreTaken s.first piece end b.first
+  pub second : AreTaken s.second piece end b.second
 
 -- the byte may stand at the place of a text that goes on as the needle does
 abbrev pub MayStand : List ℕ → ℕ → ℕ → Type 0

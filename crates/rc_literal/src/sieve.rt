@@ -1,7 +1,7 @@
 //! A sieve that passes over the places where none of some needles begins, 32 places at a time.
-ghost use Rattle.std.specs.Prelude.{◌≡◌, ◌+◌, ◌*◌, ◌/◌, ◌<◌, ◌≤◌, ◌^◌, ℕ, IfSome, IsTrue, List, length, slice_index};
+ghost use Rattle.std.specs.Prelude.{◌≡◌, ◌+◌, ◌++◌, ◌*◌, ◌/◌, ◌<◌, ◌≤◌, ◌^◌, ℕ, IfSome, IsTrue, List, length, slice_index};
 ghost use Rattle.std.specs.Int.{bit_at};
-ghost use Rattle.rc_literal.specs.Sieves.{AreLanes, AreSifted, IsSifted, buckets, sifted};
+ghost use Rattle.rc_literal.specs.Sieves.{AreLanes, AreMarked, AreSifted, HaveBegun, IsSifted, buckets};
 ghost use Rattle.rc_literal.specs.Tables.{Agrees, needles_in};
 
 use crate::pairs::lowest;
@@ -16,6 +16,9 @@ const LANES: usize = 2 * HALF;
 /// How many bytes a piece has at least in which the sieve is used: those of a vector, and two that
 /// are read behind them.
 pub const LEAST_PIECE: usize = HALF + 2;
+
+/// How many bytes a piece has at least in which each is looked up once.
+const LEAST_BLOCKS: usize = LANES + 3;
 
 /// How many needles a sieve is made for at most.
 const GREATEST_COUNT: usize = 64;
@@ -40,6 +43,13 @@ pub struct Sieve {
     pub first: Sift,
     pub second: Sift,
     pub third: Sift,
+}
+
+/// Which buckets take each of 16 bytes as the first of a needle, and which as the second.
+#[derive(Clone, Copy)]
+struct Begun {
+    first: u8x16,
+    second: u8x16,
 }
 
 impl Sift {
@@ -113,6 +123,19 @@ impl Sift {
     }
 }
 
+impl Begun {
+    /// What no bytes are taken as.
+    #[inline(always)]
+    fn new() -> Begun
+        ensures { (s : Sieve) (piece : List ℕ) → HaveBegun s piece 0 result }
+    {
+        Begun {
+            first: u8x16::splat(0),
+            second: u8x16::splat(0),
+        }
+    }
+}
+
 impl Sieve {
     /// Whether a bucket takes the needle, whatever follows it.
     fn takes(&self, needle: &[u8]) -> bool
@@ -129,8 +152,7 @@ impl Sieve {
     fn marks(&self, piece: &[u8], at: usize) -> u64
         requires { at + 34 ≤ length piece.now }
         ensures small { result < 2 ^ 32 }
-        ensures set { (k : ℕ) → k < 32 → 0 < sifted self.now (slice_index piece.now (at + k))
-            (slice_index piece.now (at + 1 + k)) (slice_index piece.now (at + 2 + k)) → bit_at result k ≡ 1 }
+        ensures set { AreMarked self.now piece.now 0 32 at result }
     {
         let low = self.half_marks(piece, at);
         let high = self.half_marks(piece, at + HALF);
@@ -142,8 +164,7 @@ impl Sieve {
     fn half_marks(&self, piece: &[u8], at: usize) -> u64
         requires { at + 18 ≤ length piece.now }
         ensures small { result < 2 ^ 16 }
-        ensures set { (k : ℕ) → k < 16 → 0 < sifted self.now (slice_index piece.now (at + k))
-            (slice_index piece.now (at + 1 + k)) (slice_index piece.now (at + 2 + k)) → bit_at result k ≡ 1 }
+        ensures set { AreMarked self.now piece.now 0 16 at result }
     {
         let first = self.first.lanes(piece, at);
         if self.is_set {
@@ -155,10 +176,51 @@ impl Sieve {
         bits.simd_ne(u8x16::splat(0)).to_bitmask()
     }
 
+    /// What each of the 16 bytes from a place on is taken as.
+    #[inline(always)]
+    fn begun(&self, piece: &[u8], at: usize) -> Begun
+        requires { at + 16 ≤ length piece.now }
+        ensures { HaveBegun self.now piece.now (at + 16) result }
+    {
+        Begun {
+            first: self.first.lanes(piece, at),
+            second: self.second.lanes(piece, at),
+        }
+    }
+
+    /// A number whose bit k is set where a bucket takes three bytes of which the last stands at `at + k`, for
+    /// each k below 16. Given is what these 16 bytes and the 16 before them are taken as.
+    #[inline(always)]
+    fn marks_behind(&self, before: Begun, now: Begun, piece: &[u8], at: usize) -> u64
+        requires inside { at + 16 ≤ length piece.now }
+        requires before { HaveBegun self.now piece.now at before }
+        requires now { HaveBegun self.now piece.now (at + 16) now }
+        ensures small { result < 2 ^ 16 }
+        ensures set { AreMarked self.now piece.now 2 16 at result }
+    {
+        let first = two_back(before.first, now.first);
+        let second = one_back(before.second, now.second);
+        let bits = first & (second & self.third.lanes(piece, at));
+        bits.simd_ne(u8x16::splat(0)).to_bitmask()
+    }
+
     /// The first place of the piece where a bucket takes three bytes. Where there is none, the place
     /// of the last two bytes.
     #[inline(never)]
     pub fn place(&self, piece: &[u8]) -> usize
+        requires { LEAST_PIECE ≤ length piece.now }
+        ensures within { result + 2 ≤ length piece.now }
+        ensures passed { (needle : List ℕ) → IsSifted self.now needle → (k : ℕ) → k < result → ¬ Agrees piece.now needle k }
+    {
+        if self.is_set || piece.len() < LEAST_BLOCKS {
+            return self.place_by_places(piece);
+        }
+        self.place_by_blocks(piece)
+    }
+
+    /// The same, where the bytes of each place are looked up by themselves.
+    #[inline(always)]
+    fn place_by_places(&self, piece: &[u8]) -> usize
         requires { LEAST_PIECE ≤ length piece.now }
         ensures within { result + 2 ≤ length piece.now }
         ensures passed { (needle : List ℕ) → IsSifted self.now needle → (k : ℕ) → k < result → ¬ Agrees piece.now needle k }
@@ -173,6 +235,33 @@ impl Sieve {
             at += LANES;
         }
         self.place_at_end(piece, at)
+    }
+
+    /// The same, where each byte is looked up once.
+    #[inline(always)]
+    fn place_by_blocks(&self, piece: &[u8]) -> usize
+        requires { LEAST_PIECE ≤ length piece.now }
+        ensures within { result + 2 ≤ length piece.now }
+        ensures passed { (needle : List ℕ) → IsSifted self.now needle → (k : ℕ) → k < result → ¬ Agrees piece.now needle k }
+    {
+        let mut before = Begun::new();
+        let mut at = 0;
+        while at + LANES <= piece.len() {
+            let low = self.begun(piece, at);
+            let high = self.begun(piece, at + HALF);
+            let lows = self.marks_behind(before, low, piece, at);
+            let highs = self.marks_behind(low, high, piece, at + HALF);
+            let marks = lows | highs << HALF;
+            if marks != 0 {
+                return (at + lowest(marks)).saturating_sub(2);
+            }
+            before = high;
+            at += LANES;
+        }
+        if at == piece.len() {
+            return piece.len() - 2;
+        }
+        self.place_at_end(piece, at.saturating_sub(2))
     }
 
     /// The same from a place on, where at most 32 places are left to be looked up.
@@ -196,6 +285,32 @@ impl Sieve {
         }
         piece.len() - 2
     }
+}
+
+/// The 16 of two vectors side by side that end two before their end.
+#[inline(always)]
+fn two_back(before: u8x16, now: u8x16) -> u8x16
+    ensures { AreLanes result (λ k. slice_index (before ++ now) (14 + k)) }
+{
+    before.shuffle(
+        now,
+        [
+            14, 15, 16, 17, 18, 19, 20, 21, 22, 23, 24, 25, 26, 27, 28, 29,
+        ],
+    )
+}
+
+/// Those that end one before their end.
+#[inline(always)]
+fn one_back(before: u8x16, now: u8x16) -> u8x16
+    ensures { AreLanes result (λ k. slice_index (before ++ now) (15 + k)) }
+{
+    before.shuffle(
+        now,
+        [
+            15, 16, 17, 18, 19, 20, 21, 22, 23, 24, 25, 26, 27, 28, 29, 30,
+        ],
+    )
 }
 
 /// A sieve for these needles, where they are few enough.

@@ -2,7 +2,7 @@ use Rattle.std.proofs.Common.{◌+◌, arith, slice_index, bit_and}
 use Rattle.std.proofs.lemmas.Nat.{and_le_l}
 use Rattle.std.specs.Simd.Lanes.{zip2}
 use Rattle.rc_literal.specs.Sieves.{buckets, sifted}
-use Rattle.rc_literal.proofs.SieveLemmas.{lanes_and, nonzero_fit, nonzero_set}
+use Rattle.rc_literal.proofs.SieveLemmas.{lanes_and, lanes_marked, nonzero_fit}
 use Rattle.rc_literal.proofs.sieve.Sieve.half_marks.Goals as goal
 
 pub returns-clause-small : goal.returns-clause-small
@@ -11,22 +11,24 @@ returns-clause-small c =
     nonzero_fit (zip2 bit_and c.lanes-first.result (zip2 bit_and c.lanes-second.result c.lanes-third.result)) all.long
 
 pub returns-clause-set : goal.returns-clause-set
-returns-clause-set c k l some =
+returns-clause-set c =
     let all = lanes_and _ _ _ _ c.lanes-first.ensures (lanes_and _ _ _ _ c.lanes-second.ensures c.lanes-third.ensures) in
     let s = c.args.self.now in
     let piece = c.args.piece.now in
     let at = c.args.at in
-    nonzero_set (zip2 bit_and c.lanes-first.result (zip2 bit_and c.lanes-second.result c.lanes-third.result))
-    (λ j. sifted s (slice_index piece (at + j)) (slice_index piece (at + 1 + j)) (slice_index piece (at + 2 + j))) k all l some
+    lanes_marked s piece (zip2 bit_and c.lanes-first.result (zip2 bit_and c.lanes-second.result c.lanes-third.result))
+    (λ j. sifted s (slice_index piece (at + j)) (slice_index piece (at + 1 + j)) (slice_index piece (at + 2 + j))) at all (λ k some. some)
 
 pub returns-then-self-clause-small : goal.returns-then-self-clause-small
 returns-then-self-clause-small c = nonzero_fit c.lanes-first.result c.lanes-first.ensures.long
 
 pub returns-then-self-clause-set : goal.returns-then-self-clause-set
-returns-then-self-clause-set c k l some =
+returns-then-self-clause-set c =
     let s = c.args.self.now in
     let piece = c.args.piece.now in
     let at = c.args.at in
+    lanes_marked s piece c.lanes-first.result (λ j. buckets s.first (slice_index piece (at + j))) at c.lanes-first.ensures
+    (λ k some.
     let one = buckets s.first (slice_index piece (at + k)) in
     let le = and_le_l one (bit_and (buckets s.second (slice_index piece (at + 1 + k))) (buckets s.third (slice_index piece (at + 2 + k)))) in
-    nonzero_set c.lanes-first.result (λ j. buckets s.first (slice_index piece (at + j))) k c.lanes-first.ensures l (omega (arith, le, some))
+    omega (arith, le, some))

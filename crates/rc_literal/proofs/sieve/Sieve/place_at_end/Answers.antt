@@ -1,4 +1,4 @@
-use Rattle.std.proofs.Common.{◌-◌, ℕ, arith, length}
+use Rattle.std.proofs.Common.{◌+◌, ◌-◌, ℕ, arith, length}
 use Rattle.rc_literal.proofs.PairLemmas.{zero_bits}
 use Rattle.rc_literal.proofs.SieveLemmas.{NoneSifted, none_in_half, no_sifted_from, no_sifted_there}
 use Rattle.rc_literal.proofs.sieve.Sieve.place_at_end.Goals as goal
@@ -10,10 +10,10 @@ returns-then-marks-ne0-clause-within c =
     omega (arith, low, c.if-from-last.true)
 
 pub returns-then-marks-ne0-clause-passed : goal.returns-then-marks-ne0-clause-passed
-returns-then-marks-ne0-clause-passed c needle is k =
-    no_sifted_from c.args.self.now c.args.piece.now needle 16 c.args.from c.half_marks-marks.result c.lowest.result k (λ i. (c.type_inv.piece i).fits) is
+returns-then-marks-ne0-clause-passed c needle is k low high =
+    no_sifted_from c.args.self.now c.args.piece.now needle 0 16 c.args.from c.half_marks-marks.result c.lowest.result k (λ i. (c.type_inv.piece i).fits) is
     c.half_marks-marks.ensures.set c.lowest.ensures.none_below (c.lowest.ensures.within 16 c.half_marks-marks.ensures.small)
-    (omega (arith, c.if-from-last.true))
+    (omega (arith, c.if-from-last.true)) (omega (arith, low)) (omega (arith, high))
 
 pub returns-then-marks-ne0-2-clause-within : goal.returns-then-marks-ne0-2-clause-within
 returns-then-marks-ne0-2-clause-within c =
@@ -31,12 +31,13 @@ returns-then-marks-ne0-2-clause-passed c =
           (omega (arith, w.if-marks-ne0.false)) (omega (arith, w.if-from-last.true)) (omega (arith, c.requires.near))
       | else-from-last w ↦ λ _ _ k low high. absurd (omega (arith, low, high, w.if-from-last.false))
     ] in
-    no_sifted_there c.args.self.now piece c.args.from last 16 last c.half_marks-marks-2.result c.lowest-then-marks-ne0-2.result
-    (λ i. (c.type_inv.piece i).fits) before (omega arith) c.half_marks-marks-2.ensures.set c.lowest-then-marks-ne0-2.ensures.none_below
-    (c.lowest-then-marks-ne0-2.ensures.within 16 c.half_marks-marks-2.ensures.small) (omega (arith, c.requires.long))
+    no_sifted_there c.args.self.now piece c.args.from last (last + c.lowest-then-marks-ne0-2.result) 0 16 last c.half_marks-marks-2.result
+    c.lowest-then-marks-ne0-2.result (λ i. (c.type_inv.piece i).fits) before (omega arith) c.half_marks-marks-2.ensures.set
+    c.lowest-then-marks-ne0-2.ensures.none_below (c.lowest-then-marks-ne0-2.ensures.within 16 c.half_marks-marks-2.ensures.small)
+    (omega (arith, c.requires.long)) (omega arith)
 
 pub returns-clause-passed : goal.returns-clause-passed
-returns-clause-passed c needle is k low high =
+returns-clause-passed c =
     let piece = c.args.piece.now in
     let last : ℕ = length piece - 18 in
     let bits = c.half_marks-marks-2.result in
@@ -47,5 +48,6 @@ returns-clause-passed c needle is k low high =
           (omega (arith, w.if-marks-ne0.false)) (omega (arith, w.if-from-last.true)) (omega (arith, c.requires.near))
       | else-from-last w ↦ λ _ _ k low high. absurd (omega (arith, low, high, w.if-from-last.false))
     ] in
-    no_sifted_there c.args.self.now piece c.args.from last 16 last bits 16 (λ i. (c.type_inv.piece i).fits) before (omega arith) c.half_marks-marks-2.ensures.set
-    (λ i _. zero_bits bits i (omega (arith, c.if-marks-ne0-2.false))) (omega arith) (omega (arith, c.requires.long)) needle is k low (omega (arith, high, c.requires.long))
+    no_sifted_there c.args.self.now piece c.args.from last (length piece - 2) 0 16 last bits 16 (λ i. (c.type_inv.piece i).fits) before (omega arith)
+    c.half_marks-marks-2.ensures.set (λ i _. zero_bits bits i (omega (arith, c.if-marks-ne0-2.false))) (omega arith) (omega (arith, c.requires.long))
+    (omega (arith, c.requires.long))
