@@ -12,3 +12,4 @@ pub mod Greatest
 pub mod Longest
 pub mod Kinds
 pub mod Programs
+pub mod Heads
