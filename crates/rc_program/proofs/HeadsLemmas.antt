@@ -1,33 +1,41 @@
 -- Where no walk may go on over the byte ahead no walk sets out.
-use Rattle.std.proofs.Common.{◌≡◌, ◌↔◌, ℕ, ◌+◌, ◌<◌, ◌≤◌, ◌⊎◌, List, [], ◌∷◌, length, map, inl, inr, ⊎_elim, sym, subst, ap, ◌∙◌, refl, arith, Bool, true, false, true≢false, IsTrue, Option, Some, None, nat_le, nat_lt, ◌&&◌, ◌||◌, if◌then◌else◌, slice_get, slice_index_or}
+use Rattle.std.proofs.Common.{◌≡◌, ◌↔◌, ℕ, ◌+◌, ◌<◌, ◌≤◌, ◌⊎◌, List, [], ◌∷◌, length, map, inl, inr, ⊎_elim, sym, subst, ap, ◌∙◌, refl, arith, Bool, true, false, true≢false, IsTrue, Option, Some, None, nat_le, nat_lt, ◌&&◌, ◌||◌, if◌then◌else◌, slice_get, slice_index_or, Vec}
 use Rattle.std.proofs.Math.Logic.{∥∥₁_elim, ∥∥₁_prop}
 use Rattle.std.proofs.lemmas.Bool.{cases_Bool, le-ltb, lt-ltb, leb-false}
+use Rattle.std.specs.List.{Contains}
+use Rattle.std.proofs.lemmas.List.{get_or-map, length-map}
+use Rattle.std.proofs.lemmas.List.Elements.{Contains-append_right}
 use Rattle.std.proofs.lemmas.Option.{none-some, same_Some}
 use Rattle.rc_pattern.specs.declared.hir.Look.{Look}
 use Rattle.rc_walks.specs.Walks.{Pair, IsIn, IsWalk, stops, goes, HasNoWalk}
 use Rattle.rc_program.specs.Text.{Text, ahead, holds}
 use Rattle.rc_program.specs.Scalars.{scalar_at}
 use Rattle.rc_program.specs.Program.{Place, choice, byte, branch, scalar, guard, slot, accept, Way, stays, reads, in_ranges, over_scalar, branch_ways, ways_out, pair_at, place_at, ways}
-use Rattle.rc_program.specs.Heads.{StandsIn, silent, Reaches, here, on, may_take, MayGoOn, HeadsLaw}
+use Rattle.rc_program.specs.Heads.{silent, Reaches, here, on, may_take, MayGoOn, TellsHeads, AreHeads, flags_in, HeadsLaw}
 
 -- what is reached goes on to what stands in it
-pub further : (places : List Place) {p q : ℕ} (m : ℕ) → Reaches places p q → StandsIn m (silent (place_at places q)) → Reaches places p m
+pub further : (places : List Place) {p q : ℕ} (m : ℕ) → Reaches places p q → Contains (silent (place_at places q)) m → Reaches places p m
 further places m here s = on m s here
 further places m (on k h r) s = on k h (further places m r s)
 
 -- the pair is that of a silent way
 abbrev pub StaysIn : Place → ℕ → Pair → Type 0
-StaysIn q i m = (k : ℕ) × StandsIn k (silent q) × (m ≡ (k, i))
+StaysIn q i m = (k : ℕ) × Contains (silent q) k × (m ≡ (k, i))
 
 -- every one of the ways out reads nothing
 abbrev pub AllStay : Place → ℕ → List Way → Type 0
 AllStay q i ws = (m : Pair) → IsIn m (map (pair_at i) ws) → StaysIn q i m
 
-choices_stay : (i : ℕ) (ns : List ℕ) (m : Pair) → IsIn m (map (pair_at i) (map stays ns)) → (k : ℕ) × StandsIn k ns × (m ≡ (k, i))
-choices_stay i [] m h = absurd h
-choices_stay i (n ∷ ns) m h = ⊎_elim (λ e. (n, inl refl, sym e)) (λ k. let r = choices_stay i ns m k in (r.0, inr r.1, r.2)) h
+-- the first of a list
+first_in : (n : ℕ) (ns : List ℕ) → Contains (n ∷ ns) n
+first_in n ns = (0, omega arith, refl)
 
-one_stays : (q : Place) (i n : ℕ) (b : Bool) → StandsIn n (silent q) → AllStay q i (if b then stays n ∷ [] else [])
+choices_stay : (i : ℕ) (ns : List ℕ) (m : Pair) → IsIn m (map (pair_at i) (map stays ns)) → (k : ℕ) × Contains ns k × (m ≡ (k, i))
+choices_stay i [] m h = absurd h
+choices_stay i (n ∷ ns) m h =
+    ⊎_elim (λ e. (n, first_in n ns, sym e)) (λ k. let r = choices_stay i ns m k in (r.0, Contains-append_right (n ∷ []) ns r.0 r.1, r.2)) h
+
+one_stays : (q : Place) (i n : ℕ) (b : Bool) → Contains (silent q) n → AllStay q i (if b then stays n ∷ [] else [])
 one_stays q i n true s m h = ⊎_elim (λ e. (n, s, sym e)) (λ k. absurd k) h
 one_stays q i n false s m h = absurd h
 
@@ -60,8 +68,8 @@ takes_or_stays test b bs i (byte rs n) =
 takes_or_stays test b bs i (branch ts) = inl refl
 takes_or_stays test b bs i (scalar rs n) =
     ⊎_elim (λ e. inl e) (λ e. inr (scalar_stays rs n i b bs e)) (cases_Bool (nat_le 128 b || in_ranges rs b))
-takes_or_stays test b bs i (guard l n) = inr (one_stays (guard l n) i n (test l) (inl refl))
-takes_or_stays test b bs i (slot k n) = inr (one_stays (slot k n) i n true (inl refl))
+takes_or_stays test b bs i (guard l n) = inr (one_stays (guard l n) i n (test l) (first_in n []))
+takes_or_stays test b bs i (slot k n) = inr (one_stays (slot k n) i n true (first_in n []))
 takes_or_stays test b bs i (accept p) = inl refl
 
 -- a place that is reached from p takes the byte
@@ -112,3 +120,12 @@ none_goes_on places t hi p i b Ends passed at_end e none v walk =
 
 pub heads_law : HeadsLaw
 heads_law places t hi p i b ends passed at_end e none = none_goes_on places t hi p i b (λ n. IsTrue (ends n)) passed at_end e none
+
+-- what code reads as the flags of a place are its flags
+pub flags_tell : {Y : Type 0} (places : List Place) (vs : List (Vec Bool Y)) (p : ℕ) (v : Vec Bool Y) → AreHeads places (flags_in vs) → p < length places →
+    v ≡ slice_index_or vs p v → 0 < length v.items → TellsHeads places p v.items
+flags_tell {Y} places vs p v h lt e some =
+    let items : Vec Bool Y → List Bool = λ w. w.items in
+    let within : p < length vs = omega (arith, h.count, length-map vs items) in
+    let same : slice_index_or (flags_in vs) p [] ≡ v.items = get_or-map items vs p v [] within ∙ ap items (sym e) in
+    subst (TellsHeads places p) same (h.tell p lt (subst (λ (l : List Bool). 0 < length l) (sym same) some))

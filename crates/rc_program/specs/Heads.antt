@@ -1,13 +1,9 @@
 -- Over which bytes walks may go on from a place, as far as one byte tells.
-use Rattle.std.specs.Prelude.{◌≡◌, ◌↔◌, ◌⊎◌, ℕ, ◌<◌, Bool, true, false, ◌||◌, List, [], ◌∷◌, IsTrue, Some, map, nat_le, length, slice_get, slice_index_or, Vec}
+use Rattle.std.specs.Prelude.{◌≡◌, ◌↔◌, ℕ, ◌<◌, Bool, true, false, ◌||◌, List, [], ◌∷◌, IsTrue, Some, map, nat_le, length, slice_get, slice_index_or, Vec}
+use Rattle.std.specs.List.{Contains}
 use Rattle.rc_walks.specs.Walks.{Pair, HasNoWalk}
 use Rattle.rc_program.specs.Text.{Text, ahead}
 use Rattle.rc_program.specs.Program.{Place, choice, byte, branch, scalar, guard, slot, accept, in_ranges, place_at, ways}
-
--- the number stands in the list
-abbrev pub StandsIn : ℕ → List ℕ → Type 0
-StandsIn m [] = ⊥
-StandsIn m (n ∷ ns) = (n ≡ m) ⊎ StandsIn m ns
 
 -- the places to which ways lead that read nothing, whatever assertions say
 abbrev pub silent : Place → List ℕ
@@ -19,7 +15,7 @@ silent _ = []
 -- q is reached from p by ways that read nothing
 pub data Reaches (places : List Place) : ℕ → ℕ → Type 0 where
   here : {p : ℕ} → Reaches places p p
-  on : {p q : ℕ} (m : ℕ) → StandsIn m (silent (place_at places p)) → Reaches places m q → Reaches places p q
+  on : {p q : ℕ} (m : ℕ) → Contains (silent (place_at places p)) m → Reaches places m q → Reaches places p q
 
 -- a walk may go on there over the byte, as far as that byte alone tells, or ends there
 abbrev pub may_take : Place → ℕ → Bool

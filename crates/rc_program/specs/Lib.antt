@@ -13,3 +13,4 @@ pub mod Longest
 pub mod Kinds
 pub mod Programs
 pub mod Heads
+pub mod Closing
