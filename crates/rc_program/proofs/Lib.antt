@@ -20,3 +20,4 @@ pub mod KindLemmas
 mod KindExamples
 mod LongestExamples
 pub mod PropertyLemmas
+pub mod HeadsLemmas

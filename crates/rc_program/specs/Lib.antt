@@ -12,3 +12,5 @@ pub mod Greatest
 pub mod Longest
 pub mod Kinds
 pub mod Programs
+pub mod Heads
+pub mod Closing

@@ -1,6 +1,7 @@
 //! The laws that tie the definitions. Each function does nothing: its contract is the law.
 ghost use Rattle.rc_program.specs.Answer.{AnswerLaw};
 ghost use Rattle.rc_program.specs.Greatest.{GreatestLaw};
+ghost use Rattle.rc_program.specs.Heads.{HeadsLaw};
 ghost use Rattle.rc_program.specs.Kinds.{KindsLaw};
 ghost use Rattle.rc_program.specs.Longest.{LongestLaw};
 ghost use Rattle.rc_program.specs.Laws.{ClosedLaw, EntryLaw, GroupLaw, ProgramLaw, PropertyLaw};
@@ -81,4 +82,9 @@ pub fn longest_matches_are_longest_walks()
 /// and of `LeftmostLongest` the longest match.
 pub fn kinds_have_answers()
     ensures { KindsLaw }
+{}
+
+/// Where no walk may go on over the byte ahead, as far as the places that are reached without reading tell, no walk sets out.
+pub fn heads_bar_walks()
+    ensures { HeadsLaw }
 {}

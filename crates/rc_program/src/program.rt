@@ -1,5 +1,7 @@
 //! A program that can be searched with.
 
+ghost use Rattle.std.specs.Prelude.{ℕ, ◌<◌, MatchBool, MatchOption, length, ⊤};
+ghost use Rattle.rc_program.specs.Heads.{AreHeads, MayGoOn, TellsHeads, flags_in};
 ghost use Rattle.rc_program.specs.Sought.{IsRunnable};
 ghost use Rattle.rc_program.specs.Places.{places_of};
 
@@ -14,5 +16,31 @@ pub struct Program {
     pub terminator: u8,
     /// Whether matches are passed over that end off a boundary of characters.
     pub passes_over: bool,
+    /// For each place over which bytes walks may go on from there, 256 flags; none where that wasn't closed over.
+    pub heads: Vec<Vec<bool>>,
     ghost runnable: { IsRunnable (places_of places.items) },
+    ghost closed_over: { AreHeads (places_of places.items) (flags_in heads.items) },
+}
+
+impl Program {
+    /// Over which bytes walks may go on from the place, whatever assertions say: 256 flags. None where that wasn't closed over.
+    #[inline(always)]
+    pub fn head_table(&self, place: usize) -> Option<&[bool]>
+        requires { place < length self.now.places.items }
+        ensures { MatchOption result ⊤ (λ flags. TellsHeads (places_of self.now.places.items) place flags.now) }
+    {
+        let flags: &[bool] = &self.heads[place];
+        if flags.is_empty() { None } else { Some(flags) }
+    }
+
+    /// Whether a walk may go on from the place over the byte, whatever assertions say. None where that wasn't closed over.
+    #[inline(always)]
+    pub fn may_go_on(&self, place: usize, byte: u8) -> Option<bool>
+        requires { place < length self.now.places.items }
+        ensures { MatchOption result ⊤ (λ goes. MatchBool goes (MayGoOn (places_of self.now.places.items) place byte)
+            (¬ MayGoOn (places_of self.now.places.items) place byte)) }
+    {
+        let flags = self.head_table(place)?;
+        Some(flags[byte as usize])
+    }
 }

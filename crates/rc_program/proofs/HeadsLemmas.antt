@@ -1,0 +1,131 @@
+-- Where no walk may go on over the byte ahead no walk sets out.
+use Rattle.std.proofs.Common.{◌≡◌, ◌↔◌, ℕ, ◌+◌, ◌<◌, ◌≤◌, ◌⊎◌, List, [], ◌∷◌, length, map, inl, inr, ⊎_elim, sym, subst, ap, ◌∙◌, refl, arith, Bool, true, false, true≢false, IsTrue, Option, Some, None, nat_le, nat_lt, ◌&&◌, ◌||◌, if◌then◌else◌, slice_get, slice_index_or, Vec}
+use Rattle.std.proofs.Math.Logic.{∥∥₁_elim, ∥∥₁_prop}
+use Rattle.std.proofs.lemmas.Bool.{cases_Bool, le-ltb, lt-ltb, leb-false}
+use Rattle.std.specs.List.{Contains}
+use Rattle.std.proofs.lemmas.List.{get_or-map, length-map}
+use Rattle.std.proofs.lemmas.List.Elements.{Contains-append_right}
+use Rattle.std.proofs.lemmas.Option.{none-some, same_Some}
+use Rattle.rc_pattern.specs.declared.hir.Look.{Look}
+use Rattle.rc_walks.specs.Walks.{Pair, IsIn, IsWalk, stops, goes, HasNoWalk}
+use Rattle.rc_program.specs.Text.{Text, ahead, holds}
+use Rattle.rc_program.specs.Scalars.{scalar_at}
+use Rattle.rc_program.specs.Program.{Place, choice, byte, branch, scalar, guard, slot, accept, Way, stays, reads, in_ranges, over_scalar, branch_ways, ways_out, pair_at, place_at, ways}
+use Rattle.rc_program.specs.Heads.{silent, Reaches, here, on, may_take, MayGoOn, TellsHeads, AreHeads, flags_in, HeadsLaw}
+
+-- what is reached goes on to what stands in it
+pub further : (places : List Place) {p q : ℕ} (m : ℕ) → Reaches places p q → Contains (silent (place_at places q)) m → Reaches places p m
+further places m here s = on m s here
+further places m (on k h r) s = on k h (further places m r s)
+
+-- the pair is that of a silent way
+abbrev pub StaysIn : Place → ℕ → Pair → Type 0
+StaysIn q i m = (k : ℕ) × Contains (silent q) k × (m ≡ (k, i))
+
+-- every one of the ways out reads nothing
+abbrev pub AllStay : Place → ℕ → List Way → Type 0
+AllStay q i ws = (m : Pair) → IsIn m (map (pair_at i) ws) → StaysIn q i m
+
+-- the first of a list
+first_in : (n : ℕ) (ns : List ℕ) → Contains (n ∷ ns) n
+first_in n ns = (0, omega arith, refl)
+
+choices_stay : (i : ℕ) (ns : List ℕ) (m : Pair) → IsIn m (map (pair_at i) (map stays ns)) → (k : ℕ) × Contains ns k × (m ≡ (k, i))
+choices_stay i [] m h = absurd h
+choices_stay i (n ∷ ns) m h =
+    ⊎_elim (λ e. (n, first_in n ns, sym e)) (λ k. let r = choices_stay i ns m k in (r.0, Contains-append_right (n ∷ []) ns r.0 r.1, r.2)) h
+
+one_stays : (q : Place) (i n : ℕ) (b : Bool) → Contains (silent q) n → AllStay q i (if b then stays n ∷ [] else [])
+one_stays q i n true s m h = ⊎_elim (λ e. (n, s, sym e)) (λ k. absurd k) h
+one_stays q i n false s m h = absurd h
+
+-- no way out where the test fails
+none_where : (q : Place) (i : ℕ) (b : Bool) (w : Way) → b ≡ false → AllStay q i (if b then w ∷ [] else [])
+none_where q i true w e = absurd (true≢false e)
+none_where q i false w e = λ m h. absurd h
+
+-- below 128 a byte is a scalar of its own
+pub scalar_of_one : (b : ℕ) (bs : List ℕ) → b < 128 → scalar_at (b ∷ bs) ≡ Some (b, 1)
+scalar_of_one b bs h = rw (lt-ltb b 128 h)
+
+scalar_stays : (rs : List (ℕ × ℕ)) (n i b : ℕ) (bs : List ℕ) → (nat_le 128 b || in_ranges rs b) ≡ false →
+    AllStay (scalar rs n) i (over_scalar rs n (scalar_at (b ∷ bs)))
+scalar_stays rs n i b bs e =
+    let parts = or_parts (nat_le 128 b) (in_ranges rs b) e in
+    subst (λ (o : Option (ℕ × ℕ)). AllStay (scalar rs n) i (over_scalar rs n o)) (sym (scalar_of_one b bs (leb-false 128 b parts.0)))
+    (none_where (scalar rs n) i (in_ranges rs b) (reads 1 n) parts.1)
+  where
+    or_parts : (x y : Bool) → (x || y) ≡ false → (x ≡ false) × (y ≡ false)
+    or_parts true y e = absurd (true≢false e)
+    or_parts false y e = (refl, e)
+
+-- a place takes the byte ahead, or each way out of it reads nothing
+takes_or_stays : (test : Look → Bool) (b : ℕ) (bs : List ℕ) (i : ℕ) (q : Place) →
+    IsTrue (may_take q b) ⊎ AllStay q i (ways_out test (b ∷ bs) q)
+takes_or_stays test b bs i (choice ns) = inr (choices_stay i ns)
+takes_or_stays test b bs i (byte rs n) =
+    ⊎_elim (λ e. inl e) (λ e. inr (none_where (byte rs n) i (in_ranges rs b) (reads 1 n) e)) (cases_Bool (in_ranges rs b))
+takes_or_stays test b bs i (branch ts) = inl refl
+takes_or_stays test b bs i (scalar rs n) =
+    ⊎_elim (λ e. inl e) (λ e. inr (scalar_stays rs n i b bs e)) (cases_Bool (nat_le 128 b || in_ranges rs b))
+takes_or_stays test b bs i (guard l n) = inr (one_stays (guard l n) i n (test l) (first_in n []))
+takes_or_stays test b bs i (slot k n) = inr (one_stays (slot k n) i n true (first_in n []))
+takes_or_stays test b bs i (accept p) = inl refl
+
+-- a place that is reached from p takes the byte
+abbrev pub Taken : List Place → ℕ → ℕ → Type 0
+Taken places p b = (q : ℕ) × Reaches places p q × IsTrue (may_take (place_at places q) b)
+
+-- the pair is that of a place which is reached from p
+abbrev pub IsReached : List Place → ℕ → ℕ → Pair → Type 0
+IsReached places p i n = (q : ℕ) × Reaches places p q × (n ≡ (q, i))
+
+end_takes : (q : Place) (b : ℕ) → ((k : ℕ) × (q ≡ accept k)) → IsTrue (may_take q b)
+end_takes q b h = subst (λ (r : Place). IsTrue (may_take r b)) (sym h.1) refl
+
+-- a walk from places that are reached from p comes to one that takes the byte ahead
+pub walk_takes : (places : List Place) (t : Text) (hi p i b : ℕ) (bs : List ℕ) (Ends : Pair → Type 0) →
+    ((n : Pair) → Ends n → (k : ℕ) × (place_at places n.0 ≡ accept k)) → ahead t hi i ≡ b ∷ bs →
+    {passed from w : List Pair} → IsWalk (ways places t hi) Ends passed from w → ((n : Pair) → IsIn n from → IsReached places p i n) →
+    Taken places p b
+walk_takes places t hi p i b bs Ends at_end e (stops n h fresh end) reached =
+    let r = reached n h in let k = at_end n end in (r.0, r.1, end_takes (place_at places r.0) b (k.0, ap (λ (m : Pair). place_at places m.0) (sym r.2) ∙ k.1))
+walk_takes places t hi p i b bs Ends at_end e (goes n h fresh rest) reached =
+    let r = reached n h in
+    ⊎_elim (λ taken. (r.0, r.1, taken))
+    (λ stay. walk_takes places t hi p i b bs Ends at_end e rest (reached_on r.0 r.1 n r.2 stay))
+    (takes_or_stays (λ l. holds t l i) b bs i (place_at places r.0))
+  where
+    reached_on : (q : ℕ) → Reaches places p q → (n : Pair) → n ≡ (q, i) → AllStay (place_at places q) i (ways_out (λ l. holds t l i) (b ∷ bs) (place_at places q)) →
+        (m : Pair) → IsIn m (ways places t hi n) → IsReached places p i m
+    reached_on q r n same stay m h =
+        let h2 : IsIn m (ways places t hi (q, i)) = subst (λ (k : Pair). IsIn m (ways places t hi k)) same h in
+        let h3 : IsIn m (map (pair_at i) (ways_out (λ l. holds t l i) (b ∷ bs) (place_at places q))) =
+            subst (λ (xs : List ℕ). IsIn m (map (pair_at i) (ways_out (λ l. holds t l i) xs (place_at places q)))) e h2 in
+        let s = stay m h3 in
+        (s.0, further places s.0 r s.1, s.2)
+
+-- a list has a first element where it gives one
+first_is : (xs : List ℕ) (b : ℕ) → slice_get xs 0 ≡ Some b → (bs : List ℕ) × (xs ≡ b ∷ bs)
+first_is [] b e = absurd (none-some b e)
+first_is (x ∷ xs) b e = (xs, ap (λ y. y ∷ xs) (same_Some x b e))
+
+-- the same for any premise of where walks end
+pub none_goes_on : (places : List Place) (t : Text) (hi p i b : ℕ) (Ends : Pair → Type 0) (passed : List Pair) →
+    ((n : Pair) → Ends n → (k : ℕ) × (place_at places n.0 ≡ accept k)) → slice_get (ahead t hi i) 0 ≡ Some b → ¬ MayGoOn places p b →
+    HasNoWalk (ways places t hi) Ends passed ((p, i) ∷ [])
+none_goes_on places t hi p i b Ends passed at_end e none v walk =
+    let f = first_is (ahead t hi i) b e in
+    none ∣ walk_takes places t hi p i b f.0 Ends at_end f.1 walk (λ n h. ⊎_elim (λ s. (p, here, sym s)) (λ k. absurd k) h) ∣₁
+
+pub heads_law : HeadsLaw
+heads_law places t hi p i b ends passed at_end e none = none_goes_on places t hi p i b (λ n. IsTrue (ends n)) passed at_end e none
+
+-- what code reads as the flags of a place are its flags
+pub flags_tell : {Y : Type 0} (places : List Place) (vs : List (Vec Bool Y)) (p : ℕ) (v : Vec Bool Y) → AreHeads places (flags_in vs) → p < length places →
+    v ≡ slice_index_or vs p v → 0 < length v.items → TellsHeads places p v.items
+flags_tell {Y} places vs p v h lt e some =
+    let items : Vec Bool Y → List Bool = λ w. w.items in
+    let within : p < length vs = omega (arith, h.count, length-map vs items) in
+    let same : slice_index_or (flags_in vs) p [] ≡ v.items = get_or-map items vs p v [] within ∙ ap items (sym e) in
+    subst (TellsHeads places p) same (h.tell p lt (subst (λ (l : List Bool). 0 < length l) (sym same) some))

@@ -1,0 +1,165 @@
+//! Over which bytes walks may go on from each place of a program.
+
+ghost use Rattle.std.specs.Prelude.{◌≡◌, ℕ, ◌<◌, ◌≤◌, ◌&&◌, [], ◌∷◌, IfOk, OnOk, map, length, nat_le, true};
+ghost use Rattle.rc_pattern.specs.Meaning.{byte_range, char_range};
+ghost use Rattle.rc_program.specs.Closing.{AreFlags, AreJoined, AreReached, Opens};
+ghost use Rattle.rc_program.specs.Heads.{AreHeads, TellsHeads, flags_in, may_take, silent};
+ghost use Rattle.rc_program.specs.Places.{place_of, places_of};
+ghost use Rattle.rc_program.specs.Program.{in_ranges, place_at};
+
+use crate::place::Place;
+use rc_pattern::hir::{ClassBytesRange, ClassUnicodeRange};
+use std::alloc::{AllocError, Global};
+
+/// A place from which more places than these are reached without reading gets no flags. So a build stays linear.
+const MOST_REACHED: usize = 62;
+
+/// No place from this number on gets flags. So they stay within 4 MiB.
+const MOST_PLACES: usize = 16_384;
+
+/// For each of the places over which bytes walks may go on from there, as `Program` keeps it.
+pub fn heads_of(alloc: Global, places: &[Place]) -> Result<Vec<Vec<bool>>, AllocError>
+    ensures { IfOk result (λ tables. AreHeads (places_of places.now) (flags_in tables.items)) }
+{
+    let mut tables = Vec::with_capacity(alloc, places.len())?;
+    let mut opened = Vec::with_capacity(alloc, MOST_REACHED + 2)?;
+    for place in 0..places.len() {
+        let flags = if place < MOST_PLACES {
+            flags_of(alloc, places, place, &mut opened)?
+        } else {
+            Vec::new(alloc)
+        };
+        tables.push(flags)?;
+    }
+    Ok(tables)
+}
+
+/// The flags of the place. None where one byte is to be compared, where no walk goes on at all or one ends, and where too many places are reached.
+/// `opened` is room to work in.
+fn flags_of(
+    alloc: Global,
+    places: &[Place],
+    place: usize,
+    opened: &mut Vec<usize>,
+) -> Result<Vec<bool>, AllocError>
+    requires { place < length places.now }
+    ensures { IfOk result (λ flags. 0 < length flags.items
+        → TellsHeads (places_of places.now) place flags.items) }
+{
+    if matches!(&places[place], Place::Byte(..) | Place::Accept(_) | Place::Dead) {
+        return Ok(Vec::new(alloc));
+    }
+    if !open_all(opened, places, place)? {
+        return Ok(Vec::new(alloc));
+    }
+    joined(alloc, places, opened)
+}
+
+/// Opens the places that are reached from this one without reading. False where these are too many.
+fn open_all(opened: &mut Vec<usize>, places: &[Place], place: usize) -> Result<bool, AllocError>
+    ensures { IfOk result (λ all. all ≡ true → AreReached (places_of places.now) place opened.new.items) }
+{
+    opened.clear();
+    opened.push(place)?;
+    for next in 0..MOST_REACHED + 1 {
+        if next == opened.len() {
+            return Ok(true);
+        }
+        if opened.len() > MOST_REACHED {
+            return Ok(false);
+        }
+        let from = opened[next];
+        open_from(opened, places, from)?;
+    }
+    Ok(false)
+}
+
+/// Opens the places to which ways lead from one that read nothing.
+fn open_from(opened: &mut Vec<usize>, places: &[Place], from: usize) -> Result<(), AllocError>
+    ensures { OnOk result (Opens (silent (place_at (places_of places.now) from)) opened.old.items opened.new.items) }
+{
+    match places.get(from) {
+        Some(Place::Choice(first, second)) => {
+            open(opened, *first)?;
+            open(opened, *second)
+        }
+        Some(Place::Pass(next)) => open(opened, *next),
+        Some(Place::Guard(_, next)) => open(opened, *next),
+        Some(Place::Slot(_, next)) => open(opened, *next),
+        _ => Ok(()),
+    }
+}
+
+/// Opens a place, where it isn't open.
+fn open(opened: &mut Vec<usize>, place: usize) -> Result<(), AllocError>
+    ensures { OnOk result (Opens (place ∷ []) opened.old.items opened.new.items) }
+{
+    if opened.contains(&place) {
+        return Ok(());
+    }
+    opened.push(place)?;
+    Ok(())
+}
+
+/// Which bytes these places take.
+fn joined(alloc: Global, places: &[Place], opened: &[usize]) -> Result<Vec<bool>, AllocError>
+    ensures { IfOk result (λ flags. AreFlags (places_of places.now) opened.now flags.items) }
+{
+    let mut flags = vec![in alloc; false; 256]?;
+    for number in opened {
+        if let Some(place) = places.get(*number) {
+            join(&mut flags, place);
+        }
+    }
+    Ok(flags)
+}
+
+/// Sets the flags of the bytes that the place takes, or of all where a walk ends there.
+fn join(flags: &mut [bool], place: &Place)
+    requires { length flags.old ≡ 256 }
+    ensures { AreJoined 256 (may_take (place_of place.now)) flags.old flags.new }
+{
+    match place {
+        Place::Byte(byte, _) => fill(flags, *byte as usize, *byte as usize),
+        Place::Bytes(ranges, _) => fill_bytes(flags, ranges),
+        Place::Scalar(ranges, _) => {
+            fill_scalars(flags, ranges);
+            fill(flags, 128, 255);
+        }
+        Place::Accept(_) => fill(flags, 0, 255),
+        _ => {}
+    }
+}
+
+/// Sets the flags of the bytes of the ranges.
+fn fill_bytes(flags: &mut [bool], ranges: &[ClassBytesRange])
+    requires { length flags.old ≡ 256 }
+    ensures { AreJoined 256 (in_ranges (map byte_range ranges.now)) flags.old flags.new }
+{
+    for range in ranges {
+        fill(flags, range.start as usize, range.end as usize);
+    }
+}
+
+/// Sets the flags of the characters of the ranges that are one byte.
+fn fill_scalars(flags: &mut [bool], ranges: &[ClassUnicodeRange])
+    requires { length flags.old ≡ 256 }
+    ensures { AreJoined 128 (in_ranges (map char_range ranges.now)) flags.old flags.new }
+{
+    for range in ranges {
+        if range.start < '\u{80}' {
+            fill(flags, range.start as usize, (range.end as usize).min(127));
+        }
+    }
+}
+
+/// Sets the flags from `low` to `high`.
+fn fill(flags: &mut [bool], low: usize, high: usize)
+    requires whole { length flags.old ≡ 256 }
+    requires within { high < 256 }
+    ensures { AreJoined 256 (λ b. nat_le low b && nat_le b high) flags.old flags.new }
+{
+    for byte in low..high + 1 {
+        flags[byte] = true;
+    }
+}
