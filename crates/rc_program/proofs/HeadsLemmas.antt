@@ -1,7 +1,6 @@
 -- Where no walk may go on over the byte ahead no walk sets out.
-use Rattle.std.proofs.Common.{◌≡◌, ◌↔◌, ℕ, ◌+◌, ◌<◌, ◌≤◌, ◌⊎◌, List, [], ◌∷◌, length, map, inl, inr, ⊎_elim, sym, subst, ap, ◌∙◌, refl, arith, Bool, true, false, true≢false, IsTrue, Option, Some, None, nat_le, nat_lt, ◌&&◌, ◌||◌, if◌then◌else◌, slice_get, slice_index_or, Vec}
-use Rattle.std.proofs.Math.Logic.{∥∥₁_elim, ∥∥₁_prop}
-use Rattle.std.proofs.lemmas.Bool.{cases_Bool, le-ltb, lt-ltb, leb-false}
+use Rattle.std.proofs.Common.{◌≡◌, ℕ, ◌<◌, ◌⊎◌, List, [], ◌∷◌, length, map, inl, inr, ⊎_elim, sym, subst, ap, ◌∙◌, refl, arith, Bool, true, false, true≢false, IsTrue, Option, Some, nat_le, ◌||◌, if◌then◌else◌, slice_get, slice_index_or, Vec}
+use Rattle.std.proofs.lemmas.Bool.{cases_Bool, lt-ltb, leb-false}
 use Rattle.std.specs.List.{Contains}
 use Rattle.std.proofs.lemmas.List.{get_or-map, length-map}
 use Rattle.std.proofs.lemmas.List.Elements.{Contains-append_right}
@@ -10,7 +9,7 @@ use Rattle.rc_pattern.specs.declared.hir.Look.{Look}
 use Rattle.rc_walks.specs.Walks.{Pair, IsIn, IsWalk, stops, goes, HasNoWalk}
 use Rattle.rc_program.specs.Text.{Text, ahead, holds}
 use Rattle.rc_program.specs.Scalars.{scalar_at}
-use Rattle.rc_program.specs.Program.{Place, choice, byte, branch, scalar, guard, slot, accept, Way, stays, reads, in_ranges, over_scalar, branch_ways, ways_out, pair_at, place_at, ways}
+use Rattle.rc_program.specs.Program.{Place, choice, byte, branch, scalar, guard, slot, accept, Way, stays, reads, in_ranges, over_scalar, ways_out, pair_at, place_at, ways}
 use Rattle.rc_program.specs.Heads.{silent, Reaches, here, on, may_take, MayGoOn, TellsHeads, AreHeads, flags_in, HeadsLaw}
 
 -- what is reached goes on to what stands in it
@@ -101,7 +100,7 @@ walk_takes places t hi p i b bs Ends at_end e (goes n h fresh rest) reached =
     reached_on q r n same stay m h =
         let h2 : IsIn m (ways places t hi (q, i)) = subst (λ (k : Pair). IsIn m (ways places t hi k)) same h in
         let h3 : IsIn m (map (pair_at i) (ways_out (λ l. holds t l i) (b ∷ bs) (place_at places q))) =
-            subst (λ (xs : List ℕ). IsIn m (map (pair_at i) (ways_out (λ l. holds t l i) xs (place_at places q)))) e h2 in
+        subst (λ (xs : List ℕ). IsIn m (map (pair_at i) (ways_out (λ l. holds t l i) xs (place_at places q)))) e h2 in
         let s = stay m h3 in
         (s.0, further places s.0 r s.1, s.2)
 

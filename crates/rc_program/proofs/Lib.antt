@@ -21,3 +21,4 @@ mod KindExamples
 mod LongestExamples
 pub mod PropertyLemmas
 pub mod HeadsLemmas
+pub mod ClosingLemmas

@@ -1,4 +1,4 @@
-use Rattle.std.proofs.Common.{◌≡◌, ℕ, ◌<◌, length, Bool, List, subst, ap, ◌∙◌, sym, arith, nat_eq}
+use Rattle.std.proofs.Common.{◌<◌, length, Bool, subst, ap, ◌∙◌, sym, arith}
 use Rattle.std.proofs.lemmas.Bool.{eqb-false}
 use Rattle.std.proofs.lemmas.List.{length-map}
 use Rattle.rc_program.specs.Heads.{TellsHeads}
