@@ -36,3 +36,4 @@ pub mod RacePassLemmas
 pub mod RaceAloneLemmas
 pub mod OnwardLemmas
 pub mod AloneLemmas
+pub mod FlagLemmas
