@@ -1,5 +1,5 @@
 -- Places from which no walk leads on, and threads that go on alone.
-use Rattle.std.proofs.Common.{◌≡◌, ℕ, ◌+◌, ◌<◌, ◌≤◌, ◌-◌, ◌*◌, List, [], ◌∷◌, ◌++◌, length, map, min, inr, ⊎_elim, sym, subst, ap, ◌∙◌, refl, arith, Bool, true, false, not, true≢false, IsTrue, Option, Some, None, ◌&&◌, slice_get, nat_le, is_none, is_some, replicate}
+use Rattle.std.proofs.Common.{◌≡◌, ℕ, ◌+◌, ◌<◌, ◌≤◌, ◌-◌, ◌*◌, List, [], ◌∷◌, ◌++◌, length, map, min, inl, inr, ⊎_elim, sym, subst, ap, ◌∙◌, refl, arith, Bool, true, false, not, true≢false, IsTrue, Option, Some, None, ◌&&◌, slice_get, nat_le, is_none, is_some, replicate}
 use Rattle.std.proofs.lemmas.Bool.{cases_lt}
 use Rattle.std.proofs.lemmas.List.{length-map}
 use Rattle.std.proofs.lemmas.Option.{none-some, same_Some}
@@ -18,7 +18,7 @@ use Rattle.rc_pass.specs.Sights.{Sight, is_there, ends, next_of}
 use Rattle.rc_pass.specs.Moves.{IsMove}
 use Rattle.rc_pass.specs.Threads.{Thread, ThreadList, thread_of}
 use Rattle.rc_pass.specs.Entrances.{IsOnWay}
-use Rattle.rc_pass.proofs.EntranceLemmas.{choice_on, shut_dead, carries_on}
+use Rattle.rc_pass.proofs.EntranceLemmas.{choice_on, stops_shut, carries_on}
 use Rattle.rc_pass.specs.Trace.{Trace, note, note_at, trace, done, sets_out}
 use Rattle.rc_pass.specs.Passing.{IsMoveInside, pending, pairs, Carries, waiting_starts, AllIn, AllFrom, count_from, Pending, best_of, IsCounted, IsLined, IsPassing}
 use Rattle.rc_pass.specs.Near.{seen_from, size}
@@ -34,8 +34,8 @@ use Rattle.rc_pass.specs.Alone.{EndsAlone, EndsBy, IsChosen, IsDead, LeadsTo, Re
 use Rattle.rc_pass.specs.declared.moves.Move.TheVariants.{Fork, Save, Stays, Reads, Stops}
 use Rattle.rc_pass.proofs.MoveLemmas.{slot_on, plain_on, matched, waited, turned}
 use Rattle.rc_pass.proofs.PassingLemmas.{no_threads}
-use Rattle.rc_pass.specs.Races.{EndsThere, IsWayIn, Races, starts_to, IsRunFrom}
-use Rattle.rc_pass.proofs.RaceMoveLemmas.{raced_way_in}
+use Rattle.rc_pass.specs.Races.{EndsThere, Races, starts_to, IsRunFrom}
+use Rattle.rc_pass.proofs.RaceMoveLemmas.{raced_on}
 use Rattle.rc_pass.proofs.RaceAloneLemmas.{stays_there, first_there, second_there, raced_goes}
 use Rattle.rc_pass.proofs.RootLemmas.{carries_root}
 use Rattle.rc_pass.proofs.OnwardLemmas.{IsOnlyWay, none_on, only_one, only_first, only_second, carries_by}
@@ -98,8 +98,7 @@ module _ (s : Sight) (at : ℕ) where
       ⊎_elim (λ e. subst (λ z. IsDead s passed (z, at)) e d)
       (λ r.
       let b : ℕ = r.0 in
-      let forks : IsMove s (p, at) (Fork a b) = forks_by p a b r.1 in
-      dead_forks passed p a b forks d (shut_dead s at b passed r.2)) way
+      ⊎_elim (λ e. dead_forks passed p a b (forks_by p a b e) d (r.2 passed)) (λ e. dead_forks passed p b a (forks_by p b a e) (r.2 passed) d) r.1) way
     where
       forks_by : (p a b : ℕ) → place_at s.places p ≡ choice (a ∷ b ∷ []) → IsMove s (p, at) (Fork a b)
       forks_by p a b is = (
@@ -155,11 +154,8 @@ module _ (s : Sight) (at : ℕ) where
   pub leads_on : (p a : ℕ) → IsOnWay s at p a → LeadsTo s at p a
   leads_on p a way = record {
     carries = λ h rest below best o x. carries_on s at rest [] best o p a h below (λ i. i) way x;
-    races = λ h all below best found sought x. raced_way_in s all at [] [] best found p a h below (way_in p a way) sought x;
+    races = λ h all below best found sought x. raced_on s all at [] [] best found p a h below (λ i. i) way sought x;
   }
-    where
-      way_in : (p a : ℕ) → IsOnWay s at p a → IsWayIn s at [] p a
-      way_in p a way = inr (λ i. i, way)
 
   pub leads_then : (p q r : ℕ) → LeadsTo s at p q → LeadsTo s at q r → LeadsTo s at p r
   leads_then p q r f g = record {
@@ -207,8 +203,8 @@ pub opens : (s : Sight) (at p a b : ℕ) → place_at s.places p ≡ choice (a �
 opens s at p a b is dead =
     inr (
       b,
-      is,
-      (
+      inl is,
+      stops_shut s at b (
         ap (λ r. map (pair_at at) (ways_out (λ l. holds s.text l at) (ahead s.text s.hi at) r)) dead,
         ap (λ k. k && is_there s.until at) (ap (is_match_place (only s.anchoring)) dead ∙ choice_on (only s.anchoring) []),
       ),

@@ -2,6 +2,7 @@ pub mod EarlyLemmas
 pub mod EnteredLemmas
 pub mod EntranceLemmas
 pub mod GrownLemmas
+pub mod HeadLemmas
 pub mod KeptLemmas
 pub mod LookUpLemmas
 pub mod MoveLemmas
@@ -35,3 +36,4 @@ pub mod RacePassLemmas
 pub mod RaceAloneLemmas
 pub mod OnwardLemmas
 pub mod AloneLemmas
+pub mod FlagLemmas

@@ -4,13 +4,12 @@ use Rattle.std.specs.Option.{option_map}
 use Rattle.std.proofs.lemmas.Bool.{cases_lt}
 use Rattle.std.proofs.lemmas.List.{append-nil}
 use Rattle.std.proofs.lemmas.Option.{none-some}
-use Rattle.rc_walks.specs.Walks.{Pair, IsIn, IsWalk, HasNoWalk}
+use Rattle.rc_walks.specs.Walks.{Pair, IsIn, HasNoWalk}
 use Rattle.rc_walks.specs.Threads.{IsFirstOf, over, passes, threads, AllPast, Pends}
-use Rattle.rc_walks.proofs.StackLemmas.{dead_if_tried, no_ways}
 use Rattle.rc_walks.proofs.ThreadLemmas.{of_none, of_one, of_rest, skips_pends, enters_pends, matches_pends}
 use Rattle.rc_program.proofs.LongestLemmas.{longest_of, none_of_all, none_back}
 use Rattle.rc_pass.specs.Races.{EndsThere, IsLongestOf, ended, longest, next, EndedBefore, AreReady, upto, Each, IsRising, AreApart, IsQuiet, IsOpen, IsKnown, AreWithin, IsRacing}
-use Rattle.rc_pass.proofs.OnwardLemmas.{first_on, only_first}
+use Rattle.rc_pass.proofs.OnwardLemmas.{IsOnlyWay, first_on}
 use Rattle.rc_pass.proofs.PassLemmas.{waits_pends, turned_pends}
 use Rattle.rc_pass.proofs.RaceListLemmas.{upto_in, upto_out, upto_none, upto_append, upto_upto, upto_threads_in, upto_threads_out, past_upto, each_threads, each_swap, each_to, rising_upto, rising_threads, rising_tail, rising_swap, moved_over}
 
@@ -186,11 +185,11 @@ module _ (ways : Pair → List Pair) (Ends : Pair → Type 0) (H : Type 0) (note
       (race_enters all at rs v (Some b) t ts fresh (omega (arith, now))
       (λ y e sought there. let a = sought.1 in let d = there.1 in omega (arith, a, d, now, by)) r)
 
-  -- a thread at a choice whose second way is shut enters at the first one
-  pub race_way_in : (all : List (H × Pair)) (at : ℕ) (rs : List (H × Pair)) (v : List Pair) (best : Option (H × ℕ)) (h : H) (n a b : Pair)
-      (ts : List (H × Pair)) → ¬ IsIn n v → note h n ≡ h → ways n ≡ a ∷ b ∷ [] → ways b ≡ [] → ¬ Ends n → ¬ Ends b →
+  -- a thread at a pair of which one way alone leads on enters by that way
+  pub race_way_in : (all : List (H × Pair)) (at : ℕ) (rs : List (H × Pair)) (v : List Pair) (best : Option (H × ℕ)) (h : H) (n a : Pair)
+      (ts : List (H × Pair)) → ¬ IsIn n v → note h n ≡ h → ((e : ℕ) → IsOnlyWay ways (EndsThere Ends e) n a) → ¬ Ends n →
       IsRacing ways Ends H note start all at rs v ((h, n) ∷ ts) best → IsRacing ways Ends H note start all at rs v ((h, a) ∷ ts) best
-  race_way_in all at rs v best h n a b ts fresh silent out shut on off r = record {
+  race_way_in all at rs v best h n a ts fresh silent only on r = record {
     carries = λ y e o sought x. r.carries y e o sought (there y e o x);
     known = r.known;
     rising = rising_swap H start rs ((h, n) ∷ ts) ((h, a) ∷ ts) (λ Holds k. k) (rising_tail H start rs ((h, n) ∷ ts) r.rising) r.rising;
@@ -199,11 +198,6 @@ module _ (ways : Pair → List Pair) (Ends : Pair → Type 0) (H : Type 0) (note
     here = r.here;
   }
     where
-      dead : (e : ℕ) → HasNoWalk ways (EndsThere Ends e) (n ∷ []) (b ∷ [])
-      dead e w x =
-          dead_if_tried ways (EndsThere Ends e) (λ k. off k.0)
-          (λ u r. no_ways ways (EndsThere Ends e) (subst (λ ms. IsWalk ways (EndsThere Ends e) (b ∷ n ∷ []) ms u) shut r)) x
-
       there : (y e : ℕ) (o : Option H) → State y e rs v ((h, a) ∷ ts) o → State y e rs v ((h, n) ∷ ts) o
       there y e o x =
           ⊎_elim
@@ -211,7 +205,7 @@ module _ (ways : Pair → List Pair) (Ends : Pair → Type 0) (H : Type 0) (note
           (subst (λ k. Pends ways (EndsThere Ends e) H note (upto start y rs) v k None o) (upto_out H start y (h, a) ts l) x))
           (λ g. subst (λ k. Pends ways (EndsThere Ends e) H note (upto start y rs) v k None o) (sym (upto_in H start y (h, n) ts g))
           (of_rest ways (EndsThere Ends e) H note
-          (λ q z. first_on ways (EndsThere Ends e) n a (λ k. on k.0) (only_first ways (EndsThere Ends e) n a b (dead e) out) H note (last_at e) h v (upto start y ts) q
+          (λ q z. first_on ways (EndsThere Ends e) n a (λ k. on k.0) (only e) H note (last_at e) h v (upto start y ts) q
           fresh silent z)
           (subst (λ k. Pends ways (EndsThere Ends e) H note (upto start y rs) v k None o) (upto_in H start y (h, a) ts g) x)))
           (cases_lt y (start h))

@@ -6,6 +6,7 @@ use Rattle.rc_walks.specs.Threads.{threads}
 use Rattle.rc_program.specs.Program.{Place, choice, accept, place_at, ways_out, pair_at, is_match_place}
 use Rattle.rc_program.specs.Text.{holds, ahead}
 use Rattle.rc_program.specs.Answer.{only}
+use Rattle.rc_program.proofs.LongestLemmas.{none_to}
 use Rattle.rc_program.proofs.WayLemmas.{same_pair}
 use Rattle.rc_pass.specs.Sights.{Sight, is_there, ends, next_of}
 use Rattle.rc_pass.specs.Sparse.{Has}
@@ -14,7 +15,7 @@ use Rattle.rc_pass.specs.Trace.{Trace, note, note_at, trace, done}
 use Rattle.rc_pass.specs.Moves.{IsMove, IsPlain}
 use Rattle.rc_pass.specs.Entered.{IsSkipped, IsEntered, IsVisited}
 use Rattle.rc_pass.specs.Passing.{pending, pairs, waits, resting_of, frames_of, slots_after}
-use Rattle.rc_pass.specs.Races.{IsRacing, EndedBefore, upto, began, leading, kept, Races, IsSought, IsCutOff, EndedBy, IsRecorded, IsWayIn}
+use Rattle.rc_pass.specs.Races.{IsRacing, EndedBefore, upto, began, leading, kept, Races, IsSought, IsCutOff, EndedBy, IsRecorded, EndsThere}
 use Rattle.rc_pass.specs.declared.moves.Move.{Move}
 use Rattle.rc_pass.specs.declared.moves.Move.TheVariants.{Fork, Save, Matches, Stays, Reads, Stops}
 use Rattle.rc_pass.specs.declared.growth.Frame.{Frame}
@@ -23,7 +24,8 @@ use Rattle.rc_pass.specs.declared.pass.Ending.{Ending}
 use Rattle.rc_pass.proofs.SightLemmas.{last_pair}
 use Rattle.rc_pass.proofs.MoveLemmas.{Ends, onward, slot_on, waits_saved}
 use Rattle.rc_pass.proofs.EnteredLemmas.{has_pairs, pairs_has, pairs_push}
-use Rattle.rc_pass.proofs.EntranceLemmas.{no_end, ways_by}
+use Rattle.rc_pass.specs.Entrances.{IsOnWay, IsWayIn, stays_in, goes_in}
+use Rattle.rc_pass.proofs.EntranceLemmas.{no_end, forks, only_other}
 use Rattle.rc_pass.proofs.NotedLemmas.{start_kept}
 use Rattle.rc_pass.proofs.VisitLemmas.{same_threads, quiet, entered_end}
 use Rattle.rc_pass.proofs.RaceListLemmas.{upto_in, upto_out, upto_upto, upto_threads_in, upto_all, rising_before}
@@ -78,19 +80,26 @@ module _ (s : Sight) (all : List (Trace × Pair)) (at : ℕ) where
         (pending t) (kept best ts) later
         (subst (λ ts. Race (map pending rest) (pairs at items) ts (leading best found)) (kept_in best (pending t) ts sought) x))
 
-    -- a thread enters in another way
-    pub raced_way_in : (p a : ℕ) (h : Trace) (ts : List (Trace × Pair)) → IsWayIn s at items p a → IsSought best (began h) →
+    -- a thread enters at a way on from the place
+    pub raced_on : (p a : ℕ) (h : Trace) (ts : List (Trace × Pair)) → ¬ Has items p → IsOnWay s at p a → IsSought best (began h) →
         Races s all at rest items ((h, (p, at)) ∷ ts) best found → Races s all at rest items ((h, (a, at)) ∷ ts) best found
-    raced_way_in p a h ts way sought x =
+    raced_on p a h ts fresh way sought x =
         ⊎_elim (λ e. subst (λ m. Races s all at rest items ((h, (m, at)) ∷ ts) best found) (sym e) x)
-        (λ r. ⊎_elim (λ e. subst (λ m. Races s all at rest items ((h, (m, at)) ∷ ts) best found) (sym e) x)
         (λ q. let b : ℕ = q.0 in
+        let c = forks s at p a b q.1 in
         subst (λ ts. Race (map pending rest) (pairs at items) ts (leading best found)) (sym (kept_in best (h, (a, at)) ts sought))
         (race_way_in (next_of s) (Ends s) Trace (note s.places) began (note_keeps s.places) same_pair (last_pair s) (onward s) all at (map pending rest) (pairs at items) (leading best found)
-        h (p, at) (a, at) (b, at) (kept best ts)
-        (λ i. r.0 (pairs_has at p items i)) (ap (λ z. note_at z h at) q.1) (ways_by s at p (choice (a ∷ b ∷ [])) q.1) q.2.0
-        (no_end s at p (a ∷ b ∷ []) q.1) (λ e. true≢false (sym e ∙ q.2.1))
-        (subst (λ ts. Race (map pending rest) (pairs at items) ts (leading best found)) (kept_in best (h, (p, at)) ts sought) x))) r.1) way
+        h (p, at) (a, at) (kept best ts)
+        (λ i. fresh (pairs_has at p items i)) (ap (λ z. note_at z h at) c.1)
+        (λ e. only_other s at (EndsThere (Ends s) e) p a b q.1 (none_to (next_of s) (Ends s) ((p, at) ∷ []) ((b, at) ∷ []) e (q.2 ((p, at) ∷ []))))
+        (no_end s at p c.0 c.1)
+        (subst (λ ts. Race (map pending rest) (pairs at items) ts (leading best found)) (kept_in best (h, (p, at)) ts sought) x))) way
+
+    -- a thread enters in place of another
+    pub raced_way_in : (h : Trace) (ts : List (Trace × Pair)) {p a : ℕ} → IsWayIn s at items p a → IsSought best (began h) →
+        Races s all at rest items ((h, (p, at)) ∷ ts) best found → Races s all at rest items ((h, (a, at)) ∷ ts) best found
+    raced_way_in h ts stays_in sought x = x
+    raced_way_in h ts {p} {a} (goes_in {q = q} way fresh step) sought x = raced_on q a h ts fresh step sought (raced_way_in h ts way sought x)
 
     -- the place is entered, and the threads go on by its ways
     entered_on : (p : ℕ) (h : Trace) (ts : List (Trace × Pair)) → ¬ Has items p → ends s (p, at) ≡ false → IsSought best (began h) →

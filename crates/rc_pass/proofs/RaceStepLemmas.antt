@@ -9,7 +9,8 @@ use Rattle.rc_pass.specs.Threads.{Thread, ThreadList}
 use Rattle.rc_pass.specs.Trace.{Trace, trace}
 use Rattle.rc_pass.specs.Passing.{pending, AllIn, count_from, IsGrown}
 use Rattle.rc_pass.specs.Spread.{StaysCounted}
-use Rattle.rc_pass.specs.Races.{Races, IsSought, IsCutOff, IsWayIn, IsRunOn}
+use Rattle.rc_pass.specs.Races.{Races, IsSought, IsCutOff, IsRunOn}
+use Rattle.rc_pass.specs.Entrances.{IsWayIn}
 use Rattle.rc_pass.specs.declared.pass.Ending.{Ending}
 use Rattle.rc_pass.proofs.GrownLemmas.{count_push, count_all, in_push, from_push}
 use Rattle.rc_pass.proofs.StepLemmas.{drop_get, in_at, from_at}
@@ -88,7 +89,7 @@ module _ (s : Sight) (n hi at : ℕ) (all : List Thread) (threads0 : ThreadList)
     run_closes threads2 entered2 best2 found2 place slots sought now same way closing grown stays some = record {
       races = λ from below x.
           closing from (map pending (drop (index + 1) all) ++ below)
-          (raced_way_in s from at threads.items entered.items best found t.place place (trace t.start slots)
+          (raced_way_in s from at threads.items entered.items best found (trace t.start slots)
           (map pending (drop (index + 1) all) ++ below) way sought (goes_on from below (races_here from below x)));
       sound = grown.sound;
       same_room = grown.same_room ∙ so_far.same_room;

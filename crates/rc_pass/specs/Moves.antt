@@ -41,9 +41,9 @@ IsMove s n (Stays m) = (next_of s n ≡ (m, n.1) ∷ []) × IsPlain s n
 IsMove s n (Reads m to) = (next_of s n ≡ (m, to) ∷ []) × IsPlain s n × (n.1 < to) × (to ≤ n.1 + 4) × (to ≤ s.hi)
 IsMove s n Stops = (next_of s n ≡ []) × (ends s n ≡ false)
 
--- where a place of the program is this one, its move is that one
-abbrev pub IsMoveAt : Sight → ℕ → Place → Move → Type 0
-IsMoveAt s at place move = (p : ℕ) → place_at s.places p ≡ place → IsMove s (p, at) move
+-- where the place of the pair is this one, the move is that one
+abbrev pub IsMoveAt : Sight → Pair → Place → Move → Type 0
+IsMoveAt s n place move = place_at s.places n.0 ≡ place → IsMove s n move
 
 -- the move, where the test lets it be made
 abbrev pub moving : Move → Bool → Move

@@ -8,7 +8,6 @@ use Rattle.rc_pass.specs.Sights.{Sight, ends, next_of, HasNoWalkFrom}
 use Rattle.rc_pass.specs.Sparse.{Has, Members}
 use Rattle.rc_pass.specs.Threads.{Thread, ThreadList}
 use Rattle.rc_pass.specs.Trace.{Trace, note, done, starts, sets_out}
-use Rattle.rc_pass.specs.Entrances.{IsOnWay}
 use Rattle.rc_pass.specs.Passing.{pending, pairs, waits, AllInside, AllFrom, HasRoom, IsGrown, IsLined, IsCounted, count_from}
 use Rattle.rc_pass.specs.Spread.{StaysCounted}
 use Rattle.rc_pass.specs.declared.growth.Frame.{Frame}
@@ -131,10 +130,6 @@ abbrev pub IsRecorded : Option Ending → List (Option ℕ) → Ending → List 
 IsRecorded best0 found0 new slots best found =
     (EndedBy best0 new.end × (best ≡ best0) × (found ≡ found0))
     ⊎ (EndedBefore new.end (leading best0 found0) × (best ≡ Some new) × (found ≡ slots))
-
--- a thread that is to enter at the place may enter at the other one
-abbrev pub IsWayIn : Sight → ℕ → List ℕ → ℕ → ℕ → Type 0
-IsWayIn s at entered p a = (a ≡ p) ⊎ ((¬ Has entered p) × IsOnWay s at p a)
 
 -- the starts from `at` to `last`
 abbrev pub starts_to : ℕ → ℕ → ℕ → List (Trace × Pair)

@@ -111,11 +111,11 @@ fn act(spot: &Spot, place: usize, start: usize, growth: &mut Growth) -> Option<u
             None
         }
         Place::Bytes(ranges, next) => {
-            read(*next, after_one_of(spot, ranges), start, growth);
+            read(*next, after_one_of(spot, place, ranges), start, growth);
             None
         }
         Place::Scalar(ranges, next) => {
-            read(*next, after_scalar(spot, ranges), start, growth);
+            read(*next, after_scalar(spot, place, ranges), start, growth);
             None
         }
         Place::Guard(look, next) => {

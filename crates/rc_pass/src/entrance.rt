@@ -2,7 +2,7 @@
 ghost use Rattle.std.specs.Prelude.{◌≡◌, ◌<◌, ◌∷◌, IsTrue, List, Option, ℕ};
 ghost use Rattle.rc_text.specs.Text.{Searched};
 ghost use Rattle.rc_walks.specs.Walks.{Pair};
-ghost use Rattle.rc_pass.specs.Entrances.{IsOnWay, IsShut};
+ghost use Rattle.rc_pass.specs.Entrances.{IsOnWay, IsShut, IsWayIn};
 ghost use Rattle.rc_pass.specs.Near.{IsHere, seen_from, size};
 ghost use Rattle.rc_pass.specs.Passing.{Carries};
 ghost use Rattle.rc_pass.specs.Threads.{Thread};
@@ -12,6 +12,9 @@ use crate::moves::{Move, look_up};
 use crate::sparse_set::SparseSet;
 use crate::spot::Spot;
 use rc_program::place::Place;
+
+/// How many choices a thread is led over at most before it enters.
+const MOST: usize = 4;
 
 /// Whether it is quickly told where a thread goes on from the place.
 #[inline(always)]
@@ -36,9 +39,9 @@ pub fn is_shut(spot: &Spot, place: usize) -> bool
     }
 }
 
-/// The first way on from the place, where the second is seen to be shut; else the place itself.
+/// The one of two ways on from the place by which alone walks lead on, where the other one is seen to be shut; else the place itself.
 #[inline(always)]
-pub(crate) fn way_on(spot: &Spot, place: usize) -> usize
+fn way_on(spot: &Spot, place: usize) -> usize
     ghost text: { Searched }
     requires here { IsHere spot.now text }
     requires place_in { place < size spot.now.course }
@@ -50,14 +53,41 @@ pub(crate) fn way_on(spot: &Spot, place: usize) -> usize
             if is_shut(spot, *second) {
                 return *first;
             }
+            if is_shut(spot, *first) {
+                return *second;
+            }
             place
         }
         _ => place,
     }
 }
 
-/// The place at which a thread enters that is to enter at `root`: that place, or the first way on from there, where the second is shut
-/// and the place wasn't entered yet.
+/// The place at which a thread enters that is to enter at `root`: that place, or one to which a few choices lead, of each of which one way is
+/// shut, and which weren't entered yet.
+#[inline(always)]
+pub(crate) fn way_in(spot: &Spot, root: usize, entered: &SparseSet) -> usize
+    ghost text: { Searched }
+    requires here { IsHere spot.now text }
+    requires root { root < size spot.now.course }
+    requires capacity { entered.now.capacity ≡ size spot.now.course }
+    ensures inside { result < size spot.now.course }
+    ensures way { IsWayIn (seen_from spot.now text) spot.now.at entered.now.items root result }
+{
+    let mut place = root;
+    'ways: for _ in 0..MOST {
+        let next = way_on(spot, place);
+        if next == place {
+            return place;
+        }
+        if entered.contains(place) {
+            return place;
+        }
+        place = next;
+    }
+    place
+}
+
+/// The place at which a thread enters, as in `way_in`.
 #[inline(always)]
 pub fn entrance(spot: &Spot, root: usize, entered: &SparseSet) -> usize
     ghost text: { Searched }
@@ -69,8 +99,5 @@ pub fn entrance(spot: &Spot, root: usize, entered: &SparseSet) -> usize
         → Carries (seen_from spot.now text) spot.now.at resting entered.now.items ((h, (result, spot.now.at)) ∷ below) best o
         → Carries (seen_from spot.now text) spot.now.at resting entered.now.items ((h, (root, spot.now.at)) ∷ below) best o }
 {
-    if entered.contains(root) {
-        return root;
-    }
-    way_on(spot, root)
+    way_in(spot, root, entered)
 }

@@ -8,6 +8,7 @@ pub mod early;
 mod entrance;
 pub mod greatest;
 mod growth;
+mod heads;
 pub mod kinds;
 pub mod longest;
 mod moves;

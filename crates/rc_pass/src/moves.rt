@@ -3,7 +3,8 @@ ghost use Rattle.std.specs.Prelude.{◌≡◌, ◌<◌, ◌≤◌, ℕ, [], ◌�
 ghost use Rattle.rc_pattern.specs.Meaning.{byte_range, char_range};
 ghost use Rattle.rc_text.specs.Text.{Searched};
 ghost use Rattle.rc_pass.specs.Near.{IsHere, seen_from, size};
-ghost use Rattle.rc_program.specs.Program.{in_ranges, is_match_place, accept, byte as byte_place, guard, scalar};
+ghost use Rattle.rc_program.specs.Places.{places_of};
+ghost use Rattle.rc_program.specs.Program.{in_ranges, is_match_place, place_at, accept, byte as byte_place, guard, scalar};
 ghost use Rattle.rc_program.specs.Scalars.{scalar_at};
 ghost use Rattle.rc_pass.specs.Moves.{IsMove, IsMoveAt, moving, reading};
 ghost use Rattle.rc_pass.specs.Sights.{is_there as there};
@@ -14,6 +15,7 @@ use crate::spot::Spot;
 use rc_pattern::hir::{ClassBytesRange, ClassUnicodeRange, Look};
 use rc_program::look::scalar_at;
 use rc_program::place::Place;
+use rc_program::program::Program;
 
 /// How a thread goes on from a place that it enters.
 #[derive(Clone, Copy)]
@@ -45,8 +47,8 @@ pub fn look_up(spot: &Spot, place: usize) -> Move
         Place::Pass(next) => Move::Stays(*next),
         Place::Dead => Move::Stops,
         Place::Byte(byte, next) => reading(*next, after_byte(spot, *byte)),
-        Place::Bytes(ranges, next) => reading(*next, after_one_of(spot, ranges)),
-        Place::Scalar(ranges, next) => reading(*next, after_scalar(spot, ranges)),
+        Place::Bytes(ranges, next) => reading(*next, after_one_of(spot, place, ranges)),
+        Place::Scalar(ranges, next) => reading(*next, after_scalar(spot, place, ranges)),
         Place::Guard(look, next) => {
             if !is_open(spot, *look) {
                 return Move::Stops;
@@ -79,7 +81,7 @@ fn reading(place: usize, to: Option<usize>) -> Move
 pub fn after_byte(spot: &Spot, byte: u8) -> Option<usize>
     ghost text: { Searched }
     requires here { IsHere spot.now text }
-    ensures { (n : ℕ) → IsMoveAt (seen_from spot.now text) spot.now.at (byte_place ((byte, byte) ∷ []) n) (reading n result) }
+    ensures { (p n : ℕ) → IsMoveAt (seen_from spot.now text) (p, spot.now.at) (byte_place ((byte, byte) ∷ []) n) (reading n result) }
 {
     let Some(found) = next_byte(spot.after, spot.course.hi - spot.at) else {
         return None;
@@ -90,33 +92,35 @@ pub fn after_byte(spot: &Spot, byte: u8) -> Option<usize>
     Some(spot.at + 1)
 }
 
-/// The position after the next byte, where one of the ranges has it.
+/// The position after the next byte, where one of the ranges has it, which are the place's.
 #[inline(always)]
-pub fn after_one_of(spot: &Spot, ranges: &Vec<ClassBytesRange>) -> Option<usize>
+pub fn after_one_of(spot: &Spot, place: usize, ranges: &Vec<ClassBytesRange>) -> Option<usize>
     ghost text: { Searched }
     requires here { IsHere spot.now text }
-    ensures { (n : ℕ) → IsMoveAt (seen_from spot.now text) spot.now.at (byte_place (map byte_range ranges.now.items) n) (reading n result) }
+    requires place_in { place < size spot.now.course }
+    ensures { (n : ℕ) → IsMoveAt (seen_from spot.now text) (place, spot.now.at) (byte_place (map byte_range ranges.now.items) n) (reading n result) }
 {
     let Some(found) = next_byte(spot.after, spot.course.hi - spot.at) else {
         return None;
     };
-    if !has_byte(ranges, found) {
+    if !takes_byte(spot.course.program, place, ranges, found) {
         return None;
     }
     Some(spot.at + 1)
 }
 
-/// The position after the next scalar, where one of the ranges has it.
+/// The position after the next scalar, where one of the ranges has it, which are the place's.
 #[inline(always)]
-pub fn after_scalar(spot: &Spot, ranges: &Vec<ClassUnicodeRange>) -> Option<usize>
+pub fn after_scalar(spot: &Spot, place: usize, ranges: &Vec<ClassUnicodeRange>) -> Option<usize>
     ghost text: { Searched }
     requires here { IsHere spot.now text }
-    ensures { (n : ℕ) → IsMoveAt (seen_from spot.now text) spot.now.at (scalar (map char_range ranges.now.items) n) (reading n result) }
+    requires place_in { place < size spot.now.course }
+    ensures { (n : ℕ) → IsMoveAt (seen_from spot.now text) (place, spot.now.at) (scalar (map char_range ranges.now.items) n) (reading n result) }
 {
     let Some((c, count)) = next_scalar(spot.after, spot.course.hi - spot.at) else {
         return None;
     };
-    if !has_char(ranges, c) {
+    if !takes_scalar(spot.course.program, place, ranges, c) {
         return None;
     }
     Some(spot.at + count)
@@ -127,7 +131,7 @@ pub fn after_scalar(spot: &Spot, ranges: &Vec<ClassUnicodeRange>) -> Option<usiz
 pub fn is_open(spot: &Spot, look: Look) -> bool
     ghost text: { Searched }
     requires here { IsHere spot.now text }
-    ensures { (n : ℕ) → IsMoveAt (seen_from spot.now text) spot.now.at (guard look n) (moving (Stays n) result) }
+    ensures { (p n : ℕ) → IsMoveAt (seen_from spot.now text) (p, spot.now.at) (guard look n) (moving (Stays n) result) }
 {
     holds(
         look,
@@ -142,7 +146,7 @@ pub fn is_open(spot: &Spot, look: Look) -> bool
 pub fn may_end(spot: &Spot, number: usize) -> bool
     ghost text: { Searched }
     requires here { IsHere spot.now text }
-    ensures { IsMoveAt (seen_from spot.now text) spot.now.at (accept number) (moving (Matches number) result) }
+    ensures { (p : ℕ) → IsMoveAt (seen_from spot.now text) (p, spot.now.at) (accept number) (moving (Matches number) result) }
 {
     is_allowed(spot.course.pattern, number) && is_there(spot.course.until, spot.at)
 }
@@ -167,6 +171,36 @@ fn is_there(until: Option<usize>, at: usize) -> bool
         None => true,
         Some(end) => at == end,
     }
+}
+
+/// Whether one of the ranges has the byte, by the place's flags where it has any.
+#[inline(always)]
+fn takes_byte(program: &Program, place: usize, ranges: &Vec<ClassBytesRange>, byte: u8) -> bool
+    requires { place < length program.now.places.items }
+    ensures { (n : ℕ) → place_at (places_of program.now.places.items) place ≡ byte_place (map byte_range ranges.now.items) n
+        → result ≡ in_ranges (map byte_range ranges.now.items) byte }
+{
+    let Some(goes) = program.may_go_on(place, byte) else {
+        return has_byte(ranges, byte);
+    };
+    goes
+}
+
+/// Whether one of the ranges has the character, by the place's flags where it is one of ASCII and the place has any.
+#[inline(always)]
+fn takes_scalar(program: &Program, place: usize, ranges: &Vec<ClassUnicodeRange>, c: char) -> bool
+    requires { place < length program.now.places.items }
+    ensures { (n : ℕ) → place_at (places_of program.now.places.items) place ≡ scalar (map char_range ranges.now.items) n
+        → result ≡ in_ranges (map char_range ranges.now.items) c }
+{
+    let code = c as u32;
+    if code >= 128 {
+        return has_char(ranges, c);
+    }
+    let Some(goes) = program.may_go_on(place, code as u8) else {
+        return has_char(ranges, c);
+    };
+    goes
 }
 
 /// Whether one of the ranges has the byte.

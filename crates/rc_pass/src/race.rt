@@ -12,10 +12,11 @@ ghost use Rattle.rc_pass.specs.Passing.{pending, AllIn, AllFrom, count_from, Has
 ghost use Rattle.rc_pass.specs.Races.{Races, IsCutOff, starts_to, GivesLongest};
 ghost use Rattle.rc_pass.specs.Scratches.{IsSame};
 
+use crate::entrance::way_in;
 use crate::growth::{Growth, copy_row};
 use crate::pass::{Ending, PATIENCE, empty, is_idle, next_position, patience_left};
 use crate::race_alone::glide;
-use crate::race_closure::{is_sought, run, way_in};
+use crate::race_closure::{is_sought, run};
 use crate::scratch::Scratch;
 use crate::spot::{Course, Spot};
 use crate::threads::Threads;

@@ -6,13 +6,11 @@ ghost use Rattle.rc_pass.specs.Near.{IsHere, seen_from, size};
 ghost use Rattle.rc_pass.specs.Trace.{Trace, trace};
 ghost use Rattle.rc_pass.specs.Passing.{waits, AllInside, HasRoom, IsGrown};
 ghost use Rattle.rc_pass.specs.Spread.{StaysCounted};
-ghost use Rattle.rc_pass.specs.Races.{Races, IsSought, IsCutOff, IsRecorded, IsWayIn};
+ghost use Rattle.rc_pass.specs.Races.{Races, IsSought, IsCutOff, IsRecorded};
 
 use crate::closure::enter;
-use crate::entrance::way_on;
 use crate::growth::{Frame, Growth};
 use crate::pass::Ending;
-use crate::sparse_set::SparseSet;
 use crate::spot::Spot;
 
 /// Whether a walk from the start may still be the longest of the least start.
@@ -155,21 +153,4 @@ pub fn run(
     if !growth.stack.is_empty() {
         drain(spot, start, best, found, growth);
     }
-}
-
-/// The place at which a thread enters that is to enter at `root`: that place, or the first way on from there, where the second is shut
-/// and the place wasn't entered yet.
-#[inline(always)]
-pub fn way_in(spot: &Spot, root: usize, entered: &SparseSet) -> usize
-    ghost text: { Searched }
-    requires here { IsHere spot.now text }
-    requires root { root < size spot.now.course }
-    requires capacity { entered.now.capacity ≡ size spot.now.course }
-    ensures inside { result < size spot.now.course }
-    ensures way { IsWayIn (seen_from spot.now text) spot.now.at entered.now.items root result }
-{
-    if entered.contains(root) {
-        return root;
-    }
-    way_on(spot, root)
 }

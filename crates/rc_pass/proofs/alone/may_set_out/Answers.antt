@@ -1,7 +1,6 @@
 use Rattle.std.proofs.Common.{[], ◌∷◌}
 use Rattle.rc_pass.specs.Near.{seen_from}
 use Rattle.rc_pass.proofs.AloneLemmas.{dead_on, not_false}
-use Rattle.rc_pass.proofs.EntranceLemmas.{shut_dead}
 use Rattle.rc_pass.proofs.alone.may_set_out.Goals as goal
 
 pub returns : goal.returns
@@ -14,4 +13,4 @@ returns-then-is_shut g c _ _ _ =
     let s = seen_from c.args.spot.now g.text in
     let at = c.args.spot.now.at in
     dead_on s at ((c.args.tried, at) ∷ []) 0 c.args.way c.requires.1.1
-    (shut_dead s at c.args.way ((c.args.tried, at) ∷ []) (c.is_shut.ensures c.if-is_shut.true))
+    (c.is_shut.ensures c.if-is_shut.true ((c.args.tried, at) ∷ []))

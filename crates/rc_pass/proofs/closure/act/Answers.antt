@@ -27,7 +27,7 @@ returns-in-Pass-clause-acted g c = record {
 pub returns-in-Byte-clause-acted : goal.returns-in-Byte-clause-acted
 returns-in-Byte-clause-acted g c = record {
   move = reading c.in-Byte.next c.after_byte.result;
-  is_move = c.after_byte.ensures c.in-Byte.next c.args.place
+  is_move = c.after_byte.ensures c.args.place c.in-Byte.next
       (placed c.args.spot.now.course.program.now.places.items c.args.place c.index.result.now c.requires.1.0 c.index.ensures ∙ ap place_of c.in-Byte.is);
   made = c.read.ensures.made c.args.spot.now.at;
   ended = none_ended c.in-Byte.next c.after_byte.result;
@@ -36,7 +36,7 @@ returns-in-Byte-clause-acted g c = record {
 pub returns-in-Bytes-clause-acted : goal.returns-in-Bytes-clause-acted
 returns-in-Bytes-clause-acted g c = record {
   move = reading c.in-Bytes.next c.after_one_of.result;
-  is_move = c.after_one_of.ensures c.in-Bytes.next c.args.place
+  is_move = c.after_one_of.ensures c.in-Bytes.next
       (placed c.args.spot.now.course.program.now.places.items c.args.place c.index.result.now c.requires.1.0 c.index.ensures ∙ ap place_of c.in-Bytes.is);
   made = c.read-in-Bytes.ensures.made c.args.spot.now.at;
   ended = none_ended c.in-Bytes.next c.after_one_of.result;
@@ -45,7 +45,7 @@ returns-in-Bytes-clause-acted g c = record {
 pub returns-in-Scalar-clause-acted : goal.returns-in-Scalar-clause-acted
 returns-in-Scalar-clause-acted g c = record {
   move = reading c.in-Scalar.next c.after_scalar.result;
-  is_move = c.after_scalar.ensures c.in-Scalar.next c.args.place
+  is_move = c.after_scalar.ensures c.in-Scalar.next
       (placed c.args.spot.now.course.program.now.places.items c.args.place c.index.result.now c.requires.1.0 c.index.ensures ∙ ap place_of c.in-Scalar.is);
   made = c.read-in-Scalar.ensures.made c.args.spot.now.at;
   ended = none_ended c.in-Scalar.next c.after_scalar.result;
@@ -55,7 +55,7 @@ pub returns-then-is_open-clause-acted : goal.returns-then-is_open-clause-acted
 returns-then-is_open-clause-acted g c = record {
   move = Stays c.in-Guard.next;
   is_move = subst (λ b. IsMove (seen_from c.args.spot.now g.text) (c.args.place, c.args.spot.now.at) (moving (Stays c.in-Guard.next) b)) c.if-is_open.true
-      (c.is_open.ensures c.in-Guard.next c.args.place
+      (c.is_open.ensures c.args.place c.in-Guard.next
       (placed c.args.spot.now.course.program.now.places.items c.args.place c.index.result.now c.requires.1.0 c.index.ensures ∙ ap place_of c.in-Guard.is));
   made = c.stay-then-is_open.ensures.made c.args.spot.now.at c.args.start;
   ended = refl;
@@ -65,7 +65,7 @@ pub returns-else-is_open-clause-acted : goal.returns-else-is_open-clause-acted
 returns-else-is_open-clause-acted g c = record {
   move = Stops;
   is_move = subst (λ b. IsMove (seen_from c.args.spot.now g.text) (c.args.place, c.args.spot.now.at) (moving (Stays c.in-Guard.next) b)) c.if-is_open.false
-      (c.is_open.ensures c.in-Guard.next c.args.place
+      (c.is_open.ensures c.args.place c.in-Guard.next
       (placed c.args.spot.now.course.program.now.places.items c.args.place c.index.result.now c.requires.1.0 c.index.ensures ∙ ap place_of c.in-Guard.is));
   made = search rules;
   ended = refl;

@@ -1,4 +1,4 @@
 use Rattle.rc_pass.proofs.entrance.entrance.Given as goal
 
-abbrev pub ghost-way_on : goal.ghost-way_on
-ghost-way_on g a = g.text
+abbrev pub ghost-way_in : goal.ghost-way_in
+ghost-way_in g a = g.text

@@ -8,14 +8,14 @@ use Rattle.rc_pass.proofs.moves.after_scalar.Goals as goal
 
 pub overflow_add-result : goal.overflow_add-result
 overflow_add-result g c =
-    let here = sym c.requires.near.scalar ∙ ap (λ hi. scalar_at (take (hi - c.args.spot.now.at) c.args.spot.now.after.now)) (sym c.requires.setting.bound)
+    let here = sym c.requires.0.near.scalar ∙ ap (λ hi. scalar_at (take (hi - c.args.spot.now.at) c.args.spot.now.after.now)) (sym c.requires.0.setting.bound)
     ∙ sym c.in-Some.ensures in
     let r = scalar_size g.text.content c.args.spot.now.at (high g.text) c.in-Some.c c.in-Some.count here in
-    omega (arith, r, c.args.spot.now.course.small, c.requires.setting.bound)
+    omega (arith, r, c.args.spot.now.course.small, c.requires.0.setting.bound)
 
 pub returns : goal.returns
-returns g c n p is =
-    scalar_move (seen_from c.args.spot.now g.text) p c.args.spot.now.at c.in-Some.c c.in-Some.count n (map char_range c.args.ranges.now.items) is
-    (sym c.requires.near.scalar ∙ ap (λ hi. scalar_at (take (hi - c.args.spot.now.at) c.args.spot.now.after.now)) (sym c.requires.setting.bound)
+returns g c n is =
+    scalar_move (seen_from c.args.spot.now g.text) c.args.place c.args.spot.now.at c.in-Some.c c.in-Some.count n (map char_range c.args.ranges.now.items) is
+    (sym c.requires.0.near.scalar ∙ ap (λ hi. scalar_at (take (hi - c.args.spot.now.at) c.args.spot.now.after.now)) (sym c.requires.0.setting.bound)
     ∙ sym c.in-Some.ensures)
-    (sym c.has_char.ensures ∙ c.if-not-has_char.false)
+    (sym (c.takes_scalar.ensures n is) ∙ c.if-not-takes_scalar.false)

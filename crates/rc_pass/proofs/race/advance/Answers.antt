@@ -46,7 +46,7 @@ returns-clause-races g c all x =
     (subst (λ l. Races (seen_from c.args.spot.now g.text) all at c.step.new.growth.threads.items c.step.new.growth.entered.items
     ((trace at l, (c.way_in-place.result, at)) ∷ rest) c.step.new.best c.step.new.found) (sym slots)
     (raced_way_in (seen_from c.args.spot.now g.text) all at c.step.new.growth.threads.items c.step.new.growth.entered.items c.step.new.best c.step.new.found
-    0 c.way_in-place.result (trace at (replicate width None)) rest c.way_in-place.ensures.way c.if-not-is_sought.ensures
+    (trace at (replicate width None)) rest c.way_in-place.ensures.way c.if-not-is_sought.ensures
     (subst (λ ts. Races (seen_from c.args.spot.now g.text) all at c.step.new.growth.threads.items c.step.new.growth.entered.items ts c.step.new.best c.step.new.found)
     (starts_next width at last (omega (arith, c.if-spot.false)))
     (c.step.ensures.races all (starts_to width at last) x))))
