@@ -18,6 +18,7 @@ ghost use Rattle.rc_pass.specs.Trace.{Trace, trace};
 ghost use Rattle.rc_pass.specs.Windows.{IsWindow, IsBegun, IsAround};
 
 use crate::entrance::is_shut;
+use crate::heads::pass_over;
 use crate::moves::{Move, look_up};
 use crate::pass::{Ending, end_walk, set_out_alone};
 use crate::scratch::Scratch;
@@ -118,6 +119,9 @@ fn only_way(spot: &Spot, place: usize, first: usize, second: usize) -> Option<us
 {
     if is_closed(spot, second) {
         return Some(first);
+    }
+    if is_closed(spot, first) {
+        return Some(second);
     }
     'ways: for round in 0..2u32 {
         let (tested, other) = if round == 0 {
@@ -290,6 +294,10 @@ pub(crate) fn seek(
     let mut here = at;
     let end = limit(window).min(course.last);
     'starts: while here < end {
+        here = pass_over(course, window, way, here, end);
+        if here == end {
+            return (here, None);
+        }
         let spot = spot_at(course, window, here);
         let Some((place, step)) = onward(&spot, way) else {
             return (here, None);
@@ -297,10 +305,12 @@ pub(crate) fn seek(
         match step {
             Move::Stops => {}
             Move::Reads(next, to) => {
-                if to == here + 1 {
+                if to != here + 1 {
+                    return (here, None);
+                }
+                if !is_shut(&spot_at(course, window, here + 1), next) {
                     return (here, Some(next));
                 }
-                return (here, None);
             }
             _ => {
                 if !leads_nowhere(&spot, place, None) {
