@@ -1,6 +1,7 @@
 //! Patterns built for every engine, and searches that all of them answer alike.
 
 ghost use Rattle.std.specs.Prelude.{◌≤◌, length};
+ghost use Rattle.rc_program.specs.Heads.{AreHeads, flags_in};
 ghost use Rattle.rc_program.specs.Sought.{IsRunnable};
 ghost use Rattle.rc_program.specs.Places.{places_of};
 
@@ -16,6 +17,7 @@ use rc_meta::regex::Regex;
 use rc_pattern::hir::{Hir, Look};
 use rc_pikevm::search;
 use rc_pikevm::vm::PikeVM;
+use rc_program::heads::heads_of;
 use rc_program::place::Place;
 use rc_program::program::Program;
 use rc_settings::error::BuildError;
@@ -400,19 +402,27 @@ fn compiled(
         return Ok(None);
     }
     let made = compile_all(alloc, &hirs, settings.limit, settings.which)?;
+    let heads = heads_of(alloc, &made.places)?;
     let passes_over = settings.utf8_empty && may_be_empty(&hirs);
-    let program = program_of(made.places, settings.terminator, passes_over);
+    let program = program_of(made.places, heads, settings.terminator, passes_over);
     Ok(Some(program))
 }
 
-/// These places, under settings.
-fn program_of(places: Vec<Place>, terminator: u8, passes_over: bool) -> Program
-    requires { IsRunnable (places_of places.items) }
+/// These places with their heads, under settings.
+fn program_of(
+    places: Vec<Place>,
+    heads: Vec<Vec<bool>>,
+    terminator: u8,
+    passes_over: bool,
+) -> Program
+    requires runnable { IsRunnable (places_of places.items) }
+    requires closed_over { AreHeads (places_of places.items) (flags_in heads.items) }
 {
     Program {
         places,
         terminator,
         passes_over,
+        heads,
     }
 }
 

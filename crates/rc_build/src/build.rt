@@ -2,6 +2,7 @@
 
 ghost use Rattle.std.specs.Prelude.{◌≡◌, ◌≤◌, IfErr, IfOk, None, false, length, map, option_map};
 ghost use Rattle.rc_pattern.specs.Meaning.{meaning};
+ghost use Rattle.rc_program.specs.Heads.{AreHeads, flags_in};
 ghost use Rattle.rc_program.specs.Places.{places_of};
 ghost use Rattle.rc_program.specs.Sought.{IsRunnable, may_be_empty, passes_over};
 ghost use Rattle.rc_literal.specs.Prefilters.{needles_of};
@@ -19,6 +20,7 @@ use rc_engine::strategy::Strategy;
 use rc_literal::prefilter::Prefilter;
 use rc_pattern::check::copies_of;
 use rc_pattern::hir::Hir;
+use rc_program::heads::heads_of;
 use rc_program::place::Place;
 use rc_program::program::Program;
 use rc_settings::error::BuildError;
@@ -70,7 +72,8 @@ pub fn build_all(
         settings.get_which_captures(),
     )?;
     let strategy = choose(alloc, hirs, prefilter, is_auto)?;
-    let engine = engine_of(settings, kind, hirs, compiled.places, strategy);
+    let heads = heads_of(alloc, &compiled.places)?;
+    let engine = engine_of(settings, kind, hirs, compiled.places, heads, strategy);
     let hirs = copies_of(alloc, hirs)?;
     Ok(Built {
         hirs,
@@ -79,15 +82,17 @@ pub fn build_all(
     })
 }
 
-/// The engine of these patterns, whose program this is, and whose searches may go by the strategy.
+/// The engine of these patterns, whose program this is with its heads, and whose searches may go by the strategy.
 fn engine_of(
     settings: thompson::Config,
     kind: MatchKind,
     hirs: &[Hir],
     places: Vec<Place>,
+    heads: Vec<Vec<bool>>,
     strategy: Strategy,
 ) -> Engine
     requires runnable { IsRunnable (places_of places.items) }
+    requires closed_over { AreHeads (places_of places.items) (flags_in heads.items) }
     requires sound { MayGoBy (places_of places.items) (line_terminator_of (settings_of settings))
         (passes_over (sought_by (settings_of settings) (map meaning hirs.now))) strategy }
     ensures places { result.program.places ≡ places }
@@ -101,6 +106,7 @@ fn engine_of(
         places,
         terminator: settings.get_line_terminator(),
         passes_over,
+        heads,
     };
     Engine {
         program,

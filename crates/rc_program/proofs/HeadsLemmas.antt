@@ -1,7 +1,6 @@
 -- Where no walk may go on over the byte ahead no walk sets out.
-use Rattle.std.proofs.Common.{◌≡◌, ◌↔◌, ℕ, ◌+◌, ◌<◌, ◌≤◌, ◌⊎◌, List, [], ◌∷◌, length, map, inl, inr, ⊎_elim, sym, subst, ap, ◌∙◌, refl, arith, Bool, true, false, true≢false, IsTrue, Option, Some, None, nat_le, nat_lt, ◌&&◌, ◌||◌, if◌then◌else◌, slice_get, slice_index_or, Vec}
-use Rattle.std.proofs.Math.Logic.{∥∥₁_elim, ∥∥₁_prop}
-use Rattle.std.proofs.lemmas.Bool.{cases_Bool, le-ltb, lt-ltb, leb-false}
+use Rattle.std.proofs.Common.{◌≡◌, ℕ, ◌<◌, ◌⊎◌, List, [], ◌∷◌, length, map, inl, inr, ⊎_elim, sym, subst, ap, ◌∙◌, refl, arith, Bool, true, false, true≢false, IsTrue, Option, Some, nat_le, ◌||◌, if◌then◌else◌, slice_get, slice_index_or, Vec, ◌==◌}
+use Rattle.std.proofs.lemmas.Bool.{cases_Bool, lt-ltb, leb-false, eqb-false}
 use Rattle.std.specs.List.{Contains}
 use Rattle.std.proofs.lemmas.List.{get_or-map, length-map}
 use Rattle.std.proofs.lemmas.List.Elements.{Contains-append_right}
@@ -10,7 +9,9 @@ use Rattle.rc_pattern.specs.declared.hir.Look.{Look}
 use Rattle.rc_walks.specs.Walks.{Pair, IsIn, IsWalk, stops, goes, HasNoWalk}
 use Rattle.rc_program.specs.Text.{Text, ahead, holds}
 use Rattle.rc_program.specs.Scalars.{scalar_at}
-use Rattle.rc_program.specs.Program.{Place, choice, byte, branch, scalar, guard, slot, accept, Way, stays, reads, in_ranges, over_scalar, branch_ways, ways_out, pair_at, place_at, ways}
+use Rattle.rc_program.specs.Program.{Place, choice, byte, branch, scalar, guard, slot, accept, Way, stays, reads, in_ranges, over_scalar, ways_out, pair_at, place_at, ways}
+use Rattle.rc_program.specs.declared.place.Place as code
+use Rattle.rc_program.specs.Places.{place_of, places_of}
 use Rattle.rc_program.specs.Heads.{silent, Reaches, here, on, may_take, MayGoOn, TellsHeads, AreHeads, flags_in, HeadsLaw}
 
 -- what is reached goes on to what stands in it
@@ -101,7 +102,7 @@ walk_takes places t hi p i b bs Ends at_end e (goes n h fresh rest) reached =
     reached_on q r n same stay m h =
         let h2 : IsIn m (ways places t hi (q, i)) = subst (λ (k : Pair). IsIn m (ways places t hi k)) same h in
         let h3 : IsIn m (map (pair_at i) (ways_out (λ l. holds t l i) (b ∷ bs) (place_at places q))) =
-            subst (λ (xs : List ℕ). IsIn m (map (pair_at i) (ways_out (λ l. holds t l i) xs (place_at places q)))) e h2 in
+        subst (λ (xs : List ℕ). IsIn m (map (pair_at i) (ways_out (λ l. holds t l i) xs (place_at places q)))) e h2 in
         let s = stay m h3 in
         (s.0, further places s.0 r s.1, s.2)
 
@@ -122,10 +123,14 @@ pub heads_law : HeadsLaw
 heads_law places t hi p i b ends passed at_end e none = none_goes_on places t hi p i b (λ n. IsTrue (ends n)) passed at_end e none
 
 -- what code reads as the flags of a place are its flags
-pub flags_tell : {Y : Type 0} (places : List Place) (vs : List (Vec Bool Y)) (p : ℕ) (v : Vec Bool Y) → AreHeads places (flags_in vs) → p < length places →
-    v ≡ slice_index_or vs p v → 0 < length v.items → TellsHeads places p v.items
-flags_tell {Y} places vs p v h lt e some =
+pub flags_tell : {Y : Type 0} (ps : List code.Place) (vs : List (Vec Bool Y)) (p : ℕ) (v : Vec Bool Y) (flags : List Bool) →
+    AreHeads (places_of ps) (flags_in vs) → p < length ps → v ≡ slice_index_or vs p v → flags ≡ v.items → (length flags == 0) ≡ false →
+    TellsHeads (places_of ps) p flags
+flags_tell {Y} ps vs p v flags h lt e f some =
     let items : Vec Bool Y → List Bool = λ w. w.items in
+    let inside : p < length (places_of ps) = omega (arith, length-map ps place_of) in
     let within : p < length vs = omega (arith, h.count, length-map vs items) in
-    let same : slice_index_or (flags_in vs) p [] ≡ v.items = get_or-map items vs p v [] within ∙ ap items (sym e) in
-    subst (TellsHeads places p) same (h.tell p lt (subst (λ (l : List Bool). 0 < length l) (sym same) some))
+    let same : slice_index_or (flags_in vs) p [] ≡ flags = get_or-map items vs p v [] within ∙ ap items (sym e) ∙ sym f in
+    let ne = eqb-false (length flags) 0 some in
+    let long : 0 < length flags = omega (arith, ne) in
+    subst (TellsHeads (places_of ps) p) same (h.tell p inside (subst (λ (l : List Bool). 0 < length l) (sym same) long))

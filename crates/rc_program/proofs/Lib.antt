@@ -19,5 +19,7 @@ pub mod ReachLemmas
 pub mod KindLemmas
 mod KindExamples
 mod LongestExamples
+mod HeadsExamples
 pub mod PropertyLemmas
 pub mod HeadsLemmas
+pub mod ClosingLemmas

@@ -24,11 +24,7 @@ pub fn heads_of(alloc: Global, places: &[Place]) -> Result<Vec<Vec<bool>>, Alloc
     let mut tables = Vec::with_capacity(alloc, places.len())?;
     let mut opened = Vec::with_capacity(alloc, MOST_REACHED + 2)?;
     for place in 0..places.len() {
-        let flags = if place < MOST_PLACES {
-            flags_of(alloc, places, place, &mut opened)?
-        } else {
-            Vec::new(alloc)
-        };
+        let flags = flags_of(alloc, places, place, &mut opened)?;
         tables.push(flags)?;
     }
     Ok(tables)
@@ -46,13 +42,19 @@ fn flags_of(
     ensures { IfOk result (λ flags. 0 < length flags.items
         → TellsHeads (places_of places.now) place flags.items) }
 {
-    if matches!(&places[place], Place::Byte(..) | Place::Accept(_) | Place::Dead) {
+    if place >= MOST_PLACES
+        || matches!(
+            &places[place],
+            Place::Byte(..) | Place::Accept(_) | Place::Dead
+        )
+    {
         return Ok(Vec::new(alloc));
     }
     if !open_all(opened, places, place)? {
         return Ok(Vec::new(alloc));
     }
-    joined(alloc, places, opened)
+    let flags = joined(alloc, places, opened)?;
+    Ok(flags)
 }
 
 /// Opens the places that are reached from this one without reading. False where these are too many.
@@ -81,7 +83,8 @@ fn open_from(opened: &mut Vec<usize>, places: &[Place], from: usize) -> Result<(
     match places.get(from) {
         Some(Place::Choice(first, second)) => {
             open(opened, *first)?;
-            open(opened, *second)
+            open(opened, *second)?;
+            Ok(())
         }
         Some(Place::Pass(next)) => open(opened, *next),
         Some(Place::Guard(_, next)) => open(opened, *next),
@@ -107,11 +110,19 @@ fn joined(alloc: Global, places: &[Place], opened: &[usize]) -> Result<Vec<bool>
 {
     let mut flags = vec![in alloc; false; 256]?;
     for number in opened {
-        if let Some(place) = places.get(*number) {
-            join(&mut flags, place);
-        }
+        join_at(&mut flags, places, *number);
     }
     Ok(flags)
+}
+
+/// Sets the flags of the bytes that the place of this number takes.
+fn join_at(flags: &mut [bool], places: &[Place], number: usize)
+    requires { length flags.old ≡ 256 }
+    ensures { AreJoined 256 (may_take (place_at (places_of places.now) number)) flags.old flags.new }
+{
+    if let Some(place) = places.get(number) {
+        join(flags, place);
+    }
 }
 
 /// Sets the flags of the bytes that the place takes, or of all where a walk ends there.

@@ -25,6 +25,7 @@ pub struct Program {
 impl Program {
     /// Over which bytes walks may go on from the place, whatever assertions say: 256 flags. None where that wasn't closed over.
     #[inline(always)]
+    #[tactic(auto, using(crate::proofs::HeadsLemmas::flags_tell))]
     pub fn head_table(&self, place: usize) -> Option<&[bool]>
         requires { place < length self.now.places.items }
         ensures { MatchOption result ⊤ (λ flags. TellsHeads (places_of self.now.places.items) place flags.now) }

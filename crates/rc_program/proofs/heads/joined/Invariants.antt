@@ -1,0 +1,7 @@
+use Rattle.std.proofs.Common.{take}
+use Rattle.rc_program.specs.Closing.{AreFlags}
+use Rattle.rc_program.specs.Places.{places_of}
+use Rattle.rc_program.proofs.heads.joined.Given as goal
+
+abbrev pub invariant-loop-number : goal.invariant-loop-number
+invariant-loop-number l = AreFlags (places_of l.places) (take l.number-index l.opened) l.flags.items
