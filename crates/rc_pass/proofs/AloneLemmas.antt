@@ -172,7 +172,7 @@ module _ (s : Sight) (at : ℕ) where
 
   module _ (width last : ℕ) (best o : Option Trace) where
     -- a start from which no walk leads on is left out
-    quiet_start : (is_open : Bool) (rest : List Thread) (items : List ℕ) → (is_open ≡ true → at ≤ last → IsDead s (pairs at items) (0, at)) →
+    pub quiet_start : (is_open : Bool) (rest : List Thread) (items : List ℕ) → (is_open ≡ true → at ≤ last → IsDead s (pairs at items) (0, at)) →
         Carries s at rest items (waiting_starts is_open width (at + 1) last) best o → Carries s at rest items (waiting_starts is_open width at last) best o
     quiet_start false rest items dead x = x
     quiet_start true rest items dead x =

@@ -31,12 +31,13 @@ pub fn is_shut(spot: &Spot, place: usize) -> bool
     requires place_in { place < size spot.now.course }
     ensures { IsTrue result → IsShut (seen_from spot.now text) (place, spot.now.at) }
 {
-    if is_quick(&spot.course.program.places[place]) {
-        if let Move::Stops = look_up(spot, place) {
-            return true;
-        }
+    if !is_quick(&spot.course.program.places[place]) {
+        return is_dead(spot, place);
     }
-    is_dead(spot, place)
+    match look_up(spot, place) {
+        Move::Stops => true,
+        _ => false,
+    }
 }
 
 /// The one of two ways on from the place by which alone walks lead on, where the other one is seen to be shut; else the place itself.

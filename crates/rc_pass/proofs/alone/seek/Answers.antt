@@ -3,12 +3,12 @@ use Rattle.std.proofs.lemmas.Bool.{cases_lt}
 use Rattle.rc_pass.specs.Sights.{Sight, HasNoWalkFrom}
 use Rattle.rc_pass.specs.Near.{seen_from, size}
 use Rattle.rc_pass.specs.Moves.{IsMove, seen_by}
-use Rattle.rc_pass.specs.Alone.{IsDead}
+use Rattle.rc_pass.specs.Alone.{IsDead, LeadsTo}
 use Rattle.rc_pass.specs.declared.moves.Move.TheVariants.{Reads}
-use Rattle.rc_pass.proofs.AloneLemmas.{inside_program, dead_stops, dead_reads, no_start, leads_on, leads_then}
+use Rattle.rc_pass.proofs.AloneLemmas.{inside_program, dead_stops, dead_reads, dead_saves, no_start, leads_on, leads_then}
 use Rattle.rc_pass.proofs.alone.seek.Given.{Over}
 use Rattle.rc_pass.proofs.alone.seek.Goals as goal
-use Rattle.rc_pass.proofs.alone.seek.Goals.{After-pass_over-here, In-Reads, in-Stops, in-Reads+else-to-here+else-not-is_shut, in_default-step+else-not-leads_nowhere}
+use Rattle.rc_pass.proofs.alone.seek.Goals.{After-pass_over-here, In-Some, In-Reads, in-Stops, in-Reads+else-to-here+else-not-is_shut, in_default-step+else-not-leads_nowhere}
 
 -- no walk sets out from the starts passed over
 left_out : (g : Over) (c : After-pass_over-here g) (y : ℕ) → c.args.at ≤ y → y < c.pass_over-here.result → HasNoWalkFrom (seen_by c.args.course g.text) y
@@ -17,6 +17,15 @@ left_out g c y low before =
     (λ ge. no_start (seen_by c.args.course g.text) y c.args.root c.args.way c.requires.1.1.1.1.1.0 (c.requires.1.1.1.1.1.1.1 y)
     (c.pass_over-here.ensures.dead y ge before []))
     (cases_lt y c.starts.here)
+
+-- where no walk leads on from the place behind a slot, none does from the slot
+past_dead : (g : Over) (c : In-Some g) → IsDead (seen_by c.args.course g.text) [] (c.past_slot-first.result, c.pass_over-here.result) →
+    IsDead (seen_by c.args.course g.text) [] (c.args.way, c.pass_over-here.result)
+past_dead g c d =
+    let s : Sight = seen_by c.args.course g.text in
+    let here : ℕ = c.pass_over-here.result in
+    ⊎_elim (λ e. subst (λ p. IsDead s [] (p, here)) e d) (λ r. dead_saves s here [] c.args.way r.0 c.past_slot-first.result r.1 d)
+    (rw c.spot_at-spot.ensures.course at c.past_slot-first.ensures.past)
 
 -- the byte is read there, and the place behind it is one of the program
 reads_there : (g : Over) (c : In-Reads g) →
@@ -38,6 +47,9 @@ returns-then-to-here-clause-none g c = left_out g (goal.at.returns-then-to-here-
 
 pub returns-then-not-is_shut-clause-none : goal.returns-then-not-is_shut-clause-none
 returns-then-not-is_shut-clause-none g c = left_out g (goal.at.returns-then-not-is_shut-clause-none g c).After-pass_over-here
+
+pub returns-then-first-way-clause-none : goal.returns-then-first-way-clause-none
+returns-then-first-way-clause-none g c = left_out g (goal.at.returns-then-first-way-clause-none g c).After-pass_over-here
 
 pub returns-then-not-leads_nowhere : goal.returns-then-not-leads_nowhere
 returns-then-not-leads_nowhere g c = record {
@@ -78,14 +90,16 @@ returns-then-not-is_shut-clause-reads g c =
     let here : ℕ = c.pass_over-here.result in
     let place : ℕ = c.in-Some.place in
     let r = reads_there g (goal.at.returns-then-not-is_shut-clause-reads g c).In-Reads in
-    let to : c.in-Reads.to ≡ here + 1 = omega (arith, c.if-to-here.false) in (
+    let to : c.in-Reads.to ≡ here + 1 = omega (arith, c.if-to-here.false) in
+    let same : c.past_slot-first.result ≡ c.args.way = omega (arith, c.if-first-way.false) in
+    let leads = rw (c.spot_at-spot.ensures.course, c.spot_at-spot.ensures.at) at c.in-Some.ensures.leads in (
       omega (arith, c.pass_over-here.ensures.within, c.if-here-end.false, c.min-end.ensures),
       c.limit.ensures (here + 1) (omega (arith, c.pass_over-here.ensures.within, c.if-here-end.false, c.min-end.ensures)),
       (
         place,
         record {
           leads = leads_then s here c.args.root c.args.way place (leads_on s here c.args.root c.args.way (c.requires.1.1.1.1.1.1.1 here))
-              (rw (c.spot_at-spot.ensures.course, c.spot_at-spot.ensures.at) at c.in-Some.ensures.leads);
+              (subst (λ p. LeadsTo s here p place) same leads);
           move = subst (λ to. IsMove s (place, here) (Reads c.in-Reads.next to)) to r.0;
           inside = r.1;
         },
@@ -113,7 +127,8 @@ starts-preserved g c =
     ] in
     let nowhere = rw (c.spot_at-spot.ensures.course, c.spot_at-spot.ensures.at) at c.in-Some.ensures.none in
     let none : HasNoWalkFrom s here =
-    no_start s here c.args.root c.args.way c.requires.1.1.1.1.1.0 (c.requires.1.1.1.1.1.1.1 here) (nowhere dead) in
+    no_start s here c.args.root c.args.way c.requires.1.1.1.1.1.0 (c.requires.1.1.1.1.1.1.1 here)
+    (past_dead g (goal.at.starts-preserved g c).In-Some (nowhere dead)) in
     record {
       later = omega (arith, c.starts.invariant.later, c.pass_over-here.ensures.later);
       within = omega (arith, c.pass_over-here.ensures.within, c.if-here-end.false, c.min-end.ensures, c.args.course.ordered);
