@@ -14,7 +14,7 @@ use Rattle.rc_program.specs.Laws.{IsClosed, targets}
 use Rattle.rc_program.specs.Program.{Place, choice, slot, place_at, ways_out, pair_at, is_match_place}
 use Rattle.rc_program.specs.Text.{holds, ahead}
 use Rattle.rc_program.specs.Answer.{only}
-use Rattle.rc_pass.specs.Sights.{Sight, is_there, ends, next_of}
+use Rattle.rc_pass.specs.Sights.{Sight, is_there, ends, next_of, HasNoWalkFrom}
 use Rattle.rc_pass.specs.Moves.{IsMove}
 use Rattle.rc_pass.specs.Threads.{Thread, ThreadList, thread_of}
 use Rattle.rc_pass.specs.Entrances.{IsOnWay}
@@ -81,6 +81,9 @@ module _ (s : Sight) (at : ℕ) where
     pub dead_stops : (p : ℕ) → IsMove s (p, at) Stops → IsDead s passed (p, at)
     dead_stops p m = dead_over p [] m.0 m.1 (λ v x. no_ways (next_of s) Ends x)
 
+    pub dead_reads : (p q to : ℕ) → IsMove s (p, at) (Reads q to) → IsDead s passed (q, to) → IsDead s passed (p, at)
+    dead_reads p q to m d = dead_over p ((q, to) ∷ []) m.0 m.1.on d
+
     pub dead_stays : (p q : ℕ) → IsMove s (p, at) (Stays q) → IsDead s passed (q, at) → IsDead s passed (p, at)
     dead_stays p q m d = dead_over p ((q, at) ∷ []) m.0 m.1.on d
 
@@ -108,6 +111,10 @@ module _ (s : Sight) (at : ℕ) where
           on = ap (λ k. k && is_there s.until at) (ap (is_match_place (only s.anchoring)) is ∙ choice_on (only s.anchoring) (a ∷ b ∷ []));
         },
       )
+
+  -- and no walk sets out
+  pub no_start : (root way : ℕ) → StandsFor s root → IsOnWay s at root way → IsDead s [] (way, at) → HasNoWalkFrom s at
+  no_start root way stands on d = (stands at).1 (dead_on [] root way on d)
 
   -- no walk leads on from a place where none does from the only way on
   dead_by : (p a : ℕ) → ends s (p, at) ≡ false → IsOnlyWay (next_of s) Ends (p, at) (a, at) → IsDead s [] (a, at) → IsDead s [] (p, at)
@@ -165,7 +172,7 @@ module _ (s : Sight) (at : ℕ) where
 
   module _ (width last : ℕ) (best o : Option Trace) where
     -- a start from which no walk leads on is left out
-    quiet_start : (is_open : Bool) (rest : List Thread) (items : List ℕ) → (is_open ≡ true → at ≤ last → IsDead s (pairs at items) (0, at)) →
+    pub quiet_start : (is_open : Bool) (rest : List Thread) (items : List ℕ) → (is_open ≡ true → at ≤ last → IsDead s (pairs at items) (0, at)) →
         Carries s at rest items (waiting_starts is_open width (at + 1) last) best o → Carries s at rest items (waiting_starts is_open width at last) best o
     quiet_start false rest items dead x = x
     quiet_start true rest items dead x =

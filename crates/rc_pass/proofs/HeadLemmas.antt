@@ -1,17 +1,23 @@
 -- Places from which the byte that stands next lets no walk go on.
-use Rattle.std.proofs.Common.{◌≡◌, ℕ, ◌-◌, ◌<◌, List, [], ◌∷◌, zero, suc, length, take, refl, sym, ap, ◌∙◌, arith, Some, slice_get, slice_index}
+use Rattle.std.proofs.Common.{◌≡◌, ℕ, ◌+◌, ◌-◌, ◌<◌, ◌≤◌, ◌⊎◌, List, [], ◌∷◌, zero, suc, length, take, refl, sym, ap, ◌∙◌, inl, inr, ⊎_elim, arith, Bool, false, true≢false, Some, slice_get, slice_index, slice_index_or, slice_range, length-take}
 use Rattle.rc_text.specs.Text.{Searched, high}
+use Rattle.rc_text.proofs.Ranges.{get_or-slice_range, length-slice_range}
 use Rattle.rc_walks.specs.Walks.{Pair}
 use Rattle.rc_program.specs.Text.{ahead}
 use Rattle.rc_program.specs.Program.{place_at}
 use Rattle.rc_program.specs.Answer.{only, pattern_at}
-use Rattle.rc_program.specs.Heads.{MayGoOn}
+use Rattle.rc_program.specs.Heads.{MayGoOn, TellsHeads}
 use Rattle.rc_program.proofs.AnswerLemmas.{match_place_is}
 use Rattle.rc_program.proofs.HeadsLemmas.{heads_law}
 use Rattle.rc_pass.specs.Sights.{Sight, ends}
+use Rattle.rc_pass.specs.Moves.{IsSetting, seen_by}
 use Rattle.rc_pass.specs.Near.{IsHere, seen_from}
+use Rattle.rc_pass.specs.Windows.{IsWindow, IsBegun, IsAround}
 use Rattle.rc_pass.specs.Alone.{IsDead}
+use Rattle.rc_pass.specs.declared.spot.Course.{Course}
 use Rattle.rc_pass.specs.declared.spot.Spot.{Spot}
+use Rattle.rc_pass.specs.declared.window.Window.{Window}
+use Rattle.rc_pass.proofs.NearLemmas.{is_near}
 use Rattle.rc_pass.proofs.SightLemmas.{at_match}
 
 first_take : (n : ℕ) (xs : List ℕ) → 0 < n → 0 < length xs → slice_get (take n xs) 0 ≡ Some (slice_index xs 0)
@@ -33,3 +39,43 @@ shown_dead spot text p here below some none passed =
     byte_dead (seen_from spot text) p spot.at (slice_index spot.after.now 0)
     (sym here.near.next ∙ ap (λ hi. slice_get (take (hi - spot.at) spot.after.now) 0) (sym here.setting.bound)
     ∙ first_take (spot.course.hi - spot.at) spot.after.now (omega (arith, below)) some) none passed
+
+module _ (course : Course) (text : Searched) (w : Window) (at end : ℕ) (setting : IsSetting course text) (window : IsWindow text w)
+    (begun : IsBegun text at w) (around : (y : ℕ) → y ≤ end → IsAround text y w) (within : end ≤ course.hi) where
+  window_fits : w.len ≤ length w.bytes
+  window_fits =
+      let e = ap (length {A = ℕ}) window.bytes in
+      let few = length-take w.len w.bytes in
+      let all = length-slice_range text.content w.start (w.start + w.len) (omega (arith, window.end)) in
+      omega (arith, e, few, all)
+
+  begun_later : (k : ℕ) → (w.start ≡ text.slice.start) ⊎ (w.start + 4 ≤ at) → (w.start ≡ text.slice.start) ⊎ (w.start + 4 ≤ at + k)
+  begun_later k f = ⊎_elim (λ e. inl e) (λ h. inr (omega (arith, h))) f
+
+  -- a byte of the window is the one that stands there
+  pub window_byte : (k : ℕ) → at + k < end →
+      slice_get (ahead (seen_by course text).text (seen_by course text).hi (at + k)) 0
+      ≡ Some (slice_index (slice_range w.bytes (at - w.start) (end - w.start)) k)
+  window_byte k below =
+      let low : IsBegun text (at + k) w = record { below = omega (arith, begun.below); four = begun_later k begun.four } in
+      let above = (around end (omega arith)).above in
+      let near = is_near text (at + k) w window low (around (at + k) (omega (arith, below))) course.program.now (omega (arith, below, within, setting.bound)) in
+      let skip : ℕ = at + k - w.start in
+      let after = slice_range w.bytes skip w.len in
+      let long = length-slice_range w.bytes skip w.len window_fits in
+      let byte : slice_index after 0 ≡ slice_index (slice_range w.bytes (at - w.start) (end - w.start)) k =
+      get_or-slice_range w.bytes skip w.len 0 0 (omega (arith, above, below, begun.below))
+      ∙ ap (λ n. slice_index w.bytes n) (omega (arith, begun.below))
+      ∙ sym (get_or-slice_range w.bytes (at - w.start) (end - w.start) k 0 (omega (arith, below, begun.below))) in
+      sym near.next
+      ∙ first_take (high text - (at + k)) after (omega (arith, below, within, setting.bound)) (omega (arith, long, above, below, begun.below))
+      ∙ ap Some byte
+
+  -- no walk leads on from a place over a byte of which its flag isn't set
+  pub flag_dead : (p k : ℕ) (flags : List Bool) → at + k < end → TellsHeads (seen_by course text).places p flags →
+      slice_index (slice_range w.bytes (at - w.start) (end - w.start)) k < 256 →
+      slice_index_or flags (slice_index (slice_range w.bytes (at - w.start) (end - w.start)) k) false ≡ false → (passed : List Pair) →
+      IsDead (seen_by course text) passed (p, at + k)
+  flag_dead p k flags below tells byte unset passed =
+      byte_dead (seen_by course text) p (at + k) (slice_index (slice_range w.bytes (at - w.start) (end - w.start)) k) (window_byte k below)
+      (λ goes. true≢false (sym ((tells.exact (slice_index (slice_range w.bytes (at - w.start) (end - w.start)) k) byte).1 goes) ∙ unset)) passed

@@ -133,7 +133,7 @@ module _ (s : Sight) (all : List (Trace × Pair)) (at : ℕ) where
           (cut_starts best width at last cut ∙ sym (cut_starts best width (at + 1) last (cut_later best at (at + 1) (omega arith) cut))) x
 
       -- and one from which no walk leads on
-      raced_quiet : (is_open : Bool) → (is_open ≡ false → IsCutOff best at) → (is_open ≡ true → at ≤ last → IsDead s (pairs at items) (0, at)) →
+      pub raced_quiet : (is_open : Bool) → (is_open ≡ false → IsCutOff best at) → (is_open ≡ true → at ≤ last → IsDead s (pairs at items) (0, at)) →
           Races s all at rest items (starts_to width at last) best found → Races s all at rest items (starts_to width (at + 1) last) best found
       raced_quiet false cut dead x = raced_cut (cut refl) x
       raced_quiet true cut dead x =

@@ -18,6 +18,7 @@ ghost use Rattle.rc_pass.specs.Trace.{Trace, trace};
 ghost use Rattle.rc_pass.specs.Windows.{IsWindow, IsBegun, IsAround};
 
 use crate::entrance::is_shut;
+use crate::heads::{is_dead, pass_over};
 use crate::moves::{Move, look_up};
 use crate::pass::{Ending, end_walk, set_out_alone};
 use crate::scratch::Scratch;
@@ -118,6 +119,9 @@ fn only_way(spot: &Spot, place: usize, first: usize, second: usize) -> Option<us
 {
     if is_closed(spot, second) {
         return Some(first);
+    }
+    if is_dead(spot, first) {
+        return Some(second);
     }
     'ways: for round in 0..2u32 {
         let (tested, other) = if round == 0 {
@@ -290,17 +294,27 @@ pub(crate) fn seek(
     let mut here = at;
     let end = limit(window).min(course.last);
     'starts: while here < end {
+        here = pass_over(course, window, way, here, end);
+        if here == end {
+            return (here, None);
+        }
         let spot = spot_at(course, window, here);
-        let Some((place, step)) = onward(&spot, way) else {
+        let first = past_slot(&spot, way);
+        let Some((place, step)) = onward(&spot, first) else {
             return (here, None);
         };
         match step {
             Move::Stops => {}
             Move::Reads(next, to) => {
-                if to == here + 1 {
+                if to != here + 1 {
+                    return (here, None);
+                }
+                if !is_shut(&spot_at(course, window, here + 1), next) {
+                    if first != way {
+                        return (here, None);
+                    }
                     return (here, Some(next));
                 }
-                return (here, None);
             }
             _ => {
                 if !leads_nowhere(&spot, place, None) {
@@ -458,7 +472,17 @@ fn wander(
     go_alone(course, window, best, here, scratch)
 }
 
-/// As `wander`, where `is_on` and there is one thread at most; else the position and the best walk are those given.
+/// Whether starts may be left out, where there is no thread, or the only one may go on alone, where `is_on`.
+#[inline(always)]
+pub(crate) fn is_worth(is_on: bool, skips: bool, threads: usize) -> bool {
+    match threads {
+        0 => skips,
+        1 => is_on,
+        _ => false,
+    }
+}
+
+/// As `wander`, where there is no thread, or one and `is_on`; else the position and the best walk are those given.
 #[inline(always)]
 pub fn glide(
     course: Course,
@@ -490,7 +514,7 @@ pub fn glide(
     ensures within { result ≤ course.entry.hi }
     ensures around { IsAround text result window.now }
 {
-    if !is_on || scratch.curr.len() > 1 {
+    if !is_worth(is_on, skips, scratch.curr.len()) {
         return at;
     }
     wander(course, window, root, skips, best, at, scratch)

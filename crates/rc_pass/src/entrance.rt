@@ -8,6 +8,7 @@ ghost use Rattle.rc_pass.specs.Passing.{Carries};
 ghost use Rattle.rc_pass.specs.Threads.{Thread};
 ghost use Rattle.rc_pass.specs.Trace.{Trace};
 
+use crate::heads::is_dead;
 use crate::moves::{Move, look_up};
 use crate::sparse_set::SparseSet;
 use crate::spot::Spot;
@@ -16,13 +17,13 @@ use rc_program::place::Place;
 /// How many choices a thread is led over at most before it enters.
 const MOST: usize = 4;
 
-/// Whether it is quickly told where a thread goes on from the place.
+/// Whether it is quickly looked up where a thread goes on from the place.
 #[inline(always)]
 fn is_quick(place: &Place) -> bool {
     matches!(place, Place::Dead | Place::Byte(_, _) | Place::Guard(_, _))
 }
 
-/// Whether no thread goes on from the place, where that is quickly told.
+/// Whether no walk leads on from the place, where that is quickly told.
 #[inline(always)]
 pub fn is_shut(spot: &Spot, place: usize) -> bool
     ghost text: { Searched }
@@ -31,7 +32,7 @@ pub fn is_shut(spot: &Spot, place: usize) -> bool
     ensures { IsTrue result → IsShut (seen_from spot.now text) (place, spot.now.at) }
 {
     if !is_quick(&spot.course.program.places[place]) {
-        return false;
+        return is_dead(spot, place);
     }
     match look_up(spot, place) {
         Move::Stops => true,

@@ -1,11 +1,14 @@
 //! Places from which the byte that stands next lets no walk go on, whatever assertions say.
-ghost use Rattle.std.specs.Prelude.{◌<◌, IsTrue, List};
+ghost use Rattle.std.specs.Prelude.{◌≡◌, ◌<◌, ◌≤◌, IsTrue, List, false, ℕ, length, slice_index, slice_index_or};
 ghost use Rattle.rc_text.specs.Text.{Searched};
 ghost use Rattle.rc_walks.specs.Walks.{Pair};
 ghost use Rattle.rc_pass.specs.Alone.{IsDead};
+ghost use Rattle.rc_pass.specs.Moves.{IsSetting, seen_by};
 ghost use Rattle.rc_pass.specs.Near.{IsHere, seen_from, size};
+ghost use Rattle.rc_pass.specs.Windows.{IsAround, IsBegun, IsWindow};
 
-use crate::spot::Spot;
+use crate::spot::{Course, Spot};
+use crate::window::Window;
 
 /// Whether no walk leads on from the place, where that is told by the byte that stands next.
 #[inline(always)]
@@ -22,4 +25,47 @@ pub(crate) fn is_dead(spot: &Spot, place: usize) -> bool
         Some(goes) => !goes,
         None => false,
     }
+}
+
+/// How many of the bytes stand before the first one of which the flag is set.
+fn unset_before(bytes: &[u8], flags: &[bool]) -> usize
+    requires { length flags.now ≡ 256 }
+    ensures within { result ≤ length bytes.now }
+    ensures small { (k : ℕ) → k < length bytes.now → slice_index bytes.now k < 256 }
+    ensures unset { (k : ℕ) → k < result → slice_index_or flags.now (slice_index bytes.now k) false ≡ false }
+{
+    for (i, byte) in bytes.iter().enumerate() {
+        if flags[*byte as usize] {
+            return i;
+        }
+    }
+    bytes.len()
+}
+
+/// The first position from `at` on, up to `end`, at which a walk may lead on from the place, as the bytes tell that stand there.
+#[inline(always)]
+pub(crate) fn pass_over(
+    course: Course,
+    window: &Window,
+    place: usize,
+    at: usize,
+    end: usize,
+) -> usize
+    ghost text: { Searched }
+    requires setting { IsSetting course text }
+    requires window { IsWindow text window.now }
+    requires begun { IsBegun text at window.now }
+    requires around { (y : ℕ) → y ≤ end → IsAround text y window.now }
+    requires ordered { at ≤ end }
+    requires within { end ≤ course.hi }
+    requires place_in { place < size course }
+    ensures later { at ≤ result }
+    ensures within { result ≤ end }
+    ensures dead { (y : ℕ) → at ≤ y → y < result → (passed : List Pair) → IsDead (seen_by course.entry text) passed (place, y) }
+{
+    let Some(flags) = course.program.head_table(place) else {
+        return at;
+    };
+    let first = at - window.start;
+    at + unset_before(&window.bytes[first..end - window.start], flags)
 }

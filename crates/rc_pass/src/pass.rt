@@ -20,6 +20,7 @@ use crate::alone::glide;
 use crate::closure::close;
 use crate::entrance::entrance;
 use crate::growth::{Growth, copy_row};
+use crate::heads::is_dead;
 use crate::scratch::Scratch;
 use crate::spot::{Course, Spot};
 use crate::threads::{Head, Threads};
@@ -163,6 +164,9 @@ fn advance(
         return Some(end);
     }
     if !is_open || spot.at > spot.course.last {
+        return None;
+    }
+    if is_dead(spot, 0) {
         return None;
     }
     empty(&mut growth.slots);

@@ -14,6 +14,7 @@ ghost use Rattle.rc_pass.specs.Scratches.{IsSame};
 
 use crate::entrance::way_in;
 use crate::growth::{Growth, copy_row};
+use crate::heads::is_dead;
 use crate::pass::{Ending, PATIENCE, empty, is_idle, next_position, patience_left};
 use crate::race_alone::glide;
 use crate::race_closure::{is_sought, run};
@@ -102,6 +103,9 @@ fn advance(
         return;
     }
     if !is_sought(*best, spot.at) {
+        return;
+    }
+    if is_dead(spot, 0) {
         return;
     }
     empty(&mut growth.slots);

@@ -9,7 +9,7 @@ ghost use Rattle.rc_pass.specs.Races.{IsRunFrom};
 ghost use Rattle.rc_pass.specs.Scratches.{IsSame};
 ghost use Rattle.rc_pass.specs.Windows.{IsWindow, IsBegun, IsAround};
 
-use crate::alone::{move_alone, opening, run, seek};
+use crate::alone::{is_worth, move_alone, opening, run, seek};
 use crate::pass::{Ending, end_walk, set_out_alone};
 use crate::scratch::Scratch;
 use crate::spot::Course;
@@ -159,7 +159,7 @@ fn wander(
     go_alone(course, window, way, best, here, scratch)
 }
 
-/// As `wander`, where `is_on` and there is one thread at most; else the position and the best walk are those given.
+/// As `wander`, where there is no thread, or one and `is_on`; else the position and the best walk are those given.
 #[inline(always)]
 pub fn glide(
     course: Course,
@@ -188,7 +188,7 @@ pub fn glide(
     ensures within { result ≤ course.entry.hi }
     ensures around { IsAround text result window.now }
 {
-    if !is_on || scratch.curr.len() > 1 {
+    if !is_worth(is_on, skips, scratch.curr.len()) {
         return at;
     }
     wander(course, window, skips, best, at, scratch)

@@ -8,6 +8,9 @@ use Rattle.rc_pass.proofs.alone.only_way.Goals.{then-round-eq0, else-round-eq0}
 pub returns-then-is_closed : goal.returns-then-is_closed
 returns-then-is_closed g c = inl (refl, c.is_closed.ensures c.if-is_closed.true ((c.args.place, c.args.spot.now.at) ∷ []))
 
+pub returns-then-is_dead : goal.returns-then-is_dead
+returns-then-is_dead g c = inr (refl, c.is_dead.ensures c.if-is_dead.true ((c.args.place, c.args.spot.now.at) ∷ []))
+
 pub returns-then-leads_nowhere : goal.returns-then-leads_nowhere
 returns-then-leads_nowhere g c =
     let s : Sight = seen_from c.args.spot.now g.text in

@@ -5,3 +5,6 @@ ghost-leads_nowhere g a = g.text
 
 abbrev pub ghost-is_closed : goal.ghost-is_closed
 ghost-is_closed g a = g.text
+
+abbrev pub ghost-is_dead : goal.ghost-is_dead
+ghost-is_dead g a = g.text

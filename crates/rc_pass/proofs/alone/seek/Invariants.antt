@@ -26,3 +26,9 @@ ghost-onward g a = g.text
 
 abbrev pub ghost-leads_nowhere : goal.ghost-leads_nowhere
 ghost-leads_nowhere g a = g.text
+
+abbrev pub ghost-pass_over : goal.ghost-pass_over
+ghost-pass_over g a = g.text
+
+abbrev pub ghost-is_shut : goal.ghost-is_shut
+ghost-is_shut g a = g.text

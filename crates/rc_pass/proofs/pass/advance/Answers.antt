@@ -2,8 +2,9 @@ use Rattle.std.proofs.Common.{◌≡◌, ℕ, ◌+◌, List, ◌∷◌, sym, ap,
 use Rattle.rc_walks.specs.Walks.{Pair}
 use Rattle.rc_pass.specs.Near.{seen_from}
 use Rattle.rc_pass.specs.Trace.{Trace, trace}
-use Rattle.rc_pass.specs.Passing.{Carries, waiting_starts}
+use Rattle.rc_pass.specs.Passing.{Carries, pairs, waiting_starts}
 use Rattle.rc_pass.proofs.StartLemmas.{waiting_next}
+use Rattle.rc_pass.proofs.AloneLemmas.{quiet_start}
 use Rattle.rc_pass.proofs.pass.advance.Goals as goal
 
 pub returns-in-Some-clause-begun : goal.returns-in-Some-clause-begun
@@ -52,3 +53,15 @@ returns-clause-carries g c best o x =
     ((trace at l, (0, at)) ∷ rest) best o) slots
     (c.entrance-place.ensures.carries (trace at c.empty.new.slots.items) c.step.new.growth.threads.items rest best o
     (c.in_default-close.ensures.carries rest best o x))))
+
+pub returns-then-is_dead-clause-carries : goal.returns-then-is_dead-clause-carries
+returns-then-is_dead-clause-carries g c best o x =
+    let at : ℕ = c.args.spot.now.at in
+    let width : ℕ = c.args.growth.now.threads.width in
+    let last : ℕ = c.args.spot.now.course.last in
+    c.in_default.ensures.carries (waiting_starts c.args.is_open width at last) best o
+    (quiet_start (seen_from c.args.spot.now g.text) at width last best o c.args.is_open c.step.new.growth.threads.items c.step.new.growth.entered.items
+    (λ _ _. c.is_dead.ensures c.if-is_dead.true (pairs at c.step.new.growth.entered.items)) x)
+
+pub returns-then-is_dead-clause-begun : goal.returns-then-is_dead-clause-begun
+returns-then-is_dead-clause-begun g c x l h = c.in_default.ensures.begun x h

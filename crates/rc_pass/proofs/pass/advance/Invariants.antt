@@ -11,3 +11,6 @@ ghost-set_out g a = g.text
 
 abbrev pub ghost-entrance : goal.ghost-entrance
 ghost-entrance g a = g.text
+
+abbrev pub ghost-is_dead : goal.ghost-is_dead
+ghost-is_dead g a = g.text

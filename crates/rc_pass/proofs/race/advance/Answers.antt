@@ -1,8 +1,10 @@
-use Rattle.std.proofs.Common.{◌≡◌, ℕ, ◌+◌, ◌<◌, List, ◌∷◌, sym, ap, subst, ◌∙◌, arith, None, replicate}
+use Rattle.std.proofs.Common.{◌≡◌, ℕ, ◌+◌, ◌<◌, List, ◌∷◌, sym, ap, subst, ◌∙◌, arith, true, true≢false, None, replicate}
 use Rattle.rc_walks.specs.Walks.{Pair}
 use Rattle.rc_pass.specs.Near.{seen_from}
 use Rattle.rc_pass.specs.Trace.{Trace, trace, sets_out}
+use Rattle.rc_pass.specs.Passing.{pairs}
 use Rattle.rc_pass.specs.Races.{Races, starts_to}
+use Rattle.rc_pass.proofs.RaceAloneLemmas.{raced_quiet}
 use Rattle.rc_pass.proofs.RaceMoveLemmas.{raced_drops, raced_way_in}
 use Rattle.rc_pass.proofs.RacePassLemmas.{starts_next, starts_over}
 use Rattle.rc_pass.proofs.race.advance.Goals as goal
@@ -53,3 +55,15 @@ returns-clause-races g c all x =
 
 pub returns-clause-begun : goal.returns-clause-begun
 returns-clause-begun g c x l h = c.run.ensures.grown.begun x l (c.step.ensures.begun x h)
+
+pub returns-then-is_dead-clause-races : goal.returns-then-is_dead-clause-races
+returns-then-is_dead-clause-races g c all x =
+    let at : ℕ = c.args.spot.now.at in
+    let width : ℕ = c.args.growth.now.threads.width in
+    let last : ℕ = c.args.spot.now.course.last in
+    raced_quiet (seen_from c.args.spot.now g.text) all at c.step.new.growth.threads.items c.step.new.growth.entered.items c.step.new.best c.step.new.found
+    width last true (λ e. absurd (true≢false e)) (λ _ _. c.is_dead.ensures c.if-is_dead.true (pairs at c.step.new.growth.entered.items))
+    (c.step.ensures.races all (starts_to width at last) x)
+
+pub returns-then-is_dead-clause-begun : goal.returns-then-is_dead-clause-begun
+returns-then-is_dead-clause-begun g c x l h = c.step.ensures.begun x h

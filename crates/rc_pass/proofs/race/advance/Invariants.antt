@@ -8,3 +8,6 @@ ghost-run g a = g.text
 
 abbrev pub ghost-way_in : goal.ghost-way_in
 ghost-way_in g a = g.text
+
+abbrev pub ghost-is_dead : goal.ghost-is_dead
+ghost-is_dead g a = g.text
