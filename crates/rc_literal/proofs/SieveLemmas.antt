@@ -1,5 +1,5 @@
 -- Places that a sieve passes over.
-use Rattle.std.proofs.Common.{◌≡◌, ℕ, ◌+◌, ◌*◌, ◌/◌, ◌%◌, ◌^◌, ◌<◌, ◌≤◌, ◌-◌, ◌++◌, List, map, take, drop, length, eqb, not, true, false, get_or, replicate, cond, slice_index, bit_and, bit_or, inl, inr, ap, sym, refl, ◌∙◌, arith, w8}
+use Rattle.std.proofs.Common.{◌≡◌, ℕ, ◌+◌, ◌*◌, ◌/◌, ◌%◌, ◌^◌, ◌<◌, ◌≤◌, ◌-◌, ◌++◌, List, map, take, drop, length, eqb, not, true, false, get_or, replicate, cond, slice_index, bit_and, bit_or, subst, inl, inr, ap, sym, refl, ◌∙◌, arith, w8}
 use Rattle.std.specs.Int.{bit_at, trailing_zeros}
 use Rattle.std.specs.Int.Bits.{or_add_and}
 use Rattle.std.specs.List.{range_with_len}
@@ -8,7 +8,7 @@ use Rattle.std.proofs.lemmas.Bool.{cases_lt}
 use Rattle.std.proofs.lemmas.Bool.Decides.{nat_tests}
 use Rattle.std.proofs.lemmas.List.{get_or-append_right, get_or-map, get_or-take, get_or-drop, get_or_append_left, length-map}
 use Rattle.std.proofs.lemmas.List.FromFn.{get_or-range_with_len, length-range_with_len}
-use Rattle.std.proofs.lemmas.Nat.{and_mask}
+use Rattle.std.proofs.lemmas.Nat.{and_mask, le_or_l, le_or_r}
 use Rattle.std.proofs.lemmas.Nat.Bits.{bit_at_and, bit_at_or, bit_at-zero, bit_at-trailing_zeros, bit_at_cat_high}
 use Rattle.std.proofs.lemmas.Simd.{bitmask_splat, bit_mask_l, mask_l-lt, length-chunk, get_or-chunk, length-zip2, get_or-zip2, get_or-replicate, length-swz_l, get_or-swz_l_below, swz_l, SwzOk, SwzOk-from_below, Each1-from_get_or}
 use Rattle.rc_literal.specs.declared.sieve.Sift.{Sift}
@@ -82,14 +82,13 @@ nonzero_fit v long =
     rw (bitmask_splat w8 (λ a b. not (eqb a b)) v 16 0 long (omega arith)) (rw all at lt)
 
 -- and each of them is set
-pub nonzero_set : (v : List ℕ) (f : ℕ → ℕ) (k : ℕ) → AreLanes v f → k < 16 → 0 < f k →
+pub nonzero_set : (v : List ℕ) (k : ℕ) → length v ≡ 16 → k < 16 → 0 < slice_index v k →
     bit_at (mask_l (map (top 7) (zip2 (λ a b. cond (not (eqb a b)) 255 0) v (replicate 16 0))) % 2 ^ 64) k ≡ 1
-nonzero_set v f k p small some =
-    let e = p.each k small in
-    let passes : not (eqb (get_or v k 0) 0) ≡ true = let more : 0 < get_or v k 0 = omega (arith, e, some) in grind (arith, nat_tests) in
-    ap (λ m. bit_at m k) (bitmask_splat w8 (λ a b. not (eqb a b)) v 16 0 p.long (omega arith))
+nonzero_set v k long small some =
+    let passes : not (eqb (get_or v k 0) 0) ≡ true = grind (arith, nat_tests) in
+    ap (λ m. bit_at m k) (bitmask_splat w8 (λ a b. not (eqb a b)) v 16 0 long (omega arith))
     ∙ bit_mask_l (map (λ x. not (eqb x 0)) v) k
-    ∙ ap (λ b. cond b 1 0) (get_or-map (λ x. not (eqb x 0)) v k 0 false (omega (arith, small, p.long)) ∙ passes)
+    ∙ ap (λ b. cond b 1 0) (get_or-map (λ x. not (eqb x 0)) v k 0 false (omega (arith, small, long)) ∙ passes)
 
 bit_at_below : (a k : ℕ) → bit_at a k < 2
 bit_at_below a k = omega arith
@@ -131,31 +130,56 @@ halves_fit low high a b =
     let both = or_add_and low (high * 2 ^ 16 % 2 ^ 64) in
     omega (arith, both, a, b)
 
-pub halves_marked : (s : Sieve) (piece : List ℕ) (back at low high : ℕ) → high < 2 ^ 16 → AreMarked s piece back 16 at low →
-    AreMarked s piece back 16 (at + 16) high → AreMarked s piece back 32 at (bit_or low (high * 2 ^ 16 % 2 ^ 64))
-halves_marked s piece back at low high small ones twos k place l there some =
+pub low_set : (low high k : ℕ) → 0 < bit_at low k → 0 < bit_at (bit_or low (high * 2 ^ 16 % 2 ^ 64)) k
+low_set low high k some = let either = bit_at_or low (high * 2 ^ 16 % 2 ^ 64) k in omega (arith, either, some)
+
+pub high_set : (low high k : ℕ) → high < 2 ^ 16 → 0 < bit_at high k → 0 < bit_at (bit_or low (high * 2 ^ 16 % 2 ^ 64)) (16 + k)
+high_set low high k small some =
     let above : ℕ = high * 2 ^ 16 % 2 ^ 64 in
-    let either = bit_at_or low above k in
-    let x = bit_at_below low k in
-    let y = bit_at_below above k in
+    let either = bit_at_or low above (16 + k) in
+    let same : above ≡ high * 2 ^ 16 + 0 = omega (arith, small) in
+    let inside : 16 + k - 16 ≡ k = omega arith in
+    let bit : bit_at above (16 + k) ≡ bit_at high k =
+    ap (λ n. bit_at n (16 + k)) same ∙ bit_at_cat_high high 16 0 (16 + k) (omega arith) (omega arith) ∙ ap (bit_at high) inside in
+    omega (arith, either, bit, some)
+
+-- a number that isn't 0 in one of two vectors
+pub some_low : (u v : List ℕ) (k : ℕ) → length u ≡ 16 → length v ≡ 16 → k < 16 → 0 < slice_index u k → 0 < slice_index (zip2 bit_or u v) k
+some_low u v k p q l some =
+    let e = get_or-zip2 bit_or u v k 0 0 0 (omega (arith, l, p)) (omega (arith, l, q)) in
+    let le = le_or_l (slice_index u k) (slice_index v k) in
+    omega (arith, e, le, some)
+
+pub some_high : (u v : List ℕ) (k : ℕ) → length u ≡ 16 → length v ≡ 16 → k < 16 → 0 < slice_index v k → 0 < slice_index (zip2 bit_or u v) k
+some_high u v k p q l some =
+    let e = get_or-zip2 bit_or u v k 0 0 0 (omega (arith, l, p)) (omega (arith, l, q)) in
+    let le = le_or_r (slice_index u k) (slice_index v k) in
+    omega (arith, e, le, some)
+
+-- what two vectors mark side by side
+pub both_marked : (s : Sieve) (piece u v : List ℕ) (back at bits : ℕ) → ((k : ℕ) → k < 16 → 0 < slice_index u k → 0 < bit_at bits k) →
+    ((k : ℕ) → k < 16 → 0 < slice_index v k → 0 < bit_at bits (16 + k)) → AreMarked s piece back 16 at (slice_index u) →
+    AreMarked s piece back 16 (at + 16) (slice_index v) → AreMarked s piece back 32 at (bit_at bits)
+both_marked s piece u v back at bits low high ones twos k place l there some =
     elim (cases_lt k 16) [
-      | inl h ↦ let one = ones k place h there some in omega (arith, either, one, y)
+      | inl h ↦ low k h (ones k place h there some)
       | inr g ↦
-          let two = twos (k - 16) place (omega (arith, l, g)) (omega (arith, g, there)) some in
-          let same : above ≡ high * 2 ^ 16 + 0 = omega (arith, small) in
-          let bit : bit_at above k ≡ 1 = ap (λ n. bit_at n k) same ∙ bit_at_cat_high high 16 0 k (omega arith) g ∙ two in
-          omega (arith, either, bit, x)
+          let same : 16 + (k - 16) ≡ k = omega (arith, g) in
+          subst (λ i. 0 < bit_at bits i) same
+          (high (k - 16) (omega (arith, l, g)) (twos (k - 16) place (omega (arith, l, g)) (omega (arith, g, there)) some))
     ]
 
--- the bits that a vector has of the places from one on
+-- what a vector marks from a place on
 pub lanes_marked : (s : Sieve) (piece v : List ℕ) (f : ℕ → ℕ) (at : ℕ) → AreLanes v f →
     ((k : ℕ) → 0 < sifted s (slice_index piece (at + k)) (slice_index piece (at + 1 + k)) (slice_index piece (at + 2 + k)) → 0 < f k) →
-    AreMarked s piece 0 16 at (mask_l (map (top 7) (zip2 (λ a b. cond (not (eqb a b)) 255 0) v (replicate 16 0))) % 2 ^ 64)
+    AreMarked s piece 0 16 at (slice_index v)
 lanes_marked s piece v f at lanes some k place l there taken =
     let first : place ≡ at + k = omega (arith, there) in
     let second : place + 1 ≡ at + 1 + k = omega (arith, there) in
     let third : place + 2 ≡ at + 2 + k = omega (arith, there) in
-    nonzero_set v f k lanes l (some k (rw (← first, ← second, ← third) taken))
+    let more = some k (rw (← first, ← second, ← third) taken) in
+    let e = lanes.each k l in
+    omega (arith, e, more)
 
 -- 16 of the numbers in a list, one after another
 pub picked : (xs : List ℕ) (n : ℕ) → AreLanes (pick_l 0 xs (range_with_len n 16)) (λ k. slice_index xs (n + k))
@@ -180,7 +204,7 @@ taken_back t piece u v at n k place some before now l there =
 
 -- no needle that is sifted agrees where no bit is set
 pub no_sifted_from : (s : Sieve) (piece needle : List ℕ) (back n at bits to place : ℕ) → ((i : ℕ) → slice_index piece i < 256) → IsSifted s needle →
-    AreMarked s piece back n at bits → ((i : ℕ) → i < to → bit_at bits i ≡ 0) → to ≤ n → at + n + 2 ≤ length piece + back → at ≤ place + back →
+    AreMarked s piece back n at (bit_at bits) → ((i : ℕ) → i < to → bit_at bits i ≡ 0) → to ≤ n → at + n + 2 ≤ length piece + back → at ≤ place + back →
     place + back < at + to → ¬ Agrees piece needle place
 no_sifted_from s piece needle back n at bits to place small is set zeros fits room low high agrees =
     let i : ℕ = place + back - at in
@@ -199,7 +223,7 @@ abbrev pub NoneSifted : Sieve → List ℕ → ℕ → ℕ → Type 0
 NoneSifted s piece from to = (needle : List ℕ) → IsSifted s needle → (k : ℕ) → from ≤ k → k < to → ¬ Agrees piece needle k
 
 pub no_sifted_there : (s : Sieve) (piece : List ℕ) (from seen end back n at bits to : ℕ) → ((i : ℕ) → slice_index piece i < 256) → NoneSifted s piece from seen →
-    at ≤ seen + back → AreMarked s piece back n at bits → ((i : ℕ) → i < to → bit_at bits i ≡ 0) → to ≤ n → at + n + 2 ≤ length piece + back →
+    at ≤ seen + back → AreMarked s piece back n at (bit_at bits) → ((i : ℕ) → i < to → bit_at bits i ≡ 0) → to ≤ n → at + n + 2 ≤ length piece + back →
     end + back ≤ at + to → NoneSifted s piece from end
 no_sifted_there s piece from seen end back n at bits to small before near set zeros fits room last needle is k low high =
     elim (cases_lt k seen) [
@@ -208,7 +232,11 @@ no_sifted_there s piece from seen end back n at bits to small before near set ze
     ]
 
 -- where no bit of a half is set
-pub none_in_half : (s : Sieve) (piece : List ℕ) (from to bits : ℕ) → ((i : ℕ) → slice_index piece i < 256) → AreMarked s piece 0 16 from bits → bits ≡ 0 →
+pub half_marked : (s : Sieve) (piece v : List ℕ) (at bits : ℕ) → ((k : ℕ) → k < 16 → 0 < slice_index v k → 0 < bit_at bits k) →
+    AreMarked s piece 0 16 at (slice_index v) → AreMarked s piece 0 16 at (bit_at bits)
+half_marked s piece v at bits set marked k place l there some = set k l (marked k place l there some)
+
+pub none_in_half : (s : Sieve) (piece : List ℕ) (from to bits : ℕ) → ((i : ℕ) → slice_index piece i < 256) → AreMarked s piece 0 16 from (bit_at bits) → bits ≡ 0 →
     from + 18 ≤ length piece → to ≤ from + 16 → NoneSifted s piece from to
 none_in_half s piece from to bits small set zero room near needle is k low high =
     no_sifted_from s piece needle 0 16 from bits 16 k small is set (λ i _. zero_bits bits i zero) (omega arith) (omega (arith, room)) (omega (arith, low))

@@ -1,7 +1,6 @@
 -- Only proofs use this file.
 -- What a sieve lets through.
 use Rattle.std.specs.Prelude.{◌≡◌, ℕ, ◌+◌, ◌/◌, ◌%◌, ◌<◌, List, bit_and, length, slice_index}
-use Rattle.std.specs.Int.{bit_at}
 use Rattle.rc_literal.specs.Tables.{numbered}
 use Rattle.rc_literal.specs.declared.sieve.Sift.{Sift}
 use Rattle.rc_literal.specs.declared.sieve.Sieve.{Sieve}
@@ -20,11 +19,11 @@ buckets t byte = bit_and (slice_index t.low (byte % 16)) (slice_index t.high (by
 abbrev pub sifted : Sieve → ℕ → ℕ → ℕ → ℕ
 sifted s a b c = bit_and (buckets s.first a) (bit_and (buckets s.second b) (buckets s.third c))
 
--- Of n places bits say where a bucket takes the three bytes from there on. The bit k is that of the place
--- which is so many behind `at` as k is above `back`.
-abbrev pub AreMarked : Sieve → List ℕ → ℕ → ℕ → ℕ → ℕ → Type 0
-AreMarked s piece back n at bits = (k place : ℕ) → k < n → place + back ≡ at + k →
-    0 < sifted s (slice_index piece place) (slice_index piece (place + 1)) (slice_index piece (place + 2)) → bit_at bits k ≡ 1
+-- Of n places a function says where a bucket takes the three bytes from there on: by what it has at k, of
+-- the place which is so many behind `at` as k is above `back`.
+abbrev pub AreMarked : Sieve → List ℕ → ℕ → ℕ → ℕ → (ℕ → ℕ) → Type 0
+AreMarked s piece back n at marks = (k place : ℕ) → k < n → place + back ≡ at + k →
+    0 < sifted s (slice_index piece place) (slice_index piece (place + 1)) (slice_index piece (place + 2)) → 0 < marks k
 
 -- a vector of the buckets that take each of the 16 bytes of a piece before a place, where there are as many
 pub record AreTaken (t : Sift) (piece : List ℕ) (end : ℕ) (v : List ℕ) : Type 0 where

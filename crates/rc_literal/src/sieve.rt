@@ -146,34 +146,21 @@ impl Sieve {
         bits != 0
     }
 
-    /// A number whose bit k is set where a bucket takes the three bytes from `at + k` on, or in a set the
-    /// first of them, for each k below 32.
+    /// The buckets that take the three bytes from `at + k` on, or in a set the first of them, for each k
+    /// below 16.
     #[inline(always)]
-    fn marks(&self, piece: &[u8], at: usize) -> u64
-        requires { at + 34 ≤ length piece.now }
-        ensures small { result < 2 ^ 32 }
-        ensures set { AreMarked self.now piece.now 0 32 at result }
-    {
-        let low = self.half_marks(piece, at);
-        let high = self.half_marks(piece, at + HALF);
-        low | high << HALF
-    }
-
-    /// The same for each k below 16.
-    #[inline(always)]
-    fn half_marks(&self, piece: &[u8], at: usize) -> u64
+    fn taken_from(&self, piece: &[u8], at: usize) -> u8x16
         requires { at + 18 ≤ length piece.now }
-        ensures small { result < 2 ^ 16 }
-        ensures set { AreMarked self.now piece.now 0 16 at result }
+        ensures long { length result ≡ 16 }
+        ensures set { AreMarked self.now piece.now 0 16 at (slice_index result) }
     {
         let first = self.first.lanes(piece, at);
         if self.is_set {
-            return first.simd_ne(u8x16::splat(0)).to_bitmask();
+            return first;
         }
         let second = self.second.lanes(piece, at + 1);
         let third = self.third.lanes(piece, at + 2);
-        let bits = first & (second & third);
-        bits.simd_ne(u8x16::splat(0)).to_bitmask()
+        first & (second & third)
     }
 
     /// What each of the 16 bytes from a place on is taken as.
@@ -188,20 +175,19 @@ impl Sieve {
         }
     }
 
-    /// A number whose bit k is set where a bucket takes three bytes of which the last stands at `at + k`, for
-    /// each k below 16. Given is what these 16 bytes and the 16 before them are taken as.
+    /// The buckets that take three bytes of which the last stands at `at + k`, for each k below 16. Given is
+    /// what these 16 bytes and the 16 before them are taken as.
     #[inline(always)]
-    fn marks_behind(&self, before: Begun, now: Begun, piece: &[u8], at: usize) -> u64
+    fn taken_behind(&self, before: Begun, now: Begun, piece: &[u8], at: usize) -> u8x16
         requires inside { at + 16 ≤ length piece.now }
         requires before { HaveBegun self.now piece.now at before }
         requires now { HaveBegun self.now piece.now (at + 16) now }
-        ensures small { result < 2 ^ 16 }
-        ensures set { AreMarked self.now piece.now 2 16 at result }
+        ensures long { length result ≡ 16 }
+        ensures set { AreMarked self.now piece.now 2 16 at (slice_index result) }
     {
         let first = two_back(before.first, now.first);
         let second = one_back(before.second, now.second);
-        let bits = first & (second & self.third.lanes(piece, at));
-        bits.simd_ne(u8x16::splat(0)).to_bitmask()
+        first & (second & self.third.lanes(piece, at))
     }
 
     /// The first place of the piece where a bucket takes three bytes. Where there is none, the place
@@ -228,7 +214,9 @@ impl Sieve {
         let last = piece.len() - LEAST_PIECE;
         let mut at = 0;
         while at + HALF < last {
-            let marks = self.marks(piece, at);
+            let low = self.taken_from(piece, at);
+            let high = self.taken_from(piece, at + HALF);
+            let marks = marks_of_both(low, high);
             if marks != 0 {
                 return at + lowest(marks);
             }
@@ -249,9 +237,9 @@ impl Sieve {
         while at + LANES <= piece.len() {
             let low = self.begun(piece, at);
             let high = self.begun(piece, at + HALF);
-            let lows = self.marks_behind(before, low, piece, at);
-            let highs = self.marks_behind(low, high, piece, at + HALF);
-            let marks = lows | highs << HALF;
+            let lows = self.taken_behind(before, low, piece, at);
+            let highs = self.taken_behind(low, high, piece, at + HALF);
+            let marks = marks_of_both(lows, highs);
             if marks != 0 {
                 return (at + lowest(marks)).saturating_sub(2);
             }
@@ -274,12 +262,12 @@ impl Sieve {
     {
         let last = piece.len() - LEAST_PIECE;
         if from < last {
-            let marks = self.half_marks(piece, from);
+            let marks = marks_of(self.taken_from(piece, from));
             if marks != 0 {
                 return from + lowest(marks);
             }
         }
-        let marks = self.half_marks(piece, last);
+        let marks = marks_of(self.taken_from(piece, last));
         if marks != 0 {
             return last + lowest(marks);
         }
@@ -311,6 +299,40 @@ fn one_back(before: u8x16, now: u8x16) -> u8x16
             15, 16, 17, 18, 19, 20, 21, 22, 23, 24, 25, 26, 27, 28, 29, 30,
         ],
     )
+}
+
+/// Whether one of the numbers isn't 0.
+#[inline(always)]
+fn has_some(lanes: u8x16) -> bool
+    requires { length lanes ≡ 16 }
+    ensures { (k : ℕ) → k < 16 → 0 < slice_index lanes k → IsTrue result }
+{
+    lanes.simd_ne(u8x16::splat(0)).to_bitmask() != 0
+}
+
+/// A number whose bit k is set where the number at k isn't 0.
+#[inline(always)]
+fn marks_of(lanes: u8x16) -> u64
+    requires { length lanes ≡ 16 }
+    ensures small { result < 2 ^ 16 }
+    ensures set { (k : ℕ) → k < 16 → 0 < slice_index lanes k → 0 < bit_at result k }
+{
+    lanes.simd_ne(u8x16::splat(0)).to_bitmask()
+}
+
+/// The same of two vectors side by side.
+#[inline(always)]
+fn marks_of_both(low: u8x16, high: u8x16) -> u64
+    requires low { length low ≡ 16 }
+    requires high { length high ≡ 16 }
+    ensures small { result < 2 ^ 32 }
+    ensures low { (k : ℕ) → k < 16 → 0 < slice_index low k → 0 < bit_at result k }
+    ensures high { (k : ℕ) → k < 16 → 0 < slice_index high k → 0 < bit_at result (16 + k) }
+{
+    if !has_some(low | high) {
+        return 0;
+    }
+    marks_of(low) | marks_of(high) << HALF
 }
 
 /// A sieve for these needles, where they are few enough.

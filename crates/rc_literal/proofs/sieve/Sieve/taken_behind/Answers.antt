@@ -1,13 +1,12 @@
 use Rattle.std.proofs.Common.{◌≡◌, ℕ, ◌+◌, ◌++◌, ◌<◌, arith, slice_index, bit_and}
-use Rattle.std.specs.Simd.Lanes.{zip2}
 use Rattle.rc_literal.specs.Sieves.{buckets}
-use Rattle.rc_literal.proofs.SieveLemmas.{lanes_and, nonzero_fit, nonzero_set, taken_back}
-use Rattle.rc_literal.proofs.sieve.Sieve.marks_behind.Goals as goal
+use Rattle.rc_literal.proofs.SieveLemmas.{lanes_and, taken_back}
+use Rattle.rc_literal.proofs.sieve.Sieve.taken_behind.Goals as goal
 
-pub returns-clause-small : goal.returns-clause-small
-returns-clause-small c =
+pub returns-clause-long : goal.returns-clause-long
+returns-clause-long c =
     let all = lanes_and _ _ _ _ c.two_back-first.ensures (lanes_and _ _ _ _ c.one_back-second.ensures c.lanes.ensures) in
-    nonzero_fit (zip2 bit_and c.two_back-first.result (zip2 bit_and c.one_back-second.result c.lanes.result)) all.long
+    all.long
 
 pub returns-clause-set : goal.returns-clause-set
 returns-clause-set c k place l there some =
@@ -23,4 +22,5 @@ returns-clause-set c k place l there some =
     (omega (arith, there)) in
     let third : place + 2 ≡ at + k = there in
     let taken : 0 < f k = rw (one, two, ← third) some in
-    nonzero_set (zip2 bit_and c.two_back-first.result (zip2 bit_and c.one_back-second.result c.lanes.result)) f k all l taken
+    let e = all.each k l in
+    omega (arith, e, taken)

@@ -2,13 +2,13 @@ use Rattle.std.proofs.Common.{◌+◌, arith, slice_index, bit_and}
 use Rattle.std.proofs.lemmas.Nat.{and_le_l}
 use Rattle.std.specs.Simd.Lanes.{zip2}
 use Rattle.rc_literal.specs.Sieves.{buckets, sifted}
-use Rattle.rc_literal.proofs.SieveLemmas.{lanes_and, lanes_marked, nonzero_fit}
-use Rattle.rc_literal.proofs.sieve.Sieve.half_marks.Goals as goal
+use Rattle.rc_literal.proofs.SieveLemmas.{lanes_and, lanes_marked}
+use Rattle.rc_literal.proofs.sieve.Sieve.taken_from.Goals as goal
 
-pub returns-clause-small : goal.returns-clause-small
-returns-clause-small c =
+pub returns-clause-long : goal.returns-clause-long
+returns-clause-long c =
     let all = lanes_and _ _ _ _ c.lanes-first.ensures (lanes_and _ _ _ _ c.lanes-second.ensures c.lanes-third.ensures) in
-    nonzero_fit (zip2 bit_and c.lanes-first.result (zip2 bit_and c.lanes-second.result c.lanes-third.result)) all.long
+    all.long
 
 pub returns-clause-set : goal.returns-clause-set
 returns-clause-set c =
@@ -18,9 +18,6 @@ returns-clause-set c =
     let at = c.args.at in
     lanes_marked s piece (zip2 bit_and c.lanes-first.result (zip2 bit_and c.lanes-second.result c.lanes-third.result))
     (λ j. sifted s (slice_index piece (at + j)) (slice_index piece (at + 1 + j)) (slice_index piece (at + 2 + j))) at all (λ k some. some)
-
-pub returns-then-self-clause-small : goal.returns-then-self-clause-small
-returns-then-self-clause-small c = nonzero_fit c.lanes-first.result c.lanes-first.ensures.long
 
 pub returns-then-self-clause-set : goal.returns-then-self-clause-set
 returns-then-self-clause-set c =
