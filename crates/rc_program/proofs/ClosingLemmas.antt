@@ -112,11 +112,12 @@ opens_both m n xs ys zs h k = record {
       (Contains-append_cases (m ∷ []) (n ∷ []) q c);
 }
 
-pub opened_begins : (places : List Place) (p : ℕ) (opened : List ℕ) → opened ≡ p ∷ [] → AreOpened places p 0 opened
-opened_begins places p opened e = record {
-  starts = subst (λ l. Contains l p) (sym e) (Contains-push [] p);
-  reached = λ q c. ⊎_elim (λ (a : Contains [] q). absurd (omega (arith, a.1))) (λ s. subst (Reaches places p) s here)
-      (Contains-push_cases [] p q (subst (λ l. Contains l q) e c));
+pub opened_begins : (places : List Place) (p : ℕ) (none opened : List ℕ) → none ≡ [] → Opens (p ∷ []) none opened → AreOpened places p 0 opened
+opened_begins places p none opened e h = record {
+  starts = h.has p (Contains-push [] p);
+  reached = λ q c. ⊎_elim (λ (a : Contains none q). absurd (omega (arith, a.1, ap (length {A = ℕ}) e)))
+      (λ b. ⊎_elim (λ (a : Contains [] q). absurd (omega (arith, a.1))) (λ s. subst (Reaches places p) s here) (Contains-push_cases [] p q (h.kept.2 q b)))
+      (Contains-append_cases none h.kept.0 q (subst (λ l. Contains l q) h.kept.1 c));
   within = omega arith;
   closed = λ k m lt c. absurd (omega arith);
 }
