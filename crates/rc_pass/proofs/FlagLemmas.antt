@@ -1,5 +1,5 @@
 -- What the flags of a place tell that reads.
-use Rattle.std.proofs.Common.{◌≡◌, ℕ, ◌<◌, List, [], map, sym, subst, ap, ◌∙◌, refl, arith, ⊎_elim, Bool, true, false, ◌||◌, IsTrue, MatchBool, nat_le}
+use Rattle.std.proofs.Common.{◌≡◌, ℕ, ◌<◌, List, [], sym, subst, ap, ◌∙◌, refl, arith, ⊎_elim, Bool, true, false, ◌||◌, MatchBool}
 use Rattle.std.proofs.Math.Logic.{∥∥₁_elim}
 use Rattle.std.proofs.lemmas.Bool.{cases_Bool, lt-leb}
 use Rattle.std.specs.List.{Contains}

@@ -2,7 +2,7 @@
 use Rattle.std.proofs.Common.{◌≡◌, ℕ, ◌+◌, ◌<◌, ◌≤◌, List, [], ◌∷◌, ◌++◌, length, map, min, inl, inr, ⊎_elim, sym, subst, ◌∙◌, refl, arith, Bool, true, false, Option, if◌then◌else◌, nat_le}
 use Rattle.std.proofs.lemmas.Bool.{cases_lt, le-leb, lt-leb, lt-ltb, le-ltb}
 use Rattle.std.proofs.lemmas.List.{length_push, append-nil}
-use Rattle.rc_walks.specs.Walks.{IsIn}
+use Rattle.rc_walks.specs.Walks.{Pair, IsIn}
 use Rattle.rc_program.specs.Program.{ways_out, pair_at}
 use Rattle.rc_program.specs.Text.{holds, ahead}
 use Rattle.rc_pass.specs.Sights.{Sight}
@@ -10,6 +10,7 @@ use Rattle.rc_program.specs.Laws.{IsClosed}
 use Rattle.rc_program.proofs.PlaceLemmas.{ways_closed}
 use Rattle.rc_pass.specs.Sparse.{Members}
 use Rattle.rc_pass.specs.Threads.{Thread, ThreadList}
+use Rattle.rc_pass.specs.Entered.{Goes}
 use Rattle.rc_pass.specs.Moves.{IsMove}
 use Rattle.rc_pass.specs.Passing.{resting_of, frames_of, AllInside, IsMoveInside, AllIn, AllFrom, count_from, HasRoom, IsGrown}
 use Rattle.rc_pass.specs.declared.moves.Move.{Move}
@@ -31,6 +32,19 @@ move_inside s p at (Stays n) closed m =
 move_inside s p at (Reads n to) closed m =
     ways_closed s.places closed s.text s.hi (p, at) (n, to) (subst (λ ms. IsIn (n, to) ms) (sym m.0) (inl refl))
 move_inside s p at Stops closed m = tt
+
+-- the move makes a difference
+abbrev pub Acts : Move → Type 0
+Acts Stops = ⊥
+Acts move = Unit {0}
+
+-- such a move is the place's
+pub acts_on : (s : Sight) (n : Pair) (move : Move) → Acts move → Goes s n move → IsMove s n move
+acts_on s n move acts g = ⊎_elim (λ m. m) (λ d. absurd (subst Acts d.0 acts)) g
+
+pub gone_inside : (s : Sight) (p at : ℕ) (move : Move) → IsClosed s.places → Goes s (p, at) move → IsMoveInside (length s.places) move
+gone_inside s p at move closed g =
+    ⊎_elim (λ m. move_inside s p at move closed m) (λ d. subst (IsMoveInside (length s.places)) (sym d.0) tt) g
 
 -- what a move puts on the stack belongs to the program
 pub frames_inside : (n width : ℕ) (slots : List (Option ℕ)) (move : Move) (frames : List Frame) → length slots ≡ width → IsMoveInside n move →
@@ -100,7 +114,7 @@ grown_then n hi start at threads0 threads1 threads2 entered0 entered1 entered2 a
 
 -- a place is entered, and its move may put a thread behind the others
 pub grown_by : (n hi start at p : ℕ) (slots : List (Option ℕ)) (move : Move) (threads : ThreadList) (entered : Members) (s : Sight) → s.hi ≡ hi →
-    HasRoom n hi at threads entered → length entered.items + 1 ≤ n → IsMove s (p, at) move → IsMoveInside n move →
+    HasRoom n hi at threads entered → length entered.items + 1 ≤ n → Goes s (p, at) move → IsMoveInside n move →
     IsGrown n hi start at threads entered (record threads { items = threads.items ++ resting_of start slots move })
     (record entered { items = entered.items ++ p ∷ [] })
 grown_by n hi start at p slots move threads entered s bound sound few m inside = record {
@@ -142,12 +156,13 @@ grown_by n hi start at p slots move threads entered s bound sound few m inside =
     begun Stops x h all = rw append-nil all
     begun (Reads m to) x h all = from_push x threads.items (record { place = m; at = to; start = start; slots = slots }) all h
 
-    within : (move : Move) → IsMove s (p, at) move → IsMoveInside n move → AllIn n (at + 1) (min hi (at + 4)) (threads.items ++ resting_of start slots move)
+    within : (move : Move) → Goes s (p, at) move → IsMoveInside n move → AllIn n (at + 1) (min hi (at + 4)) (threads.items ++ resting_of start slots move)
     within (Fork a b) m i = rw append-nil sound.inside
     within (Save k q) m i = rw append-nil sound.inside
     within (Matches q) m i = rw append-nil sound.inside
     within (Stays q) m i = rw append-nil sound.inside
     within Stops m i = rw append-nil sound.inside
-    within (Reads q to) m i =
+    within (Reads q to) g i =
+        let m = acts_on s (p, at) (Reads q to) tt g in
         in_push n (at + 1) (min hi (at + 4)) threads.items (record { place = q; at = to; start = start; slots = slots }) sound.inside
         (i, omega (arith, m.2), omega (arith, m.3, m.4, bound))

@@ -37,3 +37,4 @@ pub mod RaceAloneLemmas
 pub mod OnwardLemmas
 pub mod AloneLemmas
 pub mod FlagLemmas
+pub mod LeftOutLemmas

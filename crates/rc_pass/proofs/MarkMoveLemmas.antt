@@ -3,12 +3,14 @@ use Rattle.std.proofs.Common.{◌≡◌, ◌≢◌, ◌↔◌, ℕ, ◌+◌, ◌
 use Rattle.std.proofs.lemmas.Bool.{le-ltb}
 use Rattle.std.proofs.lemmas.List.{map-append, append-nil}
 use Rattle.rc_patterns.specs.Sets.{Has as IsMember}
-use Rattle.rc_walks.specs.Walks.{Pair, IsIn}
+use Rattle.rc_walks.specs.Walks.{Pair, IsIn, IsWalk}
+use Rattle.rc_walks.proofs.ThreadLemmas.{fewer_passed, keeps_off}
 use Rattle.rc_program.specs.Program.{accept, place_at, ways_out, pair_at, is_match_place}
 use Rattle.rc_program.specs.Text.{holds, ahead}
 use Rattle.rc_program.specs.Answer.{only}
 use Rattle.rc_pass.specs.Sights.{Sight, is_there, ends, next_of}
-use Rattle.rc_pass.specs.Entered.{IsSkipped, IsEntered, IsVisited}
+use Rattle.rc_pass.specs.Entered.{Goes, IsSkipped, IsEntered, IsVisited}
+use Rattle.rc_pass.specs.Alone.{IsDead}
 use Rattle.rc_pass.specs.Marking.{SomeLeads, Owed, going, explored}
 use Rattle.rc_pass.specs.Moves.{IsMove}
 use Rattle.rc_pass.specs.Passing.{pairs, resting_of, frames_of}
@@ -22,7 +24,7 @@ use Rattle.rc_pass.specs.declared.moves.Move.TheVariants.{Fork, Save, Matches, S
 use Rattle.rc_pass.proofs.EnteredLemmas.{has_pairs, pairs_has, pairs_at, pairs_push}
 use Rattle.rc_pass.proofs.MarkLemmas.{enters_same, matches_same, skips_same, later_same, some_left, some_right, some_parts, AllLater}
 use Rattle.rc_pass.proofs.MoveLemmas.{slot_on}
-use Rattle.rc_pass.proofs.VisitLemmas.{no_slots, same_threads, quiet, entered_end}
+use Rattle.rc_pass.proofs.VisitLemmas.{no_slots, same_threads, quiet, entered_end, end_there}
 
 pub same_then : {A B C : Type 0} → A ↔ B → B ↔ C → A ↔ C
 same_then f g = (λ a. g.0 (f.0 a), λ c. f.1 (g.1 c))
@@ -114,6 +116,39 @@ module _ (s : Sight) (p at : ℕ) (marks : List Bool) where
           (ap (λ q. map (pair_at at) (ways_out (λ l. holds s.text l at) (ahead s.text s.hi at) q)) m)
           (ap (λ b. b && is_there s.until at) (ap (is_match_place (only s.anchoring)) m ∙ slot_on (only s.anchoring) k n))))
 
+-- the patterns to which walks lead are the same, where other pairs were passed
+leads_by : (s : Sight) (p : ℕ) (v u : List Pair) →
+    ((f w : List Pair) → IsWalk (next_of s) (λ k. IsTrue (ends s k)) v f w → IsWalk (next_of s) (λ k. IsTrue (ends s k)) u f w) →
+    (ns : List Pair) → SomeLeads s v ns p → SomeLeads s u ns p
+leads_by s p v u f [] h = h
+leads_by s p v u f (n ∷ ns) h =
+    ⊎_elim (λ a. inl (record { walk = a.walk; is_walk = f (n ∷ []) a.walk a.is_walk; pattern = a.pattern })) (λ b. inr (leads_by s p v u f ns b)) h
+
+-- a pair from which no walk leads on leads to no pattern
+leads_without : (s : Sight) (p : ℕ) (n : Pair) (v ns : List Pair) → IsDead s v n → SomeLeads s v (n ∷ ns) p ↔ SomeLeads s (n ∷ v) ns p
+leads_without s p n v ns none = (
+  λ h. ⊎_elim (λ a. absurd (none a.walk a.is_walk))
+      (λ b. leads_by s p v (n ∷ v) (λ f w x. keeps_off (next_of s) (λ k. IsTrue (ends s k)) n none x) ns b) h,
+  λ h. inr (leads_by s p (n ∷ v) v (λ f w x. fewer_passed (next_of s) (λ k. IsTrue (ends s k)) n x) ns h),
+)
+
+-- the place is entered, and the move is made
+gone_on : (s : Sight) (p at : ℕ) (marks : List Bool) (rest : List Thread) (items : List ℕ) (q start : ℕ) → ¬ Has items q → (move : Move)
+    (frames : List Frame) (below : List Pair) → Goes s (q, at) move → ((k : ℕ) → move ≢ Matches k) →
+    Owed s at rest items ((q, at) ∷ (explored at frames ++ below)) marks p
+    ↔ Owed s at (rest ++ resting_of start [] move) (items ++ q ∷ []) (explored at (frames_of [] move ++ frames) ++ below) marks p
+gone_on s p at marks rest items q start fresh move frames below g other =
+    ⊎_elim (λ m. moved_on s p at marks rest items q start fresh move frames below m other)
+    (λ d.
+    let ts = explored at frames ++ below in
+    subst (λ v. Owed s at rest items ((q, at) ∷ ts) marks p
+    ↔ Owed s at (rest ++ resting_of start [] v) (items ++ q ∷ []) (explored at (frames_of [] v ++ frames) ++ below) marks p) (sym d.0)
+    (subst (λ r. Owed s at rest items ((q, at) ∷ ts) marks p ↔ Owed s at r (items ++ q ∷ []) ts marks p) (sym (append-nil rest))
+    (subst (λ v. Owed s at rest items ((q, at) ∷ ts) marks p
+    ↔ (SomeLeads s [] (map going rest) p ⊎ (SomeLeads s v ts p ⊎ IsMember marks p))) (sym (pairs_push at q items))
+    (middle (leads_without s p (q, at) (pairs at items) ts (d.1 (pairs at items)))))))
+    g
+
 module _ (s : Sight) (at q start : ℕ) (g0 g : Growth) (below : List Pair) (marks : List Bool) (p : ℕ) where
   abbrev Before : Type 0
   Before = Owed s at g0.threads.items g0.entered.items ((q, at) ∷ (explored at (reverse g0.stack.items) ++ below)) marks p
@@ -130,7 +165,7 @@ module _ (s : Sight) (at q start : ℕ) (g0 g : Growth) (below : List Pair) (mar
       Before ↔ Owed s at g.threads.items g.entered.items (explored at (reverse g.stack.items) ++ below) marks p
   moved_owed move m none other =
       rw (m.threads, m.entered, m.frames, no_slots g0.slots.items none)
-      (moved_on s p at marks g0.threads.items g0.entered.items q start m.fresh move (reverse g0.stack.items) below m.is_move other)
+      (gone_on s p at marks g0.threads.items g0.entered.items q start m.fresh move (reverse g0.stack.items) below m.goes other)
 
   -- no walk ends there
   pub quiet_owed : IsVisited s at q start None g0 g → length g0.slots.items ≡ 0 →
@@ -142,14 +177,15 @@ module _ (s : Sight) (at q start : ℕ) (g0 g : Growth) (below : List Pair) (mar
       Before ↔ Owed s at g.threads.items g.entered.items (explored at (reverse g.stack.items) ++ below) (set marks number true) p
   ended_owed number v low =
       let m = entered_end s at q start g0 g number v in
+      let i = end_there s at q start g0 g number m in
       rw (same_threads s at q start g0 g (Matches number) number refl m, m.entered, m.frames)
       (ended_here s p at marks g0.threads.items g0.entered.items q start m.fresh number (explored at (reverse g0.stack.items) ++ below)
-      m.is_move.1 m.is_move.0 low)
+      i.1 i.0 low)
 
 -- the pattern of a walk that ends has a number of `PatternID`
 pub accepted : (s : Sight) (at q start : ℕ) (g0 g : Growth) (number : ℕ) → IsVisited s at q start (Some number) g0 g →
     ((n p : ℕ) → place_at s.places n ≡ accept p → p ≤ 2147483646) → number ≤ 2147483646
-accepted s at q start g0 g number v numbered = numbered q number (entered_end s at q start g0 g number v).is_move.0
+accepted s at q start g0 g number v numbered = numbered q number (end_there s at q start g0 g number (entered_end s at q start g0 g number v)).0
 
 pub low_in : (p : ℕ) (set0 set : List Bool) → length set ≡ length set0 → p < length set0 → p < length set
 low_in p set0 set e low = omega (arith, e, low)

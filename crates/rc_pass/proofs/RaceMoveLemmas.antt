@@ -3,7 +3,7 @@ use Rattle.std.proofs.Common.{◌≡◌, ◌≢◌, ℕ, ◌<◌, List, [], ◌�
 use Rattle.std.proofs.lemmas.List.{map-append, append-nil}
 use Rattle.rc_walks.specs.Walks.{Pair}
 use Rattle.rc_walks.specs.Threads.{threads}
-use Rattle.rc_program.specs.Program.{Place, choice, accept, place_at, ways_out, pair_at, is_match_place}
+use Rattle.rc_program.specs.Program.{Place, accept, place_at, ways_out, pair_at, is_match_place}
 use Rattle.rc_program.specs.Text.{holds, ahead}
 use Rattle.rc_program.specs.Answer.{only}
 use Rattle.rc_program.proofs.LongestLemmas.{none_to}
@@ -13,7 +13,8 @@ use Rattle.rc_pass.specs.Sparse.{Has}
 use Rattle.rc_pass.specs.Threads.{Thread}
 use Rattle.rc_pass.specs.Trace.{Trace, note, note_at, trace, done}
 use Rattle.rc_pass.specs.Moves.{IsMove, IsPlain}
-use Rattle.rc_pass.specs.Entered.{IsSkipped, IsEntered, IsVisited}
+use Rattle.rc_pass.specs.Entered.{Goes, IsSkipped, IsEntered, IsVisited}
+use Rattle.rc_pass.specs.Alone.{IsDead}
 use Rattle.rc_pass.specs.Passing.{pending, pairs, waits, resting_of, frames_of, slots_after}
 use Rattle.rc_pass.specs.Races.{IsRacing, EndedBefore, upto, began, leading, kept, Races, IsSought, IsCutOff, EndedBy, IsRecorded, EndsThere}
 use Rattle.rc_pass.specs.declared.moves.Move.{Move}
@@ -27,7 +28,8 @@ use Rattle.rc_pass.proofs.EnteredLemmas.{has_pairs, pairs_has, pairs_push}
 use Rattle.rc_pass.specs.Entrances.{IsOnWay, IsWayIn, stays_in, goes_in}
 use Rattle.rc_pass.proofs.EntranceLemmas.{no_end, forks, only_other}
 use Rattle.rc_pass.proofs.NotedLemmas.{start_kept}
-use Rattle.rc_pass.proofs.VisitLemmas.{same_threads, quiet, entered_end}
+use Rattle.rc_pass.proofs.VisitLemmas.{same_threads, quiet, entered_end, end_there}
+use Rattle.rc_pass.proofs.LeftOutLemmas.{race_leaves}
 use Rattle.rc_pass.proofs.RaceListLemmas.{upto_in, upto_out, upto_upto, upto_threads_in, upto_all, rising_before}
 use Rattle.rc_pass.proofs.RaceLemmas.{race_skips, race_enters, race_waits, race_matches, race_ignores, race_way_in}
 
@@ -189,6 +191,32 @@ module _ (s : Sight) (all : List (Trace × Pair)) (at : ℕ) where
         (entered_on rest items best found p (trace start slots) (waits start at frames slots ++ below) fresh
         (ap (λ b. b && is_there s.until at) (ap (is_match_place (only s.anchoring)) m ∙ slot_on (only s.anchoring) k n)) sought x)))
 
+-- the place is entered, and no move is made
+raced_leaves : (s : Sight) (all : List (Trace × Pair)) (at : ℕ) (rest : List Thread) (items : List ℕ) (best : Option Ending) (found : List (Option ℕ))
+    (p : ℕ) (h : Trace) (ts : List (Trace × Pair)) → ((passed : List Pair) → IsDead s passed (p, at)) → IsSought best (began h) →
+    Races s all at rest items ((h, (p, at)) ∷ ts) best found → Races s all at rest (items ++ p ∷ []) ts best found
+raced_leaves s all at rest items best found p h ts dead sought x =
+    subst (λ v. Race s all at (map pending rest) v (kept best ts) (leading best found)) (sym (pairs_push at p items))
+    (race_leaves (next_of s) (Ends s) Trace (note s.places) began all at (map pending rest) (pairs at items) (leading best found)
+    (h, (p, at)) (kept best ts) (omega arith) (dead (pairs at items))
+    (subst (λ ts. Race s all at (map pending rest) (pairs at items) ts (leading best found)) (kept_in best (h, (p, at)) ts sought) x))
+
+-- the place is entered, and the move is made
+raced_goes : (s : Sight) (all : List (Trace × Pair)) (at : ℕ) (rest : List Thread) (items : List ℕ) (best : Option Ending) (found : List (Option ℕ))
+    (p start : ℕ) (slots : List (Option ℕ)) → ¬ Has items p → IsSought best start → (move : Move) (frames : List Frame) (below : List (Trace × Pair)) →
+    Goes s (p, at) move → ((q : ℕ) → move ≢ Matches q) →
+    Races s all at rest items ((trace start slots, (p, at)) ∷ (waits start at frames slots ++ below)) best found →
+    Races s all at (rest ++ resting_of start slots move) (items ++ p ∷ [])
+    (waits start at (frames_of slots move ++ frames) (slots_after at slots move) ++ below) best found
+raced_goes s all at rest items best found p start slots fresh sought move frames below g other x =
+    ⊎_elim (λ m. raced_moves s all at rest items best found p start slots fresh sought move frames below m other x)
+    (λ d.
+    subst (λ v. Races s all at (rest ++ resting_of start slots v) (items ++ p ∷ [])
+    (waits start at (frames_of slots v ++ frames) (slots_after at slots v) ++ below) best found) (sym d.0)
+    (subst (λ r. Races s all at r (items ++ p ∷ []) (waits start at frames slots ++ below) best found) (sym (append-nil rest))
+    (raced_leaves s all at rest items best found p (trace start slots) (waits start at frames slots ++ below) d.1 sought x)))
+    g
+
 module _ (s : Sight) (at p start : ℕ) (g0 g : Growth) (best0 : Option Ending) (found0 : List (Option ℕ)) (sought : IsSought best0 start)
     (all below : List (Trace × Pair)) where
   abbrev pub Entering : Type 0
@@ -209,7 +237,7 @@ module _ (s : Sight) (at p start : ℕ) (g0 g : Growth) (best0 : Option Ending) 
   moved_races : (move : Move) → IsEntered s at p start move g0 g → ((q : ℕ) → move ≢ Matches q) → Entering → Entered best0 found0
   moved_races move m other x =
       rw (m.threads, m.entered, m.frames, m.slots)
-      (raced_moves s all at g0.threads.items g0.entered.items best0 found0 p start g0.slots.items m.fresh sought move (reverse g0.stack.items) below m.is_move
+      (raced_goes s all at g0.threads.items g0.entered.items best0 found0 p start g0.slots.items m.fresh sought move (reverse g0.stack.items) below m.goes
       other x)
 
   pub quiet_races : IsVisited s at p start None g0 g → Entering → Entered best0 found0
@@ -220,11 +248,12 @@ module _ (s : Sight) (at p start : ℕ) (g0 g : Growth) (best0 : Option Ending) 
       IsRecorded best0 found0 (record { pattern = q; start = start; end = at }) g.slots.items best found → Entering → Entered best found
   ended_races q best found v r x =
       let m = entered_end s at p start g0 g q v in
+      let i = end_there s at p start g0 g q m in
       rw (same_threads s at p start g0 g (Matches q) q refl m, m.entered, m.frames)
       (⊎_elim
       (λ a. rw (a.1, a.2, m.slots)
       (raced_ignores s all at g0.threads.items g0.entered.items best0 found0 p (trace start g0.slots.items)
-      (waits start at (reverse g0.stack.items) g0.slots.items ++ below) m.fresh m.is_move.1 a.0 sought x))
+      (waits start at (reverse g0.stack.items) g0.slots.items ++ below) m.fresh i.1 a.0 sought x))
       (λ b. rw (b.1, b.2, m.slots)
       (raced_matches s all at g0.threads.items g0.entered.items best0 found0 p q start g0.slots.items
-      (waits start at (reverse g0.stack.items) g0.slots.items ++ below) m.fresh m.is_move.0 m.is_move.1 b.0 sought x)) r)
+      (waits start at (reverse g0.stack.items) g0.slots.items ++ below) m.fresh i.0 i.1 b.0 sought x)) r)

@@ -15,8 +15,10 @@ use Rattle.rc_pass.specs.declared.growth.Growth.{Growth}
 use Rattle.rc_pass.specs.declared.moves.Move.{Move}
 use Rattle.rc_pass.specs.declared.moves.Move.TheVariants.{Fork, Save, Matches, Stays, Reads, Stops}
 use Rattle.rc_pass.specs.declared.pass.Ending.{Ending}
-use Rattle.rc_pass.proofs.MoveLemmas.{skipped, matched, moved}
-use Rattle.rc_pass.proofs.SpreadMoveLemmas.{begin_more, passed_over, ended_here, moved_on, ordered_by}
+use Rattle.rc_pass.proofs.MoveLemmas.{skipped, matched}
+use Rattle.rc_pass.proofs.GrownLemmas.{acts_on}
+use Rattle.rc_pass.proofs.LeftOutLemmas.{gone_on, seeks_on}
+use Rattle.rc_pass.proofs.SpreadMoveLemmas.{begin_more, passed_over, ended_here, ordered_by}
 
 pub no_slots : (slots : List (Option ℕ)) → length slots ≡ 0 → slots ≡ []
 no_slots [] e = refl
@@ -44,6 +46,10 @@ module _ (s : Sight) (at p start : ℕ) (g0 g : Growth) where
   entered_end q v =
       ⊎_elim (λ a. absurd (none-some q (sym a.1))) (λ b. subst (λ m. IsEntered s at p start m g0 g) (ended_move b.0 q b.2) b.1) v
 
+  -- where a walk ends, the place has that move
+  pub end_there : (q : ℕ) → IsEntered s at p start (Matches q) g0 g → IsMove s (p, at) (Matches q)
+  end_there q m = acts_on s (p, at) (Matches q) tt m.goes
+
   -- where a walk ends, no thread is put behind the others
   pub same_threads : (move : Move) (q : ℕ) → move ≡ Matches q → IsEntered s at p start move g0 g → g.threads.items ≡ g0.threads.items
   same_threads move q is m =
@@ -66,10 +72,10 @@ module _ (s : Sight) (at p start : ℕ) (g0 g : Growth) where
         Carries s at g0.threads.items g0.entered.items
         ((trace start g0.slots.items, (p, at)) ∷ (waits start at (reverse g0.stack.items) g0.slots.items ++ below)) best o
     entered_carries move None m other x =
-        moved s at g0.threads.items g0.entered.items best o p start g0.slots.items m.fresh move (reverse g0.stack.items) below m.is_move other
+        gone_on s at g0.threads.items g0.entered.items best o p start g0.slots.items m.fresh move (reverse g0.stack.items) below m.goes other
         (rw (m.threads, m.entered, m.frames, m.slots) at x)
     entered_carries move (Some q) m is x =
-        let i = subst (IsMove s (p, at)) is m.is_move in
+        let i = end_there q (subst (λ v. IsEntered s at p start v g0 g) is m) in
         let slots : g.slots.items ≡ g0.slots.items = m.slots ∙ ap (slots_after at g0.slots.items) is in
         matched s at g0.threads.items g0.entered.items best o p q start g0.slots.items g.entered.items
         (waits start at (reverse g0.stack.items) g0.slots.items ++ below) m.fresh i.0 i.1
@@ -95,7 +101,7 @@ module _ (s : Sight) (at p start : ℕ) (g0 g : Growth) where
         Seeks s at g.threads.items g.entered.items (runners_of start at (reverse g.stack.items) ++ below) best o →
         Seeks s at g0.threads.items g0.entered.items ((start, (p, at)) ∷ (runners_of start at (reverse g0.stack.items) ++ below)) best o
     moved_seeks move m none other x =
-        moved_on s at g0.threads.items g0.entered.items best o p start m.fresh move (reverse g0.stack.items) below m.is_move other low
+        seeks_on s at g0.threads.items g0.entered.items best o p start m.fresh move (reverse g0.stack.items) below m.goes other low
         (rw (m.threads, m.entered, m.frames, no_slots g0.slots.items none) at x)
 
     pub ended_seeks : (move : Move) (q : ℕ) (result : Ending) → IsEntered s at p start move g0 g → move ≡ Matches q →
@@ -103,7 +109,7 @@ module _ (s : Sight) (at p start : ℕ) (g0 g : Growth) where
         Seeks s at g.threads.items g.entered.items (runners_of start at (reverse g.stack.items) ++ below) (Some result) o →
         Seeks s at g0.threads.items g0.entered.items ((start, (p, at)) ∷ (runners_of start at (reverse g0.stack.items) ++ below)) best o
     ended_seeks move q result m is greater x =
-        let i = subst (IsMove s (p, at)) is m.is_move in
+        let i = end_there q (subst (λ v. IsEntered s at p start v g0 g) is m) in
         let frames : reverse g.stack.items ≡ reverse g0.stack.items = rw is at m.frames in
         ended_here s at g0.threads.items g0.entered.items best o p start m.fresh (record { pattern = q; start = start; end = at }) result
         (runners_of start at (reverse g0.stack.items) ++ below) i.1 i.0 refl refl greater (begin_more start at (reverse g0.stack.items) below low)

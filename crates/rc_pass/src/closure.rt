@@ -10,6 +10,7 @@ ghost use Rattle.rc_pass.specs.Entered.{IsMade, IsActed, IsVisited};
 ghost use Rattle.rc_pass.specs.declared.moves.Move.TheVariants.{Fork, Save, Stays};
 
 use crate::growth::{Frame, Growth};
+use crate::heads::is_dead;
 use crate::moves::{after_byte, after_one_of, after_scalar, is_open, may_end};
 use crate::spot::Spot;
 use crate::threads::Head;
@@ -85,7 +86,7 @@ fn read(place: usize, to: Option<usize>, start: usize, growth: &mut Growth)
 }
 
 /// Makes the move of a place: the places to which it leads go on the stack, the first uppermost, and a thread that reads goes behind the
-/// threads. Answers the pattern where a walk ends there.
+/// threads. None is made at a choice from which the next byte lets no walk go on. Answers the pattern where a walk ends there.
 #[inline(always)]
 fn act(spot: &Spot, place: usize, start: usize, growth: &mut Growth) -> Option<usize>
     ghost text: { Searched }
@@ -98,6 +99,9 @@ fn act(spot: &Spot, place: usize, start: usize, growth: &mut Growth) -> Option<u
 {
     match &spot.course.program.places[place] {
         Place::Choice(first, second) => {
+            if is_dead(spot, place) {
+                return None;
+            }
             fork(*first, *second, growth);
             None
         }

@@ -14,3 +14,6 @@ ghost-is_open g a = g.text
 
 abbrev pub ghost-may_end : goal.ghost-may_end
 ghost-may_end g a = g.text
+
+abbrev pub ghost-is_dead : goal.ghost-is_dead
+ghost-is_dead g a = g.text

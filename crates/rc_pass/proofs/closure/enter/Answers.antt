@@ -4,7 +4,7 @@ use Rattle.rc_program.specs.Places.{place_of}
 use Rattle.rc_pass.specs.Sparse.{Members}
 use Rattle.rc_pass.specs.Near.{seen_from, size}
 use Rattle.rc_pass.specs.Passing.{IsGrown, IsMoveInside, resting_of}
-use Rattle.rc_pass.proofs.GrownLemmas.{move_inside, grown_by, frames_inside}
+use Rattle.rc_pass.proofs.GrownLemmas.{gone_inside, grown_by, frames_inside}
 use Rattle.rc_pass.proofs.closure.enter.Given.{Over}
 use Rattle.rc_pass.proofs.closure.enter.Goals as goal
 use Rattle.rc_pass.proofs.closure.enter.Goals.{After-act}
@@ -29,7 +29,7 @@ returns-clause-visited g c =
       a.move,
       record {
         fresh = c.if-not-insert.ensures.member;
-        is_move = a.is_move;
+        goes = a.goes;
         threads = a.made.threads;
         entered = a.made.entered ∙ c.if-not-insert.ensures.after;
         frames = a.made.frames;
@@ -41,8 +41,8 @@ returns-clause-visited g c =
 move_in : (g : Over) (c : After-act g) → IsMoveInside (size c.args.spot.now.course) c.act.ensures.acted.move
 move_in g c =
     subst (λ n. IsMoveInside n c.act.ensures.acted.move) (length-map c.args.spot.now.course.program.now.places.items place_of)
-    (move_inside (seen_from c.args.spot.now g.text) c.args.place c.args.spot.now.at c.act.ensures.acted.move
-    c.args.spot.now.course.program.now.runnable.closed c.act.ensures.acted.is_move)
+    (gone_inside (seen_from c.args.spot.now g.text) c.args.place c.args.spot.now.at c.act.ensures.acted.move
+    c.args.spot.now.course.program.now.runnable.closed c.act.ensures.acted.goes)
 
 pub returns-clause-grown : goal.returns-clause-grown
 returns-clause-grown g c =
@@ -59,7 +59,7 @@ returns-clause-grown g c =
     (sym (a.made.entered ∙ c.if-not-insert.ensures.after))
     (grown_by n c.args.spot.now.course.hi c.args.start c.args.spot.now.at c.args.place c.args.growth.now.slots.items a.move
     c.args.growth.now.threads c.args.growth.now.entered (seen_from c.args.spot.now g.text)
-    (sym c.requires.0.setting.bound) c.requires.1.1.0 few a.is_move
+    (sym c.requires.0.setting.bound) c.requires.1.1.0 few a.goes
     (move_in g (goal.at.returns-clause-grown g c).After-act)))
 
 pub returns-clause-frames : goal.returns-clause-frames
