@@ -3,7 +3,7 @@ use Rattle.std.proofs.Common.{◌≡◌, ◌≢◌, ℕ, ◌<◌, List, [], ◌�
 use Rattle.std.proofs.lemmas.List.{map-append, append-nil}
 use Rattle.rc_walks.specs.Walks.{Pair}
 use Rattle.rc_walks.specs.Threads.{threads}
-use Rattle.rc_program.specs.Program.{Place, choice, accept, place_at, ways_out, pair_at, is_match_place}
+use Rattle.rc_program.specs.Program.{Place, accept, place_at, ways_out, pair_at, is_match_place}
 use Rattle.rc_program.specs.Text.{holds, ahead}
 use Rattle.rc_program.specs.Answer.{only}
 use Rattle.rc_program.proofs.LongestLemmas.{none_to}
