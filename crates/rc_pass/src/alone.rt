@@ -193,6 +193,9 @@ fn may_set_out(spot: &Spot, is_open: bool, way: usize, tried: usize) -> bool
     if spot.at > spot.course.last {
         return false;
     }
+    if way == tried {
+        return false;
+    }
     if is_shut(spot, way) {
         return false;
     }

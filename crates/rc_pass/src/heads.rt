@@ -1,7 +1,9 @@
 //! Places from which the byte that stands next lets no walk go on, whatever assertions say.
-ghost use Rattle.std.specs.Prelude.{◌≡◌, ◌<◌, ◌≤◌, IsTrue, List, false, ℕ, length, slice_index, slice_index_or};
+ghost use Rattle.std.specs.Prelude.{◌≡◌, ◌≢◌, ◌<◌, ◌≤◌, IsTrue, List, false, ℕ, length, slice_index, slice_index_or};
 ghost use Rattle.rc_text.specs.Text.{Searched};
 ghost use Rattle.rc_walks.specs.Walks.{Pair};
+ghost use Rattle.rc_program.specs.Heads.{MayGoOn};
+ghost use Rattle.rc_program.specs.Places.{places_of};
 ghost use Rattle.rc_pass.specs.Alone.{IsDead};
 ghost use Rattle.rc_pass.specs.Moves.{IsSetting, seen_by};
 ghost use Rattle.rc_pass.specs.Near.{IsHere, seen_from, size};
@@ -9,6 +11,8 @@ ghost use Rattle.rc_pass.specs.Windows.{IsAround, IsBegun, IsWindow};
 
 use crate::spot::{Course, Spot};
 use crate::window::Window;
+use rc_program::place::Place;
+use rc_program::program::Program;
 
 /// Whether no walk leads on from the place, where that is told by the byte that stands next.
 #[inline(always)]
@@ -42,6 +46,35 @@ fn unset_before(bytes: &[u8], flags: &[bool]) -> usize
     bytes.len()
 }
 
+/// How many of the bytes stand before the first one that is this byte.
+fn others_before(bytes: &[u8], byte: u8) -> usize
+    ensures within { result ≤ length bytes.now }
+    ensures others { (k : ℕ) → k < result → slice_index bytes.now k ≢ byte }
+{
+    for (i, found) in bytes.iter().enumerate() {
+        if *found == byte {
+            return i;
+        }
+    }
+    bytes.len()
+}
+
+/// How many of the bytes stand before the first one over which a walk may go on from the place, where that is quickly told; else none.
+#[inline(always)]
+fn barred_before(program: &Program, place: usize, bytes: &[u8]) -> usize
+    requires place_in { place < length program.now.places.items }
+    ensures within { result ≤ length bytes.now }
+    ensures barred { (k : ℕ) → k < result → ¬ MayGoOn (places_of program.now.places.items) place (slice_index bytes.now k) }
+{
+    if let Some(flags) = program.head_table(place) {
+        return unset_before(bytes, flags);
+    }
+    match &program.places[place] {
+        Place::Byte(byte, _) => others_before(bytes, *byte),
+        _ => 0,
+    }
+}
+
 /// The first position from `at` on, up to `end`, at which a walk may lead on from the place, as the bytes tell that stand there.
 #[inline(always)]
 pub(crate) fn pass_over(
@@ -63,9 +96,10 @@ pub(crate) fn pass_over(
     ensures within { result ≤ end }
     ensures dead { (y : ℕ) → at ≤ y → y < result → (passed : List Pair) → IsDead (seen_by course.entry text) passed (place, y) }
 {
-    let Some(flags) = course.program.head_table(place) else {
-        return at;
-    };
     let first = at - window.start;
-    at + unset_before(&window.bytes[first..end - window.start], flags)
+    at + barred_before(
+        course.program,
+        place,
+        &window.bytes[first..end - window.start],
+    )
 }

@@ -1,19 +1,15 @@
 use Rattle.std.proofs.Common.{◌≡◌, ℕ, ◌+◌, ◌-◌, subst, arith}
-use Rattle.rc_walks.specs.Walks.{Pair}
 use Rattle.rc_pass.specs.Moves.{seen_by}
 use Rattle.rc_pass.specs.Alone.{IsDead}
-use Rattle.rc_pass.proofs.HeadLemmas.{flag_dead}
+use Rattle.rc_pass.proofs.HeadLemmas.{barred_dead}
 use Rattle.rc_pass.proofs.heads.pass_over.Goals as goal
 
 pub returns-clause-dead : goal.returns-clause-dead
 returns-clause-dead g c y low before passed =
     let at : ℕ = c.args.at in
     let end : ℕ = c.args.end in
-    let w = c.args.window.now in
     let there : at + (y - at) ≡ y = omega (arith, low) in
     let given = c.requires.1.1.1 in
     subst (λ (z : ℕ). IsDead (seen_by c.args.course g.text) passed (c.args.place, z)) there
-    (flag_dead c.args.course g.text w at end c.requires.0 c.requires.1.0 c.requires.1.1.0 given.0 given.1.1.0 c.args.place (y - at) c.in-Some.flags.now
-    (omega (arith, low, before, c.unset_before.ensures.within, given.1.0)) c.in-Some.ensures
-    (c.unset_before.ensures.small (y - at) (omega (arith, low, before, c.unset_before.ensures.within)))
-    (c.unset_before.ensures.unset (y - at) (omega (arith, low, before))) passed)
+    (barred_dead c.args.course g.text c.args.window.now at end c.requires.0 c.requires.1.0 c.requires.1.1.0 given.0 given.1.1.0 c.args.place (y - at)
+    (omega (arith, low, before, c.barred_before.ensures.within, given.1.0)) (c.barred_before.ensures.barred (y - at) (omega (arith, low, before))) passed)
