@@ -297,7 +297,7 @@ pub(crate) fn seek(
     let mut here = at;
     let end = limit(window).min(course.last);
     'starts: while here < end {
-        here = pass_over(course, window, way, here, end);
+        here = pass_over(course, window, root, here, end);
         if here == end {
             return (here, None);
         }

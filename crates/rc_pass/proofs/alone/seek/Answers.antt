@@ -1,4 +1,4 @@
-use Rattle.std.proofs.Common.{◌≡◌, ℕ, ◌+◌, ◌<◌, ◌≤◌, [], inl, inr, ⊎_elim, sym, subst, arith}
+use Rattle.std.proofs.Common.{◌≡◌, ℕ, ◌+◌, ◌<◌, ◌≤◌, [], inl, inr, refl, ⊎_elim, sym, subst, arith}
 use Rattle.std.proofs.lemmas.Bool.{cases_lt}
 use Rattle.rc_pass.specs.Sights.{Sight, HasNoWalkFrom}
 use Rattle.rc_pass.specs.Near.{seen_from, size}
@@ -14,7 +14,7 @@ use Rattle.rc_pass.proofs.alone.seek.Goals.{After-pass_over-here, In-Some, In-Re
 left_out : (g : Over) (c : After-pass_over-here g) (y : ℕ) → c.args.at ≤ y → y < c.pass_over-here.result → HasNoWalkFrom (seen_by c.args.course g.text) y
 left_out g c y low before =
     ⊎_elim (λ l. c.starts.invariant.none y low l)
-    (λ ge. no_start (seen_by c.args.course g.text) y c.args.root c.args.way c.requires.1.1.1.1.1.0 (c.requires.1.1.1.1.1.1.1 y)
+    (λ ge. no_start (seen_by c.args.course g.text) y c.args.root c.args.root c.requires.1.1.1.1.1.0 (inl refl)
     (c.pass_over-here.ensures.dead y ge before []))
     (cases_lt y c.starts.here)
 
