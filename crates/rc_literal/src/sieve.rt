@@ -228,13 +228,14 @@ impl Sieve {
     /// The same, where each byte is looked up once.
     #[inline(always)]
     fn place_by_blocks(&self, piece: &[u8]) -> usize
-        requires { LEAST_PIECE ≤ length piece.now }
+        requires { LEAST_BLOCKS ≤ length piece.now }
         ensures within { result + 2 ≤ length piece.now }
         ensures passed { (needle : List ℕ) → IsSifted self.now needle → (k : ℕ) → k < result → ¬ Agrees piece.now needle k }
     {
+        let last = piece.len() - LANES;
         let mut before = Begun::new();
         let mut at = 0;
-        while at + LANES <= piece.len() {
+        while at <= last {
             let low = self.begun(piece, at);
             let high = self.begun(piece, at + HALF);
             let lows = self.taken_behind(before, low, piece, at);
@@ -253,7 +254,7 @@ impl Sieve {
     }
 
     /// The same from a place on, where at most 32 places are left to be looked up.
-    #[inline(always)]
+    #[inline(never)]
     fn place_at_end(&self, piece: &[u8], from: usize) -> usize
         requires long { LEAST_PIECE ≤ length piece.now }
         requires near { length piece.now ≤ from + 34 }

@@ -14,7 +14,7 @@ returns-then-marks-ne0-clause-passed c needle is k l =
     c.taken_behind-lows.ensures.set c.taken_behind-highs.ensures.set in
     no_sifted_there s piece 0 (at - 2) c.saturating_sub.result 2 32 at marks.result c.lowest.result (λ i. (c.type_inv.piece i).fits)
     c.loop-at.invariant.passed (omega arith) marked c.lowest.ensures.none_below (c.lowest.ensures.within 32 marks.ensures.small)
-    (omega (arith, c.loop-at-test.true)) (omega (arith, l, c.saturating_sub.ensures)) needle is k zero-le l
+    (omega (arith, c.loop-at-test.true, c.requires)) (omega (arith, l, c.saturating_sub.ensures)) needle is k zero-le l
 
 pub loop-at-preserved : goal.loop-at-preserved
 loop-at-preserved c =
@@ -26,9 +26,9 @@ loop-at-preserved c =
     let marked = both_marked s piece c.taken_behind-lows.result c.taken_behind-highs.result 2 at marks.result marks.ensures.low marks.ensures.high
     c.taken_behind-lows.ensures.set c.taken_behind-highs.ensures.set in
     record {
-      within = omega (arith, c.loop-at-test.true);
+      within = omega (arith, c.loop-at-test.true, c.requires);
       begun = subst (λ end. HaveBegun s piece end c.begun-high.result) behind c.begun-high.ensures;
       passed = no_sifted_there s piece 0 (at - 2) (at + 32 - 2) 2 32 at marks.result 32 (λ i. (c.type_inv.piece i).fits) c.loop-at.invariant.passed
-          (omega arith) marked (λ i _. zero_bits marks.result i (omega (arith, c.if-marks-ne0.false))) (omega arith) (omega (arith, c.loop-at-test.true))
+          (omega arith) marked (λ i _. zero_bits marks.result i (omega (arith, c.if-marks-ne0.false))) (omega arith) (omega (arith, c.loop-at-test.true, c.requires))
           (omega arith);
     }
