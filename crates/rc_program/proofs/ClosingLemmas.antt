@@ -1,5 +1,5 @@
 -- How what is reached from a place is opened, and the flags over it.
-use Rattle.std.proofs.Common.{◌≡◌, ℕ, ◌+◌, ◌<◌, ◌≤◌, List, [], ◌∷◌, ◌++◌, length, map, take, min, ⊎_elim, sym, subst, ap, ap₂, ◌∙◌, refl, arith, Bool, true, false, nat_le, ◌&&◌, ◌||◌, slice_index_or, Vec, append_assoc}
+use Rattle.std.proofs.Common.{◌≡◌, ℕ, ◌+◌, ◌<◌, ◌≤◌, List, [], ◌∷◌, ◌++◌, length, map, take, min, ⊎_elim, sym, subst, ap, ◌∙◌, refl, arith, Bool, true, false, nat_le, ◌&&◌, ◌||◌, slice_index_or, Vec, append_assoc}
 use Rattle.std.specs.List.{Contains}
 use Rattle.std.proofs.Math.Bool.{Bool-set, or-false}
 use Rattle.std.proofs.Math.Logic.{∥∥₁_elim}
@@ -9,7 +9,7 @@ use Rattle.std.proofs.lemmas.List.Elements.{Contains-append_left, Contains-appen
 use Rattle.std.proofs.lemmas.List.Folds.{list_any_more, list_any_at, Any-from_list_any}
 use Rattle.std.proofs.lemmas.Grind.{get_or_default_zero}
 use Rattle.rc_pattern.specs.Re.{Range}
-use Rattle.rc_program.specs.Program.{Place, choice, byte, scalar, accept, in_ranges, place_at}
+use Rattle.rc_program.specs.Program.{Place, choice, in_ranges, place_at}
 use Rattle.rc_program.specs.declared.place.Place as code
 use Rattle.rc_program.specs.Places.{place_of, places_of}
 use Rattle.rc_program.specs.Heads.{silent, Reaches, here, on, may_take, TellsHeads, flags_in}
