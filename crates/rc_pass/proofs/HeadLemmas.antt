@@ -1,6 +1,6 @@
 -- Places from which the byte that stands next lets no walk go on.
 use Rattle.std.proofs.Common.{◌≡◌, ℕ, ◌-◌, ◌<◌, List, [], ◌∷◌, zero, suc, length, take, refl, sym, ap, ◌∙◌, arith, Some, slice_get, slice_index}
-use Rattle.rc_text.specs.Text.{Searched}
+use Rattle.rc_text.specs.Text.{Searched, high}
 use Rattle.rc_walks.specs.Walks.{Pair}
 use Rattle.rc_program.specs.Text.{ahead}
 use Rattle.rc_program.specs.Program.{place_at}
