@@ -86,7 +86,8 @@ fn read(place: usize, to: Option<usize>, start: usize, growth: &mut Growth)
 }
 
 /// Makes the move of a place: the places to which it leads go on the stack, the first uppermost, and a thread that reads goes behind the
-/// threads. None is made at a choice from which the next byte lets no walk go on. Answers the pattern where a walk ends there.
+/// threads. None is made at a choice, a slot or an assertion from which the next byte lets no walk go on. Answers the pattern where a
+/// walk ends there.
 #[inline(always)]
 fn act(spot: &Spot, place: usize, start: usize, growth: &mut Growth) -> Option<usize>
     ghost text: { Searched }
@@ -123,6 +124,9 @@ fn act(spot: &Spot, place: usize, start: usize, growth: &mut Growth) -> Option<u
             None
         }
         Place::Guard(look, next) => {
+            if is_dead(spot, place) {
+                return None;
+            }
             if is_open(spot, *look) {
                 stay(*next, growth);
                 return None;
@@ -130,6 +134,9 @@ fn act(spot: &Spot, place: usize, start: usize, growth: &mut Growth) -> Option<u
             None
         }
         Place::Slot(slot, next) => {
+            if is_dead(spot, place) {
+                return None;
+            }
             note(*slot, *next, spot.at, growth);
             None
         }

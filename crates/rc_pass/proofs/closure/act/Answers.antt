@@ -71,8 +71,8 @@ returns-else-is_open-clause-acted g c = record {
   ended = refl;
 }
 
-pub returns-in-Slot-clause-acted : goal.returns-in-Slot-clause-acted
-returns-in-Slot-clause-acted g c = record {
+pub returns-else-is_dead-3-clause-acted : goal.returns-else-is_dead-3-clause-acted
+returns-else-is_dead-3-clause-acted g c = record {
   move = Save c.in-Slot.slot c.in-Slot.next;
   goes = inl ((placed c.args.spot.now.course.program.now.places.items c.args.place c.index.result.now c.requires.1.0 c.index.ensures ∙ ap place_of c.in-Slot.is));
   made = c.note.ensures.made c.args.start;
@@ -93,6 +93,22 @@ pub returns-then-is_dead-clause-acted : goal.returns-then-is_dead-clause-acted
 returns-then-is_dead-clause-acted g c = record {
   move = Stops;
   goes = inr (refl, c.is_dead.ensures c.if-is_dead.true);
+  made = search rules;
+  ended = refl;
+}
+
+pub returns-then-is_dead-2-clause-acted : goal.returns-then-is_dead-2-clause-acted
+returns-then-is_dead-2-clause-acted g c = record {
+  move = Stops;
+  goes = inr (refl, c.is_dead-in-Guard.ensures c.if-is_dead-2.true);
+  made = search rules;
+  ended = refl;
+}
+
+pub returns-then-is_dead-3-clause-acted : goal.returns-then-is_dead-3-clause-acted
+returns-then-is_dead-3-clause-acted g c = record {
+  move = Stops;
+  goes = inr (refl, c.is_dead-in-Slot.ensures c.if-is_dead-3.true);
   made = search rules;
   ended = refl;
 }
