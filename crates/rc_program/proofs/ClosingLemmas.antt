@@ -1,5 +1,5 @@
 -- How what is reached from a place is opened, and the flags over it.
-use Rattle.std.proofs.Common.{◌≡◌, ℕ, ◌+◌, ◌<◌, ◌≤◌, List, [], ◌∷◌, ◌++◌, length, map, take, min, ⊎_elim, sym, subst, ap, ap₂, ◌∙◌, refl, arith, Bool, true, false, nat_le, ◌&&◌, ◌||◌, slice_index_or, Vec, append_assoc}
+use Rattle.std.proofs.Common.{◌≡◌, ℕ, ◌+◌, ◌<◌, ◌≤◌, List, [], ◌∷◌, ◌++◌, length, map, take, min, ⊎_elim, sym, subst, ap, ◌∙◌, refl, arith, Bool, true, false, nat_le, ◌&&◌, ◌||◌, slice_index_or, Vec, append_assoc}
 use Rattle.std.specs.List.{Contains}
 use Rattle.std.proofs.Math.Bool.{Bool-set, or-false}
 use Rattle.std.proofs.Math.Logic.{∥∥₁_elim}
@@ -9,16 +9,12 @@ use Rattle.std.proofs.lemmas.List.Elements.{Contains-append_left, Contains-appen
 use Rattle.std.proofs.lemmas.List.Folds.{list_any_more, list_any_at, Any-from_list_any}
 use Rattle.std.proofs.lemmas.Grind.{get_or_default_zero}
 use Rattle.rc_pattern.specs.Re.{Range}
-use Rattle.rc_program.specs.Program.{Place, choice, byte, scalar, accept, in_ranges, place_at}
+use Rattle.rc_program.specs.Program.{Place, choice, in_ranges, place_at}
 use Rattle.rc_program.specs.declared.place.Place as code
 use Rattle.rc_program.specs.Places.{place_of, places_of}
 use Rattle.rc_program.specs.Heads.{silent, Reaches, here, on, may_take, TellsHeads, flags_in}
 use Rattle.rc_program.specs.Closing.{Opens, AreOpened, AreReached, AreFlags, AreJoined}
 use Rattle.rc_program.proofs.HeadsLemmas.{further}
-
-or_true : (x : Bool) → (x || true) ≡ true
-or_true true = refl
-or_true false = refl
 
 or_same : (x y z : Bool) → ((x || y) || z) ≡ (x || (y || z))
 or_same true y z = refl
@@ -75,26 +71,6 @@ cut_range low high cut xs ys e h =
 pub high_range : (low high : ℕ) (xs : List Bool) → 128 ≤ low → AreJoined 128 (in_range (low, high)) xs xs
 high_range low high xs le = joined_none 128 (in_range (low, high)) xs (λ b small. ap (λ t. t && nat_le b high) (lt-leb low b (omega arith)))
 
--- a scalar's first byte is one of the ranges, or 128 and more
-pub joined_scalar : (rs : List Range) (n : ℕ) (xs ys zs : List Bool) → AreJoined 128 (in_ranges rs) xs ys →
-    AreJoined 256 (λ b. nat_le 128 b && nat_le b 255) ys zs → length xs ≡ length ys → AreJoined 256 (may_take (scalar rs n)) xs zs
-joined_scalar rs n xs ys zs h k len b small =
-    ⊎_elim
-    (λ l. k b small ∙ ap (λ t. slice_index_or ys b false || (t && nat_le b 255)) (lt-leb 128 b l) ∙ or-false _ ∙ h b l
-    ∙ ap (λ t. slice_index_or xs b false || (t || in_ranges rs b)) (sym (lt-leb 128 b l)))
-    (λ l. k b small ∙ ap₂ (λ s t. slice_index_or ys b false || (s && t)) (le-leb 128 b l) (le-leb b 255 (omega arith)) ∙ or_true _
-    ∙ sym (ap (λ t. slice_index_or xs b false || (t || in_ranges rs b)) (le-leb 128 b l) ∙ or_true _))
-    (cases_lt b 128)
-
--- the bytes of one byte's range
-pub joined_byte : (a n : ℕ) (xs ys : List Bool) → AreJoined 256 (in_range (a, a)) xs ys → AreJoined 256 (may_take (byte ((a, a) ∷ []) n)) xs ys
-joined_byte a n xs ys h = joined_same 256 (in_range (a, a)) (may_take (byte ((a, a) ∷ []) n)) xs ys (λ b small. sym (or-false _)) h
-
--- all
-pub joined_all : (p : ℕ) (xs ys : List Bool) → AreJoined 256 (in_range (0, 255)) xs ys → AreJoined 256 (may_take (accept p)) xs ys
-joined_all p xs ys h =
-    joined_same 256 (in_range (0, 255)) (may_take (accept p)) xs ys (λ b small. ap₂ (λ s t. s && t) (le-leb 0 b (omega arith)) (le-leb b 255 (omega arith))) h
-
 -- the place that code reads
 pub place_read : (ps : List code.Place) (i : ℕ) (q : code.Place) → i < length ps → q ≡ slice_index_or ps i q → place_at (places_of ps) i ≡ place_of q
 place_read ps i q lt e = get_or-map place_of ps i q (choice []) lt ∙ ap place_of (sym e)
@@ -112,11 +88,12 @@ opens_both m n xs ys zs h k = record {
       (Contains-append_cases (m ∷ []) (n ∷ []) q c);
 }
 
-pub opened_begins : (places : List Place) (p : ℕ) (opened : List ℕ) → opened ≡ p ∷ [] → AreOpened places p 0 opened
-opened_begins places p opened e = record {
-  starts = subst (λ l. Contains l p) (sym e) (Contains-push [] p);
-  reached = λ q c. ⊎_elim (λ (a : Contains [] q). absurd (omega (arith, a.1))) (λ s. subst (Reaches places p) s here)
-      (Contains-push_cases [] p q (subst (λ l. Contains l q) e c));
+pub opened_begins : (places : List Place) (p : ℕ) (none opened : List ℕ) → none ≡ [] → Opens (p ∷ []) none opened → AreOpened places p 0 opened
+opened_begins places p none opened e h = record {
+  starts = h.has p (Contains-push [] p);
+  reached = λ q c. ⊎_elim (λ (a : Contains none q). absurd (omega (arith, a.1, ap (length {A = ℕ}) e)))
+      (λ b. ⊎_elim (λ (a : Contains [] q). absurd (omega (arith, a.1))) (λ s. subst (Reaches places p) s here) (Contains-push_cases [] p q (h.kept.2 q b)))
+      (Contains-append_cases none h.kept.0 q (subst (λ l. Contains l q) h.kept.1 c));
   within = omega arith;
   closed = λ k m lt c. absurd (omega arith);
 }

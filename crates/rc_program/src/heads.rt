@@ -23,20 +23,22 @@ pub fn heads_of(alloc: Global, places: &[Place]) -> Result<Vec<Vec<bool>>, Alloc
 {
     let mut tables = Vec::with_capacity(alloc, places.len())?;
     let mut opened = Vec::with_capacity(alloc, MOST_REACHED + 2)?;
+    let mut spots = vec![in alloc; 0; places.len()]?;
     for place in 0..places.len() {
-        let flags = flags_of(alloc, places, place, &mut opened)?;
+        let flags = flags_of(alloc, places, place, &mut opened, &mut spots)?;
         tables.push(flags)?;
     }
     Ok(tables)
 }
 
 /// The flags of the place. None where one byte is to be compared, where no walk goes on at all or one ends, and where too many places are reached.
-/// `opened` is room to work in.
+/// `opened` and `spots` are room to work in.
 fn flags_of(
     alloc: Global,
     places: &[Place],
     place: usize,
     opened: &mut Vec<usize>,
+    spots: &mut [usize],
 ) -> Result<Vec<bool>, AllocError>
     requires { place < length places.now }
     ensures { IfOk result (λ flags. 0 < length flags.items
@@ -50,7 +52,7 @@ fn flags_of(
     {
         return Ok(Vec::new(alloc));
     }
-    if !open_all(opened, places, place)? {
+    if !open_all(opened, spots, places, place)? {
         return Ok(Vec::new(alloc));
     }
     let flags = joined(alloc, places, opened)?;
@@ -58,11 +60,16 @@ fn flags_of(
 }
 
 /// Opens the places that are reached from this one without reading. False where these are too many.
-fn open_all(opened: &mut Vec<usize>, places: &[Place], place: usize) -> Result<bool, AllocError>
+fn open_all(
+    opened: &mut Vec<usize>,
+    spots: &mut [usize],
+    places: &[Place],
+    place: usize,
+) -> Result<bool, AllocError>
     ensures { IfOk result (λ all. all ≡ true → AreReached (places_of places.now) place opened.new.items) }
 {
     opened.clear();
-    opened.push(place)?;
+    open(opened, spots, place)?;
     for next in 0..MOST_REACHED + 1 {
         if next == opened.len() {
             return Ok(true);
@@ -71,34 +78,43 @@ fn open_all(opened: &mut Vec<usize>, places: &[Place], place: usize) -> Result<b
             return Ok(false);
         }
         let from = opened[next];
-        open_from(opened, places, from)?;
+        open_from(opened, spots, places, from)?;
     }
     Ok(false)
 }
 
 /// Opens the places to which ways lead from one that read nothing.
-fn open_from(opened: &mut Vec<usize>, places: &[Place], from: usize) -> Result<(), AllocError>
+fn open_from(
+    opened: &mut Vec<usize>,
+    spots: &mut [usize],
+    places: &[Place],
+    from: usize,
+) -> Result<(), AllocError>
     ensures { OnOk result (Opens (silent (place_at (places_of places.now) from)) opened.old.items opened.new.items) }
 {
     match places.get(from) {
         Some(Place::Choice(first, second)) => {
-            open(opened, *first)?;
-            open(opened, *second)?;
+            open(opened, spots, *first)?;
+            open(opened, spots, *second)?;
             Ok(())
         }
-        Some(Place::Pass(next)) => open(opened, *next),
-        Some(Place::Guard(_, next)) => open(opened, *next),
-        Some(Place::Slot(_, next)) => open(opened, *next),
+        Some(Place::Pass(next)) => open(opened, spots, *next),
+        Some(Place::Guard(_, next)) => open(opened, spots, *next),
+        Some(Place::Slot(_, next)) => open(opened, spots, *next),
         _ => Ok(()),
     }
 }
 
-/// Opens a place, where it isn't open.
-fn open(opened: &mut Vec<usize>, place: usize) -> Result<(), AllocError>
+/// Opens a place, where it isn't open. Where it was opened last, `spots` says where that was: so one look tells whether it still is.
+fn open(opened: &mut Vec<usize>, spots: &mut [usize], place: usize) -> Result<(), AllocError>
     ensures { OnOk result (Opens (place ∷ []) opened.old.items opened.new.items) }
 {
-    if opened.contains(&place) {
-        return Ok(());
+    if place < spots.len() {
+        let spot = spots[place];
+        if spot < opened.len() && opened[spot] == place {
+            return Ok(());
+        }
+        spots[place] = opened.len();
     }
     opened.push(place)?;
     Ok(())

@@ -1,4 +1,4 @@
-use Rattle.std.proofs.Common.{ℕ, ◌≡◌, ◌∙◌, ◌++◌, ◌∷◌, [], List, ap, subst, arith, length}
+use Rattle.std.proofs.Common.{◌≡◌, subst, arith, length}
 use Rattle.rc_program.specs.Closing.{AreOpened}
 use Rattle.rc_program.specs.Places.{places_of}
 use Rattle.rc_program.proofs.ClosingLemmas.{opened_begins, opened_more, opened_all}
@@ -6,8 +6,7 @@ use Rattle.rc_program.proofs.heads.open_all.Goals as goal
 
 pub loop-next-init : goal.loop-next-init
 loop-next-init c =
-    opened_begins (places_of c.args.places.now) c.args.place c.push.new.self.items
-    (c.in_ok-push.ensures.items ∙ ap (λ (l : List ℕ). l ++ c.args.place ∷ []) c.clear.ensures.items)
+    opened_begins (places_of c.args.places.now) c.args.place c.clear.new.self.items c.open.new.opened.items c.clear.ensures.items c.in_ok-open.ensures
 
 pub returns-then-next-len : goal.returns-then-next-len
 returns-then-next-len c = λ _.
