@@ -253,12 +253,57 @@ impl Engines {
         ensures within { IfOk result (λ found. IfSome found (λ m. (low input.old ≤ m.start) × (m.start ≤ m.end) × (m.end ≤ high input.old))) }
     {
         if let Some(guard) = guard {
-            return self.find_by_guard(halves, cache, input, guard);
+            return self.find_by_needles(halves, cache, input, guard);
         }
         match guards_of(&self.engine.strategy) {
             Some(needles) => self.find_past_quit(halves, cache, input, needles),
             None => search::find(halves, cache, input, self.aim()),
         }
+    }
+
+    /// The match that the tables tell by needles that are sought fast. Where each match begins with one, the first is asked first whether a match
+    /// begins there. An `Err` says why they tell none.
+    #[inline(always)]
+    fn find_by_needles<H: Halves, C: Cursor>(
+        &self,
+        halves: &H,
+        cache: &mut H::Cache,
+        input: &mut Input<C>,
+        guard: Guard,
+    ) -> Result<Option<Match>, MatchError>
+        requires own { ∥ AreHalvesFor self.now.engine self.now.patterns (H.AreOf halves.now) ∥₁ }
+        requires cache { H.IsCache halves.now cache.old }
+        requires guards { IsGuard (places_of self.now.engine.program.places.items) self.now.engine.program.terminator guard }
+        ensures cache { H.IsCache halves.now cache.new }
+        ensures keeps { Keeps input.old input.new }
+        ensures found { IfOk result (λ found. found ≡ answer_by self.now.engine.kind (engine_search self.now.engine input.old)) }
+        ensures within { IfOk result (λ found. IfSome found (λ m. (low input.old ≤ m.start) × (m.start ≤ m.end) × (m.end ≤ high input.old))) }
+    {
+        match guard {
+            Guard::Begins(needles) => self.find_by_begin(halves, cache, input, needles),
+            Guard::Holds(_) => self.find_by_guard(halves, cache, input, guard),
+        }
+    }
+
+    /// The match that the tables tell where each walk begins with a needle that is sought fast: the first is asked first whether a match begins
+    /// there. An `Err` says why they tell none.
+    #[inline(always)]
+    fn find_by_begin<H: Halves, C: Cursor>(
+        &self,
+        halves: &H,
+        cache: &mut H::Cache,
+        input: &mut Input<C>,
+        needles: &Prefilter,
+    ) -> Result<Option<Match>, MatchError>
+        requires own { ∥ AreHalvesFor self.now.engine self.now.patterns (H.AreOf halves.now) ∥₁ }
+        requires cache { H.IsCache halves.now cache.old }
+        requires guards { Guards (places_of self.now.engine.program.places.items) self.now.engine.program.terminator (needles_of needles.now) }
+        ensures cache { H.IsCache halves.now cache.new }
+        ensures keeps { Keeps input.old input.new }
+        ensures found { IfOk result (λ found. found ≡ answer_by self.now.engine.kind (engine_search self.now.engine input.old)) }
+        ensures within { IfOk result (λ found. IfSome found (λ m. (low input.old ≤ m.start) × (m.start ≤ m.end) × (m.end ≤ high input.old))) }
+    {
+        find_first(halves, cache, input, self.aim(), needles, true)
     }
 
     /// The match that the tables tell from needle to needle. An `Err` says why they tell none.
@@ -300,7 +345,7 @@ impl Engines {
         ensures found { IfOk result (λ found. found ≡ answer_by self.now.engine.kind (engine_search self.now.engine input.old)) }
         ensures within { IfOk result (λ found. IfSome found (λ m. (low input.old ≤ m.start) × (m.start ≤ m.end) × (m.end ≤ high input.old))) }
     {
-        let found = find_first(halves, cache, input, self.aim(), needles);
+        let found = find_first(halves, cache, input, self.aim(), needles, false);
         if let Err(MatchError::Quit { .. }) = found {
             return self.find_by_guard(halves, cache, input, Guard::Begins(needles));
         }

@@ -15,6 +15,7 @@ ghost use Rattle.rc_engines.specs.Firsts.{AsksFirst, starting_at};
 use rc_automaton::halves::Halves;
 use rc_guards::guard::{Guard, next_start};
 use rc_literal::prefilter::Prefilter;
+use rc_spans::guarded::find_guarded;
 use rc_spans::search::{Aim, find, id_of, told};
 use rc_states::kind::TableKind;
 use rc_text::cursor::Cursor;
@@ -84,6 +85,48 @@ fn first_start<C: Cursor>(
     Some(start.from)
 }
 
+/// The same by needles that are sought fast: where the first of them stands.
+#[inline(always)]
+fn needle_start<C: Cursor>(
+    input: &mut Input<C>,
+    needles: &Prefilter,
+    from: usize,
+    end: usize,
+) -> Option<usize>
+    requires end { end ≡ high input.old }
+    ensures keeps { Keeps input.old input.new }
+    ensures within { IfSome result (λ x. (from ≤ x) × (x ≤ end)) }
+    ensures passed { (places : List Place) (terminator : ℕ) (over : Bool) → Guards places terminator (needles_of needles.now) → MatchOption result
+        ((x : ℕ) → from ≤ x → x ≤ end → HasNoWalkFrom (search_over places terminator over input.old) x)
+        (λ start. (x : ℕ) → from ≤ x → x < start → HasNoWalkFrom (search_over places terminator over input.old) x) }
+{
+    let start = next_start(input, Guard::Begins(needles), from, end)?;
+    Some(start.from)
+}
+
+/// Where the first match may begin, by needles that are sought fast or not.
+#[inline(always)]
+fn start_by<C: Cursor>(
+    input: &mut Input<C>,
+    needles: &Prefilter,
+    are_fast: bool,
+    from: usize,
+    end: usize,
+) -> Option<usize>
+    requires end { end ≡ high input.old }
+    requires ordered { from ≤ end }
+    ensures keeps { Keeps input.old input.new }
+    ensures within { IfSome result (λ x. (from ≤ x) × (x ≤ end)) }
+    ensures passed { (places : List Place) (terminator : ℕ) (over : Bool) → Guards places terminator (needles_of needles.now) → MatchOption result
+        ((x : ℕ) → from ≤ x → x ≤ end → HasNoWalkFrom (search_over places terminator over input.old) x)
+        (λ start. (x : ℕ) → from ≤ x → x < start → HasNoWalkFrom (search_over places terminator over input.old) x) }
+{
+    if are_fast {
+        return needle_start(input, needles, from, end);
+    }
+    first_start(input, needles, from, end)
+}
+
 /// The match of the kind that begins at the position, if one does. An `Err` says why the tables tell nothing.
 #[inline(always)]
 fn find_here<H: Halves, C: Cursor>(
@@ -137,6 +180,36 @@ pub(crate) fn find_later<H: Halves, C: Cursor>(
     found
 }
 
+/// The match that `find_later` finds, where each begins with a needle: from needle to needle where these are sought fast.
+#[inline(never)]
+fn find_on<H: Halves, C: Cursor>(
+    halves: &H,
+    cache: &mut H::Cache,
+    input: &mut Input<C>,
+    aim: Aim,
+    needles: &Prefilter,
+    are_fast: bool,
+    from: usize,
+) -> Result<Option<Match>, MatchError>
+    requires cache { H.IsCache halves.now cache.old }
+    requires low { low input.old ≤ from }
+    requires high { from ≤ high input.old }
+    ensures cache { H.IsCache halves.now cache.new }
+    ensures keeps { Keeps input.old input.new }
+    ensures found { (hs : List Re) (terminator : ℕ) → AreHalvesOf (H.AreOf halves.now) aim hs terminator → Guards (program hs) terminator (needles_of needles.now)
+        → IfOk result (IsAnswerBy aim.kind aim.earliest (record (search_for aim hs terminator input.old) { lo = from })) }
+    ensures within { IfOk result (λ found. IfSome found (λ m. (low input.old ≤ m.start) × (m.start ≤ m.end) × (m.end ≤ high input.old))) }
+{
+    if !are_fast {
+        return find_later(halves, cache, input, aim, from);
+    }
+    let span = input.get_span();
+    input.set_start(from);
+    let found = find_guarded(halves, cache, input, aim, Guard::Begins(needles));
+    input.set_span(span);
+    found
+}
+
 /// The match of the least start, where each begins with a needle: a run from where the first may begin tells it, if one begins there; else it is
 /// sought from there on.
 #[inline(always)]
@@ -146,6 +219,7 @@ fn find_by_first<H: Halves, C: Cursor>(
     input: &mut Input<C>,
     aim: Aim,
     needles: &Prefilter,
+    are_fast: bool,
 ) -> Result<Option<Match>, MatchError>
     requires cache { H.IsCache halves.now cache.old }
     requires goes { AsksFirst aim input.old.anchored }
@@ -160,17 +234,18 @@ fn find_by_first<H: Halves, C: Cursor>(
     if lo > hi {
         return Ok(None);
     }
-    let Some(from) = first_start(input, needles, lo, hi) else {
+    let Some(from) = start_by(input, needles, are_fast, lo, hi) else {
         return Ok(None);
     };
     if let Some(found) = find_here(halves, cache, input, from, hi)? {
         return Ok(Some(found));
     }
-    find_later(halves, cache, input, aim, from)
+    find_on(halves, cache, input, aim, needles, are_fast, from)
 }
 
 /// The match that `find` finds, where each begins with a needle. A search for that of the least start, which isn't anchored and passes none over,
-/// asks first whether one begins where the first may. Each other search is that of `find`.
+/// asks first whether one begins where the first may; where none does, it goes on from needle to needle if these are sought fast. Each other
+/// search is that of `find`.
 #[inline(always)]
 pub(crate) fn find_first<H: Halves, C: Cursor>(
     halves: &H,
@@ -178,6 +253,7 @@ pub(crate) fn find_first<H: Halves, C: Cursor>(
     input: &mut Input<C>,
     aim: Aim,
     needles: &Prefilter,
+    are_fast: bool,
 ) -> Result<Option<Match>, MatchError>
     requires cache { H.IsCache halves.now cache.old }
     ensures cache { H.IsCache halves.now cache.new }
@@ -187,7 +263,7 @@ pub(crate) fn find_first<H: Halves, C: Cursor>(
     ensures within { IfOk result (λ found. IfSome found (λ m. (low input.old ≤ m.start) × (m.start ≤ m.end) × (m.end ≤ high input.old))) }
 {
     if asks_first(aim, input.get_anchored()) {
-        return find_by_first(halves, cache, input, aim, needles);
+        return find_by_first(halves, cache, input, aim, needles, are_fast);
     }
     find(halves, cache, input, aim)
 }
