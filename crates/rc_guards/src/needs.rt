@@ -46,14 +46,21 @@ fn fast_prefilter(alloc: Global, needles: Vec<Vec<u8>>) -> Result<Option<Prefilt
     Ok(Some(prefilter))
 }
 
-/// The needles with what is read behind single bytes, made ready for searches; None where there are none, and where they are not sought fast.
+/// The needles with what is read behind single bytes, made ready for searches; None where there are none, and where they are not sought by a
+/// sieve that is fast: by few first bytes they are sought no sooner than single bytes are, and then compared.
 fn longer_prefilter(alloc: Global, hirs: &[Hir]) -> Result<Option<Prefilter>, AllocError>
     ensures { IfOk result (λ found. IfSome found (λ p. (t : Text) → Holds t (map meaning hirs.now) (needles_of p))) }
 {
     let Some(list) = required(alloc, hirs, true)? else {
         return Ok(None);
     };
-    fast_prefilter(alloc, list)
+    let longer = fast_prefilter(alloc, list)?;
+    if let Some(needles) = &longer {
+        if !needles.goes_by_sieve() {
+            return Ok(None);
+        }
+    }
+    Ok(longer)
 }
 
 /// Needles of which each match of the patterns holds one, made ready for searches, where they are worth it.

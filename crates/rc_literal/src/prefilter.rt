@@ -55,6 +55,11 @@ impl Prefilter {
         most
     }
 
+    /// Whether a search goes by a sieve of the needles' first bytes.
+    pub fn goes_by_sieve(&self) -> bool {
+        matches!(&self.searcher.scan, Scan::Sieve(_))
+    }
+
     /// Whether a search goes by a needle, by at most three bytes, or by a sieve of needles that begin with
     /// at most three, or that have all the bytes that it reads.
     pub fn is_fast(&self) -> bool {

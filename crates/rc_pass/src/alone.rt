@@ -42,7 +42,7 @@ fn is_tried(tried: Option<usize>, place: usize) -> bool
 }
 
 /// Whether no walk leads on from the place, where that is told by a few places. Walks over the place that was tried don't count.
-#[inline(always)]
+#[inline(never)]
 fn leads_nowhere(spot: &Spot, from: usize, tried: Option<usize>) -> bool
     ghost text: { Searched }
     requires here { IsHere spot.now text }
