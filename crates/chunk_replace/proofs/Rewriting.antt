@@ -10,12 +10,12 @@ use Rattle.rc_captures.specs.declared.captures.Captures.{Captures}
 use Rattle.rc_program.specs.Answer.{Chosen, Search, found, last_of, pattern_of, slot_of}
 use Rattle.rc_program.specs.Kinds.{matches_by_kind}
 use Rattle.rc_program.specs.Matches.{from_on}
-use Rattle.rc_engine.specs.Walks.{walks_left}
-use Rattle.rc_engine.proofs.Walked.{walks_law}
+use Rattle.rc_pikevm_search.specs.Walks.{walks_left}
+use Rattle.rc_pikevm_search.proofs.Walked.{walks_law}
 use Rattle.std.specs.declared.alloc.AllocError.{AllocError}
-use Rattle.rc_meta.specs.Left.{GivesCaptures, HoldsNext, TellsWalk, captures_left, captures_regex, captures_walks, unless_done}
-use Rattle.rc_meta.specs.Views.{regex_kind, regex_names}
-use Rattle.rc_meta.specs.declared.iterators.CapturesMatches.{CapturesMatches}
+use Rattle.api_meta.specs.Left.{GivesCaptures, HoldsNext, TellsWalk, captures_left, captures_regex, captures_walks, unless_done}
+use Rattle.api_meta.specs.Views.{regex_kind, regex_names}
+use Rattle.api_meta.specs.declared.iterators.CapturesMatches.{CapturesMatches}
 use Rattle.regex_cursor.specs.Put.{AppendsBeginning, Puts}
 use Rattle.chunk_replace.specs.Replaced.{replaced_from, replacement}
 use Rattle.chunk_replace.specs.declared.template.Part.{Part}

@@ -12,17 +12,17 @@ use Rattle.rc_program.specs.Kinds.{matches_by_kind}
 use Rattle.rc_program.specs.Matches.{matches_left}
 use Rattle.rc_program.specs.Sought.{Sought, search_for}
 use Rattle.rc_program.proofs.KindLemmas.{kinds_law}
-use Rattle.rc_engine.specs.Walks.{walks_left}
+use Rattle.rc_pikevm_search.specs.Walks.{walks_left}
 use Rattle.rc_settings.specs.Settings.{match_kind_of, program_settings, unset, which_captures_of}
 use Rattle.rc_settings.specs.Which.{is_grouped}
 use Rattle.rc_build.specs.Fits.{sought_by}
 use Rattle.rc_build.specs.Names.{names_shown}
 use Rattle.rc_build.specs.TextRefusals.{AllRead}
 use Rattle.rc_build.proofs.TextLemmas.{one_read}
-use Rattle.rc_meta.specs.Left.{captures_input, captures_left, captures_regex, captures_walks}
-use Rattle.rc_meta.specs.Views.{regex_kind, regex_names, regex_patterns, regex_settings, sought}
-use Rattle.rc_meta.specs.declared.iterators.CapturesMatches.{CapturesMatches}
-use Rattle.rc_meta.specs.declared.regex.Regex.{Regex}
+use Rattle.api_meta.specs.Left.{captures_input, captures_left, captures_regex, captures_walks}
+use Rattle.api_meta.specs.Views.{regex_kind, regex_names, regex_patterns, regex_settings, sought}
+use Rattle.api_meta.specs.declared.iterators.CapturesMatches.{CapturesMatches}
+use Rattle.api_meta.specs.declared.regex.Regex.{Regex}
 use Rattle.regex_cursor.specs.Output.{IsWhole, matches_in, sought_by_default, whole}
 use Rattle.regex_cursor.specs.Put.{Puts}
 use Rattle.chunk_replace.specs.Replaced.{matches_of, replaced, replaced_by, replaced_from, replacement}

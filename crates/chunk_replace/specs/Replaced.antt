@@ -9,9 +9,9 @@ use Rattle.rc_captures.specs.Names.{Names, slots, to_index}
 use Rattle.rc_program.specs.Answer.{Chosen, Search, last_of, pattern_of, slot_of}
 use Rattle.rc_program.specs.Kinds.{matches_by_kind}
 use Rattle.rc_program.specs.Sought.{Sought, search_for}
-use Rattle.rc_engine.specs.Walks.{walks_left}
-use Rattle.rc_meta.specs.Views.{regex_kind, regex_names, sought}
-use Rattle.rc_meta.specs.declared.regex.Regex.{Regex}
+use Rattle.rc_pikevm_search.specs.Walks.{walks_left}
+use Rattle.api_meta.specs.Views.{regex_kind, regex_names, sought}
+use Rattle.api_meta.specs.declared.regex.Regex.{Regex}
 use Rattle.regex_cursor.specs.Output.{whole}
 use Rattle.chunk_replace.specs.Spans.{bytes_in}
 use Rattle.chunk_replace.specs.Template.{Item, byte, group, named}

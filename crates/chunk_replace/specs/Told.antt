@@ -6,9 +6,9 @@ use Rattle.rc_captures.specs.Captures.{group_span, named_span}
 use Rattle.rc_captures.specs.declared.captures.Captures.{Captures}
 use Rattle.rc_program.specs.Answer.{Search}
 use Rattle.rc_program.specs.Sought.{search_for}
-use Rattle.rc_meta.specs.Left.{captures_input, captures_regex}
-use Rattle.rc_meta.specs.Views.{sought}
-use Rattle.rc_meta.specs.declared.iterators.CapturesMatches.{CapturesMatches}
+use Rattle.api_meta.specs.Left.{captures_input, captures_regex}
+use Rattle.api_meta.specs.Views.{sought}
+use Rattle.api_meta.specs.declared.iterators.CapturesMatches.{CapturesMatches}
 use Rattle.chunk_replace.specs.declared.template.Part.{Part}
 use Rattle.chunk_replace.specs.Template.{Item, byte, group, named, items_of}
 use Rattle.chunk_replace.specs.Spans.{bytes_in}

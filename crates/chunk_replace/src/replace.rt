@@ -3,7 +3,7 @@ ghost use Rattle.std.specs.Prelude.{◌≡◌, ◌≢◌, ◌↔◌, false, leng
 ghost use Rattle.std.specs.Io.KnownBytes.{Keeps};
 ghost use Rattle.rc_text.specs.Joined.{IsTooLong, joined};
 ghost use Rattle.rc_text.specs.declared.types.MatchKind.TheVariants.{All as greatest_matches};
-ghost use Rattle.rc_meta.specs.Views.{regex_kind};
+ghost use Rattle.api_meta.specs.Views.{regex_kind};
 ghost use Rattle.regex_cursor.specs.Output.{IsWhole};
 ghost use Rattle.chunk_replace.specs.declared.error.ReplaceError.TheVariants.{TooLong, Write};
 ghost use Rattle.regex_cursor.specs.Put.{Puts};

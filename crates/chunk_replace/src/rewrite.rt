@@ -1,8 +1,8 @@
 //! A text with its matches replaced, as it is put into a writer.
 ghost use Rattle.std.specs.Prelude.{◌≡◌, ◌≢◌, ◌++◌, ◌<◌, ◌^◌, drop, false, length, slice_range, true, Err, IfErr, IfOk, OnOk};
 ghost use Rattle.rc_text.specs.declared.types.MatchKind.TheVariants.{All as greatest_matches};
-ghost use Rattle.rc_meta.specs.Left.{captures_left, captures_regex, captures_walks};
-ghost use Rattle.rc_meta.specs.Views.{regex_kind, regex_names};
+ghost use Rattle.api_meta.specs.Left.{captures_left, captures_regex, captures_walks};
+ghost use Rattle.api_meta.specs.Views.{regex_kind, regex_names};
 ghost use Rattle.chunk_replace.specs.declared.error.ReplaceError.TheVariants.{Memory, Write};
 ghost use Rattle.regex_cursor.specs.Put.{Puts};
 ghost use Rattle.chunk_replace.specs.Replaced.{replaced_from, replacement};

@@ -1,6 +1,6 @@
 //! A cache that is kept over many searches.
-ghost use Rattle.rc_meta.specs.Caches.{IsCacheFor};
-ghost use Rattle.rc_meta.specs.Views.{regex_patterns, regex_settings};
+ghost use Rattle.api_meta.specs.Caches.{IsCacheFor};
+ghost use Rattle.api_meta.specs.Views.{regex_patterns, regex_settings};
 
 use regex_cursor::Input;
 use regex_cursor::engines::meta::{Cache, Finder, Regex};

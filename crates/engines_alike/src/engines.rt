@@ -9,14 +9,15 @@ use crate::faults::{Fault, same};
 use crate::inputs::Request;
 use crate::settings::Settings;
 use crate::tables::{Hybrid, TableEngine};
+use api_meta::builder::Builder;
+use api_meta::regex::Regex;
+use api_pikevm::search;
+use api_pikevm::vm::PikeVM;
+use oracle_walker::walker;
 use rc_build::compile::compile_all;
 use rc_build::texts::parse_all;
 use rc_captures::captures::{Captures, slots_of};
-use rc_meta::builder::Builder;
-use rc_meta::regex::Regex;
 use rc_pattern::hir::{Hir, Look};
-use rc_pikevm::search;
-use rc_pikevm::vm::PikeVM;
 use rc_program::heads::heads_of;
 use rc_program::place::Place;
 use rc_program::program::Program;
@@ -25,7 +26,6 @@ use rc_settings::meta::Config;
 use rc_text::cursor::Cursor;
 use rc_text::input::Input;
 use rc_text::types::{HalfMatch, Match, MatchKind, PatternID};
-use rc_walker::walker;
 use std::alloc::Global;
 
 /// More patterns than this are refused by the condition of a build.
@@ -218,7 +218,7 @@ fn hybrid_of(
     patterns: &[&str],
     settings: &Settings,
     capacity: Option<usize>,
-) -> Result<rc_hybrid::regex::Regex, BuildError>
+) -> Result<api_hybrid::regex::Regex, BuildError>
     requires { length patterns.now ≤ 2147483647 }
 {
     let builder = settings.hybrid_builder(capacity);
@@ -377,7 +377,7 @@ fn dfa_of(
     alloc: Global,
     patterns: &[&str],
     settings: &Settings,
-) -> Result<rc_dfa::regex::Regex, BuildError>
+) -> Result<api_dfa::regex::Regex, BuildError>
     requires { length patterns.now ≤ 2147483647 }
 {
     let builder = settings.dfa_builder();

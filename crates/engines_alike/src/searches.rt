@@ -1,6 +1,6 @@
 //! What is found over one cursor, and whether it is what the row wants.
 ghost use Rattle.rc_captures.specs.Captures.{IsCapturesFor};
-ghost use Rattle.rc_meta.specs.Views.{regex_names};
+ghost use Rattle.api_meta.specs.Views.{regex_names};
 
 use crate::cut::Cut;
 use crate::engines::{Engines, found_by_regex, half_of};
@@ -8,9 +8,9 @@ use crate::faults::{Fault, Part, same};
 use crate::inputs::{Request, end_at, input, is_again, pair_of, start_at};
 use crate::row::{Pair, Quits, Row, Want};
 use crate::tables::{Listed, TableEngine};
+use api_meta::iterators::{CapturesMatches, FindMatches, Split, SplitN};
+use api_meta::regex::Regex;
 use rc_captures::captures::Captures;
-use rc_meta::iterators::{CapturesMatches, FindMatches, Split, SplitN};
-use rc_meta::regex::Regex;
 use rc_text::cursor::Cursor;
 use rc_text::input::Input;
 use rc_text::types::{HalfMatch, Match, MatchKind};

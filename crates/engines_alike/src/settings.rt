@@ -2,10 +2,10 @@
 
 use crate::faults::{Fault, same};
 use crate::row::number;
-use rc_literal::prefilter::Prefilter;
+use api_pikevm::builder::Builder;
+use api_pikevm::vm::PikeVM;
+use rc_needles::prefilter::Prefilter;
 use rc_parser::Config as Syntax;
-use rc_pikevm::builder::Builder;
-use rc_pikevm::vm::PikeVM;
 use rc_settings::meta::Config;
 use rc_settings::pikevm::Config as Searches;
 use rc_settings::states::Config as States;
@@ -179,12 +179,12 @@ impl<'a> Settings<'a> {
     }
 
     /// A builder of a DFA.
-    pub fn dfa_builder(&self) -> rc_dfa::builder::Builder {
+    pub fn dfa_builder(&self) -> api_dfa::builder::Builder {
         let tables = States::new()
             .match_kind(self.kind)
             .byte_classes(self.byte_classes)
             .dfa_size_limit(self.dfa_limit);
-        let mut builder = rc_dfa::regex::Regex::builder();
+        let mut builder = api_dfa::regex::Regex::builder();
         builder
             .thompson(self.program())
             .dense(tables)
@@ -193,14 +193,14 @@ impl<'a> Settings<'a> {
     }
 
     /// A builder of a hybrid, with this capacity of a cache, or with the one that it has by default.
-    pub fn hybrid_builder(&self, capacity: Option<usize>) -> rc_hybrid::builder::Builder {
+    pub fn hybrid_builder(&self, capacity: Option<usize>) -> api_hybrid::builder::Builder {
         let mut tables = States::new()
             .match_kind(self.kind)
             .byte_classes(self.byte_classes);
         if let Some(bytes) = capacity {
             tables = tables.cache_capacity(bytes);
         }
-        let mut builder = rc_hybrid::regex::Regex::builder();
+        let mut builder = api_hybrid::regex::Regex::builder();
         builder
             .thompson(self.program())
             .dfa(tables)

@@ -1,14 +1,14 @@
 //! The engines that search by tables of states: tables that are made at the build, and tables of states that are made as they are met.
 
 ghost use Rattle.std.specs.Prelude.{ℕ};
-ghost use Rattle.rc_hybrid.specs.Caches.{IsCacheFor, capacity_of};
+ghost use Rattle.api_hybrid.specs.Caches.{IsCacheFor, capacity_of};
 
 use crate::faults::{Fault, Part};
 use crate::inputs::pair_of;
 use crate::row::{Pair, Quits};
-use rc_dfa::search as dfa;
-use rc_hybrid::cache::Cache;
-use rc_hybrid::search as hybrid;
+use api_dfa::search as dfa;
+use api_hybrid::cache::Cache;
+use api_hybrid::search as hybrid;
 use rc_text::cursor::Cursor;
 use rc_text::input::Input;
 use rc_text::types::{HalfMatch, Match, MatchError};
@@ -19,7 +19,7 @@ use std::marker::Model;
 #[derive(Drop)]
 pub enum TableEngine {
     /// All tables are made at the build.
-    Dfa(rc_dfa::regex::Regex),
+    Dfa(api_dfa::regex::Regex),
     /// States are made as they are met.
     Hybrid(Hybrid),
 }
@@ -27,7 +27,7 @@ pub enum TableEngine {
 /// A regex whose states are made as they are met, and one cache for all its searches.
 #[derive(Drop)]
 pub struct Hybrid {
-    regex: rc_hybrid::regex::Regex,
+    regex: api_hybrid::regex::Regex,
     cache: Cache,
     is_small: bool,
 }
@@ -44,7 +44,7 @@ impl Hybrid {
     /// The regex with a cache; a small one may be too small for a search.
     pub fn new(
         alloc: Global,
-        regex: rc_hybrid::regex::Regex,
+        regex: api_hybrid::regex::Regex,
         is_small: bool,
     ) -> Result<Hybrid, AllocError> {
         match regex.create_cache(alloc) {
@@ -182,7 +182,7 @@ impl TableEngine {
 /// The matches that the DFA's iterator gives.
 fn listed_by_dfa<C: Cursor + Drop>(
     alloc: Global,
-    regex: &rc_dfa::regex::Regex,
+    regex: &api_dfa::regex::Regex,
     input: Input<&mut C>,
 ) -> Result<Listed, AllocError> {
     let mut listed = Listed {
@@ -213,7 +213,7 @@ fn listed_by_hybrid<C: Cursor + Drop>(
 /// The matches that the iterator of a hybrid's regex gives, in this cache.
 fn listed_in<C: Cursor + Drop>(
     alloc: Global,
-    regex: &rc_hybrid::regex::Regex,
+    regex: &api_hybrid::regex::Regex,
     cache: &mut Cache,
     input: Input<&mut C>,
 ) -> Result<Listed, AllocError>

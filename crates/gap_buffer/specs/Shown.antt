@@ -6,12 +6,12 @@ use Rattle.rc_text.specs.Text.{Searched}
 use Rattle.rc_text.specs.declared.types.Span.{Span}
 use Rattle.rc_program.specs.Kinds.{answer_by, matches_by_kind}
 use Rattle.rc_program.specs.Sought.{Sought, search_for}
-use Rattle.rc_meta.specs.Views.{regex_kind, regex_patterns, regex_settings, sought}
-use Rattle.rc_meta.specs.Caches.{IsCacheFor}
-use Rattle.rc_meta.specs.declared.cache.Cache.{Cache}
-use Rattle.rc_meta.specs.Left.{find_left}
-use Rattle.rc_meta.specs.declared.iterators.FindMatches.{FindMatches}
-use Rattle.rc_meta.specs.declared.regex.Regex.{Regex}
+use Rattle.api_meta.specs.Views.{regex_kind, regex_patterns, regex_settings, sought}
+use Rattle.api_meta.specs.Caches.{IsCacheFor}
+use Rattle.api_meta.specs.declared.cache.Cache.{Cache}
+use Rattle.api_meta.specs.Left.{find_left}
+use Rattle.api_meta.specs.declared.iterators.FindMatches.{FindMatches}
+use Rattle.api_meta.specs.declared.regex.Regex.{Regex}
 use Rattle.regex_cursor.specs.Output.{whole}
 
 -- the cache was made for the regex

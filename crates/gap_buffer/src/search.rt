@@ -1,6 +1,6 @@
 //! Searches in a text with a caret, as an editor makes them.
 ghost use Rattle.std.specs.Prelude.{◌≡◌, ◌≤◌, ℕ, IfOk, false, filter, length};
-ghost use Rattle.rc_meta.specs.Left.{find_left};
+ghost use Rattle.api_meta.specs.Left.{find_left};
 ghost use Rattle.rc_program.specs.Matches.{AreInOrder, begin_of, end_of};
 ghost use Rattle.gap_buffer.specs.Shown.{IsCacheOf, IsSearchedFrom, LeavesAll, found_from, last_before, matches_of, overlaps};
 

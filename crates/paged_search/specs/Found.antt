@@ -4,8 +4,8 @@ use Rattle.rc_text.specs.Found.{Found}
 use Rattle.rc_text.specs.Text.{Searched}
 use Rattle.rc_program.specs.Kinds.{answer_by}
 use Rattle.rc_program.specs.Sought.{Sought, search_for}
-use Rattle.rc_meta.specs.Views.{regex_kind, sought}
-use Rattle.rc_meta.specs.declared.regex.Regex.{Regex}
+use Rattle.api_meta.specs.Views.{regex_kind, sought}
+use Rattle.api_meta.specs.declared.regex.Regex.{Regex}
 use Rattle.regex_cursor.specs.Output.{whole}
 use Rattle.paged_file.specs.Stored.{Stored, fault_of}
 use Rattle.paged_search.specs.declared.search.FindError.{FindError}

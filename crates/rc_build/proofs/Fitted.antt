@@ -10,11 +10,11 @@ use Rattle.rc_program.specs.Program.{program, shown}
 use Rattle.rc_program.specs.Kinds.{answer_by, answer_by_from, matches_by_kind}
 use Rattle.rc_program.specs.Matches.{begin_of, end_of, from_on, next_match}
 use Rattle.rc_program.specs.Sought.{Sought, passes_over, search_over, search_for}
-use Rattle.rc_engine.specs.Engine.{engine_search}
-use Rattle.rc_engine.specs.Moved.{IsMoved}
-use Rattle.rc_engine.specs.Tells.{TellsBy}
-use Rattle.rc_engine.specs.declared.engine.Engine.{Engine}
-use Rattle.rc_engine.proofs.Steps.{left_from, search_moved, step_none, step_some}
+use Rattle.rc_pikevm_search.specs.Engine.{engine_search}
+use Rattle.rc_pikevm_search.specs.Moved.{IsMoved}
+use Rattle.rc_pikevm_search.specs.Tells.{TellsBy}
+use Rattle.rc_pikevm_search.specs.declared.engine.Engine.{Engine}
+use Rattle.rc_pikevm_search.proofs.Steps.{left_from, search_moved, step_none, step_some}
 use Rattle.rc_settings.specs.Which.{is_grouped}
 use Rattle.rc_settings.specs.Thompson.{Settings, which_captures_of, line_terminator_of}
 use Rattle.rc_build.specs.Fits.{Fits, sought_by}

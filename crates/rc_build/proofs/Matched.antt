@@ -19,7 +19,7 @@ use Rattle.rc_program.proofs.PlaceLemmas.{accept_below}
 use Rattle.rc_program.proofs.GreatestLemmas.{answer_spelled, spelled_within}
 use Rattle.rc_program.proofs.ReachLemmas.{longest_law}
 use Rattle.rc_program.proofs.KindLemmas.{kind_spelled}
-use Rattle.rc_engine.specs.Tells.{Tells, TellsOf, TellsSpan, TellsBy, KeepsAll, span_slot}
+use Rattle.rc_pikevm_search.specs.Tells.{Tells, TellsOf, TellsSpan, TellsBy, KeepsAll, span_slot}
 
 start_slot : (s : Search) (c : Chosen) → slot_of s c (2 * pattern_of s c) ≡ Some c.start
 start_slot s c = rw (eq-eqb (2 * pattern_of s c) (2 * pattern_of s c) refl) refl

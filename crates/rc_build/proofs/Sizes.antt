@@ -14,7 +14,7 @@ use Rattle.rc_build.proofs.Runnable.{bounded}
 use Rattle.rc_captures.specs.Groups.{names_of}
 use Rattle.rc_captures.specs.declared.groups.GroupInfo.{GroupInfo}
 use Rattle.rc_program.specs.Sought.{passes_over}
-use Rattle.rc_engine.specs.declared.engine.Engine.{Engine}
+use Rattle.rc_pikevm_search.specs.declared.engine.Engine.{Engine}
 use Rattle.rc_settings.specs.Which.{is_grouped}
 use Rattle.rc_build.specs.Names.{names_shown}
 use Rattle.rc_build.specs.Fits.{Fits, sought_by}

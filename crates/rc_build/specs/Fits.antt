@@ -8,7 +8,7 @@ use Rattle.rc_captures.specs.declared.groups.GroupInfo.{GroupInfo}
 use Rattle.rc_program.specs.Program.{program, shown}
 use Rattle.rc_program.specs.Sought.{Sought, passes_over}
 use Rattle.rc_program.specs.Places.{places_of}
-use Rattle.rc_engine.specs.declared.engine.Engine.{Engine}
+use Rattle.rc_pikevm_search.specs.declared.engine.Engine.{Engine}
 use Rattle.rc_settings.specs.Which.{is_grouped}
 use Rattle.rc_settings.specs.Thompson.{Settings, utf8_of, which_captures_of, line_terminator_of}
 use Rattle.rc_build.specs.Names.{names_shown}

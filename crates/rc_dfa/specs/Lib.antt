@@ -1,7 +1,8 @@
-pub mod Views
-pub mod Tables
-pub mod Aims
-pub mod Makes
-pub mod Refusals
-pub mod Faults
-pub mod Left
+pub mod Machine
+pub mod Runs
+pub mod Samples
+pub mod Props
+pub mod Automata
+pub mod Laws
+pub mod Ended
+pub mod Keys

@@ -1,8 +1,10 @@
-//! Searches by tables of all the states that can be reached, as their users see them: what is built from patterns, and its searches.
+//! Searches by states: what a table or a cache of states is made of, and what its runs over a text tell.
 #![tactic(auto)]
 
-pub mod builder;
-pub mod dfa;
-pub mod iterators;
-pub mod regex;
-pub mod search;
+pub mod automaton;
+pub mod ended;
+pub mod halves;
+pub mod laws;
+mod matches;
+mod samples;
+pub mod states;

@@ -1,17 +1,20 @@
--- What caches are made for, and what they count.
-use Rattle.std.specs.Prelude.{ℕ, length}
-use Rattle.rc_captures.specs.Names.{slot_len}
-use Rattle.rc_program.specs.Program.{program, shown}
-use Rattle.rc_program.specs.Sought.{Sought}
-use Rattle.rc_pass.specs.Caches as pikevm
-use Rattle.rc_build.specs.Names.{names_shown}
-use Rattle.rc_pikevm.specs.declared.cache.Cache.{Cache}
+-- What callers see of a cache.
+use Rattle.std.specs.Prelude.{◌≡◌, ℕ, ◌≤◌, refl}
+use Rattle.std.specs.Coded.{Coded, code_by, coded×, coded_ℕ}
 
--- The cache was made for searches for this: it has room for the program, and for the slots of all groups that are kept.
-abbrev pub IsCacheFor : Sought → Cache → Type 0
-IsCacheFor q cache =
-    pikevm.IsCacheFor (length (program (shown q.grouped q.patterns))) (slot_len (names_shown q.grouped q.patterns)) cache.inner
+pub record Made : Type 0 where
+  -- for programs of so many places,
+  pub places : ℕ
+  -- and searches with at most so many slots
+  pub slots : ℕ
+  -- how many places the last pass of the last search entered
+  pub insertions : ℕ
 
--- how many places the last pass of the last search entered, over all positions
-abbrev pub insertions_of : Cache → ℕ
-insertions_of cache = cache.inner.insertions
+abbrev pub made_code : Coded Made
+made_code =
+    code_by (ℕ × (ℕ × ℕ)) (coded× coded_ℕ (coded× coded_ℕ coded_ℕ)) (λ m. (m.places, (m.slots, m.insertions)))
+    (λ p. record { places = p.0; slots = p.1.0; insertions = p.1.1 }) (λ _. refl)
+
+-- the cache was made for programs of so many places, and searches with so many slots or fewer
+abbrev pub IsCacheFor : ℕ → ℕ → Made → Type 0
+IsCacheFor places slots cache = (cache.places ≡ places) × (slots ≤ cache.slots)

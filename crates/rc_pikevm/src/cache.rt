@@ -1,49 +1,73 @@
-//! What searches work in.
+//! What a search works in.
 
-use crate::vm::PikeVM;
-use rc_pass::cache;
+use crate::growth::Frame;
+use crate::scratch::Scratch;
+use crate::threads::Head;
 use std::alloc::{AllocError, Global};
+use std::marker::Model;
+use std::mem::size_of;
 
-/// What searches by a `PikeVM` work in: all memory that they need, made once.
+/// What a search works in: all memory that it needs, made once.
 #[derive(Drop)]
 pub struct Cache {
-    alloc: Global,
-    pub(crate) inner: cache::Cache,
+    pub(crate) scratch: Scratch,
+    places: usize,
+    slots: usize,
+}
+
+impl Model for Cache {
+    ghost use Rattle.std.specs.Prelude.{◌≡◌};
+    ghost use Rattle.rc_pikevm.specs.Caches.{Made, made_code};
+
+    ghost Value = { Made };
+
+    ghost coded = { made_code };
+
+    ghost view = { λ a. record { places = a.places; slots = a.slots; insertions = a.scratch.insertions } };
+
+    ghost invariant = { λ a. (a.scratch.next.entered.capacity ≡ a.places) × (a.scratch.next.threads.most ≡ a.slots) };
 }
 
 impl Cache {
-    ghost use Rattle.std.specs.Prelude.{◌≡◌, IfOk, OnErr, OnOk};
-    ghost use Rattle.rc_pikevm.specs.Caches.{IsCacheFor, insertions_of};
-    ghost use Rattle.rc_pikevm.specs.Views.{sought};
+    ghost use Rattle.std.specs.Prelude.{◌≡◌, IfOk};
+    ghost use Rattle.rc_pikevm.specs.Caches.{IsCacheFor};
 
-    /// A cache for searches by this `PikeVM`, and by any that seeks the same. An `Err` is want of memory.
-    pub fn new(alloc: Global, vm: &PikeVM) -> Result<Cache, AllocError>
-        ensures made { IfOk result (IsCacheFor (sought vm.now)) }
-        ensures unused { IfOk result (λ c. insertions_of c ≡ 0) }
+    /// A cache for programs of `places` places, and searches with at most `slots` slots. It makes
+    /// every growth that these searches need.
+    pub fn new(alloc: Global, places: usize, slots: usize) -> Result<Cache, AllocError>
+        ensures { IfOk result (λ c. c ≡ record { places = places; slots = slots; insertions = 0 }) }
     {
-        let inner = vm.inner_cache(alloc)?;
-        Ok(Cache { alloc, inner })
+        Ok(Cache {
+            scratch: Scratch::new(alloc, places, slots)?,
+            places,
+            slots,
+        })
     }
 
-    /// Makes this a cache for searches by another `PikeVM`. An `Err` is want of memory, and then the cache stays as it was.
-    pub fn reset(&mut self, vm: &PikeVM) -> Result<(), AllocError>
-        ensures made { OnOk result (IsCacheFor (sought vm.now) self.new) }
-        ensures unused { OnOk result (insertions_of self.new ≡ 0) }
-        ensures refused { OnErr result (self.new ≡ self.old) }
-    {
-        self.inner = vm.inner_cache(self.alloc)?;
-        Ok(())
-    }
-
-    /// How many places the last pass of the last search entered, over all positions; 0 where that search made no pass.
+    /// How many places the last pass of the last search entered, over all positions; 0 where that
+    /// search made no pass.
     pub fn insertions(&self) -> u128
-        ensures { result ≡ insertions_of self.now }
+        ensures { result ≡ self.now.insertions }
     {
-        self.inner.insertions()
+        self.scratch.insertions
     }
 
     /// About how many bytes the cache has taken for its lists.
     pub fn memory_usage(&self) -> usize {
-        self.inner.memory_usage()
+        let heads = self.places.saturating_mul(8 * size_of::<Head>());
+        let cells = self.places.saturating_mul(8).saturating_add(2);
+        let rows = self
+            .slots
+            .saturating_mul(cells)
+            .saturating_mul(size_of::<Option<usize>>());
+        let set = self.places.saturating_mul(2 * size_of::<usize>());
+        let frames = self
+            .places
+            .saturating_add(1)
+            .saturating_mul(size_of::<Frame>());
+        heads
+            .saturating_add(rows)
+            .saturating_add(set)
+            .saturating_add(frames)
     }
 }

@@ -1,8 +1,27 @@
-//! The ordered pass over a text, as its users see it: what is built from patterns, its caches, and its searches.
+//! The ordered pass over a text: all threads at once, in order, each place entered once at a position.
 #![tactic(auto)]
 
-pub mod builder;
+mod alone;
 pub mod cache;
-pub mod iterators;
+mod closure;
+pub mod early;
+mod entrance;
+pub mod greatest;
+mod growth;
+mod heads;
+pub mod kinds;
+pub mod longest;
+mod moves;
+mod pass;
+mod race;
+mod race_alone;
+mod race_closure;
+mod scratch;
 pub mod search;
-pub mod vm;
+mod sides;
+pub mod sparse_set;
+mod spot;
+mod spread;
+mod threads;
+pub mod which;
+mod window;

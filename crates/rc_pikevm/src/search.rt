@@ -1,181 +1,297 @@
-//! Searches in a cache. They take no memory.
-
-ghost use Rattle.std.specs.Prelude.{◌≡◌, ◌≤◌, ◌<◌, ◌+◌, ◌-◌, ◌*◌, ◌↔◌, ◌∷◌, [], IsTrue, IsSome, IfSome, MatchOption, Some, None, length, option_map, replicate};
+//! Searches by ordered passes.
+ghost use Rattle.std.specs.Prelude.{◌≡◌, is_some, ℕ, ◌+◌, ◌-◌, ◌*◌, ◌<◌, ◌≤◌, ◌^◌, List, length, vec_len, vec_capacity, Option, None, Some, MatchOption, if◌then◌else◌, slice_set, IfNone, ⊤};
+ghost use Rattle.std.specs.Option.{option_map};
 ghost use Rattle.rc_text.specs.Found.{Found};
 ghost use Rattle.rc_text.specs.Text.{Keeps, low, high};
-ghost use Rattle.rc_text.specs.declared.types.MatchKind.TheVariants.{LeftmostFirst};
-ghost use Rattle.rc_captures.specs.Captures.{IsCapturesFor, captures_pattern, captures_slots, match_of};
-ghost use Rattle.rc_captures.specs.Names.{slot_len};
-ghost use Rattle.rc_program.specs.Sought.{search_for};
-ghost use Rattle.rc_program.specs.Kinds.{answer_by};
-ghost use Rattle.rc_program.specs.Matches.{matches_left};
-ghost use Rattle.rc_pass.specs.KindSlots.{slots_by};
-ghost use Rattle.rc_engine.specs.Moved.{IsMoved};
-ghost use Rattle.rc_engine.specs.Tells.{TellsBy};
-ghost use Rattle.rc_pikevm.specs.Caches.{IsCacheFor, insertions_of};
-ghost use Rattle.rc_settings.specs.SearchSettings.{match_kind_of};
-ghost use Rattle.rc_pikevm.specs.Views.{sought, states_of, vm_names, vm_settings};
-ghost use Rattle.rc_pikevm.specs.Left.{FindKeepsAlong, FindSteps, IsCounted, find_input, find_left, find_lender, find_vm, matches_in};
-ghost use Rattle.std.specs.Iterator.Runs.{YieldsInOrder};
+ghost use Rattle.rc_program.specs.Answer.{only, is_anchored, answer, groups};
+ghost use Rattle.rc_program.specs.Greatest.{greatest};
+ghost use Rattle.rc_program.specs.Sought.{anchoring_of};
+ghost use Rattle.rc_program.specs.Programs.{search_of};
+ghost use Rattle.rc_needles.specs.Guards.{Guards};
+ghost use Rattle.rc_needles.specs.Prefilters.{needles_of};
+ghost use Rattle.rc_program.specs.Places.{places_of};
+ghost use Rattle.rc_pikevm.specs.Passing.{IsCounted};
+ghost use Rattle.rc_pikevm.specs.Found.{IsResult};
+ghost use Rattle.rc_pikevm.specs.Roots.{StandsIn};
+ghost use Rattle.rc_pikevm.specs.Caches.{IsCacheFor};
+ghost use Rattle.rc_pikevm.specs.Scratches.{IsSame};
 
 use crate::cache::Cache;
-use crate::iterators::FindMatches;
-use crate::vm::PikeVM;
-use rc_captures::captures;
-use rc_captures::captures::Captures;
-use rc_engine::strategy::guards_of;
-use rc_pass::kinds::{find_by_kind, search_slots_by_kind};
+use crate::pass::{Ending, pass, pass_from};
+use crate::scratch::Scratch;
+use crate::spot::Course;
+use rc_needles::prefilter::Prefilter;
+use rc_program::program::Program;
 use rc_text::cursor::Cursor;
-use rc_text::input::Input;
-use rc_text::types::{Match, PatternID};
+use rc_text::input::{Input, high, is_boundary_at, low, move_to};
+use rc_text::types::{Anchored, Match, PatternID, Span};
 
-/// Whether a search of the input finds a match, in a cache that was made for this `PikeVM`. The cache stays so.
-///
-/// Under `MatchKind::LeftmostFirst` the match is the one that is preferred of the least start, and under `LeftmostLongest` the longest of
-/// that start. Under `MatchKind::All` it is the one with the greatest end, then the least start, then the least pattern, and no match is
-/// passed over.
-pub fn is_match<C: Cursor>(vm: &PikeVM, cache: &mut Cache, input: &mut Input<C>) -> bool
-    requires made { IsCacheFor (sought vm.now) cache.old }
-    ensures cache { IsCacheFor (sought vm.now) cache.new }
+/// Where a search begins and ends, in bytes; it stands where it begins then.
+pub(crate) fn bounds<C: Cursor>(input: &mut Input<C>) -> (usize, usize)
     ensures keeps { Keeps input.old input.new }
-    ensures found_by { IsTrue result ↔ IsSome (answer_by (match_kind_of (vm_settings vm.now)) (search_for (sought vm.now) input.old)) }
-    ensures none { high input.old < low input.old → insertions_of cache.new ≡ 0 }
-    ensures few { insertions_of cache.new ≤ states_of (sought vm.now) * (high input.old - low input.old + 2) }
-    ensures counted { IfSome (answer_by (match_kind_of (vm_settings vm.now)) (search_for (sought vm.now) input.old))
-        (λ m. m.end - m.start + 1 ≤ insertions_of cache.new) }
+    ensures low { result.0 ≡ low input.old }
+    ensures high { result.1 ≡ high input.old }
+    ensures small { result.1 + 1 < 2 ^ 64 }
 {
-    find_by_kind(
-        &mut cache.inner,
-        input,
-        &vm.built.engine.program,
-        guards_of(&vm.built.engine.strategy),
-        vm.built.engine.kind,
-    )
-    .is_some()
+    let lo = low(input);
+    let hi = high(input);
+    move_to(input, lo);
+    (lo, hi)
 }
 
-/// Writes the match that a search of the input finds, with its groups, into captures that were made of the groups of this `PikeVM`.
-/// Without a match they hold none. All slots but the match's are empty afterwards. The cache has to be made for this `PikeVM`; it stays
-/// so.
-///
-/// Under `MatchKind::LeftmostFirst` the match is the one that is preferred of the least start, and under `LeftmostLongest` the longest of
-/// that start, with the groups of the walk that is preferred of those that long. Under `MatchKind::All` it is the one with the greatest
-/// end, then the least start, then the least pattern; no match is passed over, and explicit groups hold nothing.
-pub fn search<C: Cursor>(vm: &PikeVM, cache: &mut Cache, input: &mut Input<C>, caps: &mut Captures)
-    requires made { IsCacheFor (sought vm.now) cache.old }
-    requires for_vm { IsCapturesFor (vm_names vm.now) caps.old }
-    ensures cache { IsCacheFor (sought vm.now) cache.new }
-    ensures keeps { Keeps input.old input.new }
-    ensures still_made { IsCapturesFor (vm_names vm.now) caps.new }
-    ensures long { length (captures_slots caps.new) ≡ length (captures_slots caps.old) }
-    ensures found_by { TellsBy (match_kind_of (vm_settings vm.now)) (search_for (sought vm.now) input.old) caps.new }
-    ensures matched_by { match_of caps.new ≡ answer_by (match_kind_of (vm_settings vm.now)) (search_for (sought vm.now) input.old) }
-    ensures slots { MatchOption (captures_pattern caps.new)
-        (captures_slots caps.new ≡ replicate (length (captures_slots caps.old)) None)
-        (λ _. Some (captures_slots caps.new)
-        ≡ slots_by (match_kind_of (vm_settings vm.now)) (search_for (sought vm.now) input.old) (length (captures_slots caps.old))) }
-    ensures none { high input.old < low input.old → insertions_of cache.new ≡ 0 }
-    ensures few { insertions_of cache.new ≤ states_of (sought vm.now) * (high input.old - low input.old + 2) }
-    ensures counted { IfSome (answer_by (match_kind_of (vm_settings vm.now)) (search_for (sought vm.now) input.old))
-        (λ m. m.end - m.start + 1 ≤ insertions_of cache.new) }
+/// The pattern of which walks alone count, and the last start, of a search from `lo` to `hi`.
+pub(crate) fn starts_of(anchored: Anchored, lo: usize, hi: usize) -> (Option<usize>, usize)
+    ensures pattern { result.0 ≡ only (anchoring_of anchored) }
+    ensures last { result.1 ≡ (if is_anchored (anchoring_of anchored) then lo else hi) }
 {
-    captures::clear(caps);
-    let pattern = search_slots_by_kind(
-        &mut cache.inner,
-        input,
-        &vm.built.engine.program,
-        guards_of(&vm.built.engine.strategy),
-        vm.built.engine.kind,
-        caps.slots_mut(),
-    );
-    captures::set_pattern(caps, pattern);
-}
-
-/// The pattern of the match that a search of the input finds, and its slots in `slots`, which may be fewer than there are. Without
-/// a match the slots stay. The cache has to be made for this `PikeVM`; it stays so.
-///
-/// Under `MatchKind::LeftmostFirst` the match is the one that is preferred of the least start, and under `LeftmostLongest` the longest of
-/// that start, with the slots of the walk that is preferred of those that long. Under `MatchKind::All` it is the one with the greatest
-/// end, then the least start, then the least pattern; no match is passed over, and all slots but the two of the whole match are `None`.
-pub fn search_slots<C: Cursor>(
-    vm: &PikeVM,
-    cache: &mut Cache,
-    input: &mut Input<C>,
-    slots: &mut [Option<usize>],
-) -> Option<PatternID>
-    requires made { IsCacheFor (sought vm.now) cache.old }
-    requires few_slots { length slots.old ≤ slot_len (vm_names vm.now) }
-    ensures cache { IsCacheFor (sought vm.now) cache.new }
-    ensures keeps { Keeps input.old input.new }
-    ensures pattern_by { result
-        ≡ option_map (λ (m : Found). m.pattern) (answer_by (match_kind_of (vm_settings vm.now)) (search_for (sought vm.now) input.old)) }
-    ensures slots_by { MatchOption result
-        (slots.new ≡ slots.old)
-        (λ _. Some slots.new ≡ slots_by (match_kind_of (vm_settings vm.now)) (search_for (sought vm.now) input.old) (length slots.old)) }
-    ensures none { high input.old < low input.old → insertions_of cache.new ≡ 0 }
-    ensures few { insertions_of cache.new ≤ states_of (sought vm.now) * (high input.old - low input.old + 2) }
-    ensures counted { IfSome (answer_by (match_kind_of (vm_settings vm.now)) (search_for (sought vm.now) input.old))
-        (λ m. m.end - m.start + 1 ≤ insertions_of cache.new) }
-{
-    search_slots_by_kind(
-        &mut cache.inner,
-        input,
-        &vm.built.engine.program,
-        guards_of(&vm.built.engine.strategy),
-        vm.built.engine.kind,
-        slots,
-    )
-}
-
-/// The matches in the input, from left to right. None is searched for before it is asked for, and neither this call nor an item takes
-/// memory. The cache has to be made for this `PikeVM`; it stays so, also where the iterator is dropped before its end.
-///
-/// The cache counts the last pass for an item as for a search.
-///
-/// Each is the match that `search` finds from where the one before ended, or from a byte later where that would be an empty one
-/// that ends there again. So under `MatchKind::All` the first is the one with the greatest end of all.
-pub fn find_iter<'v, 'c, C: Cursor + Drop>(
-    vm: &'v PikeVM,
-    cache: &'c mut Cache,
-    input: Input<C>,
-) -> FindMatches<'v, 'c, C>
-    requires made { IsCacheFor (sought vm.now) cache.old }
-    ensures left { find_left result ≡ matches_in vm.now input None }
-    ensures leftmost { match_kind_of (vm_settings vm.now) ≡ LeftmostFirst
-        → find_left result ≡ matches_left (search_for (sought vm.now) input) input.span.start None }
-    ensures vm { find_vm result ≡ vm.now }
-    ensures input { find_input result ≡ input }
-    ensures runs { YieldsInOrder (FindSteps {cursor = C.Cursor}) find_left }
-    ensures same_reference { find_lender result ≡ cache.entry.ghost_name }
-    ensures stays { FindKeepsAlong result }
-{
-    FindMatches {
-        vm,
-        cache,
-        input,
-        last: None,
-        is_done: false,
+    match anchored {
+        Anchored::No => (None, hi),
+        Anchored::Yes => (None, lo),
+        Anchored::Pattern(id) => (Some(id.as_usize()), lo),
     }
 }
 
-/// The next match in the input, where the match before ended at `last`. The span then starts where that next match ends.
-pub(crate) fn next_match<C: Cursor>(
-    vm: &PikeVM,
+/// Puts the whole match into its two slots, as far as these are there.
+pub(crate) fn put_match(end: Ending, slots: &mut [Option<usize>])
+    requires { end.pattern ≤ 2147483646 }
+    ensures { slots.new ≡ slice_set (slice_set slots.old (2 * end.pattern) (Some end.start)) (2 * end.pattern + 1) (Some end.end) }
+{
+    let first = 2 * end.pattern;
+    if first < slots.len() {
+        slots[first] = Some(end.start);
+    }
+    if first + 1 < slots.len() {
+        slots[first + 1] = Some(end.end);
+    }
+}
+
+/// The walk that a search of the input chooses, with its slots in `found`: the pass over the starts
+/// is made again from the next start, as long as what it found is passed over. Walks enter at the place `root`, which stands for place 0.
+fn choose<C: Cursor>(
+    input: &mut Input<C>,
+    program: &Program,
+    root: usize,
+    prefilter: Option<&Prefilter>,
+    scratch: &mut Scratch,
+) -> Option<Ending>
+    requires guarded { MatchOption prefilter ⊤ (λ p. Guards (places_of program.now.places.items) program.now.terminator (needles_of p.now)) }
+    requires made { scratch.old.next.entered.capacity ≡ length program.now.places.items }
+    requires root { root < length program.now.places.items }
+    requires stands { StandsIn (search_of program.now input.old) root }
+    ensures keeps { Keeps input.old input.new }
+    ensures chosen { IsResult (search_of program.now input.old) result scratch.new.found.items }
+    ensures counted { IsCounted scratch.new.insertions result }
+    ensures few { scratch.new.insertions ≤ length program.now.places.items * (high input.old - low input.old + 2) }
+    ensures none { high input.old < low input.old → scratch.new.insertions ≡ 0 }
+    ensures same { IsSame scratch.old scratch.new }
+{
+    scratch.insertions = 0;
+    let (lo, hi) = bounds(input);
+    if lo > hi {
+        return None;
+    }
+    let (pattern, last) = starts_of(input.get_anchored(), lo, hi);
+    let course = Course {
+        program,
+        hi,
+        pattern,
+        last,
+        until: None,
+    };
+    let mut from = lo;
+    'starts: while from <= last {
+        let Some(end) = pass_from(input, course, root, prefilter, from, false, scratch) else {
+            return None;
+        };
+        if !program.passes_over {
+            return Some(end);
+        }
+        if is_boundary_at(input, end.end) {
+            return Some(end);
+        }
+        from = end.start + 1;
+    }
+    None
+}
+
+/// As `choose`, in a cache. Without a match the slots stay.
+fn choose_in<C: Cursor>(
     cache: &mut Cache,
     input: &mut Input<C>,
-    last: Option<usize>,
-) -> Option<Match>
-    requires made { IsCacheFor (sought vm.now) cache.old }
-    ensures cache { IsCacheFor (sought vm.now) cache.new }
-    ensures left { MatchOption result
-        (matches_in vm.now input.old last ≡ [])
-        (λ m. matches_in vm.now input.old last ≡ m ∷ matches_in vm.now input.new (Some m.end)) }
-    ensures moves { IsMoved input.old input.new }
-    ensures counted { IfSome result (λ m. IsCounted vm.now input.old m (insertions_of cache.new)) }
+    program: &Program,
+    root: usize,
+    prefilter: Option<&Prefilter>,
+    slots: &mut [Option<usize>],
+) -> Option<Ending>
+    requires guarded { MatchOption prefilter ⊤ (λ p. Guards (places_of program.now.places.items) program.now.terminator (needles_of p.now)) }
+    requires made { IsCacheFor (length program.now.places.items) (length slots.old) cache.old }
+    requires root { root < length program.now.places.items }
+    requires stands { StandsIn (search_of program.now input.old) root }
+    ensures keeps { Keeps input.old input.new }
+    ensures chosen { IsResult (search_of program.now input.old) result slots.new }
+    ensures stays { IfNone result (slots.new ≡ slots.old) }
+    ensures cache { cache.new ≡ record cache.old { insertions = cache.new.insertions } }
+    ensures counted { IsCounted cache.new.insertions result }
+    ensures few { cache.new.insertions ≤ length program.now.places.items * (high input.old - low input.old + 2) }
+    ensures none { high input.old < low input.old → cache.new.insertions ≡ 0 }
 {
-    let Some(found) = vm.built.engine.next_match(&mut cache.inner, input, last) else {
+    cache.scratch.widen(slots.len());
+    if let Some(end) = choose(input, program, root, prefilter, &mut cache.scratch) {
+        slots.copy_from_slice(&cache.scratch.found);
+        return Some(end);
+    }
+    None
+}
+
+/// The pattern that a search of the input finds, with the first of its slots, as many as are handed
+/// in. Without a match the slots stay. The earliest flag is not read. The program says whether
+/// matches that end off a boundary are passed over. With a prefilter, the search goes from needle to
+/// needle where no walk is under way.
+///
+/// The cache has to be made for programs of as many places, and searches with as many slots or
+/// more; it stays so. No memory is taken.
+pub fn search_slots<C: Cursor>(
+    cache: &mut Cache,
+    input: &mut Input<C>,
+    program: &Program,
+    prefilter: Option<&Prefilter>,
+    slots: &mut [Option<usize>],
+) -> Option<PatternID>
+    requires guarded { MatchOption prefilter ⊤ (λ p. Guards (places_of program.now.places.items) program.now.terminator (needles_of p.now)) }
+    requires made { IsCacheFor (length program.now.places.items) (length slots.old) cache.old }
+    ensures keeps { Keeps input.old input.new }
+    ensures pattern { result ≡ option_map (λ (m : Found). m.pattern) (answer (search_of program.now input.old)) }
+    ensures long { length slots.new ≡ length slots.old }
+    ensures slots { MatchOption result
+        (slots.new ≡ slots.old)
+        (λ _. Some slots.new ≡ groups (search_of program.now input.old) (length slots.old)) }
+    ensures cache { cache.new ≡ record cache.old { insertions = cache.new.insertions } }
+    ensures none { high input.old < low input.old → cache.new.insertions ≡ 0 }
+    ensures few { cache.new.insertions ≤ length program.now.places.items * (high input.old - low input.old + 2) }
+    ensures counted { (m : Found) → answer (search_of program.now input.old) ≡ Some m
+        → m.end - m.start + 1 ≤ cache.new.insertions }
+{
+    search_slots_from(cache, input, program, 0, prefilter, slots)
+}
+
+/// As `search_slots`, where walks may enter at the place `root` as well as at place 0, since the first walk from the one is, after choices, the
+/// first from the other. So a search for one pattern alone enters at that pattern's own place, and no thread sets out for another.
+pub fn search_slots_from<C: Cursor>(
+    cache: &mut Cache,
+    input: &mut Input<C>,
+    program: &Program,
+    root: usize,
+    prefilter: Option<&Prefilter>,
+    slots: &mut [Option<usize>],
+) -> Option<PatternID>
+    requires guarded { MatchOption prefilter ⊤ (λ p. Guards (places_of program.now.places.items) program.now.terminator (needles_of p.now)) }
+    requires made { IsCacheFor (length program.now.places.items) (length slots.old) cache.old }
+    requires root { root < length program.now.places.items }
+    requires stands { StandsIn (search_of program.now input.old) root }
+    ensures keeps { Keeps input.old input.new }
+    ensures pattern { result ≡ option_map (λ (m : Found). m.pattern) (answer (search_of program.now input.old)) }
+    ensures long { length slots.new ≡ length slots.old }
+    ensures slots { MatchOption result
+        (slots.new ≡ slots.old)
+        (λ _. Some slots.new ≡ groups (search_of program.now input.old) (length slots.old)) }
+    ensures cache { cache.new ≡ record cache.old { insertions = cache.new.insertions } }
+    ensures none { high input.old < low input.old → cache.new.insertions ≡ 0 }
+    ensures few { cache.new.insertions ≤ length program.now.places.items * (high input.old - low input.old + 2) }
+    ensures counted { (m : Found) → answer (search_of program.now input.old) ≡ Some m
+        → m.end - m.start + 1 ≤ cache.new.insertions }
+{
+    let Some(end) = choose_in(cache, input, program, root, prefilter, slots) else {
         return None;
     };
-    input.set_start(found.end());
-    Some(found)
+    put_match(end, slots);
+    let Some(pattern) = PatternID::new(end.pattern) else {
+        return None;
+    };
+    Some(pattern)
+}
+
+/// The match that a search of the input finds. The earliest flag is not read. `passes_over` says
+/// whether matches that end off a boundary are passed over. With a prefilter, the search goes from
+/// needle to needle where no walk is under way.
+///
+/// The cache has to be made for programs of as many places; it stays so. No memory is taken.
+pub fn find<C: Cursor>(
+    cache: &mut Cache,
+    input: &mut Input<C>,
+    program: &Program,
+    prefilter: Option<&Prefilter>,
+) -> Option<Match>
+    requires guarded { MatchOption prefilter ⊤ (λ p. Guards (places_of program.now.places.items) program.now.terminator (needles_of p.now)) }
+    requires made { IsCacheFor (length program.now.places.items) 0 cache.old }
+    ensures keeps { Keeps input.old input.new }
+    ensures found { result ≡ answer (search_of program.now input.old) }
+    ensures bounds { MatchOption result ⊤ (λ m. (low input.old ≤ m.start) × (m.start ≤ m.end) × (m.end ≤ high input.old)) }
+    ensures cache { cache.new ≡ record cache.old { insertions = cache.new.insertions } }
+    ensures none { high input.old < low input.old → cache.new.insertions ≡ 0 }
+    ensures few { cache.new.insertions ≤ length program.now.places.items * (high input.old - low input.old + 2) }
+    ensures counted { MatchOption result ⊤ (λ m. m.end - m.start + 1 ≤ cache.new.insertions) }
+{
+    let Some(end) = choose_in(cache, input, program, 0, prefilter, &mut []) else {
+        return None;
+    };
+    let Some(pattern) = PatternID::new(end.pattern) else {
+        return None;
+    };
+    let span = Span {
+        start: end.start,
+        end: end.end,
+    };
+    Some(Match::new(pattern, span))
+}
+
+/// The first walk of the starts of a search that was seen to end, if any does. Nothing is read beyond the first position at which one ends.
+pub(crate) fn meets<C: Cursor>(
+    input: &mut Input<C>,
+    program: &Program,
+    prefilter: Option<&Prefilter>,
+    scratch: &mut Scratch,
+) -> Option<Ending>
+    requires guarded { MatchOption prefilter ⊤ (λ p. Guards (places_of program.now.places.items) program.now.terminator (needles_of p.now)) }
+    requires made { scratch.old.next.entered.capacity ≡ length program.now.places.items }
+    ensures keeps { Keeps input.old input.new }
+    ensures found { is_some result ≡ is_some (greatest (search_of program.now input.old)) }
+    ensures bounded { MatchOption result ⊤ (λ _. low input.old ≤ high input.old) }
+    ensures same { IsSame scratch.old scratch.new }
+{
+    scratch.insertions = 0;
+    let (lo, hi) = bounds(input);
+    if lo > hi {
+        return None;
+    }
+    let (pattern, last) = starts_of(input.get_anchored(), lo, hi);
+    let course = Course {
+        program,
+        hi,
+        pattern,
+        last,
+        until: None,
+    };
+    pass(input, course, prefilter, lo, true, scratch)
+}
+
+/// Whether some walk begins at one of the starts of a search of the input, wherever it ends. The earliest flag is not read:
+/// nothing is read beyond the first position at which a walk ends. With a prefilter, the search goes from needle to needle
+/// where no walk is under way.
+///
+/// The cache has to be made for programs of as many places; it stays so. No memory is taken.
+pub fn meets_any<C: Cursor>(
+    cache: &mut Cache,
+    input: &mut Input<C>,
+    program: &Program,
+    prefilter: Option<&Prefilter>,
+) -> bool
+    requires guarded { MatchOption prefilter ⊤ (λ p. Guards (places_of program.now.places.items) program.now.terminator (needles_of p.now)) }
+    requires made { IsCacheFor (length program.now.places.items) 0 cache.old }
+    ensures keeps { Keeps input.old input.new }
+    ensures found { result ≡ is_some (greatest (search_of program.now input.old)) }
+    ensures cache { cache.new ≡ record cache.old { insertions = cache.new.insertions } }
+{
+    cache.scratch.widen(0);
+    let met = meets(input, program, prefilter, &mut cache.scratch);
+    met.is_some()
 }

@@ -3,7 +3,7 @@ use Rattle.std.specs.Prelude.{ℕ, Bool, true, List, Option, Some, None, option_
 use Rattle.std.specs.Option.{option_or}
 use Rattle.rc_text.specs.declared.types.MatchKind.{MatchKind}
 use Rattle.rc_text.specs.declared.types.MatchKind.TheVariants.{LeftmostFirst}
-use Rattle.rc_literal.specs.Prefilters.{needles_of}
+use Rattle.rc_needles.specs.Prefilters.{needles_of}
 use Rattle.rc_settings.specs.declared.which.WhichCaptures.{WhichCaptures}
 use Rattle.rc_settings.specs.declared.which.WhichCaptures.TheVariants.{All}
 use Rattle.rc_settings.specs.declared.meta.Config.{Config}

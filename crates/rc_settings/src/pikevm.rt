@@ -1,9 +1,9 @@
 //! The settings of searches by a `PikeVM`.
 ghost use Rattle.std.specs.Prelude.{◌≡◌, IfOk, Some, option_map};
-ghost use Rattle.rc_literal.specs.Prefilters.{needles_of};
+ghost use Rattle.rc_needles.specs.Prefilters.{needles_of};
 ghost use Rattle.rc_settings.specs.SearchSettings.{search_settings_of, none_set, set_over, match_kind_of};
 
-use rc_literal::prefilter::{Prefilter, copy_of};
+use rc_needles::prefilter::{Prefilter, copy_of};
 use rc_text::types::MatchKind;
 use std::alloc::{AllocError, Global};
 

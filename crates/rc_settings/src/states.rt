@@ -1,11 +1,11 @@
 //! The settings of searches by states: by a DFA whose states are all made at the build, and by one whose states are made as they come.
 ghost use Rattle.std.specs.Prelude.{◌≡◌, Some, option_map};
-ghost use Rattle.rc_literal.specs.Prefilters.{needles_of};
+ghost use Rattle.rc_needles.specs.Prefilters.{needles_of};
 ghost use Rattle.rc_settings.specs.SearchSettings.{search_settings_of};
 ghost use Rattle.rc_settings.specs.StateSettings.{byte_classes_of, no_state_setting, state_settings_of, state_settings_over};
 
 use crate::pikevm;
-use rc_literal::prefilter::Prefilter;
+use rc_needles::prefilter::Prefilter;
 use rc_text::types::MatchKind;
 
 /// The settings of searches by states, with a limit `L` on what the states may weigh. One that isn't set has its default.

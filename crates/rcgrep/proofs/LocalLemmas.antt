@@ -29,8 +29,8 @@ use Rattle.rc_program.proofs.AnswerLemmas.{answer_law}
 use Rattle.rc_program.proofs.GreatestLemmas.{greatest_law, spelled_within}
 use Rattle.rc_program.proofs.GroupLemmas.{group_law, shown_all, without_groups_bounded}
 use Rattle.rc_program.proofs.PropertyLemmas.{property_law}
-use Rattle.rc_meta.specs.Views.{regex_kind, sought}
-use Rattle.rc_meta.specs.declared.regex.Regex.{Regex}
+use Rattle.api_meta.specs.Views.{regex_kind, sought}
+use Rattle.api_meta.specs.declared.regex.Regex.{Regex}
 use Rattle.rc_program.specs.Kinds.{answer_by}
 use Rattle.rcgrep.specs.Picked.{has_match}
 use Rattle.grep_lines.specs.Lines.{AreLinesOf}

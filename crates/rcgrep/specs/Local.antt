@@ -10,8 +10,8 @@ use Rattle.rc_pattern.specs.declared.hir.Look.{Look}
 use Rattle.rc_pattern.specs.declared.hir.Look.TheVariants.{Start, End, StartCRLF, EndCRLF}
 use Rattle.rc_program.specs.Answer.{answer}
 use Rattle.rc_program.specs.Sought.{Sought, search_for}
-use Rattle.rc_meta.specs.Views.{regex_kind, sought}
-use Rattle.rc_meta.specs.declared.regex.Regex.{Regex}
+use Rattle.api_meta.specs.Views.{regex_kind, sought}
+use Rattle.api_meta.specs.declared.regex.Regex.{Regex}
 use Rattle.regex_cursor.specs.Output.{whole}
 use Rattle.grep_lines.specs.Lines.{AreLinesOf}
 

@@ -4,8 +4,8 @@ use Rattle.std.specs.Option.{is_some}
 use Rattle.rc_text.specs.Text.{Searched}
 use Rattle.rc_program.specs.Kinds.{answer_by}
 use Rattle.rc_program.specs.Sought.{Sought, search_for}
-use Rattle.rc_meta.specs.Views.{regex_kind, sought}
-use Rattle.rc_meta.specs.declared.regex.Regex.{Regex}
+use Rattle.api_meta.specs.Views.{regex_kind, sought}
+use Rattle.api_meta.specs.declared.regex.Regex.{Regex}
 use Rattle.regex_cursor.specs.Output.{whole}
 
 -- the regex has a match in the line, as if there was nothing around it

@@ -1,6 +1,6 @@
 -- What a selector of lines selects by, as contracts see it.
 use Rattle.std.specs.Prelude.{Bool}
-use Rattle.rc_meta.specs.declared.regex.Regex.{Regex}
+use Rattle.api_meta.specs.declared.regex.Regex.{Regex}
 
 -- A regex, and whether the lines without a match are selected.
 pub record Selecting : Type 0 where

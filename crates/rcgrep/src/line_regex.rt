@@ -2,7 +2,7 @@
 ghost use Rattle.std.specs.Prelude.{◌≡◌, ◌≤◌, false, length};
 ghost use Rattle.rc_program.specs.Kinds.{answer_by};
 ghost use Rattle.rc_program.specs.Sought.{search_for};
-ghost use Rattle.rc_meta.specs.Views.{regex_kind, sought};
+ghost use Rattle.api_meta.specs.Views.{regex_kind, sought};
 ghost use Rattle.regex_cursor.specs.Output.{whole};
 ghost use Rattle.rcgrep.specs.Local.{start_or};
 ghost use Rattle.rcgrep.specs.Picked.{IsLine, has_match, is_picked};
@@ -40,9 +40,9 @@ pub struct LineRegex<'p> {
 }
 
 impl<'p> Model for LineRegex<'p> {
-    ghost use Rattle.rc_meta.specs.Caches.{IsCacheFor};
-    ghost use Rattle.rc_meta.specs.Views.{regex_patterns, regex_settings};
-    ghost use Rattle.rc_meta.specs.contracts.regex.Regex as regexes;
+    ghost use Rattle.api_meta.specs.Caches.{IsCacheFor};
+    ghost use Rattle.api_meta.specs.Views.{regex_patterns, regex_settings};
+    ghost use Rattle.api_meta.specs.contracts.regex.Regex as regexes;
     ghost use Rattle.rcgrep.specs.Selecting.{Selecting};
     ghost use Rattle.std.specs.Coded.{codes};
 

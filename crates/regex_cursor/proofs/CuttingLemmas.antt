@@ -6,9 +6,9 @@ use Rattle.rc_text.specs.Found.{Found, HalfFound, half_of}
 use Rattle.rc_text.specs.Text.{Searched, Keeps, is_boundary}
 use Rattle.rc_text.specs.declared.types.MatchKind.{MatchKind}
 use Rattle.rc_text.specs.declared.types.MatchError.{MatchError}
-use Rattle.rc_states.specs.declared.kind.TableKind.{TableKind}
-use Rattle.rc_states.specs.declared.kind.TableKind.TheVariants.{All as all_matches, LeftmostFirst as leftmost_first, LeftmostLongest as leftmost_longest}
-use Rattle.rc_states.specs.TableKinds.{kind_of}
+use Rattle.rc_determinize.specs.declared.kind.TableKind.{TableKind}
+use Rattle.rc_determinize.specs.declared.kind.TableKind.TheVariants.{All as all_matches, LeftmostFirst as leftmost_first, LeftmostLongest as leftmost_longest}
+use Rattle.rc_determinize.specs.TableKinds.{kind_of}
 use Rattle.rc_program.specs.Program.{program, shown}
 use Rattle.rc_program.specs.Answer.{Search}
 use Rattle.rc_program.specs.Greatest.{IsSpelledIn}
@@ -17,10 +17,10 @@ use Rattle.rc_program.specs.Sought.{Sought, passes_over, search_for}
 use Rattle.rc_program.proofs.AnswerLemmas.{answer_law}
 use Rattle.rc_program.proofs.GreatestLemmas.{no_answer_no_span}
 use Rattle.rc_program.proofs.KindLemmas.{kinds_law, missing_by}
-use Rattle.rc_engine.proofs.Steps.{search_kept}
-use Rattle.rc_spans.specs.Halves.{IsForwardHalf, IsToldWith}
-use Rattle.rc_spans.specs.Leftmost.{IsLeftmost}
-use Rattle.rc_spans.specs.Reverse.{HasNoStart, IsLeastStart, IsReverseHalf, IsStartWhere}
+use Rattle.rc_pikevm_search.proofs.Steps.{search_kept}
+use Rattle.rc_dfa_search.specs.Halves.{IsForwardHalf, IsToldWith}
+use Rattle.rc_dfa_search.specs.Leftmost.{IsLeftmost}
+use Rattle.rc_dfa_search.specs.Reverse.{HasNoStart, IsLeastStart, IsReverseHalf, IsStartWhere}
 use Rattle.regex_cursor.specs.Cuttings.{AreAlike, EnginesLaw}
 
 both_ok : {A : Type 0} (P Q : Option A → Type 0) (a b : Result (Option A) MatchError) → ((m n : Option A) → P m → Q n → m ≡ n) → IfOk a P → IfOk b Q → AreAlike a b

@@ -4,12 +4,12 @@ use Rattle.rc_text.specs.Found.{Found, HalfFound}
 use Rattle.rc_text.specs.Text.{Searched, Keeps}
 use Rattle.rc_text.specs.declared.types.MatchKind.{MatchKind}
 use Rattle.rc_text.specs.declared.types.MatchError.{MatchError}
-use Rattle.rc_states.specs.declared.kind.TableKind.{TableKind}
+use Rattle.rc_determinize.specs.declared.kind.TableKind.{TableKind}
 use Rattle.rc_program.specs.Kinds.{is_early, IsAnswerBy}
 use Rattle.rc_program.specs.Sought.{Sought, search_for}
-use Rattle.rc_spans.specs.Halves.{IsForwardHalf}
-use Rattle.rc_spans.specs.Leftmost.{IsLeftmost}
-use Rattle.rc_spans.specs.Reverse.{IsReverseHalf}
+use Rattle.rc_dfa_search.specs.Halves.{IsForwardHalf}
+use Rattle.rc_dfa_search.specs.Leftmost.{IsLeftmost}
+use Rattle.rc_dfa_search.specs.Reverse.{IsReverseHalf}
 
 -- where neither is an error, they are equal
 abbrev pub AreAlike : {A : Type 0} → Result (Option A) MatchError → Result (Option A) MatchError → Type 0

@@ -1,3 +1,3 @@
 //! Needles that a search may look for first.
 
-pub use rc_literal::prefilter::Prefilter;
+pub use rc_needles::prefilter::Prefilter;

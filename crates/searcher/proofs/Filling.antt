@@ -10,8 +10,8 @@ use Rattle.rc_program.specs.Kinds.{answer_by, answer_by_from, matches_by_kind}
 use Rattle.rc_program.specs.Matches.{begin_of, end_of, from_on, next_match, unless_again}
 use Rattle.rc_program.specs.Program.{program, shown}
 use Rattle.rc_program.specs.Sought.{Sought, passes_over, search_for}
-use Rattle.rc_engine.specs.Moved.{IsMoved}
-use Rattle.rc_engine.proofs.Steps.{search_kept, search_moved, step_none, step_some}
+use Rattle.rc_pikevm_search.specs.Moved.{IsMoved}
+use Rattle.rc_pikevm_search.proofs.Steps.{search_kept, search_moved, step_none, step_some}
 use Rattle.searcher.specs.Places.{IsFilled, found_at}
 use Rattle.searcher.specs.Ranges.{in_range}
 use Rattle.searcher.specs.declared.answers.MatchAt.{MatchAt}

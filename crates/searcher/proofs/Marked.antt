@@ -5,9 +5,9 @@ use Rattle.std.specs.Prelude.{◌↔◌, ◌⊎◌, IsSome, IsTrue, is_some}
 use Rattle.std.proofs.lemmas.List.{get_or-replicate, length-replicate}
 use Rattle.std.proofs.lemmas.Option.{get_or_from_slice_get, slice_get_within}
 use Rattle.rc_text.specs.Found.{Found}
-use Rattle.rc_patterns.specs.Sets.{Has}
+use Rattle.rc_pattern_set.specs.Sets.{Has}
 use Rattle.rc_program.specs.Answer.{Search}
-use Rattle.rc_pass.specs.PatternSpans.{AddsSpelled, HasSpan}
+use Rattle.rc_pikevm.specs.PatternSpans.{AddsSpelled, HasSpan}
 use Rattle.searcher.specs.Places.{AreMarks, AreMarksOf, IsMark}
 
 -- a test that is true exactly where there is one

@@ -7,8 +7,8 @@ use Rattle.rc_program.specs.Answer.{Search}
 use Rattle.rc_program.specs.Kinds.{answer_by, matches_by_kind}
 use Rattle.rc_program.specs.Sought.{search_for}
 use Rattle.rc_build.specs.TextRefusals.{AllRead, IsTextRefusal, texts_of}
-use Rattle.rc_meta.specs.Views.{regex_kind, regex_patterns, regex_settings, sought}
-use Rattle.rc_meta.specs.declared.regex.Regex.{Regex}
+use Rattle.api_meta.specs.Views.{regex_kind, regex_patterns, regex_settings, sought}
+use Rattle.api_meta.specs.declared.regex.Regex.{Regex}
 use Rattle.searcher.specs.Flags.{kind_of, search_settings, syntax_settings}
 use Rattle.searcher.specs.Ranges.{IsBroken, in_range}
 use Rattle.searcher.specs.Searching.{Searching}

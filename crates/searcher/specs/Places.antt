@@ -2,9 +2,9 @@
 use Rattle.std.specs.Prelude.{◌≡◌, ℕ, ◌<◌, ◌≤◌, ◌⊎◌, Bool, List, [], ◌++◌, length, map, take, slice_get, Option, Some, None}
 use Rattle.rc_text.specs.Found.{Found}
 use Rattle.rc_text.specs.declared.types.Span.{Span}
-use Rattle.rc_patterns.specs.Sets.{Has}
+use Rattle.rc_pattern_set.specs.Sets.{Has}
 use Rattle.rc_program.specs.Answer.{Search}
-use Rattle.rc_pass.specs.PatternSpans.{HasSpan}
+use Rattle.rc_pikevm.specs.PatternSpans.{HasSpan}
 use Rattle.rc_captures.specs.Captures.{group_span}
 use Rattle.rc_captures.specs.declared.captures.Captures.{Captures}
 use Rattle.searcher.specs.declared.answers.GroupAt.{GroupAt}

@@ -1,11 +1,11 @@
 //! What searches answer, and why there is no answer.
 
 ghost use Rattle.std.specs.Prelude.{◌≤◌, Some, length};
-ghost use Rattle.rc_patterns.specs.Sets.{Has};
+ghost use Rattle.rc_pattern_set.specs.Sets.{Has};
 ghost use Rattle.searcher.specs.Places.{AreMarksOf, IsMark};
 
 use rc_captures::captures::Captures;
-use rc_patterns::sets::PatternSet;
+use rc_pattern_set::sets::PatternSet;
 use rc_settings::error::BuildError;
 use rc_text::types::{Match, PatternID, Span};
 use std::alloc::{AllocError, AllocFailed};

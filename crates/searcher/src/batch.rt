@@ -1,8 +1,8 @@
 //! The matches of an iteration, one after another, into places that a caller lends.
 ghost use Rattle.std.specs.Prelude.{◌≡◌, ◌≤◌, IfSome, false};
-ghost use Rattle.rc_engine.specs.Moved.{IsMoved};
-ghost use Rattle.rc_meta.specs.Caches.{IsCacheFor};
-ghost use Rattle.rc_meta.specs.Views.{regex_kind, regex_patterns, regex_settings, sought};
+ghost use Rattle.rc_pikevm_search.specs.Moved.{IsMoved};
+ghost use Rattle.api_meta.specs.Caches.{IsCacheFor};
+ghost use Rattle.api_meta.specs.Views.{regex_kind, regex_patterns, regex_settings, sought};
 ghost use Rattle.rc_program.specs.Kinds.{answer_by, answer_by_from, matches_by_kind};
 ghost use Rattle.rc_program.specs.Matches.{begin_of, end_of, is_again, next_match};
 ghost use Rattle.rc_program.specs.Sought.{search_for};
@@ -10,8 +10,8 @@ ghost use Rattle.rc_text.specs.Text.{Keeps, high, low};
 ghost use Rattle.searcher.specs.Places.{IsFilled};
 
 use crate::answers::MatchAt;
-use rc_meta::cache::Cache;
-use rc_meta::regex::Regex;
+use api_meta::cache::Cache;
+use api_meta::regex::Regex;
 use rc_text::cursor::Cursor;
 use rc_text::input::Input;
 use rc_text::types::Match;

@@ -1,7 +1,7 @@
 //! A regex with its cache, the groups of a match, and the state of an iteration.
 ghost use Rattle.std.specs.Prelude.{◌≡◌, ◌≤◌, IfErr, IfOk, None, length};
 ghost use Rattle.rc_build.specs.TextRefusals.{AllRead, IsTextRefusal, texts_of};
-ghost use Rattle.rc_meta.specs.Views.{regex_patterns, regex_settings};
+ghost use Rattle.api_meta.specs.Views.{regex_patterns, regex_settings};
 ghost use Rattle.rc_text.specs.Joined.{joined};
 ghost use Rattle.searcher.specs.Flags.{search_settings, syntax_settings};
 ghost use Rattle.rc_text.specs.Text.{Keeps};
@@ -11,10 +11,10 @@ use crate::answers::{Fault, MatchAt, Refusal, write_marks};
 use crate::batch;
 use crate::parts::Parts;
 use crate::settings::Settings;
+use api_meta::cache::Cache;
+use api_meta::regex::Regex;
 use rc_captures::captures::Captures;
-use rc_meta::cache::Cache;
-use rc_meta::regex::Regex;
-use rc_patterns::sets::PatternSet;
+use rc_pattern_set::sets::PatternSet;
 use rc_settings::error::BuildError;
 use rc_text::chunks::{AtError, ChunkCursor};
 use rc_text::input::Input;
@@ -40,10 +40,10 @@ impl Model for Searcher {
     ghost use Rattle.std.specs.Coded.{codes};
     ghost use Rattle.std.specs.Prelude.{◌≡◌, ◌≤◌, length};
     ghost use Rattle.rc_captures.specs.contracts.captures.Captures as captured;
-    ghost use Rattle.rc_engine.specs.Tells.{KeepsAll};
-    ghost use Rattle.rc_meta.specs.Caches.{IsCacheFor};
-    ghost use Rattle.rc_meta.specs.Views.{regex_names, regex_patterns, regex_settings};
-    ghost use Rattle.rc_meta.specs.contracts.regex.Regex as regexes;
+    ghost use Rattle.rc_pikevm_search.specs.Tells.{KeepsAll};
+    ghost use Rattle.api_meta.specs.Caches.{IsCacheFor};
+    ghost use Rattle.api_meta.specs.Views.{regex_names, regex_patterns, regex_settings};
+    ghost use Rattle.api_meta.specs.contracts.regex.Regex as regexes;
     ghost use Rattle.searcher.specs.Searching.{Searching};
 
     ghost Value = { Searching };
@@ -60,8 +60,8 @@ impl Model for Searcher {
 
 impl Searcher {
     ghost use Rattle.std.specs.Prelude.{◌≡◌, IfErr, IfOk, OnErr, OnOk, is_some};
-    ghost use Rattle.rc_engine.specs.Tells.{KeepsAll, TellsBy};
-    ghost use Rattle.rc_meta.specs.Views.{regex_kind, regex_names};
+    ghost use Rattle.rc_pikevm_search.specs.Tells.{KeepsAll, TellsBy};
+    ghost use Rattle.api_meta.specs.Views.{regex_kind, regex_names};
     ghost use Rattle.rc_text.specs.Joined.{joined};
     ghost use Rattle.searcher.specs.Answers.{IsBuilt, IsRefused, IsSame, answer_in, left_in, search_in};
     ghost use Rattle.searcher.specs.Places.{AreMarks, IsFilled};

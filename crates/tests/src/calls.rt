@@ -1,7 +1,7 @@
 //! Calls that no program of this repository makes, memory that is told, and a search of a very long text.
 
 use rc_captures::captures::{Captures, copy_of};
-use rc_literal::prefilter::Prefilter;
+use rc_needles::prefilter::Prefilter;
 use rc_settings::error::BuildError;
 use rc_settings::states::Config as States;
 use rc_text::chunks::ChunkCursor;

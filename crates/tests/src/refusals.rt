@@ -1,6 +1,6 @@
 //! Calls that may want memory. Each is made once more where memory was refused, so these tests bear one refusal: what answered it serves again.
 
-use rc_literal::prefilter::Prefilter;
+use rc_needles::prefilter::Prefilter;
 use rc_settings::error::BuildError;
 use rc_text::input::Input;
 use rc_text::types::{MatchError, MatchKind};

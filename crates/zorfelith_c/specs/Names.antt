@@ -2,8 +2,8 @@
 -- UTF-8. No other comes where the handle is full.
 use Rattle.std.specs.Prelude.{◌≡◌, ℕ, zero, suc, ◌<◌, ◌⊎◌, List, IsUtf8, length, take, Option, Some, None}
 use Rattle.rc_captures.specs.Names.{group_len, to_index, to_name}
-use Rattle.rc_meta.specs.Views.{regex_names}
-use Rattle.rc_meta.specs.declared.regex.Regex.{Regex}
+use Rattle.api_meta.specs.Views.{regex_names}
+use Rattle.api_meta.specs.declared.regex.Regex.{Regex}
 
 -- no pattern has this number
 abbrev pub IsPast : ℕ → Type 0

@@ -3,9 +3,9 @@
 use Rattle.std.specs.Prelude.{◌≡◌, ℕ, zero, suc, ◌<◌, List, length, min, Option, Some, None, is_some, true, IfSome}
 use Rattle.std.specs.Borrow.{Bor}
 use Rattle.rc_text.specs.Joined.{IsTooLong, joined}
-use Rattle.rc_engine.specs.Tells.{KeepsAll, TellsBy}
-use Rattle.rc_meta.specs.Views.{regex_kind, regex_names, regex_patterns}
-use Rattle.rc_meta.specs.declared.regex.Regex.{Regex}
+use Rattle.rc_pikevm_search.specs.Tells.{KeepsAll, TellsBy}
+use Rattle.api_meta.specs.Views.{regex_kind, regex_names, regex_patterns}
+use Rattle.api_meta.specs.declared.regex.Regex.{Regex}
 use Rattle.searcher.specs.Answers.{IsSame, answer_in, left_in, search_in}
 use Rattle.searcher.specs.Places.{AreGroups, AreMarks, IsFilled, found_at}
 use Rattle.searcher.specs.Searching.{Searching}

@@ -1,12 +1,12 @@
 //! Numbers and names of patterns and groups.
 ghost use Rattle.std.specs.Prelude.{◌≡◌, MatchOption, length};
-ghost use Rattle.rc_meta.specs.Views.{regex_patterns};
+ghost use Rattle.api_meta.specs.Views.{regex_patterns};
 ghost use Rattle.zorfelith_c.specs.Names.{TellsCount, TellsName, TellsNumber};
 ghost use Rattle.zorfelith_c.specs.Statuses.{done, empty};
 
 use crate::handle::Handle;
 use crate::status::{ABSENT, DONE, EMPTY, NOT_UTF8, SHORT};
-use rc_meta::regex::Regex;
+use api_meta::regex::Regex;
 use rc_text::types::PatternID;
 use std::alloc::Global;
 

@@ -1,5 +1,5 @@
-use Rattle.rc_meta.specs.Caches.{IsCacheFor}
-use Rattle.rc_meta.specs.Views.{regex_patterns, regex_settings}
+use Rattle.api_meta.specs.Caches.{IsCacheFor}
+use Rattle.api_meta.specs.Views.{regex_patterns, regex_settings}
 use Rattle.bench_find.proofs.count_texts.Given as goal
 
 abbrev pub invariant-loop-chunk : goal.invariant-loop-chunk

@@ -1,6 +1,6 @@
 use Rattle.std.proofs.Common.{◌≡◌, ◌≢◌, ◌∙◌, ℕ, Bool, false, Result, Ok, Err, ap, sym}
 use Rattle.std.specs.Prelude.{IfErr}
-use Rattle.rc_meta.specs.Views.{regex_kind}
+use Rattle.api_meta.specs.Views.{regex_kind}
 use Rattle.chunk_replace.specs.declared.error.ReplaceError.{ReplaceError}
 use Rattle.chunk_replace.specs.declared.error.ReplaceError.TheVariants.{Memory, Write}
 use Rattle.chunk_replace.proofs.Whole.{counted, whole_replaced}

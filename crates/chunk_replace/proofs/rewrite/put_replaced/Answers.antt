@@ -3,7 +3,7 @@ use Rattle.std.specs.Io.KnownBytes.{Appends}
 use Rattle.rc_text.specs.Found.{Found}
 use Rattle.chunk_replace.specs.declared.error.ReplaceError.{ReplaceError}
 use Rattle.rc_captures.specs.Captures.{match_of}
-use Rattle.rc_meta.specs.Left.{HoldsNext, captures_left}
+use Rattle.api_meta.specs.Left.{HoldsNext, captures_left}
 use Rattle.regex_cursor.specs.Put.{AppendsBeginning}
 use Rattle.regex_cursor.proofs.Puts.{err_puts}
 use Rattle.chunk_replace.specs.Told.{told_parts}

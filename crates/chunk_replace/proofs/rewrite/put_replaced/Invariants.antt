@@ -1,5 +1,5 @@
 use Rattle.std.proofs.Common.{◌≡◌, ◌+◌, false, length}
-use Rattle.rc_meta.specs.Left.{captures_left}
+use Rattle.api_meta.specs.Left.{captures_left}
 use Rattle.chunk_replace.specs.Template.{template_items}
 use Rattle.chunk_replace.proofs.Rewriting.{Going}
 use Rattle.chunk_replace.proofs.rewrite.put_replaced.Given as goal

@@ -1,7 +1,7 @@
 use Rattle.std.proofs.Common.{None, ap, ◌∙◌}
 use Rattle.rc_program.specs.Kinds.{matches_by_kind}
 use Rattle.rc_program.specs.Sought.{search_for}
-use Rattle.rc_meta.specs.Views.{regex_kind, sought}
+use Rattle.api_meta.specs.Views.{regex_kind, sought}
 use Rattle.regex_cursor.specs.Output.{whole}
 use Rattle.gap_buffer.proofs.search.all_matches.Goals as goal
 

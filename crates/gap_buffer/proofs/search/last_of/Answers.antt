@@ -1,7 +1,7 @@
 use Rattle.std.proofs.Common.{rules, [], ◌∷◌, ◌++◌, ◌≡◌, ◌∙◌, true, None, ap, append_assoc, arith, sym}
 use Rattle.std.specs.List.{filter, last_or}
 use Rattle.std.proofs.lemmas.Bool.{le-ltb, lt-ltb}
-use Rattle.rc_meta.specs.Left.{find_left}
+use Rattle.api_meta.specs.Left.{find_left}
 use Rattle.gap_buffer.specs.Shown.{begins_before}
 use Rattle.gap_buffer.proofs.Ordered.{last_push, one_more, passed}
 use Rattle.gap_buffer.proofs.search.last_of.Goals as goal

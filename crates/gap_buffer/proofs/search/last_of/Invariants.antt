@@ -1,6 +1,6 @@
 use Rattle.std.proofs.Common.{◌≡◌, ◌++◌, None}
 use Rattle.std.specs.List.{filter, last_or}
-use Rattle.rc_meta.specs.Left.{find_left}
+use Rattle.api_meta.specs.Left.{find_left}
 use Rattle.gap_buffer.specs.Shown.{begins_before}
 use Rattle.gap_buffer.proofs.search.last_of.Given as goal
 

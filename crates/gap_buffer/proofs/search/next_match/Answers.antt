@@ -1,7 +1,7 @@
 use Rattle.std.proofs.Common.{ap, ◌∙◌}
 use Rattle.rc_program.specs.Kinds.{answer_by, is_early}
 use Rattle.rc_program.specs.Sought.{search_for}
-use Rattle.rc_meta.specs.Views.{regex_kind, sought}
+use Rattle.api_meta.specs.Views.{regex_kind, sought}
 use Rattle.gap_buffer.specs.Shown.{from_place}
 use Rattle.gap_buffer.proofs.search.next_match.Goals as goal
 

@@ -2,8 +2,8 @@ use Rattle.std.proofs.Common.{◌≡◌, ◌∙◌, ap, subst, sym}
 use Rattle.rc_program.proofs.KindLemmas.{kinds_law}
 use Rattle.rc_program.specs.Matches.{AreInOrder, begin_of, end_of}
 use Rattle.rc_program.specs.Sought.{search_for}
-use Rattle.rc_meta.specs.Left.{find_left}
-use Rattle.rc_meta.specs.Views.{regex_kind, sought}
+use Rattle.api_meta.specs.Left.{find_left}
+use Rattle.api_meta.specs.Views.{regex_kind, sought}
 use Rattle.regex_cursor.specs.Output.{whole}
 use Rattle.gap_buffer.specs.Shown.{last_before, matches_of}
 use Rattle.gap_buffer.proofs.search.previous_match.Goals as goal

@@ -1,6 +1,6 @@
 use Rattle.std.proofs.Common.{rules, [], ◌∷◌, ◌++◌, ◌≡◌, ◌∙◌, ◌&&◌, true, false, nat_lt, ap, append_assoc, arith, sym}
 use Rattle.std.proofs.lemmas.Bool.{le-ltb, lt-ltb}
-use Rattle.rc_meta.specs.Left.{find_left}
+use Rattle.api_meta.specs.Left.{find_left}
 use Rattle.gap_buffer.specs.Shown.{overlaps}
 use Rattle.gap_buffer.proofs.Ordered.{no_more, one_more, passed}
 use Rattle.gap_buffer.proofs.search.shown_of.Goals as goal

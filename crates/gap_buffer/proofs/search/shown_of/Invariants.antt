@@ -1,6 +1,6 @@
 use Rattle.std.proofs.Common.{◌≡◌, ◌++◌}
 use Rattle.std.specs.List.{filter}
-use Rattle.rc_meta.specs.Left.{find_left}
+use Rattle.api_meta.specs.Left.{find_left}
 use Rattle.gap_buffer.specs.Shown.{overlaps}
 use Rattle.gap_buffer.proofs.search.shown_of.Given as goal
 

@@ -6,7 +6,7 @@ use Rattle.rc_pattern.specs.WellFormed.{HasBounds, IsWellFormed}
 use Rattle.rc_program.specs.Program.{program, shown}
 use Rattle.rc_program.specs.Sought.{IsRunnable, passes_over}
 use Rattle.rc_program.specs.Places.{places_of}
-use Rattle.rc_engine.specs.Strategies.{MayGoBy}
+use Rattle.rc_pikevm_search.specs.Strategies.{MayGoBy}
 use Rattle.rc_settings.specs.Thompson.{settings_of, line_terminator_of}
 use Rattle.rc_build.specs.Fits.{sought_by}
 use Rattle.rc_build.proofs.Runnable.{runnable}

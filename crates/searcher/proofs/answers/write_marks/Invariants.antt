@@ -1,5 +1,5 @@
 use Rattle.std.proofs.Common.{◌≡◌, ℕ, ◌<◌, length, slice_get}
-use Rattle.rc_patterns.specs.Sets.{Has}
+use Rattle.rc_pattern_set.specs.Sets.{Has}
 use Rattle.searcher.specs.Places.{IsMark}
 use Rattle.searcher.proofs.answers.write_marks.Given as goal
 

@@ -1,5 +1,5 @@
 use Rattle.std.proofs.Common.{◌∙◌, rules, sym}
-use Rattle.rc_meta.specs.Views.{regex_kind, sought}
+use Rattle.api_meta.specs.Views.{regex_kind, sought}
 use Rattle.searcher.proofs.Filling.{filled_none, listed_more}
 use Rattle.searcher.proofs.batch.fill.Goals as goal
 

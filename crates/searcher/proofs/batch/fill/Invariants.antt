@@ -1,7 +1,7 @@
 use Rattle.std.proofs.Common.{◌≡◌, ◌++◌, length, map, take}
-use Rattle.rc_engine.specs.Moved.{IsMoved}
-use Rattle.rc_meta.specs.Caches.{IsCacheFor}
-use Rattle.rc_meta.specs.Views.{regex_kind, regex_patterns, regex_settings, sought}
+use Rattle.rc_pikevm_search.specs.Moved.{IsMoved}
+use Rattle.api_meta.specs.Caches.{IsCacheFor}
+use Rattle.api_meta.specs.Views.{regex_kind, regex_patterns, regex_settings, sought}
 use Rattle.rc_program.specs.Kinds.{matches_by_kind}
 use Rattle.rc_program.specs.Sought.{search_for}
 use Rattle.searcher.specs.Places.{found_at}

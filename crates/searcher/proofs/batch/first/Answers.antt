@@ -1,4 +1,4 @@
-use Rattle.rc_meta.specs.Views.{regex_kind, sought}
+use Rattle.api_meta.specs.Views.{regex_kind, sought}
 use Rattle.searcher.proofs.Filling.{taken_is_found, taken_within}
 use Rattle.searcher.proofs.batch.first.Goals as goal
 

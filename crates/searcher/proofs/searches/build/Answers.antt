@@ -1,7 +1,7 @@
 use Rattle.std.proofs.Common.{◌≡◌, ◌∙◌, IfErr, IfOk, ap, rules, subst}
 use Rattle.rc_build.specs.TextRefusals.{AllRead, IsTextRefusal, texts_of}
 use Rattle.rc_settings.specs.Settings.{nfa_size_limit_of}
-use Rattle.rc_meta.specs.Views.{builder_settings, builder_syntax, regex_patterns}
+use Rattle.api_meta.specs.Views.{builder_settings, builder_syntax, regex_patterns}
 use Rattle.searcher.specs.Flags.{search_settings, syntax_settings}
 use Rattle.searcher.proofs.searches.build.Goals as goal
 

@@ -2,7 +2,7 @@ use Rattle.std.proofs.Common.{◌≤◌, ◌<◌, ◌∙◌, ap, arith, length, 
 use Rattle.std.specs.List.{slice_range}
 use Rattle.rc_program.specs.Kinds.{answer_by}
 use Rattle.rc_program.specs.Sought.{search_for}
-use Rattle.rc_meta.specs.Views.{regex_kind, sought}
+use Rattle.api_meta.specs.Views.{regex_kind, sought}
 use Rattle.regex_cursor.specs.Output.{whole}
 use Rattle.rcgrep.specs.Local.{start_or}
 use Rattle.rcgrep.specs.Picked.{has_match, is_picked}

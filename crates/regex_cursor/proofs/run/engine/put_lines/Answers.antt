@@ -1,6 +1,6 @@
 use Rattle.std.proofs.Common.{◌≡◌, ◌∙◌, ◌++◌, ◌∷◌, [], ap, arith, length-append, append_assoc, rules, subst, sym}
 use Rattle.std.proofs.lemmas.List.{append-nil}
-use Rattle.rc_meta.specs.Left.{find_left}
+use Rattle.api_meta.specs.Left.{find_left}
 use Rattle.regex_cursor.specs.Output.{IsPut}
 use Rattle.regex_cursor.proofs.Grown.{Appends-line}
 use Rattle.regex_cursor.proofs.run.engine.put_lines.Goals as goal

@@ -1,7 +1,7 @@
 use Rattle.std.proofs.Common.{◌≡◌, ◌++◌, false, length, ◌<◌, IsTrue, ◌↔◌}
 use Rattle.std.specs.Io.KnownBytes.{Appends}
 use Rattle.regex_cursor.specs.Output.{lines_of}
-use Rattle.rc_meta.specs.Left.{find_left}
+use Rattle.api_meta.specs.Left.{find_left}
 use Rattle.regex_cursor.proofs.run.engine.put_lines.Given as goal
 
 -- the lines of the matches so far were put

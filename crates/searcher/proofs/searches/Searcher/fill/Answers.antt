@@ -1,6 +1,6 @@
 use Rattle.std.proofs.Common.{subst}
 use Rattle.rc_text.specs.Joined.{joined}
-use Rattle.rc_meta.specs.Views.{regex_kind, sought}
+use Rattle.api_meta.specs.Views.{regex_kind, sought}
 use Rattle.searcher.specs.Answers.{left_in}
 use Rattle.searcher.specs.Places.{IsFilled}
 use Rattle.searcher.specs.Searching.{Searching}

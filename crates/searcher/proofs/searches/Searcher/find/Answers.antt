@@ -1,7 +1,7 @@
 use Rattle.std.proofs.Common.{ap, ◌∙◌}
 use Rattle.rc_text.specs.Joined.{joined}
 use Rattle.rc_program.specs.Kinds.{answer_by}
-use Rattle.rc_meta.specs.Views.{regex_kind, sought}
+use Rattle.api_meta.specs.Views.{regex_kind, sought}
 use Rattle.searcher.specs.Answers.{answer_in}
 use Rattle.searcher.specs.Searching.{Searching}
 use Rattle.searcher.proofs.Filling.{same_search}

@@ -1,8 +1,8 @@
 use Rattle.std.proofs.Common.{ap, subst, ◌∙◌}
 use Rattle.rc_text.specs.Joined.{joined}
-use Rattle.rc_engine.specs.Tells.{TellsBy}
+use Rattle.rc_pikevm_search.specs.Tells.{TellsBy}
 use Rattle.rc_program.specs.Kinds.{answer_by}
-use Rattle.rc_meta.specs.Views.{regex_kind, sought}
+use Rattle.api_meta.specs.Views.{regex_kind, sought}
 use Rattle.searcher.specs.Answers.{answer_in, search_in}
 use Rattle.searcher.specs.Searching.{Searching}
 use Rattle.searcher.proofs.Filling.{same_search}

@@ -1,6 +1,6 @@
 use Rattle.std.proofs.Common.{◌≡◌, ◌∙◌, ap, arith, length, subst}
 use Rattle.rc_build.specs.TextRefusals.{AllRead, texts_of}
-use Rattle.rc_meta.specs.Views.{regex_patterns}
+use Rattle.api_meta.specs.Views.{regex_patterns}
 use Rattle.searcher.specs.Flags.{syntax_settings}
 use Rattle.searcher.proofs.Counted.{as_many}
 use Rattle.searcher.proofs.searches.Searcher.new.Goals as goal

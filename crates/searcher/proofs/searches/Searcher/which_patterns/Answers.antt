@@ -1,7 +1,7 @@
 use Rattle.std.proofs.Common.{length, subst}
 use Rattle.rc_text.specs.Joined.{joined}
 use Rattle.rc_program.specs.Sought.{search_for}
-use Rattle.rc_meta.specs.Views.{regex_patterns, sought}
+use Rattle.api_meta.specs.Views.{regex_patterns, sought}
 use Rattle.searcher.specs.Answers.{search_in}
 use Rattle.searcher.specs.Places.{AreMarks}
 use Rattle.searcher.specs.Searching.{Searching}

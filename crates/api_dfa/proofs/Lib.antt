@@ -1,0 +1,5 @@
+pub mod Decided
+pub mod Had
+pub mod Asked
+pub mod Going
+pub mod TableLemmas

@@ -1,0 +1,15 @@
+use Rattle.std.proofs.Common.{◌∙◌, rules}
+use Rattle.api_dfa.specs.Views.{dfa_kind, sought}
+use Rattle.api_dfa.proofs.Going.{going_none, going_some}
+use Rattle.api_dfa.proofs.search.next_match.Goals as goal
+
+pub returns-in-Ok-Some-clause-left : goal.returns-in-Ok-Some-clause-left
+returns-in-Ok-Some-clause-left g c =
+    let d = c.args.dfa.now in
+    going_some (dfa_kind d) (sought d) c.args.input.now c.set_start.new.self c.args.last c.in-Ok-Some.found (search rules)
+    (c.set_start.ensures.start ∙ c.end.ensures.value) c.in-Ok-Some.field-0-is c.in-Ok-Some.ensures.found
+
+pub returns-in-Ok-None-clause-left : goal.returns-in-Ok-None-clause-left
+returns-in-Ok-None-clause-left g c =
+    let d = c.args.dfa.now in
+    going_none (dfa_kind d) (sought d) c.args.input.now c.args.last c.in-Ok-None.field-0-is c.in-Ok-None.ensures.found

@@ -1,0 +1,25 @@
+-- Why no tables are made.
+use Rattle.std.specs.Prelude.{◌≡◌, ℕ, Option, Some, None}
+use Rattle.rc_determinize.specs.declared.kind.TableKind.{TableKind}
+use Rattle.rc_program.specs.Sought.{Sought}
+use Rattle.rc_dense_dfa.specs.declared.error.TableError.{TableError}
+use Rattle.rc_dense_dfa.specs.declared.error.TableError.TheVariants as tables
+use Rattle.rc_settings.specs.declared.error.BuildError.{BuildError}
+use Rattle.rc_settings.specs.declared.error.BuildError.TheVariants.{Syntax, IllFormed, SizeLimit, PlaceLimit, Memory, DfaSizeLimit, CacheTooSmall}
+use Rattle.api_dfa.specs.Tables.{IsTooBig}
+
+-- the refusal that tells of it
+abbrev pub refusal_of : TableError → Option ℕ → BuildError
+refusal_of tables.TooBig (Some n) = DfaSizeLimit n
+refusal_of tables.TooBig None = Memory
+refusal_of tables.Memory limit = Memory
+
+-- memory was wanting, or the tables are too big for the limit
+abbrev pub IsTablesRefusal : Sought → TableKind → Option ℕ → BuildError → Type 0
+IsTablesRefusal q kind limit (DfaSizeLimit n) = (limit ≡ Some n) × IsTooBig q kind n
+IsTablesRefusal q kind limit Memory = Unit {0}
+IsTablesRefusal q kind limit (Syntax p e) = ⊥
+IsTablesRefusal q kind limit (IllFormed p) = ⊥
+IsTablesRefusal q kind limit (SizeLimit n) = ⊥
+IsTablesRefusal q kind limit PlaceLimit = ⊥
+IsTablesRefusal q kind limit (CacheTooSmall m n) = ⊥

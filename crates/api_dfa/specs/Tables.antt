@@ -1,0 +1,45 @@
+-- What the tables of patterns are made from, and what they weigh.
+use Rattle.std.specs.Prelude.{◌≡◌, ℕ, ◌≤◌, ◌⊎◌, List, length, Option, Some}
+use Rattle.rc_determinize.specs.declared.kind.TableKind.{TableKind}
+use Rattle.rc_program.specs.Program.{shown}
+use Rattle.rc_program.specs.Sought.{Sought}
+use Rattle.rc_dfa.specs.Machine.{Machine, IsClassing}
+use Rattle.rc_dense_dfa.specs.Halves.{AreHalves}
+use Rattle.rc_dense_dfa.specs.Makes.{IsMade, IsRefused}
+use Rattle.rc_dense_dfa.specs.declared.dense.Dense.{Dense}
+use Rattle.rc_dense_dfa.specs.declared.error.TableError.TheVariants.{TooBig}
+use Rattle.rc_dfa_search.specs.Machines.{AreMachines}
+
+-- The tables are those of what is sought, for matches of the kind. `PatternID` has a number for each of the patterns.
+pub record AreTables (q : Sought) (kind : TableKind) (tables : Dense) : Type 0 where
+  pub ahead : Machine
+  pub behind : Machine
+  pub machines : AreMachines (shown q.grouped q.patterns) q.terminator kind ahead behind
+  pub halves : AreHalves tables ahead behind
+  pub few : length q.patterns ≤ 2147483647
+
+-- From what tables of it are made: the machines, and so many classes of bytes, of one of which none is told from another.
+pub record AreSources (q : Sought) (kind : TableKind) (ahead behind : Machine) (count : ℕ) : Type 0 where
+  pub machines : AreMachines (shown q.grouped q.patterns) q.terminator kind ahead behind
+  pub classes : List ℕ
+  pub samples : List ℕ
+  pub classed_ahead : IsClassing ahead classes samples
+  pub classed_behind : IsClassing behind classes samples
+  pub counted : count ≡ length samples
+
+-- The tables hold no state that can't be reached, and in each direction what holds the states weighs no more than the limit.
+pub record AreLight (q : Sought) (kind : TableKind) (limit : Option ℕ) (tables : Dense) : Type 0 where
+  pub ahead : Machine
+  pub behind : Machine
+  pub count : ℕ
+  pub sources : AreSources q kind ahead behind count
+  pub forward : IsMade ahead count limit tables.forward
+  pub reverse : IsMade behind count limit tables.reverse
+
+-- In one of the directions what holds some of the states that can be reached weighs more than the limit.
+pub record IsTooBig (q : Sought) (kind : TableKind) (limit : ℕ) : Type 0 where
+  pub ahead : Machine
+  pub behind : Machine
+  pub count : ℕ
+  pub sources : AreSources q kind ahead behind count
+  pub big : IsRefused ahead count (Some limit) TooBig ⊎ IsRefused behind count (Some limit) TooBig

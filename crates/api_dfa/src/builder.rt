@@ -1,0 +1,158 @@
+//! What builds.
+
+ghost use Rattle.std.specs.Prelude.{◌≡◌, ◌≤◌, ◌∷◌, [], IfOk, IfErr, length, map};
+ghost use Rattle.rc_pattern.specs.Meaning.{meaning};
+ghost use Rattle.rc_build.specs.Refusals.{IsBuildable};
+ghost use Rattle.rc_build.specs.TextRefusals.{AllRead, texts_of};
+ghost use Rattle.rc_parser.specs.Settings.{default_settings, settings_of as syntax_of};
+ghost use Rattle.rc_settings.specs.StateSettings.{state_settings_of, state_settings_over};
+ghost use Rattle.rc_settings.specs.Thompson.{settings_of, unset, overwritten, nfa_size_limit_of};
+ghost use Rattle.api_dfa.specs.Refusals.{IsDfaRefusal, IsDfaTextRefusal, IsWithinLimit, no_limit_set};
+ghost use Rattle.api_dfa.specs.Views.{builder_settings, builder_program, builder_syntax, dfa_of, dfa_patterns, dfa_program, dfa_settings};
+
+use crate::dfa::{DFA, tables_of};
+use crate::regex::Regex;
+use rc_build::build::{Built, build_all};
+use rc_build::texts::parse_all;
+use rc_determinize::kind::table_kind;
+use rc_pattern::hir::Hir;
+use rc_settings::error::BuildError;
+use rc_settings::{states, thompson};
+use std::alloc::Global;
+
+/// The settings of searches by tables, with a limit on how many bytes the states of each direction may weigh.
+pub type Config = states::Config<Option<usize>>;
+
+/// Builds a `Regex` under settings of its own: those of its tables, those of its program, and those by which text is read.
+#[derive(Drop)]
+pub struct Builder {
+    config: Config,
+    thompson: thompson::Config,
+    syntax: rc_parser::Config,
+}
+
+impl Builder {
+    /// A builder in which nothing is set. It reads text by the default settings.
+    pub fn new() -> Builder
+        ensures settings { builder_settings result ≡ no_limit_set }
+        ensures program { builder_program result ≡ unset }
+        ensures syntax { builder_syntax result ≡ default_settings }
+    {
+        Builder {
+            config: Config::new(),
+            thompson: thompson::Config::new(),
+            syntax: rc_parser::Config::new(),
+        }
+    }
+
+    /// Takes over what `config` sets for the tables and their searches, keeps what it doesn't, and lends the builder on.
+    pub fn dense(&mut self, config: Config) -> &mut Builder
+        ensures same_reference { result.ghost_name ≡ self.entry.ghost_name }
+        ensures value { builder_settings result.now ≡ state_settings_over (builder_settings self.entry.now) (state_settings_of config) }
+        ensures program_kept { builder_program result.now ≡ builder_program self.entry.now }
+        ensures syntax_kept { builder_syntax result.now ≡ builder_syntax self.entry.now }
+    {
+        self.config.overwrite(config);
+        self
+    }
+
+    /// Takes over what `config` sets for the program, keeps what it doesn't, and lends the builder on.
+    pub fn thompson(&mut self, config: thompson::Config) -> &mut Builder
+        ensures same_reference { result.ghost_name ≡ self.entry.ghost_name }
+        ensures value { builder_program result.now ≡ overwritten (builder_program self.entry.now) (settings_of config) }
+        ensures settings_kept { builder_settings result.now ≡ builder_settings self.entry.now }
+        ensures syntax_kept { builder_syntax result.now ≡ builder_syntax self.entry.now }
+    {
+        self.thompson.overwrite(&config);
+        self
+    }
+
+    /// Reads text by these settings from now on, and lends the builder on.
+    pub fn syntax(&mut self, config: rc_parser::Config) -> &mut Builder
+        ensures same_reference { result.ghost_name ≡ self.entry.ghost_name }
+        ensures value { builder_syntax result.now ≡ syntax_of config }
+        ensures settings_kept { builder_settings result.now ≡ builder_settings self.entry.now }
+        ensures program_kept { builder_program result.now ≡ builder_program self.entry.now }
+    {
+        self.syntax = config;
+        self
+    }
+
+    /// What is built of the pattern as which this text is read. The `Err`s are those of `build_many`.
+    pub fn build(&self, alloc: Global, pattern: &str) -> Result<Regex, BuildError>
+        ensures read { IfOk result (λ re. AllRead (builder_syntax self.now) (pattern.now ∷ []) (dfa_patterns (dfa_of re))) }
+        ensures settings { IfOk result (λ re. dfa_settings (dfa_of re) ≡ (builder_settings self.now).search) }
+        ensures program { IfOk result (λ re. dfa_program (dfa_of re) ≡ builder_program self.now) }
+        ensures buildable { IfOk result (λ re. IsBuildable (nfa_size_limit_of (builder_program self.now)) (dfa_patterns (dfa_of re))) }
+        ensures within { IfOk result (IsWithinLimit (builder_settings self.now)) }
+        ensures refused { IfErr result (λ e. IsDfaTextRefusal (builder_program self.now) (builder_settings self.now) (builder_syntax self.now) (pattern.now ∷ []) e) }
+    {
+        self.build_many(alloc, std::slice::from_ref(&pattern))
+    }
+
+    /// What is built of the patterns as which these texts are read, at most 2,147,483,647.
+    ///
+    /// An `Err` is the first of these that applies: `Syntax`, with the least text from which no pattern is read, and a byte of it;
+    /// then those of `build_many_from_hir`. All texts are read before any pattern is built. The builder stays as it was.
+    pub fn build_many(&self, alloc: Global, patterns: &[&str]) -> Result<Regex, BuildError>
+        requires { length patterns.now ≤ 2147483647 }
+        ensures read { IfOk result (λ re. AllRead (builder_syntax self.now) (texts_of patterns.now) (dfa_patterns (dfa_of re))) }
+        ensures settings { IfOk result (λ re. dfa_settings (dfa_of re) ≡ (builder_settings self.now).search) }
+        ensures program { IfOk result (λ re. dfa_program (dfa_of re) ≡ builder_program self.now) }
+        ensures buildable { IfOk result (λ re. IsBuildable (nfa_size_limit_of (builder_program self.now)) (dfa_patterns (dfa_of re))) }
+        ensures within { IfOk result (IsWithinLimit (builder_settings self.now)) }
+        ensures refused { IfErr result (λ e. IsDfaTextRefusal (builder_program self.now) (builder_settings self.now) (builder_syntax self.now) (texts_of patterns.now) e) }
+    {
+        let hirs = parse_all(alloc, patterns, &self.syntax)?;
+        self.build_many_from_hir(alloc, &hirs)
+    }
+
+    /// What is built of these patterns, at most 2,147,483,647.
+    ///
+    /// An `Err` is the first of these that applies: `IllFormed`, with the least pattern that isn't well-formed; `SizeLimit`, where
+    /// 32 times the weight of the patterns is above the limit on their size; `PlaceLimit`, where the weight is above 2,147,483,646;
+    /// `DfaSizeLimit`, where in one of the directions the states that searches can reach weigh more than the limit that is set for them.
+    /// `Memory` comes where memory was refused, or where no memory could hold the tables. The builder stays as it was.
+    pub fn build_many_from_hir(&self, alloc: Global, hirs: &[Hir]) -> Result<Regex, BuildError>
+        requires { length hirs.now ≤ 2147483647 }
+        ensures patterns { IfOk result (λ re. dfa_patterns (dfa_of re) ≡ map meaning hirs.now) }
+        ensures settings { IfOk result (λ re. dfa_settings (dfa_of re) ≡ (builder_settings self.now).search) }
+        ensures program { IfOk result (λ re. dfa_program (dfa_of re) ≡ builder_program self.now) }
+        ensures buildable { IfOk result (λ _. IsBuildable (nfa_size_limit_of (builder_program self.now)) (map meaning hirs.now)) }
+        ensures within { IfOk result (IsWithinLimit (builder_settings self.now)) }
+        ensures refused { IfErr result (λ e. IsDfaRefusal (builder_program self.now) (builder_settings self.now) (map meaning hirs.now) e) }
+    {
+        let search = self.config.search();
+        let built = build_all(
+            alloc,
+            hirs,
+            self.thompson,
+            search.get_match_kind(),
+            search.asked(),
+            false,
+        )?;
+        let config = search.try_clone(alloc)?;
+        let Built {
+            hirs,
+            engine,
+            info: _,
+        } = built;
+        let tables = tables_of(
+            alloc,
+            &hirs,
+            self.thompson,
+            &engine.program.places,
+            table_kind(engine.kind),
+            self.config.get_byte_classes(),
+            self.config.get_limit().unwrap_or(None),
+        )?;
+        let dfa = DFA {
+            hirs,
+            config,
+            thompson: self.thompson,
+            tables,
+            passes_over: engine.program.passes_over,
+        };
+        Ok(Regex { dfa })
+    }
+}

@@ -1,0 +1,78 @@
+//! What goes over the matches in an input.
+
+use crate::regex::Regex;
+use crate::search::next_match;
+use rc_text::cursor::Cursor;
+use rc_text::input::Input;
+use rc_text::types::{Match, MatchError};
+use std::iter::FusedIterator;
+
+/// The matches in an input, from left to right. Each is searched for when `next` is called, and takes no memory.
+///
+/// A call keeps the `Regex`, and the input but for where its span starts. An error of a search is an item. After an error, and after the
+/// last match, it gives none, whatever its input becomes.
+#[derive(Drop)]
+pub struct FindMatches<'r, C: Cursor> {
+    pub(crate) regex: &'r Regex,
+    pub(crate) input: Input<C>,
+    pub(crate) last: Option<usize>,
+    pub(crate) is_done: bool,
+}
+
+impl<'r, C: Cursor> FindMatches<'r, C> {
+    ghost use Rattle.std.specs.Prelude.{◌≡◌, []};
+    ghost use Rattle.std.specs.Borrow.{Lends, sem};
+    ghost use mir.Syntax.{named};
+    ghost use Rattle.rc_text.specs.contracts.input.Input.{the_row as input_row};
+    ghost use Rattle.api_dfa.specs.contracts.iterators.FindMatches.{the_row};
+    ghost use Rattle.api_dfa.specs.Left.{find_input, find_regex, with_input};
+
+    /// What it searches by.
+    pub fn regex(&self) -> &'r Regex
+        ensures { result.now ≡ find_regex self.now }
+    {
+        self.regex
+    }
+
+    /// The input. The next search is over what it then is; the iterator is otherwise as before.
+    pub fn input(&mut self) -> &mut Input<C>
+        ensures* kept { sem 𝓛 (Lends
+            (the_row (record { mir = named 0; lft = [] }) C.row C.Cursor)
+            (input_row C.row C.Cursor) self.entry result (with_input self.old)) }
+        ensures input { result.now ≡ find_input self.old }
+    {
+        &mut self.input
+    }
+}
+
+impl<'r, C: Cursor + Drop> Iterator for FindMatches<'r, C> {
+    ghost use Rattle.api_dfa.specs.Left.{FindSteps, items_left};
+
+    type Item = Result<Match, MatchError>;
+
+    ghost next_gives = { FindSteps };
+
+    ghost remaining = { items_left };
+
+    fn next(&mut self) -> Option<Result<Match, MatchError>> {
+        if self.is_done {
+            return None;
+        }
+        match next_match(&self.regex.dfa, &mut self.input, self.last) {
+            Ok(Some(found)) => {
+                self.last = Some(found.end());
+                Some(Ok(found))
+            }
+            Ok(None) => {
+                self.is_done = true;
+                None
+            }
+            Err(error) => {
+                self.is_done = true;
+                Some(Err(error))
+            }
+        }
+    }
+}
+
+impl<'r, C: Cursor + Drop> FusedIterator for FindMatches<'r, C> {}

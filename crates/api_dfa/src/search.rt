@@ -1,0 +1,181 @@
+//! Searches by tables. They take no memory.
+
+ghost use Rattle.std.specs.Prelude.{◌≡◌, ◌≤◌, ◌∷◌, [], IfErr, IfOk, IfSome, MatchOption, None, Option, Some, Result};
+ghost use Rattle.rc_text.specs.Text.{Keeps, low, high};
+ghost use Rattle.rc_text.specs.declared.types.MatchKind.TheVariants.{LeftmostFirst};
+ghost use Rattle.rc_program.specs.Kinds.{IsAnswerBy, answer_by_from};
+ghost use Rattle.rc_program.specs.Matches.{begin_of, end_of, is_again, matches_left, next_match};
+ghost use Rattle.rc_program.specs.Sought.{search_for};
+ghost use Rattle.rc_pikevm_search.specs.Moved.{IsMoved};
+ghost use Rattle.rc_dfa_search.specs.Halves.{IsForwardHalf};
+ghost use Rattle.rc_dfa_search.specs.Reverse.{IsReverseHalf};
+ghost use Rattle.api_dfa.specs.Faults.{IsFaultOf, IsNextFault};
+ghost use Rattle.api_dfa.specs.Left.{FindRuns, find_input, find_left, find_regex, matches_in};
+ghost use Rattle.api_dfa.specs.Views.{dfa_kind, dfa_of, sought, table_kind};
+
+use crate::dfa::DFA;
+use crate::iterators::FindMatches;
+use crate::regex::Regex;
+use rc_dense_dfa::dense::NoCache;
+use rc_dfa_search::search as spans;
+use rc_text::cursor::Cursor;
+use rc_text::input::Input;
+use rc_text::types::{HalfMatch, Match, MatchError};
+
+/// The match that a search of the input finds.
+///
+/// Under `MatchKind::LeftmostFirst` it is the one that is preferred of the least start, and under `LeftmostLongest` the longest of the least
+/// start, of these the one that is preferred. Under `MatchKind::All` it is the one with the greatest end, then the least start, then the
+/// least pattern, and no match is passed over. With the input's earliest flag on it may be any match, unless matches are passed over.
+///
+/// An `Err` is `Quit`: where an assertion of the patterns speaks of Unicode's words, the search doesn't go past a byte above 127.
+pub fn find<C: Cursor>(re: &Regex, input: &mut Input<C>) -> Result<Option<Match>, MatchError>
+    ensures keeps { Keeps input.old input.new }
+    ensures found { IfOk result (IsAnswerBy (dfa_kind (dfa_of re.now)) input.old.earliest (search_for (sought (dfa_of re.now)) input.old)) }
+    ensures within { IfOk result (λ o. IfSome o (λ m. (low input.old ≤ m.start) × (m.start ≤ m.end) × (m.end ≤ high input.old))) }
+    ensures fault { IfErr result (IsFaultOf (sought (dfa_of re.now)) input.old) }
+{
+    let earliest = input.get_earliest();
+    find_by(&re.dfa, input, earliest)
+}
+
+/// As `find`.
+pub fn try_search<C: Cursor>(re: &Regex, input: &mut Input<C>) -> Result<Option<Match>, MatchError>
+    ensures keeps { Keeps input.old input.new }
+    ensures found { IfOk result (IsAnswerBy (dfa_kind (dfa_of re.now)) input.old.earliest (search_for (sought (dfa_of re.now)) input.old)) }
+    ensures within { IfOk result (λ o. IfSome o (λ m. (low input.old ≤ m.start) × (m.start ≤ m.end) × (m.end ≤ high input.old))) }
+    ensures fault { IfErr result (IsFaultOf (sought (dfa_of re.now)) input.old) }
+{
+    find(re, input)
+}
+
+/// Where the match ends that a search of the input finds, in bytes of the whole content, and its pattern.
+///
+/// Under `MatchKind::All` the pattern is some pattern of which a match ends there. The `Err`s are those of `find`.
+pub fn try_search_fwd<C: Cursor>(
+    dfa: &DFA,
+    input: &mut Input<C>,
+) -> Result<Option<HalfMatch>, MatchError>
+    ensures keeps { Keeps input.old input.new }
+    ensures found { IfOk result (IsForwardHalf (table_kind dfa.now) input.old.earliest (search_for (sought dfa.now) input.old)) }
+    ensures within { IfOk result (λ o. IfSome o (λ h. (low input.old ≤ h.offset) × (h.offset ≤ high input.old))) }
+    ensures fault { IfErr result (IsFaultOf (sought dfa.now) input.old) }
+{
+    let aim = dfa.aim(input.get_earliest());
+    let mut cache = NoCache;
+    spans::find_end(&dfa.tables, &mut cache, input, aim)
+}
+
+/// Where the longest match begins that ends where the input's bounds end, in bytes of the whole content, and the least pattern of which one
+/// does. With the input's earliest flag on it may be any such match, unless matches are passed over.
+///
+/// The `Err`s are those of `find`.
+pub fn try_search_rev<C: Cursor>(
+    dfa: &DFA,
+    input: &mut Input<C>,
+) -> Result<Option<HalfMatch>, MatchError>
+    ensures keeps { Keeps input.old input.new }
+    ensures found { IfOk result (IsReverseHalf input.old.earliest (search_for (sought dfa.now) input.old)) }
+    ensures within { IfOk result (λ o. IfSome o (λ h. (low input.old ≤ h.offset) × (h.offset ≤ high input.old))) }
+    ensures fault { IfErr result (IsFaultOf (sought dfa.now) input.old) }
+{
+    let aim = dfa.aim(input.get_earliest());
+    let mut cache = NoCache;
+    spans::find_start(&dfa.tables, &mut cache, input, aim)
+}
+
+/// The matches in the input, from left to right, whatever its earliest flag. An error is an item, and the last one.
+///
+/// Each is the match that `find` finds with the earliest flag off from where the one before ended, or from a byte later where that would be
+/// an empty one that ends there again. So under `MatchKind::All` the first is the one with the greatest end of all.
+pub fn find_iter<'r, C: Cursor + Drop>(re: &'r Regex, input: Input<C>) -> FindMatches<'r, C>
+    ensures left { find_left result ≡ matches_in (dfa_of re.now) input None }
+    ensures leftmost { dfa_kind (dfa_of re.now) ≡ LeftmostFirst
+        → find_left result ≡ matches_left (search_for (sought (dfa_of re.now)) input) input.span.start None }
+    ensures regex { find_regex result ≡ re.now }
+    ensures input { find_input result ≡ input }
+    ensures runs { FindRuns result }
+{
+    FindMatches {
+        regex: re,
+        input,
+        last: None,
+        is_done: false,
+    }
+}
+
+/// The match that a search of the input finds, with the earliest flag on or off, whatever the input's.
+fn find_by<C: Cursor>(
+    dfa: &DFA,
+    input: &mut Input<C>,
+    earliest: bool,
+) -> Result<Option<Match>, MatchError>
+    ensures keeps { Keeps input.old input.new }
+    ensures found { IfOk result (IsAnswerBy (dfa_kind dfa.now) earliest (search_for (sought dfa.now) input.old)) }
+    ensures within { IfOk result (λ o. IfSome o (λ m. (low input.old ≤ m.start) × (m.start ≤ m.end) × (m.end ≤ high input.old))) }
+    ensures fault { IfErr result (IsFaultOf (sought dfa.now) input.old) }
+{
+    let aim = dfa.aim(earliest);
+    let mut cache = NoCache;
+    spans::find(&dfa.tables, &mut cache, input, aim)
+}
+
+/// The next match in the input, where the match before ended at `last`. The span then starts where that next match ends.
+pub(crate) fn next_match<C: Cursor>(
+    dfa: &DFA,
+    input: &mut Input<C>,
+    last: Option<usize>,
+) -> Result<Option<Match>, MatchError>
+    ensures left { IfOk result (λ o. MatchOption o
+        (matches_in dfa.now input.old last ≡ [])
+        (λ m. matches_in dfa.now input.old last ≡ m ∷ matches_in dfa.now input.new (Some m.end))) }
+    ensures moves { IsMoved input.old input.new }
+    ensures fault { IfErr result (IsNextFault (sought dfa.now) input.old) }
+{
+    match look_on(dfa, input, last) {
+        Ok(Some(found)) => {
+            input.set_start(found.end());
+            Ok(Some(found))
+        }
+        Ok(None) => Ok(None),
+        Err(error) => Err(error),
+    }
+}
+
+/// The match from where the input's span starts, or from a byte later where that is an empty one that ends at `last`. The span then starts
+/// where the match was looked for.
+fn look_on<C: Cursor>(
+    dfa: &DFA,
+    input: &mut Input<C>,
+    last: Option<usize>,
+) -> Result<Option<Match>, MatchError>
+    ensures found { IfOk result (λ o. o
+        ≡ next_match begin_of end_of (answer_by_from (dfa_kind dfa.now) (search_for (sought dfa.now) input.old)) input.old.span.start last) }
+    ensures within { IfOk result (λ o. IfSome o (λ m. m.end ≤ high input.new)) }
+    ensures moves { IsMoved input.old input.new }
+    ensures fault { IfErr result (IsNextFault (sought dfa.now) input.old) }
+{
+    match find_by(dfa, input, false) {
+        Ok(Some(found)) => {
+            if !is_again(last, found) {
+                return Ok(Some(found));
+            }
+            // The content is shorter than the greatest number.
+            let _offset = input.chunk_offset();
+            input.set_start(input.start() + 1);
+            find_by(dfa, input, false)
+        }
+        Ok(None) => Ok(None),
+        Err(error) => Err(error),
+    }
+}
+
+/// Whether the match is empty and ends at `last`.
+fn is_again(last: Option<usize>, found: Match) -> bool
+    ensures { result ≡ is_again begin_of end_of last found }
+{
+    match last {
+        Some(last) => found.is_empty() && found.end() == last,
+        None => false,
+    }
+}

@@ -1,0 +1,40 @@
+use Rattle.std.proofs.Common.{◌≡◌, ◌∙◌, ◌≤◌, ap, map, refl, subst, sym}
+use Rattle.rc_pattern.specs.Meaning.{meaning}
+use Rattle.rc_program.specs.Laws.{heaviness}
+use Rattle.rc_program.specs.Places.{places_of}
+use Rattle.rc_program.specs.Program.{program, shown}
+use Rattle.rc_determinize.specs.TableKinds.{table_kind_of}
+use Rattle.rc_settings.specs.Thompson.{nfa_size_limit_of, settings_of, which_captures_of}
+use Rattle.rc_settings.specs.Which.{is_grouped}
+use Rattle.rc_settings.specs.SearchSettings.{match_kind_of}
+use Rattle.rc_build.specs.Fits.{sought_by}
+use Rattle.rc_build.specs.Refusals.{IsBuildable}
+use Rattle.api_hybrid.specs.Halves.{IsLazyFor}
+use Rattle.api_dfa.proofs.TableLemmas.{program_light}
+use Rattle.api_hybrid.proofs.builder.Builder.build_many_from_hir.Goals as goal
+
+pub lazy_of-requires : goal.lazy_of-requires
+lazy_of-requires c =
+    let b = c.in_ok-built.ensures in
+    let s = settings_of c.args.self.now.thompson in
+    let g = is_grouped (which_captures_of s) in
+    let hs = map meaning c.deref.result.now in
+    let same : hs ≡ map meaning c.in_ok-built.built.hirs.items = ap (λ xs. map meaning xs) c.deref.ensures.value in
+    let places : places_of c.deref-2.result.now ≡ program (shown g hs) =
+    ap (λ xs. places_of xs) c.deref-2.ensures.value ∙ b.fits.placed ∙ sym (ap (λ xs. program (shown g xs)) same) in
+    let ok : IsBuildable (nfa_size_limit_of s) hs = subst (IsBuildable (nfa_size_limit_of s)) (sym (same ∙ b.patterns)) b.buildable in
+    let light = subst (λ ps. heaviness ps ≤ 2147483646) (sym places) (program_light (nfa_size_limit_of s) g hs ok) in
+    (refl, (places, light))
+
+pub invariant_of-result : goal.invariant_of-result
+invariant_of-result c =
+    let b = c.in_ok-built.ensures in
+    let s = settings_of c.args.self.now.thompson in
+    let lazy = c.in_ok-lazy.lazy in
+    let same : map meaning c.deref.result.now ≡ map meaning c.in_ok-built.built.hirs.items = ap (λ xs. map meaning xs) c.deref.ensures.value in
+    let kind = b.fits.kinded ∙ c.get_match_kind.ensures ∙ sym (ap match_kind_of c.in_ok-config.ensures) in
+    let tables = c.table_kind.ensures ∙ ap table_kind_of kind in record {
+      passing = b.fits.passing;
+      made = ∣ subst (λ k. IsLazyFor (sought_by s (map meaning c.in_ok-built.built.hirs.items)) k lazy) tables
+          (subst (λ hs. IsLazyFor (sought_by s hs) c.table_kind.result lazy) same c.in_ok-lazy.ensures.made) ∣₁;
+    }

@@ -1,0 +1,40 @@
+-- Which refusals of a build apply: those of the patterns' program, and behind them that the capacity is too small.
+use Rattle.std.specs.Prelude.{ℕ, List, unwrap_or}
+use Rattle.rc_pattern.specs.Re.{Re}
+use Rattle.rc_parser.specs.Settings.{Settings as SyntaxSettings}
+use Rattle.rc_determinize.specs.TableKinds.{table_kind_of}
+use Rattle.rc_settings.specs.SearchSettings.{match_kind_of}
+use Rattle.rc_settings.specs.StateSettings.{StateSettings, no_state_setting}
+use Rattle.rc_settings.specs.Thompson.{Settings, nfa_size_limit_of}
+use Rattle.rc_settings.specs.declared.error.BuildError.{BuildError}
+use Rattle.rc_settings.specs.declared.error.BuildError.TheVariants.{CacheTooSmall}
+use Rattle.rc_build.specs.Fits.{sought_by}
+use Rattle.rc_build.specs.Refusals.{IsBuildable, IsRefusal}
+use Rattle.rc_build.specs.TextRefusals.{AllRead, IsTextRefusal}
+use Rattle.api_hybrid.specs.Makes.{HasCapacity, IsTooSmall}
+use Rattle.api_hybrid.specs.Views.{sought, table_kind}
+use Rattle.api_hybrid.specs.declared.regex.Regex.{Regex}
+
+-- nothing is set
+abbrev pub no_capacity_set : StateSettings ℕ
+no_capacity_set = no_state_setting ℕ
+
+-- how many bytes the states of each direction may weigh
+abbrev pub cache_capacity_of : StateSettings ℕ → ℕ
+cache_capacity_of s = unwrap_or s.limit 2097152
+
+-- The refusal is the first one that applies to the patterns. Want of memory may come at any time.
+abbrev pub IsHybridRefusal : Settings → StateSettings ℕ → List Re → BuildError → Type 0
+IsHybridRefusal program states hs (CacheTooSmall m n) =
+    IsBuildable (nfa_size_limit_of program) hs × IsTooSmall (sought_by program hs) (table_kind_of (match_kind_of states.search)) (cache_capacity_of states) m n
+IsHybridRefusal program states hs e = IsRefusal (nfa_size_limit_of program) hs e
+
+-- The refusal is the first one that applies to the texts. Want of memory may come at any time.
+abbrev pub IsHybridTextRefusal : Settings → StateSettings ℕ → SyntaxSettings → List (List ℕ) → BuildError → Type 0
+IsHybridTextRefusal program states syntax texts (CacheTooSmall m n) =
+    (hs : List Re) × AllRead syntax texts hs × IsHybridRefusal program states hs (CacheTooSmall m n)
+IsHybridTextRefusal program states syntax texts e = IsTextRefusal (nfa_size_limit_of program) syntax texts e
+
+-- what was built has the capacity that is set, and that serves
+abbrev pub IsWithinCapacity : StateSettings ℕ → Regex → Type 0
+IsWithinCapacity states re = HasCapacity (sought re) (table_kind re) (cache_capacity_of states) re.lazy

@@ -1,0 +1,125 @@
+//! A regex that searches by tables of states that are made as they are met.
+
+ghost use Rattle.std.specs.Prelude.{◌≡◌, map};
+ghost use Rattle.rc_pattern.specs.Meaning.{meaning};
+ghost use Rattle.rc_program.specs.Sought.{passes_over as is_passing};
+ghost use Rattle.rc_determinize.specs.TableKinds.{table_kind_of};
+ghost use Rattle.rc_settings.specs.SearchSettings.{match_kind_of, search_settings_of};
+ghost use Rattle.rc_settings.specs.Thompson.{settings_of};
+ghost use Rattle.rc_build.specs.Fits.{sought_by};
+ghost use Rattle.api_hybrid.specs.Halves.{IsLazyFor};
+
+use crate::builder::Builder;
+use crate::cache::Cache;
+use rc_determinize::kind::table_kind;
+use rc_dfa_search::search::Aim;
+use rc_lazy_dfa::lazy::Lazy;
+use rc_pattern::hir::Hir;
+use rc_settings::error::BuildError;
+use rc_settings::pikevm::Config;
+use rc_settings::thompson;
+use std::alloc::{AllocError, Global};
+
+/// A list of patterns, built for searches by tables of states that are made as they are met: forwards to where a match ends, and backwards to
+/// where it begins. The states are in a `Cache`.
+#[derive(Drop)]
+pub struct Regex {
+    pub(crate) hirs: Vec<Hir>,
+    pub(crate) config: Config,
+    pub(crate) thompson: thompson::Config,
+    pub(crate) lazy: Lazy,
+    pub(crate) passes_over: bool,
+    ghost passing: { passes_over ≡ is_passing (sought_by (settings_of thompson) (map meaning hirs.items)) },
+    ghost made: { ∥ IsLazyFor (sought_by (settings_of thompson) (map meaning hirs.items)) (table_kind_of (match_kind_of (search_settings_of config))) lazy ∥₁ },
+}
+
+impl Regex {
+    ghost use Rattle.std.specs.Prelude.{◌≡◌, ◌≤◌, ◌∷◌, [], IfErr, IfOk, length, None};
+    ghost use Rattle.rc_build.specs.Refusals.{IsBuildable};
+    ghost use Rattle.rc_build.specs.TextRefusals.{AllRead, texts_of};
+    ghost use Rattle.rc_parser.specs.Settings.{default_settings};
+    ghost use Rattle.rc_determinize.specs.TableKinds.{table_kind_of};
+    ghost use Rattle.rc_settings.specs.SearchSettings.{none_set};
+    ghost use Rattle.rc_settings.specs.Thompson.{unset};
+    ghost use Rattle.api_dfa.specs.Aims.{aim_for};
+    ghost use Rattle.api_hybrid.specs.Caches.{IsCacheFor, IsFresh};
+    ghost use Rattle.api_hybrid.specs.Refusals.{IsHybridTextRefusal, IsWithinCapacity, no_capacity_set};
+    ghost use Rattle.api_hybrid.specs.Views.{builder_settings, builder_program, builder_syntax, least_of, regex_kind, regex_patterns, regex_program, regex_settings, sought, table_kind};
+
+    /// What is built of the pattern as which this text is read by the default settings. Nothing else is set, so the states of each direction may
+    /// weigh 2,097,152 bytes. The `Err`s are those of `new_many`.
+    pub fn new(alloc: Global, pattern: &str) -> Result<Regex, BuildError>
+        ensures read { IfOk result (λ re. AllRead default_settings (pattern.now ∷ []) (regex_patterns re)) }
+        ensures settings { IfOk result (λ re. regex_settings re ≡ none_set) }
+        ensures program { IfOk result (λ re. regex_program re ≡ unset) }
+        ensures buildable { IfOk result (λ re. IsBuildable None (regex_patterns re)) }
+        ensures within { IfOk result (IsWithinCapacity no_capacity_set) }
+        ensures refused { IfErr result (λ e. IsHybridTextRefusal unset no_capacity_set default_settings (pattern.now ∷ []) e) }
+    {
+        Regex::builder().build(alloc, pattern)
+    }
+
+    /// What is built of the patterns as which these texts are read by the default settings, at most 2,147,483,647. Nothing else is
+    /// set, so the states of each direction may weigh 2,097,152 bytes.
+    ///
+    /// An `Err` is the first of these that applies: `Syntax`, with the least text from which no pattern is read, and a byte of it;
+    /// `IllFormed`, with the least pattern that isn't well-formed; `PlaceLimit`, where the weight of the patterns is above
+    /// 2,147,483,646; `CacheTooSmall`, where the least capacity that serves is more than 2,097,152. `Memory` comes where memory was refused, or
+    /// where no number tells the least capacity.
+    pub fn new_many(alloc: Global, patterns: &[&str]) -> Result<Regex, BuildError>
+        requires { length patterns.now ≤ 2147483647 }
+        ensures read { IfOk result (λ re. AllRead default_settings (texts_of patterns.now) (regex_patterns re)) }
+        ensures settings { IfOk result (λ re. regex_settings re ≡ none_set) }
+        ensures program { IfOk result (λ re. regex_program re ≡ unset) }
+        ensures buildable { IfOk result (λ re. IsBuildable None (regex_patterns re)) }
+        ensures within { IfOk result (IsWithinCapacity no_capacity_set) }
+        ensures refused { IfErr result (λ e. IsHybridTextRefusal unset no_capacity_set default_settings (texts_of patterns.now) e) }
+    {
+        Regex::builder().build_many(alloc, patterns)
+    }
+
+    /// A builder in which nothing is set. It reads text by the default settings.
+    pub fn builder() -> Builder
+        ensures settings { builder_settings result ≡ no_capacity_set }
+        ensures program { builder_program result ≡ unset }
+        ensures syntax { builder_syntax result ≡ default_settings }
+    {
+        Builder::new()
+    }
+
+    /// How many patterns it was built of.
+    pub fn pattern_len(&self) -> usize
+        ensures { result ≡ length (regex_patterns self.now) }
+    {
+        self.hirs.len()
+    }
+
+    /// The least capacity with which it is built, in bytes for each direction: what five states weigh whose lists have as many entries as a list
+    /// has at most. Those are as many as the program has places, and twice as many in tables that seek the longest match, whose lists have marks
+    /// that part the places of different starts.
+    pub fn minimum_cache_capacity(&self) -> usize
+        ensures { result ≡ least_of self.now }
+    {
+        self.lazy.minimum_capacity()
+    }
+
+    /// A cache for searches by this regex, with no states yet. An `Err` is want of memory.
+    pub fn create_cache(&self, alloc: Global) -> Result<Cache, AllocError>
+        ensures made { IfOk result (IsCacheFor self.now) }
+        ensures fresh { IfOk result IsFresh }
+    {
+        Cache::new(alloc, self)
+    }
+
+    /// What its searches seek, with the earliest flag on or off.
+    pub(crate) fn aim(&self, earliest: bool) -> Aim
+        ensures { result ≡ aim_for (sought self.now) (table_kind self.now) earliest }
+    {
+        Aim {
+            kind: table_kind(self.config.get_match_kind()),
+            patterns: self.pattern_len(),
+            passes_over: self.passes_over,
+            earliest,
+        }
+    }
+}

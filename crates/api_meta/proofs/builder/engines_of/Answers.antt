@@ -1,0 +1,55 @@
+use Rattle.std.proofs.Common.{◌≡◌, ◌∙◌, ℕ, Bool, List, IfSome, ap, length, map, subst, sym}
+use Rattle.std.specs.Result.{IfOk}
+use Rattle.std.specs.Prelude.{All}
+use Rattle.std.proofs.lemmas.List.{length-map}
+use Rattle.rc_pattern.specs.Meaning.{meaning}
+use Rattle.rc_pattern.specs.WellFormed.{HasBounds}
+use Rattle.rc_program.specs.Program.{program}
+use Rattle.rc_program.specs.Text.{Text}
+use Rattle.rc_needles.specs.Prefilters.{needles_of}
+use Rattle.rc_literals.specs.Needs.{Confines, Holds, LeavesOut}
+use Rattle.rc_literals.specs.declared.guard.Needs.{Needs}
+use Rattle.rc_literals.proofs.ConfineLemmas.{need_law}
+use Rattle.rc_settings.specs.Settings.{settings_of, program_settings}
+use Rattle.rc_settings.specs.Thompson.{which_captures_of}
+use Rattle.rc_settings.specs.Which.{is_grouped}
+use Rattle.rc_program.proofs.GroupLemmas.{length-shown}
+use Rattle.rc_text.specs.declared.types.MatchKind.{MatchKind}
+use Rattle.rc_pattern.specs.Re.{Re}
+use Rattle.rc_strategy.specs.Plans.{IsLazyFor, LazyPlan, plan_of}
+use Rattle.rc_strategy.specs.declared.engines.Engines.{Engines}
+use Rattle.rc_strategy.proofs.SpanLemmas.{bounds_walks}
+use Rattle.api_meta.specs.Plans.{plan_by}
+use Rattle.api_meta.proofs.builder.engines_of.Goals as goal
+
+pub new-requires : goal.new-requires
+new-requires g c =
+    let grouped = is_grouped (which_captures_of (program_settings (settings_of c.args.config.now))) in
+    let hs = map meaning c.args.hirs.now in
+    let bounded = subst (All HasBounds) c.requires.0 c.requires.1.1.1.0 in
+    let is = c.requires.1.0 ∙ ap program c.requires.0 in (
+      bounds_walks c.of.result grouped hs _ bounded is c.of.ensures,
+      (
+        λ n there. subst (λ ps. Confines ps c.args.engine.program.terminator (needles_of n.needles) n.stops.table) (sym is)
+            (need_law.confines hs grouped c.args.engine.program.terminator (needles_of n.needles) n.stops.table bounded
+            (subst (λ o. IfSome o (λ (k : Needs). (t : Text) → Holds t hs (needles_of k.needles))) there c.in_ok-needs.ensures.holds)
+            (subst (λ o. IfSome o (λ (k : Needs). (t : Text) → LeavesOut t hs k.stops.table)) there c.in_ok-needs.ensures.leaves)),
+        (c.requires.1.0, (sym (ap length c.requires.0 ∙ length-shown grouped hs ∙ length-map c.args.hirs.now meaning), c.requires.1.1.0)),
+      ),
+    )
+
+pub returns-clause-planned : goal.returns-clause-planned
+returns-clause-planned g c =
+    let s = settings_of c.args.config.now in
+    let hs = map meaning c.args.hirs.now in
+    let plan : List Re → ℕ → MatchKind → Bool → ℕ → LazyPlan =
+    λ hs t k b n. record { patterns = hs; terminator = t; kind = k; byte_classes = b; capacity = n } in
+    let e = c.args.engine in
+    let l = c.limits_of.result in
+    let same : plan_of e g.shown_hirs l ≡ plan_by hs s =
+    ap (λ xs. plan xs e.program.terminator e.kind l.byte_classes l.capacity) c.requires.0
+    ∙ ap (λ t. plan (plan_by hs s).patterns t e.kind l.byte_classes l.capacity) c.requires.1.1.1.1.0
+    ∙ ap (λ k. plan (plan_by hs s).patterns (plan_by hs s).terminator k l.byte_classes l.capacity) c.requires.1.1.1.1.1
+    ∙ ap (λ b. plan (plan_by hs s).patterns (plan_by hs s).terminator (plan_by hs s).kind b l.capacity) c.limits_of.ensures.classes
+    ∙ ap (λ n. plan (plan_by hs s).patterns (plan_by hs s).terminator (plan_by hs s).kind (plan_by hs s).byte_classes n) c.limits_of.ensures.capacity in
+    subst (λ p. IfOk c.new.result (λ (v : Engines). IfSome v.lazy (IsLazyFor p))) same c.new.ensures.planned

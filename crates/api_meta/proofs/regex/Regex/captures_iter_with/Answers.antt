@@ -1,0 +1,34 @@
+use Rattle.std.proofs.Common.{◌∙◌, None, ap, arith, false, refl}
+use Rattle.rc_program.specs.Kinds.{matches_by_kind}
+use Rattle.rc_program.specs.Sought.{search_for}
+use Rattle.rc_program.proofs.KindLemmas.{kinds_law}
+use Rattle.api_meta.specs.Views.{regex_kind, regex_names, sought}
+use Rattle.api_meta.proofs.Going.{few_left}
+use Rattle.api_meta.proofs.LentRuns.{captures_alike, captures_keep}
+use Rattle.api_meta.proofs.Runs.{captures_law, matched_law}
+use Rattle.api_meta.proofs.regex.Regex.captures_iter_with.Goals as goal
+
+pub returns-clause-left : goal.returns-clause-left
+returns-clause-left g c kind =
+    let s = search_for (sought c.args.self.now) c.args.input.now in
+    ap (λ k. matches_by_kind k s c.args.input.now.span.start None) kind ∙ kinds_law.leftmost s c.args.input.now.span.start None
+
+pub returns-clause-law : goal.returns-clause-law
+returns-clause-law g c kind =
+    captures_law (regex_kind c.args.self.now) (regex_names c.args.self.now) (search_for (sought c.args.self.now) c.args.input.now)
+    c.args.input.now.span.start _ kind refl refl refl refl refl
+
+pub returns-clause-law_by : goal.returns-clause-law_by
+returns-clause-law_by g c =
+    matched_law (regex_kind c.args.self.now) (regex_names c.args.self.now) (search_for (sought c.args.self.now) c.args.input.now)
+    c.args.input.now.span.start _ refl refl refl
+
+pub returns-clause-short : goal.returns-clause-short
+returns-clause-short g c =
+    let few = few_left c.args.self.now c.args.input.now None false in omega (arith, few, c.chunk_offset-offset.ensures.shows.small)
+
+pub returns-clause-runs : goal.returns-clause-runs
+returns-clause-runs g c = captures_alike _
+
+pub returns-clause-stays : goal.returns-clause-stays
+returns-clause-stays g c = captures_keep _

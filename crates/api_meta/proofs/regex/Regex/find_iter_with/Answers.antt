@@ -1,0 +1,28 @@
+use Rattle.std.proofs.Common.{◌∙◌, None, ap, arith, false}
+use Rattle.rc_program.specs.Kinds.{matches_by_kind}
+use Rattle.rc_program.specs.Sought.{search_for}
+use Rattle.rc_program.proofs.KindLemmas.{kinds_law}
+use Rattle.rc_pikevm_search.proofs.Steps.{list_within}
+use Rattle.api_meta.specs.Views.{regex_kind, sought}
+use Rattle.api_meta.proofs.Going.{few_left}
+use Rattle.api_meta.proofs.LentRuns.{find_keeps, find_runs}
+use Rattle.api_meta.proofs.regex.Regex.find_iter_with.Goals as goal
+
+pub returns-clause-left : goal.returns-clause-left
+returns-clause-left g c kind =
+    let s = search_for (sought c.args.self.now) c.args.input.now in
+    ap (λ k. matches_by_kind k s c.args.input.now.span.start None) kind ∙ kinds_law.leftmost s c.args.input.now.span.start None
+
+pub returns-clause-within : goal.returns-clause-within
+returns-clause-within g c =
+    list_within (regex_kind c.args.self.now) (search_for (sought c.args.self.now) c.args.input.now) c.args.input.now.span.start
+
+pub returns-clause-short : goal.returns-clause-short
+returns-clause-short g c =
+    let few = few_left c.args.self.now c.args.input.now None false in omega (arith, few, c.chunk_offset-offset.ensures.shows.small)
+
+pub returns-clause-runs : goal.returns-clause-runs
+returns-clause-runs g c = find_runs
+
+pub returns-clause-stays : goal.returns-clause-stays
+returns-clause-stays g c = find_keeps _

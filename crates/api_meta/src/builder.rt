@@ -1,0 +1,209 @@
+//! What makes regexes.
+
+ghost use Rattle.std.specs.Prelude.{◌≡◌, ◌≤◌, ◌/◌, ◌∷◌, [], All, option_map, IfOk, IfErr, IfSome, List, length, map};
+ghost use Rattle.rc_pattern.specs.Re.{Re};
+ghost use Rattle.rc_pattern.specs.Meaning.{meaning};
+ghost use Rattle.rc_pattern.specs.WellFormed.{HasBounds};
+ghost use Rattle.rc_program.specs.Laws.{heaviness};
+ghost use Rattle.rc_program.specs.Places.{places_of};
+ghost use Rattle.rc_program.specs.Text.{Text};
+ghost use Rattle.rc_needles.specs.Prefilters.{needles_of};
+ghost use Rattle.rc_literals.specs.Needs.{Holds, LeavesOut};
+ghost use Rattle.rc_program.specs.Program.{program, shown};
+ghost use Rattle.rc_build.specs.Refusals.{IsBuildable, IsRefusal};
+ghost use Rattle.rc_settings.specs.Thompson.{which_captures_of};
+ghost use Rattle.rc_settings.specs.Which.{is_grouped};
+ghost use Rattle.rc_settings.specs.Settings.{settings_of, unset, overwritten, nfa_size_limit_of, program_settings, line_terminator_of, match_kind_of, dfa_of, hybrid_of, hybrid_cache_capacity_of, byte_classes_of, dfa_size_limit_of, dfa_state_limit_of};
+ghost use Rattle.rc_strategy.specs.Plans.{IsLazyFor};
+ghost use Rattle.api_meta.specs.Plans.{plan_by};
+ghost use Rattle.rc_build.specs.TextRefusals.{AllRead, IsTextRefusal, texts_of};
+ghost use Rattle.api_meta.specs.Views.{builder_settings, builder_syntax, regex_patterns, regex_settings};
+ghost use Rattle.rc_parser.specs.Settings.{default_settings, settings_of as syntax_of};
+
+use crate::regex::Regex;
+use rc_build::build::build_all;
+use rc_build::texts::parse_all;
+use rc_literals::guard::Needs;
+use rc_literals::needs;
+use rc_pattern::hir::Hir;
+use rc_pikevm_search::engine::Engine;
+use rc_settings::error::BuildError;
+use rc_settings::meta::Config;
+use rc_strategy::engines::{Engines, Limits};
+use rc_strategy::spans::Spans;
+use std::alloc::{AllocError, Global};
+
+/// Makes regexes under settings of its own: those of the regex, and those by which its text is read.
+#[derive(Drop)]
+pub struct Builder {
+    config: Config,
+    syntax: rc_parser::Config,
+}
+
+impl Builder {
+    /// A builder in which nothing is set. It reads text by the default settings.
+    pub fn new() -> Builder
+        ensures settings { builder_settings result ≡ unset }
+        ensures syntax { builder_syntax result ≡ default_settings }
+    {
+        Builder {
+            config: Config::new(),
+            syntax: rc_parser::Config::new(),
+        }
+    }
+
+    /// Takes over what `config` sets, keeps what it doesn't, and lends the builder on.
+    pub fn configure(&mut self, config: Config) -> &mut Builder
+        ensures same_reference { result.ghost_name ≡ self.entry.ghost_name }
+        ensures value { builder_settings result.now ≡ overwritten (builder_settings self.entry.now) (settings_of config) }
+        ensures syntax_kept { builder_syntax result.now ≡ builder_syntax self.entry.now }
+    {
+        self.config.overwrite(config);
+        self
+    }
+
+    /// Reads text by these settings from now on, and lends the builder on.
+    pub fn syntax(&mut self, config: rc_parser::Config) -> &mut Builder
+        ensures same_reference { result.ghost_name ≡ self.entry.ghost_name }
+        ensures value { builder_syntax result.now ≡ syntax_of config }
+        ensures settings_kept { builder_settings result.now ≡ builder_settings self.entry.now }
+    {
+        self.syntax = config;
+        self
+    }
+
+    /// The regex of the pattern as which this text is read. The `Err`s are those of `build_many`.
+    pub fn build(&self, alloc: Global, pattern: &str) -> Result<Regex, BuildError>
+        ensures read { IfOk result (λ r. AllRead (builder_syntax self.now) (pattern.now ∷ []) (regex_patterns r)) }
+        ensures settings { IfOk result (λ r. regex_settings r ≡ builder_settings self.now) }
+        ensures buildable { IfOk result (λ r. IsBuildable (nfa_size_limit_of (builder_settings self.now)) (regex_patterns r)) }
+        ensures refused { IfErr result (λ e. IsTextRefusal (nfa_size_limit_of (builder_settings self.now)) (builder_syntax self.now) (pattern.now ∷ []) e) }
+    {
+        self.build_many(alloc, std::slice::from_ref(&pattern))
+    }
+
+    /// The regex of the patterns as which these texts are read, at most 2,147,483,647.
+    ///
+    /// An `Err` is the first of these that applies: `Syntax`, with the least text from which no pattern is read, and a byte of it;
+    /// then those of `build_many_from_hir`. All texts are read before any pattern is built. The builder stays as it was.
+    pub fn build_many(&self, alloc: Global, patterns: &[&str]) -> Result<Regex, BuildError>
+        requires { length patterns.now ≤ 2147483647 }
+        ensures read { IfOk result (λ r. AllRead (builder_syntax self.now) (texts_of patterns.now) (regex_patterns r)) }
+        ensures settings { IfOk result (λ r. regex_settings r ≡ builder_settings self.now) }
+        ensures buildable { IfOk result (λ r. IsBuildable (nfa_size_limit_of (builder_settings self.now)) (regex_patterns r)) }
+        ensures refused { IfErr result (λ e. IsTextRefusal (nfa_size_limit_of (builder_settings self.now)) (builder_syntax self.now) (texts_of patterns.now) e) }
+    {
+        let hirs = parse_all(alloc, patterns, &self.syntax)?;
+        self.build_many_from_hir(alloc, &hirs)
+    }
+
+    /// The regex of one pattern. The `Err`s are those of `build_many_from_hir`.
+    pub fn build_from_hir(&self, alloc: Global, hir: &Hir) -> Result<Regex, BuildError>
+        ensures patterns { IfOk result (λ r. regex_patterns r ≡ meaning hir.now ∷ []) }
+        ensures settings { IfOk result (λ r. regex_settings r ≡ builder_settings self.now) }
+        ensures buildable { IfOk result (λ _. IsBuildable (nfa_size_limit_of (builder_settings self.now)) (meaning hir.now ∷ [])) }
+        ensures refused { IfErr result (λ e. IsRefusal (nfa_size_limit_of (builder_settings self.now)) (meaning hir.now ∷ []) e) }
+    {
+        self.build_many_from_hir(alloc, std::slice::from_ref(hir))
+    }
+
+    /// The regex of these patterns, at most 2,147,483,647.
+    ///
+    /// An `Err` is the first of these that applies: `IllFormed`, with the least pattern that isn't well-formed; `SizeLimit`, where
+    /// 32 times the weight of the patterns is above the limit on their size; `PlaceLimit`, where the weight is above 2,147,483,646.
+    /// `Memory` comes where memory was refused. The builder stays as it was.
+    pub fn build_many_from_hir(&self, alloc: Global, hirs: &[Hir]) -> Result<Regex, BuildError>
+        requires { length hirs.now ≤ 2147483647 }
+        ensures patterns { IfOk result (λ r. regex_patterns r ≡ map meaning hirs.now) }
+        ensures settings { IfOk result (λ r. regex_settings r ≡ builder_settings self.now) }
+        ensures buildable { IfOk result (λ _. IsBuildable (nfa_size_limit_of (builder_settings self.now)) (map meaning hirs.now)) }
+        ensures refused { IfErr result (λ e. IsRefusal (nfa_size_limit_of (builder_settings self.now)) (map meaning hirs.now) e) }
+    {
+        build(alloc, &self.config, hirs)
+    }
+}
+
+/// The regex of these patterns under these settings.
+pub(crate) fn build(alloc: Global, config: &Config, hirs: &[Hir]) -> Result<Regex, BuildError>
+    requires { length hirs.now ≤ 2147483647 }
+    ensures patterns { IfOk result (λ r. regex_patterns r ≡ map meaning hirs.now) }
+    ensures settings { IfOk result (λ r. regex_settings r ≡ settings_of config.now) }
+    ensures buildable { IfOk result (λ _. IsBuildable (nfa_size_limit_of (settings_of config.now)) (map meaning hirs.now)) }
+    ensures refused { IfErr result (λ e. IsRefusal (nfa_size_limit_of (settings_of config.now)) (map meaning hirs.now) e) }
+{
+    let built = build_all(
+        alloc,
+        hirs,
+        config.program_settings(),
+        config.get_match_kind(),
+        config.get_prefilter(),
+        config.get_auto_prefilter(),
+    )?;
+    let hirs = built.hirs;
+    let engines = engines_of(alloc, config, &hirs, built.engine)?;
+    let config = config.try_clone(alloc)?;
+    Ok(Regex {
+        config,
+        hirs,
+        engines,
+        info: built.info,
+    })
+}
+
+/// The engines of these patterns under these settings, whose program `engine` searches.
+fn engines_of(
+    alloc: Global,
+    config: &Config,
+    hirs: &[Hir],
+    engine: Engine,
+) -> Result<Engines, AllocError>
+    ghost shown_hirs: { List Re }
+    requires shown { shown_hirs ≡ shown (is_grouped (which_captures_of (program_settings (settings_of config.now)))) (map meaning hirs.now) }
+    requires program { places_of engine.program.places.items ≡ program shown_hirs }
+    requires light { heaviness (places_of engine.program.places.items) ≤ 2147483646 }
+    requires bounded { All HasBounds shown_hirs }
+    requires terminator { engine.program.terminator ≡ line_terminator_of (settings_of config.now) }
+    requires kind { engine.kind ≡ match_kind_of (settings_of config.now) }
+    ensures engine { IfOk result (λ engines. engines.engine ≡ engine) }
+    ensures planned { IfOk result (λ engines. IfSome engines.lazy (IsLazyFor (plan_by (map meaning hirs.now) (settings_of config.now)))) }
+{
+    let needs = needs_of(alloc, config, hirs)?;
+    Engines::new(
+        alloc,
+        engine,
+        hirs.len(),
+        Spans::of(hirs),
+        needs,
+        limits_of(config),
+    )
+}
+
+/// What each match holds, where searches go by that: needles are only taken from the patterns where the settings say so.
+fn needs_of(alloc: Global, config: &Config, hirs: &[Hir]) -> Result<Option<Needs>, AllocError>
+    ensures holds { IfOk result (λ found. IfSome found (λ n. (t : Text) → Holds t (map meaning hirs.now) (needles_of n.needles))) }
+    ensures leaves { IfOk result (λ found. IfSome found (λ n. (t : Text) → LeavesOut t (map meaning hirs.now) n.stops.table)) }
+{
+    if !config.get_auto_prefilter() {
+        return Ok(None);
+    }
+    needs::needs_of(alloc, hirs)
+}
+
+/// What the settings say of tables: each direction may take a quarter of the size of those of all states.
+fn limits_of(config: &Config) -> Limits
+    ensures dfa { result.dfa ≡ dfa_of (settings_of config.now) }
+    ensures hybrid { result.hybrid ≡ hybrid_of (settings_of config.now) }
+    ensures capacity { result.capacity ≡ hybrid_cache_capacity_of (settings_of config.now) }
+    ensures classes { result.byte_classes ≡ byte_classes_of (settings_of config.now) }
+    ensures states { result.state_limit ≡ dfa_state_limit_of (settings_of config.now) }
+    ensures size { result.size_limit ≡ option_map (λ size. size / 4) (dfa_size_limit_of (settings_of config.now)) }
+{
+    Limits {
+        dfa: config.get_dfa(),
+        state_limit: config.get_dfa_state_limit(),
+        size_limit: config.get_dfa_size_limit().map(|size| size / 4),
+        byte_classes: config.get_byte_classes(),
+        hybrid: config.get_hybrid(),
+        capacity: config.get_hybrid_cache_capacity(),
+    }
+}

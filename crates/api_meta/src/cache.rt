@@ -1,0 +1,40 @@
+//! What searches work in.
+
+use crate::regex::Regex;
+use rc_strategy::cache;
+use std::alloc::{AllocError, Global};
+
+/// What searches by a regex work in: all memory that they need, made once.
+#[derive(Drop)]
+pub struct Cache {
+    alloc: Global,
+    pub(crate) inner: cache::Cache,
+}
+
+impl Cache {
+    ghost use Rattle.std.specs.Prelude.{◌≡◌, IfOk, OnErr, OnOk};
+    ghost use Rattle.api_meta.specs.Caches.{IsCacheFor};
+    ghost use Rattle.api_meta.specs.Views.{regex_patterns, regex_settings};
+
+    /// A cache for searches by this regex, and by any of the same patterns under the same settings. An `Err` is want of memory.
+    pub fn new(alloc: Global, regex: &Regex) -> Result<Cache, AllocError>
+        ensures { IfOk result (IsCacheFor (regex_patterns regex.now) (regex_settings regex.now)) }
+    {
+        let inner = regex.engine_cache(alloc)?;
+        Ok(Cache { alloc, inner })
+    }
+
+    /// Makes this a cache for searches by another regex. An `Err` is want of memory, and then the cache stays as it was.
+    pub fn reset(&mut self, regex: &Regex) -> Result<(), AllocError>
+        ensures made { OnOk result (IsCacheFor (regex_patterns regex.now) (regex_settings regex.now) self.new) }
+        ensures refused { OnErr result (self.new ≡ self.old) }
+    {
+        self.inner = regex.engine_cache(self.alloc)?;
+        Ok(())
+    }
+
+    /// About how many bytes the cache has taken for its lists, and for the states that searches met.
+    pub fn memory_usage(&self) -> usize {
+        self.inner.memory_usage()
+    }
+}

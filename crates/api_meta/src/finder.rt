@@ -1,0 +1,142 @@
+//! What searches by a regex in a cache of its own.
+
+ghost use Rattle.api_meta.specs.Caches.{IsCacheFor};
+ghost use Rattle.api_meta.specs.Views.{regex_patterns, regex_settings};
+
+use crate::cache::Cache;
+use crate::regex::Regex;
+use rc_captures::captures::Captures;
+use rc_pattern_set::sets::PatternSet;
+use rc_text::cursor::Cursor;
+use rc_text::input::Input;
+use rc_text::types::{HalfMatch, Match};
+use std::alloc::{AllocError, Global};
+use std::marker::Model;
+
+/// A regex that is lent to it, and a cache that was made for that regex, so that its searches ask for nothing else. Contracts see it as
+/// the regex.
+#[derive(Drop)]
+pub struct Finder<'r> {
+    regex: &'r Regex,
+    cache: Cache,
+}
+
+impl<'r> Model for Finder<'r> {
+    ghost use Rattle.api_meta.specs.Caches.{IsCacheFor};
+    ghost use Rattle.api_meta.specs.Views.{regex_patterns, regex_settings};
+    ghost use Rattle.api_meta.specs.contracts.regex.Regex as regexes;
+    ghost use Rattle.api_meta.specs.declared.regex.Regex.{Regex};
+
+    ghost Value = { Regex };
+
+    ghost coded = { regexes.the_row.coded };
+
+    ghost view = { λ f. f.regex.now };
+
+    ghost invariant = { λ f. IsCacheFor (regex_patterns f.regex.now) (regex_settings f.regex.now) f.cache };
+}
+
+impl<'r> Finder<'r> {
+    ghost use Rattle.std.specs.Prelude.{◌≡◌, ◌↔◌, ◌≤◌, IfOk, IfSome, IsSome, IsTrue, OnErr, false, option_map};
+    ghost use Rattle.rc_captures.specs.Captures.{IsCapturesFor, match_of};
+    ghost use Rattle.rc_pikevm_search.specs.Tells.{KeepsAll, Tells, TellsBy};
+    ghost use Rattle.rc_strategy.specs.Early.{IsHalfBy};
+    ghost use Rattle.api_meta.specs.Preferred.{HoldsPreferred};
+    ghost use Rattle.api_meta.specs.Views.{regex_kind, regex_names, regex_patterns, regex_settings, sought};
+    ghost use Rattle.rc_parses.specs.Preference.{ArePlain, IsPreferredMatch};
+    ghost use Rattle.rc_pikevm.specs.PatternSpans.{AddsSpelled};
+    ghost use Rattle.rc_program.specs.Answer.{answer};
+    ghost use Rattle.rc_program.specs.Kinds.{IsAnswerBy, answer_by, is_early};
+    ghost use Rattle.rc_program.specs.Sought.{search_for};
+    ghost use Rattle.rc_settings.specs.Settings.{match_kind_of};
+    ghost use Rattle.rc_text.specs.Found.{half_of};
+    ghost use Rattle.rc_text.specs.Text.{Keeps, high, low};
+    ghost use Rattle.rc_text.specs.declared.types.MatchKind.TheVariants.{LeftmostFirst};
+
+    /// What searches by this regex, with a cache that is made for it. An `Err` is want of memory.
+    pub fn new(alloc: Global, regex: &'r Regex) -> Result<Finder<'r>, AllocError>
+        ensures { IfOk result (λ f. f ≡ regex.now) }
+    {
+        let cache = regex.create_cache(alloc)?;
+        Ok(Finder { regex, cache })
+    }
+
+    /// The regex.
+    pub fn regex(&self) -> &'r Regex
+        ensures { result.now ≡ self.now }
+    {
+        self.regex
+    }
+
+    /// The match that a search of the input finds, as `Regex::find` says. It takes no memory.
+    pub fn find<C: Cursor>(&mut self, input: &mut Input<C>) -> Option<Match>
+        ensures regex { self.new ≡ self.old }
+        ensures keeps { Keeps input.old input.new }
+        ensures found { match_kind_of (regex_settings self.old) ≡ LeftmostFirst → is_early input.old.earliest (search_for (sought self.old) input.old) ≡ false
+            → result ≡ answer (search_for (sought self.old) input.old) }
+        ensures preferred { match_kind_of (regex_settings self.old) ≡ LeftmostFirst → ArePlain (regex_patterns self.old)
+            → is_early input.old.earliest (search_for (sought self.old) input.old) ≡ false → IsPreferredMatch (sought self.old) input.old result }
+        ensures found_by { is_early input.old.earliest (search_for (sought self.old) input.old) ≡ false
+            → result ≡ answer_by (regex_kind self.old) (search_for (sought self.old) input.old) }
+        ensures may { IsAnswerBy (regex_kind self.old) input.old.earliest (search_for (sought self.old) input.old) result }
+        ensures within { IfSome result (λ m. (low input.old ≤ m.start) × (m.start ≤ m.end) × (m.end ≤ high input.old)) }
+    {
+        self.regex.search_with(&mut self.cache, input)
+    }
+
+    /// The pattern and the end of the match that `find` finds. It takes no memory.
+    pub fn find_end<C: Cursor>(&mut self, input: &mut Input<C>) -> Option<HalfMatch>
+        ensures regex { self.new ≡ self.old }
+        ensures keeps { Keeps input.old input.new }
+        ensures found_by { is_early input.old.earliest (search_for (sought self.old) input.old) ≡ false
+            → result ≡ option_map half_of (answer_by (regex_kind self.old) (search_for (sought self.old) input.old)) }
+        ensures may { IsHalfBy (regex_kind self.old) input.old.earliest (search_for (sought self.old) input.old) result }
+        ensures within { IfSome result (λ m. (low input.old ≤ m.offset) × (m.offset ≤ high input.old)) }
+    {
+        self.regex.search_half_with(&mut self.cache, input)
+    }
+
+    /// Whether a search of the input finds a match. It takes no memory.
+    pub fn is_match<C: Cursor>(&mut self, input: &mut Input<C>) -> bool
+        ensures regex { self.new ≡ self.old }
+        ensures keeps { Keeps input.old input.new }
+        ensures found_by { IsTrue result ↔ IsSome (answer_by (regex_kind self.old) (search_for (sought self.old) input.old)) }
+    {
+        self.regex.is_match_with(&mut self.cache, input)
+    }
+
+    /// The match that `find` finds with the earliest flag off, with its groups, in captures that are made for it. Without a match they
+    /// hold none. An `Err` is want of memory for them, and then the input stays as it was.
+    pub fn captures<C: Cursor>(
+        &mut self,
+        alloc: Global,
+        input: &mut Input<C>,
+    ) -> Result<Captures, AllocError>
+        ensures regex { self.new ≡ self.old }
+        ensures keeps { Keeps input.old input.new }
+        ensures refused { OnErr result (input.new ≡ input.old) }
+        ensures made { IfOk result (IsCapturesFor (regex_names self.old)) }
+        ensures whole { IfOk result (KeepsAll (regex_names self.old)) }
+        ensures found { match_kind_of (regex_settings self.old) ≡ LeftmostFirst
+            → IfOk result (Tells (search_for (sought self.old) input.old)) }
+        ensures preferred { match_kind_of (regex_settings self.old) ≡ LeftmostFirst → ArePlain (regex_patterns self.old)
+            → IfOk result (HoldsPreferred (sought self.old) input.old) }
+        ensures told_by { IfOk result (TellsBy (regex_kind self.old) (search_for (sought self.old) input.old)) }
+        ensures matched_by { IfOk result (λ c. match_of c ≡ answer_by (regex_kind self.old) (search_for (sought self.old) input.old)) }
+    {
+        let mut caps = self.regex.create_captures(alloc)?;
+        self.regex
+            .search_captures_with(&mut self.cache, input, &mut caps);
+        Ok(caps)
+    }
+
+    /// Puts into the set each pattern that has a match within the bounds of a search of the input, as `Regex::which_patterns_with` says.
+    /// It takes no memory.
+    pub fn which_patterns<C: Cursor>(&mut self, input: &mut Input<C>, set: &mut PatternSet)
+        ensures regex { self.new ≡ self.old }
+        ensures keeps { Keeps input.old input.new }
+        ensures adds { AddsSpelled (search_for (sought self.old) input.old) set.old set.new }
+    {
+        self.regex.which_patterns_with(&mut self.cache, input, set);
+    }
+}

@@ -1,0 +1,326 @@
+//! What goes over the matches of a regex, with their groups, and over the pieces between them.
+//!
+//! Each keeps the input and a cache that is made with it, and searches when `next` is called: nothing is found ahead. The searches
+//! take no memory.
+
+use crate::regex::Regex;
+use crate::seeker::{GroupSeeker, Seeker};
+use rc_captures::captures::Captures;
+use rc_text::cursor::Cursor;
+use rc_text::input::{Input, high};
+use rc_text::types::{Match, Span};
+use std::alloc::AllocError;
+use std::iter::FusedIterator;
+
+/// The matches of a regex in an input, from left to right.
+///
+/// Each call of `next` searches, and takes no memory. It keeps the regex, and the input but for where its span starts. After the last
+/// match it gives None, whatever the input becomes.
+#[derive(Drop)]
+pub struct FindMatches<'r, C: Cursor> {
+    pub(crate) seeker: Seeker<'r>,
+    pub(crate) input: Input<C>,
+}
+
+/// The matches of a regex in an input, from left to right, each with its groups.
+///
+/// Each call of `next` searches, and takes the memory of one match's captures, and no other: it gives them with the match, or gives the
+/// memory back where none is left. It keeps the regex, and the input but for where its span starts. Want of memory is an item, where a
+/// match is left, after which None comes, whatever the input becomes; so it does after the last match.
+#[derive(Drop)]
+pub struct CapturesMatches<'r, C: Cursor> {
+    pub(crate) seeker: GroupSeeker<'r>,
+    pub(crate) input: Input<C>,
+}
+
+/// The pieces of a content between the matches of a regex, from left to right.
+///
+/// Each call of `next` searches, and takes no memory. It keeps the regex, and the input but for where its span starts. After the last
+/// piece it gives None, whatever the input becomes.
+#[derive(Drop)]
+pub struct Split<'r, C: Cursor> {
+    pub(crate) pieces: Pieces<'r>,
+    pub(crate) input: Input<C>,
+}
+
+/// The same, of which there are at most so many. Each call of `next` lowers that number by one.
+#[derive(Drop)]
+pub struct SplitN<'r, C: Cursor> {
+    pub(crate) pieces: Pieces<'r>,
+    pub(crate) input: Input<C>,
+    /// How many more calls of `next` may give a piece.
+    pub(crate) limit: usize,
+}
+
+/// What finds the pieces between the matches, one after another, in an input that is lent to it.
+#[derive(Drop)]
+pub(crate) struct Pieces<'r> {
+    pub(crate) seeker: Seeker<'r>,
+    /// Where the next piece begins.
+    pub(crate) start: usize,
+    pub(crate) is_done: bool,
+}
+
+impl<'r, C: Cursor> FindMatches<'r, C> {
+    ghost use Rattle.std.specs.Prelude.{◌≡◌, []};
+    ghost use Rattle.std.specs.Borrow.{Lends, sem};
+    ghost use mir.Syntax.{named};
+    ghost use Rattle.rc_text.specs.contracts.input.Input.{the_row as input_row};
+    ghost use Rattle.api_meta.specs.contracts.iterators.FindMatches.{the_row};
+    ghost use Rattle.api_meta.specs.Left.{find_input, find_regex, with_find_input};
+
+    /// The regex.
+    pub fn regex(&self) -> &'r Regex
+        ensures { result.now ≡ find_regex self.now }
+    {
+        self.seeker.regex
+    }
+
+    /// The input. It may be changed: `next` then goes on in what it is, and the iterator is otherwise as before.
+    pub fn input(&mut self) -> &mut Input<C>
+        ensures* kept { sem 𝓛 (Lends (the_row (record { mir = named 1; lft = [] }) C.row C.Cursor)
+            (input_row C.row C.Cursor) self.entry result (with_find_input self.old)) }
+        ensures input { result.now ≡ find_input self.old }
+    {
+        let FindMatches { input, .. } = self;
+        input
+    }
+}
+
+impl<'r, C: Cursor + Drop> FindMatches<'r, C> {
+    ghost use Rattle.std.specs.Prelude.{◌≡◌, length};
+    ghost use Rattle.api_meta.specs.Left.{find_left};
+
+    /// How many matches are left. It takes no memory.
+    pub fn count(self) -> usize
+        ensures { result ≡ length (find_left self.entry) }
+    {
+        // The content is shorter than the greatest number.
+        let _offset = self.input.chunk_offset();
+        Iterator::count(self)
+    }
+}
+
+impl<'r, C: Cursor + Drop> Iterator for FindMatches<'r, C> {
+    ghost use Rattle.std.specs.Iterator.{item_count};
+    ghost use Rattle.api_meta.specs.Left.{FindNext, find_left};
+
+    type Item = Match;
+
+    ghost next_gives = { FindNext };
+
+    ghost remaining = { item_count find_left };
+
+    fn next(&mut self) -> Option<Match> {
+        self.seeker.next_match(&mut self.input)
+    }
+}
+
+impl<'r, C: Cursor + Drop> FusedIterator for FindMatches<'r, C> {}
+
+impl<'r, C: Cursor> CapturesMatches<'r, C> {
+    ghost use Rattle.std.specs.Prelude.{◌≡◌, []};
+    ghost use Rattle.std.specs.Borrow.{Lends, sem};
+    ghost use mir.Syntax.{named};
+    ghost use Rattle.rc_text.specs.contracts.input.Input.{the_row as input_row};
+    ghost use Rattle.api_meta.specs.contracts.iterators.CapturesMatches.{the_row};
+    ghost use Rattle.api_meta.specs.Left.{captures_input, captures_regex, with_captures_input};
+
+    /// The regex.
+    pub fn regex(&self) -> &'r Regex
+        ensures { result.now ≡ captures_regex self.now }
+    {
+        self.seeker.seeker.regex
+    }
+
+    /// The input. It may be changed: `next` then goes on in what it is, and the iterator is otherwise as before.
+    pub fn input(&mut self) -> &mut Input<C>
+        ensures* kept { sem 𝓛 (Lends (the_row (record { mir = named 1; lft = [] }) C.row C.Cursor)
+            (input_row C.row C.Cursor) self.entry result (with_captures_input self.old)) }
+        ensures input { result.now ≡ captures_input self.old }
+    {
+        let CapturesMatches { input, .. } = self;
+        input
+    }
+}
+
+impl<'r, C: Cursor + Drop> CapturesMatches<'r, C> {
+    ghost use Rattle.std.specs.Prelude.{◌≡◌, length};
+    ghost use Rattle.api_meta.specs.Left.{captures_left};
+
+    /// How many matches are left: as many items as `next` would give with no memory refused. It makes no captures, and takes no
+    /// memory.
+    pub fn count(self) -> usize
+        ensures { result ≡ length (captures_left self.entry) }
+    {
+        let matches = FindMatches {
+            seeker: self.seeker.seeker,
+            input: self.input,
+        };
+        matches.count()
+    }
+}
+
+impl<'r, C: Cursor + Drop> Iterator for CapturesMatches<'r, C> {
+    ghost use Rattle.std.specs.Iterator.{item_count};
+    ghost use Rattle.api_meta.specs.Left.{captures_left, CapturesNext};
+
+    type Item = Result<Captures, AllocError>;
+
+    ghost next_gives = { CapturesNext };
+
+    ghost remaining = { item_count captures_left };
+
+    /// The next match, with its groups. An `Err` is want of memory for them, and after it no item comes.
+    fn next(&mut self) -> Option<Result<Captures, AllocError>> {
+        self.seeker.next(&mut self.input)
+    }
+}
+
+impl<'r, C: Cursor + Drop> FusedIterator for CapturesMatches<'r, C> {}
+
+impl<'r> Pieces<'r> {
+    ghost use Rattle.std.specs.Prelude.{◌≡◌, ◌∷◌, ℕ, suc, [], IfNone, IsTrue, MatchOption, true};
+    ghost use Rattle.rc_text.specs.Text.{high};
+    ghost use Rattle.api_meta.specs.Left.{Goes, few_in, pieces_in};
+
+    /// The next piece.
+    pub(crate) fn next_piece<C: Cursor>(&mut self, input: &mut Input<C>) -> Option<Span>
+        ensures steps { MatchOption result
+            ((pieces_in self.old input.old ≡ []) × (pieces_in self.new input.new ≡ []))
+            (λ piece. pieces_in self.old input.old ≡ piece ∷ pieces_in self.new input.new) }
+        ensures limited { (n : ℕ) → MatchOption result
+            ((few_in n self.old input.old ≡ []) × (few_in n self.new input.new ≡ []))
+            (λ piece. few_in (suc (suc n)) self.old input.old ≡ piece ∷ few_in (suc n) self.new input.new) }
+        ensures goes { Goes self.old.seeker input.old self.new.seeker input.new }
+        ensures over { IfNone result (IsTrue self.new.is_done) }
+    {
+        if self.is_done {
+            return None;
+        }
+        let start = self.start;
+        let Some(found) = self.seeker.next_match(input) else {
+            return Some(self.rest(input));
+        };
+        self.start = found.end();
+        Some(Span {
+            start,
+            end: found.start(),
+        })
+    }
+
+    /// All from the start of the next piece on, as the last piece.
+    pub(crate) fn rest<C: Cursor>(&mut self, input: &mut Input<C>) -> Span
+        ensures value { result ≡ record { start = self.old.start; end = high input.old } }
+        ensures done { self.new.is_done ≡ true }
+        ensures goes { Goes self.old.seeker input.old self.new.seeker input.new }
+    {
+        self.is_done = true;
+        Span {
+            start: self.start,
+            end: high(input),
+        }
+    }
+}
+
+impl<'r, C: Cursor> Split<'r, C> {
+    ghost use Rattle.std.specs.Prelude.{◌≡◌, []};
+    ghost use Rattle.std.specs.Borrow.{Lends, sem};
+    ghost use mir.Syntax.{named};
+    ghost use Rattle.rc_text.specs.contracts.input.Input.{the_row as input_row};
+    ghost use Rattle.api_meta.specs.contracts.iterators.Split.{the_row};
+    ghost use Rattle.api_meta.specs.Left.{split_input, with_split_input};
+
+    /// The input. It may be changed: `next` then goes on in what it is, and the iterator is otherwise as before.
+    pub fn input(&mut self) -> &mut Input<C>
+        ensures* kept { sem 𝓛 (Lends (the_row (record { mir = named 1; lft = [] }) C.row C.Cursor)
+            (input_row C.row C.Cursor) self.entry result (with_split_input self.old)) }
+        ensures input { result.now ≡ split_input self.old }
+    {
+        let Split { input, .. } = self;
+        input
+    }
+}
+
+impl<'r, C: Cursor + Drop> Iterator for Split<'r, C> {
+    ghost use Rattle.std.specs.Iterator.{item_count};
+    ghost use Rattle.api_meta.specs.Left.{SplitNext, split_left};
+
+    type Item = Span;
+
+    ghost next_gives = { SplitNext };
+
+    ghost remaining = { item_count split_left };
+
+    fn next(&mut self) -> Option<Span> {
+        self.pieces.next_piece(&mut self.input)
+    }
+}
+
+impl<'r, C: Cursor + Drop> FusedIterator for Split<'r, C> {}
+
+impl<'r, C: Cursor> SplitN<'r, C> {
+    ghost use Rattle.std.specs.Prelude.{◌≡◌, ◌-◌, []};
+    ghost use Rattle.std.specs.Iterator.{YieldsFirst};
+    ghost use Rattle.std.specs.Borrow.{Lends, sem};
+    ghost use mir.Syntax.{named};
+    ghost use Rattle.rc_text.specs.contracts.input.Input.{the_row as input_row};
+    ghost use Rattle.api_meta.specs.contracts.iterators.SplitN.{the_row};
+    ghost use Rattle.api_meta.specs.Left.{SplitnKeeps, splitn_input, splitn_left, splitn_limit, with_splitn_input};
+
+    /// The input. It may be changed: `next` then goes on in what it is, and the iterator is otherwise as before.
+    pub fn input(&mut self) -> &mut Input<C>
+        ensures* kept { sem 𝓛 (Lends (the_row (record { mir = named 1; lft = [] }) C.row C.Cursor)
+            (input_row C.row C.Cursor) self.entry result (with_splitn_input self.old)) }
+        ensures input { result.now ≡ splitn_input self.old }
+    {
+        let SplitN { input, .. } = self;
+        input
+    }
+
+    /// The next piece. Each call lowers the limit.
+    pub fn next(&mut self) -> Option<Span>
+        ensures steps { YieldsFirst splitn_left self.old result self.new }
+        ensures limit { splitn_limit self.new ≡ splitn_limit self.old - 1 }
+        ensures keeps { SplitnKeeps self.old self.new }
+    {
+        let limit = self.limit;
+        self.limit = limit.saturating_sub(1);
+        if limit == 0 || self.pieces.is_done {
+            return None;
+        }
+        let input = &mut self.input;
+        if limit == 1 {
+            return Some(self.pieces.rest(input));
+        }
+        self.pieces.next_piece(input)
+    }
+}
+
+impl<'r, C: Cursor + Drop> Iterator for SplitN<'r, C> {
+    ghost use Rattle.std.specs.Prelude.{◌≡◌, Some, IfSome};
+    ghost use Rattle.std.specs.Iterator.{UpTo, at_most};
+    ghost use Rattle.std.specs.Iterator.SizeHint.{IsWithinCount};
+    ghost use Rattle.api_meta.specs.Left.{SplitnNext, splitn_limit};
+
+    type Item = Span;
+
+    ghost next_gives = { SplitnNext };
+
+    ghost remaining = { λ s. at_most (splitn_limit s) };
+
+    fn next(&mut self) -> Option<Span> {
+        SplitN::next(self)
+    }
+
+    /// From none to the limit, less the calls of `next` so far.
+    fn size_hint(&self) -> (usize, Option<usize>)
+        ensures lower { IsWithinCount result.0 (at_most (splitn_limit self.now)) }
+        ensures upper { IfSome result.1 (UpTo (at_most (splitn_limit self.now))) }
+        ensures value { result ≡ (0, Some (splitn_limit self.now)) }
+    {
+        (0, Some(self.limit))
+    }
+}
+
+impl<'r, C: Cursor + Drop> FusedIterator for SplitN<'r, C> {}

@@ -1,0 +1,613 @@
+//! A regex, and its searches.
+
+ghost use Rattle.std.specs.Prelude.{◌≡◌, ◌≤◌, ◌+◌, All, IfSome, None, false, length, map};
+ghost use Rattle.rc_pattern.specs.Properties.{common};
+ghost use Rattle.rc_pattern.specs.Weight.{list_weight};
+ghost use Rattle.rc_pattern.specs.WellFormed.{IsWellFormed};
+ghost use Rattle.rc_program.specs.Laws.{all_groups};
+ghost use Rattle.rc_build.specs.Fits.{Fits};
+ghost use Rattle.rc_build.specs.Refusals.{greatest_weight};
+ghost use Rattle.rc_pikevm_search.specs.Choices.{guarding};
+ghost use Rattle.rc_strategy.specs.Plans.{IsLazyFor};
+ghost use Rattle.api_meta.specs.Plans.{plan_by};
+ghost use Rattle.api_meta.specs.Counts.{static_groups};
+ghost use Rattle.rc_pattern.specs.Meaning.{meaning};
+ghost use Rattle.rc_settings.specs.Settings.{settings_of, program_settings, auto_prefilter_of, prefilter_of, match_kind_of};
+
+use crate::builder::{Builder, build};
+use crate::cache::Cache;
+use crate::iterators::{CapturesMatches, FindMatches, Pieces, Split, SplitN};
+use crate::seeker::{GroupSeeker, Seeker, Standing};
+use rc_captures::captures;
+use rc_captures::captures::Captures;
+use rc_captures::groups::GroupInfo;
+use rc_pattern::check::group_count;
+use rc_pattern::hir::Hir;
+use rc_program::place::Place;
+use rc_settings::error::BuildError;
+use rc_settings::meta::Config;
+use rc_strategy::engines::Engines;
+use rc_strategy::{cache, early};
+use rc_text::cursor::Cursor;
+use rc_text::input::Input;
+use rc_text::types::{HalfMatch, Match, PatternID};
+use std::alloc::{AllocError, Global};
+use std::mem::size_of;
+
+/// A list of patterns, built.
+#[derive(Drop)]
+pub struct Regex {
+    pub(crate) config: Config,
+    pub(crate) hirs: Vec<Hir>,
+    pub(crate) engines: Engines,
+    pub(crate) info: GroupInfo,
+    ghost fits: { Fits (program_settings (settings_of config)) (match_kind_of (settings_of config)) (map meaning hirs.items) engines.engine info },
+    ghost planned: { ∥ IfSome engines.lazy (IsLazyFor (plan_by (map meaning hirs.items) (settings_of config))) ∥₁ },
+    ghost well_formed: { ∥ All IsWellFormed (map meaning hirs.items) ∥₁ },
+    // no needles, where none are asked for
+    ghost unguarded: { auto_prefilter_of (settings_of config) ≡ false → prefilter_of (settings_of config) ≡ None → guarding engines.engine.strategy ≡ None },
+}
+
+impl Regex {
+    ghost use Rattle.std.specs.Prelude.{◌≡◌, ◌≢◌, is_some, ◌≤◌, ◌<◌, ◌+◌, ◌^◌, ◌↔◌, ◌∷◌, [], All, IfErr, IfOk, IfSome, OnOk, OnErr, IsSome, IsTrue, MatchOption, Some, None, false, length, map, option_map};
+    ghost use Rattle.rc_captures.specs.Captures.{IsCapturesFor, captures_pattern, captures_slots, match_of};
+    ghost use Rattle.rc_captures.specs.Groups.{names_of};
+    ghost use Rattle.rc_captures.specs.Names.{slot_len};
+    ghost use Rattle.rc_pikevm_search.specs.Tells.{Tells, TellsBy, KeepsAll};
+    ghost use Rattle.rc_pikevm_search.specs.Walks.{walks_left};
+    ghost use Rattle.rc_program.specs.Matches.{matches_left, pieces_of, pieces_at_most};
+    ghost use Rattle.api_meta.specs.Left.{FindRuns, SplitRuns, SplitnRuns, captures_input, captures_left, captures_regex, captures_walks, CapturesLaw, MatchedLaw, find_input, find_left, find_regex, split_input, split_left, splitn_input, splitn_left, splitn_limit};
+    ghost use Rattle.rc_text.specs.Found.{Found, half_of};
+    ghost use Rattle.rc_program.specs.Laws.{all_groups};
+    ghost use Rattle.api_meta.specs.Counts.{static_captures_len};
+    ghost use Rattle.rc_text.specs.Text.{Keeps, low, high};
+    ghost use Rattle.rc_text.specs.declared.types.MatchKind.TheVariants.{All as greatest_matches, LeftmostFirst};
+    ghost use Rattle.rc_program.specs.Answer.{answer, groups};
+    ghost use Rattle.rc_program.specs.Kinds.{IsAnswerBy, answer_by, is_early, matches_by_kind};
+    ghost use Rattle.rc_pikevm.specs.KindSlots.{slots_by};
+    ghost use Rattle.rc_program.specs.Sought.{search_for};
+    ghost use Rattle.rc_settings.specs.Settings.{unset, auto_prefilter_of, prefilter_of, match_kind_of, nfa_size_limit_of};
+    ghost use Rattle.rc_build.specs.Refusals.{IsBuildable};
+    ghost use Rattle.rc_build.specs.TextRefusals.{AllRead, IsTextRefusal, texts_of};
+    ghost use Rattle.rc_parser.specs.Settings.{default_settings};
+    ghost use Rattle.rc_parses.specs.Preference.{ArePlain, IsPreferredMatch};
+    ghost use Rattle.rc_strategy.specs.Caches.{IsCacheIn};
+    ghost use Rattle.rc_strategy.specs.Early.{IsHalfBy};
+    ghost use Rattle.api_meta.specs.Caches.{IsCacheFor};
+    ghost use Rattle.api_meta.specs.Preferred.{HoldsPreferred};
+    ghost use Rattle.api_meta.specs.Views.{builder_settings, builder_syntax, regex_kind, regex_patterns, regex_settings, regex_names, sought};
+
+    /// The regex of the pattern as which this text is read by the default settings. Nothing else is set. The `Err`s are those of
+    /// `new_many`.
+    pub fn new(alloc: Global, pattern: &str) -> Result<Regex, BuildError>
+        ensures read { IfOk result (λ r. AllRead default_settings (pattern.now ∷ []) (regex_patterns r)) }
+        ensures settings { IfOk result (λ r. regex_settings r ≡ unset) }
+        ensures buildable { IfOk result (λ r. IsBuildable (nfa_size_limit_of unset) (regex_patterns r)) }
+        ensures refused { IfErr result (λ e. IsTextRefusal (nfa_size_limit_of unset) default_settings (pattern.now ∷ []) e) }
+    {
+        Regex::builder().build(alloc, pattern)
+    }
+
+    /// The regex of the patterns as which these texts are read by the default settings, at most 2,147,483,647. Nothing else is set.
+    ///
+    /// An `Err` is the first of these that applies: `Syntax`, with the least text from which no pattern is read, and a byte of it;
+    /// `IllFormed`, with the least pattern that isn't well-formed; `SizeLimit`, where 32 times the weight of the patterns is above
+    /// 10,485,760; `PlaceLimit`, where the weight is above 2,147,483,646. `Memory` comes where memory was refused.
+    pub fn new_many(alloc: Global, patterns: &[&str]) -> Result<Regex, BuildError>
+        requires { length patterns.now ≤ 2147483647 }
+        ensures read { IfOk result (λ r. AllRead default_settings (texts_of patterns.now) (regex_patterns r)) }
+        ensures settings { IfOk result (λ r. regex_settings r ≡ unset) }
+        ensures buildable { IfOk result (λ r. IsBuildable (nfa_size_limit_of unset) (regex_patterns r)) }
+        ensures refused { IfErr result (λ e. IsTextRefusal (nfa_size_limit_of unset) default_settings (texts_of patterns.now) e) }
+    {
+        Regex::builder().build_many(alloc, patterns)
+    }
+
+    /// A builder in which nothing is set. It reads text by the default settings.
+    pub fn builder() -> Builder
+        ensures settings { builder_settings result ≡ unset }
+        ensures syntax { builder_syntax result ≡ default_settings }
+    {
+        Builder::new()
+    }
+
+    /// Settings of which none is set.
+    pub fn config() -> Config
+        ensures { settings_of result ≡ unset }
+    {
+        Config::new()
+    }
+
+    /// The match that a search of the input finds. An `Err` is want of memory.
+    ///
+    /// Under `MatchKind::All` it is the match with the greatest end, of these the one with the least start, and of these the one of
+    /// the least pattern. Empty matches inside a character aren't passed over then. Under `MatchKind::LeftmostLongest` it is, of the
+    /// matches of the least start, the longest.
+    ///
+    /// With the input's earliest flag on, unless matches are passed over, any span that a pattern spells may be the answer, and there is
+    /// one where there is one with the flag off. The search then stops at the first position at which some match ends.
+    ///
+    /// The match depends on the uncut bytes of the content alone, however the cursor cuts them. Where `is_plain` is true, the match that is
+    /// preferred is the least parse of the least start that has one.
+    pub fn find<C: Cursor + Drop>(
+        &self,
+        alloc: Global,
+        mut input: Input<C>,
+    ) -> Result<Option<Match>, AllocError>
+        ensures found { match_kind_of (regex_settings self.now) ≡ LeftmostFirst → is_early input.earliest (search_for (sought self.now) input) ≡ false
+            → IfOk result (λ m. m ≡ answer (search_for (sought self.now) input)) }
+        ensures preferred { match_kind_of (regex_settings self.now) ≡ LeftmostFirst → ArePlain (regex_patterns self.now)
+            → is_early input.earliest (search_for (sought self.now) input) ≡ false → IfOk result (IsPreferredMatch (sought self.now) input) }
+        ensures found_by { is_early input.earliest (search_for (sought self.now) input) ≡ false
+            → IfOk result (λ m. m ≡ answer_by (regex_kind self.now) (search_for (sought self.now) input)) }
+        ensures may { IfOk result (IsAnswerBy (regex_kind self.now) input.earliest (search_for (sought self.now) input)) }
+        ensures within { IfOk result (λ o. IfSome o (λ m. (low input ≤ m.start) × (m.start ≤ m.end) × (m.end ≤ high input))) }
+    {
+        early::search_once(&self.engines, alloc, &mut input)
+    }
+
+    /// As `find`.
+    pub fn search<C: Cursor + Drop>(
+        &self,
+        alloc: Global,
+        input: Input<C>,
+    ) -> Result<Option<Match>, AllocError>
+        ensures found_by { is_early input.earliest (search_for (sought self.now) input) ≡ false
+            → IfOk result (λ m. m ≡ answer_by (regex_kind self.now) (search_for (sought self.now) input)) }
+        ensures may { IfOk result (IsAnswerBy (regex_kind self.now) input.earliest (search_for (sought self.now) input)) }
+        ensures within { IfOk result (λ o. IfSome o (λ m. (low input ≤ m.start) × (m.start ≤ m.end) × (m.end ≤ high input))) }
+    {
+        let found = self.find(alloc, input)?;
+        Ok(found)
+    }
+
+    /// As `find`, in a cache that was made for this regex. It takes no memory.
+    pub fn search_with<C: Cursor>(&self, cache: &mut Cache, input: &mut Input<C>) -> Option<Match>
+        requires made { IsCacheFor (regex_patterns self.now) (regex_settings self.now) cache.old }
+        ensures cache { IsCacheFor (regex_patterns self.now) (regex_settings self.now) cache.new }
+        ensures keeps { Keeps input.old input.new }
+        ensures found { match_kind_of (regex_settings self.now) ≡ LeftmostFirst → is_early input.old.earliest (search_for (sought self.now) input.old) ≡ false
+            → result ≡ answer (search_for (sought self.now) input.old) }
+        ensures preferred { match_kind_of (regex_settings self.now) ≡ LeftmostFirst → ArePlain (regex_patterns self.now)
+            → is_early input.old.earliest (search_for (sought self.now) input.old) ≡ false → IsPreferredMatch (sought self.now) input.old result }
+        ensures found_by { is_early input.old.earliest (search_for (sought self.now) input.old) ≡ false
+            → result ≡ answer_by (regex_kind self.now) (search_for (sought self.now) input.old) }
+        ensures may { IsAnswerBy (regex_kind self.now) input.old.earliest (search_for (sought self.now) input.old) result }
+        ensures within { IfSome result (λ m. (low input.old ≤ m.start) × (m.start ≤ m.end) × (m.end ≤ high input.old)) }
+    {
+        early::search(&self.engines, &mut cache.inner, input)
+    }
+
+    /// The pattern and the end of the match that `find` finds. An `Err` is want of memory.
+    pub fn search_half<C: Cursor + Drop>(
+        &self,
+        alloc: Global,
+        mut input: Input<C>,
+    ) -> Result<Option<HalfMatch>, AllocError>
+        ensures found_by { is_early input.earliest (search_for (sought self.now) input) ≡ false
+            → IfOk result (λ m. m ≡ option_map half_of (answer_by (regex_kind self.now) (search_for (sought self.now) input))) }
+        ensures may { IfOk result (IsHalfBy (regex_kind self.now) input.earliest (search_for (sought self.now) input)) }
+        ensures within { IfOk result (λ o. IfSome o (λ m. (low input ≤ m.offset) × (m.offset ≤ high input))) }
+    {
+        early::search_end_once(&self.engines, alloc, &mut input)
+    }
+
+    /// As `search_half`, in a cache that was made for this regex. It takes no memory.
+    pub fn search_half_with<C: Cursor>(
+        &self,
+        cache: &mut Cache,
+        input: &mut Input<C>,
+    ) -> Option<HalfMatch>
+        requires made { IsCacheFor (regex_patterns self.now) (regex_settings self.now) cache.old }
+        ensures cache { IsCacheFor (regex_patterns self.now) (regex_settings self.now) cache.new }
+        ensures keeps { Keeps input.old input.new }
+        ensures found_by { is_early input.old.earliest (search_for (sought self.now) input.old) ≡ false
+            → result ≡ option_map half_of (answer_by (regex_kind self.now) (search_for (sought self.now) input.old)) }
+        ensures may { IsHalfBy (regex_kind self.now) input.old.earliest (search_for (sought self.now) input.old) result }
+        ensures within { IfSome result (λ m. (low input.old ≤ m.offset) × (m.offset ≤ high input.old)) }
+    {
+        early::search_end(&self.engines, &mut cache.inner, input)
+    }
+
+    /// Whether a search of the input finds a match. An `Err` is want of memory.
+    ///
+    /// Under `MatchKind::All` empty matches inside a character aren't passed over.
+    pub fn is_match<C: Cursor + Drop>(
+        &self,
+        alloc: Global,
+        mut input: Input<C>,
+    ) -> Result<bool, AllocError>
+        ensures found_by { IfOk result (λ b. IsTrue b ↔ IsSome (answer_by (regex_kind self.now) (search_for (sought self.now) input))) }
+    {
+        self.engines.is_match_once(alloc, &mut input)
+    }
+
+    /// How many patterns there are.
+    pub fn pattern_len(&self) -> usize
+        ensures { result ≡ length (regex_patterns self.now) }
+    {
+        self.hirs.len()
+    }
+
+    /// How many groups the patterns have: group 0 of each, and the explicit ones, whether they are kept or not.
+    pub fn captures_len(&self) -> usize
+        ensures { result ≡ length (regex_patterns self.now) + all_groups (regex_patterns self.now) }
+    {
+        self.pattern_len() + explicit_groups(&self.hirs)
+    }
+
+    /// How many groups take part in each match, group 0 among them, where that is known to be one number for all patterns. `None`
+    /// where there is no pattern.
+    pub fn static_captures_len(&self) -> Option<usize>
+        ensures { result ≡ static_captures_len (regex_patterns self.now) }
+    {
+        let explicit = static_groups(&self.hirs)?;
+        Some(explicit.saturating_add(1))
+    }
+
+    /// Whether no pattern repeats what may be empty. Then the patterns alone tell which match is preferred, and its groups. It takes no
+    /// memory.
+    pub fn is_plain(&self) -> bool
+        ensures { IsTrue result ↔ ArePlain (regex_patterns self.now) }
+    {
+        for hir in &self.hirs {
+            if !hir.properties().is_plain() {
+                return false;
+            }
+        }
+        true
+    }
+
+    /// The groups that are kept.
+    pub fn group_info(&self) -> &GroupInfo
+        ensures { names_of result.now ≡ regex_names self.now }
+    {
+        &self.info
+    }
+
+    /// The settings.
+    pub fn get_config(&self) -> &Config
+        ensures { settings_of result.now ≡ regex_settings self.now }
+    {
+        &self.config
+    }
+
+    /// A regex of the same patterns under the same settings. An `Err` is want of memory.
+    pub fn try_clone(&self, alloc: Global) -> Result<Regex, AllocError>
+        ensures patterns { IfOk result (λ r. regex_patterns r ≡ regex_patterns self.now) }
+        ensures settings { IfOk result (λ r. regex_settings r ≡ regex_settings self.now) }
+    {
+        match build(alloc, &self.config, &self.hirs) {
+            Ok(regex) => Ok(regex),
+            // The patterns were built before, so nothing else refuses them.
+            Err(_) => Err(AllocError),
+        }
+    }
+
+    /// Whether searches go by needles, and one for these goes by a needle or by at most three bytes.
+    pub fn is_accelerated(&self) -> bool
+        ensures { auto_prefilter_of (regex_settings self.now) ≡ false → prefilter_of (regex_settings self.now) ≡ None
+            → result ≡ false }
+    {
+        self.engines.engine.strategy.is_fast()
+    }
+
+    /// About how many bytes the program, the groups, the needles and the tables of searches take.
+    pub fn memory_usage(&self) -> usize {
+        let places = self
+            .engines
+            .engine
+            .program
+            .places
+            .len()
+            .saturating_mul(size_of::<Place>());
+        let slots = self
+            .info
+            .slot_len()
+            .saturating_mul(size_of::<Option<usize>>());
+        places
+            .saturating_add(slots)
+            .saturating_add(self.engines.engine.strategy.memory_usage())
+            .saturating_add(self.engines.memory_usage())
+    }
+
+    /// A cache for searches by this regex. An `Err` is want of memory.
+    pub fn create_cache(&self, alloc: Global) -> Result<Cache, AllocError>
+        ensures { IfOk result (IsCacheFor (regex_patterns self.now) (regex_settings self.now)) }
+    {
+        Cache::new(alloc, self)
+    }
+
+    /// A cache for searches by the engines, with all slots.
+    pub(crate) fn engine_cache(&self, alloc: Global) -> Result<cache::Cache, AllocError>
+        ensures made { IfOk result (IsCacheIn self.now.engines (slot_len (names_of self.now.info))) }
+        ensures both { IfOk result (λ c. is_some c.lazy ≡ is_some self.now.engines.lazy) }
+    {
+        self.engines.create_cache(alloc, self.info.slot_len())
+    }
+
+    /// Captures that keep the groups of the patterns. They hold no match. An `Err` is want of memory.
+    pub fn create_captures(&self, alloc: Global) -> Result<Captures, AllocError>
+        ensures made { IfOk result (IsCapturesFor (regex_names self.now)) }
+        ensures whole { IfOk result (KeepsAll (regex_names self.now)) }
+        ensures pattern { IfOk result (λ c. captures_pattern c ≡ None) }
+    {
+        Captures::all(alloc, &self.info)
+    }
+
+    /// The match that `find` finds, with its groups. Without a match the captures hold none. An `Err` is want of memory.
+    ///
+    /// Under `MatchKind::All` explicit groups hold nothing. Under `MatchKind::LeftmostLongest` they are those of the walk that is
+    /// preferred of those that are that long. Else, where `is_plain` is true, the groups are those of the least parse.
+    pub fn captures<C: Cursor + Drop>(
+        &self,
+        alloc: Global,
+        input: Input<C>,
+    ) -> Result<Captures, AllocError>
+        ensures made { IfOk result (IsCapturesFor (regex_names self.now)) }
+        ensures whole { IfOk result (KeepsAll (regex_names self.now)) }
+        ensures found { match_kind_of (regex_settings self.now) ≡ LeftmostFirst
+            → IfOk result (Tells (search_for (sought self.now) input)) }
+        ensures matched { match_kind_of (regex_settings self.now) ≡ LeftmostFirst
+            → IfOk result (λ c. match_of c ≡ answer (search_for (sought self.now) input)) }
+        ensures preferred { match_kind_of (regex_settings self.now) ≡ LeftmostFirst → ArePlain (regex_patterns self.now)
+            → IfOk result (HoldsPreferred (sought self.now) input) }
+        ensures told_by { IfOk result (TellsBy (regex_kind self.now) (search_for (sought self.now) input)) }
+        ensures matched_by { IfOk result (λ c. match_of c ≡ answer_by (regex_kind self.now) (search_for (sought self.now) input)) }
+        ensures within { IfOk result (λ c. IfSome (match_of c) (λ m. (low input ≤ m.start) × (m.start ≤ m.end) × (m.end ≤ high input))) }
+    {
+        let mut caps = self.create_captures(alloc)?;
+        self.search_captures(alloc, input, &mut caps)?;
+        Ok(caps)
+    }
+
+    /// As `captures`, into captures that were made for this regex: by `create_captures`, or of its `group_info`. After an `Err` they
+    /// hold no match.
+    pub fn search_captures<C: Cursor + Drop>(
+        &self,
+        alloc: Global,
+        mut input: Input<C>,
+        caps: &mut Captures,
+    ) -> Result<(), AllocError>
+        requires made { IsCapturesFor (regex_names self.now) caps.old }
+        ensures still_made { IsCapturesFor (regex_names self.now) caps.new }
+        ensures long { length (captures_slots caps.new) ≡ length (captures_slots caps.old) }
+        ensures refused { OnErr result (captures_pattern caps.new ≡ None) }
+        ensures told_by { OnOk result (TellsBy (regex_kind self.now) (search_for (sought self.now) input) caps.new) }
+        ensures matched_by { OnOk result (match_of caps.new ≡ answer_by (regex_kind self.now) (search_for (sought self.now) input)) }
+        ensures within { OnOk result (IfSome (match_of caps.new)
+            (λ m. (low input ≤ m.start) × (m.start ≤ m.end) × (m.end ≤ high input))) }
+    {
+        captures::clear(caps);
+        let mut cache = self.create_cache(alloc)?;
+        self.search_captures_with(&mut cache, &mut input, caps);
+        Ok(())
+    }
+
+    /// As `search_captures`, in a cache that was made for this regex. It takes no memory.
+    pub fn search_captures_with<C: Cursor>(
+        &self,
+        cache: &mut Cache,
+        input: &mut Input<C>,
+        caps: &mut Captures,
+    )
+        requires made { IsCacheFor (regex_patterns self.now) (regex_settings self.now) cache.old }
+        requires for_regex { IsCapturesFor (regex_names self.now) caps.old }
+        ensures cache { IsCacheFor (regex_patterns self.now) (regex_settings self.now) cache.new }
+        ensures keeps { Keeps input.old input.new }
+        ensures still_made { IsCapturesFor (regex_names self.now) caps.new }
+        ensures long { length (captures_slots caps.new) ≡ length (captures_slots caps.old) }
+        ensures found { match_kind_of (regex_settings self.now) ≡ LeftmostFirst
+            → Tells (search_for (sought self.now) input.old) caps.new }
+        ensures matched { match_kind_of (regex_settings self.now) ≡ LeftmostFirst
+            → match_of caps.new ≡ answer (search_for (sought self.now) input.old) }
+        ensures preferred { match_kind_of (regex_settings self.now) ≡ LeftmostFirst → ArePlain (regex_patterns self.now)
+            → HoldsPreferred (sought self.now) input.old caps.new }
+        ensures told_by { TellsBy (regex_kind self.now) (search_for (sought self.now) input.old) caps.new }
+        ensures matched_by { match_of caps.new ≡ answer_by (regex_kind self.now) (search_for (sought self.now) input.old) }
+        ensures within { IfSome (match_of caps.new)
+            (λ m. (low input.old ≤ m.start) × (m.start ≤ m.end) × (m.end ≤ high input.old)) }
+    {
+        self.engines.find_captures(&mut cache.inner, input, caps);
+    }
+
+    /// The pattern of the match that `find` finds, and its slots in `slots`, which may be fewer than the regex has. Without a match
+    /// the slots stay. An `Err` is want of memory, and then the slots stay too.
+    ///
+    /// Under `MatchKind::All` the slots of explicit groups hold nothing.
+    pub fn search_slots<C: Cursor + Drop>(
+        &self,
+        alloc: Global,
+        mut input: Input<C>,
+        slots: &mut [Option<usize>],
+    ) -> Result<Option<PatternID>, AllocError>
+        requires few { length slots.old ≤ slot_len (regex_names self.now) }
+        ensures refused { OnErr result (slots.new ≡ slots.old) }
+        ensures pattern_by { IfOk result (λ p. p ≡ option_map (λ (m : Found). m.pattern) (answer_by (regex_kind self.now) (search_for (sought self.now) input))) }
+        ensures slots_by { IfOk result (λ p. MatchOption p
+            (slots.new ≡ slots.old)
+            (λ _. Some slots.new ≡ slots_by (regex_kind self.now) (search_for (sought self.now) input) (length slots.old))) }
+    {
+        let mut cache = self.engines.create_cache(alloc, slots.len())?;
+        Ok(self.engines.find_slots(&mut cache, &mut input, slots))
+    }
+
+    /// As `search_slots`, in a cache that was made for this regex. It takes no memory.
+    pub fn search_slots_with<C: Cursor>(
+        &self,
+        cache: &mut Cache,
+        input: &mut Input<C>,
+        slots: &mut [Option<usize>],
+    ) -> Option<PatternID>
+        requires made { IsCacheFor (regex_patterns self.now) (regex_settings self.now) cache.old }
+        requires few { length slots.old ≤ slot_len (regex_names self.now) }
+        ensures cache { IsCacheFor (regex_patterns self.now) (regex_settings self.now) cache.new }
+        ensures keeps { Keeps input.old input.new }
+        ensures pattern_by { result ≡ option_map (λ (m : Found). m.pattern) (answer_by (regex_kind self.now) (search_for (sought self.now) input.old)) }
+        ensures slots_by { MatchOption result
+            (slots.new ≡ slots.old)
+            (λ _. Some slots.new ≡ slots_by (regex_kind self.now) (search_for (sought self.now) input.old) (length slots.old)) }
+    {
+        self.engines.find_slots(&mut cache.inner, input, slots)
+    }
+
+    /// All matches in the input, from left to right.
+    ///
+    /// Each search starts where the match before ended. A match that is empty and ends there gives way to the answer from a byte
+    /// later. An `Err` is want of memory for the cache; the items take none.
+    ///
+    /// Each search finds the match of the regex's kind, as `find` does.
+    pub fn find_iter<'r, C: Cursor + Drop>(
+        &'r self,
+        alloc: Global,
+        input: Input<C>,
+    ) -> Result<FindMatches<'r, C>, AllocError>
+        ensures left { match_kind_of (regex_settings self.now) ≡ LeftmostFirst
+            → IfOk result (λ s. find_left s ≡ matches_left (search_for (sought self.now) input) input.span.start None) }
+        ensures left_by { IfOk result (λ s. find_left s ≡ matches_by_kind (regex_kind self.now) (search_for (sought self.now) input) input.span.start None) }
+        ensures within { IfOk result (λ s. All (λ m. (low input ≤ m.start) × (m.start ≤ m.end) × (m.end ≤ high input)) (find_left s)) }
+        ensures short { IfOk result (λ s. length (find_left s) < 2 ^ 64) }
+        ensures regex { IfOk result (λ s. find_regex s ≡ self.now) }
+        ensures input { IfOk result (λ s. find_input s ≡ input) }
+        ensures runs { IfOk result FindRuns }
+    {
+        // The content is shorter than the greatest number.
+        let _offset = input.chunk_offset();
+        let cache = self.engines.create_cache(alloc, 0)?;
+        let seeker = Seeker {
+            regex: self,
+            cache,
+            standing: Standing {
+                last: None,
+                is_done: false,
+            },
+        };
+        Ok(FindMatches { seeker, input })
+    }
+
+    /// The matches of `find_iter`, each with its groups. An `Err` is want of memory for the cache; an item takes the memory of its
+    /// captures alone, and is an `Err` where that is refused.
+    ///
+    /// Under `MatchKind::All` explicit groups hold nothing.
+    pub fn captures_iter<'r, C: Cursor + Drop>(
+        &'r self,
+        alloc: Global,
+        input: Input<C>,
+    ) -> Result<CapturesMatches<'r, C>, AllocError>
+        ensures left { match_kind_of (regex_settings self.now) ≡ LeftmostFirst
+            → IfOk result (λ s. captures_left s ≡ matches_left (search_for (sought self.now) input) input.span.start None) }
+        ensures left_by { IfOk result (λ s. captures_left s ≡ matches_by_kind (regex_kind self.now) (search_for (sought self.now) input) input.span.start None) }
+        ensures walks { IfOk result (λ s. captures_walks s ≡ walks_left (regex_kind self.now) (search_for (sought self.now) input) input.span.start None) }
+        ensures law { regex_kind self.now ≢ greatest_matches
+            → IfOk result (CapturesLaw (regex_kind self.now) (regex_names self.now) (search_for (sought self.now) input) input.span.start) }
+        ensures law_by { IfOk result (MatchedLaw (regex_kind self.now) (regex_names self.now) (search_for (sought self.now) input) input.span.start) }
+        ensures short { IfOk result (λ s. length (captures_left s) < 2 ^ 64) }
+        ensures regex { IfOk result (λ s. captures_regex s ≡ self.now) }
+        ensures input { IfOk result (λ s. captures_input s ≡ input) }
+    {
+        // The content is shorter than the greatest number.
+        let _offset = input.chunk_offset();
+        let cache = self.engine_cache(alloc)?;
+        let seeker = Seeker {
+            regex: self,
+            cache,
+            standing: Standing {
+                last: None,
+                is_done: false,
+            },
+        };
+        let seeker = GroupSeeker { seeker, alloc };
+        Ok(CapturesMatches { seeker, input })
+    }
+
+    /// The pieces of the content between the matches of `find_iter`, from left to right: the first begins at 0, and the last ends
+    /// where the search does. An `Err` is want of memory for the cache; the items take none.
+    pub fn split<'r, C: Cursor + Drop>(
+        &'r self,
+        alloc: Global,
+        input: Input<C>,
+    ) -> Result<Split<'r, C>, AllocError>
+        ensures left_by { IfOk result (λ s. split_left s
+            ≡ pieces_of (high input) (matches_by_kind (regex_kind self.now) (search_for (sought self.now) input) input.span.start None)) }
+        ensures input { IfOk result (λ s. split_input s ≡ input) }
+        ensures runs { IfOk result SplitRuns }
+        ensures few { IfOk result (λ s. length (split_left s) ≤ high input + 2) }
+        ensures short { high input + 2 < 2 ^ 64 → IfOk result (λ s. length (split_left s) < 2 ^ 64) }
+    {
+        let matches = self.find_iter(alloc, input)?;
+        let pieces = Pieces {
+            seeker: matches.seeker,
+            start: 0,
+            is_done: false,
+        };
+        let input = matches.input;
+        Ok(Split { pieces, input })
+    }
+
+    /// The pieces of `split`, but no more than `limit`: the last one then goes on to where the search ends. An `Err` is want of
+    /// memory for the cache; the items take none.
+    pub fn splitn<'r, C: Cursor + Drop>(
+        &'r self,
+        alloc: Global,
+        input: Input<C>,
+        limit: usize,
+    ) -> Result<SplitN<'r, C>, AllocError>
+        ensures left_by { IfOk result (λ s. splitn_left s
+            ≡ pieces_at_most limit (high input) (matches_by_kind (regex_kind self.now) (search_for (sought self.now) input) input.span.start None)) }
+        ensures limit { IfOk result (λ s. splitn_limit s ≡ limit) }
+        ensures input { IfOk result (λ s. splitn_input s ≡ input) }
+        ensures runs { IfOk result SplitnRuns }
+    {
+        let matches = self.find_iter(alloc, input)?;
+        let pieces = Pieces {
+            seeker: matches.seeker,
+            start: 0,
+            is_done: false,
+        };
+        let input = matches.input;
+        Ok(SplitN {
+            pieces,
+            input,
+            limit,
+        })
+    }
+}
+
+/// How many explicit groups the patterns have.
+#[tactic(auto, using(crate::proofs::Weights::groups_light))]
+fn explicit_groups(hirs: &[Hir]) -> usize
+    requires { list_weight (map meaning hirs.now) ≤ greatest_weight }
+    ensures value { result ≡ all_groups (map meaning hirs.now) }
+    ensures small { length (map meaning hirs.now) + result ≤ greatest_weight }
+{
+    let mut total = 0;
+    for hir in hirs {
+        total += group_count(hir);
+    }
+    total
+}
+
+/// How many explicit groups take part in each match, where that is known to be one number for all patterns.
+fn static_groups(hirs: &[Hir]) -> Option<usize>
+    ensures { result ≡ static_groups (map meaning hirs.now) }
+{
+    if hirs.is_empty() {
+        return None;
+    }
+    let mut groups = hirs[0].properties().static_explicit_captures_len();
+    for hir in &hirs[1..] {
+        groups = common(groups, hir.properties().static_explicit_captures_len());
+    }
+    groups
+}
+
+/// The number that both are, if both are one.
+fn common(left: Option<usize>, right: Option<usize>) -> Option<usize>
+    ensures { result ≡ common left right }
+{
+    match (left, right) {
+        (Some(m), Some(n)) => { if m == n { Some(m) } else { None } }
+        (Some(_), None) => None,
+        (None, _) => None,
+    }
+}

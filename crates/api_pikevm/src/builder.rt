@@ -1,0 +1,131 @@
+//! What builds.
+
+ghost use Rattle.std.specs.Prelude.{◌≡◌, ◌≤◌, ◌∷◌, [], IfOk, IfErr, length, map};
+ghost use Rattle.rc_pattern.specs.Meaning.{meaning};
+ghost use Rattle.rc_build.specs.Refusals.{IsBuildable, IsRefusal};
+ghost use Rattle.rc_build.specs.TextRefusals.{AllRead, IsTextRefusal, texts_of};
+ghost use Rattle.rc_parser.specs.Settings.{default_settings, settings_of as syntax_of};
+ghost use Rattle.rc_settings.specs.SearchSettings.{search_settings_of, none_set, set_over};
+ghost use Rattle.rc_settings.specs.Thompson.{settings_of, unset, overwritten, nfa_size_limit_of};
+ghost use Rattle.api_pikevm.specs.Views.{builder_settings, builder_program, builder_syntax, vm_patterns, vm_program, vm_settings};
+
+use crate::vm::PikeVM;
+use rc_build::build::build_all;
+use rc_build::texts::parse_all;
+use rc_pattern::hir::Hir;
+use rc_settings::error::BuildError;
+use rc_settings::pikevm::Config;
+use rc_settings::thompson;
+use std::alloc::Global;
+
+/// Builds a `PikeVM` under settings of its own: those of its searches, those of its program, and those by which text is read.
+#[derive(Drop)]
+pub struct Builder {
+    config: Config,
+    thompson: thompson::Config,
+    syntax: rc_parser::Config,
+}
+
+impl Builder {
+    /// A builder in which nothing is set. It reads text by the default settings.
+    pub fn new() -> Builder
+        ensures settings { builder_settings result ≡ none_set }
+        ensures program { builder_program result ≡ unset }
+        ensures syntax { builder_syntax result ≡ default_settings }
+    {
+        Builder {
+            config: Config::new(),
+            thompson: thompson::Config::new(),
+            syntax: rc_parser::Config::new(),
+        }
+    }
+
+    /// Takes over what `config` sets, keeps what it doesn't, and lends the builder on.
+    pub fn configure(&mut self, config: Config) -> &mut Builder
+        ensures same_reference { result.ghost_name ≡ self.entry.ghost_name }
+        ensures value { builder_settings result.now ≡ set_over (builder_settings self.entry.now) (search_settings_of config) }
+        ensures program_kept { builder_program result.now ≡ builder_program self.entry.now }
+        ensures syntax_kept { builder_syntax result.now ≡ builder_syntax self.entry.now }
+    {
+        self.config.overwrite(config);
+        self
+    }
+
+    /// Takes over what `config` sets for the program, keeps what it doesn't, and lends the builder on.
+    pub fn thompson(&mut self, config: thompson::Config) -> &mut Builder
+        ensures same_reference { result.ghost_name ≡ self.entry.ghost_name }
+        ensures value { builder_program result.now ≡ overwritten (builder_program self.entry.now) (settings_of config) }
+        ensures settings_kept { builder_settings result.now ≡ builder_settings self.entry.now }
+        ensures syntax_kept { builder_syntax result.now ≡ builder_syntax self.entry.now }
+    {
+        self.thompson.overwrite(&config);
+        self
+    }
+
+    /// Reads text by these settings from now on, and lends the builder on.
+    pub fn syntax(&mut self, config: rc_parser::Config) -> &mut Builder
+        ensures same_reference { result.ghost_name ≡ self.entry.ghost_name }
+        ensures value { builder_syntax result.now ≡ syntax_of config }
+        ensures settings_kept { builder_settings result.now ≡ builder_settings self.entry.now }
+        ensures program_kept { builder_program result.now ≡ builder_program self.entry.now }
+    {
+        self.syntax = config;
+        self
+    }
+
+    /// What is built of the pattern as which this text is read. The `Err`s are those of `build_many`.
+    pub fn build(&self, alloc: Global, pattern: &str) -> Result<PikeVM, BuildError>
+        ensures read { IfOk result (λ vm. AllRead (builder_syntax self.now) (pattern.now ∷ []) (vm_patterns vm)) }
+        ensures settings { IfOk result (λ vm. vm_settings vm ≡ builder_settings self.now) }
+        ensures program { IfOk result (λ vm. vm_program vm ≡ builder_program self.now) }
+        ensures buildable { IfOk result (λ vm. IsBuildable (nfa_size_limit_of (builder_program self.now)) (vm_patterns vm)) }
+        ensures refused { IfErr result (λ e. IsTextRefusal (nfa_size_limit_of (builder_program self.now)) (builder_syntax self.now) (pattern.now ∷ []) e) }
+    {
+        self.build_many(alloc, std::slice::from_ref(&pattern))
+    }
+
+    /// What is built of the patterns as which these texts are read, at most 2,147,483,647.
+    ///
+    /// An `Err` is the first of these that applies: `Syntax`, with the least text from which no pattern is read, and a byte of it;
+    /// then those of `build_many_from_hir`. All texts are read before any pattern is built. The builder stays as it was.
+    pub fn build_many(&self, alloc: Global, patterns: &[&str]) -> Result<PikeVM, BuildError>
+        requires { length patterns.now ≤ 2147483647 }
+        ensures read { IfOk result (λ vm. AllRead (builder_syntax self.now) (texts_of patterns.now) (vm_patterns vm)) }
+        ensures settings { IfOk result (λ vm. vm_settings vm ≡ builder_settings self.now) }
+        ensures program { IfOk result (λ vm. vm_program vm ≡ builder_program self.now) }
+        ensures buildable { IfOk result (λ vm. IsBuildable (nfa_size_limit_of (builder_program self.now)) (vm_patterns vm)) }
+        ensures refused { IfErr result (λ e. IsTextRefusal (nfa_size_limit_of (builder_program self.now)) (builder_syntax self.now) (texts_of patterns.now) e) }
+    {
+        let hirs = parse_all(alloc, patterns, &self.syntax)?;
+        self.build_many_from_hir(alloc, &hirs)
+    }
+
+    /// What is built of these patterns, at most 2,147,483,647.
+    ///
+    /// An `Err` is the first of these that applies: `IllFormed`, with the least pattern that isn't well-formed; `SizeLimit`, where
+    /// 32 times the weight of the patterns is above the limit on their size; `PlaceLimit`, where the weight is above 2,147,483,646.
+    /// `Memory` comes where memory was refused. The builder stays as it was.
+    pub fn build_many_from_hir(&self, alloc: Global, hirs: &[Hir]) -> Result<PikeVM, BuildError>
+        requires { length hirs.now ≤ 2147483647 }
+        ensures patterns { IfOk result (λ vm. vm_patterns vm ≡ map meaning hirs.now) }
+        ensures settings { IfOk result (λ vm. vm_settings vm ≡ builder_settings self.now) }
+        ensures program { IfOk result (λ vm. vm_program vm ≡ builder_program self.now) }
+        ensures buildable { IfOk result (λ _. IsBuildable (nfa_size_limit_of (builder_program self.now)) (map meaning hirs.now)) }
+        ensures refused { IfErr result (λ e. IsRefusal (nfa_size_limit_of (builder_program self.now)) (map meaning hirs.now) e) }
+    {
+        let built = build_all(
+            alloc,
+            hirs,
+            self.thompson,
+            self.config.get_match_kind(),
+            self.config.asked(),
+            false,
+        )?;
+        let config = self.config.try_clone(alloc)?;
+        Ok(PikeVM {
+            config,
+            thompson: self.thompson,
+            built,
+        })
+    }
+}

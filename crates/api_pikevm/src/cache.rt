@@ -1,0 +1,49 @@
+//! What searches work in.
+
+use crate::vm::PikeVM;
+use rc_pikevm::cache;
+use std::alloc::{AllocError, Global};
+
+/// What searches by a `PikeVM` work in: all memory that they need, made once.
+#[derive(Drop)]
+pub struct Cache {
+    alloc: Global,
+    pub(crate) inner: cache::Cache,
+}
+
+impl Cache {
+    ghost use Rattle.std.specs.Prelude.{◌≡◌, IfOk, OnErr, OnOk};
+    ghost use Rattle.api_pikevm.specs.Caches.{IsCacheFor, insertions_of};
+    ghost use Rattle.api_pikevm.specs.Views.{sought};
+
+    /// A cache for searches by this `PikeVM`, and by any that seeks the same. An `Err` is want of memory.
+    pub fn new(alloc: Global, vm: &PikeVM) -> Result<Cache, AllocError>
+        ensures made { IfOk result (IsCacheFor (sought vm.now)) }
+        ensures unused { IfOk result (λ c. insertions_of c ≡ 0) }
+    {
+        let inner = vm.inner_cache(alloc)?;
+        Ok(Cache { alloc, inner })
+    }
+
+    /// Makes this a cache for searches by another `PikeVM`. An `Err` is want of memory, and then the cache stays as it was.
+    pub fn reset(&mut self, vm: &PikeVM) -> Result<(), AllocError>
+        ensures made { OnOk result (IsCacheFor (sought vm.now) self.new) }
+        ensures unused { OnOk result (insertions_of self.new ≡ 0) }
+        ensures refused { OnErr result (self.new ≡ self.old) }
+    {
+        self.inner = vm.inner_cache(self.alloc)?;
+        Ok(())
+    }
+
+    /// How many places the last pass of the last search entered, over all positions; 0 where that search made no pass.
+    pub fn insertions(&self) -> u128
+        ensures { result ≡ insertions_of self.now }
+    {
+        self.inner.insertions()
+    }
+
+    /// About how many bytes the cache has taken for its lists.
+    pub fn memory_usage(&self) -> usize {
+        self.inner.memory_usage()
+    }
+}

@@ -1,0 +1,124 @@
+//! A program of patterns, and the groups that are kept.
+
+ghost use Rattle.std.specs.Prelude.{◌≡◌, None, map};
+ghost use Rattle.rc_pattern.specs.Meaning.{meaning};
+ghost use Rattle.rc_pikevm_search.specs.Choices.{answering};
+ghost use Rattle.rc_settings.specs.SearchSettings.{match_kind_of, search_settings_of};
+ghost use Rattle.rc_settings.specs.Thompson.{settings_of};
+ghost use Rattle.rc_build.specs.Fits.{Fits};
+
+use crate::builder::Builder;
+use crate::cache::Cache;
+use rc_build::build::Built;
+use rc_captures::captures::Captures;
+use rc_captures::groups::GroupInfo;
+use rc_pikevm::cache;
+use rc_settings::error::BuildError;
+use rc_settings::pikevm::Config;
+use rc_settings::thompson;
+use std::alloc::{AllocError, Global};
+
+/// A list of patterns, built for searches by one ordered pass. No needles alone tell its answers, so each search makes a pass.
+#[derive(Drop)]
+pub struct PikeVM {
+    pub(crate) config: Config,
+    pub(crate) thompson: thompson::Config,
+    pub(crate) built: Built,
+    ghost fits: { Fits (settings_of thompson) (match_kind_of (search_settings_of config)) (map meaning built.hirs.items) built.engine built.info },
+    ghost unanswered: { answering built.engine.strategy ≡ None },
+}
+
+impl PikeVM {
+    ghost use Rattle.std.specs.Prelude.{◌≡◌, ◌≤◌, ◌∷◌, [], IfErr, IfOk, length, None};
+    ghost use Rattle.rc_pattern.specs.Weight.{list_weight};
+    ghost use Rattle.rc_captures.specs.Captures.{IsCapturesFor, captures_pattern};
+    ghost use Rattle.rc_captures.specs.Groups.{names_of};
+    ghost use Rattle.rc_captures.specs.Names.{slot_len};
+    ghost use Rattle.rc_pikevm_search.specs.Tells.{KeepsAll};
+    ghost use Rattle.rc_pikevm.specs.Caches as pikevm;
+    ghost use Rattle.rc_build.specs.Refusals.{IsBuildable};
+    ghost use Rattle.rc_build.specs.TextRefusals.{AllRead, IsTextRefusal, texts_of};
+    ghost use Rattle.rc_parser.specs.Settings.{default_settings};
+    ghost use Rattle.api_pikevm.specs.Caches.{IsCacheFor, insertions_of};
+    ghost use Rattle.rc_settings.specs.SearchSettings.{none_set};
+    ghost use Rattle.rc_settings.specs.Thompson.{unset};
+    ghost use Rattle.api_pikevm.specs.Views.{builder_settings, builder_program, builder_syntax, sought, states_of, vm_names, vm_patterns, vm_program, vm_settings};
+
+    /// What is built of the pattern as which this text is read by the default settings. Nothing else is set. The `Err`s are those
+    /// of `new_many`.
+    pub fn new(alloc: Global, pattern: &str) -> Result<PikeVM, BuildError>
+        ensures read { IfOk result (λ vm. AllRead default_settings (pattern.now ∷ []) (vm_patterns vm)) }
+        ensures settings { IfOk result (λ vm. vm_settings vm ≡ none_set) }
+        ensures program { IfOk result (λ vm. vm_program vm ≡ unset) }
+        ensures buildable { IfOk result (λ vm. IsBuildable None (vm_patterns vm)) }
+        ensures refused { IfErr result (λ e. IsTextRefusal None default_settings (pattern.now ∷ []) e) }
+    {
+        PikeVM::builder().build(alloc, pattern)
+    }
+
+    /// What is built of the patterns as which these texts are read by the default settings, at most 2,147,483,647. Nothing else is
+    /// set.
+    ///
+    /// An `Err` is the first of these that applies: `Syntax`, with the least text from which no pattern is read, and a byte of it;
+    /// `IllFormed`, with the least pattern that isn't well-formed; `PlaceLimit`, where the weight of the patterns is above
+    /// 2,147,483,646. `Memory` comes where memory was refused.
+    pub fn new_many(alloc: Global, patterns: &[&str]) -> Result<PikeVM, BuildError>
+        requires { length patterns.now ≤ 2147483647 }
+        ensures read { IfOk result (λ vm. AllRead default_settings (texts_of patterns.now) (vm_patterns vm)) }
+        ensures settings { IfOk result (λ vm. vm_settings vm ≡ none_set) }
+        ensures program { IfOk result (λ vm. vm_program vm ≡ unset) }
+        ensures buildable { IfOk result (λ vm. IsBuildable None (vm_patterns vm)) }
+        ensures refused { IfErr result (λ e. IsTextRefusal None default_settings (texts_of patterns.now) e) }
+    {
+        PikeVM::builder().build_many(alloc, patterns)
+    }
+
+    /// A builder in which nothing is set. It reads text by the default settings.
+    pub fn builder() -> Builder
+        ensures settings { builder_settings result ≡ none_set }
+        ensures program { builder_program result ≡ unset }
+        ensures syntax { builder_syntax result ≡ default_settings }
+    {
+        Builder::new()
+    }
+
+    /// How many places the program has: no more than the patterns' weight.
+    pub fn states_len(&self) -> usize
+        ensures value { result ≡ states_of (sought self.now) }
+        ensures small { result ≤ list_weight (vm_patterns self.now) }
+    {
+        self.built.engine.program.places.len()
+    }
+
+    /// The groups that are kept.
+    pub fn get_group_info(&self) -> &GroupInfo
+        ensures { names_of result.now ≡ vm_names self.now }
+    {
+        &self.built.info
+    }
+
+    /// Captures that keep the groups of the patterns. They hold no match. An `Err` is want of memory.
+    pub fn create_captures(&self, alloc: Global) -> Result<Captures, AllocError>
+        ensures made { IfOk result (IsCapturesFor (vm_names self.now)) }
+        ensures whole { IfOk result (KeepsAll (vm_names self.now)) }
+        ensures pattern { IfOk result (λ c. captures_pattern c ≡ None) }
+    {
+        Captures::all(alloc, &self.built.info)
+    }
+
+    /// A cache for searches. An `Err` is want of memory.
+    pub fn create_cache(&self, alloc: Global) -> Result<Cache, AllocError>
+        ensures made { IfOk result (IsCacheFor (sought self.now)) }
+        ensures unused { IfOk result (λ c. insertions_of c ≡ 0) }
+    {
+        Cache::new(alloc, self)
+    }
+
+    /// A cache for searches over the program, with all slots.
+    pub(crate) fn inner_cache(&self, alloc: Global) -> Result<cache::Cache, AllocError>
+        ensures made { IfOk result (pikevm.IsCacheFor (states_of (sought self.now)) (slot_len (vm_names self.now))) }
+        ensures unused { IfOk result (λ c. c.insertions ≡ 0) }
+    {
+        cache::Cache::new(alloc, self.states_len(), self.built.info.slot_len())
+    }
+}

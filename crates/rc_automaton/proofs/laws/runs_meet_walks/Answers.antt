@@ -1,5 +1,0 @@
-use Rattle.rc_automaton.proofs.RunLemmas.{run_law}
-use Rattle.rc_automaton.proofs.laws.runs_meet_walks.Goals as goal
-
-pub returns : goal.returns
-returns c = run_law

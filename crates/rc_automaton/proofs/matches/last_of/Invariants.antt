@@ -1,7 +1,0 @@
-use Rattle.std.proofs.Common.{Some}
-use Rattle.rc_bytes.specs.Places.{places_of}
-use Rattle.rc_states.proofs.LastLemmas.{AreMatches}
-use Rattle.rc_automaton.proofs.matches.last_of.Given as goal
-
-abbrev pub invariant-loop-i : goal.invariant-loop-i
-invariant-loop-i l = AreMatches (Some l.pattern) (places_of l.places) l.to.list.items l.i

@@ -1,5 +1,0 @@
-use Rattle.rc_automaton.proofs.SampleLemmas.{AreSamplesSoFar}
-use Rattle.rc_automaton.proofs.samples.samples_of.Given as goal
-
-abbrev pub invariant-loop-byte : goal.invariant-loop-byte
-invariant-loop-byte l = AreSamplesSoFar l.classes.items l.samples.items l.byte

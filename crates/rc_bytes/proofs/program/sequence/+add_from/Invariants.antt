@@ -1,5 +1,0 @@
-use Rattle.std.proofs.Common.{length}
-use Rattle.rc_bytes.proofs.program.sequence.+add_from.Given as goal
-
-abbrev pub decreases-add_from : goal.decreases-add_from
-decreases-add_from l = length l.low.now

@@ -1,8 +1,0 @@
-use Rattle.rc_bytes.specs.Places.{sequences_of}
-use Rattle.rc_bytes.proofs.SequenceLemmas.{class_more}
-use Rattle.rc_bytes.proofs.program.sequence.class_sequences.Goals as goal
-
-pub loop-i-preserved : goal.loop-i-preserved
-loop-i-preserved c =
-    class_more c.args.ranges.now c.loop-i.i _ (sequences_of c.loop-i.list.items) (sequences_of c.add_scalars.new.list.items) _ c.loop-i-test.true
-    c.in_ok-add_scalars.ensures c.loop-i.invariant

@@ -1,7 +1,0 @@
-use Rattle.std.proofs.Common.{◌≡◌, max, drop}
-use Rattle.rc_bytes.specs.Bytes.{}
-use Rattle.rc_bytes.specs.Places.{longest, sequences_of}
-use Rattle.rc_bytes.proofs.program.tree.longest.Given as goal
-
-abbrev pub invariant-loop-sequence : goal.invariant-loop-sequence
-invariant-loop-sequence l = max l.longest (longest (sequences_of (drop l.sequence-index l.sequences))) ≡ longest (sequences_of l.sequences)

@@ -1,7 +1,0 @@
-use Rattle.std.proofs.Common.{◌≡◌, length}
-use Rattle.rc_dense.specs.Cells.{dead}
-use Rattle.rc_dense.specs.Exits.{AreStays}
-use Rattle.rc_dense.proofs.leaps.among.Given as goal
-
-abbrev pub invariant-loop-byte : goal.invariant-loop-byte
-invariant-loop-byte l = record { long : length l.stays ≡ 256; told : AreStays dead l.classes l.cells l.row l.other l.stays }

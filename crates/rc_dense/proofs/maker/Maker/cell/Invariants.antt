@@ -1,4 +1,0 @@
-use Rattle.rc_dense.proofs.maker.Maker.cell.Given as goal
-
-abbrev pub ghost-name : goal.ghost-name
-ghost-name g a = g.m

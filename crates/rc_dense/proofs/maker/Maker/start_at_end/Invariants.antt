@@ -1,4 +1,0 @@
-use Rattle.rc_dense.proofs.maker.Maker.start_at_end.Given as goal
-
-abbrev pub ghost-start : goal.ghost-start
-ghost-start g a = g.m

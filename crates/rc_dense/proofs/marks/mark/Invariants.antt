@@ -1,5 +1,0 @@
-use Rattle.rc_dense.proofs.SkipLemmas.{IsUnderWay}
-use Rattle.rc_dense.proofs.marks.mark.Given as goal
-
-abbrev pub invariant-loop-cell : goal.invariant-loop-cell
-invariant-loop-cell l = IsUnderWay l.fn.cells.items l.cell-items l.cell-index

@@ -1,4 +1,0 @@
-use Rattle.rc_dense.proofs.names.Names.name.Given as goal
-
-abbrev pub ghost-number : goal.ghost-number
-ghost-number g a = g.m

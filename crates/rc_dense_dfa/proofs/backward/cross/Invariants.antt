@@ -1,0 +1,22 @@
+use Rattle.std.proofs.Common.{◌-◌, ◌≤◌}
+use Rattle.rc_text.specs.Text.{Keeps}
+use Rattle.rc_dense_dfa.specs.Searches.{InRow, StandsDown}
+use Rattle.rc_dense_dfa.proofs.backward.cross.Given as goal
+
+abbrev pub ghost-run : goal.ghost-run
+ghost-run g a = g.course
+
+abbrev pub ghost-step : goal.ghost-step
+ghost-step g a = g.course
+
+abbrev pub invariant-loop-at : goal.invariant-loop-at
+invariant-loop-at g l = record {
+  keeps : Keeps l.fn.input l.input;
+  low : l.end ≤ l.at;
+  high : l.at ≤ l.from;
+  row : InRow l.table l.stand.row;
+  stands : StandsDown l.table g.course l.at l.stand;
+}
+
+abbrev pub decreases-loop-at : goal.decreases-loop-at
+decreases-loop-at g l = l.at - l.end

@@ -1,0 +1,129 @@
+-- Searches by a table: where their runs stand, and how they end.
+use Rattle.std.specs.Prelude.{◌≡◌, ℕ, zero, suc, ◌+◌, ◌-◌, ◌/◌, ◌≤◌, Bool, IsTrue, List, length, Option, Some, None, slice_get, slice_index_or, nat_le, if◌then◌else◌}
+use Rattle.rc_text.specs.declared.types.Anchored.{Anchored}
+use Rattle.rc_text.specs.Text.{Searched}
+use Rattle.rc_program.specs.Text.{Text}
+use Rattle.rc_program.specs.Sought.{text_of}
+use Rattle.rc_determinize.specs.States.{State}
+use Rattle.rc_dfa.specs.Machine.{Machine, Begins, IsAsked}
+use Rattle.rc_dfa.specs.Runs.{MayRead, ahead_at, behind_at, Runs, RunsDown, RunEnd, met_last, stopped_at, idle_at, SearchEnds, SearchEndsDown}
+use Rattle.rc_dense_dfa.specs.Cells.{met, dead, row_of}
+use Rattle.rc_dense_dfa.specs.Tables.{IsTable, IsRow}
+use Rattle.rc_dense_dfa.specs.declared.table.Table.{Table}
+use Rattle.rc_dense_dfa.specs.declared.run.Ended.{Ended}
+use Rattle.rc_dense_dfa.specs.declared.run.Ended.TheVariants.{Met, Idle, Quit}
+use Rattle.rc_dense_dfa.specs.declared.run.Stand.{Stand}
+use Rattle.rc_dense_dfa.specs.declared.run.Leg.{Leg}
+use Rattle.rc_dense_dfa.specs.declared.run.Leg.TheVariants.{Through, Over}
+
+-- how the search ended
+abbrev pub run_end : Ended → RunEnd
+run_end (Met found) = met_last found
+run_end (Idle i) = idle_at i
+run_end (Quit b p) = stopped_at p
+
+-- the byte that isn't read stands in the content, and the search rests only where it may
+abbrev pub MayEnd : List ℕ → Bool → Ended → Type 0
+MayEnd content may_rest (Met found) = Unit {0}
+MayEnd content may_rest (Idle i) = IsTrue may_rest
+MayEnd content may_rest (Quit b p) = slice_get content p ≡ Some b
+
+-- WHAT A RUN KEEPS
+
+-- the row lies within the cells
+abbrev pub InRow : Table → ℕ → Type 0
+InRow d row = row + d.width ≤ length d.cells.items
+
+-- the cell has the mark of a row from which nothing goes on
+abbrev pub has_died : ℕ → Bool
+has_died cell = if nat_le met cell then nat_le dead (cell - met) else nat_le dead cell
+
+-- what is noted once the cell was read at the position: the row, where the cell has the mark of something met
+abbrev pub noted_by : ℕ → ℕ → Option (ℕ × ℕ) → Option (ℕ × ℕ)
+noted_by cell at noted = if nat_le met cell then Some (row_of cell, at) else noted
+
+-- what was met, from its code, or else the other
+abbrev pub met_by : ℕ → ℕ → Option (ℕ × ℕ) → Option (ℕ × ℕ)
+met_by zero at other = other
+met_by (suc k) at other = Some (k, at)
+
+-- what was met last, as far as the table tells
+abbrev pub told : Table → Option (ℕ × ℕ) → Option (ℕ × ℕ)
+told d None = None
+told d (Some n) = met_by (slice_index_or d.tells.items (n.0 / d.width) 0) n.1 None
+
+-- the row that is noted is that of a state before which this was met last
+abbrev pub IsNoted : Table → List State → Option (ℕ × ℕ) → Option (ℕ × ℕ) → Type 0
+IsNoted d states None found = found ≡ None
+IsNoted d states (Some n) found = (s : State) × (k : ℕ) × IsRow d states n.0 s × (s.stop ≡ Some k) × (found ≡ Some (k, n.1))
+
+-- A search by a table, of which the code holds only a part at a time: what is searched, from which position, up to or down to which bound,
+-- and how.
+pub record Course : Type 0 where
+  pub seen : Searched
+  pub from : ℕ
+  pub bound : ℕ
+  pub anchored : Anchored
+  pub earliest : Bool
+  pub may_rest : Bool
+
+-- FORWARDS
+
+-- From a state in which the search begins the bytes up to the position lead to the state of the row.
+pub record IsStanding (m : Machine) (states : List State) (d : Table) (t : Text) (q : Course) (i row : ℕ) (noted : Option (ℕ × ℕ)) : Type 0 where
+  pub first : State
+  pub read : MayRead m (behind_at t q.from)
+  pub begins : Begins m q.anchored (behind_at t q.from) first
+  pub state : State
+  pub named : IsRow d states row state
+  pub found : Option (ℕ × ℕ)
+  pub tells : IsNoted d states noted found
+  pub runs : Runs m t q.bound q.from first i state found
+
+-- whatever machine the table is of
+abbrev pub Stands : Table → Course → ℕ → Stand → Type 0
+Stands d q i s =
+    (m : Machine) (states : List State) (terminator : ℕ) → IsTable m states d → IsAsked m q.anchored →
+    IsStanding m states d (text_of terminator q.seen) q i s.row s.noted
+
+abbrev pub Ends : Table → Course → Ended → Type 0
+Ends d q e =
+    (m : Machine) (states : List State) (terminator : ℕ) → IsTable m states d → IsAsked m q.anchored →
+    SearchEnds m (text_of terminator q.seen) q.bound q.from q.anchored q.earliest (run_end e)
+
+-- the run stands at the position, or the search has ended
+abbrev pub IsLeg : Table → Course → ℕ → Leg → Type 0
+IsLeg d q i (Through s) = InRow d s.row × Stands d q i s
+IsLeg d q i (Over e) = Ends d q e × MayEnd q.seen.content q.may_rest e
+
+-- BACKWARDS
+
+-- the position first
+abbrev pub swapped : Option (ℕ × ℕ) → Option (ℕ × ℕ)
+swapped None = None
+swapped (Some n) = Some (n.1, n.0)
+
+-- The same on the way down: the search begins at `from`, as the byte there tells.
+pub record IsStandingDown (m : Machine) (states : List State) (d : Table) (t : Text) (q : Course) (i row : ℕ) (noted : Option (ℕ × ℕ)) : Type 0 where
+  pub first : State
+  pub read : MayRead m (ahead_at t q.from)
+  pub begins : Begins m q.anchored (ahead_at t q.from) first
+  pub state : State
+  pub named : IsRow d states row state
+  pub found : Option (ℕ × ℕ)
+  pub tells : IsNoted d states noted found
+  pub runs : RunsDown m t q.bound q.from first i state (swapped found)
+
+abbrev pub StandsDown : Table → Course → ℕ → Stand → Type 0
+StandsDown d q i s =
+    (m : Machine) (states : List State) (terminator : ℕ) → IsTable m states d → IsAsked m q.anchored →
+    IsStandingDown m states d (text_of terminator q.seen) q i s.row s.noted
+
+abbrev pub EndsDownSo : Table → Course → Ended → Type 0
+EndsDownSo d q e =
+    (m : Machine) (states : List State) (terminator : ℕ) → IsTable m states d → IsAsked m q.anchored →
+    SearchEndsDown m (text_of terminator q.seen) q.bound q.from q.anchored q.earliest (run_end e)
+
+abbrev pub IsLegDown : Table → Course → ℕ → Leg → Type 0
+IsLegDown d q i (Through s) = InRow d s.row × StandsDown d q i s
+IsLegDown d q i (Over e) = EndsDownSo d q e × MayEnd q.seen.content q.may_rest e

@@ -1,0 +1,342 @@
+//! Searches backwards by a table.
+ghost use Rattle.std.specs.Prelude.{◌≡◌, ◌+◌, ◌-◌, ◌<◌, ◌≤◌, false, IfSome, List, ℕ, length, slice_range, slice_get};
+ghost use Rattle.rc_text.specs.Text.{Keeps, high, low, slice_end};
+ghost use Rattle.rc_program.specs.Sought.{text_of};
+ghost use Rattle.rc_determinize.specs.States.{State};
+ghost use Rattle.rc_dfa.specs.Machine.{IsAsked, Machine};
+ghost use Rattle.rc_dfa.specs.Runs.{SearchEndsDown, ahead_at};
+ghost use Rattle.rc_dense_dfa.specs.Tables.{IsByte, IsTable};
+ghost use Rattle.rc_dense_dfa.specs.Searches.{Course, EndsDownSo, InRow, IsLegDown, MayEnd, StandsDown, run_end};
+
+use crate::look::{cell_of, has_died, met_at_end, noted_by, row_of, swapped, told};
+use crate::run::{Ended, Leg, Stand};
+use crate::sides::{byte_ahead, byte_behind};
+use crate::start::start;
+use crate::table::{MET, QUIT, SKIP, Table};
+use rc_text::cursor::Cursor;
+use rc_text::input::{Input, piece_before};
+use rc_text::types::Anchored;
+
+/// The cell to which the last of so many bytes of a piece leads. Where it has no mark, it names the row of the run before that byte.
+#[inline(always)]
+fn cell_at(
+    table: &Table,
+    cells: &[usize],
+    classes: &[u8],
+    piece: &[u8],
+    left: usize,
+    start: usize,
+    stand: Stand,
+) -> usize
+    ghost course: { Course }
+    requires cells { cells.now ≡ table.now.cells.items }
+    requires classes { classes.now ≡ table.now.classes.items }
+    requires row { InRow table.now stand.row }
+    requires stands { StandsDown table.now course (start + left) stand }
+    requires bound { course.seen.slice.start ≤ course.bound }
+    requires piece { piece.now ≡ slice_range course.seen.content start (start + length piece.now) }
+    requires within { course.bound ≤ start }
+    requires some { 0 < left }
+    requires left { left ≤ length piece.now }
+    ensures row { result < 2305843009213693952 → InRow table.now result }
+    ensures stands { result < 2305843009213693952 → StandsDown table.now course (start + (left - 1)) (record { row = result; noted = stand.noted }) }
+{
+    cells[stand.row + classes[piece[left - 1] as usize] as usize]
+}
+
+/// Runs over bytes whose cells have no mark, four at a time towards the beginning of a piece, and answers how many bytes are left and the row
+/// before the others. Fewer than four are left, or the next cell has a mark.
+#[inline(always)]
+fn stride(table: &Table, piece: &[u8], from: usize, start: usize, stand: Stand) -> (usize, usize)
+    ghost course: { Course }
+    requires row { InRow table.now stand.row }
+    requires stands { StandsDown table.now course (start + from) stand }
+    requires bound { course.seen.slice.start ≤ course.bound }
+    requires piece { piece.now ≡ slice_range course.seen.content start (start + length piece.now) }
+    requires within { course.bound ≤ start }
+    requires from { from ≤ length piece.now }
+    ensures left { result.0 ≤ from }
+    ensures row { InRow table.now result.1 }
+    ensures stands { StandsDown table.now course (start + result.0) (record { row = result.1; noted = stand.noted }) }
+{
+    let noted = stand.noted;
+    let cells = table.cells.as_slice();
+    let classes = table.classes.as_slice();
+    let mut row = stand.row;
+    let mut left = from;
+    while left >= 4 {
+        let first = cell_at(
+            table,
+            cells,
+            classes,
+            piece,
+            left,
+            start,
+            Stand { row, noted },
+        );
+        if first >= SKIP {
+            return (left, row);
+        }
+        let at = left - 1;
+        let second = cell_at(
+            table,
+            cells,
+            classes,
+            piece,
+            at,
+            start,
+            Stand { row: first, noted },
+        );
+        if second >= SKIP {
+            return (at, first);
+        }
+        let at = at - 1;
+        let third = cell_at(
+            table,
+            cells,
+            classes,
+            piece,
+            at,
+            start,
+            Stand { row: second, noted },
+        );
+        if third >= SKIP {
+            return (at, second);
+        }
+        let at = at - 1;
+        let fourth = cell_at(
+            table,
+            cells,
+            classes,
+            piece,
+            at,
+            start,
+            Stand { row: third, noted },
+        );
+        if fourth >= SKIP {
+            return (at, third);
+        }
+        row = fourth;
+        left = at - 1;
+    }
+    (left, row)
+}
+
+/// Runs over the bytes of a piece from its end, down to one of which the cell needs a look, and answers how many bytes are left. A mark of
+/// something met needs none where `limit` is `SKIP`, and one where it is 0.
+#[inline(never)]
+fn run(table: &Table, piece: &[u8], start: usize, stand: Stand, limit: usize) -> (usize, Stand)
+    ghost course: { Course }
+    requires row { InRow table.now stand.row }
+    requires stands { StandsDown table.now course (start + length piece.now) stand }
+    requires bound { course.seen.slice.start ≤ course.bound }
+    requires piece { piece.now ≡ slice_range course.seen.content start (start + length piece.now) }
+    requires within { course.bound ≤ start }
+    requires fits { start + length piece.now ≤ usize.MAX }
+    requires limit { limit ≤ 2305843009213693952 }
+    ensures left { result.0 ≤ length piece.now }
+    ensures row { InRow table.now result.1.row }
+    ensures stands { StandsDown table.now course (start + result.0) result.1 }
+{
+    let cells = table.cells.as_slice();
+    let classes = table.classes.as_slice();
+    let mut row = stand.row;
+    let mut noted = stand.noted;
+    let mut left = piece.len();
+    while left > 0 {
+        let cell = cells[row + classes[piece[left - 1] as usize] as usize];
+        if cell < SKIP {
+            let here = Stand { row: cell, noted };
+            let (more, before) = stride(table, piece, left - 1, start, here);
+            left = more;
+            row = before;
+        } else {
+            if cell < MET || cell - MET >= limit {
+                return (left, Stand { row, noted });
+            }
+            row = cell - MET;
+            noted = Some((row, start + left));
+            left -= 1;
+        }
+    }
+    (0, Stand { row, noted })
+}
+
+/// Reads the byte at a position, whatever its cell.
+#[inline(always)]
+fn step(table: &Table, byte: u8, at: usize, stand: Stand, earliest: bool) -> Leg
+    ghost course: { Course }
+    requires row { InRow table.now stand.row }
+    requires stands { StandsDown table.now course (at + 1) stand }
+    requires bound { course.seen.slice.start ≤ course.bound }
+    requires byte { slice_get course.seen.content at ≡ Some byte }
+    requires within { course.bound ≤ at }
+    requires fits { at < usize.MAX }
+    requires earliest { earliest ≡ course.earliest }
+    ensures { IsLegDown table.now course at result }
+{
+    let cell = cell_of(table, stand.row, byte);
+    if cell == QUIT {
+        return Leg::Over(Ended::Quit(byte, at));
+    }
+    let noted = noted_by(cell, at + 1, stand.noted);
+    if has_died(cell) {
+        return Leg::Over(Ended::Met(swapped(told(table, noted))));
+    }
+    if earliest && cell >= MET {
+        return Leg::Over(Ended::Met(swapped(told(table, noted))));
+    }
+    let row = row_of(cell);
+    Leg::Through(Stand { row, noted })
+}
+
+/// Runs over the chunks from one position down to another.
+#[inline(always)]
+fn cross<C: Cursor>(
+    table: &Table,
+    input: &mut Input<C>,
+    from: usize,
+    end: usize,
+    begin: Stand,
+    earliest: bool,
+) -> Leg
+    ghost course: { Course }
+    requires row { InRow table.now begin.row }
+    requires stands { StandsDown table.now course from begin }
+    requires seen { Keeps course.seen input.old }
+    requires bound { course.seen.slice.start ≤ course.bound }
+    requires end { end ≡ course.bound }
+    requires ordered { end ≤ from }
+    requires within { from ≤ length course.seen.content }
+    requires earliest { earliest ≡ course.earliest }
+    ensures keeps { Keeps input.old input.new }
+    ensures leg { IsLegDown table.now course end result }
+{
+    let limit = if earliest { 0 } else { SKIP };
+    let mut stand = begin;
+    let mut at = from;
+    while at > end {
+        let piece = piece_before(input, end, at);
+        let start = at - piece.len();
+        let (left, next) = run(table, piece, start, stand, limit);
+        stand = next;
+        at = start + left;
+        if left > 0 {
+            at -= 1;
+            match step(table, piece[left - 1], at, stand, earliest) {
+                Leg::Through(next) => stand = next,
+                Leg::Over(ended) => return Leg::Over(ended),
+            }
+        }
+    }
+    Leg::Through(stand)
+}
+
+/// Where a search begins, by the byte ahead of the position.
+#[inline(always)]
+fn begin(table: &Table, anchored: Anchored, beside: Option<u8>, from: usize) -> Leg
+    ghost course: { Course }
+    requires anchored { anchored ≡ course.anchored }
+    requires from { from ≡ course.from }
+    requires beside { beside ≡ ahead_at (text_of 0 course.seen) from }
+    requires small { IsByte beside }
+    requires there { IfSome beside (λ byte. slice_get course.seen.content from ≡ Some byte) }
+    ensures { IsLegDown table.now course from result }
+{
+    let cell = start(table, anchored, beside);
+    if cell < SKIP {
+        let row = cell;
+        return Leg::Through(Stand { row, noted: None });
+    }
+    if cell == QUIT {
+        return match beside {
+            Some(byte) => Leg::Over(Ended::Quit(byte, from)),
+            None => Leg::Over(Ended::Met(None)),
+        };
+    }
+    if has_died(cell) {
+        return Leg::Over(Ended::Met(None));
+    }
+    let row = row_of(cell);
+    Leg::Through(Stand { row, noted: None })
+}
+
+/// How a search ends that came to its lower bound: the byte that stands before it decides what is met there, or the beginning of what is seen.
+#[inline(always)]
+fn finish<C: Cursor>(table: &Table, input: &mut Input<C>, end: usize, stand: Stand) -> Ended
+    ghost course: { Course }
+    requires row { InRow table.now stand.row }
+    requires stands { StandsDown table.now course end stand }
+    requires seen { Keeps course.seen input.old }
+    requires bound { course.seen.slice.start ≤ course.bound }
+    requires within { end ≤ slice_end course.seen }
+    requires end { end ≡ course.bound }
+    ensures keeps { Keeps input.old input.new }
+    ensures ends { EndsDownSo table.now course result }
+    ensures byte { MayEnd course.seen.content course.may_rest result }
+{
+    match byte_behind(input, end) {
+        Some(byte) => {
+            let cell = cell_of(table, stand.row, byte);
+            if cell == QUIT {
+                return Ended::Quit(byte, end - 1);
+            }
+            Ended::Met(swapped(told(table, noted_by(cell, end, stand.noted))))
+        }
+        None => Ended::Met(swapped(met_at_end(table, stand.row, end, stand.noted))),
+    }
+}
+
+/// Searches from one position down to another.
+#[inline(always)]
+fn search<C: Cursor>(
+    table: &Table,
+    input: &mut Input<C>,
+    anchored: Anchored,
+    from: usize,
+    end: usize,
+    earliest: bool,
+) -> Ended
+    ghost course: { Course }
+    requires course { course ≡ record { seen = input.old; from = from; bound = end; anchored = anchored; earliest = earliest; may_rest = false } }
+    requires low { input.old.slice.start ≤ end }
+    requires ordered { end ≤ from }
+    requires high { from ≤ slice_end input.old }
+    ensures keeps { Keeps input.old input.new }
+    ensures ends { EndsDownSo table.now course result }
+    ensures byte { MayEnd input.old.content false result }
+{
+    let beside = byte_ahead(input, from);
+    let stand = match begin(table, anchored, beside, from) {
+        Leg::Through(stand) => stand,
+        Leg::Over(ended) => return ended,
+    };
+    match cross(table, input, from, end, stand, earliest) {
+        Leg::Through(last) => finish(table, input, end, last),
+        Leg::Over(ended) => ended,
+    }
+}
+
+/// Searches backwards by the table, from the position `end` down to `least`, in bytes of the whole content, wherever it is cut, and tells the
+/// least position at which an entry is met, with the entry's number: the first of those met there. With `earliest` it is the first position
+/// that is come to, and nothing before it is read. A byte that the table doesn't read ends the search. Nothing is copied, and no memory is
+/// taken.
+#[inline(always)]
+pub fn run_backwards<C: Cursor>(
+    table: &Table,
+    input: &mut Input<C>,
+    anchored: Anchored,
+    least: usize,
+    end: usize,
+    earliest: bool,
+) -> Ended
+    requires low { low input.old ≤ least }
+    requires ordered { least ≤ end }
+    requires high { end ≤ high input.old }
+    ensures keeps { Keeps input.old input.new }
+    ensures ends { (m : Machine) (states : List State) (terminator : ℕ) → IsTable m states table.now → IsAsked m anchored
+        → SearchEndsDown m (text_of terminator input.old) least end anchored earliest (run_end result) }
+    ensures byte { MayEnd input.old.content false result }
+{
+    search(table, input, anchored, end, least, earliest)
+}

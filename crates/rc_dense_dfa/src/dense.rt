@@ -1,0 +1,186 @@
+//! Searches by tables of all states.
+ghost use Rattle.std.specs.Prelude.{◌≡◌, ◌⊎◌, ◌+◌, ◌*◌, ℕ, None, min, length, IfOk, IfErr};
+ghost use Rattle.rc_dfa.specs.declared.automaton.Direction.TheVariants.{Forwards, Backwards};
+ghost use Rattle.rc_dfa.specs.Automata.{machine_of, samples_of};
+ghost use Rattle.rc_dfa.specs.Ended.{gave_up};
+ghost use Rattle.rc_dense_dfa.specs.Makes.{IsRefused};
+ghost use Rattle.rc_dense_dfa.specs.Halves.{ArePatterns, AreHalves, AreTablesOf, SaysForwards, SaysBackwards, bytes_of};
+
+use crate::build::table_of;
+use crate::error::TableError;
+use crate::table::Table;
+use crate::{backward, forward, run};
+use rc_dfa::automaton::{Automaton, Direction};
+use rc_dfa::ended::{Ended, Met};
+use rc_dfa::halves::Halves;
+use rc_text::cursor::Cursor;
+use rc_text::input::Input;
+use rc_text::types::Anchored;
+use std::alloc::{AllocError, Global};
+
+/// What a search by tables changes: nothing.
+#[derive(Clone, Copy, Debug)]
+pub struct NoCache;
+
+/// Tables of all the states that searches by an automaton can reach, one for each direction.
+#[derive(Drop)]
+pub struct Dense {
+    forward: Table,
+    reverse: Table,
+    /// For each place of the byte program the pattern whose match place it is; 0 where it is none.
+    patterns: Vec<usize>,
+}
+
+/// The pattern of each place.
+fn patterns_of(alloc: Global, automaton: &Automaton) -> Result<Vec<usize>, AllocError>
+    ensures { IfOk result (λ patterns. ArePatterns (machine_of automaton.now Forwards) patterns.items) }
+{
+    let mut patterns = Vec::new(alloc);
+    for place in 0..automaton.places_len() {
+        patterns.push(automaton.pattern_at(place))?;
+    }
+    Ok(patterns)
+}
+
+/// How a search forwards by the table ended, with the pattern in place of its match place.
+#[inline(always)]
+fn said_forwards(patterns: &[usize], ended: run::Ended) -> Ended
+    ensures says { SaysForwards patterns.now ended result }
+    ensures done { gave_up result ≡ None }
+{
+    match ended {
+        run::Ended::Met(None) => Ended::Found(None),
+        run::Ended::Met(Some((place, at))) => {
+            let pattern = match patterns.get(place) {
+                Some(pattern) => *pattern,
+                None => 0,
+            };
+            Ended::Found(Some(Met { pattern, at }))
+        }
+        run::Ended::Idle(at) => Ended::Idle(at),
+        run::Ended::Quit(byte, at) => Ended::Quit(byte, at),
+    }
+}
+
+/// How a search backwards by the table ended.
+#[inline(always)]
+fn said_backwards(ended: run::Ended) -> Ended
+    ensures says { SaysBackwards ended result }
+    ensures done { gave_up result ≡ None }
+{
+    match ended {
+        run::Ended::Met(None) => Ended::Found(None),
+        run::Ended::Met(Some((at, pattern))) => Ended::Found(Some(Met { pattern, at })),
+        run::Ended::Idle(at) => Ended::Idle(at),
+        run::Ended::Quit(byte, at) => Ended::Quit(byte, at),
+    }
+}
+
+/// How many bytes the table takes.
+fn table_usage(table: &Table) -> u128
+    ensures { result ≡ bytes_of table.now }
+{
+    let rows = table.cells.len() as u128 + table.ends.len() as u128 + table.tells.len() as u128;
+    let bytes = table.classes.len() as u128
+        + table.idles.len() as u128
+        + 4 * table.exits.len() as u128
+        + 280 * table.leaps.len() as u128;
+    bytes + 8 * (rows + table.starts.len() as u128)
+}
+
+impl Dense {
+    /// The tables of the automaton, each of them within `limit` bytes: so much what holds its states may weigh. The error `TooBig` comes where
+    /// the states of one of the two weigh more, and `Memory` where memory is wanting. With `rests` the searches forwards that may rest
+    /// do so wherever they may.
+    pub fn new(
+        alloc: Global,
+        automaton: &Automaton,
+        limit: Option<usize>,
+        rests: bool,
+    ) -> Result<Dense, TableError>
+        ensures made { IfOk result (AreTablesOf automaton.now limit) }
+        ensures halves { IfOk result (λ dense. AreHalves dense (machine_of automaton.now Forwards) (machine_of automaton.now Backwards)) }
+        ensures refused { IfErr result (λ e. IsRefused (machine_of automaton.now Forwards) (length (samples_of automaton.now)) limit e
+            ⊎ IsRefused (machine_of automaton.now Backwards) (length (samples_of automaton.now)) limit e) }
+    {
+        let forward = table_of(alloc, automaton, Direction::Forwards, limit, rests)?;
+        let reverse = table_of(alloc, automaton, Direction::Backwards, limit, false)?;
+        let patterns = patterns_of(alloc, automaton)?;
+        Ok(Dense {
+            forward,
+            reverse,
+            patterns,
+        })
+    }
+
+    /// How many bytes the tables take, or `usize::MAX` where that is more.
+    pub fn memory_usage(&self) -> usize
+        ensures { result ≡ min (bytes_of self.now.forward + bytes_of self.now.reverse + 8 * length self.now.patterns.items) usize.MAX }
+    {
+        let tables = table_usage(&self.forward) + table_usage(&self.reverse);
+        let all = tables + 8 * self.patterns.len() as u128;
+        if all > usize::MAX as u128 {
+            return usize::MAX;
+        }
+        all as usize
+    }
+}
+
+impl Halves for Dense {
+    type Cache = NoCache;
+
+    ghost AreOf = { AreHalves };
+
+    ghost IsCache = { λ d c. Unit {0} };
+
+    ghost Spends = { λ d a b n. Unit {0} };
+
+    ghost GivesUp = { λ d a b n memory. ⊥ };
+
+    #[inline(always)]
+    fn run_forwards<C: Cursor>(
+        &self,
+        _cache: &mut NoCache,
+        input: &mut Input<C>,
+        anchored: Anchored,
+        from: usize,
+        earliest: bool,
+        may_rest: bool,
+        rest_from: usize,
+    ) -> Ended {
+        let ended = forward::run_forwards(
+            &self.forward,
+            input,
+            anchored,
+            from,
+            earliest,
+            may_rest,
+            rest_from,
+        );
+        said_forwards(&self.patterns, ended)
+    }
+
+    #[inline(always)]
+    fn run_backwards<C: Cursor>(
+        &self,
+        _cache: &mut NoCache,
+        input: &mut Input<C>,
+        anchored: Anchored,
+        from: usize,
+        end: usize,
+        earliest: bool,
+    ) -> Ended {
+        let ended = backward::run_backwards(&self.reverse, input, anchored, from, end, earliest);
+        said_backwards(ended)
+    }
+
+    ghost spends_nothing = { λ h a n. tt };
+
+    ghost spends_both = { λ h a b c n k x y. tt };
+
+    ghost gives_up_later = { λ h a b c n k memory x y. y };
+
+    ghost gives_up_within = { λ h a b n k memory x y. y };
+
+    ghost spends_within = { λ h a b n k x y. tt };
+}

@@ -1,0 +1,116 @@
+//! The bytes that lead away from a row.
+ghost use Rattle.std.specs.Prelude.{◌≡◌, ◌≢◌, ◌*◌, ◌<◌, ◌≤◌, ℕ, IfOk, IsTrue, false, length, slice_index_or};
+ghost use Rattle.rc_dense_dfa.specs.Cells.{dead};
+ghost use Rattle.rc_dense_dfa.specs.Exits.{AreExitsOf, Stays, is_exit};
+ghost use Rattle.rc_dense_dfa.specs.declared.exits.Exits.TheVariants as few;
+
+use crate::look::row_of;
+use crate::table::DEAD;
+use memchr::{memchr, memchr2, memchr3};
+use rc_dfa::automaton::Direction;
+use std::alloc::{AllocError, Global};
+
+/// The bytes of which the cells of a row don't name that row itself, or tell of something met.
+#[derive(Clone, Copy)]
+pub enum Exits {
+    Zero,
+    One(u8),
+    Two(u8, u8),
+    Three(u8, u8, u8),
+    /// More, or such as stand in most texts: the row is not worth a search for them.
+    Many,
+}
+
+/// Whether the byte stands close together in most texts.
+fn is_common(byte: u8) -> bool {
+    matches!(byte, b' ' | b'\n' | b'0'..=b'9' | b'a'..=b'z')
+}
+
+/// The exits, and one more. A common byte is taken for many, since a search for it would end too soon to be worth it.
+fn with(exits: Exits, byte: u8) -> Exits
+    ensures { (b : ℕ) → is_exit result b ≡ false → (is_exit exits b ≡ false) × (b ≢ byte) }
+{
+    if is_common(byte) {
+        return Exits::Many;
+    }
+    match exits {
+        Exits::Zero => Exits::One(byte),
+        Exits::One(one) => Exits::Two(one, byte),
+        Exits::Two(one, two) => Exits::Three(one, two, byte),
+        _ => Exits::Many,
+    }
+}
+
+/// Whether they are worth a search.
+pub(crate) fn are_few(exits: Exits) -> bool {
+    match exits {
+        Exits::Many => false,
+        _ => true,
+    }
+}
+
+/// Whether the byte leads from the row to the row itself, and nothing is met.
+fn stays(classes: &[u8], cells: &[usize], row: usize, byte: usize) -> bool
+    requires { row < 9223372036854775808 }
+    ensures { IsTrue result → Stays dead classes.now cells.now row byte }
+{
+    let Some(class) = classes.get(byte) else {
+        return false;
+    };
+    let Some(cell) = cells.get(row + *class as usize) else {
+        return false;
+    };
+    *cell < DEAD && row_of(*cell) == row
+}
+
+/// The exits of a row.
+fn exits_from(classes: &[u8], cells: &[usize], row: usize) -> Exits
+    requires { row < 9223372036854775808 }
+    ensures { AreExitsOf dead classes.now cells.now row result }
+{
+    let mut exits = Exits::Zero;
+    for byte in 0..256usize {
+        if !stays(classes, cells, row, byte) {
+            exits = with(exits, byte as u8);
+        }
+    }
+    exits
+}
+
+/// The exits of each row; none are told of a table for searches backwards, which read each byte.
+pub(crate) fn exits_of(
+    alloc: Global,
+    classes: &[u8],
+    cells: &[usize],
+    width: usize,
+    direction: Direction,
+) -> Result<Vec<Exits>, AllocError>
+    requires wide { (0 < width) × (width < 9223372036854775808) }
+    requires small { length cells.now < 2305843009213693952 }
+    ensures { IfOk result (λ exits. (k : ℕ) → AreExitsOf dead classes.now cells.now (k * width) (slice_index_or exits.items k few.Many)) }
+{
+    let mut exits = Vec::new(alloc);
+    if let Direction::Backwards = direction {
+        return Ok(exits);
+    }
+    let mut row = 0;
+    while row < cells.len() {
+        exits.push(exits_from(classes, cells, row))?;
+        row += width;
+    }
+    Ok(exits)
+}
+
+/// The first place of the piece at which an exit stands, or the piece's length; 0 where there are many exits.
+pub(crate) fn first_exit(exits: Exits, piece: &[u8]) -> usize
+    ensures within { result ≤ length piece.now }
+    ensures passed { (k : ℕ) → k < result → is_exit exits (slice_index_or piece.now k 0) ≡ false }
+{
+    match exits {
+        Exits::Zero => piece.len(),
+        Exits::One(one) => memchr(one, piece).unwrap_or(piece.len()),
+        Exits::Two(one, two) => memchr2(one, two, piece).unwrap_or(piece.len()),
+        Exits::Three(one, two, three) => memchr3(one, two, three, piece).unwrap_or(piece.len()),
+        Exits::Many => 0,
+    }
+}

@@ -1,0 +1,328 @@
+//! Rows in which a run stays over most bytes.
+ghost use Rattle.std.specs.Prelude.{◌≡◌, ◌<◌, ◌≤◌, ◌+◌, IfOk, IfSome, IsTrue, false, length, slice_index_or};
+ghost use Rattle.rc_dense_dfa.specs.Cells.{dead, row_of};
+ghost use Rattle.rc_dense_dfa.specs.Exits.{AllStay, AreLeaps, AreStays, StaysAmong, cell_by};
+
+use crate::exits::{Exits, are_few};
+use crate::look::row_of;
+use crate::table::{DEAD, QUIT};
+use std::alloc::{AllocError, Global};
+
+/// So many leaps are told of at most.
+const MOST: usize = 4;
+
+/// Of a thousand bytes of most texts, so many lead away at most where a leap is told.
+const LEAVING: usize = 60;
+
+/// Bytes of most texts, the most common ones first.
+const LIKELY: &[u8] = b" etsranolicudfpmhbgwyvk\n0";
+
+/// Two rows among which a run stays over most bytes of most texts.
+#[derive(Clone, Copy)]
+pub struct Leap {
+    /// A row.
+    pub row: usize,
+    /// Another one, or the same again.
+    pub other: usize,
+    /// For each byte whether it is known to lead from both rows to the same one of the two, where nothing is met.
+    pub stays: [bool; 256],
+    /// Whether a search may rest at the row.
+    pub rests: bool,
+    /// Whether it may rest at the other.
+    pub other_rests: bool,
+}
+
+/// How many of a thousand bytes of most texts are this one, about.
+fn share(byte: u8) -> usize {
+    match byte {
+        b' ' => 180,
+        b'e' | b't' => 70,
+        b'a' | b'i' | b'n' | b'o' | b'r' | b's' => 45,
+        b'\n' | b'c' | b'd' | b'h' | b'l' | b'm' | b'p' | b'u' => 25,
+        b'b' | b'f' | b'g' | b'k' | b'v' | b'w' | b'y' => 15,
+        b'(' | b')' | b',' | b'.' | b'_' => 10,
+        b'\t' | b'0'..=b'9' | b'x' => 5,
+        b'!'..=255 => 2,
+        _ => 1,
+    }
+}
+
+/// The row to which a byte leads, if it goes on from there and nothing is met.
+fn row_behind(classes: &[u8], cells: &[usize], row: usize, byte: usize) -> Option<usize>
+    requires { row < 9223372036854775808 }
+    ensures small { IfSome result (λ behind. behind < 9223372036854775808) }
+    ensures below { IfSome result (λ _. cell_by classes.now cells.now row byte < dead) }
+    ensures value { IfSome result (λ behind. behind ≡ row_of (cell_by classes.now cells.now row byte)) }
+{
+    let Some(class) = classes.get(byte) else {
+        return None;
+    };
+    let Some(cell) = cells.get(row + *class as usize) else {
+        return None;
+    };
+    if *cell >= DEAD {
+        return None;
+    }
+    Some(row_of(*cell))
+}
+
+/// Whether the byte leads from both rows to the same one of the two, and nothing is met.
+fn stays_among(classes: &[u8], cells: &[usize], row: usize, other: usize, byte: usize) -> bool
+    requires row { row < 9223372036854775808 }
+    requires other { other < 9223372036854775808 }
+    ensures { IsTrue result → StaysAmong dead classes.now cells.now row other byte }
+{
+    let Some(behind) = row_behind(classes, cells, row, byte) else {
+        return false;
+    };
+    let Some(beside) = row_behind(classes, cells, other, byte) else {
+        return false;
+    };
+    behind == beside && (behind == row || behind == other)
+}
+
+/// Whether the byte isn't read in the row: a search ends there, so it is no matter how it comes there.
+fn quits(classes: &[u8], cells: &[usize], row: usize, byte: usize) -> bool
+    requires { row < 9223372036854775808 }
+{
+    let Some(class) = classes.get(byte) else {
+        return false;
+    };
+    let Some(cell) = cells.get(row + *class as usize) else {
+        return false;
+    };
+    *cell == QUIT
+}
+
+/// How many of a thousand bytes of most texts lead away from the two rows, about. Where it is more than `LEAVING`, it may be more still.
+fn leaving(classes: &[u8], cells: &[usize], row: usize, other: usize) -> usize
+    requires row { row < 9223372036854775808 }
+    requires other { other < 9223372036854775808 }
+{
+    let mut sum = 0usize;
+    for number in 0..256usize {
+        // Letters come first, since they decide soonest.
+        let byte = (number + 97) % 256;
+        if !stays_among(classes, cells, row, other, byte) && !quits(classes, cells, row, byte) {
+            sum = sum.saturating_add(share(byte as u8));
+            if sum > LEAVING {
+                return sum;
+            }
+        }
+    }
+    sum
+}
+
+/// Another row, to which the most common byte leads that leads away from the row; or the row itself.
+fn likely(classes: &[u8], cells: &[usize], row: usize) -> usize
+    requires { row < 9223372036854775808 }
+    ensures { result < 9223372036854775808 }
+{
+    for byte in LIKELY {
+        if let Some(behind) = row_behind(classes, cells, row, *byte as usize)
+            && behind != row
+        {
+            return behind;
+        }
+    }
+    row
+}
+
+/// What is told of two rows.
+fn among(classes: &[u8], cells: &[usize], row: usize, other: usize) -> Leap
+    requires row { row < 9223372036854775808 }
+    requires other { other < 9223372036854775808 }
+    ensures { AreStays dead classes.now cells.now result.row result.other result.stays }
+{
+    let mut stays = [false; 256];
+    for byte in 0..256usize {
+        if stays_among(classes, cells, row, other, byte) {
+            stays[byte] = true;
+        }
+    }
+    Leap {
+        row,
+        other,
+        stays,
+        rests: false,
+        other_rests: false,
+    }
+}
+
+/// What is told of a row, where few bytes of most texts lead away from it, or from it and another.
+fn leap_of(classes: &[u8], cells: &[usize], row: usize) -> Option<Leap>
+    requires { row < 9223372036854775808 }
+    ensures { IfSome result (λ leap. AreStays dead classes.now cells.now leap.row leap.other leap.stays) }
+{
+    let alone = leaving(classes, cells, row, row);
+    let other = likely(classes, cells, row);
+    let both = leaving(classes, cells, row, other);
+    if both < alone && both <= LEAVING {
+        return Some(among(classes, cells, row, other));
+    }
+    if alone <= LEAVING {
+        return Some(among(classes, cells, row, row));
+    }
+    None
+}
+
+/// Whether something is told of the row.
+fn is_in(leaps: &[Leap], row: usize) -> bool {
+    for leap in leaps {
+        if leap.row == row || leap.other == row {
+            return true;
+        }
+    }
+    false
+}
+
+/// What is told of a row with these exits, unless they are few, or something is told of it already.
+fn wanted(classes: &[u8], cells: &[usize], exits: Exits, leaps: &[Leap], row: usize) -> Option<Leap>
+    requires { row < 9223372036854775808 }
+    ensures { IfSome result (λ leap. AreStays dead classes.now cells.now leap.row leap.other leap.stays) }
+{
+    if are_few(exits) || is_in(leaps, row) {
+        return None;
+    }
+    leap_of(classes, cells, row)
+}
+
+/// Whether a search may rest at the row.
+fn may_rest_at(idles: &[bool], row: usize, width: usize) -> bool
+    requires { 0 < width }
+{
+    match idles.get(row / width) {
+        Some(idle) => *idle,
+        None => false,
+    }
+}
+
+/// The same, with the rows at which a search may rest.
+fn resting(mut leap: Leap, idles: &[bool], width: usize) -> Leap
+    requires { 0 < width }
+    ensures { (result.row ≡ leap.row) × (result.other ≡ leap.other) × (result.stays ≡ leap.stays) }
+{
+    leap.rests = may_rest_at(idles, leap.row, width);
+    leap.other_rests = may_rest_at(idles, leap.other, width);
+    leap
+}
+
+/// What is told of some rows, of which these are the exits. Rows with few exits are left out.
+pub(crate) fn leaps_of(
+    alloc: Global,
+    classes: &[u8],
+    cells: &[usize],
+    exits: &[Exits],
+    idles: &[bool],
+    width: usize,
+) -> Result<Vec<Leap>, AllocError>
+    requires wide { (0 < width) × (width < 9223372036854775808) }
+    requires small { length cells.now < 2305843009213693952 }
+    ensures { IfOk result (λ leaps. AreLeaps dead classes.now cells.now leaps.items) }
+{
+    let mut leaps = Vec::new(alloc);
+    let mut row = 0usize;
+    for exits in exits {
+        if row >= cells.len() || leaps.len() >= MOST {
+            return Ok(leaps);
+        }
+        if let Some(leap) = wanted(classes, cells, *exits, &leaps, row) {
+            leaps.push(resting(leap, idles, width))?;
+        }
+        row += width;
+    }
+    Ok(leaps)
+}
+
+/// Whether something is told of the row of this number.
+pub(crate) fn is_told(leaps: &[Leap], number: usize, width: usize) -> bool
+    requires { 0 < width }
+{
+    for leap in leaps {
+        if leap.row / width == number || leap.other / width == number {
+            return true;
+        }
+    }
+    false
+}
+
+/// Whether the byte of a piece at an index stays.
+#[inline(always)]
+fn stays_at(stays: &[bool; 256], piece: &[u8], index: usize) -> bool
+    requires { index < length piece.now }
+    ensures { result ≡ slice_index_or stays.now (slice_index_or piece.now index 0) false }
+{
+    stays[piece[index] as usize]
+}
+
+/// The first place of a piece, from an index on before which all bytes stay, at which a byte doesn't, or the piece's length.
+#[inline(always)]
+fn rest(stays: &[bool; 256], piece: &[u8], from: usize) -> usize
+    requires from { from ≤ length piece.now }
+    requires before { AllStay stays.now piece.now from }
+    ensures within { result ≤ length piece.now }
+    ensures passed { AllStay stays.now piece.now result }
+{
+    let mut index = from;
+    while index < piece.len() && stays_at(stays, piece, index) {
+        index += 1;
+    }
+    index
+}
+
+/// The first place of a piece at which a byte doesn't stay, or the piece's length.
+#[inline(always)]
+pub(crate) fn first_leaving(stays: &[bool; 256], piece: &[u8]) -> usize
+    ensures within { result ≤ length piece.now }
+    ensures passed { AllStay stays.now piece.now result }
+{
+    let mut index = 0;
+    while piece.len() - index >= 4 {
+        if !stays_at(stays, piece, index) {
+            return index;
+        }
+        if !stays_at(stays, piece, index + 1) {
+            return index + 1;
+        }
+        if !stays_at(stays, piece, index + 2) {
+            return index + 2;
+        }
+        if !stays_at(stays, piece, index + 3) {
+            return index + 3;
+        }
+        index += 4;
+    }
+    rest(stays, piece, index)
+}
+
+/// Where a leap ends at most that begins at an index of a piece, of so many bytes: the piece's length, or the position `looks` where a search may rest at one of
+/// the two rows. From there on a byte at a time is read; None where the search may rest where it stands.
+#[inline(always)]
+pub(crate) fn leap_end(
+    leap: &Leap,
+    row: usize,
+    from: usize,
+    len: usize,
+    start: usize,
+    looks: usize,
+) -> Option<usize>
+    requires from { from ≤ len }
+    requires fits { start + len ≤ usize.MAX }
+    ensures { IfSome result (λ end. (from ≤ end) × (end ≤ len)) }
+{
+    if !leap.rests && !leap.other_rests {
+        return Some(len);
+    }
+    if start + from <= looks {
+        return Some(len.min(looks - start));
+    }
+    let rests = if leap.row == row {
+        leap.rests
+    } else {
+        leap.other_rests
+    };
+    if rests {
+        return None;
+    }
+    Some(from)
+}

@@ -1,0 +1,34 @@
+//! Cells with the mark `SKIP`.
+ghost use Rattle.std.specs.Prelude.{◌<◌};
+ghost use Rattle.rc_dense_dfa.specs.Cells.{AreMarked, IsMarkedAs};
+
+use crate::look::row_of;
+use crate::table::{QUIT, SKIP};
+
+/// The cell, with the mark where its row has the hint.
+fn marked(cell: usize, width: usize, hints: &[bool]) -> usize
+    requires { 0 < width }
+    ensures { IsMarkedAs cell result }
+{
+    let hint = match hints.get(row_of(cell) / width) {
+        Some(hint) => *hint,
+        None => false,
+    };
+    if cell == QUIT || !hint {
+        return cell;
+    }
+    match cell.checked_add(SKIP) {
+        Some(more) => more,
+        None => cell,
+    }
+}
+
+/// Marks the cells that name rows with hints: one for each row.
+pub(crate) fn mark(cells: &mut Vec<usize>, width: usize, hints: &[bool])
+    requires { 0 < width }
+    ensures { AreMarked cells.old.items cells.new.items }
+{
+    for cell in cells.iter_mut() {
+        *cell = marked(*cell, width, hints);
+    }
+}

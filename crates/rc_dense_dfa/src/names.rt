@@ -1,0 +1,149 @@
+//! Names of the rows of states.
+ghost use Rattle.std.specs.Prelude.{◌≡◌, ◌+◌, ◌*◌, ◌<◌, ◌≤◌, length, IfOk, IfErr, MatchOption, Some, ℕ, IfSome, slice_get, []};
+ghost use Rattle.rc_determinize.specs.Places.{state_of};
+ghost use Rattle.rc_dfa.specs.Machine.{Machine, IsMachine};
+ghost use Rattle.rc_dense_dfa.specs.Tables.{IsReached, marks, dead_state};
+ghost use Rattle.rc_dense_dfa.specs.Makes.{IsRefused, weight_by};
+ghost use Rattle.rc_dense_dfa.specs.Rows.{AreNamed, Grows, NamesBy};
+
+use crate::error::TableError;
+use crate::table::{DEAD, MET, SKIP};
+use rc_determinize::sides::Seen;
+use rc_determinize::state::State;
+use rc_dfa::states::States;
+use std::alloc::{AllocError, Global};
+
+/// The states of a table under way. Each has a row, and the rows stand one behind another.
+#[derive(Drop)]
+pub(crate) struct Names {
+    pub states: States,
+    /// How many cells a row has.
+    pub width: usize,
+    /// What the states may weigh, in bytes.
+    pub limit: Option<usize>,
+    /// What they weigh, where there is a limit.
+    pub weight: u128,
+}
+
+/// The weight, with what comes to it; None where that is more than the limit. Without a limit it is as before.
+fn weigh(weight: u128, more: u128, limit: Option<usize>) -> Option<u128>
+    requires weight { weight ≤ 18446744073709551616 }
+    requires more { more < 2361183241434822606848 }
+    ensures light { IfSome result (λ w. w ≤ 18446744073709551616) }
+    ensures weight { MatchOption result ((l : ℕ) × (limit ≡ Some l) × (l < weight + more)) (λ w. IfSome limit (λ l. (w ≡ weight + more) × (w ≤ l))) }
+{
+    if let Some(limit) = limit {
+        if weight + more > limit as u128 {
+            return None;
+        }
+        return Some(weight + more);
+    }
+    Some(weight)
+}
+
+/// What nothing goes on from.
+pub(crate) fn dead(alloc: Global) -> State
+    ensures { state_of result ≡ dead_state }
+{
+    State {
+        list: Vec::new(alloc),
+        beside: Seen {
+            edge: false,
+            terminator: false,
+            line_feed: false,
+            carriage_return: false,
+            word: false,
+        },
+        goes_on: false,
+        stop: None,
+    }
+}
+
+/// The marks of a state's name.
+fn marks(state: &State) -> usize
+    ensures { result ≡ marks (state_of state.now) }
+{
+    let met = if state.stop.is_some() { MET } else { 0 };
+    let dead = if state.list.is_empty() && !state.goes_on {
+        DEAD
+    } else {
+        0
+    };
+    met + dead
+}
+
+impl Names {
+    /// The number of the state. It is added where it isn't there. The error `TooBig` comes where the state is a new one, and what holds all
+    /// weighs more than the limit.
+    fn number(&mut self, state: &State) -> Result<usize, TableError>
+        ghost m: { Machine }
+        requires named { AreNamed m self.old }
+        requires reached { IsReached m (state_of state.now) }
+        ensures named { IfOk result (λ _. AreNamed m self.new) }
+        ensures grows { IfOk result (λ _. Grows self.old self.new) }
+        ensures few { IfOk result (λ _. length self.new.states ≤ length self.old.states + 1) }
+        ensures number { IfOk result (λ number. slice_get self.new.states number ≡ Some (state_of state.now)) }
+        ensures refused { IfErr result (IsRefused m self.old.width self.old.limit) }
+    {
+        if let Some(number) = self.states.find(state)? {
+            return Ok(number);
+        }
+        let number = self.states.len();
+        let cells = 8 * (self.width as u128 + 1);
+        let more = cells + 32 + 8 * state.list.len() as u128;
+        let Some(weight) = weigh(self.weight, more, self.limit) else {
+            return Err(TableError::TooBig);
+        };
+        if self.width >= SKIP - number * self.width {
+            return Err(TableError::Memory);
+        }
+        self.weight = weight;
+        self.states.add(state)?;
+        Ok(number)
+    }
+
+    /// The name of the state's row. The state is added where it isn't there. The error `TooBig` comes where it is a new one, and what
+    /// holds all weighs more than the limit.
+    pub(crate) fn name(&mut self, state: &State) -> Result<usize, TableError>
+        ghost m: { Machine }
+        requires named { AreNamed m self.old }
+        requires reached { IsReached m (state_of state.now) }
+        ensures named { IfOk result (λ _. AreNamed m self.new) }
+        ensures grows { IfOk result (λ _. Grows self.old self.new) }
+        ensures few { IfOk result (λ _. length self.new.states ≤ length self.old.states + 1) }
+        ensures name { IfOk result (λ cell. NamesBy self.new.width self.new.states cell (state_of state.now)) }
+        ensures refused { IfErr result (IsRefused m self.old.width self.old.limit) }
+    {
+        let number = self.number(state)?;
+        Ok(number * self.width + marks(state))
+    }
+
+    /// No states yet, for rows of so many cells and a table of `starts` starts.
+    pub(crate) fn new(
+        alloc: Global,
+        width: usize,
+        starts: usize,
+        limit: Option<usize>,
+    ) -> Result<Names, TableError>
+        ghost m: { Machine }
+        requires machine { IsMachine m }
+        requires wide { (0 < width) × (width < 9223372036854775808) }
+        requires starts { starts ≡ (length m.entries + 2) * (width + 1) }
+        ensures named { IfOk result (AreNamed m) }
+        ensures width { IfOk result (λ n. n.width ≡ width) }
+        ensures limit { IfOk result (λ n. n.limit ≡ limit) }
+        ensures none { IfOk result (λ n. n.states ≡ []) }
+        ensures refused { IfErr result (IsRefused m width limit) }
+    {
+        let rows = 8 * (width as u128 + 1) * 2;
+        let Some(weight) = weigh(0, rows + 8 * starts as u128 + 64, limit) else {
+            return Err(TableError::TooBig);
+        };
+        Ok(Names {
+            states: States::new(alloc),
+            width,
+            limit,
+            weight,
+        })
+    }
+}

@@ -1,0 +1,60 @@
+//! Where a search by a table begins.
+ghost use Rattle.std.specs.Prelude.{◌≡◌, ◌+◌, ◌*◌, ◌<◌, ◌≤◌, ◌^◌, length, slice_index_or};
+ghost use Rattle.rc_dense_dfa.specs.Cells.{IsNamed};
+ghost use Rattle.rc_dense_dfa.specs.Tables.{column, mode_of, start_at};
+
+use crate::table::{QUIT, Table};
+use rc_text::types::Anchored;
+
+/// The number of a way of anchoring.
+#[inline(always)]
+fn mode(anchored: Anchored) -> usize
+    ensures value { result ≡ mode_of anchored }
+    ensures small { result < 2 ^ 32 }
+{
+    match anchored {
+        Anchored::No => 0,
+        Anchored::Yes => 1,
+        Anchored::Pattern(pattern) => pattern.as_usize() + 2,
+    }
+}
+
+/// The column of the byte beside, or of the end.
+#[inline(always)]
+fn column(table: &Table, beside: Option<u8>) -> usize
+    ensures value { result ≡ column table.now beside }
+    ensures within { result ≤ table.now.width }
+{
+    match beside {
+        Some(byte) => table.classes[byte as usize] as usize,
+        None => table.width,
+    }
+}
+
+/// The cell at an index, or `QUIT` where there is none.
+#[inline(always)]
+fn cell_at(cells: &[usize], index: usize) -> usize
+    ensures { result ≡ slice_index_or cells.now index QUIT }
+{
+    match cells.get(index) {
+        Some(cell) => *cell,
+        None => QUIT,
+    }
+}
+
+/// The name of the row in which a search begins where this byte stands beside, or none. `QUIT` where the byte isn't read, or the table has no
+/// such row.
+#[inline(always)]
+pub(crate) fn start(table: &Table, anchored: Anchored, beside: Option<u8>) -> usize
+    ensures value { result ≡ start_at table.now (mode_of anchored * (table.now.width + 1) + column table.now beside) }
+    ensures named { IsNamed table.now.width (length table.now.cells.items) result }
+{
+    let column = column(table, beside);
+    let mode = mode(anchored);
+    if mode == 0 {
+        return cell_at(table.starts.as_slice(), column);
+    }
+    let columns = table.width.saturating_add(1);
+    let index = mode.saturating_mul(columns).saturating_add(column);
+    cell_at(table.starts.as_slice(), index)
+}

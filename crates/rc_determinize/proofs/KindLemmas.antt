@@ -1,0 +1,110 @@
+-- The laws of the steps of each kind.
+use Rattle.std.proofs.Common.{◌≡◌, ℕ, ◌<◌, ◌≤◌, ◌⊎◌, ◌↔◌, Bool, true, false, List, [], ◌∷◌, length, Option, Some, inl, inr, ⊎_elim, sym, subst, ap, ◌∙◌, arith}
+use Rattle.rc_program.specs.Program.{Way, stays, reads}
+use Rattle.rc_program.specs.Laws.{IsClosed}
+use Rattle.rc_program.proofs.PlaceLemmas.{goal_of}
+use Rattle.rc_determinize.specs.Steps.{HasPlace, AreOnce, AreBelow, IsStep}
+use Rattle.rc_determinize.specs.Sides.{holds_by, told, AreAlike, out_seen}
+use Rattle.rc_determinize.specs.States.{Setting, State, IsNext, root_if, is_match}
+use Rattle.rc_determinize.specs.Steps.{HasWay}
+use Rattle.rc_determinize.proofs.SidesLemmas.{alike_out}
+use Rattle.rc_determinize.specs.declared.kind.TableKind.{TableKind}
+use Rattle.rc_determinize.specs.declared.kind.TableKind.TheVariants.{All as all_matches, LeftmostFirst as leftmost_first, LeftmostLongest as leftmost_longest}
+use Rattle.rc_determinize.specs.Steps.{IsRising}
+use Rattle.rc_determinize.specs.Sets.{ComesBy, IsLeastMatch, IsNextOfAll}
+use Rattle.rc_determinize.specs.Kinds.{IsNextBy, longest, bound_of, IsListOf, KindLaw}
+use Rattle.rc_determinize.proofs.LimitLemmas as limit
+use Rattle.rc_determinize.proofs.UnderLemmas.{out_under}
+use Rattle.rc_determinize.proofs.LongestStepLemmas.{longest_step_law}
+
+pub rising_once : (qs : List ℕ) → IsRising qs → AreOnce qs
+rising_once [] h = tt
+rising_once (q ∷ qs) h = ((λ k. let l = h.0 q k in absurd (omega (arith, l))), rising_once qs h.1)
+
+alike_next : (g : Setting) (root b c : ℕ) (s s2 : State) → AreAlike g.places g.needs g.terminator b c → IsNext g root s (Some b) s2 → IsNext g root s (Some c) s2
+alike_next g root b c s s2 a n = record {
+  next = n.next;
+  is_step = subst (λ o. IsStep o (is_match g.places) s.list n.next s2.stop) (alike_out g.places g.needs g.terminator b c s.beside a) n.is_step;
+  goes_on = n.goes_on;
+  joined = n.joined;
+  beside = n.beside ∙ a.told_same;
+}
+
+alike_all : (g : Setting) (root b c : ℕ) (s s2 : State) → AreAlike g.places g.needs g.terminator b c → IsNextOfAll g root s (Some b) s2 →
+    IsNextOfAll g root s (Some c) s2
+alike_all g root b c s s2 a n =
+    let e = alike_out g.places g.needs g.terminator b c s.beside a in
+    record {
+      list = λ q. subst (λ o. HasPlace q s2.list ↔ (((s2.goes_on ≡ true) × (q ≡ root)) ⊎ ((p : ℕ) × ComesBy o s.list p × HasWay (reads 1 q) (o p)))) e (n.list q);
+      rising = n.rising;
+      stop = subst (λ o. IsLeastMatch g.places (ComesBy o s.list) s2.stop) e n.stop;
+      goes_on = n.goes_on;
+      beside = n.beside ∙ a.told_same;
+    }
+
+alike : (kind : TableKind) (g : Setting) (root b c : ℕ) (s t : State) → AreAlike g.places g.needs g.terminator b c →
+    IsNextBy kind g root s (Some b) t → IsNextBy kind g root s (Some c) t
+alike leftmost_first g root b c s t a n = alike_next g root b c s t a n
+alike all_matches g root b c s t a n = alike_all g root b c s t a n
+alike leftmost_longest g root b c s t a n = longest_step_law.alike g root b c s t a n
+
+root_under : (b : Bool) (root n : ℕ) → root < n → AreBelow n (root_if b root)
+root_under true root n h k i = ⊎_elim (λ e. subst (λ x. x < n) e h) (λ never. absurd never) i
+root_under false root n h k i = absurd i
+
+abbrev kind_of : Way → ℕ
+kind_of (stays q) = 0
+kind_of (reads n q) = 1
+
+read_in : (n q : ℕ) (ws : List Way) → HasWay (reads n q) ws → HasPlace q (limit.read_by ws)
+read_in n q [] h = absurd h
+read_in n q (stays k ∷ ws) h = ⊎_elim (λ e. absurd (stays_reads e)) (λ z. read_in n q ws z) h
+  where
+    stays_reads : stays k ≡ reads n q → ⊥
+    stays_reads e = let f : 0 ≡ 1 = ap (λ w. kind_of w) e in omega (arith, f)
+read_in n q (reads m k ∷ ws) h = ⊎_elim (λ e. inl (ap (λ w. goal_of w) e)) (λ z. inr (read_in n q ws z)) h
+
+inside : (kind : TableKind) (g : Setting) (root : ℕ) (s t : State) (after : Option ℕ) → IsClosed g.places → root < length g.places →
+    IsNextBy kind g root s after t → IsListOf kind (length g.places) t.list
+inside leftmost_first g root s t after closed rooted n =
+    let f = limit.next_fits (out_seen g.places g.needs g.terminator s.beside after) (is_match g.places) (length g.places)
+    (out_under g.places closed (holds_by s.beside (told g.needs g.terminator after)) after) n.is_step in
+    (limit.once_kept n.joined f.0, limit.under_kept (length g.places) n.joined f.1 (root_under t.goes_on root (length g.places) rooted))
+inside all_matches g root s t after closed rooted n = (
+  rising_once t.list n.rising,
+  λ q h.
+      ⊎_elim (λ x. subst (λ k. k < length g.places) (sym x.1) rooted)
+      (λ x. out_under g.places closed (holds_by s.beside (told g.needs g.terminator after)) after x.0 q (read_in 1 q _ x.2))
+      ((n.list q).0 h),
+)
+inside leftmost_longest g root s t after closed rooted n = longest_step_law.inside g root s t after closed rooted n
+
+below : (kind : TableKind) (places : ℕ) (list : List ℕ) → IsListOf kind places list → AreBelow (bound_of kind places) list
+below leftmost_first places list i = i.1
+below all_matches places list i = i.1
+below leftmost_longest places list i = longest_step_law.within places list i
+
+short : (kind : TableKind) (g : Setting) (root : ℕ) (s t : State) (after : Option ℕ) → IsClosed g.places → root < length g.places →
+    IsNextBy kind g root s after t → length t.list ≤ longest kind (length g.places)
+short leftmost_first g root s t after closed rooted n =
+    let f = inside leftmost_first g root s t after closed rooted n in limit.short (length g.places) t.list f.0 f.1
+short all_matches g root s t after closed rooted n =
+    let f = inside all_matches g root s t after closed rooted n in limit.short (length g.places) t.list f.0 f.1
+short leftmost_longest g root s t after closed rooted n = longest_step_law.short g root s t after closed rooted n
+
+forgets : (kind : TableKind) (g : Setting) (root : ℕ) (s t : State) (after stop : Option ℕ) →
+    IsNextBy kind g root s after t → IsNextBy kind g root (record s { stop = stop }) after t
+forgets leftmost_first g root s t after stop n =
+    record { next = n.next; is_step = n.is_step; goes_on = n.goes_on; joined = n.joined; beside = n.beside }
+forgets all_matches g root s t after stop n =
+    record { list = n.list; rising = n.rising; stop = n.stop; goes_on = n.goes_on; beside = n.beside }
+forgets leftmost_longest g root s t after stop n = longest_step_law.forgets g root s t after stop n
+
+tells : (kind : TableKind) (g : Setting) (root : ℕ) (s t : State) (after : Option ℕ) →
+    IsNextBy kind g root s after t → t.beside ≡ told g.needs g.terminator after
+tells leftmost_first g root s t after n = n.beside
+tells all_matches g root s t after n = n.beside
+tells leftmost_longest g root s t after n = n.beside
+
+pub kind_law : KindLaw
+kind_law = record { alike = alike; inside = inside; below = below; short = short; forgets = forgets; tells = tells }

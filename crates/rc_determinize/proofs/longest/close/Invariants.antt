@@ -1,0 +1,12 @@
+use Rattle.std.proofs.Common.{reverse}
+use Rattle.rc_determinize.specs.Sides.{holds_by}
+use Rattle.rc_determinize.proofs.ShutLemmas.{IsShutting, left}
+use Rattle.rc_determinize.proofs.longest.close.Given as goal
+
+abbrev pub invariant-places : goal.invariant-places
+invariant-places l =
+    IsShutting l.places (holds_by l.behind l.ahead) l.after (reverse l.initial.stack.items) l.initial.entered.items l.initial.listed.items l.entered l.listed l.stack.items l.first
+
+abbrev pub decreases-places : goal.decreases-places
+decreases-places l =
+    left l.places (holds_by l.behind l.ahead) l.after (reverse l.initial.stack.items) l.initial.entered.items l.initial.listed.items l.entered l.stack.items

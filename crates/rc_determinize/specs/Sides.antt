@@ -1,0 +1,155 @@
+-- What a step needs to know of the two sides of a position: facts about one byte each.
+use Rattle.std.specs.Prelude.{◌≡◌, ◌↔◌, ℕ, Bool, true, false, not, ◌&&◌, ◌||◌, ◌<◌, List, [], ◌∷◌, map, Option, Some, None, nat_le, IsTrue}
+use Rattle.rc_pattern.specs.Re.{Range}
+use Rattle.rc_program.specs.Program.{Place, byte, branch, guard, Way, ways_out, place_at}
+use Rattle.rc_determinize.specs.declared.sides.Seen.{Seen}
+use Rattle.rc_determinize.specs.declared.sides.Needs.{Needs}
+use Rattle.rc_determinize.specs.Steps.{out_by}
+use Rattle.rc_pattern.specs.declared.hir.Look.{Look}
+use Rattle.rc_pattern.specs.declared.hir.Look.TheVariants.{Start, End, StartLF, EndLF, StartCRLF, EndCRLF, WordAscii, WordAsciiNegate, WordUnicode, WordUnicodeNegate, WordStartAscii, WordEndAscii, WordStartUnicode, WordEndUnicode, WordStartHalfAscii, WordEndHalfAscii, WordStartHalfUnicode, WordEndHalfUnicode}
+use Rattle.rc_program.specs.Looks.{Side, nothing, stands, differ, is_edge, has_byte, is_ascii_word}
+
+-- What is told of a side: that nothing stands there; that a line terminator, an LF, a CR or a word byte of ASCII does.
+abbrev pub seen_by : ℕ → Side → Seen
+seen_by terminator side = record {
+  edge = is_edge side;
+  terminator = has_byte terminator side;
+  line_feed = has_byte 10 side;
+  carriage_return = has_byte 13 side;
+  word = is_ascii_word side;
+}
+
+-- what is told of a byte, or of the end
+abbrev pub seen_of : ℕ → Option ℕ → Seen
+seen_of terminator None = seen_by terminator nothing
+seen_of terminator (Some b) = seen_by terminator (stands b None)
+
+-- The assertion holds between what is told of the two sides; of assertions on Unicode's words where both sides are ASCII.
+abbrev pub holds_by : Seen → Seen → Look → Bool
+holds_by before after Start = before.edge
+holds_by before after End = after.edge
+holds_by before after StartLF = before.edge || before.terminator
+holds_by before after EndLF = after.edge || after.terminator
+holds_by before after StartCRLF = before.edge || before.line_feed || (before.carriage_return && not after.line_feed)
+holds_by before after EndCRLF = after.edge || after.carriage_return || (after.line_feed && not before.carriage_return)
+holds_by before after WordAscii = differ before.word after.word
+holds_by before after WordAsciiNegate = not (differ before.word after.word)
+holds_by before after WordUnicode = differ before.word after.word
+holds_by before after WordUnicodeNegate = not (differ before.word after.word)
+holds_by before after WordStartAscii = not before.word && after.word
+holds_by before after WordEndAscii = before.word && not after.word
+holds_by before after WordStartUnicode = not before.word && after.word
+holds_by before after WordEndUnicode = before.word && not after.word
+holds_by before after WordStartHalfAscii = not before.word
+holds_by before after WordEndHalfAscii = not after.word
+holds_by before after WordStartHalfUnicode = not before.word
+holds_by before after WordEndHalfUnicode = not after.word
+
+-- the assertion speaks of Unicode's words
+abbrev pub is_unicode : Look → Bool
+is_unicode WordUnicode = true
+is_unicode WordUnicodeNegate = true
+is_unicode WordStartUnicode = true
+is_unicode WordEndUnicode = true
+is_unicode WordStartHalfUnicode = true
+is_unicode WordEndHalfUnicode = true
+is_unicode _ = false
+
+-- nothing stands there, or a byte of ASCII with its scalar
+abbrev pub IsPlain : Side → Type 0
+IsPlain nothing = Unit {0}
+IsPlain (stands b c) = (b < 128) × (c ≡ Some b)
+
+-- Which facts some assertions ask for; what isn't asked for is told as false.
+abbrev pub asked : Seen → Seen → Seen
+asked needs seen = record {
+  edge = needs.edge && seen.edge;
+  terminator = needs.terminator && seen.terminator;
+  line_feed = needs.line_feed && seen.line_feed;
+  carriage_return = needs.carriage_return && seen.carriage_return;
+  word = needs.word && seen.word;
+}
+
+-- what the assertion asks for
+abbrev pub asks : Look → Seen → Type 0
+asks Start needs = IsTrue needs.edge
+asks End needs = IsTrue needs.edge
+asks StartLF needs = IsTrue needs.edge × IsTrue needs.terminator
+asks EndLF needs = IsTrue needs.edge × IsTrue needs.terminator
+asks StartCRLF needs = IsTrue needs.edge × IsTrue needs.line_feed × IsTrue needs.carriage_return
+asks EndCRLF needs = IsTrue needs.edge × IsTrue needs.line_feed × IsTrue needs.carriage_return
+asks _ needs = IsTrue needs.word
+
+-- the byte that stands there
+abbrev pub byte_of : Side → Option ℕ
+byte_of nothing = None
+byte_of (stands b c) = Some b
+
+-- the assertion stands at the place
+abbrev pub HasLook : Look → Place → Type 0
+HasLook l (guard k n) = k ≡ l
+HasLook l _ = ⊥
+
+-- the assertions of the program ask for no more
+pub record Covers (needs : Needs) (places : List Place) : Type 0 where
+  pub facts : (q : ℕ) (l : Look) → HasLook l (place_at places q) → asks l needs.facts
+  pub unicode : (q : ℕ) (l : Look) → HasLook l (place_at places q) → IsTrue (is_unicode l) → IsTrue needs.unicode
+
+-- what the one asks for the other asks for too
+pub record AsksNoMore (fewer more : Needs) : Type 0 where
+  pub edge : IsTrue fewer.facts.edge → IsTrue more.facts.edge
+  pub terminator : IsTrue fewer.facts.terminator → IsTrue more.facts.terminator
+  pub line_feed : IsTrue fewer.facts.line_feed → IsTrue more.facts.line_feed
+  pub carriage_return : IsTrue fewer.facts.carriage_return → IsTrue more.facts.carriage_return
+  pub word : IsTrue fewer.facts.word → IsTrue more.facts.word
+  pub unicode : IsTrue fewer.unicode → IsTrue more.unicode
+
+-- What the assertions of the program ask for, and nothing else.
+pub record AreNeeds (needs : Needs) (places : List Place) : Type 0 where
+  pub covers : Covers needs places
+  pub least : (other : Needs) → Covers other places → AsksNoMore needs other
+
+-- the assertion that stands at the place
+abbrev pub guarded : Place → Option Look
+guarded (guard l n) = Some l
+guarded _ = None
+
+-- with what the assertion asks for
+abbrev pub asking : Look → Needs → Needs
+asking Start needs = record needs { facts = record needs.facts { edge = true } }
+asking End needs = record needs { facts = record needs.facts { edge = true } }
+asking StartLF needs = record needs { facts = record needs.facts { edge = true; terminator = true } }
+asking EndLF needs = record needs { facts = record needs.facts { edge = true; terminator = true } }
+asking StartCRLF needs = record needs { facts = record needs.facts { edge = true; line_feed = true; carriage_return = true } }
+asking EndCRLF needs = record needs { facts = record needs.facts { edge = true; line_feed = true; carriage_return = true } }
+asking look needs = record { facts = record needs.facts { word = true }; unicode = needs.unicode || is_unicode look }
+
+-- what is told of a byte, or of the end, as far as the program asks
+abbrev pub told : Needs → ℕ → Option ℕ → Seen
+told needs terminator b = asked needs.facts (seen_of terminator b)
+
+-- the ways out of a place, where this is told of what stands before, and this byte stands ahead, or none
+abbrev pub out_seen : List Place → Needs → ℕ → Seen → Option ℕ → ℕ → List Way
+out_seen places needs terminator behind after =
+    out_by places (holds_by behind (told needs terminator after)) after
+
+-- the byte is one of ASCII; or no assertion speaks of Unicode's words
+abbrev pub IsReadable : Needs → Option ℕ → Type 0
+IsReadable needs None = Unit {0}
+IsReadable needs (Some b) = IsTrue needs.unicode → b < 128
+
+-- No step can tell the bytes apart, and both are read or none.
+pub record AreAlike (places : List Place) (needs : Needs) (terminator b c : ℕ) : Type 0 where
+  pub told_same : told needs terminator (Some b) ≡ told needs terminator (Some c)
+  pub read_same : (q : ℕ) (test : Look → Bool) → ways_out test (b ∷ []) (place_at places q) ≡ ways_out test (c ∷ []) (place_at places q)
+  pub readable : IsReadable needs (Some b) ↔ IsReadable needs (Some c)
+
+-- the ranges of bytes that a place reads
+abbrev pub ranges_of : Place → List Range
+ranges_of (byte rs n) = rs
+ranges_of (branch ts) = map (λ (t : Range × ℕ). t.0) ts
+ranges_of _ = []
+
+-- the range has both bytes, or none of them
+abbrev pub holds_both : ℕ → ℕ → Range → Type 0
+holds_both b c r = (nat_le r.0 b && nat_le b r.1) ≡ (nat_le r.0 c && nat_le c r.1)

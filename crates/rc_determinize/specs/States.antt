@@ -1,0 +1,84 @@
+-- States of a search over bytes, and the step from one to the next.
+use Rattle.std.specs.Prelude.{◌≡◌, ℕ, ◌+◌, ◌-◌, ◌≤◌, Bool, true, false, not, ◌&&◌, List, [], ◌∷◌, ◌++◌, length, Option, None, is_none, IsTrue}
+use Rattle.std.specs.Option.{option_or, option_map}
+use Rattle.rc_walks.specs.Walks.{Pair}
+use Rattle.rc_program.specs.Text.{Text, before_at}
+use Rattle.rc_program.specs.Program.{Place, place_at, ways, is_match_place}
+use Rattle.rc_determinize.specs.Gives.{Carries, starts}
+use Rattle.rc_determinize.specs.Steps.{IsByBytes, Adds, IsStep, at}
+use Rattle.rc_determinize.specs.declared.sides.Seen.{Seen}
+use Rattle.rc_determinize.specs.declared.sides.Needs.{Needs}
+use Rattle.rc_determinize.specs.Sides.{Covers, told, out_seen, byte_of, IsReadable}
+
+-- What a program is to a table: its places, what its assertions ask for, and the line terminator.
+pub record Setting : Type 0 where
+  pub places : List Place
+  pub needs : Needs
+  pub terminator : ℕ
+
+-- the places read bytes alone, and the assertions ask for no more
+pub record IsSetting (g : Setting) : Type 0 where
+  pub by_bytes : IsByBytes g.places
+  pub covers : Covers g.needs g.places
+
+-- A state: the places to which the byte before led, in order, each once, from none of which the search has gone on yet, since nothing
+-- is known of what stands ahead; what is told of what stands behind; whether a walk may begin at each position to come; and the match
+-- place that was met at the position before.
+pub record State : Type 0 where
+  pub list : List ℕ
+  pub beside : Seen
+  pub goes_on : Bool
+  pub stop : Option ℕ
+
+abbrev pub is_match : List Place → ℕ → Bool
+is_match places q = is_match_place None (place_at places q)
+
+-- where walks may begin at the next position too, by the place `root`
+abbrev pub root_if : Bool → ℕ → List ℕ
+root_if true root = root ∷ []
+root_if false root = []
+
+-- The state to which this byte leads, or the end. A match ends all that stands behind it in order, later starts too.
+pub record IsNext (g : Setting) (root : ℕ) (s : State) (after : Option ℕ) (t : State) : Type 0 where
+  pub next : List ℕ
+  pub is_step : IsStep (out_seen g.places g.needs g.terminator s.beside after) (is_match g.places) s.list next t.stop
+  pub goes_on : t.goes_on ≡ (s.goes_on && is_none t.stop)
+  pub joined : Adds next (root_if t.goes_on root) t.list
+  pub beside : t.beside ≡ told g.needs g.terminator after
+
+-- the state before the first byte
+pub record IsFirst (g : Setting) (root : ℕ) (before : Option ℕ) (anchored : Bool) (s : State) : Type 0 where
+  pub list : s.list ≡ root ∷ []
+  pub beside : s.beside ≡ told g.needs g.terminator before
+  pub goes_on : s.goes_on ≡ not anchored
+  pub stop : s.stop ≡ None
+
+-- THE SEARCH UNDER WAY
+
+abbrev pub Stops : List Place → Pair → Type 0
+Stops places n = IsTrue (is_match places n.0)
+
+-- the starts behind position i
+abbrev pub later_starts : Bool → ℕ → ℕ → ℕ → List Pair
+later_starts true root i hi = starts root (i + 1) (hi - i)
+later_starts false root i hi = []
+
+-- all starts of a search
+abbrev pub all_starts : Bool → ℕ → ℕ → ℕ → List Pair
+all_starts anchored root lo hi = (root, lo) ∷ later_starts (not anchored) root lo hi
+
+-- the last match seen
+abbrev pub best_at : ℕ → Option ℕ → Option Pair → Option Pair
+best_at i stop best = option_or (option_map (λ q. (q, i)) stop) best
+
+-- The bounds of the search lie within the slice.
+pub record IsInside (t : Text) (lo hi : ℕ) : Type 0 where
+  pub low : t.slice_start ≤ lo
+  pub high : hi ≤ t.slice_end
+  pub bounded : t.slice_end ≤ length t.content
+
+-- Before the byte at i, in the state s, where `best` is the last match that was met.
+pub record IsUnderWay (g : Setting) (t : Text) (hi root : ℕ) (origin : List Pair) (i : ℕ) (s : State) (best : Option Pair) : Type 0 where
+  pub carries : Carries (ways g.places t hi) (Stops g.places) origin (at i s.list ++ later_starts s.goes_on root i hi) best
+  pub beside : s.beside ≡ told g.needs t.terminator (byte_of (before_at t i))
+  pub readable : IsReadable g.needs (byte_of (before_at t i))

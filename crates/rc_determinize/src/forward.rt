@@ -1,0 +1,234 @@
+//! The step over one byte, forwards.
+ghost use Rattle.std.specs.Prelude.{ℕ, List, ◌≡◌, ◌<◌, ◌≤◌, ◌++◌, [], ◌∷◌, IfOk, length, reverse, Some, None, ◌&&◌, is_none};
+ghost use Rattle.rc_program.specs.Laws.{IsClosed};
+ghost use Rattle.rc_program.specs.Program.{Place, place_at};
+ghost use Rattle.rc_utf8.specs.Places.{places_of};
+ghost use Rattle.rc_determinize.specs.Places.{state_of, setting_of};
+ghost use Rattle.rc_determinize.specs.Steps.{HasPlace, AreBelow, IsStep, IsRising, HasWay, out_by};
+ghost use Rattle.rc_determinize.specs.Sides.{holds_by};
+ghost use Rattle.rc_determinize.specs.States.{IsNext, IsFirst, is_match};
+ghost use Rattle.rc_determinize.specs.Sets.{ComesBy, IsNextOfAll};
+ghost use Rattle.rc_determinize.specs.Kinds.{IsNextBy, bound_of};
+ghost use Rattle.rc_determinize.specs.Machine.{IsGathered};
+
+use crate::kind::TableKind;
+use crate::longest::next_longest;
+use crate::open::{add_root, is_match, least_with, open, place_at};
+use crate::scratch::Scratch;
+use crate::sides::{Needs, Seen, told};
+use crate::sparse_set::SparseSet;
+use crate::state::State;
+use rc_utf8::place::BytePlace;
+use std::alloc::AllocError;
+
+/// Puts the places onto the empty stack, the first uppermost.
+pub fn stack_up(list: &[usize], stack: &mut Vec<usize>) -> Result<(), AllocError>
+    ensures { IfOk result (λ _. stack.new.items ≡ reverse list.now) }
+{
+    stack.clear();
+    stack.extend_from_slice(list)?;
+    stack.reverse();
+    Ok(())
+}
+
+/// Goes on from the places on the stack, the uppermost first, by the ways that read nothing, until a match place is met, which is
+/// answered, or none is left. The places to which the byte leads are added as they are met.
+fn follow(
+    places: &[BytePlace],
+    behind: Seen,
+    ahead: Seen,
+    after: Option<u8>,
+    stack: &mut Vec<usize>,
+    entered: &mut SparseSet,
+    listed: &mut SparseSet,
+) -> Result<Option<usize>, AllocError>
+    requires closed { IsClosed (places_of places.now) }
+    requires below { AreBelow (length places.now) (reverse stack.old.items) }
+    requires entered { entered.old ≡ record { capacity = length places.now; items = [] } }
+    requires listed { listed.old ≡ record { capacity = length places.now; items = [] } }
+    ensures sizes { (entered.new.capacity ≡ length places.now) × (listed.new.capacity ≡ length places.now) }
+    ensures step { IfOk result (λ stop. IsStep (out_by (places_of places.now) (holds_by behind ahead) after) (is_match (places_of places.now))
+        (reverse stack.old.items) listed.new.items stop) }
+{
+    'places: while let Some(place) = stack.pop() {
+        if entered.insert(place) {
+            let here = place_at(places, place);
+            if is_match(here) {
+                return Ok(Some(place));
+            }
+            open(here, behind, ahead, after, stack, listed)?;
+        }
+    }
+    Ok(None)
+}
+
+/// Goes on from the places on the stack, by the ways that read nothing, until none is left, and answers the least match place met. The
+/// places to which the byte leads are added.
+fn gather(
+    places: &[BytePlace],
+    behind: Seen,
+    ahead: Seen,
+    after: Option<u8>,
+    stack: &mut Vec<usize>,
+    entered: &mut SparseSet,
+    listed: &mut SparseSet,
+) -> Result<Option<usize>, AllocError>
+    requires closed { IsClosed (places_of places.now) }
+    requires below { AreBelow (length places.now) (reverse stack.old.items) }
+    requires entered { entered.old ≡ record { capacity = length places.now; items = [] } }
+    requires listed { listed.old ≡ record { capacity = length places.now; items = [] } }
+    ensures sizes { (entered.new.capacity ≡ length places.now) × (listed.new.capacity ≡ length places.now) }
+    ensures step { IfOk result (λ stop. IsGathered (out_by (places_of places.now) (holds_by behind ahead) after) (places_of places.now)
+        (reverse stack.old.items) listed.new.items stop) }
+{
+    let mut least = None;
+    'places: while let Some(place) = stack.pop() {
+        if entered.insert(place) {
+            let here = place_at(places, place);
+            least = least_with(least, here, place);
+            open(here, behind, ahead, after, stack, listed)?;
+        }
+    }
+    Ok(least)
+}
+
+/// Walks may begin at the positions to come, unless a match was met.
+pub fn goes_on(from: &State, stop: Option<usize>) -> bool
+    ensures { result ≡ (from.now.goes_on && is_none stop) }
+{
+    from.goes_on && stop.is_none()
+}
+
+/// The step where the preferred match is sought.
+fn next_preferred(
+    places: &[BytePlace],
+    needs: Needs,
+    terminator: u8,
+    root: usize,
+    scratch: &mut Scratch,
+    from: &State,
+    after: Option<u8>,
+    to: &mut State,
+) -> Result<(), AllocError>
+    requires closed { IsClosed (places_of places.now) }
+    requires rooted { root < length places.now }
+    requires below { AreBelow (length places.now) from.now.list.items }
+    requires scratch { scratch.old ≡ length places.now }
+    ensures scratch { scratch.new ≡ scratch.old }
+    ensures next { IfOk result (λ _. IsNext (setting_of places.now needs terminator) root (state_of from.now) after (state_of to.new)) }
+{
+    let ahead = told(needs, terminator, after);
+    scratch.entered.clear();
+    scratch.listed.clear();
+    stack_up(&from.list, &mut scratch.stack)?;
+    let stop = follow(
+        places,
+        from.beside,
+        ahead,
+        after,
+        &mut scratch.stack,
+        &mut scratch.entered,
+        &mut scratch.listed,
+    )?;
+    let goes_on = goes_on(from, stop);
+    add_root(&mut scratch.listed, root, goes_on);
+    scratch.listed.copy_to(&mut to.list)?;
+    to.beside = ahead;
+    to.goes_on = goes_on;
+    to.stop = stop;
+    Ok(())
+}
+
+/// The step where each match counts.
+fn next_of_all(
+    places: &[BytePlace],
+    needs: Needs,
+    terminator: u8,
+    root: usize,
+    scratch: &mut Scratch,
+    from: &State,
+    after: Option<u8>,
+    to: &mut State,
+) -> Result<(), AllocError>
+    requires closed { IsClosed (places_of places.now) }
+    requires rooted { root < length places.now }
+    requires below { AreBelow (length places.now) from.now.list.items }
+    requires scratch { scratch.old ≡ length places.now }
+    ensures scratch { scratch.new ≡ scratch.old }
+    ensures next { IfOk result (λ _. IsNextOfAll (setting_of places.now needs terminator) root (state_of from.now) after (state_of to.new)) }
+{
+    let ahead = told(needs, terminator, after);
+    scratch.entered.clear();
+    scratch.listed.clear();
+    stack_up(&from.list, &mut scratch.stack)?;
+    let stop = gather(
+        places,
+        from.beside,
+        ahead,
+        after,
+        &mut scratch.stack,
+        &mut scratch.entered,
+        &mut scratch.listed,
+    )?;
+    add_root(&mut scratch.listed, root, from.goes_on);
+    scratch.listed.rise_to(&mut to.list)?;
+    to.beside = ahead;
+    to.goes_on = from.goes_on;
+    to.stop = stop;
+    Ok(())
+}
+
+/// Makes `to` the state to which a byte leads from a state, or the end of what a search sees, where `after` is None. Matches of this
+/// kind are sought, walks begin at the place `root`, and lines end at the byte `terminator`. `needs` says what the program's
+/// assertions ask for.
+///
+/// No memory is taken but what the lists of `scratch` and `to` grow by. An `Err` is want of it; then `to` is some state.
+pub fn next_by(
+    kind: TableKind,
+    places: &[BytePlace],
+    needs: Needs,
+    terminator: u8,
+    root: usize,
+    scratch: &mut Scratch,
+    from: &State,
+    after: Option<u8>,
+    to: &mut State,
+) -> Result<(), AllocError>
+    requires closed { IsClosed (places_of places.now) }
+    requires rooted { root < length places.now }
+    requires below { AreBelow (bound_of kind (length places.now)) from.now.list.items }
+    requires scratch { scratch.old ≡ length places.now }
+    ensures scratch { scratch.new ≡ scratch.old }
+    ensures next { IfOk result (λ _. IsNextBy kind (setting_of places.now needs terminator) root (state_of from.now) after (state_of to.new)) }
+{
+    match kind {
+        TableKind::LeftmostFirst => {
+            next_preferred(places, needs, terminator, root, scratch, from, after, to)
+        }
+        TableKind::LeftmostLongest => {
+            next_longest(places, needs, terminator, root, scratch, from, after, to)
+        }
+        TableKind::All => next_of_all(places, needs, terminator, root, scratch, from, after, to),
+    }
+}
+
+/// Makes `to` the state before the first byte, where walks begin at the place `root`, and at later positions too unless the search is
+/// anchored. `before` is the byte that stands before, or None at the beginning of what a search sees. An `Err` is want of memory; then
+/// `to` is some state.
+pub fn first(
+    needs: Needs,
+    terminator: u8,
+    root: usize,
+    before: Option<u8>,
+    anchored: bool,
+    to: &mut State,
+) -> Result<(), AllocError>
+    ensures { IfOk result (λ _. (places : List Place) → IsFirst (record { places = places; needs = needs; terminator = terminator }) root before anchored (state_of to.new)) }
+{
+    to.list.clear();
+    to.list.push(root)?;
+    to.beside = told(needs, terminator, before);
+    to.goes_on = !anchored;
+    to.stop = None;
+    Ok(())
+}

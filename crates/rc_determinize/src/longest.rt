@@ -1,0 +1,145 @@
+//! The step over one byte where the longest match of the least start is sought.
+ghost use Rattle.std.specs.Prelude.{ℕ, List, ◌≡◌, ◌≢◌, ◌<◌, ◌≤◌, ◌+◌, ◌∷◌, [], IfOk, length, reverse, drop, Some, None, slice_range};
+ghost use Rattle.rc_program.specs.Laws.{IsClosed};
+ghost use Rattle.rc_utf8.specs.Places.{places_of};
+ghost use Rattle.rc_determinize.specs.Places.{state_of, setting_of};
+ghost use Rattle.rc_determinize.specs.Steps.{HasPlace, AreBelow, out_by};
+ghost use Rattle.rc_determinize.specs.Sides.{holds_by};
+ghost use Rattle.rc_determinize.specs.States.{is_match};
+ghost use Rattle.rc_determinize.specs.Longest.{groups_of, IsNextOfLongest};
+ghost use Rattle.rc_determinize.specs.Machine.{IsShut, IsParted};
+
+use crate::forward::{goes_on, stack_up};
+use crate::open::{add_root, first_with, open, place_at};
+use crate::scratch::Scratch;
+use crate::sides::{Needs, Seen, told};
+use crate::sparse_set::SparseSet;
+use crate::state::State;
+use rc_utf8::place::BytePlace;
+use std::alloc::AllocError;
+
+/// Goes on from the places on the stack, the uppermost first, by the ways that read nothing, until none is left, and answers the first
+/// match place that was met. The places to which the byte leads are added as they are met.
+fn close(
+    places: &[BytePlace],
+    behind: Seen,
+    ahead: Seen,
+    after: Option<u8>,
+    stack: &mut Vec<usize>,
+    entered: &mut SparseSet,
+    listed: &mut SparseSet,
+) -> Result<Option<usize>, AllocError>
+    requires closed { IsClosed (places_of places.now) }
+    requires below { AreBelow (length places.now) (reverse stack.old.items) }
+    requires entered { entered.old.capacity ≡ length places.now }
+    requires few { length entered.old.items ≤ length places.now }
+    requires listed { listed.old.capacity ≡ length places.now }
+    ensures sizes { (entered.new.capacity ≡ length places.now) × (listed.new.capacity ≡ length places.now) }
+    ensures few { IfOk result (λ _. length entered.new.items ≤ length places.now) }
+    ensures shut { IfOk result (λ stop. IsShut (out_by (places_of places.now) (holds_by behind ahead) after) (is_match (places_of places.now))
+        (reverse stack.old.items) entered.old.items entered.new.items listed.old.items listed.new.items stop) }
+{
+    let mut first = None;
+    'places: while let Some(place) = stack.pop() {
+        if entered.insert(place) {
+            let here = place_at(places, place);
+            first = first_with(first, here, place);
+            open(here, behind, ahead, after, stack, listed)?;
+        }
+    }
+    Ok(first)
+}
+
+/// Where the group ends that begins at the index `from`.
+fn group_end(list: &[usize], from: usize, mark: usize) -> usize
+    requires { from < length list.now }
+    ensures inside { (from ≤ result) × (result ≤ length list.now) }
+    ensures other { (q : ℕ) → HasPlace q (slice_range list.now from result) → q ≢ mark }
+    ensures group { groups_of mark (drop from list.now) ≡ slice_range list.now from result ∷ groups_of mark (drop (result + 1) list.now) }
+{
+    for index in from..list.len() {
+        if list[index] == mark {
+            return index;
+        }
+    }
+    list.len()
+}
+
+/// Closes over the groups of the list, one after the other, up to the first that meets a match, and answers its place. What comes of them
+/// is put into `to`.
+fn close_groups(
+    places: &[BytePlace],
+    behind: Seen,
+    ahead: Seen,
+    after: Option<u8>,
+    list: &[usize],
+    stack: &mut Vec<usize>,
+    entered: &mut SparseSet,
+    listed: &mut SparseSet,
+    to: &mut Vec<usize>,
+) -> Result<Option<usize>, AllocError>
+    requires closed { IsClosed (places_of places.now) }
+    requires below { AreBelow (length places.now + 1) list.now }
+    requires entered { entered.old ≡ record { capacity = length places.now; items = [] } }
+    requires listed { listed.old ≡ record { capacity = length places.now; items = [] } }
+    ensures sizes { (entered.new.capacity ≡ length places.now) × (listed.new.capacity ≡ length places.now) }
+    ensures parted { IfOk result (λ stop. IsParted (out_by (places_of places.now) (holds_by behind ahead) after) (is_match (places_of places.now))
+        (length places.now) (groups_of (length places.now) list.now) listed.new.items to.new.items stop) }
+{
+    to.clear();
+    let mut from = 0;
+    'groups: while from < list.len() {
+        let end = group_end(list, from, places.len());
+        let before = listed.len();
+        stack_up(&list[from..end], stack)?;
+        let met = close(places, behind, ahead, after, stack, entered, listed)?;
+        listed.part_to(before, places.len(), to)?;
+        if met.is_some() {
+            return Ok(met);
+        }
+        from = end + 1;
+    }
+    Ok(None)
+}
+
+/// The step where the longest match of the least start is sought.
+pub fn next_longest(
+    places: &[BytePlace],
+    needs: Needs,
+    terminator: u8,
+    root: usize,
+    scratch: &mut Scratch,
+    from: &State,
+    after: Option<u8>,
+    to: &mut State,
+) -> Result<(), AllocError>
+    requires closed { IsClosed (places_of places.now) }
+    requires rooted { root < length places.now }
+    requires below { AreBelow (length places.now + 1) from.now.list.items }
+    requires scratch { scratch.old ≡ length places.now }
+    ensures scratch { scratch.new ≡ scratch.old }
+    ensures next { IfOk result (λ _. IsNextOfLongest (setting_of places.now needs terminator) root (state_of from.now) after (state_of to.new)) }
+{
+    let ahead = told(needs, terminator, after);
+    scratch.entered.clear();
+    scratch.listed.clear();
+    let stop = close_groups(
+        places,
+        from.beside,
+        ahead,
+        after,
+        &from.list,
+        &mut scratch.stack,
+        &mut scratch.entered,
+        &mut scratch.listed,
+        &mut to.list,
+    )?;
+    let goes_on = goes_on(from, stop);
+    let before = scratch.listed.len();
+    add_root(&mut scratch.listed, root, goes_on);
+    scratch.listed.part_to(before, places.len(), &mut to.list)?;
+    to.beside = ahead;
+    to.goes_on = goes_on;
+    to.stop = stop;
+    Ok(())
+}

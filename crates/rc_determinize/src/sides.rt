@@ -1,0 +1,185 @@
+//! What a step knows of the two sides of a position.
+ghost use Rattle.std.specs.Prelude.{◌≡◌, IsTrue};
+ghost use Rattle.rc_program.specs.Looks.{is_word_byte};
+ghost use Rattle.rc_utf8.specs.Places.{place_of, places_of};
+ghost use Rattle.rc_determinize.specs.Sides.{seen_of, holds_by, told, is_unicode, asking, guarded, AreNeeds};
+
+use rc_pattern::hir::Look;
+use rc_utf8::place::BytePlace;
+
+/// What is told of one side of a position.
+#[derive(Clone, Copy, PartialEq, Eq)]
+pub struct Seen {
+    /// Nothing stands there.
+    pub edge: bool,
+    /// The line terminator stands there.
+    pub terminator: bool,
+    /// An LF stands there.
+    pub line_feed: bool,
+    /// A CR stands there.
+    pub carriage_return: bool,
+    /// A letter, a digit or `_` of ASCII stands there.
+    pub word: bool,
+}
+
+/// What a program's assertions ask of a side.
+#[derive(Clone, Copy, PartialEq, Eq)]
+pub struct Needs {
+    /// The facts that some assertion asks for.
+    pub facts: Seen,
+    /// Some assertion speaks of Unicode's words, so that a byte of at least 128 can't be read.
+    pub unicode: bool,
+}
+
+fn is_word_byte(byte: u8) -> bool
+    ensures { result ≡ is_word_byte byte }
+{
+    matches!(byte, b'0'..=b'9' | b'A'..=b'Z' | b'_' | b'a'..=b'z')
+}
+
+/// All that is told of a byte, or of the end.
+fn seen_of(terminator: u8, byte: Option<u8>) -> Seen
+    ensures { result ≡ seen_of terminator byte }
+{
+    match byte {
+        None => Seen {
+            edge: true,
+            terminator: false,
+            line_feed: false,
+            carriage_return: false,
+            word: false,
+        },
+        Some(found) => Seen {
+            edge: false,
+            terminator: found == terminator,
+            line_feed: found == b'\n',
+            carriage_return: found == b'\r',
+            word: is_word_byte(found),
+        },
+    }
+}
+
+/// What is told of a byte, or of the end, as far as the program asks. Lines end at the byte `terminator`.
+pub fn told(needs: Needs, terminator: u8, byte: Option<u8>) -> Seen
+    ensures { result ≡ told needs terminator byte }
+{
+    let seen = seen_of(terminator, byte);
+    Seen {
+        edge: needs.facts.edge && seen.edge,
+        terminator: needs.facts.terminator && seen.terminator,
+        line_feed: needs.facts.line_feed && seen.line_feed,
+        carriage_return: needs.facts.carriage_return && seen.carriage_return,
+        word: needs.facts.word && seen.word,
+    }
+}
+
+/// Whether the assertion holds between what is told of the two sides.
+pub(crate) fn holds_by(before: Seen, after: Seen, look: Look) -> bool
+    ensures { result ≡ holds_by before after look }
+{
+    match look {
+        Look::Start => before.edge,
+        Look::End => after.edge,
+        Look::StartLF => before.edge || before.terminator,
+        Look::EndLF => after.edge || after.terminator,
+        Look::StartCRLF => before.edge
+            || before.line_feed
+            || (before.carriage_return && !after.line_feed),
+        Look::EndCRLF => after.edge
+            || after.carriage_return
+            || (after.line_feed && !before.carriage_return),
+        Look::WordAscii | Look::WordUnicode => before.word != after.word,
+        Look::WordAsciiNegate | Look::WordUnicodeNegate => before.word == after.word,
+        Look::WordStartAscii | Look::WordStartUnicode => !before.word && after.word,
+        Look::WordEndAscii | Look::WordEndUnicode => before.word && !after.word,
+        Look::WordStartHalfAscii | Look::WordStartHalfUnicode => !before.word,
+        Look::WordEndHalfAscii | Look::WordEndHalfUnicode => !after.word,
+    }
+}
+
+/// The assertion speaks of Unicode's words.
+fn is_unicode(look: Look) -> bool
+    ensures { result ≡ is_unicode look }
+{
+    matches!(
+        look,
+        Look::WordUnicode
+            | Look::WordUnicodeNegate
+            | Look::WordStartUnicode
+            | Look::WordEndUnicode
+            | Look::WordStartHalfUnicode
+            | Look::WordEndHalfUnicode
+    )
+}
+
+/// What the assertion asks for, beside what is asked for already.
+fn asking(look: Look, needs: Needs) -> Needs
+    ensures { result ≡ asking look needs }
+{
+    let facts = needs.facts;
+    match look {
+        Look::Start | Look::End => Needs {
+            facts: Seen {
+                edge: true,
+                ..facts
+            },
+            ..needs
+        },
+        Look::StartLF | Look::EndLF => Needs {
+            facts: Seen {
+                edge: true,
+                terminator: true,
+                ..facts
+            },
+            ..needs
+        },
+        Look::StartCRLF | Look::EndCRLF => Needs {
+            facts: Seen {
+                edge: true,
+                line_feed: true,
+                carriage_return: true,
+                ..facts
+            },
+            ..needs
+        },
+        _ => Needs {
+            facts: Seen {
+                word: true,
+                ..facts
+            },
+            unicode: needs.unicode || is_unicode(look),
+        },
+    }
+}
+
+/// The assertion that stands at the place.
+fn guarded(place: &BytePlace) -> Option<Look>
+    ensures { result ≡ guarded (place_of place.now) }
+{
+    match place {
+        BytePlace::Guard(look, _) => Some(*look),
+        _ => None,
+    }
+}
+
+/// What the assertions of a program ask for: all that they ask for, and nothing else.
+pub fn needs_of(places: &[BytePlace]) -> Needs
+    ensures { AreNeeds result (places_of places.now) }
+{
+    let mut needs = Needs {
+        facts: Seen {
+            edge: false,
+            terminator: false,
+            line_feed: false,
+            carriage_return: false,
+            word: false,
+        },
+        unicode: false,
+    };
+    for place in places {
+        if let Some(look) = guarded(place) {
+            needs = asking(look, needs);
+        }
+    }
+    needs
+}

@@ -1,0 +1,43 @@
+use Rattle.std.proofs.Common.{length, ap, subst, sym, ◌∙◌}
+use Rattle.std.proofs.lemmas.List.{length-map}
+use Rattle.std.proofs.lemmas.Result.{IfOk-weaker}
+use Rattle.rc_utf8.specs.Places.{place_of, places_of}
+use Rattle.rc_determinize.specs.Kinds.{bound_of}
+use Rattle.rc_determinize.specs.Places.{state_of}
+use Rattle.rc_determinize.specs.Steps.{AreBelow}
+use Rattle.rc_determinize.specs.Backward.{IsPrior}
+use Rattle.rc_determinize.specs.States.{Setting}
+use Rattle.rc_dfa.specs.Machine.{Leads, entry_bound}
+use Rattle.rc_dfa.specs.Automata.{machine_of, direction_of}
+use Rattle.rc_dfa.proofs.AutomatonLemmas.{is_reversed, as_many, is_inside}
+use Rattle.rc_dfa.proofs.automaton.Automaton.step.Goals as goal
+
+pub next_by-requires-clause-below : goal.next_by-requires-clause-below
+next_by-requires-clause-below c =
+    subst (λ n. AreBelow (bound_of c.args.self.now.kind n) c.args.from.now.list.items)
+    (length-map c.args.self.now.places.items place_of ∙ sym (ap length c.deref.ensures.value))
+    (subst (λ d. AreBelow (entry_bound (direction_of c.args.self.now.kind d) (length (places_of c.args.self.now.places.items))) c.args.from.now.list.items)
+    c.in-Forwards.is c.requires.below)
+
+pub prior-requires-clause-edges : goal.prior-requires-clause-edges
+prior-requires-clause-edges c = is_inside c.args.self.now
+
+pub prior-requires-clause-roots : goal.prior-requires-clause-roots
+prior-requires-clause-roots c =
+    subst (λ es. AreBelow (length c.args.self.now.reversed.into.items) es) (sym c.deref-in-Backwards.ensures.value)
+    (subst (λ n. AreBelow n c.args.self.now.entries.items) (sym (as_many c.args.self.now)) c.args.self.now.entered)
+
+pub prior-requires-clause-below : goal.prior-requires-clause-below
+prior-requires-clause-below c =
+    subst (λ n. AreBelow n c.args.from.now.list.items) (length-map c.args.self.now.places.items place_of ∙ sym (as_many c.args.self.now))
+    (subst (λ d. AreBelow (entry_bound (direction_of c.args.self.now.kind d) (length (places_of c.args.self.now.places.items))) c.args.from.now.list.items)
+    c.in-Backwards.is c.requires.below)
+
+pub returns-in-Backwards-clause-leads : goal.returns-in-Backwards-clause-leads
+returns-in-Backwards-clause-leads c =
+    IfOk-weaker c.prior.result _ _
+    (λ x h. subst (λ d. Leads (machine_of c.args.self.now d) (state_of c.args.from.now) c.args.beside (state_of c.prior.new.to)) (sym c.in-Backwards.is)
+    (let g : Setting = record { places = places_of c.args.self.now.places.items; needs = c.args.self.now.needs; terminator = c.args.self.now.terminator } in
+    subst (λ es. IsPrior g es (state_of c.args.from.now) c.args.beside (state_of c.prior.new.to)) c.deref-in-Backwards.ensures.value
+    (h (places_of c.args.self.now.places.items) (is_reversed c.args.self.now))))
+    c.prior.ensures.prior

@@ -1,0 +1,36 @@
+-- What an automaton is.
+use Rattle.std.specs.Prelude.{◌≡◌, ℕ, Bool, List}
+use Rattle.rc_determinize.specs.declared.kind.TableKind.{TableKind}
+use Rattle.rc_program.specs.Program.{Place}
+use Rattle.rc_determinize.specs.declared.sides.Needs.{Needs}
+use Rattle.rc_determinize.specs.Places.{setting_of}
+use Rattle.rc_determinize.specs.Sides.{AreNeeds}
+use Rattle.rc_dfa.specs.declared.automaton.Direction as code
+use Rattle.rc_dfa.specs.declared.automaton.Direction.TheVariants as code_variants
+use Rattle.rc_dfa.specs.declared.automaton.Automaton.{Automaton}
+use Rattle.rc_dfa.specs.Machine.{Direction, forwards, backwards, Machine}
+use Rattle.rc_dfa.specs.Samples.{AreClassesBy}
+
+abbrev pub direction_of : TableKind → code.Direction → Direction
+direction_of kind code_variants.Forwards = forwards kind
+direction_of kind code_variants.Backwards = backwards
+
+-- the machine that it is in this direction
+abbrev pub machine_of : Automaton → code.Direction → Machine
+machine_of a d = record { setting = setting_of a.places.items a.needs a.terminator; entries = a.entries.items; direction = direction_of a.kind d }
+
+-- the class of each byte, and a byte of each class
+abbrev pub classes_of : Automaton → List ℕ
+classes_of a = a.classes.items
+
+abbrev pub samples_of : Automaton → List ℕ
+samples_of a = a.samples.items
+
+-- It is that of these places.
+pub record IsMadeOf (places : List Place) (entries : List ℕ) (terminator : ℕ) (kind : TableKind) (byte_classes : Bool) (a : Automaton) : Type 0 where
+  -- what the program's assertions ask for
+  pub needs : Needs
+  pub are_needs : AreNeeds needs places
+  pub machine : (d : code.Direction) → machine_of a d
+      ≡ record { setting = record { places = places; needs = needs; terminator = terminator }; entries = entries; direction = direction_of kind d }
+  pub classes : AreClassesBy byte_classes places needs terminator (classes_of a)

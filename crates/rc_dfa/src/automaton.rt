@@ -1,0 +1,284 @@
+//! A byte program, ready to be gone through state by state.
+ghost use Rattle.std.specs.Prelude.{◌≡◌, ◌<◌, length, IfOk};
+ghost use Rattle.rc_program.specs.Laws.{IsClosed};
+ghost use Rattle.rc_utf8.specs.Places.{places_of};
+ghost use Rattle.rc_determinize.specs.Steps.{AreBelow};
+ghost use Rattle.rc_determinize.specs.Sides.{Covers};
+ghost use Rattle.rc_determinize.specs.Reversed.{AreEdges};
+ghost use Rattle.rc_determinize.specs.Classes.{TellsAlike};
+ghost use Rattle.rc_dfa.specs.Samples.{AreClassesBy, AreSamples};
+ghost use Rattle.rc_dfa.specs.Props.{Covers-prop, TellsAlike-prop};
+
+use crate::matches::{last_of, pattern_of};
+use crate::samples::samples_of;
+use rc_determinize::backward::{Reversed, last, prior};
+use rc_determinize::classes::{classes, single_classes};
+use rc_determinize::forward::{first, next_by};
+use rc_determinize::kind::TableKind;
+use rc_determinize::scratch::Scratch;
+use rc_determinize::sides::{Needs, needs_of};
+use rc_determinize::state::State;
+use rc_text::types::Anchored;
+use rc_utf8::place::BytePlace;
+use std::alloc::{AllocError, Global};
+
+/// In which direction a search reads.
+#[derive(Clone, Copy, Debug, PartialEq, Eq)]
+pub enum Direction {
+    /// From a start to an end.
+    Forwards,
+    /// From an end to a start.
+    Backwards,
+}
+
+/// A byte program, ready to be gone through state by state, in both directions. It is entered at place 0, and by the entry of each of its
+/// patterns.
+#[derive(Drop)]
+pub struct Automaton {
+    places: Vec<BytePlace>,
+    reversed: Reversed,
+    entries: Vec<usize>,
+    needs: Needs,
+    terminator: u8,
+    kind: TableKind,
+    classes: Vec<u8>,
+    samples: Vec<u8>,
+    ghost closed: { IsClosed (places_of places.items) },
+    ghost rooted: { 0 < length places.items },
+    ghost entered: { AreBelow (length places.items) entries.items },
+    ghost edges: { AreEdges (places_of places.items) reversed },
+    ghost covers: { Covers needs (places_of places.items) } by { Covers-prop needs (places_of places.items) },
+    ghost size: { length classes.items ≡ 256 },
+    ghost alike: { TellsAlike (places_of places.items) needs terminator classes.items } by { TellsAlike-prop (places_of places.items) needs terminator classes.items },
+    ghost sampled: { AreSamples classes.items samples.items },
+}
+
+/// The class of each byte: found by what the program tells apart, or each byte as a class of its own.
+fn classes_by(
+    alloc: Global,
+    places: &[BytePlace],
+    needs: Needs,
+    terminator: u8,
+    byte_classes: bool,
+) -> Result<Vec<u8>, AllocError>
+    ensures { IfOk result (λ found. AreClassesBy byte_classes (places_of places.now) needs terminator found.items) }
+{
+    if byte_classes {
+        return classes(alloc, places, needs, terminator);
+    }
+    single_classes(alloc)
+}
+
+impl Automaton {
+    ghost use Rattle.std.specs.Prelude.{◌≡◌, ◌<◌, ◌↔◌, IsTrue, length, IfOk};
+    ghost use Rattle.rc_program.specs.Laws.{IsClosed};
+    ghost use Rattle.rc_utf8.specs.Places.{places_of};
+    ghost use Rattle.rc_determinize.specs.Places.{state_of};
+    ghost use Rattle.rc_determinize.specs.Steps.{AreBelow};
+    ghost use Rattle.rc_determinize.specs.Sides.{IsReadable};
+    ghost use Rattle.rc_dfa.specs.declared.automaton.Direction.{Direction};
+    ghost use Rattle.rc_dfa.specs.declared.automaton.Direction.TheVariants.{Forwards, Backwards};
+    ghost use Rattle.rc_dfa.specs.Machine.{IsAsked, Begins, Leads, IsMachine, IsClassing, entry_bound, longest_in};
+    ghost use Rattle.rc_dfa.specs.Automata.{machine_of, IsMadeOf, classes_of, samples_of};
+    ghost use Rattle.rc_program.specs.Program.{place_at};
+    ghost use Rattle.rc_program.specs.Answer.{pattern_at};
+
+    /// An automaton of a byte program whose patterns are entered at these places, and whose lines end at the byte `terminator`. Forwards
+    /// it seeks matches of this kind. Unless `byte_classes` is set, each byte is a class of its own. An `Err` is want of memory.
+    pub fn new(
+        alloc: Global,
+        places: Vec<BytePlace>,
+        entries: Vec<usize>,
+        terminator: u8,
+        kind: TableKind,
+        byte_classes: bool,
+    ) -> Result<Automaton, AllocError>
+        requires closed { IsClosed (places_of places.items) }
+        requires rooted { 0 < length places.items }
+        requires entered { AreBelow (length places.items) entries.items }
+        ensures made { IfOk result (IsMadeOf (places_of places.items) entries.items terminator kind byte_classes) }
+    {
+        let reversed = Reversed::new(alloc, &places)?;
+        let needs = needs_of(&places);
+        let classes = classes_by(alloc, &places, needs, terminator, byte_classes)?;
+        let samples = samples_of(alloc, &classes)?;
+        Ok(Automaton {
+            places,
+            reversed,
+            entries,
+            needs,
+            terminator,
+            kind,
+            classes,
+            samples,
+        })
+    }
+
+    /// How many places the program has.
+    pub fn places_len(&self) -> usize
+        ensures { (direction : Direction) → result ≡ length (machine_of self.now direction).setting.places }
+    {
+        self.places.len()
+    }
+
+    /// How many entries the list of a state has at most that is gone through in this direction: as many as the program has places, and
+    /// twice as many forwards where the longest match is sought.
+    pub fn longest_list(&self, direction: Direction) -> usize
+        ensures { result ≡ longest_in (machine_of self.now direction).direction (length (machine_of self.now direction).setting.places) }
+    {
+        let places = &self.places;
+        match (direction, self.kind) {
+            (Direction::Forwards, TableKind::LeftmostLongest) => 2 * places.len(),
+            _ => places.len(),
+        }
+    }
+
+    /// The pattern whose match place this is; 0 where it is none.
+    pub fn pattern_at(&self, place: usize) -> usize
+        requires { place < length (machine_of self.now Forwards).setting.places }
+        ensures { result ≡ pattern_at (place_at (machine_of self.now Forwards).setting.places place) }
+    {
+        pattern_of(&self.places[place])
+    }
+
+    /// How many patterns it has.
+    pub fn pattern_len(&self) -> usize
+        ensures { (direction : Direction) → result ≡ length (machine_of self.now direction).entries }
+    {
+        self.entries.len()
+    }
+
+    /// The class of each byte. No step can tell bytes of one class apart.
+    pub fn classes(&self) -> &[u8]
+        ensures value { result.now ≡ classes_of self.now }
+        ensures machine { (direction : Direction) → IsMachine (machine_of self.now direction) }
+        ensures classing { (direction : Direction) → IsClassing (machine_of self.now direction) (classes_of self.now) (samples_of self.now) }
+    {
+        &self.classes
+    }
+
+    /// A byte of each class.
+    pub fn samples(&self) -> &[u8]
+        ensures { result.now ≡ samples_of self.now }
+    {
+        &self.samples
+    }
+
+    /// Whether a search may read the byte, or the end of what it sees: where some assertion speaks of Unicode's words, a byte of at least
+    /// 128 can't be read.
+    pub fn may_read(&self, byte: Option<u8>) -> bool
+        ensures { (direction : Direction) → IsTrue result ↔ IsReadable (machine_of self.now direction).setting.needs byte }
+    {
+        match byte {
+            None => true,
+            Some(found) => !self.needs.unicode || found < 128,
+        }
+    }
+
+    /// What steps work with. An `Err` is want of memory.
+    pub fn create_scratch(&self, alloc: Global) -> Result<Scratch, AllocError>
+        ensures { IfOk result (λ scratch. (direction : Direction) → scratch ≡ length (machine_of self.now direction).setting.places) }
+    {
+        let places = &self.places;
+        Scratch::new(alloc, places.len())
+    }
+
+    /// Makes `to` the state in which a search begins, where this byte stands beside: before its start, or backwards ahead of its end; None at
+    /// an end of what it sees. An `Err` is want of memory; then `to` is some state.
+    pub fn begin(
+        &self,
+        direction: Direction,
+        anchored: Anchored,
+        beside: Option<u8>,
+        to: &mut State,
+    ) -> Result<(), AllocError>
+        requires { IsAsked (machine_of self.now direction) anchored }
+        ensures { IfOk result (λ _. Begins (machine_of self.now direction) anchored beside (state_of to.new)) }
+    {
+        match direction {
+            Direction::Forwards => self.begin_forwards(anchored, beside, to),
+            Direction::Backwards => self.begin_backwards(anchored, beside, to),
+        }
+    }
+
+    fn begin_forwards(
+        &self,
+        anchored: Anchored,
+        beside: Option<u8>,
+        to: &mut State,
+    ) -> Result<(), AllocError>
+        requires { IsAsked (machine_of self.now Forwards) anchored }
+        ensures { IfOk result (λ _. Begins (machine_of self.now Forwards) anchored beside (state_of to.new)) }
+    {
+        match anchored {
+            Anchored::No => first(self.needs, self.terminator, 0, beside, false, to),
+            Anchored::Yes => first(self.needs, self.terminator, 0, beside, true, to),
+            Anchored::Pattern(pattern) => {
+                let entry = self.entries[pattern.as_usize()];
+                first(self.needs, self.terminator, entry, beside, true, to)
+            }
+        }
+    }
+
+    fn begin_backwards(
+        &self,
+        anchored: Anchored,
+        beside: Option<u8>,
+        to: &mut State,
+    ) -> Result<(), AllocError>
+        ensures { IfOk result (λ _. Begins (machine_of self.now Backwards) anchored beside (state_of to.new)) }
+    {
+        match anchored {
+            Anchored::No => last(&self.places, self.needs, self.terminator, beside, to),
+            Anchored::Yes => last(&self.places, self.needs, self.terminator, beside, to),
+            Anchored::Pattern(pattern) => last_of(
+                &self.places,
+                self.needs,
+                self.terminator,
+                pattern.as_usize(),
+                beside,
+                to,
+            ),
+        }
+    }
+
+    /// Makes `to` the state to which a byte leads from a state: the byte ahead, or backwards the one before; None is an end of what a search
+    /// sees. No memory is taken but what the lists of `scratch` and `to` grow by. An `Err` is want of it; then `to` is some state.
+    pub fn step(
+        &self,
+        direction: Direction,
+        scratch: &mut Scratch,
+        from: &State,
+        beside: Option<u8>,
+        to: &mut State,
+    ) -> Result<(), AllocError>
+        requires below { AreBelow (entry_bound (machine_of self.now direction).direction (length (machine_of self.now direction).setting.places)) from.now.list.items }
+        requires scratch { scratch.old ≡ length (machine_of self.now direction).setting.places }
+        ensures scratch { scratch.new ≡ scratch.old }
+        ensures leads { IfOk result (λ _. Leads (machine_of self.now direction) (state_of from.now) beside (state_of to.new)) }
+    {
+        match direction {
+            Direction::Forwards => next_by(
+                self.kind,
+                &self.places,
+                self.needs,
+                self.terminator,
+                0,
+                scratch,
+                from,
+                beside,
+                to,
+            ),
+            Direction::Backwards => prior(
+                &self.reversed,
+                self.needs,
+                self.terminator,
+                &self.entries,
+                scratch,
+                from,
+                beside,
+                to,
+            ),
+        }
+    }
+}

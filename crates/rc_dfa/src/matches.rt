@@ -1,0 +1,70 @@
+//! The match places of one pattern.
+ghost use Rattle.std.specs.Prelude.{◌≡◌, IfOk, Some};
+ghost use Rattle.rc_program.specs.Program.{is_match_place};
+ghost use Rattle.rc_program.specs.Answer.{pattern_at};
+ghost use Rattle.rc_utf8.specs.Places.{place_of, places_of};
+ghost use Rattle.rc_determinize.specs.Places.{setting_of, state_of};
+ghost use Rattle.rc_dfa.specs.Machine.{IsLastOf};
+
+use rc_determinize::sides::{Needs, told};
+use rc_determinize::state::State;
+use rc_utf8::place::BytePlace;
+use std::alloc::AllocError;
+
+/// Whether it is the match place of the pattern.
+fn is_match_of(place: &BytePlace, pattern: usize) -> bool
+    ensures { result ≡ is_match_place (Some pattern) (place_of place.now) }
+{
+    match place {
+        BytePlace::Accept(own) => *own == pattern,
+        BytePlace::Choice(_, _)
+        | BytePlace::Pass(_)
+        | BytePlace::Dead
+        | BytePlace::Byte(_, _)
+        | BytePlace::Bytes(_, _)
+        | BytePlace::Branch(_)
+        | BytePlace::Guard(_, _)
+        | BytePlace::Slot(_, _) => false,
+    }
+}
+
+/// The pattern of a match place; 0 of another.
+pub fn pattern_of(place: &BytePlace) -> usize
+    ensures { result ≡ pattern_at (place_of place.now) }
+{
+    match place {
+        BytePlace::Accept(pattern) => *pattern,
+        BytePlace::Choice(_, _)
+        | BytePlace::Pass(_)
+        | BytePlace::Dead
+        | BytePlace::Byte(_, _)
+        | BytePlace::Bytes(_, _)
+        | BytePlace::Branch(_)
+        | BytePlace::Guard(_, _)
+        | BytePlace::Slot(_, _) => 0,
+    }
+}
+
+/// Makes `to` the state at the end of a match of the pattern: its match places. `after` is the byte that stands there, or None at the
+/// end of what a search sees. An `Err` is want of memory; then `to` is some state.
+pub fn last_of(
+    places: &[BytePlace],
+    needs: Needs,
+    terminator: u8,
+    pattern: usize,
+    after: Option<u8>,
+    to: &mut State,
+) -> Result<(), AllocError>
+    ensures { IfOk result (λ _. IsLastOf pattern (setting_of places.now needs terminator) after (state_of to.new)) }
+{
+    to.list.clear();
+    for i in 0..places.len() {
+        if is_match_of(&places[i], pattern) {
+            to.list.push(i)?;
+        }
+    }
+    to.beside = told(needs, terminator, after);
+    to.goes_on = false;
+    to.stop = None;
+    Ok(())
+}

@@ -1,0 +1,54 @@
+-- What a search spends, and how it is given up.
+use Rattle.std.proofs.Common.{◌≡◌, ℕ, ◌+◌, ◌-◌, ◌*◌, ◌≤◌, Result, Ok, Err, IfErr, subst, sym, arith}
+use Rattle.std.specs.Result.{IsErrAnd}
+use Rattle.std.proofs.Math.Nat.{add-mul, mul-le-mul, mul-le-mul_right}
+use Rattle.rc_text.specs.Text.{Searched, Keeps, low, high}
+use Rattle.rc_text.specs.declared.types.MatchError as error
+use Rattle.rc_dfa_search.specs.Aims.{cost}
+use Rattle.rc_dfa_search.specs.Ends.{cost_forwards}
+use Rattle.rc_dfa_search.proofs.ToldLemmas.{kept_high, kept_low}
+
+-- the exit of a `?` answers with the error
+pub refused : {T : Type 0} → (r : Result T error.MatchError) (e : error.MatchError) → IsErrAnd r (λ f. f ≡ e) → (P : error.MatchError → Type 0) → P e → IfErr r P
+refused (Ok x) e h P p = tt
+refused (Err f) e h P p = subst P (sym h) p
+
+step_cost : (n j k : ℕ) → k ≤ n + 2 → j * (n + 2) + k ≤ (j + 1) * (n + 2)
+step_cost n j k le = let e = add-mul j 1 (n + 2) in omega (arith, e, le)
+
+-- one run more forwards
+pub next_cost : (s b : Searched) (from : ℕ) → Keeps s b → low s ≤ from → from ≤ high s →
+    (from - low s) * (high s - low s + 2) + (high b - from + 2) ≤ (from + 1 - low s) * (high s - low s + 2)
+next_cost s b from k above below =
+    let same = kept_high s b k in
+    let more = step_cost (high s - low s) (from - low s) (high b - from + 2) (omega (arith, same, above)) in
+    let e : from - low s + 1 ≡ from + 1 - low s = omega (arith, above) in
+    subst (λ j. (from - low s) * (high s - low s + 2) + (high b - from + 2) ≤ j * (high s - low s + 2)) e more
+
+pub run_cost : (s b : Searched) (from : ℕ) → Keeps s b → low s ≤ from → from ≤ high s →
+    (from - low s) * (high s - low s + 2) + (high b - from + 2) ≤ cost_forwards s
+run_cost s b from k above below =
+    let one = next_cost s b from k above below in
+    let j : from + 1 - low s ≤ high s - low s + 1 = omega (arith, above, below) in
+    let more = mul-le-mul_right (high s - low s + 2) j in
+    omega (arith, one, more)
+
+-- forwards alone
+pub cost_of_forwards : (s : Searched) → cost_forwards s ≤ cost s
+cost_of_forwards s =
+    let n : ℕ = high s - low s in
+    let a : n + 1 ≤ n + 4 = omega arith in
+    let b : n + 2 ≤ n + 4 = omega arith in
+    mul-le-mul a b
+
+-- and then backwards
+pub cost_of_both : (s b : Searched) → Keeps s b → cost_forwards s + (high b - low b + 2) ≤ cost s
+cost_of_both s b k =
+    let n : ℕ = high s - low s in
+    let top = kept_high s b k in
+    let bottom = kept_low s b k in
+    let one = step_cost n (n + 1) (high b - low b + 2) (let le : high b - low b + 2 ≤ high s - low s + 2 = omega (arith, top, bottom) in le) in
+    let a : n + 1 + 1 ≤ n + 4 = omega arith in
+    let b : n + 2 ≤ n + 4 = omega arith in
+    let more = mul-le-mul a b in
+    omega (arith, one, more)

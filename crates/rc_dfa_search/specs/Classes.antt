@@ -1,0 +1,14 @@
+-- The classes of bytes in which patterns are searched for.
+use Rattle.std.specs.Prelude.{ℕ, Bool, List}
+use Rattle.rc_pattern.specs.Re.{Re}
+use Rattle.rc_program.specs.Program.{program}
+use Rattle.rc_utf8.specs.Bytes.{bytes_of}
+use Rattle.rc_determinize.specs.declared.sides.Needs.{Needs}
+use Rattle.rc_determinize.specs.Sides.{AreNeeds}
+use Rattle.rc_dfa.specs.Samples.{AreClassesBy}
+
+-- They are told by the byte program of the patterns and what its assertions ask for; or each byte is a class of its own.
+pub record AreClassesOf (byte_classes : Bool) (hs : List Re) (terminator : ℕ) (classes : List ℕ) : Type 0 where
+  pub needs : Needs
+  pub are_needs : AreNeeds needs (bytes_of (program hs))
+  pub told : AreClassesBy byte_classes (bytes_of (program hs)) needs terminator classes

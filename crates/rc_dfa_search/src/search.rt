@@ -1,0 +1,436 @@
+//! Searches by two halves, forwards and backwards, whatever holds their states. Positions are in bytes of the whole content.
+ghost use Rattle.std.specs.Prelude.{◌≡◌, ◌⊎◌, ◌↔◌, ◌+◌, ◌-◌, ◌*◌, ◌<◌, ◌≤◌, ◌&&◌, ◌||◌, ℕ, true, not, min, max, List, Option, IsTrue, IfOk, IfErr, IfSome, IfNone};
+ghost use Rattle.std.specs.Option.{option_map};
+ghost use Rattle.rc_text.specs.Found.{Found};
+ghost use Rattle.rc_text.specs.Plain.{is_anchored};
+ghost use Rattle.rc_text.specs.Text.{Keeps, is_boundary, low, high};
+ghost use Rattle.rc_pattern.specs.Re.{Re};
+ghost use Rattle.rc_program.specs.Answer.{Search};
+ghost use Rattle.rc_determinize.specs.TableKinds.{IsAnswerBy};
+ghost use Rattle.rc_program.specs.Sought.{text_of};
+ghost use Rattle.rc_dfa.specs.Machine.{Machine};
+ghost use Rattle.rc_dfa_search.specs.Aims.{AreHalvesOf, is_early, search_for, cost};
+ghost use Rattle.rc_dfa_search.specs.Ends.{Asks, HasMet, HasMetDown, IsEnd, begins_there, cost_forwards, keeps_pattern, match_by, may_end, start_by, told_of};
+ghost use Rattle.rc_dfa_search.specs.Faults.{IsFault};
+ghost use Rattle.rc_dfa_search.specs.Halves.{IsForwardHalf};
+ghost use Rattle.rc_dfa_search.specs.Reverse.{IsMatchToEnd, IsReverseHalf};
+
+use rc_determinize::kind::TableKind;
+use rc_dfa::ended::{Ended, Met};
+use rc_dfa::halves::Halves;
+use rc_text::cursor::Cursor;
+use rc_text::input::{Input, high, is_boundary_at, low};
+use rc_text::types::{Anchored, HalfMatch, Match, MatchError, PatternID, Span};
+
+/// What two halves of a search seek.
+#[derive(Clone, Copy)]
+pub struct Aim {
+    /// Which match is the answer.
+    pub kind: TableKind,
+    /// How many patterns there are.
+    pub patterns: usize,
+    /// Whether matches that end off a boundary of characters are passed over. Where each match counts, none is.
+    pub passes_over: bool,
+    /// Whether any match is enough. Where matches are passed over, none but the answer is.
+    pub earliest: bool,
+}
+
+/// Where a search begins and ends.
+#[derive(Clone, Copy)]
+pub(crate) struct Bounds {
+    pub(crate) low: usize,
+    pub(crate) high: usize,
+}
+
+/// The end of a match.
+#[derive(Clone, Copy)]
+struct End {
+    /// Where the search stood that met it, once what begins before was passed over.
+    from: usize,
+    /// The pattern whose match place was met.
+    pattern: usize,
+    /// Where the match ends.
+    at: usize,
+}
+
+/// Whether any match is enough.
+#[inline(always)]
+fn is_early(aim: Aim) -> bool
+    ensures { result ≡ is_early aim }
+{
+    aim.earliest && !aim.passes_over
+}
+
+/// Whether the pattern that is asked for, if any, is one of so many.
+#[inline(always)]
+fn asks(anchored: Anchored, patterns: usize) -> bool
+    ensures { IsTrue result ↔ Asks patterns anchored }
+{
+    match anchored {
+        Anchored::No => true,
+        Anchored::Yes => true,
+        Anchored::Pattern(pattern) => pattern.as_usize() < patterns,
+    }
+}
+
+/// Where a search begins and ends; None where it finds nothing: it has no position, or the pattern that is asked for is none.
+#[inline(always)]
+pub(crate) fn bounds_of<C: Cursor>(input: &mut Input<C>, aim: Aim) -> Option<Bounds>
+    ensures keeps { Keeps input.old input.new }
+    ensures some { IfSome result (λ bounds. (bounds.low ≡ low input.old) × (bounds.high ≡ high input.old)
+        × (low input.old ≤ high input.old) × Asks aim.patterns input.old.anchored) }
+    ensures none { IfNone result ((high input.old < low input.old) ⊎ (¬ Asks aim.patterns input.old.anchored)) }
+{
+    let high = high(input);
+    let low = low(input);
+    if low > high {
+        return None;
+    }
+    if !asks(input.get_anchored(), aim.patterns) {
+        return None;
+    }
+    Some(Bounds { low, high })
+}
+
+/// What a run met, or why it tells nothing.
+#[inline(always)]
+pub fn told(ended: Ended) -> Result<Option<Met>, MatchError>
+    ensures { result ≡ told_of ended }
+{
+    match ended {
+        Ended::Found(met) => Ok(met),
+        Ended::Idle(_) => Ok(None),
+        Ended::Quit(byte, offset) => Err(MatchError::Quit { byte, offset }),
+        Ended::GaveUp(offset, memory) => Err(MatchError::GaveUp { offset, memory }),
+    }
+}
+
+/// What a run forwards from one position on meets.
+#[inline(always)]
+pub(crate) fn run_forwards<H: Halves, C: Cursor>(
+    halves: &H,
+    cache: &mut H::Cache,
+    input: &mut Input<C>,
+    aim: Aim,
+    from: usize,
+) -> Result<Option<Met>, MatchError>
+    requires cache { H.IsCache halves.now cache.old }
+    requires low { low input.old ≤ from }
+    requires high { from ≤ high input.old }
+    requires asked { Asks aim.patterns input.old.anchored }
+    ensures cache { H.IsCache halves.now cache.new }
+    ensures keeps { Keeps input.old input.new }
+    ensures met { (hs : List Re) (terminator : ℕ) (of : AreHalvesOf (H.AreOf halves.now) aim hs terminator)
+        → IfOk result (HasMet of.ahead (text_of terminator input.old) (high input.old) from input.old.anchored (is_early aim)) }
+    ensures fault { (hs : List Re) (terminator : ℕ) → AreHalvesOf (H.AreOf halves.now) aim hs terminator
+        → IfErr result (IsFault hs (search_for aim hs terminator input.old) (H.GivesUp halves.now cache.old cache.new (high input.old - from + 2))) }
+    ensures spends { H.Spends halves.now cache.old cache.new (high input.old - from + 2) }
+{
+    let anchored = input.get_anchored();
+    told(halves.run_forwards(cache, input, anchored, from, is_early(aim), false, 0))
+}
+
+/// What a run backwards from an end down to `from` meets.
+#[inline(always)]
+pub(crate) fn run_backwards<H: Halves, C: Cursor>(
+    halves: &H,
+    cache: &mut H::Cache,
+    input: &mut Input<C>,
+    aim: Aim,
+    from: usize,
+    end: usize,
+) -> Result<Option<Met>, MatchError>
+    requires cache { H.IsCache halves.now cache.old }
+    requires low { low input.old ≤ from }
+    requires ordered { from ≤ end }
+    requires high { end ≤ high input.old }
+    requires asked { Asks aim.patterns input.old.anchored }
+    ensures cache { H.IsCache halves.now cache.new }
+    ensures keeps { Keeps input.old input.new }
+    ensures met { (hs : List Re) (terminator : ℕ) (of : AreHalvesOf (H.AreOf halves.now) aim hs terminator)
+        → IfOk result (HasMetDown of.back (text_of terminator input.old) from end input.old.anchored (is_early aim)) }
+    ensures fault { (hs : List Re) (terminator : ℕ) → AreHalvesOf (H.AreOf halves.now) aim hs terminator
+        → IfErr result (IsFault hs (search_for aim hs terminator input.old) (H.GivesUp halves.now cache.old cache.new (high input.old - from + 2))) }
+    ensures spends { H.Spends halves.now cache.old cache.new (high input.old - from + 2) }
+{
+    let anchored = input.get_anchored();
+    told(halves.run_backwards(cache, input, anchored, from, end, is_early(aim)))
+}
+
+/// Whether a match may end here where matches are passed over that end off a boundary.
+#[inline(always)]
+fn is_allowed<C: Cursor>(input: &mut Input<C>, aim: Aim, at: usize) -> bool
+    ensures keeps { Keeps input.old input.new }
+    ensures value { result ≡ (not aim.passes_over || is_boundary input.old.content at) }
+{
+    !aim.passes_over || is_boundary_at(input, at)
+}
+
+/// Whether a match of the kind may end here.
+#[inline(always)]
+fn may_end<C: Cursor>(input: &mut Input<C>, aim: Aim, at: usize) -> bool
+    ensures keeps { Keeps input.old input.new }
+    ensures value { result ≡ may_end aim.kind aim.passes_over input.old.content at }
+{
+    match aim.kind {
+        TableKind::All => true,
+        TableKind::LeftmostFirst | TableKind::LeftmostLongest => is_allowed(input, aim, at),
+    }
+}
+
+/// The end of the match that is sought: a run from where the search begins meets it, or, where matches are passed over, a run from a later start.
+#[inline(always)]
+fn seek_end<H: Halves, C: Cursor>(
+    halves: &H,
+    cache: &mut H::Cache,
+    input: &mut Input<C>,
+    aim: Aim,
+) -> Result<Option<End>, MatchError>
+    requires cache { H.IsCache halves.now cache.old }
+    ensures cache { H.IsCache halves.now cache.new }
+    ensures keeps { Keeps input.old input.new }
+    ensures none { (hs : List Re) (terminator : ℕ) → AreHalvesOf (H.AreOf halves.now) aim hs terminator
+        → IfOk result (λ end. IfNone end (IsAnswerBy aim.kind aim.earliest (search_for aim hs terminator input.old) None)) }
+    ensures some { (hs : List Re) (terminator : ℕ) (of : AreHalvesOf (H.AreOf halves.now) aim hs terminator)
+        → IfOk result (λ end. IfSome end (IsEnd hs aim.kind (is_early aim) of.ahead of.back input.old.anchored (search_for aim hs terminator input.old))) }
+    ensures within { IfOk result (λ end. IfSome end (λ e. (low input.old ≤ e.from) × (e.from ≤ e.at) × (e.at ≤ high input.old) × Asks aim.patterns input.old.anchored)) }
+    ensures fault { (hs : List Re) (terminator : ℕ) → AreHalvesOf (H.AreOf halves.now) aim hs terminator
+        → IfErr result (IsFault hs (search_for aim hs terminator input.old) (H.GivesUp halves.now cache.old cache.new (cost_forwards input.old))) }
+    ensures spends { H.Spends halves.now cache.old cache.new (cost_forwards input.old) }
+{
+    let Some(Bounds { low, high }) = bounds_of(input, aim) else {
+        return Ok(None);
+    };
+    let anchored = input.get_anchored().is_anchored();
+    let mut from = low;
+    'starts: loop {
+        let Some(met) = run_forwards(halves, cache, input, aim, from)? else {
+            return Ok(None);
+        };
+        if may_end(input, aim, met.at) {
+            return Ok(Some(End {
+                from,
+                pattern: met.pattern,
+                at: met.at.max(from).min(high),
+            }));
+        }
+        if anchored || from >= high {
+            return Ok(None);
+        }
+        from += 1;
+    }
+}
+
+/// Whether a match begins where the run forwards did that met its end.
+#[inline(always)]
+fn begins_there(aim: Aim, anchored: Anchored) -> bool
+    ensures { result ≡ begins_there aim.kind (is_early aim) (is_anchored anchored) }
+{
+    match aim.kind {
+        TableKind::All => is_early(aim) && anchored.is_anchored(),
+        TableKind::LeftmostFirst | TableKind::LeftmostLongest => anchored.is_anchored(),
+    }
+}
+
+/// Whether the pattern that was met with the end is the match's.
+#[inline(always)]
+fn keeps_pattern(aim: Aim) -> bool
+    ensures { result ≡ keeps_pattern aim.kind (is_early aim) }
+{
+    match aim.kind {
+        TableKind::All => false,
+        TableKind::LeftmostFirst | TableKind::LeftmostLongest => !is_early(aim),
+    }
+}
+
+/// The start of the match with this end and its pattern, by what a run backwards met.
+#[inline(always)]
+fn start_by(aim: Aim, end: End, met: Met) -> Met
+    ensures { result ≡ start_by aim.kind (is_early aim) end met }
+{
+    let at = met.at.max(end.from).min(end.at);
+    if keeps_pattern(aim) {
+        return Met {
+            pattern: end.pattern,
+            at,
+        };
+    }
+    Met {
+        pattern: met.pattern,
+        at,
+    }
+}
+
+/// The start of the match with this end, and its pattern.
+#[inline(always)]
+fn seek_start<H: Halves, C: Cursor>(
+    halves: &H,
+    cache: &mut H::Cache,
+    input: &mut Input<C>,
+    aim: Aim,
+    end: End,
+) -> Result<Option<Met>, MatchError>
+    requires cache { H.IsCache halves.now cache.old }
+    requires low { low input.old ≤ end.from }
+    requires ordered { end.from ≤ end.at }
+    requires high { end.at ≤ high input.old }
+    requires asked { Asks aim.patterns input.old.anchored }
+    ensures cache { H.IsCache halves.now cache.new }
+    ensures keeps { Keeps input.old input.new }
+    ensures found { (hs : List Re) (terminator : ℕ) (of : AreHalvesOf (H.AreOf halves.now) aim hs terminator)
+        → IsEnd hs aim.kind (is_early aim) of.ahead of.back input.old.anchored (search_for aim hs terminator input.old) end
+        → IfOk result (λ start. IsAnswerBy aim.kind aim.earliest (search_for aim hs terminator input.old) (option_map (match_by end) start)) }
+    ensures within { IfOk result (λ start. IfSome start (λ m. (end.from ≤ m.at) × (m.at ≤ end.at))) }
+    ensures fault { (hs : List Re) (terminator : ℕ) → AreHalvesOf (H.AreOf halves.now) aim hs terminator
+        → IfErr result (IsFault hs (search_for aim hs terminator input.old) (H.GivesUp halves.now cache.old cache.new (high input.old - low input.old + 2))) }
+    ensures spends { H.Spends halves.now cache.old cache.new (high input.old - low input.old + 2) }
+{
+    if begins_there(aim, input.get_anchored()) {
+        return Ok(Some(Met {
+            pattern: end.pattern,
+            at: end.from,
+        }));
+    }
+    let Some(met) = run_backwards(halves, cache, input, aim, end.from, end.at)? else {
+        return Ok(None);
+    };
+    Ok(Some(start_by(aim, end, met)))
+}
+
+/// The number of the pattern that was met at the position. An `Err` comes where `PatternID` has none for it; it has one for each of the
+/// patterns.
+#[inline(always)]
+pub fn id_of(pattern: usize, offset: usize) -> Result<PatternID, MatchError>
+    ensures id { IfOk result (λ id. id ≡ pattern) }
+    ensures refused { IfErr result (λ _. 2147483646 < pattern) }
+{
+    match PatternID::new(pattern) {
+        Some(id) => Ok(id),
+        None => Err(MatchError::GaveUp {
+            offset,
+            memory: true,
+        }),
+    }
+}
+
+/// The match that a search of the input finds: forwards to its end, and from there, unless it is known, backwards to its start. Where any
+/// match is enough, some match. Where matches are passed over that end off a boundary, a run forwards is made again from the next start.
+///
+/// An `Err` comes where the patterns speak of Unicode's words and a byte above 127 would have to be read, and where the halves give a
+/// search up.
+#[inline(always)]
+pub fn find<H: Halves, C: Cursor>(
+    halves: &H,
+    cache: &mut H::Cache,
+    input: &mut Input<C>,
+    aim: Aim,
+) -> Result<Option<Match>, MatchError>
+    requires cache { H.IsCache halves.now cache.old }
+    ensures cache { H.IsCache halves.now cache.new }
+    ensures keeps { Keeps input.old input.new }
+    ensures found { (hs : List Re) (terminator : ℕ) → AreHalvesOf (H.AreOf halves.now) aim hs terminator
+        → IfOk result (IsAnswerBy aim.kind aim.earliest (search_for aim hs terminator input.old)) }
+    ensures within { IfOk result (λ found. IfSome found (λ m. (low input.old ≤ m.start) × (m.start ≤ m.end) × (m.end ≤ high input.old))) }
+    ensures fault { (hs : List Re) (terminator : ℕ) → AreHalvesOf (H.AreOf halves.now) aim hs terminator
+        → IfErr result (IsFault hs (search_for aim hs terminator input.old) (H.GivesUp halves.now cache.old cache.new (cost input.old))) }
+    ensures spends { H.Spends halves.now cache.old cache.new (cost input.old) }
+{
+    let Some(end) = seek_end(halves, cache, input, aim)? else {
+        return Ok(None);
+    };
+    let Some(start) = seek_start(halves, cache, input, aim, end)? else {
+        return Ok(None);
+    };
+    let pattern = id_of(start.pattern, end.at)?;
+    let span = Span {
+        start: start.at,
+        end: end.at,
+    };
+    Ok(Some(Match::new(pattern, span)))
+}
+
+/// The end of the match that `find` finds, and its pattern; where each match counts, the number of a pattern that has a match with this end.
+/// It searches forwards alone. An `Err` comes as for `find`.
+pub fn find_end<H: Halves, C: Cursor>(
+    halves: &H,
+    cache: &mut H::Cache,
+    input: &mut Input<C>,
+    aim: Aim,
+) -> Result<Option<HalfMatch>, MatchError>
+    requires cache { H.IsCache halves.now cache.old }
+    ensures cache { H.IsCache halves.now cache.new }
+    ensures keeps { Keeps input.old input.new }
+    ensures found { (hs : List Re) (terminator : ℕ) → AreHalvesOf (H.AreOf halves.now) aim hs terminator
+        → IfOk result (IsForwardHalf aim.kind aim.earliest (search_for aim hs terminator input.old)) }
+    ensures within { IfOk result (λ found. IfSome found (λ half. (low input.old ≤ half.offset) × (half.offset ≤ high input.old))) }
+    ensures fault { (hs : List Re) (terminator : ℕ) → AreHalvesOf (H.AreOf halves.now) aim hs terminator
+        → IfErr result (IsFault hs (search_for aim hs terminator input.old) (H.GivesUp halves.now cache.old cache.new (cost input.old))) }
+    ensures spends { H.Spends halves.now cache.old cache.new (cost input.old) }
+{
+    let Some(end) = seek_end(halves, cache, input, aim)? else {
+        return Ok(None);
+    };
+    let pattern = id_of(end.pattern, end.at)?;
+    Ok(Some(HalfMatch::new(pattern, end.at)))
+}
+
+/// The least start from which a match leads to where the search ends, and the first pattern of which one does; with `earliest` some such
+/// start. None where matches are passed over that end off a boundary and the search ends off one. It searches backwards alone, from there down
+/// to where the search begins. An `Err` comes as for `find`.
+pub fn find_start<H: Halves, C: Cursor>(
+    halves: &H,
+    cache: &mut H::Cache,
+    input: &mut Input<C>,
+    aim: Aim,
+) -> Result<Option<HalfMatch>, MatchError>
+    requires cache { H.IsCache halves.now cache.old }
+    ensures cache { H.IsCache halves.now cache.new }
+    ensures keeps { Keeps input.old input.new }
+    ensures found { (hs : List Re) (terminator : ℕ) → AreHalvesOf (H.AreOf halves.now) aim hs terminator
+        → IfOk result (IsReverseHalf aim.earliest (search_for aim hs terminator input.old)) }
+    ensures within { IfOk result (λ found. IfSome found (λ half. (low input.old ≤ half.offset) × (half.offset ≤ high input.old))) }
+    ensures fault { (hs : List Re) (terminator : ℕ) → AreHalvesOf (H.AreOf halves.now) aim hs terminator
+        → IfErr result (IsFault hs (search_for aim hs terminator input.old) (H.GivesUp halves.now cache.old cache.new (cost input.old))) }
+    ensures spends { H.Spends halves.now cache.old cache.new (cost input.old) }
+{
+    let Some(Bounds { low, high }) = bounds_of(input, aim) else {
+        return Ok(None);
+    };
+    if !is_allowed(input, aim, high) {
+        return Ok(None);
+    }
+    let Some(met) = run_backwards(halves, cache, input, aim, low, high)? else {
+        return Ok(None);
+    };
+    let offset = met.at.max(low).min(high);
+    let pattern = id_of(met.pattern, offset)?;
+    Ok(Some(HalfMatch::new(pattern, offset)))
+}
+
+/// The match from the start that `find_start` tells to where the search ends, of the pattern that it tells. Where each match ends there, and
+/// the search isn't anchored, it is the preferred one, and the longest one. It searches backwards alone. An `Err` comes as for `find`.
+pub fn find_to_end<H: Halves, C: Cursor>(
+    halves: &H,
+    cache: &mut H::Cache,
+    input: &mut Input<C>,
+    aim: Aim,
+) -> Result<Option<Match>, MatchError>
+    requires cache { H.IsCache halves.now cache.old }
+    ensures cache { H.IsCache halves.now cache.new }
+    ensures keeps { Keeps input.old input.new }
+    ensures found { (hs : List Re) (terminator : ℕ) → AreHalvesOf (H.AreOf halves.now) aim hs terminator
+        → IfOk result (IsMatchToEnd aim.earliest (search_for aim hs terminator input.old)) }
+    ensures within { IfOk result (λ found. IfSome found (λ m. (low input.old ≤ m.start) × (m.start ≤ m.end) × (m.end ≤ high input.old))) }
+    ensures fault { (hs : List Re) (terminator : ℕ) → AreHalvesOf (H.AreOf halves.now) aim hs terminator
+        → IfErr result (IsFault hs (search_for aim hs terminator input.old) (H.GivesUp halves.now cache.old cache.new (cost input.old))) }
+    ensures spends { H.Spends halves.now cache.old cache.new (cost input.old) }
+{
+    let Some(half) = find_start(halves, cache, input, aim)? else {
+        return Ok(None);
+    };
+    let span = Span {
+        start: half.offset(),
+        end: high(input),
+    };
+    Ok(Some(Match::new(half.pattern(), span)))
+}

@@ -1,5 +1,0 @@
-use Rattle.rc_engine.proofs.Listed.{left_law}
-use Rattle.rc_engine.proofs.laws.lists_go_on.Goals as goal
-
-pub returns : goal.returns
-returns c = left_law

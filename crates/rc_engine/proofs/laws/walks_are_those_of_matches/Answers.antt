@@ -1,5 +1,0 @@
-use Rattle.rc_engine.proofs.Walked.{walks_law}
-use Rattle.rc_engine.proofs.laws.walks_are_those_of_matches.Goals as goal
-
-pub returns : goal.returns
-returns c = walks_law

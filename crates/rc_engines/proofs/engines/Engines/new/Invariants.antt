@@ -1,4 +1,0 @@
-use Rattle.rc_engines.proofs.engines.Engines.new.Given as goal
-
-abbrev pub ghost-tables_of : goal.ghost-tables_of
-ghost-tables_of g a = g.hs

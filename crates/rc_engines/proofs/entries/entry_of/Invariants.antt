@@ -1,5 +1,0 @@
-use Rattle.rc_engines.proofs.EntryLemmas.{IsAt}
-use Rattle.rc_engines.proofs.entries.entry_of.Given as goal
-
-abbrev pub invariant-choices : goal.invariant-choices
-invariant-choices l = IsAt l.program l.pattern l._before l.choice

@@ -1,8 +1,0 @@
-use Rattle.std.proofs.Common.{map, take}
-use Rattle.std.specs.Prelude.{All}
-use Rattle.rc_pattern.specs.Meaning.{meaning}
-use Rattle.rc_engines.specs.Spans.{Bounds}
-use Rattle.rc_engines.proofs.spans.Spans.of.Given as goal
-
-abbrev pub invariant-loop-hir : goal.invariant-loop-hir
-invariant-loop-hir l = All (Bounds l.spans) (map meaning (take l.hir-index l.hirs))

@@ -1,6 +1,0 @@
-use Rattle.std.proofs.Common.{ℕ, ◌<◌}
-use Rattle.rc_patterns.specs.Sets.{Has}
-use Rattle.rc_engines.proofs.which.has_all.Given as goal
-
-abbrev pub invariant-loop-number : goal.invariant-loop-number
-invariant-loop-number l = (p : ℕ) → p < l.number → Has l.set p

@@ -1,5 +1,0 @@
-use Rattle.rc_guards.proofs.ConfineLemmas.{need_law}
-use Rattle.rc_guards.proofs.laws.needles_confine.Goals as goal
-
-pub returns : goal.returns
-returns c = need_law

@@ -1,9 +1,0 @@
-use Rattle.std.proofs.Common.{map, sym}
-use Rattle.rc_pattern.specs.Meaning.{meaning}
-use Rattle.rc_literal.specs.Tables.{needles_in}
-use Rattle.rc_guards.proofs.RequiredLemmas.{all_held}
-use Rattle.rc_guards.proofs.required.required.Goals as goal
-
-pub returns-clause-holds : goal.returns-clause-holds
-returns-clause-holds c =
-    all_held c.args.longer (map meaning c.args.hirs.now) (needles_in c.in-Some.needles.items) (sym (rw c.in-Some.is at c.in_ok-needles.ensures))

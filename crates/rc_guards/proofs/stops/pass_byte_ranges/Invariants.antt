@@ -1,5 +1,0 @@
-use Rattle.rc_guards.proofs.LeaveLemmas.{IsLeft, range_reads}
-use Rattle.rc_guards.proofs.stops.pass_byte_ranges.Given as goal
-
-abbrev pub invariant-loop-range : goal.invariant-loop-range
-invariant-loop-range l = IsLeft range_reads l.initial.table l.table l.ranges l.range-index

@@ -1,5 +1,0 @@
-pub mod Guard
-pub mod Laws
-pub mod Needs
-pub mod Required
-pub mod Stops

@@ -1,8 +1,0 @@
-use Rattle.std.proofs.Common.{map}
-use Rattle.rc_pattern.specs.Meaning.{meaning}
-use Rattle.rc_settings.specs.Thompson.{settings_of}
-use Rattle.rc_build.specs.Fits.{sought_by}
-use Rattle.rc_hybrid.proofs.builder.Builder.build_many_from_hir.Given as goal
-
-abbrev pub ghost-lazy_of : goal.ghost-lazy_of
-ghost-lazy_of a = sought_by (settings_of a.settings) (map meaning a.hirs.now)

@@ -1,4 +1,0 @@
-use Rattle.rc_lazy.proofs.half.Half.name.Given as goal
-
-abbrev pub ghost-name : goal.ghost-name
-ghost-name g a = g.f

@@ -1,0 +1,143 @@
+-- Searches by a table that grows: where they stand, and how they end.
+use Rattle.std.specs.Prelude.{◌≡◌, ℕ, ◌+◌, ◌-◌, ◌≤◌, Bool, true, false, List, Option, Some, None}
+use Rattle.rc_text.specs.declared.types.Anchored.{Anchored}
+use Rattle.rc_text.specs.Text.{Searched}
+use Rattle.rc_program.specs.Text.{Text}
+use Rattle.rc_program.specs.Sought.{text_of}
+use Rattle.rc_determinize.specs.States.{State}
+use Rattle.rc_dfa.specs.Machine.{Machine, Begins}
+use Rattle.rc_dfa.specs.Runs.{MayRead, ahead_at, behind_at, Runs, RunsDown, met_last, SearchEnds, SearchEndsDown}
+use Rattle.rc_dfa.specs.Ended.{HasEnded, HasEndedDown, gave_up}
+use Rattle.rc_dfa.specs.declared.ended.Ended.{Ended}
+use Rattle.rc_lazy_dfa.specs.Stores.{Frame, IsRow, IsShort, Spends}
+use Rattle.rc_lazy_dfa.specs.Halves.{IsHalf}
+use Rattle.rc_lazy_dfa.specs.declared.store.Store.{Store}
+use Rattle.rc_lazy_dfa.specs.declared.half.Half.{Half}
+use Rattle.rc_lazy_dfa.specs.declared.run.Stand.{Stand}
+use Rattle.rc_lazy_dfa.specs.declared.run.Leg.{Leg}
+use Rattle.rc_lazy_dfa.specs.declared.run.Leg.TheVariants.{Through, Over}
+
+-- what was met last: by the way to the row that is noted, or else before
+abbrev pub IsNoted : ℕ → List State → Option (ℕ × ℕ) → Option (ℕ × ℕ) → Option (ℕ × ℕ) → Type 0
+IsNoted width states None before met = met ≡ before
+IsNoted width states (Some n) before met = (s : State) × (k : ℕ) × IsRow width states n.0 s × (s.stop ≡ Some k) × (met ≡ Some (k, n.1))
+
+-- A search, of which the code holds only a part at a time: by which machine, with which table at its beginning, over what, from which position
+-- up to or down to which bound, and how.
+pub record Course : Type 0 where
+  pub frame : Frame
+  pub begun : Store
+  pub seen : Searched
+  pub from : ℕ
+  pub bound : ℕ
+  pub anchored : Anchored
+  pub earliest : Bool
+  pub may_rest : Bool
+
+abbrev pub text_in : Course → Text
+text_in q = text_of q.frame.machine.setting.terminator q.seen
+
+-- FORWARDS
+
+-- From a state in which the search begins the bytes up to the position lead to this state, and this was met last.
+pub record IsStanding (q : Course) (i : ℕ) (s : State) (met : Option (ℕ × ℕ)) : Type 0 where
+  pub first : State
+  pub read : MayRead q.frame.machine (behind_at (text_in q) q.from)
+  pub begins : Begins q.frame.machine q.anchored (behind_at (text_in q) q.from) first
+  pub runs : Runs q.frame.machine (text_in q) q.bound q.from first i s met
+
+-- it stands in the row
+pub record StandsAt (q : Course) (t : Store) (i : ℕ) (stand : Stand) : Type 0 where
+  pub state : State
+  pub in_row : IsRow q.frame.width t.states stand.row state
+  pub standing : IsStanding q i state stand.met
+
+-- the same, with what was met last noted by a row
+pub record StandsNoted (q : Course) (t : Store) (i row : ℕ) (noted before : Option (ℕ × ℕ)) : Type 0 where
+  pub state : State
+  pub in_row : IsRow q.frame.width t.states row state
+  pub found : Option (ℕ × ℕ)
+  pub tells : IsNoted q.frame.width t.states noted before found
+  pub standing : IsStanding q i state found
+
+-- the states that a search adds: at most one where it begins, one for each byte and one at the end
+abbrev pub all_spent : Course → ℕ
+all_spent q = q.bound - q.from + 2
+
+-- why the search was given up: memory was refused, or the table was cleared three times and may have been short
+abbrev pub MayGiveUp : Frame → Store → Store → ℕ → Bool → Type 0
+MayGiveUp f old new n true = Unit {0}
+MayGiveUp f old new n false = (3 ≤ new.clears) × IsShort f old n
+
+pub record IsAt (q : Course) (h : Half) (i : ℕ) (stand : Stand) : Type 0 where
+  pub half : IsHalf q.frame h
+  pub low : q.from ≤ i
+  pub spends : Spends q.frame q.begun h.store (i - q.from + 1)
+  pub stands : StandsAt q h.store i stand
+
+pub record IsOver (q : Course) (h : Half) (e : Ended) : Type 0 where
+  pub half : IsHalf q.frame h
+  pub spends : Spends q.frame q.begun h.store (all_spent q)
+  pub ended : HasEnded q.frame.machine (text_in q) q.bound q.from q.anchored q.earliest q.may_rest e
+  pub gives_up : (memory : Bool) → gave_up e ≡ Some memory → MayGiveUp q.frame q.begun h.store (all_spent q) memory
+
+abbrev pub IsLeg : Course → Half → ℕ → Leg → Type 0
+IsLeg q h i (Through s) = IsAt q h i s
+IsLeg q h i (Over e) = IsOver q h e
+
+-- what is said of a search that met this last
+pub record SaysMet (m : Machine) (met : Option (ℕ × ℕ)) (e : Ended) : Type 0 where
+  pub done : gave_up e ≡ None
+  pub says : (t : Text) (hi from : ℕ) (anchored : Anchored) (earliest may_rest : Bool) →
+      SearchEnds m t hi from anchored earliest (met_last met) → HasEnded m t hi from anchored earliest may_rest e
+
+-- BACKWARDS
+
+-- the position first
+abbrev pub swapped : Option (ℕ × ℕ) → Option (ℕ × ℕ)
+swapped None = None
+swapped (Some n) = Some (n.1, n.0)
+
+-- The same on the way down: the search begins at `from`, as the byte there tells.
+pub record IsStandingDown (q : Course) (i : ℕ) (s : State) (met : Option (ℕ × ℕ)) : Type 0 where
+  pub first : State
+  pub read : MayRead q.frame.machine (ahead_at (text_in q) q.from)
+  pub begins : Begins q.frame.machine q.anchored (ahead_at (text_in q) q.from) first
+  pub runs : RunsDown q.frame.machine (text_in q) q.bound q.from first i s (swapped met)
+
+pub record StandsDown (q : Course) (t : Store) (i : ℕ) (stand : Stand) : Type 0 where
+  pub state : State
+  pub in_row : IsRow q.frame.width t.states stand.row state
+  pub standing : IsStandingDown q i state stand.met
+
+pub record StandsNotedDown (q : Course) (t : Store) (i row : ℕ) (noted before : Option (ℕ × ℕ)) : Type 0 where
+  pub state : State
+  pub in_row : IsRow q.frame.width t.states row state
+  pub found : Option (ℕ × ℕ)
+  pub tells : IsNoted q.frame.width t.states noted before found
+  pub standing : IsStandingDown q i state found
+
+abbrev pub down_spent : Course → ℕ
+down_spent q = q.from - q.bound + 2
+
+pub record IsAtDown (q : Course) (h : Half) (i : ℕ) (stand : Stand) : Type 0 where
+  pub half : IsHalf q.frame h
+  pub high : i ≤ q.from
+  pub spends : Spends q.frame q.begun h.store (q.from - i + 1)
+  pub stands : StandsDown q h.store i stand
+
+pub record IsOverDown (q : Course) (h : Half) (e : Ended) : Type 0 where
+  pub half : IsHalf q.frame h
+  pub spends : Spends q.frame q.begun h.store (down_spent q)
+  pub ended : HasEndedDown q.frame.machine (text_in q) q.bound q.from q.anchored q.earliest e
+  pub gives_up : (memory : Bool) → gave_up e ≡ Some memory → MayGiveUp q.frame q.begun h.store (down_spent q) memory
+
+abbrev pub IsLegDown : Course → Half → ℕ → Leg → Type 0
+IsLegDown q h i (Through s) = IsAtDown q h i s
+IsLegDown q h i (Over e) = IsOverDown q h e
+
+-- what is said of a search that met this last
+pub record SaysLeast (met : Option (ℕ × ℕ)) (e : Ended) : Type 0 where
+  pub done : gave_up e ≡ None
+  pub says : (m : Machine) (t : Text) (lo end : ℕ) (anchored : Anchored) (earliest : Bool) →
+      SearchEndsDown m t lo end anchored earliest (met_last (swapped met)) → HasEndedDown m t lo end anchored earliest e

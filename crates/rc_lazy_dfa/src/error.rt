@@ -1,0 +1,46 @@
+//! Why there is no table, and why a search is given up.
+ghost use Rattle.std.specs.Prelude.{◌≡◌};
+ghost use Rattle.rc_lazy_dfa.specs.Errors.{is_memory};
+
+use std::alloc::AllocError;
+
+/// Why there are no tables.
+#[derive(Clone, Copy, Debug, PartialEq, Eq)]
+pub enum LazyError {
+    /// No memory could hold them.
+    Memory,
+    /// The capacity is too small: the least that serves, and what was given, in bytes.
+    TooSmall { minimum: usize, given: usize },
+}
+
+/// Why a state isn't added.
+#[derive(Clone, Copy)]
+pub(crate) enum Refusal {
+    /// Memory is wanting.
+    Memory,
+    /// The table is full again, and too little was read since it was cleared.
+    Short,
+}
+
+impl Refusal {
+    /// Whether memory is wanting.
+    pub(crate) fn is_memory(self) -> bool
+        ensures { result ≡ is_memory self }
+    {
+        match self {
+            Refusal::Memory => true,
+            Refusal::Short => false,
+        }
+    }
+}
+
+impl From<AllocError> for Refusal {
+    ghost use Rattle.std.specs.Prelude.{◌≡◌};
+    ghost use Rattle.rc_lazy_dfa.specs.declared.error.Refusal.TheVariants.{Memory};
+
+    ghost from_gives = { λ _ e. e ≡ Memory };
+
+    fn from(_: AllocError) -> Refusal {
+        Refusal::Memory
+    }
+}

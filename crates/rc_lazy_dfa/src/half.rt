@@ -1,0 +1,216 @@
+//! A table of states in one direction, with what makes the steps from one state to the next.
+ghost use Rattle.std.specs.Prelude.{◌≡◌, ◌<◌, ◌≤◌, length, IfOk, IfErr, MatchOption, []};
+ghost use Rattle.rc_determinize.specs.Places.{state_of};
+ghost use Rattle.rc_determinize.specs.States as states;
+ghost use Rattle.rc_dfa.specs.Machine.{IsAsked, Leads, Begins};
+ghost use Rattle.rc_lazy_dfa.specs.Stores.{Frame, frame_of, Spends, IsRefused, IsRow, IsKnown, minimum_of, starts_in};
+ghost use Rattle.rc_lazy_dfa.specs.Halves.{IsHalf, IsFresh, IsPlace, IsByte};
+ghost use Rattle.rc_dfa.specs.Laws.{IsWithin};
+ghost use Rattle.rc_lazy_dfa.specs.Moves.{IsNamed};
+
+use crate::cells::{QUIT, UNKNOWN, column, mode};
+use crate::error::Refusal;
+use crate::store::{Named, Store};
+use rc_determinize::scratch::Scratch;
+use rc_determinize::sides::Seen;
+use rc_determinize::state::State;
+use rc_dfa::automaton::{Automaton, Direction};
+use rc_dfa::states::States;
+use rc_text::types::Anchored;
+use std::alloc::{AllocError, Global};
+
+/// A table of states in one direction, with what makes the steps.
+#[derive(Drop)]
+pub(crate) struct Half {
+    pub store: Store,
+    pub scratch: Scratch,
+    /// The state that was made last.
+    pub to: State,
+    /// How many bytes were read since all states were let go last.
+    pub served: usize,
+}
+
+/// A state of no places.
+fn no_places(alloc: Global) -> State {
+    State {
+        list: Vec::new(alloc),
+        beside: Seen {
+            edge: false,
+            terminator: false,
+            line_feed: false,
+            carriage_return: false,
+            word: false,
+        },
+        goes_on: false,
+        stop: None,
+    }
+}
+
+/// How many starts there are: for each way of anchoring, and for each class of the byte beside and the end. None where no number tells it.
+pub(crate) fn starts_in(automaton: &Automaton, direction: Direction, width: usize) -> Option<usize>
+    requires { width ≡ (frame_of automaton.now direction).width }
+    ensures { MatchOption result (usize.MAX < starts_in (frame_of automaton.now direction)) (λ n. n ≡ starts_in (frame_of automaton.now direction)) }
+{
+    let Some(ways) = automaton.pattern_len().checked_add(2) else {
+        return None;
+    };
+    ways.checked_mul(width)
+}
+
+impl Half {
+    /// No states yet, with this capacity in bytes. An `Err` is want of memory.
+    pub(crate) fn new(
+        alloc: Global,
+        automaton: &Automaton,
+        direction: Direction,
+        capacity: usize,
+    ) -> Result<Half, AllocError>
+        requires { minimum_of (frame_of automaton.now direction) ≤ capacity }
+        ensures made { IfOk result (IsHalf (frame_of automaton.now direction)) }
+        ensures fresh { IfOk result (IsFresh capacity) }
+    {
+        let _classes = automaton.classes();
+        let width = automaton.samples().len() + 1;
+        let Some(len) = starts_in(automaton, direction, width) else {
+            return Err(AllocError);
+        };
+        let starts = vec![in alloc; UNKNOWN; len]?;
+        let scratch = automaton.create_scratch(alloc)?;
+        let store = Store {
+            states: States::new(alloc),
+            cells: Vec::new(alloc),
+            starts,
+            width,
+            capacity,
+            used: 24 * width + 8 * len + 96,
+            clears: 0,
+        };
+        Ok(Half {
+            store,
+            scratch,
+            to: no_places(alloc),
+            served: 0,
+        })
+    }
+
+    /// So many bytes were read.
+    #[inline(always)]
+    pub(crate) fn serve(&mut self, bytes: usize)
+        ensures store { self.new.store ≡ self.old.store }
+        ensures scratch { self.new.scratch ≡ self.old.scratch }
+    {
+        self.served = self.served.saturating_add(bytes);
+    }
+
+    /// Makes the state to which a byte leads from the state of the row, or the end.
+    fn lead(
+        &mut self,
+        automaton: &Automaton,
+        direction: Direction,
+        row: usize,
+        beside: Option<u8>,
+    ) -> Result<(), AllocError>
+        ghost f: { Frame }
+        requires same { frame_of automaton.now direction ≡ f }
+        requires half { IsHalf f self.old }
+        requires row { IsPlace f self.old.store row }
+        ensures half { IsHalf f self.new }
+        ensures store { self.new.store ≡ self.old.store }
+        ensures leads { IfOk result (λ _. (s : states.State) → IsRow f.width self.old.store.states row s → Leads f.machine s beside (state_of self.new.to)) }
+    {
+        let from = self.store.states.get(row / self.store.width);
+        automaton.step(direction, &mut self.scratch, from, beside, &mut self.to)?;
+        Ok(())
+    }
+
+    /// The cell that leads to the state that was made last. The state is added where it isn't there.
+    fn name(&mut self) -> Result<Named, Refusal>
+        ghost f: { Frame }
+        requires half { IsHalf f self.old }
+        requires within { IsWithin f.machine (state_of self.old.to) }
+        ensures half { IsHalf f self.new }
+        ensures spends { Spends f self.old.store self.new.store 1 }
+        ensures named { IfOk result (IsNamed f self.old.store self.new.store (state_of self.old.to)) }
+        ensures refused { IfErr result (IsRefused f self.old.store self.new.store) }
+    {
+        let named = self.store.name(&self.to, self.served)?;
+        if !named.kept {
+            self.served = 0;
+        }
+        Ok(named)
+    }
+
+    /// The cell of a row and a byte, or of the end. Where it isn't known, the step is made, and it is known from then on.
+    #[inline(always)]
+    pub(crate) fn next(
+        &mut self,
+        automaton: &Automaton,
+        direction: Direction,
+        row: usize,
+        beside: Option<u8>,
+    ) -> Result<usize, Refusal>
+        ghost f: { Frame }
+        requires same { frame_of automaton.now direction ≡ f }
+        requires half { IsHalf f self.old }
+        requires row { IsPlace f self.old.store row }
+        requires byte { IsByte beside }
+        ensures half { IsHalf f self.new }
+        ensures spends { Spends f self.old.store self.new.store 1 }
+        ensures leads { IfOk result (λ cell. (s : states.State) → IsRow f.width self.old.store.states row s → IsKnown f self.new.store.states beside (Leads f.machine s beside) cell) }
+        ensures refused { IfErr result (IsRefused f self.old.store self.new.store) }
+    {
+        let column = column(automaton.classes(), self.store.width, beside);
+        let known = self.store.cells[row + column];
+        if known != UNKNOWN {
+            return Ok(known);
+        }
+        if !automaton.may_read(beside) {
+            self.store.write(row, column, QUIT);
+            return Ok(QUIT);
+        }
+        self.lead(automaton, direction, row, beside)?;
+        let named = self.name()?;
+        if named.kept {
+            self.store.write(row, column, named.cell);
+        }
+        Ok(named.cell)
+    }
+
+    /// The cell in which a search begins that is anchored so, where this byte stands beside, or none. Where it isn't known, the state is made,
+    /// and it is known from then on.
+    #[inline(always)]
+    pub(crate) fn begin(
+        &mut self,
+        automaton: &Automaton,
+        direction: Direction,
+        anchored: &Anchored,
+        beside: Option<u8>,
+    ) -> Result<usize, Refusal>
+        ghost f: { Frame }
+        requires same { frame_of automaton.now direction ≡ f }
+        requires half { IsHalf f self.old }
+        requires asked { IsAsked f.machine anchored.now }
+        requires byte { IsByte beside }
+        ensures half { IsHalf f self.new }
+        ensures spends { Spends f self.old.store self.new.store 1 }
+        ensures begins { IfOk result (IsKnown f self.new.store.states beside (Begins f.machine anchored.now beside)) }
+        ensures refused { IfErr result (IsRefused f self.old.store self.new.store) }
+    {
+        let column = column(automaton.classes(), self.store.width, beside);
+        let mode = mode(*anchored);
+        let known = self.store.starts[mode * self.store.width + column];
+        if known != UNKNOWN {
+            return Ok(known);
+        }
+        if !automaton.may_read(beside) {
+            self.store.write_start(mode, column, QUIT);
+            return Ok(QUIT);
+        }
+        automaton.begin(direction, *anchored, beside, &mut self.to)?;
+        let named = self.name()?;
+        if named.kept {
+            self.store.write_start(mode, column, named.cell);
+        }
+        Ok(named.cell)
+    }
+}

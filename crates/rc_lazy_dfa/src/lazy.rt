@@ -1,0 +1,225 @@
+//! Searches by tables of states that are made as they are met.
+ghost use Rattle.std.specs.Prelude.{◌≡◌, ◌≤◌, ◌<◌, ◌↔◌, IsTrue, MatchOption};
+ghost use Rattle.rc_dfa.specs.declared.automaton.Direction.TheVariants as direction;
+ghost use Rattle.rc_dfa.specs.Automata.{machine_of};
+ghost use Rattle.rc_dfa.specs.Machine.{IsAsked};
+ghost use Rattle.rc_lazy_dfa.specs.Stores.{frame_of, minimum_of};
+
+use crate::error::LazyError;
+use crate::half::{Half, starts_in};
+use crate::{backward, forward};
+use rc_dfa::automaton::{Automaton, Direction};
+use rc_dfa::ended::Ended;
+use rc_dfa::halves::Halves;
+use rc_text::cursor::Cursor;
+use rc_text::input::Input;
+use rc_text::types::Anchored;
+use std::alloc::{AllocError, Global};
+
+/// What searches by an automaton are made of whose states are found as they are met. The states themselves are in a `Cache`.
+#[derive(Drop)]
+pub struct Lazy {
+    automaton: Automaton,
+    capacity: usize,
+    minimum: usize,
+    ghost least: { minimum ≡ minimum_of (frame_of automaton direction.Forwards) },
+    ghost roomy: { minimum ≤ capacity },
+}
+
+/// The states that searches met so far, with what is known of their steps: a table for each direction.
+#[derive(Drop)]
+pub struct Cache {
+    forward: Half,
+    reverse: Half,
+    alloc: Global,
+}
+
+/// The least capacity that serves, in bytes; None where no number tells it.
+fn minimum(automaton: &Automaton) -> Option<usize>
+    ensures { MatchOption result (usize.MAX < minimum_of (frame_of automaton.now direction.Forwards)) (λ n. n ≡ minimum_of (frame_of automaton.now direction.Forwards)) }
+{
+    let width = automaton.samples().len() + 1;
+    let starts = starts_in(automaton, Direction::Forwards, width)?;
+    let rows = 40 * width as u128 + 8 * starts as u128;
+    let bytes = rows + 160 + 40 * automaton.longest_list(Direction::Forwards) as u128;
+    if bytes > usize::MAX as u128 {
+        return None;
+    }
+    Some(bytes as usize)
+}
+
+/// Whether searches may be anchored so: the pattern that is asked for, if any, is there.
+fn is_asked(automaton: &Automaton, anchored: &Anchored) -> bool
+    ensures { (d : direction.the_data) → IsTrue result ↔ IsAsked (machine_of automaton.now d) anchored.now }
+{
+    match anchored {
+        Anchored::Pattern(pattern) => pattern.as_usize() < automaton.pattern_len(),
+        _ => true,
+    }
+}
+
+impl Lazy {
+    ghost use Rattle.std.specs.Prelude.{◌≡◌, IfOk, IfErr};
+    ghost use Rattle.rc_lazy_dfa.specs.Caches.{IsCacheOf, IsFreshCache, IsLazyOf, IsNone, least_of};
+
+    /// What searches by this automaton are made of, with so many bytes for the states of each direction. The error `TooSmall` comes where the
+    /// capacity is less than the least that serves, and `Memory` where that is more than any number tells.
+    pub fn new(automaton: Automaton, capacity: usize) -> Result<Lazy, LazyError>
+        ensures made { IfOk result (IsLazyOf automaton capacity) }
+        ensures refused { IfErr result (IsNone automaton capacity) }
+    {
+        let Some(minimum) = minimum(&automaton) else {
+            return Err(LazyError::Memory);
+        };
+        if capacity < minimum {
+            return Err(LazyError::TooSmall {
+                minimum,
+                given: capacity,
+            });
+        }
+        Ok(Lazy {
+            automaton,
+            capacity,
+            minimum,
+        })
+    }
+
+    /// The least capacity that serves, in bytes.
+    pub fn minimum_capacity(&self) -> usize
+        ensures { result ≡ least_of self.now.automaton }
+    {
+        self.minimum
+    }
+
+    /// A cache for searches, with no states yet. An `Err` is want of memory.
+    pub fn create_cache(&self, alloc: Global) -> Result<Cache, AllocError>
+        ensures made { IfOk result (IsCacheOf self.now) }
+        ensures fresh { IfOk result IsFreshCache }
+    {
+        let forward = Half::new(alloc, &self.automaton, Direction::Forwards, self.capacity)?;
+        let reverse = Half::new(alloc, &self.automaton, Direction::Backwards, self.capacity)?;
+        Ok(Cache {
+            forward,
+            reverse,
+            alloc,
+        })
+    }
+}
+
+impl Cache {
+    ghost use Rattle.std.specs.Prelude.{◌≡◌, IfOk, IfErr, min};
+    ghost use Rattle.rc_lazy_dfa.specs.Caches.{IsCacheOf, IsFreshCache, capacity_of, clears_of, usage_of};
+
+    /// Makes this a cache for other searches, with no states yet. An `Err` is want of memory, and then the cache stays as it was.
+    pub fn reset(&mut self, lazy: &Lazy) -> Result<(), AllocError>
+        ensures made { IfOk result (λ _. IsCacheOf lazy.now self.new) }
+        ensures fresh { IfOk result (λ _. IsFreshCache self.new) }
+        ensures refused { IfErr result (λ _. self.new ≡ self.old) }
+    {
+        let fresh = lazy.create_cache(self.alloc)?;
+        *self = fresh;
+        Ok(())
+    }
+
+    /// How many bytes hold the states of both directions, or the greatest number where that is more.
+    pub fn memory_usage(&self) -> usize
+        ensures { result ≡ min (usage_of self.now) usize.MAX }
+    {
+        self.forward
+            .store
+            .used
+            .saturating_add(self.reverse.store.used)
+    }
+
+    /// So many bytes may hold the states of each direction.
+    pub fn capacity(&self) -> usize
+        ensures { result ≡ capacity_of self.now }
+    {
+        self.forward.store.capacity
+    }
+
+    /// How often all states of a direction were let go since the cache was made or reset: the greater of the two counts. A count stays at the greatest
+    /// number once there.
+    pub fn clear_count(&self) -> usize
+        ensures { result ≡ clears_of self.now }
+    {
+        self.forward.store.clears.max(self.reverse.store.clears)
+    }
+}
+
+impl Halves for Lazy {
+    ghost use Rattle.rc_lazy_dfa.specs.Caches.{AreHalves, IsCacheOf, MayGiveUpEither, SpendsBoth};
+    ghost use Rattle.rc_lazy_dfa.specs.CacheLaws.{nothing_spent, both_spent, given_up_later, given_up_within, spent_within};
+
+    type Cache = Cache;
+
+    ghost AreOf = { AreHalves };
+
+    ghost IsCache = { IsCacheOf };
+
+    ghost Spends = { SpendsBoth };
+
+    ghost GivesUp = { MayGiveUpEither };
+
+    #[inline(always)]
+    fn run_forwards<C: Cursor>(
+        &self,
+        cache: &mut Cache,
+        input: &mut Input<C>,
+        anchored: Anchored,
+        from: usize,
+        earliest: bool,
+        may_rest: bool,
+        rest_from: usize,
+    ) -> Ended {
+        let automaton = &self.automaton;
+        if !is_asked(automaton, &anchored) {
+            return Ended::Found(None);
+        }
+        forward::run_forwards(
+            automaton,
+            &mut cache.forward,
+            input,
+            &anchored,
+            from,
+            earliest,
+            may_rest,
+            rest_from,
+        )
+    }
+
+    #[inline(always)]
+    fn run_backwards<C: Cursor>(
+        &self,
+        cache: &mut Cache,
+        input: &mut Input<C>,
+        anchored: Anchored,
+        from: usize,
+        end: usize,
+        earliest: bool,
+    ) -> Ended {
+        let automaton = &self.automaton;
+        if !is_asked(automaton, &anchored) {
+            return Ended::Found(None);
+        }
+        backward::run_backwards(
+            automaton,
+            &mut cache.reverse,
+            input,
+            &anchored,
+            from,
+            end,
+            earliest,
+        )
+    }
+
+    ghost spends_nothing = { nothing_spent };
+
+    ghost spends_both = { both_spent };
+
+    ghost gives_up_later = { given_up_later };
+
+    ghost gives_up_within = { given_up_within };
+
+    ghost spends_within = { spent_within };
+}

@@ -1,0 +1,121 @@
+//! Where a search stands, and what is met.
+ghost use Rattle.std.specs.Prelude.{◌≡◌, ℕ, Option};
+ghost use Rattle.rc_determinize.specs.States.{State, best_at};
+ghost use Rattle.rc_lazy_dfa.specs.Stores.{Frame, Held, IsRow, Names};
+ghost use Rattle.rc_dfa.specs.Automata.{machine_of};
+ghost use Rattle.rc_dfa.specs.declared.automaton.Direction.TheVariants.{Forwards};
+ghost use Rattle.rc_lazy_dfa.specs.Courses.{IsNoted, SaysLeast, SaysMet};
+
+use crate::cells::{MET, row_of};
+use crate::store::Store;
+use rc_dfa::automaton::Automaton;
+use rc_dfa::ended::{Ended, Met};
+
+/// Where a search stands between two bytes.
+#[derive(Clone, Copy)]
+pub(crate) struct Stand {
+    /// The row of its state.
+    pub row: usize,
+    /// What was met last, with the position: forwards a match place, and backwards an entry.
+    pub met: Option<(usize, usize)>,
+}
+
+/// Where a run over a piece stands between two bytes.
+#[derive(Clone, Copy)]
+pub(crate) struct Noted {
+    /// The row of its state.
+    pub row: usize,
+    /// The row that tells what was met last on the way, with the position; None where nothing was.
+    pub noted: Option<(usize, usize)>,
+    /// What was met before, with the position.
+    pub before: Option<(usize, usize)>,
+}
+
+/// What became of a search over some bytes.
+#[derive(Clone, Copy)]
+pub(crate) enum Leg {
+    /// It stands behind them.
+    Through(Stand),
+    /// It ended among them.
+    Over(Ended),
+}
+
+/// What was met where the cell leads.
+#[inline(always)]
+pub(crate) fn stop_by(store: &Store, cell: usize) -> Option<usize>
+    ghost f: { Frame }
+    requires held { Held f store.now }
+    ensures { (t : State) → Names f.width store.now.states cell t → result ≡ t.stop }
+{
+    if cell >= MET {
+        return store.stop_at(row_of(cell));
+    }
+    None
+}
+
+/// What was met last, where it was met by the way to the row that is noted, at the position beside it, or else before.
+#[inline(always)]
+pub(crate) fn told(
+    store: &Store,
+    noted: Option<(usize, usize)>,
+    before: Option<(usize, usize)>,
+) -> Option<(usize, usize)>
+    ghost f: { Frame }
+    requires held { Held f store.now }
+    ensures { (met : Option (ℕ × ℕ)) → IsNoted f.width store.now.states noted before met → result ≡ met }
+{
+    match noted {
+        Some((row, at)) => match store.stop_at(row) {
+            Some(stop) => Some((stop, at)),
+            None => before,
+        },
+        None => before,
+    }
+}
+
+/// What is said of a search by what was met last: a match place, with the position.
+#[inline(always)]
+pub(crate) fn found(automaton: &Automaton, met: Option<(usize, usize)>) -> Ended
+    ensures { SaysMet (machine_of automaton.now Forwards) met result }
+{
+    match met {
+        Some((place, at)) => {
+            let pattern = if place < automaton.places_len() {
+                automaton.pattern_at(place)
+            } else {
+                0
+            };
+            Ended::Found(Some(Met { pattern, at }))
+        }
+        None => Ended::Found(None),
+    }
+}
+
+/// What is said of a search backwards by what was met last: an entry, with the position.
+#[inline(always)]
+pub(crate) fn found_down(met: Option<(usize, usize)>) -> Ended
+    ensures { SaysLeast met result }
+{
+    match met {
+        Some((pattern, at)) => Ended::Found(Some(Met { pattern, at })),
+        None => Ended::Found(None),
+    }
+}
+
+/// What was met last, once a cell was read at the position.
+#[inline(always)]
+pub(crate) fn met_by(
+    store: &Store,
+    cell: usize,
+    at: usize,
+    before: Option<(usize, usize)>,
+) -> Option<(usize, usize)>
+    ghost f: { Frame }
+    requires held { Held f store.now }
+    ensures { (t : State) → Names f.width store.now.states cell t → result ≡ best_at at t.stop before }
+{
+    match stop_by(store, cell) {
+        Some(place) => Some((place, at)),
+        None => before,
+    }
+}

@@ -1,5 +1,0 @@
-use Rattle.rc_literal.proofs.AnswerLemmas.{literal_law}
-use Rattle.rc_literal.proofs.laws.literals_are_exact.Goals as goal
-
-pub returns : goal.returns
-returns c = literal_law

@@ -1,5 +1,0 @@
-use Rattle.rc_literal.proofs.StartLemmas.{needle_law}
-use Rattle.rc_literal.proofs.laws.needles_are_first.Goals as goal
-
-pub returns : goal.returns
-returns c = needle_law

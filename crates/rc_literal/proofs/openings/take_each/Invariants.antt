@@ -1,7 +1,0 @@
-use Rattle.std.proofs.Common.{ℕ, ◌<◌}
-use Rattle.rc_literal.specs.Openings.{IsOpened}
-use Rattle.rc_literal.specs.Tables.{needles_in, numbered}
-use Rattle.rc_literal.proofs.openings.take_each.Given as goal
-
-abbrev pub invariant-loop-needle : goal.invariant-loop-needle
-invariant-loop-needle l = (n : ℕ) → n < l.needle-index → IsOpened l.words (numbered (needles_in l.needles) n)

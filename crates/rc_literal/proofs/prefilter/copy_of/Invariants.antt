@@ -1,7 +1,0 @@
-use Rattle.std.proofs.Common.{◌≡◌, take}
-use Rattle.rc_literal.specs.Tables.{needles_in}
-use Rattle.rc_literal.specs.Prefilters.{needles_of}
-use Rattle.rc_literal.proofs.prefilter.copy_of.Given as goal
-
-abbrev pub invariant-loop-needle : goal.invariant-loop-needle
-invariant-loop-needle l = needles_in l.needles.items ≡ take l.needle-index (needles_of l.prefilter)

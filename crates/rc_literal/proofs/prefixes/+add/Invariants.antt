@@ -1,9 +1,0 @@
-use Rattle.rc_pattern.specs.Meaning.{meaning}
-use Rattle.rc_literal.specs.Extraction.{first_bytes}
-use Rattle.rc_literal.specs.Tables.{needles_in}
-use Rattle.rc_literal.proofs.ExtractionLemmas.{IsLeft}
-use Rattle.rc_literal.proofs.prefixes.+add.Given as goal
-
-abbrev pub invariant-add_alternation-loop-sub : goal.invariant-add_alternation-loop-sub
-invariant-add_alternation-loop-sub l =
-    IsLeft (λ h. first_bytes (meaning h)) (needles_in l.initial.list.items) (needles_in l.list.items) l.subs l.sub-index

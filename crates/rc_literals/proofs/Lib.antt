@@ -1,0 +1,15 @@
+pub mod ConfineLemmas
+pub mod GuardLemmas
+pub mod LeaveLemmas
+pub mod ReadLemmas
+pub mod RequiredLemmas
+pub mod RequiredExamples
+pub mod StopExamples
+pub mod ExactLemmas
+pub mod AnswerLemmas
+pub mod KindLemmas
+pub mod CoverLemmas
+pub mod ExtractionLemmas
+pub mod BeginLemmas
+pub mod ExtractionExamples
+pub mod WayLemmas

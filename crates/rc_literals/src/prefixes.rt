@@ -1,0 +1,419 @@
+//! Prefixes with which each text that patterns spell begins.
+ghost use Rattle.std.specs.Prelude.{◌≡◌, ◌+◌, ℕ, ◌∷◌, ◌++◌, [], List, Some, None, true, false, IfOk, IfSome, IfNone, MatchOption, drop, map, option_map, slice_get, unwrap_or};
+ghost use Rattle.std.specs.Bool.{Decides};
+ghost use Rattle.rc_pattern.specs.Meaning.{alt_all, byte_range, cat_all, char_range, class_meaning, meaning};
+ghost use Rattle.rc_pattern.specs.Re.{byte_in, char_in, literal};
+ghost use Rattle.rc_program.specs.Text.{Text};
+ghost use Rattle.rc_literals.specs.Extraction.{Extends, begun_by, crossed, first_bytes, has_short, is_still, lengthened, may_cross, range_bytes, range_chars, spelled_bytes, whole_bytes};
+ghost use Rattle.rc_literals.specs.Literals.{Covers};
+ghost use Rattle.rc_needles.specs.Prefilters.{needles_of};
+ghost use Rattle.rc_literals.specs.Prefixes.{ArePrefixes, BeginsWithOne, EachBegins};
+ghost use Rattle.rc_needles.specs.Tables.{IsUsable, needles_in};
+
+use rc_needles::prefilter::{Prefilter, is_usable};
+use rc_pattern::hir::{Class, ClassBytesRange, ClassUnicodeRange, Hir, HirKind};
+use std::alloc::{AllocError, Global};
+
+/// How many prefixes are kept at most.
+const GREATEST_COUNT: usize = 64;
+
+/// How many bytes of a literal are kept at most.
+const GREATEST_LENGTH: usize = 32;
+
+/// Needles that are shorter are lengthened by what is read behind them.
+const SHORT_LENGTH: usize = 3;
+
+/// How many needles lengthening makes at most.
+const GREATEST_VARIANTS: usize = 32;
+
+/// Prefixes with one of which each text begins that one of the patterns spells, none of them empty.
+///
+/// They are what may be read first: a literal, of which at most 32 bytes are taken, or each byte or
+/// character of a class. Where one of these has fewer than 3 bytes, they are lengthened by the literals and
+/// classes behind it, in groups and alternations too, one after another, as long as that makes no more than
+/// 32 of them. None where in some pattern a body that may be left out, or nothing but
+/// assertions, is read first, where there are more than 64, and where there is none. An `Err` is want
+/// of memory. It takes time linear in the patterns' size, and calls itself as deep as a pattern is.
+pub fn prefixes(alloc: Global, hirs: &[Hir]) -> Result<Option<Vec<Vec<u8>>>, AllocError>
+    ensures usable { IfOk result (λ found. IfSome found (λ v. IsUsable (needles_in v.items))) }
+    ensures exact { IfOk result (λ found. MatchOption found ((ws : List (List ℕ)) → ¬ ArePrefixes (map meaning hirs.now) ws)
+        (λ v. ArePrefixes (map meaning hirs.now) (needles_in v.items))) }
+    ensures covers { IfOk result (λ found. IfSome found (λ v. (t : Text) → Covers t (map meaning hirs.now) (needles_in v.items))) }
+{
+    let mut list = Vec::new(alloc);
+    if !add_alternation(alloc, hirs, &mut list)? || !is_usable(&list) {
+        return Ok(None);
+    }
+    Ok(Some(list))
+}
+
+/// Adds the prefixes of a pattern; false where it has none of use.
+#[cycle(add)]
+fn add(alloc: Global, hir: &Hir, list: &mut Vec<Vec<u8>>) -> Result<bool, AllocError>
+    ensures { IfOk result (λ done. Extends done (needles_in list.old.items) (needles_in list.new.items) (first_bytes (meaning hir.now))) }
+{
+    match hir.kind() {
+        HirKind::Empty | HirKind::Look(_) => Ok(false),
+        HirKind::Literal(bytes) => add_literal(alloc, bytes, list),
+        HirKind::Class(class) => add_class(alloc, class, list),
+        HirKind::Repetition(repetition) => {
+            if repetition.min == 0 {
+                return Ok(false);
+            }
+            add(alloc, &repetition.sub, list)
+        }
+        HirKind::Capture(capture) => add(alloc, &capture.sub, list),
+        HirKind::Concat(subs) => {
+            let count = still_count(subs);
+            match subs.get(count) {
+                Some(first) => add_begun(alloc, first, &subs[count + 1..], list),
+                None => Ok(false),
+            }
+        }
+        HirKind::Alternation(subs) => add_alternation(alloc, subs, list),
+    }
+}
+
+/// Adds the prefixes of each pattern; false where one has none of use.
+#[cycle(add)]
+fn add_alternation(alloc: Global, subs: &[Hir], list: &mut Vec<Vec<u8>>) -> Result<bool, AllocError>
+    ensures { IfOk result (λ done. Extends done (needles_in list.old.items) (needles_in list.new.items) (first_bytes (alt_all (map meaning subs.now)))) }
+{
+    for sub in subs {
+        if !add(alloc, sub, list)? {
+            return Ok(false);
+        }
+    }
+    Ok(true)
+}
+
+/// Adds the prefixes of what may be read first: where each text of it is known, and one is short, with what is read behind it. False where
+/// it has none of use.
+#[cycle(add)]
+fn add_begun(
+    alloc: Global,
+    first: &Hir,
+    rest: &[Hir],
+    list: &mut Vec<Vec<u8>>,
+) -> Result<bool, AllocError>
+    ensures { IfOk result (λ done. Extends done (needles_in list.old.items) (needles_in list.new.items)
+        (begun_by (whole_bytes (meaning first.now)) (first_bytes (meaning first.now)) (cat_all (map meaning rest.now)))) }
+{
+    match whole_bytes(alloc, first)? {
+        Some(needles) => {
+            let longer = lengthened(alloc, needles, rest)?;
+            add_needles(alloc, &longer, list)
+        }
+        None => add(alloc, first, list),
+    }
+}
+
+/// Each text that a pattern spells: a literal, a class, a group of these and an alternation of these. None for other patterns, and where that
+/// is too much to be kept.
+fn whole_bytes(alloc: Global, hir: &Hir) -> Result<Option<Vec<Vec<u8>>>, AllocError>
+    ensures { IfOk result (λ found. option_map (λ v. needles_in v.items) found ≡ whole_bytes (meaning hir.now)) }
+{
+    let mut list = Vec::new(alloc);
+    if add_whole(alloc, hir, &mut list)? {
+        return Ok(Some(list));
+    }
+    Ok(None)
+}
+
+/// Adds each text that a pattern spells; false where that is not known, or there is no room.
+#[cycle(add_whole)]
+fn add_whole(alloc: Global, hir: &Hir, list: &mut Vec<Vec<u8>>) -> Result<bool, AllocError>
+    ensures { IfOk result (λ done. Extends done (needles_in list.old.items) (needles_in list.new.items) (spelled_bytes (meaning hir.now))) }
+{
+    match hir.kind() {
+        HirKind::Literal(bytes) => add_whole_literal(alloc, bytes, list),
+        HirKind::Class(class) => add_class(alloc, class, list),
+        HirKind::Capture(capture) => add_whole(alloc, &capture.sub, list),
+        HirKind::Alternation(subs) => add_whole_alternation(alloc, subs, list),
+        HirKind::Empty | HirKind::Look(_) | HirKind::Repetition(_) | HirKind::Concat(_) => Ok(
+            false,
+        ),
+    }
+}
+
+/// Adds each text that one of the patterns spells; false where that is not known of one, or there is no room.
+#[cycle(add_whole)]
+fn add_whole_alternation(
+    alloc: Global,
+    subs: &[Hir],
+    list: &mut Vec<Vec<u8>>,
+) -> Result<bool, AllocError>
+    ensures { IfOk result (λ done. Extends done (needles_in list.old.items) (needles_in list.new.items) (spelled_bytes (alt_all (map meaning subs.now)))) }
+{
+    for sub in subs {
+        if !add_whole(alloc, sub, list)? {
+            return Ok(false);
+        }
+    }
+    Ok(true)
+}
+
+/// Adds the bytes of a literal; false where they are too many.
+fn add_whole_literal(
+    alloc: Global,
+    bytes: &[u8],
+    list: &mut Vec<Vec<u8>>,
+) -> Result<bool, AllocError>
+    ensures { IfOk result (λ done. Extends done (needles_in list.old.items) (needles_in list.new.items) (spelled_bytes (literal bytes.now))) }
+{
+    if bytes.len() > GREATEST_LENGTH {
+        return Ok(false);
+    }
+    add_needle(alloc, bytes, list)
+}
+
+/// The needles with what is read behind them.
+fn lengthened(
+    alloc: Global,
+    needles: Vec<Vec<u8>>,
+    rest: &[Hir],
+) -> Result<Vec<Vec<u8>>, AllocError>
+    ensures { IfOk result (λ longer. needles_in longer.items ≡ lengthened (needles_in needles.items) (cat_all (map meaning rest.now))) }
+{
+    let mut longer = needles;
+    for sub in rest {
+        match crossed_with(alloc, &longer, sub)? {
+            Some(next) => longer = next,
+            None => return Ok(longer),
+        }
+    }
+    Ok(longer)
+}
+
+/// Each needle with each text behind it that the pattern spells. None where no needle is short, the texts are not known, or they would be
+/// too many.
+fn crossed_with(
+    alloc: Global,
+    needles: &[Vec<u8>],
+    hir: &Hir,
+) -> Result<Option<Vec<Vec<u8>>>, AllocError>
+    ensures { IfOk result (λ found. MatchOption found (may_cross (needles_in needles.now) (whole_bytes (meaning hir.now)) ≡ false)
+        (λ v. (may_cross (needles_in needles.now) (whole_bytes (meaning hir.now)) ≡ true)
+        × (needles_in v.items ≡ crossed (needles_in needles.now) (unwrap_or (whole_bytes (meaning hir.now)) [])))) }
+{
+    if !has_short(needles) {
+        return Ok(None);
+    }
+    let Some(behind) = whole_bytes(alloc, hir)? else {
+        return Ok(None);
+    };
+    if needles.len().saturating_mul(behind.len()) > GREATEST_VARIANTS {
+        return Ok(None);
+    }
+    Ok(Some(crossed(alloc, needles, &behind)?))
+}
+
+/// Whether one of the needles is short.
+fn has_short(needles: &[Vec<u8>]) -> bool
+    ensures { result ≡ has_short (needles_in needles.now) }
+{
+    for needle in needles {
+        if needle.len() < SHORT_LENGTH {
+            return true;
+        }
+    }
+    false
+}
+
+/// Each needle with each of the others behind it.
+fn crossed(
+    alloc: Global,
+    needles: &[Vec<u8>],
+    behind: &[Vec<u8>],
+) -> Result<Vec<Vec<u8>>, AllocError>
+    ensures { IfOk result (λ list. needles_in list.items ≡ crossed (needles_in needles.now) (needles_in behind.now)) }
+{
+    let mut list = Vec::new(alloc);
+    for needle in needles {
+        add_joined(alloc, needle, behind, &mut list)?;
+    }
+    Ok(list)
+}
+
+/// Adds the needle with each of the others behind it.
+fn add_joined(
+    alloc: Global,
+    needle: &[u8],
+    behind: &[Vec<u8>],
+    list: &mut Vec<Vec<u8>>,
+) -> Result<(), AllocError>
+    ensures { IfOk result (λ _. needles_in list.new.items ≡ needles_in list.old.items ++ map (λ v. needle.now ++ v) (needles_in behind.now)) }
+{
+    for rest in behind {
+        let mut joined = needle.to_vec(alloc)?;
+        joined.extend_from_slice(rest)?;
+        list.push(joined)?;
+    }
+    Ok(())
+}
+
+/// Adds each of the needles; false where there is no room for one.
+fn add_needles(
+    alloc: Global,
+    needles: &[Vec<u8>],
+    list: &mut Vec<Vec<u8>>,
+) -> Result<bool, AllocError>
+    ensures { IfOk result (λ done. Extends done (needles_in list.old.items) (needles_in list.new.items) (Some (needles_in needles.now))) }
+{
+    for needle in needles {
+        if !add_needle(alloc, needle, list)? {
+            return Ok(false);
+        }
+    }
+    Ok(true)
+}
+
+/// How many members stand before the first that may read.
+fn still_count(subs: &[Hir]) -> usize
+    ensures first { IfSome (slice_get subs.now result) (λ first. first_bytes (cat_all (map meaning subs.now))
+        ≡ begun_by (whole_bytes (meaning first)) (first_bytes (meaning first)) (cat_all (map meaning (drop (result + 1) subs.now)))) }
+    ensures none { IfNone (slice_get subs.now result) (first_bytes (cat_all (map meaning subs.now)) ≡ None) }
+{
+    for (i, sub) in subs.iter().enumerate() {
+        if !is_still(sub) {
+            return i;
+        }
+    }
+    subs.len()
+}
+
+/// Whether it is an assertion or empty.
+fn is_still(hir: &Hir) -> bool
+    ensures { result ≡ is_still (meaning hir.now) }
+{
+    match hir.kind() {
+        HirKind::Empty | HirKind::Look(_) => true,
+        HirKind::Concat(subs) => subs.as_slice().is_empty(),
+        HirKind::Literal(_)
+        | HirKind::Class(_)
+        | HirKind::Repetition(_)
+        | HirKind::Capture(_)
+        | HirKind::Alternation(_) => false,
+    }
+}
+
+/// Adds the first bytes of a literal.
+fn add_literal(alloc: Global, bytes: &[u8], list: &mut Vec<Vec<u8>>) -> Result<bool, AllocError>
+    ensures { IfOk result (λ done. Extends done (needles_in list.old.items) (needles_in list.new.items) (first_bytes (literal bytes.now))) }
+{
+    add_needle(alloc, &bytes[..bytes.len().min(GREATEST_LENGTH)], list)
+}
+
+/// Adds each member of a class; false where there are too many.
+fn add_class(alloc: Global, class: &Class, list: &mut Vec<Vec<u8>>) -> Result<bool, AllocError>
+    ensures { IfOk result (λ done. Extends done (needles_in list.old.items) (needles_in list.new.items) (first_bytes (class_meaning class.now))) }
+{
+    match class {
+        Class::Bytes(ranges) => add_byte_ranges(alloc, ranges, list),
+        Class::Unicode(ranges) => add_char_ranges(alloc, ranges, list),
+    }
+}
+
+/// Adds each byte of the ranges.
+fn add_byte_ranges(
+    alloc: Global,
+    ranges: &[ClassBytesRange],
+    list: &mut Vec<Vec<u8>>,
+) -> Result<bool, AllocError>
+    ensures { IfOk result (λ done. Extends done (needles_in list.old.items) (needles_in list.new.items) (first_bytes (byte_in (map byte_range ranges.now)))) }
+{
+    for range in ranges {
+        if !add_bytes(alloc, *range, list)? {
+            return Ok(false);
+        }
+    }
+    Ok(true)
+}
+
+/// Adds each character of the ranges.
+fn add_char_ranges(
+    alloc: Global,
+    ranges: &[ClassUnicodeRange],
+    list: &mut Vec<Vec<u8>>,
+) -> Result<bool, AllocError>
+    ensures { IfOk result (λ done. Extends done (needles_in list.old.items) (needles_in list.new.items) (first_bytes (char_in (map char_range ranges.now)))) }
+{
+    for range in ranges {
+        if !add_chars(alloc, *range, list)? {
+            return Ok(false);
+        }
+    }
+    Ok(true)
+}
+
+/// Adds each byte of a range.
+fn add_bytes(
+    alloc: Global,
+    range: ClassBytesRange,
+    list: &mut Vec<Vec<u8>>,
+) -> Result<bool, AllocError>
+    ensures { IfOk result (λ done. Extends done (needles_in list.old.items) (needles_in list.new.items) (Some (range_bytes (byte_range range)))) }
+{
+    for byte in range.start as usize..range.end as usize + 1 {
+        if !add_needle(alloc, &[byte as u8], list)? {
+            return Ok(false);
+        }
+    }
+    Ok(true)
+}
+
+/// Adds the UTF-8 bytes of each character of a range.
+fn add_chars(
+    alloc: Global,
+    range: ClassUnicodeRange,
+    list: &mut Vec<Vec<u8>>,
+) -> Result<bool, AllocError>
+    ensures { IfOk result (λ done. Extends done (needles_in list.old.items) (needles_in list.new.items) (Some (range_chars (char_range range)))) }
+{
+    for code in range.start as u32..range.end as u32 + 1 {
+        if let Some(scalar) = char::from_u32(code) {
+            let mut buffer = [0; 4];
+            if !add_needle(alloc, scalar.encode_utf8(&mut buffer).as_bytes(), list)? {
+                return Ok(false);
+            }
+        }
+    }
+    Ok(true)
+}
+
+/// Adds these bytes; false where the list is full.
+fn add_needle(alloc: Global, needle: &[u8], list: &mut Vec<Vec<u8>>) -> Result<bool, AllocError>
+    ensures { IfOk result (λ done. Extends done (needles_in list.old.items) (needles_in list.new.items) (Some (needle.now ∷ []))) }
+{
+    if list.len() >= GREATEST_COUNT {
+        return Ok(false);
+    }
+    list.push(needle.to_vec(alloc)?)?;
+    Ok(true)
+}
+
+/// Whether each of the prefixes begins with one of the prefilter's needles.
+///
+/// Where the prefixes cover patterns, the needles cover them then.
+pub fn begins_with_one_of(prefixes: &[Vec<u8>], prefilter: &Prefilter) -> bool
+    ensures { Decides result (EachBegins (needles_in prefixes.now) (needles_of prefilter.now)) }
+{
+    for prefix in prefixes {
+        if !begins_with_needle(prefix.as_slice(), prefilter) {
+            return false;
+        }
+    }
+    true
+}
+
+/// Whether the bytes begin with one of the prefilter's needles.
+fn begins_with_needle(bytes: &[u8], prefilter: &Prefilter) -> bool
+    ensures { Decides result (BeginsWithOne (needles_of prefilter.now) bytes.now) }
+{
+    for needle in &prefilter.searcher.table.needles {
+        if bytes.starts_with(needle.as_slice()) {
+            return true;
+        }
+    }
+    false
+}

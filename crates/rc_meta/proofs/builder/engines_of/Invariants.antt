@@ -1,4 +1,0 @@
-use Rattle.rc_meta.proofs.builder.engines_of.Given as goal
-
-abbrev pub ghost-new : goal.ghost-new
-ghost-new g a = g.shown_hirs

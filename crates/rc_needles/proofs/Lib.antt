@@ -1,0 +1,13 @@
+pub mod RangeLemmas
+pub mod StandLemmas
+pub mod ScanLemmas
+pub mod SieveLemmas
+pub mod OpeningLemmas
+pub mod TableLemmas
+pub mod FindLemmas
+pub mod PairLemmas
+pub mod NodeLemmas
+pub mod TrieLemmas
+pub mod ReadLemmas
+pub mod RelationLemmas
+pub mod StartLemmas

@@ -1,0 +1,15 @@
+use Rattle.std.proofs.Common.{◌-◌, ◌≤◌}
+use Rattle.rc_text.specs.Text.{Keeps}
+use Rattle.rc_needles.specs.Prefilters.{needles_of}
+use Rattle.rc_needles.proofs.FindLemmas.{NoneBefore}
+use Rattle.rc_needles.proofs.literal.find_by_places.Given as goal
+
+abbrev pub invariant-loop-at : goal.invariant-loop-at
+invariant-loop-at g l = record {
+  keeps : Keeps l.fn.input l.input;
+  from : l.from ≤ l.at;
+  none_before : NoneBefore (needles_of l.prefilter) l.fn.input.content l.end l.from l.at;
+}
+
+abbrev pub decreases-loop-at : goal.decreases-loop-at
+decreases-loop-at g l = l.last - l.at

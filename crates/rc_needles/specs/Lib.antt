@@ -1,0 +1,10 @@
+pub mod Answers
+pub mod Guards
+pub mod Needles
+pub mod Openings
+pub mod Pairs
+pub mod Prefilters
+pub mod Scans
+pub mod Sieves
+pub mod Tables
+pub mod Tries

@@ -1,0 +1,309 @@
+//! Where a needle may stand, in a piece of a chunk and in the content.
+ghost use Rattle.std.specs.Prelude.{◌≡◌, ◌+◌, ◌<◌, ◌≤◌, ℕ, IfSome, IsTrue, List, None, length, slice_index};
+ghost use Rattle.rc_text.specs.Text.{Keeps};
+ghost use Rattle.rc_needles.specs.Needles.{needle_at};
+ghost use Rattle.rc_needles.specs.Scans.{AreHeadsOf, AreHeadsOf-is_fact, IsRestOf};
+ghost use Rattle.rc_needles.specs.Sieves.{AreSifted};
+ghost use Rattle.rc_needles.specs.Tables.{Agrees, IsRuledOut, needles_in};
+
+use crate::pairs::{LANES, are_nowhere, first_place};
+use crate::scan::{Heads, Scan, Searcher};
+use crate::sieve::{LEAST_PIECE, Sieve};
+use crate::table::Table;
+use memchr::memmem::Finder;
+use memchr::{memchr, memchr2, memchr3};
+use rc_text::cursor::Cursor;
+use rc_text::input::{Input, piece_from, takes_next};
+
+/// A chunk of fewer bytes is passed over where two bytes of the only needle stand nowhere in it.
+const SHORT_PIECE: usize = 512;
+
+/// In a piece of fewer bytes the needle is compared at each place where these two bytes stand.
+const LONG_PIECE: usize = 8192;
+
+/// A needle with more bytes from the offset on is left to the library, whose search stays linear.
+const LONG_REST: usize = 32;
+
+/// A place up to which chunks were passed over, and whether a needle may belong to it.
+#[derive(Clone, Copy)]
+struct Reached {
+    at: usize,
+    is_candidate: bool,
+}
+
+/// A way to look for needles in a piece of a chunk.
+trait Candidates {
+    /// The needles.
+    ghost needles: { Self → List (List ℕ) };
+
+    /// How many bytes behind a needle's start that stands which is looked for.
+    ghost offset: { Self → ℕ };
+
+    /// The first place of the piece to which a needle may belong that starts the offset before it, or
+    /// the piece's length.
+    fn candidate(&self, piece: &[u8]) -> usize
+        ensures within { result ≤ length piece.now }
+        ensures passed { (k : ℕ) → k < result → IsRuledOut (needles self.now) (offset self.now) piece.now k };
+
+    /// The same, if a quick look tells it.
+    fn quick_candidate(&self, piece: &[u8]) -> Option<usize>
+        ensures within { IfSome result (λ at. at ≤ length piece.now) }
+        ensures passed { IfSome result (λ at. (k : ℕ) → k < at → IsRuledOut (needles self.now) (offset self.now) piece.now k) };
+}
+
+/// Looks for the only needle from the offset on.
+#[derive(Drop)]
+struct ByRest<'a> {
+    searcher: &'a Searcher,
+    rest: &'a Finder<'static>,
+    first: u8,
+    second: u8,
+    ghost is: { IsRestOf (needles_in searcher.now.table.needles.items) searcher.now.offset rest.now },
+    ghost is_first: { first ≡ slice_index rest.now 0 },
+    ghost is_second: { second ≡ slice_index rest.now 1 },
+}
+
+impl Candidates for ByRest<'_> {
+    ghost needles = { λ s. needles_in s.searcher.now.table.needles.items };
+
+    ghost offset = { λ s. s.searcher.now.offset };
+
+    #[inline(always)]
+    fn candidate(&self, piece: &[u8]) -> usize {
+        let rest = self.rest.needle();
+        if rest.len() <= LONG_REST && is_between(piece, LANES, LONG_PIECE) {
+            return first_place(piece, rest);
+        }
+        rest_candidate(self.rest, piece)
+    }
+
+    #[inline(always)]
+    fn quick_candidate(&self, piece: &[u8]) -> Option<usize> {
+        if is_between(piece, LANES, SHORT_PIECE) && are_nowhere(piece, self.first, self.second) {
+            return Some(piece.len());
+        }
+        None
+    }
+}
+
+/// Looks for a byte with which a needle begins.
+#[derive(Drop)]
+struct ByHead<'a> {
+    searcher: &'a Searcher,
+    heads: Heads,
+    ghost from_start: { searcher.now.offset ≡ 0 },
+    ghost are: { AreHeadsOf (needles_in searcher.now.table.needles.items) heads } by { AreHeadsOf-is_fact (needles_in searcher.now.table.needles.items) heads },
+}
+
+impl Candidates for ByHead<'_> {
+    ghost needles = { λ s. needles_in s.searcher.now.table.needles.items };
+
+    ghost offset = { λ s. s.searcher.now.offset };
+
+    #[inline(always)]
+    fn candidate(&self, piece: &[u8]) -> usize {
+        match self.heads {
+            Heads::One(one) => memchr(one, piece).unwrap_or(piece.len()),
+            Heads::Two(one, two) => memchr2(one, two, piece).unwrap_or(piece.len()),
+            Heads::Three(one, two, three) => {
+                memchr3(one, two, three, piece).unwrap_or(piece.len())
+            }
+            Heads::Many => head_candidate(&self.searcher.table, piece),
+        }
+    }
+
+    #[inline(always)]
+    fn quick_candidate(&self, _: &[u8]) -> Option<usize> {
+        None
+    }
+}
+
+/// Looks for the first three bytes of needles.
+#[derive(Drop)]
+struct BySieve<'a> {
+    searcher: &'a Searcher,
+    sieve: &'a Sieve,
+    ghost from_start: { searcher.now.offset ≡ 0 },
+    ghost are: { AreSifted sieve.now (needles_in searcher.now.table.needles.items) },
+}
+
+impl Candidates for BySieve<'_> {
+    ghost needles = { λ s. needles_in s.searcher.now.table.needles.items };
+
+    ghost offset = { λ s. s.searcher.now.offset };
+
+    #[inline(always)]
+    fn candidate(&self, piece: &[u8]) -> usize {
+        sieve_candidate(self.sieve, &self.searcher.table, piece)
+    }
+
+    #[inline(always)]
+    fn quick_candidate(&self, piece: &[u8]) -> Option<usize> {
+        Some(self.candidate(piece))
+    }
+}
+
+/// Whether the piece has more than `low` bytes and fewer than `high`.
+fn is_between(piece: &[u8], low: usize, high: usize) -> bool
+    ensures { IsTrue result → low < length piece.now }
+{
+    low < piece.len() && piece.len() < high
+}
+
+/// Where the finder's bytes stand in the piece, else where they may begin at its end.
+#[inline(never)]
+fn rest_candidate(finder: &Finder, piece: &[u8]) -> usize
+    requires some { 0 < length finder.now }
+    ensures within { result ≤ length piece.now }
+    ensures passed { (k : ℕ) → k < result → ¬ Agrees piece.now finder.now k }
+{
+    if let Some(at) = finder.find(piece) {
+        return at;
+    }
+    let rest = finder.needle();
+    let from = piece.len().saturating_sub(rest.len() - 1);
+    match memchr(rest[0], &piece[from..]) {
+        Some(at) => from + at,
+        None => piece.len(),
+    }
+}
+
+/// The first place with a byte with which a needle begins.
+fn head_candidate(table: &Table, piece: &[u8]) -> usize
+    ensures within { result ≤ length piece.now }
+    ensures passed { (k : ℕ) → k < result → length table.now.needles.items
+        ≤ slice_index table.now.heads.items (slice_index piece.now k) }
+{
+    for (i, byte) in piece.iter().enumerate() {
+        if table.heads[*byte as usize] < table.needles.len() {
+            return i;
+        }
+    }
+    piece.len()
+}
+
+/// The first place where a bucket of the sieve takes three bytes. Where the sieve reads too much, the
+/// first with a byte with which a needle begins.
+fn sieve_candidate(sieve: &Sieve, table: &Table, piece: &[u8]) -> usize
+    requires { AreSifted sieve.now (needles_in table.now.needles.items) }
+    ensures within { result ≤ length piece.now }
+    ensures passed { (k : ℕ) → k < result → IsRuledOut (needles_in table.now.needles.items) 0 piece.now k }
+{
+    if piece.len() < LEAST_PIECE {
+        return head_candidate(table, piece);
+    }
+    let at = sieve.place(piece);
+    let last = piece.len() - 2;
+    if at < last {
+        return at;
+    }
+    last + head_candidate(table, &piece[last..])
+}
+
+/// The first place from one on to which a needle may belong that starts the offset before it. Where
+/// there is none below `end`, it is at least `end`.
+#[inline(always)]
+fn look_from<C: Cursor, L: Candidates>(
+    input: &mut Input<C>,
+    look: &L,
+    from: usize,
+    end: usize,
+) -> usize
+    requires inside { end ≤ length input.old.content }
+    ensures keeps { Keeps input.old input.new }
+    ensures low { from ≤ result }
+    ensures passed { (i : ℕ) → from ≤ i + L.offset look.now → i + L.offset look.now < result
+        → needle_at (L.needles look.now) input.old.content end i ≡ None }
+{
+    let mut at = from;
+    while at < end {
+        let piece = piece_from(input, at, end);
+        let len = piece.len();
+        let passed = look.candidate(piece);
+        at += passed;
+        if passed < len {
+            return at;
+        }
+        let reached = chunks_passed(input, look, at, end);
+        at = reached.at;
+        if reached.is_candidate {
+            return at;
+        }
+    }
+    at
+}
+
+/// Where quick looks no longer pass over the chunks that follow one another from `from` on, at or below
+/// `end`.
+#[inline(always)]
+fn chunks_passed<C: Cursor, L: Candidates>(
+    input: &mut Input<C>,
+    look: &L,
+    from: usize,
+    end: usize,
+) -> Reached
+    requires inside { end ≤ length input.old.content }
+    ensures keeps { Keeps input.old input.new }
+    ensures low { from ≤ result.at }
+    ensures passed { (i : ℕ) → from ≤ i + L.offset look.now → i + L.offset look.now < result.at
+        → needle_at (L.needles look.now) input.old.content end i ≡ None }
+{
+    let mut at = from;
+    while takes_next(input, at, end) {
+        let chunk = input.chunk();
+        let len = chunk.len();
+        let Some(passed) = look.quick_candidate(chunk) else {
+            break;
+        };
+        at += passed;
+        if passed < len {
+            return Reached {
+                at,
+                is_candidate: true,
+            };
+        }
+    }
+    Reached {
+        at,
+        is_candidate: false,
+    }
+}
+
+/// The same, by the searcher's needles and offset.
+#[inline(never)]
+pub fn place_from<C: Cursor>(
+    input: &mut Input<C>,
+    searcher: &Searcher,
+    from: usize,
+    end: usize,
+) -> usize
+    requires inside { end ≤ length input.old.content }
+    ensures keeps { Keeps input.old input.new }
+    ensures low { from ≤ result }
+    ensures passed { (i : ℕ) → from ≤ i + searcher.now.offset → i + searcher.now.offset < result
+        → needle_at (needles_in searcher.now.table.needles.items) input.old.content end i ≡ None }
+{
+    match &searcher.scan {
+        Scan::Needle(rest) => look_from(input, &by_rest(searcher, rest), from, end),
+        Scan::Heads(heads) => {
+            let heads = *heads;
+            look_from(input, &ByHead { searcher, heads }, from, end)
+        }
+        Scan::Sieve(sieve) => look_from(input, &BySieve { searcher, sieve }, from, end),
+    }
+}
+
+/// The way to look for the only needle from the offset on.
+#[inline(always)]
+fn by_rest<'a>(searcher: &'a Searcher, rest: &'a Finder<'static>) -> ByRest<'a>
+    requires { IsRestOf (needles_in searcher.now.table.needles.items) searcher.now.offset rest.now }
+    ensures { result.searcher ≡ searcher.entry }
+{
+    let bytes = rest.needle();
+    ByRest {
+        searcher,
+        rest,
+        first: bytes[0],
+        second: bytes[1],
+    }
+}

@@ -1,0 +1,326 @@
+//! The search for needles.
+ghost use Rattle.std.specs.Prelude.{◌≡◌, ◌+◌, ◌<◌, ◌≤◌, ℕ, IfSome, IsTrue, List, Some, bytes_eq, false, length, slice_get, slice_range, true};
+ghost use Rattle.rc_text.specs.Text.{Keeps, high, low};
+ghost use Rattle.rc_needles.specs.Needles.{find_needle, needle_at, prefix_needle, stands_within};
+ghost use Rattle.rc_needles.specs.Answers.{literal_answer};
+ghost use Rattle.rc_needles.specs.Prefilters.{needles_of};
+ghost use Rattle.rc_needles.specs.Tables.{BeginsWithByte, needles_in, numbered};
+ghost use Rattle.rc_needles.specs.Tries.{AreCarriedBy, IsCarried};
+
+use crate::candidates::place_from;
+use crate::hit::Hit;
+use crate::many::seen_in;
+use crate::prefilter::Prefilter;
+use crate::scan::{Heads, Scan, Searcher};
+use crate::table::Table;
+use crate::trie::{ROOT, Trie};
+use rc_text::cursor::Cursor;
+use rc_text::input::{Input, byte_at, high, low, piece_from};
+use rc_text::types::{Anchored, Match, PatternID, Span};
+
+/// Whether the needle stands from `at` to `to`, read a piece of a chunk at a time.
+#[inline(always)]
+fn stands_by_pieces<C: Cursor>(input: &mut Input<C>, needle: &[u8], at: usize, to: usize) -> bool
+    requires long { to ≡ at + length needle.now }
+    requires within { to ≤ length input.old.content }
+    ensures keeps { Keeps input.old input.new }
+    ensures value { result ≡ bytes_eq (slice_range input.old.content at (at + length needle.now)) needle.now }
+{
+    let mut done = 0;
+    while done < needle.len() {
+        let piece = piece_from(input, at + done, to);
+        let len = piece.len();
+        if piece != &needle[done..done + len] {
+            return false;
+        }
+        done += len;
+    }
+    true
+}
+
+/// Whether the needle stands from `at` to `to`, where its first byte does.
+#[inline(always)]
+fn stands<C: Cursor>(input: &mut Input<C>, needle: &[u8], at: usize, to: usize) -> bool
+    requires long { to ≡ at + length needle.now }
+    requires within { to ≤ length input.old.content }
+    requires begins { slice_get needle.now 0 ≡ slice_get input.old.content at }
+    ensures keeps { Keeps input.old input.new }
+    ensures value { result ≡ bytes_eq (slice_range input.old.content at (at + length needle.now)) needle.now }
+{
+    if needle.len() == 1 {
+        return true;
+    }
+    stands_by_pieces(input, needle, at, to)
+}
+
+/// The least number of a needle that may stand at `at`, as far as the trie tells. Where none does, how
+/// many needles there are.
+#[inline(always)]
+fn least_number<C: Cursor>(
+    input: &mut Input<C>,
+    trie: &Trie,
+    at: usize,
+    end: usize,
+    count: usize,
+) -> usize
+    requires { end ≤ length input.old.content }
+    ensures keeps { Keeps input.old input.new }
+    ensures least { (needle : List ℕ) (n : ℕ) → IsCarried trie.now.nodes.items needle n → 0 < length needle
+        → stands_within input.old.content end at needle ≡ true → result ≤ n }
+{
+    let mut best = count;
+    let mut node = ROOT;
+    let mut place = at;
+    while place < end {
+        let Some(byte) = byte_at(input, place) else {
+            return 0;
+        };
+        node = trie.step(node, byte);
+        if node == 0 {
+            return best;
+        }
+        best = best.min(trie.number(node));
+        place += 1;
+    }
+    best
+}
+
+/// Whether the needle begins with the byte.
+fn begins_with(needle: &[u8], byte: u8) -> bool
+    ensures { IsTrue result → BeginsWithByte needle.now byte }
+{
+    match needle.get(0) {
+        Some(first) => *first == byte,
+        None => false,
+    }
+}
+
+/// A number below which no needle stands at `at`, where the content has this byte: that of a needle
+/// that begins with it, or how many needles there are.
+#[inline(always)]
+fn start_number<C: Cursor>(
+    input: &mut Input<C>,
+    table: &Table,
+    at: usize,
+    end: usize,
+    byte: u8,
+) -> usize
+    requires high { end ≤ length input.old.content }
+    requires here { slice_get input.old.content at ≡ Some byte }
+    ensures keeps { Keeps input.old input.new }
+    ensures high { result ≤ length (needles_in table.now.needles.items) }
+    ensures begins { result < length (needles_in table.now.needles.items) → BeginsWithByte (numbered (needles_in table.now.needles.items) result) byte }
+    ensures none_below { (k : ℕ) → k < result → k < length (needles_in table.now.needles.items)
+        → stands_within input.old.content end at (numbered (needles_in table.now.needles.items) k) ≡ false }
+{
+    let head = table.heads[byte as usize];
+    let Some(trie) = &table.trie else {
+        return head;
+    };
+    let count = table.needles.len();
+    let least = least_number(input, trie, at, end, count);
+    if least >= count {
+        return count;
+    }
+    if begins_with(table.needles[least].as_slice(), byte) {
+        return least;
+    }
+    head
+}
+
+/// The first of the needles that stands at `at`, wholly at or below `end`.
+#[inline(always)]
+fn needle_at<C: Cursor>(input: &mut Input<C>, table: &Table, at: usize, end: usize) -> Option<Hit>
+    requires low { at < end }
+    requires high { end ≤ length input.old.content }
+    ensures keeps { Keeps input.old input.new }
+    ensures value { result ≡ needle_at (needles_in table.now.needles.items) input.old.content end at }
+{
+    let byte = byte_at(input, at)?;
+    let mut number = start_number(input, table, at, end, byte);
+    while number < table.needles.len() {
+        let needle = table.needles[number].as_slice();
+        let len = needle.len();
+        if len <= end - at {
+            let to = at + len;
+            if stands(input, needle, at, to) {
+                return Some(Hit {
+                    start: at,
+                    end: to,
+                    number,
+                });
+            }
+        }
+        number = table.nexts[number];
+    }
+    None
+}
+
+/// The same, out of line.
+#[inline(never)]
+fn needle_there<C: Cursor>(
+    input: &mut Input<C>,
+    table: &Table,
+    at: usize,
+    end: usize,
+) -> Option<Hit>
+    requires low { at < end }
+    requires high { end ≤ length input.old.content }
+    ensures keeps { Keeps input.old input.new }
+    ensures value { result ≡ needle_at (needles_in table.now.needles.items) input.old.content end at }
+{
+    needle_at(input, table, at, end)
+}
+
+/// The trie by which needles are sought: where there is one, and they begin with many bytes.
+#[inline(always)]
+fn trie_sought(searcher: &Searcher) -> Option<&Trie>
+    ensures { IfSome result (λ trie. AreCarriedBy (Some trie.now) (needles_in searcher.now.table.needles.items)) }
+{
+    match &searcher.scan {
+        Scan::Heads(Heads::Many) => searcher.table.trie.as_ref(),
+        _ => None,
+    }
+}
+
+/// What `find_from` finds, by the trie.
+#[inline(never)]
+fn find_by_trie<C: Cursor>(
+    input: &mut Input<C>,
+    table: &Table,
+    trie: &Trie,
+    from: usize,
+    end: usize,
+) -> Option<Hit>
+    requires inside { end ≤ length input.old.content }
+    requires carried { AreCarriedBy (Some trie.now) (needles_in table.now.needles.items) }
+    ensures keeps { Keeps input.old input.new }
+    ensures value { result ≡ find_needle (needles_in table.now.needles.items) input.old.content from end }
+    ensures within { IfSome result (λ hit. (from ≤ hit.start) × (hit.start < hit.end) × (hit.end ≤ end)) }
+{
+    let mut at = from;
+    while at < end {
+        let piece = piece_from(input, at, end);
+        let len = piece.len();
+        let seen = seen_in(table, trie, piece);
+        at += seen.passed;
+        if seen.number < table.needles.len() {
+            return Some(Hit {
+                start: at,
+                end: at + table.needles[seen.number].as_slice().len(),
+                number: seen.number,
+            });
+        }
+        if seen.passed < len {
+            if let Some(hit) = needle_there(input, table, at, end) {
+                return Some(hit);
+            }
+            at += 1;
+        }
+    }
+    None
+}
+
+/// What `find_from` finds, by places where a needle may stand.
+#[inline(never)]
+fn find_by_places<C: Cursor>(
+    input: &mut Input<C>,
+    prefilter: &Prefilter,
+    from: usize,
+    end: usize,
+) -> Option<Hit>
+    requires inside { end ≤ length input.old.content }
+    ensures keeps { Keeps input.old input.new }
+    ensures value { result ≡ find_needle (needles_of prefilter.now) input.old.content from end }
+    ensures within { IfSome result (λ hit. (from ≤ hit.start) × (hit.start < hit.end) × (hit.end ≤ end)) }
+{
+    let searcher = &prefilter.searcher;
+    let offset = searcher.offset;
+    let last = end.saturating_sub(offset);
+    let mut at = from;
+    while at < last {
+        at = place_from(input, searcher, at + offset, end) - offset;
+        if at < last {
+            if let Some(hit) = needle_at(input, &searcher.table, at, end) {
+                return Some(hit);
+            }
+            at += 1;
+        }
+    }
+    None
+}
+
+/// The least start from `from` on at which a needle stands, wholly at or below `end`, and the first
+/// of the needles there, in bytes.
+///
+/// It reads on the uncut bytes, wherever the input stood before, takes no memory and copies nothing.
+/// The input's bounds are not read.
+pub fn find_from<C: Cursor>(
+    input: &mut Input<C>,
+    prefilter: &Prefilter,
+    from: usize,
+    end: usize,
+) -> Option<Hit>
+    requires inside { end ≤ length input.old.content }
+    ensures keeps { Keeps input.old input.new }
+    ensures value { result ≡ find_needle (needles_of prefilter.now) input.old.content from end }
+    ensures within { IfSome result (λ hit. (from ≤ hit.start) × (hit.start < hit.end) × (hit.end ≤ end)) }
+{
+    let searcher = &prefilter.searcher;
+    if let Some(trie) = trie_sought(searcher) {
+        return find_by_trie(input, &searcher.table, trie, from, end);
+    }
+    find_by_places(input, prefilter, from, end)
+}
+
+/// The least start at which a needle stands, and the first of the needles there, within the bounds.
+///
+/// It reads on the uncut bytes, wherever the input stood before, takes no memory and copies nothing.
+pub fn find<C: Cursor>(input: &mut Input<C>, prefilter: &Prefilter) -> Option<Hit>
+    ensures keeps { Keeps input.old input.new }
+    ensures value { result ≡ find_needle (needles_of prefilter.now) input.old.content (low input.old) (high input.old) }
+    ensures within { IfSome result (λ hit. (low input.old ≤ hit.start) × (hit.start < hit.end) × (hit.end ≤ high input.old)) }
+{
+    let end = high(input);
+    let from = low(input);
+    find_from(input, prefilter, from, end)
+}
+
+/// The first of the needles that stands where the bounds begin.
+pub fn prefix<C: Cursor>(input: &mut Input<C>, prefilter: &Prefilter) -> Option<Hit>
+    ensures keeps { Keeps input.old input.new }
+    ensures value { result ≡ prefix_needle (needles_of prefilter.now) input.old.content (low input.old) (high input.old) }
+    ensures within { IfSome result (λ hit. (hit.start ≡ low input.old) × (hit.start < hit.end) × (hit.end ≤ high input.old)) }
+{
+    let end = high(input);
+    let at = low(input);
+    if at < end {
+        return needle_there(input, &prefilter.searcher.table, at, end);
+    }
+    None
+}
+
+/// The match of one pattern that is exactly the needles: its number is 0, and an anchored search
+/// for another pattern has none.
+pub fn search<C: Cursor>(input: &mut Input<C>, prefilter: &Prefilter) -> Option<Match>
+    ensures keeps { Keeps input.old input.new }
+    ensures value { result ≡ literal_answer (needles_of prefilter.now) input.old }
+    ensures within { IfSome result (λ found. (low input.old ≤ found.start) × (found.start ≤ found.end)
+        × (found.end ≤ high input.old)) }
+{
+    let hit = match input.get_anchored() {
+        Anchored::No => find(input, prefilter)?,
+        Anchored::Yes => prefix(input, prefilter)?,
+        Anchored::Pattern(pattern) => {
+            if pattern.as_usize() != 0 {
+                return None;
+            }
+            prefix(input, prefilter)?
+        }
+    };
+    let span = Span {
+        start: hit.start,
+        end: hit.end,
+    };
+    Some(Match::new(PatternID::ZERO, span))
+}

@@ -1,0 +1,62 @@
+//! Many needles in a piece of a chunk, by their trie.
+ghost use Rattle.std.specs.Prelude.{◌≡◌, ◌<◌, ◌≤◌, ℕ, Some, length};
+ghost use Rattle.rc_needles.specs.Tables.{Agrees, IsRuledOut, needles_in, numbered};
+ghost use Rattle.rc_needles.specs.Tries.{AreCarriedBy, IsFirstIn};
+
+use crate::table::Table;
+use crate::trie::Trie;
+
+/// What was seen in a piece.
+#[derive(Clone, Copy)]
+pub struct Seen {
+    /// How many places were passed over.
+    pub passed: usize,
+    /// The number of the first needle that stands behind them. Where it isn't told whether one does, how
+    /// many needles there are.
+    pub number: usize,
+}
+
+/// What is seen in the piece: the places are passed over at which no needle begins.
+#[inline(always)]
+pub fn seen_in(table: &Table, trie: &Trie, piece: &[u8]) -> Seen
+    requires { AreCarriedBy (Some trie.now) (needles_in table.now.needles.items) }
+    ensures within { result.passed ≤ length piece.now }
+    ensures passed { (k : ℕ) → k < result.passed → IsRuledOut (needles_in table.now.needles.items) 0 piece.now k }
+    ensures first { result.number < length table.now.needles.items → IsFirstIn (needles_in table.now.needles.items) piece.now result.passed result.number }
+{
+    let count = table.needles.len();
+    let mut at = trie.opened_from(piece, 0);
+    while at < piece.len() {
+        let Some(number) = trie.lead(&piece[at..], count) else {
+            return Seen {
+                passed: at,
+                number: count,
+            };
+        };
+        if number < count {
+            let number = number_seen(table, piece, at, number);
+            return Seen { passed: at, number };
+        }
+        at = trie.opened_from(piece, at + 1);
+    }
+    Seen {
+        passed: piece.len(),
+        number: count,
+    }
+}
+
+/// The number, where its needle stands in the piece at the place; else how many needles there are.
+#[inline(always)]
+fn number_seen(table: &Table, piece: &[u8], at: usize, number: usize) -> usize
+    requires within { at ≤ length piece.now }
+    requires number { number < length table.now.needles.items }
+    requires none_earlier { (k : ℕ) → k < number → k < length (needles_in table.now.needles.items) → ¬ Agrees piece.now (numbered (needles_in table.now.needles.items) k) at }
+    ensures { result < length table.now.needles.items → IsFirstIn (needles_in table.now.needles.items) piece.now at result }
+{
+    let needle = table.needles[number].as_slice();
+    let len = needle.len();
+    if len <= piece.len() - at && &piece[at..at + len] == needle {
+        return number;
+    }
+    table.needles.len()
+}

@@ -1,0 +1,143 @@
+//! Bits that tell which three bytes open needles, so that most places are passed over by one look.
+ghost use Rattle.std.specs.Prelude.{◌≡◌, ◌+◌, ◌*◌, ◌%◌, ◌<◌, ◌≤◌, ℕ, IfOk, IsTrue, length, true};
+ghost use Rattle.rc_needles.specs.Openings.{AreOpened, ArePassed, AreWhole, IsOpened, opens, word_of};
+ghost use Rattle.rc_needles.specs.Tables.{needles_in};
+
+use std::alloc::{AllocError, Global};
+
+/// How many words of bits there are, where there are any.
+const WORDS: usize = 2048;
+
+/// Fewer needles have no bits: a sieve is made for them.
+const LEAST_COUNT: usize = 65;
+
+/// Which word has the bits of two bytes.
+#[inline(always)]
+fn word_of(first: u8, second: u8) -> usize
+    ensures small { result < 2048 }
+    ensures value { result ≡ word_of first second }
+{
+    first as usize % 64 * 32 + second as usize % 32
+}
+
+/// Whether the bit of three bytes is set, which some others share.
+#[inline(always)]
+fn opens(words: &[u32], first: u8, second: u8, third: u8) -> bool
+    requires { AreWhole words.now }
+    ensures { result ≡ opens words.now first second third }
+{
+    let word = words[word_of(first, second)];
+    (word >> (third % 32)) % 2 == 1
+}
+
+/// Whether the bits of two bytes and each third are set.
+fn opens_each(words: &[u32], first: u8, second: u8) -> bool
+    requires { AreWhole words.now }
+    ensures { IsTrue result → (third : ℕ) → third < 256 → opens words.now first second third ≡ true }
+{
+    for third in 0..256usize {
+        if !opens(words, first, second, third as u8) {
+            return false;
+        }
+    }
+    true
+}
+
+/// Whether the bits let a needle stand, whatever follows it.
+fn takes(words: &[u32], needle: &[u8]) -> bool
+    requires { AreWhole words.now }
+    ensures { IsTrue result → IsOpened words.now needle.now }
+{
+    if needle.len() < 2 {
+        return false;
+    }
+    if needle.len() == 2 {
+        return opens_each(words, needle[0], needle[1]);
+    }
+    opens(words, needle[0], needle[1], needle[2])
+}
+
+/// The first place from one on whose three bytes have their bit. Where there are no bits, it is that one.
+#[inline(always)]
+pub fn opened_from(words: &[u32], piece: &[u8], from: usize) -> usize
+    ensures low { from ≤ result }
+    ensures within { from ≤ length piece.now → result ≤ length piece.now }
+    ensures passed { ArePassed words.now piece.now from result }
+{
+    if words.len() != WORDS {
+        return from;
+    }
+    first_opened(words, piece, from)
+}
+
+/// The first place from one on whose three bytes have their bit. Where there is none, the place of the
+/// last two bytes, or the one where it began.
+#[inline(always)]
+fn first_opened(words: &[u32], piece: &[u8], from: usize) -> usize
+    requires { AreWhole words.now }
+    ensures low { from ≤ result }
+    ensures within { from ≤ length piece.now → result ≤ length piece.now }
+    ensures passed { ArePassed words.now piece.now from result }
+{
+    let last = piece.len().saturating_sub(2);
+    for at in from..last {
+        if opens(words, piece[at], piece[at + 1], piece[at + 2]) {
+            return at;
+        }
+    }
+    from.max(last)
+}
+
+/// The bits of the first three bytes of these needles. There are none of few needles, nor where one
+/// has a byte alone.
+pub fn openings_of(alloc: Global, needles: &[Vec<u8>]) -> Result<Vec<u32>, AllocError>
+    ensures { IfOk result (λ words. AreOpened words.items (needles_in needles.now)) }
+{
+    if needles.len() < LEAST_COUNT {
+        return Ok(Vec::new(alloc));
+    }
+    let words = filled(alloc, needles)?;
+    if words.len() == WORDS && take_each(&words, needles) {
+        return Ok(words);
+    }
+    Ok(Vec::new(alloc))
+}
+
+/// Whether the bits let each of the needles stand.
+fn take_each(words: &[u32], needles: &[Vec<u8>]) -> bool
+    requires { AreWhole words.now }
+    ensures { IsTrue result → AreOpened words.now (needles_in needles.now) }
+{
+    for needle in needles {
+        if !takes(words, needle.as_slice()) {
+            return false;
+        }
+    }
+    true
+}
+
+/// The words with the bits of each of the needles.
+fn filled(alloc: Global, needles: &[Vec<u8>]) -> Result<Vec<u32>, AllocError> {
+    let mut words = vec![in alloc; 0; WORDS]?;
+    for needle in needles {
+        open(&mut words, needle.as_slice());
+    }
+    Ok(words)
+}
+
+/// Sets the bit of the needle's first three bytes, or of its two and any third.
+fn open(words: &mut [u32], needle: &[u8]) {
+    let Some(first) = needle.get(0) else {
+        return;
+    };
+    let Some(second) = needle.get(1) else {
+        return;
+    };
+    let bits = match needle.get(2) {
+        Some(third) => 1 << (*third % 32),
+        None => u32::MAX,
+    };
+    if let Some(word) = words.get_mut(word_of(*first, *second)) {
+        *word |= bits;
+    }
+}

@@ -1,0 +1,131 @@
+//! Lists of needles that a content can be searched for.
+ghost use Rattle.std.specs.Prelude.{◌≡◌, IfOk, MatchOption, length, map};
+ghost use Rattle.rc_needles.specs.Needles.{longest};
+ghost use Rattle.rc_needles.specs.Tables.{IsUsable, needles_in};
+ghost use Rattle.std.specs.Bool.{Decides};
+ghost use Rattle.rc_needles.specs.Prefilters.{needles_of};
+
+use crate::scan::{Heads, Scan, Searcher, are_long, have_few_heads, searcher_of};
+use rc_text::types::MatchKind;
+use std::alloc::{AllocError, Global};
+use std::fmt;
+
+/// A list of needles, none of them empty, made ready for searches.
+///
+/// A search for one needle passes over short chunks by two of its bytes that stand side by side, and
+/// goes by those behind them too; one for needles that begin with at most three bytes goes by these.
+/// Several needles of at least three bytes, or of at least two where one begins with a byte that is common
+/// in typical text, and up to 64 others that begin with more than three bytes go by a sieve of their first
+/// three bytes; more go by a trie, so that the work at a place grows with the bytes that
+/// are read there, and not with how many needles there are. Where each of more than 64 has two bytes, the
+/// trie is asked where a table of bits lets the first three stand. Fewer than 16 needles have no trie: of
+/// those alone are compared that begin with the byte there.
+#[derive(Drop)]
+pub struct Prefilter {
+    pub searcher: Searcher,
+}
+
+impl Prefilter {
+    /// A search for these needles, in order; None where there is none, or one of them is empty.
+    ///
+    /// It is the same for each kind of match.
+    pub fn new(
+        alloc: Global,
+        _kind: MatchKind,
+        needles: &[&[u8]],
+    ) -> Result<Option<Prefilter>, AllocError>
+        ensures { IfOk result (λ found. MatchOption found (¬ IsUsable (map (λ w. w.now) needles.now))
+            (λ p. IsUsable (map (λ w. w.now) needles.now) × (needles_of p ≡ map (λ w. w.now) needles.now))) }
+    {
+        let mut copies = Vec::with_capacity(alloc, needles.len())?;
+        for needle in needles {
+            copies.push(needle.to_vec(alloc)?)?;
+        }
+        from_needles(alloc, copies)
+    }
+
+    /// How many bytes the longest needle has.
+    pub fn max_needle_len(&self) -> usize
+        ensures { result ≡ longest (needles_of self.now) }
+    {
+        let mut most = 0;
+        for needle in &self.searcher.table.needles {
+            most = most.max(needle.as_slice().len());
+        }
+        most
+    }
+
+    /// Whether a search goes by a sieve of the needles' first bytes.
+    pub fn goes_by_sieve(&self) -> bool {
+        matches!(&self.searcher.scan, Scan::Sieve(_))
+    }
+
+    /// Whether a search goes by a needle, by at most three bytes, or by a sieve of needles that begin with
+    /// at most three, or that have all the bytes that it reads.
+    pub fn is_fast(&self) -> bool {
+        let table = &self.searcher.table;
+        match &self.searcher.scan {
+            Scan::Heads(Heads::Many) => false,
+            Scan::Sieve(_) => are_long(&table.needles) || have_few_heads(table),
+            _ => true,
+        }
+    }
+
+    /// About how many bytes of memory it takes, beyond its own.
+    pub fn memory_usage(&self) -> usize {
+        let mut bytes: usize = 8 * 256;
+        for needle in &self.searcher.table.needles {
+            bytes = bytes.saturating_add(needle.len()).saturating_add(32);
+        }
+        match &self.searcher.table.trie {
+            Some(trie) => bytes
+                .saturating_add(trie.nodes.len().saturating_mul(12))
+                .saturating_add(trie.openings.len().saturating_mul(4)),
+            None => bytes,
+        }
+    }
+}
+
+impl fmt::Debug for Prefilter {
+    fn fmt<W: fmt::Write>(&self, f: &mut fmt::Formatter<W>) -> fmt::Result {
+        f.debug_struct("Prefilter")
+            .field("needles", &self.searcher.table.needles)
+            .finish()
+    }
+}
+
+/// A search for these needles, as `Prefilter::new` makes it.
+pub fn from_needles(alloc: Global, needles: Vec<Vec<u8>>) -> Result<Option<Prefilter>, AllocError>
+    ensures { IfOk result (λ found. MatchOption found (¬ IsUsable (needles_in needles.items))
+        (λ p. IsUsable (needles_in needles.items) × (needles_of p ≡ needles_in needles.items))) }
+{
+    if !is_usable(&needles) {
+        return Ok(None);
+    }
+    let searcher = searcher_of(alloc, needles)?;
+    Ok(Some(Prefilter { searcher }))
+}
+
+/// There is a needle, and none is empty.
+pub fn is_usable(needles: &Vec<Vec<u8>>) -> bool
+    ensures { Decides result (IsUsable (needles_in needles.now.items)) }
+{
+    for needle in needles {
+        if needle.as_slice().is_empty() {
+            return false;
+        }
+    }
+    !needles.is_empty()
+}
+
+/// A copy.
+pub fn copy_of(alloc: Global, prefilter: &Prefilter) -> Result<Prefilter, AllocError>
+    ensures { IfOk result (λ p. needles_of p ≡ needles_of prefilter.now) }
+{
+    let mut needles = Vec::with_capacity(alloc, prefilter.searcher.table.needles.len())?;
+    for needle in &prefilter.searcher.table.needles {
+        needles.push(needle.as_slice().to_vec(alloc)?)?;
+    }
+    let searcher = searcher_of(alloc, needles)?;
+    Ok(Prefilter { searcher })
+}

@@ -1,0 +1,174 @@
+//! What pieces of chunks are searched for.
+ghost use Rattle.std.specs.Prelude.{◌≡◌, ◌+◌, ◌<◌, ◌≤◌, IfOk, length, slice_index};
+ghost use Rattle.memchr.specs.Find.{IsFirst};
+ghost use Rattle.rc_needles.specs.Tables.{AreSome, needles_in};
+ghost use Rattle.rc_needles.specs.Scans.{AreHeadsOf, IsScanOf, IsScanOf-is_fact};
+
+use crate::sieve::{Sieve, sieve_of};
+use crate::table::{Table, table_of};
+use memchr::arch::all::packedpair::{DefaultFrequencyRank, HeuristicFrequencyRank};
+use memchr::memmem::Finder;
+use std::alloc::{AllocError, Global};
+
+/// A byte is common in typical text from this rank of the library's on.
+const LEAST_COMMON: u8 = 210;
+
+/// The bytes with which needles begin.
+#[derive(Clone, Copy, Drop)]
+pub enum Heads {
+    /// Each needle begins with this one.
+    One(u8),
+    /// Each begins with one of these.
+    Two(u8, u8),
+    /// Each begins with one of these.
+    Three(u8, u8, u8),
+    /// They are those of the table.
+    Many,
+}
+
+/// What a piece is searched for.
+#[derive(Drop)]
+pub enum Scan {
+    /// The only needle from the offset on.
+    Needle(Finder<'static>),
+    /// The bytes with which needles begin.
+    Heads(Heads),
+    /// The first three bytes of needles.
+    Sieve(Sieve),
+}
+
+/// A table of needles, how a piece is searched for them, and how many bytes behind a needle's start
+/// that stands which a piece is searched for.
+#[derive(Drop)]
+pub struct Searcher {
+    pub table: Table,
+    pub scan: Scan,
+    pub offset: usize,
+    ghost is_scan: { IsScanOf (needles_in table.needles.items) offset scan } by { IsScanOf-is_fact (needles_in table.needles.items) offset scan },
+}
+
+/// A searcher of these needles.
+pub fn searcher_of(alloc: Global, needles: Vec<Vec<u8>>) -> Result<Searcher, AllocError>
+    requires { AreSome (needles_in needles.items) }
+    ensures { IfOk result (λ s. s.table.needles ≡ needles) }
+{
+    let table = table_of(alloc, needles)?;
+    if table.needles.len() == 1 && table.needles[0].len() > 1 {
+        let needle = table.needles[0].as_slice();
+        let offset = rare_offset(needle);
+        let rest = Finder::new(&needle[offset..]).into_owned(alloc)?;
+        return Ok(Searcher {
+            table,
+            scan: Scan::Needle(rest),
+            offset,
+        });
+    }
+    let scan = scan_of(&table);
+    Ok(Searcher {
+        table,
+        scan,
+        offset: 0,
+    })
+}
+
+/// What a piece is searched for where there are several needles, or one of a byte.
+fn scan_of(table: &Table) -> Scan
+    ensures { IsScanOf (needles_in table.now.needles.items) 0 result }
+{
+    let heads = heads_of(table);
+    if matches!(heads, Heads::Many) || suits_sieve(&table.needles) {
+        if let Some(sieve) = sieve_of(&table.needles) {
+            return Scan::Sieve(sieve);
+        }
+    }
+    Scan::Heads(heads)
+}
+
+/// Whether several needles are sought sooner by a sieve than by few bytes with which they begin: each has
+/// the three bytes that it reads, or each has two, and one begins with a byte that stands close together.
+fn suits_sieve(needles: &[Vec<u8>]) -> bool {
+    if needles.len() < 2 {
+        return false;
+    }
+    let have_two = needles.iter().all(|needle| needle.len() >= 2);
+    are_long(needles) || (have_two && needles.iter().any(|needle| begins_common(needle)))
+}
+
+/// Whether each of the needles has at least the three bytes that a sieve reads.
+pub fn are_long(needles: &[Vec<u8>]) -> bool {
+    needles.iter().all(|needle| needle.len() >= 3)
+}
+
+/// Whether the needles begin with at most three bytes.
+pub fn have_few_heads(table: &Table) -> bool {
+    !matches!(heads_of(table), Heads::Many)
+}
+
+/// Whether the needle begins with a byte that is common in typical text.
+fn begins_common(needle: &[u8]) -> bool {
+    match needle.first() {
+        Some(byte) => is_common(*byte),
+        None => false,
+    }
+}
+
+/// Whether the byte is common in typical text. The library ranks most bytes past ASCII as common, which
+/// they are in few texts; here none is.
+fn is_common(byte: u8) -> bool {
+    let ranks = DefaultFrequencyRank;
+    byte < 128 && ranks.rank(byte) >= LEAST_COMMON
+}
+
+/// Where in the needle its two bytes side by side stand that are rarest in typical text.
+fn rare_offset(needle: &[u8]) -> usize
+    requires { 2 ≤ length needle.now }
+    ensures { result + 2 ≤ length needle.now }
+{
+    let mut rarest = 0;
+    for at in 1..needle.len() - 1 {
+        if rank(needle, at) < rank(needle, rarest) {
+            rarest = at;
+        }
+    }
+    rarest
+}
+
+/// How common the byte at a place and the next are believed to be, by the library's ranks.
+fn rank(needle: &[u8], at: usize) -> usize
+    requires { at + 2 ≤ length needle.now }
+{
+    let ranks = DefaultFrequencyRank;
+    ranks.rank(needle[at]) as usize + ranks.rank(needle[at + 1]) as usize
+}
+
+/// The bytes with which needles begin.
+fn heads_of(table: &Table) -> Heads
+    ensures { AreHeadsOf (needles_in table.now.needles.items) result }
+{
+    let Some(one) = first_byte_from(table, 0) else {
+        return Heads::Many;
+    };
+    let Some(two) = first_byte_from(table, one as usize + 1) else {
+        return Heads::One(one);
+    };
+    let Some(three) = first_byte_from(table, two as usize + 1) else {
+        return Heads::Two(one, two);
+    };
+    match first_byte_from(table, three as usize + 1) {
+        Some(_) => Heads::Many,
+        None => Heads::Three(one, two, three),
+    }
+}
+
+/// The least byte from one on with which a needle begins.
+fn first_byte_from(table: &Table, from: usize) -> Option<u8>
+    ensures { IsFirst (λ b. slice_index table.now.heads.items b
+        < length table.now.needles.items) from 256 result }
+{
+    for byte in from..256 {
+        if table.heads[byte] < table.needles.len() {
+            return Some(byte as u8);
+        }
+    }
+    None
+}

@@ -1,4 +1,0 @@
-use Rattle.rc_pass.proofs.closure.enter.Given as goal
-
-abbrev pub ghost-act : goal.ghost-act
-ghost-act g a = g.text

@@ -1,4 +1,0 @@
-use Rattle.rc_pass.proofs.greatest.choose.Given as goal
-
-abbrev pub ghost-reach_end : goal.ghost-reach_end
-ghost-reach_end g a = a.input.now

@@ -1,5 +1,0 @@
-use Rattle.std.proofs.Common.{◌≡◌, vec_len, vec_capacity}
-use Rattle.rc_pass.proofs.growth.make_row.Given as goal
-
-abbrev pub invariant-loop : goal.invariant-loop
-invariant-loop l = (vec_len l.row ≡ l.counter) × (vec_capacity l.row ≡ vec_capacity l.fn.row)

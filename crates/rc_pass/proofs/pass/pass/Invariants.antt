@@ -1,4 +1,0 @@
-use Rattle.rc_pass.proofs.pass.pass.Given as goal
-
-abbrev pub ghost-pass_from : goal.ghost-pass_from
-ghost-pass_from g a = g.text

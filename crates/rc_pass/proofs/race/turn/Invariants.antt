@@ -1,4 +1,0 @@
-use Rattle.rc_pass.proofs.race.turn.Given as goal
-
-abbrev pub ghost-advance : goal.ghost-advance
-ghost-advance g a = g.text

@@ -1,7 +1,0 @@
-use Rattle.rc_pass.proofs.race_closure.run.Given as goal
-
-abbrev pub ghost-visit : goal.ghost-visit
-ghost-visit g a = g.text
-
-abbrev pub ghost-drain : goal.ghost-drain
-ghost-drain g a = g.text

@@ -1,4 +1,0 @@
-use Rattle.rc_pass.proofs.which.choose.Given as goal
-
-abbrev pub ghost-pass : goal.ghost-pass
-ghost-pass g a = a.input.now

@@ -1,0 +1,138 @@
+//! Sets of patterns, by their numbers.
+
+ghost use Rattle.std.specs.Prelude.{◌≡◌, ℕ, ◌+◌, ◌<◌, ◌≤◌, ◌^◌, Some, true, length, slice_get};
+
+use rc_text::types::PatternID;
+use std::alloc::{AllocError, Global};
+use std::iter::FusedIterator;
+use std::marker::Model;
+
+/// A set of patterns whose numbers are below its capacity. Contracts see it as a list that says of each such number whether it is a
+/// member.
+#[derive(Drop)]
+pub struct PatternSet {
+    marks: Vec<bool>,
+    len: usize,
+}
+
+impl Model for PatternSet {
+    ghost use Rattle.std.specs.Prelude.{◌≡◌, ℕ, ◌≤◌, List, Bool, length};
+    ghost use Rattle.rc_pattern_set.specs.Sets.{Has, members};
+
+    ghost Value = { List Bool };
+
+    ghost view = { λ s. s.marks.items };
+
+    ghost invariant = { λ s. (s.len ≡ length (members s.marks.items)) × ((p : ℕ) → Has s.marks.items p → p ≤ 2147483646) };
+}
+
+impl PatternSet {
+    ghost use Rattle.std.specs.Prelude.{◌≡◌, ◌<◌, ◌↔◌, IfOk, IsTrue, true, false, length, replicate, slice_set};
+    ghost use Rattle.rc_pattern_set.specs.Sets.{Has, members, members_left};
+
+    /// A set of no pattern, for those whose numbers are below `capacity`. An `Err` is want of memory.
+    pub fn new(alloc: Global, capacity: usize) -> Result<PatternSet, AllocError>
+        ensures { IfOk result (λ s. s ≡ replicate capacity false) }
+    {
+        let marks = vec![in alloc; false; capacity]?;
+        Ok(PatternSet { marks, len: 0 })
+    }
+
+    /// Makes the pattern a member, and tells whether it was none before. Where its number is not below the capacity, nothing changes, and
+    /// this is false.
+    pub fn insert(&mut self, pattern: PatternID) -> bool
+        ensures set { self.new ≡ slice_set self.old pattern true }
+        ensures new { IsTrue result ↔ ((pattern < length self.old) × ¬ Has self.old pattern) }
+    {
+        let index = pattern.as_usize();
+        if index >= self.capacity() || self.marks[index] {
+            return false;
+        }
+        self.marks[index] = true;
+        self.len += 1;
+        true
+    }
+
+    /// Whether the pattern is a member.
+    pub fn contains(&self, pattern: PatternID) -> bool
+        ensures { IsTrue result ↔ Has self.now pattern }
+    {
+        let index = pattern.as_usize();
+        index < self.capacity() && self.marks[index]
+    }
+
+    /// The members, the least number first.
+    pub fn iter(&self) -> PatternSetIter<'_>
+        ensures { members_left result ≡ members self.now }
+    {
+        PatternSetIter {
+            left: &self.marks,
+            next: 0,
+        }
+    }
+
+    /// How many members there are.
+    pub fn len(&self) -> usize
+        ensures { result ≡ length (members self.now) }
+    {
+        let PatternSet { len, .. } = self;
+        *len
+    }
+
+    /// Whether there is no member.
+    pub fn is_empty(&self) -> bool
+        ensures { IsTrue result ↔ (length (members self.now) ≡ 0) }
+    {
+        self.len() == 0
+    }
+
+    /// Lets all members go.
+    pub fn clear(&mut self)
+        ensures { self.new ≡ replicate (length self.old) false }
+    {
+        self.marks.fill(false);
+        self.len = 0;
+    }
+
+    /// Below which number a pattern can be a member.
+    pub fn capacity(&self) -> usize
+        ensures { result ≡ length self.now }
+    {
+        self.marks.len()
+    }
+}
+
+/// The members of a set of patterns that are left, the least number first.
+#[derive(Drop)]
+pub struct PatternSetIter<'a> {
+    left: &'a [bool],
+    /// The number of the first of `left`.
+    next: usize,
+    ghost small: { next + length left.now < 2 ^ 64 },
+    ghost numbered: { (p : ℕ) → slice_get left.now p ≡ Some true → next + p ≤ 2147483646 },
+}
+
+impl<'a> Iterator for PatternSetIter<'a> {
+    ghost use Rattle.std.specs.Iterator.{YieldsFirst, item_count};
+    ghost use Rattle.rc_pattern_set.specs.Sets.{members_left};
+
+    type Item = PatternID;
+
+    ghost next_gives = { YieldsFirst members_left };
+
+    ghost remaining = { item_count members_left };
+
+    fn next(&mut self) -> Option<PatternID> {
+        while let Some((mark, others)) = self.left.split_first() {
+            let index = self.next;
+            self.left = others;
+            self.next = index + 1;
+            if *mark {
+                return PatternID::new(index);
+            }
+        }
+        None
+    }
+}
+
+impl<'a> FusedIterator for PatternSetIter<'a> {}

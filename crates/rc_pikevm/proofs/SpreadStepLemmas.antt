@@ -1,0 +1,179 @@
+-- The threads of one position, of which no match cuts off another.
+use Rattle.std.proofs.Common.{◌≡◌, ℕ, zero, suc, ◌+◌, ◌-◌, ◌<◌, ◌≤◌, List, [], ◌∷◌, ◌++◌, length, map, drop, min, inl, inr, sym, subst, ap, ◌∙◌, refl, arith, Option, Some, if◌then◌else◌, nat_le, slice_get, add-one}
+use Rattle.std.proofs.lemmas.Bool.{le-leb}
+use Rattle.std.proofs.lemmas.List.{length_push}
+use Rattle.rc_text.specs.Found.{Found}
+use Rattle.rc_pikevm.specs.Sights.{Sight}
+use Rattle.rc_pikevm.specs.Sparse.{Members}
+use Rattle.rc_pikevm.specs.Threads.{Thread, ThreadList}
+use Rattle.rc_pikevm.specs.Passing.{AllIn, AllFrom, count_from, IsGrown}
+use Rattle.rc_pikevm.specs.Spread.{Runner, running, Seeks, BeginFrom, AllBefore, IsRising, IsOrdered, StaysCounted, IsSpreading, setting_out, starting}
+use Rattle.rc_pikevm.specs.declared.pass.Ending.{Ending}
+use Rattle.rc_pikevm.proofs.GrownLemmas.{count_push, count_all, in_push, from_push}
+use Rattle.rc_pikevm.proofs.StepLemmas.{drop_get, in_at, from_at}
+use Rattle.rc_pikevm.proofs.SpreadLemmas.{AllLater}
+use Rattle.rc_pikevm.proofs.SpreadMoveLemmas.{later_waits, ordered_push, ordered_wider}
+
+pub begin_wider : (x y : ℕ) (rs : List Runner) → x ≤ y → BeginFrom y rs → BeginFrom x rs
+begin_wider x y [] h all = tt
+begin_wider x y (r ∷ rs) h all = (omega (arith, h, all.0), begin_wider x y rs h all.1)
+
+begin_threads : (x : ℕ) (ts : List Thread) (below : List Runner) → AllFrom x ts → BeginFrom x below → BeginFrom x (map running ts ++ below)
+begin_threads x [] below all h = h
+begin_threads x (t ∷ ts) below all h = (all.0, begin_threads x ts below all.1 h)
+
+-- the starts that are still to come
+pub setting_from : (x y count : ℕ) → x ≤ y → BeginFrom x (setting_out y count)
+setting_from x y zero h = tt
+setting_from x y (suc count) h = (h, setting_from x (y + 1) count (omega (arith, h)))
+
+pub setting_later : (s : Sight) (at x count : ℕ) → at < x → AllLater s at (setting_out x count)
+setting_later s at x zero h = tt
+setting_later s at x (suc count) h = (h, setting_later s at (x + 1) count (omega (arith, h)))
+
+pub starting_next : (at last : ℕ) → at ≤ last → starting at last ≡ (at, (0, at)) ∷ starting (at + 1) last
+starting_next at last h = let n : last + 1 - at ≡ suc (last + 1 - (at + 1)) = omega (arith, h) in ap (setting_out at) n
+
+pub starting_over : (at last : ℕ) → last < at → starting at last ≡ []
+starting_over at last h = let e : last + 1 - at ≡ 0 = omega (arith, h) in ap (setting_out at) e
+
+pub all_from_zero : (ts : List Thread) → AllFrom 0 ts
+all_from_zero [] = tt
+all_from_zero (t ∷ ts) = (omega arith, all_from_zero ts)
+
+module _ (s : Sight) (n hi at : ℕ) (all : List Thread) (threads0 : ThreadList) (best0 : Option Ending) where
+  pub spreading_begins : (entered : Members) → threads0.items ≡ [] → entered.items ≡ [] → entered.capacity ≡ n → n ≤ threads0.room → IsOrdered at all →
+      IsSpreading s n hi at all all threads0 best0 threads0 entered best0
+  spreading_begins entered no_threads no_places capacity room ordered = record {
+    seeks = λ below o low x.
+        subst (λ v. Seeks s at [] v (map running all ++ below) best0 o) no_places
+        (subst (λ r. Seeks s at r entered.items (map running all ++ below) best0 o) no_threads x);
+    sound = record {
+      capacity = capacity;
+      few = rw no_places (omega arith);
+      room = rw (no_threads, no_places) (omega (arith, room));
+      inside = rw no_threads tt;
+    };
+    same_room = refl;
+    same_most = refl;
+    same_width = refl;
+    counts = λ q. rw (no_threads, no_places) (omega arith);
+    begun = λ x h. rw no_threads tt;
+    some = inl (omega arith);
+    reached = 0;
+    within = omega arith;
+    ordered = rw no_threads (record { rising = tt; before = tt });
+    left_from = all_from_zero all;
+    left_rising = ordered.rising;
+    left_before = ordered.before;
+    counted = λ k h x. x;
+  }
+
+  module _ (threads : ThreadList) (entered : Members) (best : Option Ending) (index : ℕ) (t : Thread) (item : slice_get all index ≡ Some t)
+      (inside : AllIn n at (min hi (at + 3)) all) (so_far : IsSpreading s n hi at all (drop index all) threads0 best0 threads entered best) where
+    left : List Thread
+    left = drop (index + 1) all
+
+    here : drop index all ≡ t ∷ drop (index + 1) all
+    here = drop_get all index t item ∙ ap (λ k. t ∷ drop k all) (sym (add-one index))
+
+    counted : (q : ℕ) → count_from q threads.items + ((if nat_le q t.at then 1 else 0) + count_from q (drop (index + 1) all)) ≤ count_from q all + length entered.items
+    counted q = subst (λ ts. count_from q threads.items + count_from q ts ≤ count_from q all + length entered.items) here (so_far.counts q)
+
+    from_here : (so_far.reached ≤ t.start) × AllFrom so_far.reached (drop (index + 1) all)
+    from_here = subst (λ ts. AllFrom so_far.reached ts) here so_far.left_from
+
+    rising_here : AllFrom t.start (drop (index + 1) all) × IsRising (drop (index + 1) all)
+    rising_here = subst IsRising here so_far.left_rising
+
+    before_here : (t.start ≤ at) × AllBefore at (drop (index + 1) all)
+    before_here = subst (λ ts. AllBefore at ts) here so_far.left_before
+
+    pub ordered_here : IsOrdered t.start threads.items
+    ordered_here = ordered_wider so_far.reached t.start threads.items from_here.0 so_far.ordered
+
+    -- there is room for a thread that waits
+    pub waits_fit : at < t.at → count_from (at + 1) all + n ≤ threads0.room → length threads.items < threads.room
+    waits_fit later room =
+        let c = rw (le-leb (at + 1) t.at (omega arith)) at (counted (at + 1)) in
+        let l = count_all n (at + 1) (min hi (at + 4)) (at + 1) threads.items so_far.sound.inside (omega arith) in
+        omega (arith, c, l, so_far.same_room, so_far.sound.few)
+
+    -- a thread that goes on later waits
+    pub spreading_waits : (threads2 : ThreadList) → at < t.at → length threads.items < threads.room →
+        count_from (at + 1) all + n ≤ threads0.room →
+        threads2 ≡ record threads { items = threads.items ++ t ∷ [] } →
+        IsSpreading s n hi at all (drop (index + 1) all) threads0 best0 threads2 entered best
+    spreading_waits threads2 later fits room e = rw e (record {
+      seeks = λ below o low x.
+          so_far.seeks below o low
+          (subst (λ ts. Seeks s at threads.items entered.items (map running ts ++ below) best o) (sym here)
+          (later_waits s at threads.items entered.items best o t (map running (drop (index + 1) all) ++ below) later x));
+      sound = record {
+        capacity = so_far.sound.capacity;
+        few = so_far.sound.few;
+        room = rw length_push (
+            let c = rw (le-leb (at + 1) t.at (omega arith)) at (counted (at + 1)) in
+            let l = count_all n (at + 1) (min hi (at + 4)) (at + 1) threads.items so_far.sound.inside (omega arith) in
+            omega (arith, c, l, so_far.same_room));
+        inside = let i = in_at n at (min hi (at + 3)) all index t inside item in
+            in_push n (at + 1) (min hi (at + 4)) threads.items t so_far.sound.inside (i.0, omega (arith, later), omega (arith, i.2));
+      };
+      same_room = so_far.same_room;
+      same_most = so_far.same_most;
+      same_width = so_far.same_width;
+      counts = λ q. let c = counted q in let p = count_push q threads.items t in omega (arith, c, p);
+      begun = λ x h. from_push x threads.items t (so_far.begun x h) (from_at x all index t h item);
+      some = inr (rw length_push (omega arith));
+      reached = t.start;
+      within = before_here.0;
+      ordered = ordered_push threads.items t ordered_here;
+      left_from = rising_here.0;
+      left_rising = rising_here.1;
+      left_before = before_here.1;
+      counted = so_far.counted;
+    })
+
+    -- a thread goes on here
+    pub spreading_closes : (threads2 : ThreadList) (entered2 : Members) (best2 : Option Ending) → t.at ≤ at →
+        ((below : List Runner) (o : Option Found) → BeginFrom t.start below → Seeks s at threads2.items entered2.items below best2 o →
+        Seeks s at threads.items entered.items ((t.start, (t.place, at)) ∷ below) best o) →
+        IsGrown n hi t.start at threads entered threads2 entered2 → IsOrdered t.start threads2.items → StaysCounted t.start at best best2 →
+        0 < length entered2.items →
+        IsSpreading s n hi at all (drop (index + 1) all) threads0 best0 threads2 entered2 best2
+    spreading_closes threads2 entered2 best2 now closing grown ordered stays some = record {
+      seeks = λ below o low x.
+          so_far.seeks below o low
+          (subst (λ ts. Seeks s at threads.items entered.items (map running ts ++ below) best o) (sym here)
+          (goes_on below o (closing (map running (drop (index + 1) all) ++ below) o
+          (begin_threads t.start (drop (index + 1) all) below rising_here.0 (begin_wider t.start at below before_here.0 low)) x)));
+      sound = grown.sound;
+      same_room = grown.same_room ∙ so_far.same_room;
+      same_most = grown.same_most ∙ so_far.same_most;
+      same_width = grown.same_width ∙ so_far.same_width;
+      counts = λ q. let c = counted q in let g = grown.counts q in omega (arith, c, g);
+      begun = λ x h. grown.begun x (from_at x all index t h item) (so_far.begun x h);
+      some = inr (omega (arith, some));
+      reached = t.start;
+      within = before_here.0;
+      ordered = ordered;
+      left_from = rising_here.0;
+      left_rising = rising_here.1;
+      left_before = before_here.1;
+      counted = λ k h x. let f = from_at (at + 1 - k) all index t h item in stays k (omega (arith, f)) (so_far.counted k h x);
+    }
+      where
+        goes_on : (below : List Runner) (o : Option Found) →
+            Seeks s at threads.items entered.items ((t.start, (t.place, at)) ∷ (map running (drop (index + 1) all) ++ below)) best o →
+            Seeks s at threads.items entered.items (running t ∷ (map running (drop (index + 1) all) ++ below)) best o
+        goes_on below o x =
+            let i = in_at n at (min hi (at + 3)) all index t inside item in
+            let e : t.at ≡ at = omega (arith, i.1, now) in
+            subst (λ q. Seeks s at threads.items entered.items ((t.start, (t.place, q)) ∷ (map running (drop (index + 1) all) ++ below)) best o) (sym e) x
+
+-- none are left
+pub spreading_over : (ts : List Thread) (k : ℕ) → length ts ≤ k → drop k ts ≡ []
+spreading_over [] zero h = refl
+spreading_over [] (suc k) h = refl
+spreading_over (t ∷ ts) zero h = absurd (omega (arith, h))
+spreading_over (t ∷ ts) (suc k) h = spreading_over ts k (omega (arith, h))

@@ -1,0 +1,10 @@
+use Rattle.rc_pikevm.proofs.alone.begin.Given as goal
+
+abbrev pub ghost-seek : goal.ghost-seek
+ghost-seek g a = g.text
+
+abbrev pub ghost-set_out_alone : goal.ghost-set_out_alone
+ghost-set_out_alone g a = g.text
+
+abbrev pub ghost-opening : goal.ghost-opening
+ghost-opening g a = g.text

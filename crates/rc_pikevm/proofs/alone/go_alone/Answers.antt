@@ -1,0 +1,97 @@
+use Rattle.std.proofs.Common.{◌≡◌, ℕ, ◌+◌, [], ◌∷◌, min, Some, refl, sym, ap, subst, arith}
+use Rattle.rc_pikevm.specs.Near.{size}
+use Rattle.rc_pikevm.specs.Moves.{seen_by}
+use Rattle.rc_pikevm.specs.Threads.{ThreadList, thread_of}
+use Rattle.rc_pikevm.specs.Passing.{IsPassing, Pending, IsLined}
+use Rattle.rc_pikevm.specs.Windows.{IsBegun}
+use Rattle.rc_pikevm.proofs.StepLemmas.{in_at}
+use Rattle.rc_pikevm.proofs.TurnLemmas.{none_from}
+use Rattle.rc_pikevm.proofs.PassingLemmas.{passing_turns}
+use Rattle.rc_pikevm.proofs.AloneLemmas.{only_thread, passing_runs, ends_only}
+use Rattle.rc_pikevm.proofs.alone.go_alone.Given.{Over}
+use Rattle.rc_pikevm.proofs.alone.go_alone.Goals as goal
+use Rattle.rc_pikevm.proofs.alone.go_alone.Goals.{After-get, After-move_alone}
+
+one : (g : Over) (c : After-get g) → c.args.scratch.now.curr.items ≡ thread_of c.get.result.0 c.get.result.1.now ∷ []
+one g c =
+    only_thread c.args.scratch.now.curr.items (thread_of c.get.result.0 c.get.result.1.now) (omega (arith, c.len.ensures.value, c.if-len-ne1.false))
+    c.get.ensures.item
+
+pub run-ended-requires : goal.run-ended-requires
+run-ended-requires g c =
+    let here : c.get.result.0.at ≡ c.args.at = omega (arith, c.if-first-at.false) in (
+      c.requires.0,
+      (
+        c.requires.1.0,
+        (
+          subst (λ x. IsBegun g.text x c.args.window.now) (sym here) c.requires.1.1.0,
+          (
+            omega (arith, here, c.requires.1.1.1.1.0),
+            (
+              (in_at (size c.args.course) c.args.at (min c.args.course.hi (c.args.at + 3)) c.args.scratch.now.curr.items 0
+                  (thread_of c.get.result.0 c.get.result.1.now) c.requires.1.1.1.1.1.1.1.lined.inside c.get.ensures.item).0,
+              (c.opening-way.ensures.inside, c.opening-way.ensures.way),
+            ),
+          ),
+        ),
+      ),
+    )
+
+-- the lone thread has gone on
+gone : (g : Over) (c : After-move_alone g) (from : ℕ) → c.args.scratch.now.curr.items ≡ thread_of c.get.result.0 c.get.result.1.now ∷ [] →
+    IsPassing (seen_by c.args.course g.text) (size c.args.course) c.args.course.hi c.args.scratch.now.next.threads.width from c.args.course.last
+    c.args.at c.args.scratch.now.insertions c.args.scratch.now.curr c.args.best.now c.args.scratch.now.found.items →
+    IsPassing (seen_by c.args.course g.text) (size c.args.course) c.args.course.hi c.args.scratch.now.next.threads.width from c.args.course.last
+    c.run-ended.result.0.at c.move_alone.new.scratch.insertions c.move_alone.new.scratch.curr c.args.best.now c.move_alone.new.scratch.found.items
+gone g c from e p =
+    let t = thread_of c.get.result.0 c.get.result.1.now in
+    let here : c.get.result.0.at ≡ c.args.at = omega (arith, c.if-first-at.false) in
+    subst (λ l. IsPassing (seen_by c.args.course g.text) (size c.args.course) c.args.course.hi c.args.scratch.now.next.threads.width from
+    c.args.course.last c.run-ended.result.0.at c.move_alone.new.scratch.insertions c.move_alone.new.scratch.curr c.args.best.now l)
+    (sym c.move_alone.ensures.found)
+    (passing_runs (seen_by c.args.course g.text) (size c.args.course) c.args.course.hi c.args.scratch.now.next.threads.width from c.args.course.last
+    c.args.at c.args.scratch.now.insertions c.args.scratch.now.curr c.args.best.now c.args.scratch.now.found.items t c.run-ended.result.0
+    c.move_alone.new.scratch.insertions c.move_alone.new.scratch.curr c.is_none.result p e (c.move_alone.ensures.curr t e) here
+    c.run-ended.ensures.start c.run-ended.ensures.place_in (omega (arith, here, c.run-ended.ensures.later)) c.run-ended.ensures.within
+    c.move_alone.ensures.insertions (none_from c.args.best.now c.is_none.result c.is_none.ensures) c.run-ended.ensures.carries)
+
+pub returns-in_default-clause-passing : goal.returns-in_default-clause-passing
+returns-in_default-clause-passing g c from p =
+    gone g (goal.at.returns-in_default-clause-passing g c).After-move_alone from (one g (goal.at.returns-in_default-clause-passing g c).After-get) p
+
+pub end_walk-requires : goal.end_walk-requires
+end_walk-requires g c =
+    let t = thread_of c.get.result.0 c.get.result.1.now in
+    let e = one g (goal.at.end_walk-requires g c).After-get in
+    let given = c.requires.1.1.1.1.1.1 in
+    let p = gone g (goal.at.end_walk-requires g c).After-move_alone given.0 e given.1 in
+    let ended = rw c.in-Some.is at c.run-ended.ensures.ended in (
+      subst (λ w. IsLined (size c.args.course) c.args.course.hi w c.run-ended.result.0.at c.move_alone.new.scratch.insertions c.move_alone.new.scratch.curr)
+          (sym c.move_alone.ensures.width) p.lined,
+      (
+        omega (arith, c.requires.1.1.1.1.1.0, c.move_alone.ensures.insertions, c.run-ended.ensures.within, c.args.course.small),
+        ends_only (seen_by c.args.course g.text) c.run-ended.result.0.at c.move_alone.new.scratch.curr.items
+            (thread_of c.run-ended.result.0 t.slots) c.in-Some.number (ap (λ (l : ThreadList). l.items) (c.move_alone.ensures.curr t e)) refl ended.0,
+      ),
+    )
+
+pub returns-clause-passing : goal.returns-clause-passing
+returns-clause-passing g c from p =
+    let width : ℕ = c.args.scratch.now.next.threads.width in
+    let s = seen_by c.args.course g.text in
+    let n : ℕ = size c.args.course in
+    let last : ℕ = c.args.course.last in
+    let at : ℕ = c.run-ended.result.0.at in
+    let wide = c.move_alone.ensures.width in
+    let here = gone g (goal.at.returns-clause-passing g c).After-move_alone from (one g (goal.at.returns-clause-passing g c).After-get) p in
+    passing_turns s n c.args.course.hi width from last at c.move_alone.new.scratch.insertions c.end_walk.new.scratch.insertions
+    c.move_alone.new.scratch.curr c.end_walk.new.scratch.curr c.args.best.now (Some c.end_walk.result) c.move_alone.new.scratch.found.items
+    c.end_walk.new.scratch.found.items here c.run-ended.ensures.within
+    (λ o x. subst (λ w. Pending s w last at c.move_alone.new.scratch.curr.items c.args.best.now c.move_alone.new.scratch.found.items o) wide
+    (c.end_walk.ensures.carries c.args.best.now o
+    (subst (λ w. Pending s w last (at + 1) c.end_walk.new.scratch.curr.items (Some c.end_walk.result)
+    c.end_walk.new.scratch.found.items o) (sym wide) x)))
+    (subst (λ w. IsLined n c.args.course.hi w (at + 1) c.end_walk.new.scratch.insertions c.end_walk.new.scratch.curr) wide
+    c.end_walk.ensures.lined)
+    c.end_walk.ensures.counted
+    (omega (arith, c.end_walk.ensures.few, c.run-ended.ensures.place_in))

@@ -1,0 +1,18 @@
+use Rattle.std.proofs.Common.{◌+◌, ◌-◌, ◌*◌, ◌≤◌, length, reverse, vec_len}
+use Rattle.rc_pikevm.specs.Near.{seen_from, size}
+use Rattle.rc_pikevm.specs.Passing.{IsClosing, waits}
+use Rattle.rc_pikevm.proofs.closure.drain.Given as goal
+
+abbrev pub invariant-frames : goal.invariant-frames
+invariant-frames g l = record {
+  closing : IsClosing (seen_from l.spot g.text) (size l.spot.course) l.spot.course.hi l.start l.spot.at
+      (waits l.start l.spot.at (reverse l.fn.growth.stack.items) l.fn.growth.slots.items) l.fn.growth.threads l.fn.growth.entered
+      l.growth.threads l.growth.entered (reverse l.growth.stack.items) l.growth.slots.items;
+  deep : vec_len l.growth.stack ≤ length l.growth.entered.items + 1;
+}
+
+abbrev pub decreases-frames : goal.decreases-frames
+decreases-frames g l = 3 * (size l.spot.course - length l.growth.entered.items) + vec_len l.growth.stack
+
+abbrev pub ghost-visit : goal.ghost-visit
+ghost-visit g a = g.text

@@ -1,0 +1,13 @@
+use Rattle.std.proofs.Common.{drop}
+use Rattle.rc_pikevm.specs.Near.{seen_from, size}
+use Rattle.rc_pikevm.specs.Spread.{IsSpreading}
+use Rattle.rc_pikevm.proofs.greatest.step.Given as goal
+
+abbrev pub invariant-threads : goal.invariant-threads
+invariant-threads g l = record {
+  spreading : IsSpreading (seen_from l.spot g.text) (size l.spot.course) l.spot.course.hi l.spot.at l.curr.items (drop l.index l.curr.items) l.fn.growth.threads l.fn.best
+      l.growth.threads l.growth.entered l.best;
+}
+
+abbrev pub ghost-spread : goal.ghost-spread
+ghost-spread g a = g.text

@@ -1,0 +1,55 @@
+use Rattle.std.proofs.Common.{ℕ, ◌+◌, ◌-◌, length, min, sym, ap, subst, ◌∙◌, arith, ⊎_elim}
+use Rattle.std.proofs.lemmas.Bool.{cases_lt}
+use Rattle.rc_pikevm.specs.Threads.{ThreadList}
+use Rattle.rc_pikevm.specs.Near.{seen_from, size}
+use Rattle.rc_pikevm.specs.Passing.{AllIn, IsLined}
+use Rattle.rc_pikevm.specs.Spread.{IsOrdered, starting}
+use Rattle.rc_pikevm.proofs.TurnLemmas.{lined_next, from_earlier}
+use Rattle.rc_pikevm.proofs.SpreadMoveLemmas.{turned_over, ordered_wider}
+use Rattle.rc_pikevm.proofs.SpreadStepLemmas.{setting_later}
+use Rattle.rc_pikevm.proofs.SpreadPassLemmas.{counted_more, from_none}
+use Rattle.rc_pikevm.proofs.greatest.turn.Goals as goal
+
+pub finish-requires-clause-inside : goal.finish-requires-clause-inside
+finish-requires-clause-inside g c = (
+  c.args.spot.now.at + 1,
+  min c.args.spot.now.course.hi (c.args.spot.now.at + 4),
+  subst (λ n. AllIn n (c.args.spot.now.at + 1) (min c.args.spot.now.course.hi (c.args.spot.now.at + 4)) c.advance.new.growth.threads.items)
+      (sym c.advance.ensures.sound.capacity) c.advance.ensures.sound.inside,
+)
+
+pub returns-clause-seeks : goal.returns-clause-seeks
+returns-clause-seeks g c o x =
+    let s = seen_from c.args.spot.now g.text in
+    let at : ℕ = c.args.spot.now.at in
+    let last : ℕ = c.args.spot.now.course.last in
+    c.advance.ensures.seeks o
+    (turned_over s at c.advance.new.growth.threads.items c.advance.new.growth.entered.items c.advance.new.best o (starting (at + 1) last)
+    (setting_later s at (at + 1) (last + 1 - (at + 1)) (omega arith)) (rw c.finish.ensures.threads at x))
+
+pub returns-clause-lined : goal.returns-clause-lined
+returns-clause-lined g c =
+    subst (λ l. IsLined (size c.args.spot.now.course) c.args.spot.now.course.hi 0 (c.args.spot.now.at + 1) c.finish.new.self.insertions l)
+    (sym c.finish.ensures.threads)
+    (lined_next (size c.args.spot.now.course) c.args.spot.now.course.hi 0 c.args.spot.now.at c.args.scratch.now.insertions
+    c.finish.new.self.insertions c.args.scratch.now.curr c.advance.new.growth.threads c.advance.new.growth.entered c.requires.1.1.0 c.advance.ensures.sound
+    (c.advance.ensures.same.2 ∙ ap (λ (l : ThreadList). l.width) c.clear.ensures.threads ∙ sym c.args.scratch.now.alike.2 ∙ c.requires.1.1.0.width_is)
+    (c.advance.ensures.same.0 ∙ ap (λ (l : ThreadList). l.room) c.clear.ensures.threads ∙ sym c.args.scratch.now.alike.0 ∙ c.requires.1.1.0.room)
+    c.advance.ensures.counts c.advance.ensures.begun c.finish.ensures.some)
+
+pub returns-clause-ordered : goal.returns-clause-ordered
+returns-clause-ordered g c =
+    subst (λ (l : ThreadList). IsOrdered (c.args.spot.now.at + 1) l.items) (sym c.finish.ensures.threads)
+    (ordered_wider c.args.spot.now.at (c.args.spot.now.at + 1) c.advance.new.growth.threads.items (omega arith) c.advance.ensures.ordered)
+
+pub returns-clause-counted : goal.returns-clause-counted
+returns-clause-counted g c =
+    let k : ℕ = c.finish.new.self.insertions in
+    let at : ℕ = c.args.spot.now.at in
+    c.advance.ensures.counted k (omega (arith, c.finish.ensures.counted))
+    (⊎_elim (λ none. from_none (at + 1 - k) c.args.scratch.now.curr.items none)
+    (λ some. from_earlier (at + 1 - k) (at - c.args.scratch.now.insertions) c.args.scratch.now.curr.items
+    (⊎_elim (λ l. let t = c.finish.ensures.some l in omega (arith, t))
+    (λ le. omega (arith, le, some, c.finish.ensures.counted)) (cases_lt 0 (length c.advance.new.growth.threads.items)))
+    c.requires.1.1.0.begun) c.advance.ensures.some)
+    (counted_more c.args.scratch.now.insertions k c.args.best.now (omega (arith, c.finish.ensures.counted)) c.requires.1.1.1.1.0)

@@ -1,0 +1,123 @@
+use Rattle.std.proofs.Common.{◌≡◌, ◌+◌, ◌-◌, ◌≤◌, length, None, sym, ap, subst, ◌∙◌, arith, rules}
+use Rattle.std.proofs.Math.Nat.{mul-le-mul_left}
+use Rattle.rc_text.specs.Text.{is_boundary}
+use Rattle.rc_program.specs.Answer.{Search}
+use Rattle.rc_program.specs.Sought.{anchoring_of}
+use Rattle.rc_program.specs.Programs.{search_of}
+use Rattle.rc_program.proofs.AnswerLemmas.{last_start_of}
+use Rattle.rc_pikevm.specs.Sights.{sight_of}
+use Rattle.rc_pikevm.specs.Moves.{seen}
+use Rattle.rc_pikevm.specs.Passing.{best_of}
+use Rattle.rc_pikevm.specs.Races.{GivesLongest}
+use Rattle.rc_pikevm.proofs.KeptLemmas.{kept_seen}
+use Rattle.rc_pikevm.proofs.SearchLemmas.{last_found, allowed_free, allowed_boundary, not_allowed}
+use Rattle.rc_pikevm.proofs.LongestLemmas.{none_outlasts, some_outlasts, passed_on, outlasting_chosen, past_none, walks_none, outside_none}
+use Rattle.rc_pikevm.proofs.longest.outlast.Given.{Over}
+use Rattle.rc_pikevm.proofs.longest.outlast.Goals as goal
+use Rattle.rc_pikevm.proofs.longest.outlast.Goals.{After-starts, After-race}
+
+last_is : (g : Over) (c : After-starts g) → c.starts_of-pattern.result.1
+    ≡ last_start_of (search_of c.args.program.now c.args.input.now)
+last_is g c =
+    last_found (search_of c.args.program.now c.args.input.now) c.starts_of-pattern.result.1
+    c.bounds-lo.result.0 c.bounds-lo.result.1 (anchoring_of c.get_anchored.result) c.starts_of-pattern.ensures.last c.bounds-lo.ensures.low
+    c.bounds-lo.ensures.high (ap anchoring_of (c.get_anchored.ensures ∙ c.bounds-lo.ensures.keeps.anchored))
+    (omega (arith, c.if-lo-hi.false, c.bounds-lo.ensures.low, c.bounds-lo.ensures.high))
+
+last_there : (g : Over) (c : After-race g) → c.starts_of-pattern.result.1
+    ≡ last_start_of (search_of c.args.program.now c.args.input.now)
+last_there g c =
+    last_found (search_of c.args.program.now c.args.input.now) c.starts_of-pattern.result.1
+    c.bounds-lo.result.0 c.bounds-lo.result.1 (anchoring_of c.get_anchored.result) c.starts_of-pattern.ensures.last c.bounds-lo.ensures.low
+    c.bounds-lo.ensures.high (ap anchoring_of (c.get_anchored.ensures ∙ c.bounds-lo.ensures.keeps.anchored))
+    (omega (arith, c.if-lo-hi.false, c.bounds-lo.ensures.low, c.bounds-lo.ensures.high))
+
+gives : (g : Over) (c : After-race g) →
+    GivesLongest (sight_of None (seen c.args.program.now c.args.input.now)) c.starts.scratch.next.threads.width c.starts.from c.starts_of-pattern.result.1
+    (best_of c.race.result c.race.new.scratch.found.items)
+gives g c =
+    subst (λ s. GivesLongest (sight_of None s) c.starts.scratch.next.threads.width c.starts.from c.starts_of-pattern.result.1 (best_of c.race.result c.race.new.scratch.found.items))
+    (kept_seen c.args.program.now c.args.input.now c.starts.input c.starts.invariant.keeps) c.race.ensures.gives
+
+pub returns-then-lo-hi-clause-chosen : goal.returns-then-lo-hi-clause-chosen
+returns-then-lo-hi-clause-chosen g c =
+    outside_none (search_of c.args.program.now c.args.input.now)
+    (omega (arith, c.if-lo-hi.true, c.bounds-lo.ensures.low, c.bounds-lo.ensures.high))
+
+pub returns-in_default-clause-chosen : goal.returns-in_default-clause-chosen
+returns-in_default-clause-chosen g c =
+    let s : Search = search_of c.args.program.now c.args.input.now in
+    walks_none s c.starts.scratch.next.threads.width c.starts.from c.starts_of-pattern.result.1 c.starts.invariant.passed
+    (last_there g (goal.at.returns-in_default-clause-chosen g c).After-race)
+    (none_outlasts s c.starts.scratch.next.threads.width c.starts.from c.starts_of-pattern.result.1 c.race.new.scratch.found.items
+    (subst (λ r. GivesLongest (sight_of None s) c.starts.scratch.next.threads.width c.starts.from c.starts_of-pattern.result.1 (best_of r c.race.new.scratch.found.items)) c.in_default.is
+    (gives g (goal.at.returns-in_default-clause-chosen g c).After-race)))
+
+pub returns-then-not-program-clause-chosen : goal.returns-then-not-program-clause-chosen
+returns-then-not-program-clause-chosen g c =
+    let s : Search = search_of c.args.program.now c.args.input.now in
+    let b = some_outlasts s c.starts.scratch.next.threads.width c.starts.from c.starts_of-pattern.result.1 c.in-Some.end c.race.new.scratch.found.items
+    (subst (λ r. GivesLongest (sight_of None s) c.starts.scratch.next.threads.width c.starts.from c.starts_of-pattern.result.1 (best_of r c.race.new.scratch.found.items)) c.in-Some.is
+    (gives g (goal.at.returns-then-not-program-clause-chosen g c).After-race)) in
+    outlasting_chosen s c.starts.scratch.next.threads.width c.starts.from c.starts_of-pattern.result.1 c.starts.invariant.passed
+    (last_there g (goal.at.returns-then-not-program-clause-chosen g c).After-race) c.in-Some.end c.race.new.scratch.found.items b.0
+    (c.race.new.scratch.wide.0 ∙ c.in-Some.ensures.same.width) (omega (arith, c.starts.invariant.low.0, c.bounds-lo.ensures.low)) b.1
+    (allowed_free s b.0 c.if-not-program.true)
+
+pub returns-then-is_boundary_at-clause-chosen : goal.returns-then-is_boundary_at-clause-chosen
+returns-then-is_boundary_at-clause-chosen g c =
+    let s : Search = search_of c.args.program.now c.args.input.now in
+    let b = some_outlasts s c.starts.scratch.next.threads.width c.starts.from c.starts_of-pattern.result.1 c.in-Some.end c.race.new.scratch.found.items
+    (subst (λ r. GivesLongest (sight_of None s) c.starts.scratch.next.threads.width c.starts.from c.starts_of-pattern.result.1 (best_of r c.race.new.scratch.found.items)) c.in-Some.is
+    (gives g (goal.at.returns-then-is_boundary_at-clause-chosen g c).After-race)) in
+    let content = c.in-Some.ensures.keeps.content ∙ c.starts.invariant.keeps.content in
+    outlasting_chosen s c.starts.scratch.next.threads.width c.starts.from c.starts_of-pattern.result.1 c.starts.invariant.passed
+    (last_there g (goal.at.returns-then-is_boundary_at-clause-chosen g c).After-race) c.in-Some.end c.race.new.scratch.found.items b.0
+    (c.race.new.scratch.wide.0 ∙ c.in-Some.ensures.same.width) (omega (arith, c.starts.invariant.low.0, c.bounds-lo.ensures.low)) b.1
+    (allowed_boundary s b.0 c.in-Some.end.end b.1.end
+    (ap (λ bytes. is_boundary bytes c.in-Some.end.end) (sym content) ∙ sym c.is_boundary_at.ensures.value ∙ c.if-is_boundary_at.true))
+
+pub overflow_add-from : goal.overflow_add-from
+overflow_add-from g c =
+    let s : Search = search_of c.args.program.now c.args.input.now in
+    let b = some_outlasts s c.starts.scratch.next.threads.width c.starts.from c.starts_of-pattern.result.1 c.in-Some.end c.race.new.scratch.found.items
+    (subst (λ r. GivesLongest (sight_of None s) c.starts.scratch.next.threads.width c.starts.from c.starts_of-pattern.result.1 (best_of r c.race.new.scratch.found.items)) c.in-Some.is
+    (gives g (goal.at.overflow_add-from g c).After-race)) in
+    omega (arith, b.1.high, c.starts.invariant.low.1, c.bounds-lo.ensures.small)
+
+pub starts-smaller : goal.starts-smaller
+starts-smaller g c =
+    let s : Search = search_of c.args.program.now c.args.input.now in
+    let b = some_outlasts s c.starts.scratch.next.threads.width c.starts.from c.starts_of-pattern.result.1 c.in-Some.end c.race.new.scratch.found.items
+    (subst (λ r. GivesLongest (sight_of None s) c.starts.scratch.next.threads.width c.starts.from c.starts_of-pattern.result.1 (best_of r c.race.new.scratch.found.items)) c.in-Some.is
+    (gives g (goal.at.starts-smaller g c).After-race)) in
+    omega (arith, b.1.low, b.1.high, c.starts-test.true)
+
+pub starts-preserved : goal.starts-preserved
+starts-preserved g c =
+    let s : Search = search_of c.args.program.now c.args.input.now in
+    let b = some_outlasts s c.starts.scratch.next.threads.width c.starts.from c.starts_of-pattern.result.1 c.in-Some.end c.race.new.scratch.found.items
+    (subst (λ r. GivesLongest (sight_of None s) c.starts.scratch.next.threads.width c.starts.from c.starts_of-pattern.result.1 (best_of r c.race.new.scratch.found.items)) c.in-Some.is
+    (gives g (goal.at.starts-preserved g c).After-race)) in
+    let content = c.in-Some.ensures.keeps.content ∙ c.starts.invariant.keeps.content in
+    record {
+      keeps = search rules;
+      passed = passed_on s c.starts.scratch.next.threads.width c.starts.from c.starts_of-pattern.result.1 c.starts.invariant.passed
+          (last_there g (goal.at.starts-preserved g c).After-race) c.in-Some.end c.race.new.scratch.found.items b.0 b.1
+          (not_allowed s b.0 c.in-Some.end.end b.1.end c.if-not-program.false
+          (ap (λ bytes. is_boundary bytes c.in-Some.end.end) (sym content) ∙ sym c.is_boundary_at.ensures.value ∙ c.if-is_boundary_at.false));
+      low = (omega (arith, b.1.low, c.starts.invariant.low.0), c.starts.invariant.low.1);
+      few = let m = mul-le-mul_left (length c.args.program.now.places.items) (let h : c.bounds-lo.result.1 - c.starts.from + 1 ≤ c.bounds-lo.result.1 - c.bounds-lo.result.0 + 2 = omega (arith, c.starts.invariant.low) in h) in
+          omega (arith, m, c.in-Some.ensures.few);
+      same = record {
+        capacity = c.in-Some.ensures.same.capacity ∙ c.starts.invariant.same.capacity;
+        most = c.in-Some.ensures.same.most ∙ c.starts.invariant.same.most;
+        width = c.in-Some.ensures.same.width ∙ c.starts.invariant.same.width;
+      };
+    }
+
+pub returns-clause-chosen : goal.returns-clause-chosen
+returns-clause-chosen g c =
+    past_none (search_of c.args.program.now c.args.input.now)
+    c.starts.scratch.next.threads.width c.starts.from c.starts_of-pattern.result.1 c.starts.invariant.passed
+    (last_is g (goal.at.returns-clause-chosen g c).After-starts) (omega (arith, c.starts-test.false))

@@ -1,0 +1,43 @@
+use Rattle.std.proofs.Common.{◌≡◌, ◌∙◌, sym, ap, arith, Some}
+use Rattle.std.specs.Option.{option_map}
+use Rattle.std.proofs.lemmas.Option.{none-some, same_Some}
+use Rattle.rc_text.specs.Found.{Found}
+use Rattle.rc_program.specs.Answer.{Search}
+use Rattle.rc_program.specs.Longest.{longest_groups}
+use Rattle.rc_program.specs.Programs.{search_of}
+use Rattle.rc_pikevm.proofs.LongestLemmas.{longest_groups_are, longest_is, longest_none, within}
+use Rattle.rc_pikevm.proofs.longest.search_longest_slots.Goals as goal
+
+pub returns-in_default-clause-pattern : goal.returns-in_default-clause-pattern
+returns-in_default-clause-pattern g c =
+    ap (option_map (λ (m : Found). m.pattern))
+    (sym (longest_none (search_of c.args.program.now c.args.input.now) c.in_default.ensures.chosen))
+
+pub returns-in_default-clause-counted : goal.returns-in_default-clause-counted
+returns-in_default-clause-counted g c m e =
+    absurd (none-some m
+    (sym (longest_none (search_of c.args.program.now c.args.input.now) c.in_default.ensures.chosen) ∙ e))
+
+pub returns-clause-pattern : goal.returns-clause-pattern
+returns-clause-pattern g c =
+    ap Some c.in-Some-new.ensures.1
+    ∙ ap (option_map (λ (m : Found). m.pattern))
+    (sym (longest_is (search_of c.args.program.now c.args.input.now) c.in-Some.end c.choose_longest.new.slots
+    c.in-Some.ensures.chosen.0 c.in-Some.ensures.chosen.1))
+
+pub returns-clause-slots : goal.returns-clause-slots
+returns-clause-slots g c =
+    let s : Search = search_of c.args.program.now c.args.input.now in
+    longest_groups_are s c.in-Some.end c.choose_longest.new.slots c.in-Some.ensures.chosen.0 c.in-Some.ensures.chosen.1 c.put_match.new.slots
+    c.put_match.ensures
+    ∙ ap (longest_groups s) (omega (arith, c.choose_longest.auto.slots))
+
+pub returns-clause-counted : goal.returns-clause-counted
+returns-clause-counted g c m e =
+    let f = same_Some _ _ (sym (longest_is (search_of c.args.program.now c.args.input.now) c.in-Some.end
+    c.choose_longest.new.slots c.in-Some.ensures.chosen.0 c.in-Some.ensures.chosen.1) ∙ e) in
+    let start : c.in-Some.end.start ≡ m.start = ap (λ (x : Found). x.start) f in
+    let end : c.in-Some.end.end ≡ m.end = ap (λ (x : Found). x.end) f in
+    let w = within (search_of c.args.program.now c.args.input.now) c.in-Some.end
+    c.choose_longest.new.slots c.in-Some.ensures.chosen.0 c.in-Some.ensures.chosen.1 in
+    omega (arith, start, end, w.1, c.in-Some.ensures.counted)

@@ -1,0 +1,82 @@
+use Rattle.std.proofs.Common.{◌≡◌, ℕ, ◌+◌, ◌-◌, [], ◌++◌, map, min, sym, ap, subst, ◌∙◌, arith, Some}
+use Rattle.rc_pikevm.specs.Threads.{ThreadList}
+use Rattle.rc_pikevm.specs.Near.{seen_from, size}
+use Rattle.rc_pikevm.specs.Trace.{done}
+use Rattle.rc_pikevm.specs.Passing.{Carries, Pending, AllIn, IsLined, pending, waiting_starts}
+use Rattle.rc_pikevm.proofs.TurnLemmas.{none_from, lined_next, turned_on, turned_ends}
+use Rattle.rc_pikevm.proofs.pass.turn.Given.{Over}
+use Rattle.rc_pikevm.proofs.pass.turn.Goals as goal
+use Rattle.rc_pikevm.proofs.pass.turn.Goals.{After-clear}
+
+wide : (g : Over) (c : After-clear g) → c.clear.new.self.threads.width ≡ c.args.scratch.now.next.threads.width
+wide g c = ap (λ (l : ThreadList). l.width) c.clear.ensures.threads
+
+pub finish-requires-clause-inside : goal.finish-requires-clause-inside
+finish-requires-clause-inside g c = (
+  c.args.spot.now.at + 1,
+  min c.args.spot.now.course.hi (c.args.spot.now.at + 4),
+  subst (λ n. AllIn n (c.args.spot.now.at + 1) (min c.args.spot.now.course.hi (c.args.spot.now.at + 4)) c.advance-end.new.growth.threads.items)
+      (sym c.advance-end.ensures.sound.capacity) c.advance-end.ensures.sound.inside,
+)
+
+pub returns-in-Some-clause-carries : goal.returns-in-Some-clause-carries
+returns-in-Some-clause-carries g c o x =
+    let width : ℕ = c.args.scratch.now.next.threads.width in
+    let found : c.copy_from_slice.new.self.items ≡ c.advance-end.new.growth.slots.items = c.copy_from_slice.ensures.items ∙ c.deref.ensures.value ∙ c.finish.ensures.slots in
+    turned_ends (seen_from c.args.spot.now g.text) width c.args.spot.now.course.last c.args.spot.now.at c.args.scratch.now.curr.items
+    c.advance-end.new.growth.threads.items c.advance-end.new.growth.entered.items c.args.best c.args.scratch.now.found.items
+    c.copy_from_slice.new.self.items o c.is_none.result
+    (record { pattern = c.in-Some.number; start = c.in-Some.start; end = c.args.spot.now.at })
+    (none_from c.args.best c.is_none.result c.is_none.ensures)
+    (λ best o y. subst (λ w. Carries (seen_from c.args.spot.now g.text) c.args.spot.now.at [] []
+    (map pending c.args.scratch.now.curr.items ++ waiting_starts c.is_none.result w c.args.spot.now.at c.args.spot.now.course.last) best o)
+    (wide g (goal.at.returns-in-Some-clause-carries g c).After-clear)
+    (c.in-Some.ensures.carries best o
+    (subst (λ l. Carries (seen_from c.args.spot.now g.text) c.args.spot.now.at c.advance-end.new.growth.threads.items
+    c.advance-end.new.growth.entered.items [] (Some (done c.in-Some.number c.in-Some.start c.args.spot.now.at l)) o) found y)))
+    (subst (λ (l : ThreadList). Pending (seen_from c.args.spot.now g.text) width c.args.spot.now.course.last (c.args.spot.now.at + 1) l.items
+    (Some (record { pattern = c.in-Some.number; start = c.in-Some.start; end = c.args.spot.now.at })) c.copy_from_slice.new.self.items o)
+    c.finish.ensures.threads x)
+
+pub returns-clause-carries : goal.returns-clause-carries
+returns-clause-carries g c o x =
+    let width : ℕ = c.args.scratch.now.next.threads.width in
+    turned_on (seen_from c.args.spot.now g.text) width c.args.spot.now.course.last c.args.spot.now.at c.args.scratch.now.curr.items
+    c.advance-end.new.growth.threads.items c.advance-end.new.growth.entered.items c.args.best c.args.scratch.now.found.items o c.is_none.result
+    (none_from c.args.best c.is_none.result c.is_none.ensures)
+    (λ best o y. subst (λ w. Carries (seen_from c.args.spot.now g.text) c.args.spot.now.at [] []
+    (map pending c.args.scratch.now.curr.items ++ waiting_starts c.is_none.result w c.args.spot.now.at c.args.spot.now.course.last) best o)
+    (wide g (goal.at.returns-clause-carries g c).After-clear)
+    (c.in_default.ensures.carries best o
+    (subst (λ w. Carries (seen_from c.args.spot.now g.text) c.args.spot.now.at c.advance-end.new.growth.threads.items
+    c.advance-end.new.growth.entered.items (waiting_starts c.is_none.result w (c.args.spot.now.at + 1) c.args.spot.now.course.last) best o)
+    (sym (wide g (goal.at.returns-clause-carries g c).After-clear)) y)))
+    (rw (c.finish.ensures.threads, c.finish.ensures.found) at x)
+
+pub returns-in-Some-clause-lined : goal.returns-in-Some-clause-lined
+returns-in-Some-clause-lined g c =
+    subst (λ l. IsLined (size c.args.spot.now.course) c.args.spot.now.course.hi c.args.scratch.now.next.threads.width (c.args.spot.now.at + 1)
+    c.finish.new.self.insertions l) (sym c.finish.ensures.threads)
+    (lined_next (size c.args.spot.now.course) c.args.spot.now.course.hi c.args.scratch.now.next.threads.width c.args.spot.now.at
+    c.args.scratch.now.insertions c.finish.new.self.insertions c.args.scratch.now.curr
+    c.advance-end.new.growth.threads c.advance-end.new.growth.entered c.requires.1.1.0 c.in-Some.ensures.sound
+    (c.in-Some.ensures.same.2 ∙ wide g (goal.at.returns-in-Some-clause-lined g c).After-clear)
+    (c.in-Some.ensures.same.0 ∙ ap (λ (l : ThreadList). l.room) c.clear.ensures.threads ∙ sym c.args.scratch.now.alike.0 ∙ c.requires.1.1.0.room)
+    c.in-Some.ensures.counts c.in-Some.ensures.begun c.finish.ensures.some)
+
+pub returns-clause-lined : goal.returns-clause-lined
+returns-clause-lined g c =
+    subst (λ l. IsLined (size c.args.spot.now.course) c.args.spot.now.course.hi c.args.scratch.now.next.threads.width (c.args.spot.now.at + 1)
+    c.finish.new.self.insertions l) (sym c.finish.ensures.threads)
+    (lined_next (size c.args.spot.now.course) c.args.spot.now.course.hi c.args.scratch.now.next.threads.width c.args.spot.now.at
+    c.args.scratch.now.insertions c.finish.new.self.insertions c.args.scratch.now.curr
+    c.advance-end.new.growth.threads c.advance-end.new.growth.entered c.requires.1.1.0 c.in_default.ensures.sound
+    (c.in_default.ensures.same.2 ∙ wide g (goal.at.returns-clause-lined g c).After-clear)
+    (c.in_default.ensures.same.0 ∙ ap (λ (l : ThreadList). l.room) c.clear.ensures.threads ∙ sym c.args.scratch.now.alike.0 ∙ c.requires.1.1.0.room)
+    c.in_default.ensures.counts c.in_default.ensures.begun c.finish.ensures.some)
+
+pub returns-in-Some-clause-counted : goal.returns-in-Some-clause-counted
+returns-in-Some-clause-counted g c =
+    let e = c.in-Some.ensures.ended in
+    let f = e.1 (c.args.spot.now.at - c.args.scratch.now.insertions) (omega arith) c.requires.1.1.0.begun in
+    omega (arith, e.0, f, c.finish.ensures.counted)

@@ -1,0 +1,10 @@
+use Rattle.rc_pikevm.proofs.race_alone.wander.Given as goal
+
+abbrev pub ghost-opening : goal.ghost-opening
+ghost-opening g a = g.text
+
+abbrev pub ghost-begin : goal.ghost-begin
+ghost-begin g a = g.text
+
+abbrev pub ghost-go_alone : goal.ghost-go_alone
+ghost-go_alone g a = g.text

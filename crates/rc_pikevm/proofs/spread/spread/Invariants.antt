@@ -1,0 +1,18 @@
+use Rattle.std.proofs.Common.{◌+◌, ◌-◌, ◌*◌, ◌≤◌, ◌≡◌, length, reverse, vec_len}
+use Rattle.rc_pikevm.specs.Near.{seen_from, size}
+use Rattle.rc_pikevm.specs.Spread.{IsSpread}
+use Rattle.rc_pikevm.proofs.spread.spread.Given as goal
+
+abbrev pub invariant-frames : goal.invariant-frames
+invariant-frames g l = record {
+  spread : IsSpread (seen_from l.spot g.text) (size l.spot.course) l.spot.course.hi l.start l.spot.at l.root l.fn.growth.threads l.fn.growth.entered l.fn.best
+      l.growth.threads l.growth.entered l.best (reverse l.growth.stack.items);
+  width : l.growth.threads.width ≡ 0;
+  deep : vec_len l.growth.stack ≤ length l.growth.entered.items + 1;
+}
+
+abbrev pub decreases-frames : goal.decreases-frames
+decreases-frames g l = 3 * (size l.spot.course - length l.growth.entered.items) + vec_len l.growth.stack
+
+abbrev pub ghost-visit : goal.ghost-visit
+ghost-visit g a = g.text

@@ -1,0 +1,32 @@
+use Rattle.std.proofs.Common.{ℕ, ◌+◌, ◌<◌, ◌↔◌, [], ◌++◌, map, sym, subst, arith, ◌∙◌}
+use Rattle.rc_pikevm.specs.Near.{seen_from}
+use Rattle.rc_pikevm.specs.Marking.{Owed, entering, going}
+use Rattle.rc_pikevm.proofs.MarkMoveLemmas.{same_then, low_in}
+use Rattle.rc_pikevm.proofs.MarkStepLemmas.{entering_next, entering_over}
+use Rattle.rc_pikevm.proofs.which.advance.Goals as goal
+
+pub returns-then-spot-clause-same : goal.returns-then-spot-clause-same
+returns-then-spot-clause-same g c p low =
+    let at : ℕ = c.args.spot.now.at in
+    let s = seen_from c.args.spot.now g.text in
+    same_then (c.step.ensures.same (entering at c.args.spot.now.course.last) p low)
+    (subst (λ ns. Owed s at c.step.new.growth.threads.items c.step.new.growth.entered.items ns c.step.new.set p
+    ↔ Owed s at c.spread.new.growth.threads.items c.spread.new.growth.entered.items (entering (at + 1) c.args.spot.now.course.last) c.spread.new.set p)
+    (sym (entering_next at c.args.spot.now.course.last (omega (arith, c.if-spot.true))))
+    (c.spread.ensures.same (entering (at + 1) c.args.spot.now.course.last) p (low_in p c.args.set.now c.step.new.set c.step.ensures.long low)))
+
+pub returns-else-spot-clause-same : goal.returns-else-spot-clause-same
+returns-else-spot-clause-same g c p low =
+    let at : ℕ = c.args.spot.now.at in
+    let past : c.args.spot.now.course.last < at = omega (arith, c.if-spot.false) in
+    let s = seen_from c.args.spot.now g.text in
+    subst (λ ns. Owed s at [] [] (map going c.args.curr.now.items ++ entering at c.args.spot.now.course.last) c.args.set.now p
+    ↔ Owed s at c.step.new.growth.threads.items c.step.new.growth.entered.items ns c.step.new.set p)
+    (entering_over at c.args.spot.now.course.last past ∙ sym (entering_over (at + 1) c.args.spot.now.course.last (omega (arith, past))))
+    (c.step.ensures.same (entering at c.args.spot.now.course.last) p low)
+
+pub returns-then-spot-clause-begun : goal.returns-then-spot-clause-begun
+returns-then-spot-clause-begun g c x l h = c.spread.ensures.grown.begun x l (c.step.ensures.begun x h)
+
+pub returns-else-spot-clause-begun : goal.returns-else-spot-clause-begun
+returns-else-spot-clause-begun g c x l h = c.step.ensures.begun x h

@@ -1,0 +1,24 @@
+use Rattle.rc_text.specs.Text.{Keeps}
+use Rattle.rc_pikevm.specs.Moves.{seen_by}
+use Rattle.rc_pikevm.specs.Near.{size}
+use Rattle.rc_pikevm.specs.Scratches.{IsSame}
+use Rattle.rc_pikevm.specs.Marking.{IsMarkingFrom, HasAll}
+use Rattle.rc_pikevm.specs.Windows.{IsWindow, IsBegun}
+use Rattle.rc_pikevm.proofs.which.pass.Given as goal
+
+abbrev pub invariant-positions : goal.invariant-positions
+invariant-positions g l = record {
+  keeps : Keeps g.text l.input;
+  window : IsWindow g.text l.window;
+  begun : IsBegun g.text l.at l.window;
+  marking : IsMarkingFrom (seen_by l.course g.text) (size l.course) l.course.hi l.from l.course.last l.at l.scratch.insertions
+      l.scratch.curr l.fn.set l.set;
+  full : HasAll l.first l.absent l.set;
+  same : IsSame l.fn.scratch l.scratch;
+}
+
+abbrev pub ghost-spot_at : goal.ghost-spot_at
+ghost-spot_at g a = g.text
+
+abbrev pub ghost-turn : goal.ghost-turn
+ghost-turn g a = g.text

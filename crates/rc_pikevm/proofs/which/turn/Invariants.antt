@@ -1,0 +1,4 @@
+use Rattle.rc_pikevm.proofs.which.turn.Given as goal
+
+abbrev pub ghost-advance : goal.ghost-advance
+ghost-advance g a = g.text

@@ -1,0 +1,43 @@
+-- Only proofs use this file.
+-- Threads in order of preference.
+use Rattle.std.specs.Prelude.{ℕ, List, [], ◌∷◌, take, drop, refl, Option}
+use Rattle.std.specs.Coded.{Coded, code_by, coded×, coded_ℕ, coded_list, coded_option}
+use Rattle.rc_pikevm.specs.declared.threads.Head.{Head}
+
+pub record Thread : Type 0 where
+  -- the place that it enters next, and at which position
+  pub place : ℕ
+  pub at : ℕ
+  -- where its walk began
+  pub start : ℕ
+  pub slots : List (Option ℕ)
+
+pub record ThreadList : Type 0 where
+  pub items : List Thread
+  -- how many threads fit
+  pub room : ℕ
+  -- how many slots a thread may have
+  pub most : ℕ
+  -- how many slots each thread has
+  pub width : ℕ
+
+abbrev pub thread_code : Coded Thread
+thread_code =
+    code_by (ℕ × (ℕ × (ℕ × List (Option ℕ)))) (coded× coded_ℕ (coded× coded_ℕ (coded× coded_ℕ (coded_list (coded_option coded_ℕ)))))
+    (λ t. (t.place, (t.at, (t.start, t.slots))))
+    (λ p. record { place = p.0; at = p.1.0; start = p.1.1.0; slots = p.1.1.1 }) (λ _. refl)
+
+abbrev pub thread_list_code : Coded ThreadList
+thread_list_code =
+    code_by (List Thread × (ℕ × (ℕ × ℕ))) (coded× (coded_list thread_code) (coded× coded_ℕ (coded× coded_ℕ coded_ℕ)))
+    (λ l. (l.items, (l.room, (l.most, l.width))))
+    (λ p. record { items = p.0; room = p.1.0; most = p.1.1.0; width = p.1.1.1 }) (λ _. refl)
+
+-- the thread of a head and its slots
+abbrev pub thread_of : Head → List (Option ℕ) → Thread
+thread_of head slots = record { place = head.place; at = head.at; start = head.start; slots = slots }
+
+-- a thread for each head, with the next `width` cells as its slots
+abbrev pub threads_of : ℕ → List Head → List (Option ℕ) → List Thread
+threads_of width [] cells = []
+threads_of width (head ∷ heads) cells = thread_of head (take width cells) ∷ threads_of width heads (drop width cells)

@@ -1,0 +1,524 @@
+//! Threads that go on alone, and starts from which no walk leads on: for neither a list of places is kept.
+ghost use Rattle.std.specs.Prelude.{◌≡◌, ◌+◌, ◌<◌, ◌≤◌, ◌⊎◌, ◌^◌, [], ◌∷◌, IsTrue, IfSome, List, Option, MatchOption, ⊤, true, false, ℕ, length};
+ghost use Rattle.rc_text.specs.Text.{Searched};
+ghost use Rattle.rc_walks.specs.Walks.{Pair};
+ghost use Rattle.rc_program.specs.Places.{places_of};
+ghost use Rattle.rc_program.specs.Program.{place_at, slot};
+ghost use Rattle.rc_pikevm.specs.Alone.{EndsBy, IsChosen, IsDead, IsOnward, ReadsOne, tried_at};
+ghost use Rattle.rc_pikevm.specs.Entrances.{IsOnWay};
+ghost use Rattle.rc_pikevm.specs.Moves.{IsMove, IsSetting, seen_by};
+ghost use Rattle.rc_pikevm.specs.Near.{IsHere, seen_from, size};
+ghost use Rattle.rc_pikevm.specs.Passing.{Carries, IsPassing, waiting_starts};
+ghost use Rattle.rc_pikevm.specs.Races.{Races, IsCutOff, IsSought, starts_to};
+ghost use Rattle.rc_pikevm.specs.Roots.{StandsFor};
+ghost use Rattle.rc_pikevm.specs.Scratches.{IsSame};
+ghost use Rattle.rc_pikevm.specs.Sights.{HasNoWalkFrom};
+ghost use Rattle.rc_pikevm.specs.Threads.{Thread, thread_of};
+ghost use Rattle.rc_pikevm.specs.Trace.{Trace, trace};
+ghost use Rattle.rc_pikevm.specs.Windows.{IsWindow, IsBegun, IsAround};
+
+use crate::entrance::is_shut;
+use crate::heads::{is_dead, pass_over};
+use crate::moves::{Move, look_up};
+use crate::pass::{Ending, end_walk, set_out_alone};
+use crate::scratch::Scratch;
+use crate::spot::{Course, Spot};
+use crate::threads::Head;
+use crate::window::{Window, limit, spot_at};
+use rc_program::place::Place;
+
+/// How many places are followed at most.
+const MOST: usize = 6;
+
+/// Whether it is the place that was tried.
+#[inline(always)]
+fn is_tried(tried: Option<usize>, place: usize) -> bool
+    ensures { IsTrue result → tried ≡ Some place }
+{
+    match tried {
+        None => false,
+        Some(other) => other == place,
+    }
+}
+
+/// Whether no walk leads on from the place, where that is told by a few places. Walks over the place that was tried don't count.
+#[inline(never)]
+fn leads_nowhere(spot: &Spot, from: usize, tried: Option<usize>) -> bool
+    ghost text: { Searched }
+    requires here { IsHere spot.now text }
+    requires place_in { from < size spot.now.course }
+    ensures { IsTrue result → IsDead (seen_from spot.now text) (tried_at spot.now.at tried) (from, spot.now.at) }
+{
+    let mut place = from;
+    let mut later: Option<usize> = None;
+    'ways: for _ in 0..MOST {
+        if is_tried(tried, place) {
+            let Some(other) = later else {
+                return true;
+            };
+            place = other;
+            later = None;
+            continue 'ways;
+        }
+        match look_up(spot, place) {
+            Move::Stops => {
+                let Some(other) = later else {
+                    return true;
+                };
+                place = other;
+                later = None;
+            }
+            Move::Stays(next) => place = next,
+            Move::Save(_, next) => place = next,
+            Move::Fork(first, second) => {
+                if later.is_some() {
+                    return false;
+                }
+                place = first;
+                later = Some(second);
+            }
+            Move::Reads(_, _) => return false,
+            Move::Matches(_) => return false,
+        }
+    }
+    false
+}
+
+/// The place behind this one, where this one fills a slot; else the place itself.
+#[inline(always)]
+fn past_slot(spot: &Spot, place: usize) -> usize
+    requires place_in { place < size spot.now.course }
+    ensures inside { result < size spot.now.course }
+    ensures past { (result ≡ place) ⊎ ((k : ℕ) × (place_at (places_of spot.now.course.program.now.places.items) place ≡ slot k result)) }
+{
+    match &spot.course.program.places[place] {
+        Place::Slot(_, next) => *next,
+        _ => place,
+    }
+}
+
+/// Whether no walk leads on from the place, where that is quickly told.
+#[inline(always)]
+fn is_closed(spot: &Spot, place: usize) -> bool
+    ghost text: { Searched }
+    requires here { IsHere spot.now text }
+    requires place_in { place < size spot.now.course }
+    ensures { IsTrue result → (passed : List Pair) → IsDead (seen_from spot.now text) passed (place, spot.now.at) }
+{
+    is_shut(spot, past_slot(spot, place))
+}
+
+/// The one of two ways on from the place by which alone walks lead on, where that is told by a few places.
+#[inline(always)]
+fn only_way(spot: &Spot, place: usize, first: usize, second: usize) -> Option<usize>
+    ghost text: { Searched }
+    requires here { IsHere spot.now text }
+    requires first_in { first < size spot.now.course }
+    requires second_in { second < size spot.now.course }
+    ensures { IfSome result (λ way. IsChosen (seen_from spot.now text) spot.now.at place first second way) }
+{
+    if is_closed(spot, second) {
+        return Some(first);
+    }
+    if is_dead(spot, first) {
+        return Some(second);
+    }
+    'ways: for round in 0..2u32 {
+        let (tested, other) = if round == 0 {
+            (first, second)
+        } else {
+            (second, first)
+        };
+        if leads_nowhere(spot, tested, Some(place)) {
+            return Some(other);
+        }
+    }
+    None
+}
+
+/// A place at which a thread may go on in place of this one, since it has one way alone to go as far as there, and how it goes on from there.
+#[inline(always)]
+fn onward(spot: &Spot, from: usize) -> Option<(usize, Move)>
+    ghost text: { Searched }
+    requires here { IsHere spot.now text }
+    requires place_in { from < size spot.now.course }
+    ensures { IfSome result (λ r. IsOnward (seen_from spot.now text) (size spot.now.course) spot.now.at from r.0 r.1) }
+{
+    let mut place = from;
+    'ways: for _ in 0..MOST {
+        match look_up(spot, place) {
+            Move::Stays(next) => place = next,
+            Move::Fork(first, second) => {
+                let Some(way) = only_way(spot, place, first, second) else {
+                    return None;
+                };
+                place = way;
+            }
+            step => return Some((place, step)),
+        }
+    }
+    None
+}
+
+/// The first way on from the place, where the second is a dead end; else the place itself.
+pub(crate) fn opening(course: Course, place: usize) -> usize
+    ghost text: { Searched }
+    requires place_in { place < size course }
+    ensures inside { result < size course.entry }
+    ensures way { (at : ℕ) → IsOnWay (seen_by course.entry text) at place result }
+{
+    match &course.program.places[place] {
+        Place::Choice(first, second) => match &course.program.places[*second] {
+            Place::Dead => *first,
+            _ => place,
+        },
+        _ => place,
+    }
+}
+
+/// Whether a walk may lead on from the start at the spot, where `is_open`. Walks over the place that was tried don't count. The place `way` is
+/// the opening of place 0.
+#[inline(always)]
+fn may_set_out(spot: &Spot, is_open: bool, way: usize, tried: usize) -> bool
+    ghost text: { Searched }
+    requires here { IsHere spot.now text }
+    requires way_in { way < size spot.now.course }
+    requires way { IsOnWay (seen_from spot.now text) spot.now.at 0 way }
+    ensures { result ≡ false → is_open ≡ true → spot.now.at ≤ spot.now.course.last
+        → IsDead (seen_from spot.now text) ((tried, spot.now.at) ∷ []) (0, spot.now.at) }
+{
+    if !is_open {
+        return false;
+    }
+    if spot.at > spot.course.last {
+        return false;
+    }
+    if way == tried {
+        return false;
+    }
+    if is_shut(spot, way) {
+        return false;
+    }
+    !leads_nowhere(spot, way, Some(tried))
+}
+
+/// Lets a lone thread go on through the window, as long as it reads single bytes and no other sets out, where `is_open`. Beside the thread
+/// stands the pattern of which its walk ends, where one is seen to end. The place `way` is the opening of place 0.
+pub(crate) fn run(
+    course: Course,
+    window: &Window,
+    is_open: bool,
+    way: usize,
+    head: Head,
+) -> (Head, Option<usize>)
+    ghost text: { Searched }
+    requires setting { IsSetting course text }
+    requires window { IsWindow text window.now }
+    requires begun { IsBegun text head.at window.now }
+    requires within { head.at ≤ course.hi }
+    requires place_in { head.place < size course }
+    requires way_in { way < size course }
+    requires way { (at : ℕ) → IsOnWay (seen_by course text) at 0 way }
+    ensures carries { (slots : List (Option ℕ)) (width : ℕ) (best o : Option Trace)
+        → Carries (seen_by course.entry text) result.0.at [] []
+        ((trace result.0.start slots, (result.0.place, result.0.at)) ∷ waiting_starts is_open width result.0.at course.entry.last) best o
+        → Carries (seen_by course.entry text) head.at [] []
+        ((trace head.start slots, (head.place, head.at)) ∷ waiting_starts is_open width head.at course.entry.last) best o }
+    ensures races { (all : List (Trace × Pair)) (slots : List (Option ℕ)) (width : ℕ) (best : Option Ending) (found : List (Option ℕ))
+        → IsSought best head.start → (is_open ≡ false → IsCutOff best head.at)
+        → Races (seen_by course.entry text) all head.at [] []
+        ((trace head.start slots, (head.place, head.at)) ∷ starts_to width head.at course.entry.last) best found
+        → Races (seen_by course.entry text) all result.0.at [] []
+        ((trace result.0.start slots, (result.0.place, result.0.at)) ∷ starts_to width result.0.at course.entry.last) best found }
+    ensures start { result.0.start ≡ head.start }
+    ensures place_in { result.0.place < size course.entry }
+    ensures later { head.at ≤ result.0.at }
+    ensures within { result.0.at ≤ course.entry.hi }
+    ensures around { IsAround text head.at window.now → IsAround text result.0.at window.now }
+    ensures ended { MatchOption result.1 ⊤ (λ p. EndsBy (seen_by course.entry text) result.0.at result.0.place p
+        × (result.0.at < course.entry.hi) × IsAround text (result.0.at + 1) window.now) }
+{
+    let mut place = head.place;
+    let mut at = head.at;
+    let end = limit(window).min(course.hi);
+    'positions: while at < end {
+        let spot = spot_at(course, window, at);
+        let Some((tried, step)) = onward(&spot, place) else {
+            break 'positions;
+        };
+        match step {
+            Move::Reads(next, to) => {
+                if to != at + 1 {
+                    break 'positions;
+                }
+                if may_set_out(&spot, is_open, way, tried) {
+                    break 'positions;
+                }
+                place = next;
+                at += 1;
+            }
+            Move::Matches(number) => {
+                let start = head.start;
+                return (Head { place, at, start }, Some(number));
+            }
+            _ => break 'positions,
+        }
+    }
+    let start = head.start;
+    (Head { place, at, start }, None)
+}
+
+/// The position from which a pass goes on that has come to `at`, with no thread under way: no walk leads on from the starts before it. Beside
+/// it stands the place at which a thread goes on that sets out there and reads one byte, where that is seen.
+/// The place `root` stands for place 0, and `way` is its opening.
+pub(crate) fn seek(
+    course: Course,
+    window: &Window,
+    root: usize,
+    way: usize,
+    at: usize,
+) -> (usize, Option<usize>)
+    ghost text: { Searched }
+    requires setting { IsSetting course text }
+    requires window { IsWindow text window.now }
+    requires begun { IsBegun text at window.now }
+    requires within { at ≤ course.hi }
+    requires root { root < size course }
+    requires stands { StandsFor (seen_by course text) root }
+    requires way_in { way < size course }
+    requires way { (at : ℕ) → IsOnWay (seen_by course text) at root way }
+    ensures later { at ≤ result.0 }
+    ensures within { result.0 ≤ course.entry.hi }
+    ensures none { (y : ℕ) → at ≤ y → y < result.0 → HasNoWalkFrom (seen_by course.entry text) y }
+    ensures around { IsAround text at window.now → IsAround text result.0 window.now }
+    ensures reads { MatchOption result.1 ⊤ (λ next. (result.0 < course.entry.last) × IsAround text (result.0 + 1) window.now
+        × ((p : ℕ) × ReadsOne (seen_by course.entry text) (size course.entry) result.0 root (p, next))) }
+{
+    let mut here = at;
+    let end = limit(window).min(course.last);
+    'starts: while here < end {
+        here = pass_over(course, window, root, here, end);
+        if here == end {
+            return (here, None);
+        }
+        let spot = spot_at(course, window, here);
+        let first = past_slot(&spot, way);
+        let Some((place, step)) = onward(&spot, first) else {
+            return (here, None);
+        };
+        match step {
+            Move::Stops => {}
+            Move::Reads(next, to) => {
+                if to != here + 1 {
+                    return (here, None);
+                }
+                if !is_shut(&spot_at(course, window, here + 1), next) {
+                    if first != way {
+                        return (here, None);
+                    }
+                    return (here, Some(next));
+                }
+            }
+            _ => {
+                if !leads_nowhere(&spot, place, None) {
+                    return (here, None);
+                }
+            }
+        }
+        here += 1;
+    }
+    (here, None)
+}
+
+/// Lets a lone thread that waits for `at` go on through the window. The answer is the position to which the pass has come, and the best walk
+/// that has ended so far, with its slots in `found`.
+fn go_alone(
+    course: Course,
+    window: &Window,
+    best: &mut Option<Ending>,
+    at: usize,
+    scratch: &mut Scratch,
+) -> usize
+    ghost text: { Searched }
+    requires setting { IsSetting course text }
+    requires window { IsWindow text window.now }
+    requires begun { IsBegun text at window.now }
+    requires around { IsAround text at window.now }
+    requires within { at ≤ course.hi }
+    requires small { scratch.old.insertions + 2 ^ 65 < 2 ^ 128 }
+    requires passing { (from : ℕ) × IsPassing (seen_by course text) (size course) course.hi scratch.old.next.threads.width from course.last at
+        scratch.old.insertions scratch.old.curr best.old scratch.old.found.items }
+    ensures passing { (from : ℕ) → IsPassing (seen_by course.entry text) (size course.entry) course.entry.hi scratch.old.next.threads.width from
+        course.entry.last at scratch.old.insertions scratch.old.curr best.old scratch.old.found.items
+        → IsPassing (seen_by course.entry text) (size course.entry) course.entry.hi scratch.old.next.threads.width from course.entry.last result
+        scratch.new.insertions scratch.new.curr best.new scratch.new.found.items }
+    ensures same { IsSame scratch.old scratch.new }
+    ensures later { at ≤ result }
+    ensures within { result ≤ course.entry.hi }
+    ensures around { IsAround text result window.now }
+{
+    if scratch.curr.len() != 1 {
+        return at;
+    }
+    let (first, _) = scratch.curr.get(0);
+    if first.at != at {
+        return at;
+    }
+    let way = opening(course, 0);
+    let (head, ended) = run(course, window, best.is_none(), way, first);
+    move_alone(head, head.at - at, scratch);
+    let Some(number) = ended else {
+        return head.at;
+    };
+    *best = Some(end_walk(course, head.at, number, scratch));
+    head.at + 1
+}
+
+/// Lets the only thread go on elsewhere, so many positions later.
+#[inline(always)]
+pub(crate) fn move_alone(head: Head, count: usize, scratch: &mut Scratch)
+    requires small { scratch.old.insertions + count < 2 ^ 128 }
+    requires alone { length scratch.old.curr.items ≡ 1 }
+    ensures insertions { scratch.new.insertions ≡ scratch.old.insertions + count }
+    ensures curr { (t : Thread) → scratch.old.curr.items ≡ t ∷ [] → scratch.new.curr ≡ record scratch.old.curr { items = thread_of head t.slots ∷ [] } }
+    ensures same { IsSame scratch.old scratch.new }
+    ensures width { scratch.new.next.threads.width ≡ scratch.old.next.threads.width }
+    ensures found { scratch.new.found.items ≡ scratch.old.found.items }
+{
+    scratch.insertions += count as u128;
+    scratch.curr.move_first(head);
+}
+
+/// The position to which a pass goes on that has come to `at`, and whether a lone thread may go on there: starts from which no walk leads on were
+/// left out, where `skips`, and a thread set out.
+fn begin(
+    course: Course,
+    window: &Window,
+    root: usize,
+    skips: bool,
+    best: Option<Ending>,
+    at: usize,
+    scratch: &mut Scratch,
+) -> (usize, bool)
+    ghost text: { Searched }
+    requires setting { IsSetting course text }
+    requires window { IsWindow text window.now }
+    requires begun { IsBegun text at window.now }
+    requires around { IsAround text at window.now }
+    requires within { at ≤ course.hi }
+    requires root { root < size course }
+    requires stands { StandsFor (seen_by course text) root }
+    requires small { scratch.old.insertions + 2 ^ 66 < 2 ^ 128 }
+    requires passing { (from : ℕ) × IsPassing (seen_by course text) (size course) course.hi scratch.old.next.threads.width from course.last at
+        scratch.old.insertions scratch.old.curr best scratch.old.found.items }
+    ensures passing { (from : ℕ) → IsPassing (seen_by course.entry text) (size course.entry) course.entry.hi scratch.old.next.threads.width from
+        course.entry.last at scratch.old.insertions scratch.old.curr best scratch.old.found.items
+        → IsPassing (seen_by course.entry text) (size course.entry) course.entry.hi scratch.old.next.threads.width from course.entry.last result.0
+        scratch.new.insertions scratch.new.curr best scratch.new.found.items }
+    ensures same { IsSame scratch.old scratch.new }
+    ensures few { scratch.new.insertions ≤ scratch.old.insertions + 1 }
+    ensures later { at ≤ result.0 }
+    ensures within { result.0 ≤ course.entry.hi }
+    ensures around { IsAround text result.0 window.now }
+{
+    if scratch.curr.len() > 0 {
+        return (at, true);
+    }
+    if !skips || best.is_some() {
+        return (at, false);
+    }
+    let way = opening(course, root);
+    let (here, next) = seek(course, window, root, way, at);
+    let Some(place) = next else {
+        return (here, false);
+    };
+    set_out_alone(course, here, root, place, scratch);
+    (here + 1, true)
+}
+
+/// The position from which all threads have to go on together, of a pass that has come to `at`, and the best walk that has ended so far, with
+/// its slots in `found`: up to there, starts from which no walk leads on were left out, where `skips`, and a lone thread went on.
+#[inline(never)]
+fn wander(
+    course: Course,
+    window: &Window,
+    root: usize,
+    skips: bool,
+    best: &mut Option<Ending>,
+    at: usize,
+    scratch: &mut Scratch,
+) -> usize
+    ghost text: { Searched }
+    requires setting { IsSetting course text }
+    requires window { IsWindow text window.now }
+    requires begun { IsBegun text at window.now }
+    requires around { IsAround text at window.now }
+    requires within { at ≤ course.hi }
+    requires root { root < size course }
+    requires stands { StandsFor (seen_by course text) root }
+    requires small { scratch.old.insertions + 2 ^ 66 < 2 ^ 128 }
+    requires passing { (from : ℕ) × IsPassing (seen_by course text) (size course) course.hi scratch.old.next.threads.width from course.last at
+        scratch.old.insertions scratch.old.curr best.old scratch.old.found.items }
+    ensures passing { (from : ℕ) → IsPassing (seen_by course.entry text) (size course.entry) course.entry.hi scratch.old.next.threads.width from
+        course.entry.last at scratch.old.insertions scratch.old.curr best.old scratch.old.found.items
+        → IsPassing (seen_by course.entry text) (size course.entry) course.entry.hi scratch.old.next.threads.width from course.entry.last result
+        scratch.new.insertions scratch.new.curr best.new scratch.new.found.items }
+    ensures same { IsSame scratch.old scratch.new }
+    ensures later { at ≤ result }
+    ensures within { result ≤ course.entry.hi }
+    ensures around { IsAround text result window.now }
+{
+    let (here, is_alone) = begin(course, window, root, skips, *best, at, scratch);
+    if !is_alone {
+        return here;
+    }
+    go_alone(course, window, best, here, scratch)
+}
+
+/// Whether starts may be left out, where there is no thread, or the only one may go on alone, where `is_on`.
+#[inline(always)]
+pub(crate) fn is_worth(is_on: bool, skips: bool, threads: usize) -> bool {
+    match threads {
+        0 => skips,
+        1 => is_on,
+        _ => false,
+    }
+}
+
+/// As `wander`, where there is no thread, or one and `is_on`; else the position and the best walk are those given.
+#[inline(always)]
+pub fn glide(
+    course: Course,
+    window: &Window,
+    root: usize,
+    is_on: bool,
+    skips: bool,
+    best: &mut Option<Ending>,
+    at: usize,
+    scratch: &mut Scratch,
+) -> usize
+    ghost text: { Searched }
+    requires setting { IsSetting course text }
+    requires window { IsWindow text window.now }
+    requires begun { IsBegun text at window.now }
+    requires around { IsAround text at window.now }
+    requires within { at ≤ course.hi }
+    requires root { root < size course }
+    requires stands { StandsFor (seen_by course text) root }
+    requires small { scratch.old.insertions + 2 ^ 66 < 2 ^ 128 }
+    requires passing { (from : ℕ) × IsPassing (seen_by course text) (size course) course.hi scratch.old.next.threads.width from course.last at
+        scratch.old.insertions scratch.old.curr best.old scratch.old.found.items }
+    ensures passing { (from : ℕ) → IsPassing (seen_by course.entry text) (size course.entry) course.entry.hi scratch.old.next.threads.width from
+        course.entry.last at scratch.old.insertions scratch.old.curr best.old scratch.old.found.items
+        → IsPassing (seen_by course.entry text) (size course.entry) course.entry.hi scratch.old.next.threads.width from course.entry.last result
+        scratch.new.insertions scratch.new.curr best.new scratch.new.found.items }
+    ensures same { IsSame scratch.old scratch.new }
+    ensures later { at ≤ result }
+    ensures within { result ≤ course.entry.hi }
+    ensures around { IsAround text result window.now }
+{
+    if !is_worth(is_on, skips, scratch.curr.len()) {
+        return at;
+    }
+    wander(course, window, root, skips, best, at, scratch)
+}

@@ -1,0 +1,268 @@
+//! The closure of a thread at one position: all places that it reaches without reading.
+ghost use Rattle.std.specs.Prelude.{◌≡◌, ◌≢◌, ℕ, ◌+◌, ◌*◌, ◌<◌, ◌≤◌, List, [], ◌∷◌, ◌++◌, length, reverse, vec_len, vec_capacity, Option, None, Some, MatchOption, slice_set, slice_index_or};
+ghost use Rattle.rc_walks.specs.Walks.{Pair};
+ghost use Rattle.rc_text.specs.Text.{Searched};
+ghost use Rattle.rc_pikevm.specs.Near.{IsHere, seen_from, size};
+ghost use Rattle.rc_pikevm.specs.Trace.{Trace, trace, done};
+ghost use Rattle.rc_pikevm.specs.Moves.{reading};
+ghost use Rattle.rc_pikevm.specs.Passing.{Carries, waits, AllInside, HasRoom, IsGrown};
+ghost use Rattle.rc_pikevm.specs.Entered.{IsMade, IsActed, IsVisited};
+ghost use Rattle.rc_pikevm.specs.declared.moves.Move.TheVariants.{Fork, Save, Stays};
+
+use crate::growth::{Frame, Growth};
+use crate::heads::is_dead;
+use crate::moves::{after_byte, after_one_of, after_scalar, is_open, may_end};
+use crate::spot::Spot;
+use crate::threads::Head;
+use rc_program::place::Place;
+
+/// Writes the position to the slot, and pushes the frame that undoes the write.
+#[inline(always)]
+fn save(slot: usize, at: usize, growth: &mut Growth)
+    requires within { slot < length growth.old.slots.items }
+    requires room { vec_len growth.old.stack < vec_capacity growth.old.stack }
+    ensures threads { growth.new.threads ≡ growth.old.threads }
+    ensures entered { growth.new.entered ≡ growth.old.entered }
+    ensures stack { growth.new.stack.items
+        ≡ growth.old.stack.items ++ Frame.Restore slot (slice_index_or growth.old.slots.items slot None) ∷ [] }
+    ensures len { vec_len growth.new.stack ≡ vec_len growth.old.stack + 1 }
+    ensures capacity { vec_capacity growth.new.stack ≡ vec_capacity growth.old.stack }
+    ensures slots { growth.new.slots.items ≡ slice_set growth.old.slots.items slot (Some at) }
+{
+    let old = growth.slots[slot];
+    growth.stack.push_reserved(Frame::Restore(slot, old));
+    growth.slots[slot] = Some(at);
+}
+
+/// Puts the places on the stack, the first uppermost.
+#[inline(always)]
+fn fork(first: usize, second: usize, growth: &mut Growth)
+    requires deep { vec_len growth.old.stack + 2 ≤ vec_capacity growth.old.stack }
+    ensures made { (at start : ℕ) → IsMade at start (Fork first second) growth.old growth.new }
+    ensures deep { vec_len growth.new.stack ≤ vec_len growth.old.stack + 2 }
+{
+    growth.stack.push_reserved(Frame::Explore(second));
+    growth.stack.push_reserved(Frame::Explore(first));
+}
+
+/// Puts the place on the stack.
+#[inline(always)]
+fn stay(place: usize, growth: &mut Growth)
+    requires deep { vec_len growth.old.stack + 1 ≤ vec_capacity growth.old.stack }
+    ensures made { (at start : ℕ) → IsMade at start (Stays place) growth.old growth.new }
+    ensures deep { vec_len growth.new.stack ≤ vec_len growth.old.stack + 1 }
+{
+    growth.stack.push_reserved(Frame::Explore(place));
+}
+
+/// Writes the position to the slot, if the thread has it, and puts the place on the stack.
+#[inline(always)]
+fn note(slot: usize, place: usize, at: usize, growth: &mut Growth)
+    requires deep { vec_len growth.old.stack + 2 ≤ vec_capacity growth.old.stack }
+    ensures made { (start : ℕ) → IsMade at start (Save slot place) growth.old growth.new }
+    ensures deep { vec_len growth.new.stack ≤ vec_len growth.old.stack + 2 }
+{
+    if slot < growth.slots.len() {
+        save(slot, at, growth);
+        growth.stack.push_reserved(Frame::Explore(place));
+    } else {
+        growth.stack.push_reserved(Frame::Explore(place));
+    }
+}
+
+/// Puts a thread behind the others that goes on at the place, if the position is told at which it does.
+#[inline(always)]
+fn read(place: usize, to: Option<usize>, start: usize, growth: &mut Growth)
+    requires room { length growth.old.threads.items < growth.old.threads.room }
+    ensures made { (at : ℕ) → IsMade at start (reading place to) growth.old growth.new }
+    ensures deep { vec_len growth.new.stack ≤ vec_len growth.old.stack }
+{
+    let Some(at) = to else {
+        return;
+    };
+    growth
+        .threads
+        .push(Head { place, at, start }, &growth.slots);
+}
+
+/// Makes the move of a place: the places to which it leads go on the stack, the first uppermost, and a thread that reads goes behind the
+/// threads. None is made at a choice, a slot or an assertion from which the next byte lets no walk go on. Answers the pattern where a
+/// walk ends there.
+#[inline(always)]
+fn act(spot: &Spot, place: usize, start: usize, growth: &mut Growth) -> Option<usize>
+    ghost text: { Searched }
+    requires here { IsHere spot.now text }
+    requires place_in { place < size spot.now.course }
+    requires deep { vec_len growth.old.stack + 2 ≤ vec_capacity growth.old.stack }
+    requires room { length growth.old.threads.items < growth.old.threads.room }
+    ensures acted { IsActed (seen_from spot.now text) spot.now.at place start result growth.old growth.new }
+    ensures deep { vec_len growth.new.stack ≤ vec_len growth.old.stack + 2 }
+{
+    match &spot.course.program.places[place] {
+        Place::Choice(first, second) => {
+            if is_dead(spot, place) {
+                return None;
+            }
+            fork(*first, *second, growth);
+            None
+        }
+        Place::Pass(next) => {
+            stay(*next, growth);
+            None
+        }
+        Place::Dead => None,
+        Place::Byte(byte, next) => {
+            read(*next, after_byte(spot, *byte), start, growth);
+            None
+        }
+        Place::Bytes(ranges, next) => {
+            read(*next, after_one_of(spot, place, ranges), start, growth);
+            None
+        }
+        Place::Scalar(ranges, next) => {
+            read(*next, after_scalar(spot, place, ranges), start, growth);
+            None
+        }
+        Place::Guard(look, next) => {
+            if is_dead(spot, place) {
+                return None;
+            }
+            if is_open(spot, *look) {
+                stay(*next, growth);
+                return None;
+            }
+            None
+        }
+        Place::Slot(slot, next) => {
+            if is_dead(spot, place) {
+                return None;
+            }
+            note(*slot, *next, spot.at, growth);
+            None
+        }
+        Place::Accept(number) => {
+            if may_end(spot, *number) {
+                return Some(*number);
+            }
+            None
+        }
+    }
+}
+
+/// Enters a place, unless it was entered at this position already, and makes its move. Answers the pattern where a walk ends there.
+#[inline(always)]
+pub fn enter(spot: &Spot, place: usize, start: usize, growth: &mut Growth) -> Option<usize>
+    ghost text: { Searched }
+    requires here { IsHere spot.now text }
+    requires place_in { place < size spot.now.course }
+    requires sound { HasRoom (size spot.now.course) spot.now.course.hi spot.now.at growth.old.threads growth.old.entered }
+    requires frames { AllInside (size spot.now.course) growth.old.threads.width (reverse growth.old.stack.items) }
+    requires deep { vec_len growth.old.stack ≤ length growth.old.entered.items }
+    ensures visited { IsVisited (seen_from spot.now text) spot.now.at place start result growth.old growth.new }
+    ensures grown { IsGrown (size spot.now.course) spot.now.course.hi start spot.now.at growth.old.threads growth.old.entered
+        growth.new.threads growth.new.entered }
+    ensures some { 0 < length growth.new.entered.items }
+    ensures frames { AllInside (size spot.now.course) growth.new.threads.width (reverse growth.new.stack.items) }
+    ensures deep { vec_len growth.new.stack ≤ length growth.new.entered.items + 1 }
+    ensures falls { vec_len growth.new.stack + 3 * length growth.old.entered.items
+        ≤ vec_len growth.old.stack + 3 * length growth.new.entered.items }
+{
+    if !growth.entered.insert(place) {
+        return None;
+    }
+    act(spot, place, start, growth)
+}
+
+/// Enters a place, as `enter` does.
+#[inline(always)]
+fn visit(spot: &Spot, place: usize, start: usize, growth: &mut Growth) -> Option<usize>
+    ghost text: { Searched }
+    requires here { IsHere spot.now text }
+    requires place_in { place < size spot.now.course }
+    requires sound { HasRoom (size spot.now.course) spot.now.course.hi spot.now.at growth.old.threads growth.old.entered }
+    requires frames { AllInside (size spot.now.course) growth.old.threads.width (reverse growth.old.stack.items) }
+    requires deep { vec_len growth.old.stack ≤ length growth.old.entered.items }
+    ensures carries { (below : List (Trace × Pair)) (best o : Option Trace)
+        → MatchOption result
+        (Carries (seen_from spot.now text) spot.now.at growth.new.threads.items growth.new.entered.items
+        (waits start spot.now.at (reverse growth.new.stack.items) growth.new.slots.items ++ below) best o)
+        (λ p. Carries (seen_from spot.now text) spot.now.at growth.new.threads.items growth.new.entered.items []
+        (Some (done p start spot.now.at growth.new.slots.items)) o)
+        → Carries (seen_from spot.now text) spot.now.at growth.old.threads.items growth.old.entered.items
+        ((trace start growth.old.slots.items, (place, spot.now.at))
+        ∷ (waits start spot.now.at (reverse growth.old.stack.items) growth.old.slots.items ++ below)) best o }
+    ensures grown { IsGrown (size spot.now.course) spot.now.course.hi start spot.now.at growth.old.threads growth.old.entered
+        growth.new.threads growth.new.entered }
+    ensures some { 0 < length growth.new.entered.items }
+    ensures frames { AllInside (size spot.now.course) growth.new.threads.width (reverse growth.new.stack.items) }
+    ensures deep { vec_len growth.new.stack ≤ length growth.new.entered.items + 1 }
+    ensures falls { vec_len growth.new.stack + 3 * length growth.old.entered.items
+        ≤ vec_len growth.old.stack + 3 * length growth.new.entered.items }
+{
+    enter(spot, place, start, growth)
+}
+
+/// Goes on from the frames of the stack, the uppermost first. The rest is as in `close`.
+#[inline(never)]
+fn drain(spot: &Spot, start: usize, growth: &mut Growth) -> Option<usize>
+    ghost text: { Searched }
+    requires here { IsHere spot.now text }
+    requires sound { HasRoom (size spot.now.course) spot.now.course.hi spot.now.at growth.old.threads growth.old.entered }
+    requires frames { AllInside (size spot.now.course) growth.old.threads.width (reverse growth.old.stack.items) }
+    requires deep { vec_len growth.old.stack ≤ length growth.old.entered.items + 1 }
+    requires some { 0 < length growth.old.entered.items }
+    ensures carries { (below : List (Trace × Pair)) (best o : Option Trace)
+        → MatchOption result
+        (Carries (seen_from spot.now text) spot.now.at growth.new.threads.items growth.new.entered.items below best o)
+        (λ p. Carries (seen_from spot.now text) spot.now.at growth.new.threads.items growth.new.entered.items []
+        (Some (done p start spot.now.at growth.new.slots.items)) o)
+        → Carries (seen_from spot.now text) spot.now.at growth.old.threads.items growth.old.entered.items
+        (waits start spot.now.at (reverse growth.old.stack.items) growth.old.slots.items ++ below) best o }
+    ensures grown { IsGrown (size spot.now.course) spot.now.course.hi start spot.now.at growth.old.threads growth.old.entered
+        growth.new.threads growth.new.entered }
+    ensures some { 0 < length growth.new.entered.items }
+{
+    'frames: while let Some(frame) = growth.stack.pop() {
+        match frame {
+            Frame::Explore(place) => {
+                if let Some(number) = visit(spot, place, start, growth) {
+                    return Some(number);
+                }
+            }
+            Frame::Restore(slot, old) => growth.slots[slot] = old,
+        }
+    }
+    None
+}
+
+/// Follows all ways from `root` that read nothing, in order, and puts a thread behind the others for
+/// each that reads.
+///
+/// Answers the pattern where a walk ends on the way: the slots are those of that walk then, and the
+/// ways that were still to come are dropped.
+#[inline(always)]
+pub fn close(spot: &Spot, root: usize, start: usize, growth: &mut Growth) -> Option<usize>
+    ghost text: { Searched }
+    requires here { IsHere spot.now text }
+    requires root_in { root < size spot.now.course }
+    requires sound { HasRoom (size spot.now.course) spot.now.course.hi spot.now.at growth.old.threads growth.old.entered }
+    ensures carries { (below : List (Trace × Pair)) (best o : Option Trace)
+        → MatchOption result
+        (Carries (seen_from spot.now text) spot.now.at growth.new.threads.items growth.new.entered.items below best o)
+        (λ p. Carries (seen_from spot.now text) spot.now.at growth.new.threads.items growth.new.entered.items []
+        (Some (done p start spot.now.at growth.new.slots.items)) o)
+        → Carries (seen_from spot.now text) spot.now.at growth.old.threads.items growth.old.entered.items
+        ((trace start growth.old.slots.items, (root, spot.now.at)) ∷ below) best o }
+    ensures grown { IsGrown (size spot.now.course) spot.now.course.hi start spot.now.at growth.old.threads growth.old.entered
+        growth.new.threads growth.new.entered }
+    ensures some { 0 < length growth.new.entered.items }
+{
+    growth.stack.clear();
+    if let Some(number) = visit(spot, root, start, growth) {
+        return Some(number);
+    }
+    if growth.stack.is_empty() {
+        return None;
+    }
+    drain(spot, start, growth)
+}

@@ -1,0 +1,43 @@
+//! Where the first match ends.
+ghost use Rattle.std.specs.Prelude.{◌≡◌, is_some, ◌≤◌, ⊤, length, MatchOption, IfSome};
+ghost use Rattle.rc_text.specs.Text.{Keeps, low, high};
+ghost use Rattle.rc_program.specs.Greatest.{greatest};
+ghost use Rattle.rc_program.specs.Places.{places_of};
+ghost use Rattle.rc_program.specs.Programs.{search_of};
+ghost use Rattle.rc_needles.specs.Guards.{Guards};
+ghost use Rattle.rc_needles.specs.Prefilters.{needles_of};
+ghost use Rattle.rc_pikevm.specs.Caches.{IsCacheFor};
+
+use crate::cache::Cache;
+use crate::search::meets;
+use rc_needles::prefilter::Prefilter;
+use rc_program::program::Program;
+use rc_text::cursor::Cursor;
+use rc_text::input::{Input, high, low};
+
+/// A position between the bounds of the input's search, in bytes, up to which the pass had to read to see that some walk begins at one of its starts;
+/// None where none does. That is the first position at which a walk ends, wherever that is. The earliest flag is not read. With a prefilter, the
+/// pass goes from needle to needle where no walk is under way.
+///
+/// The cache has to be made for programs of as many places; it stays so. No memory is taken.
+pub fn first_end<C: Cursor>(
+    cache: &mut Cache,
+    input: &mut Input<C>,
+    program: &Program,
+    prefilter: Option<&Prefilter>,
+) -> Option<usize>
+    requires guarded { MatchOption prefilter ⊤ (λ p. Guards (places_of program.now.places.items) program.now.terminator (needles_of p.now)) }
+    requires made { IsCacheFor (length program.now.places.items) 0 cache.old }
+    ensures keeps { Keeps input.old input.new }
+    ensures found { is_some result ≡ is_some (greatest (search_of program.now input.old)) }
+    ensures within { IfSome result (λ end. (low input.old ≤ end) × (end ≤ high input.old)) }
+    ensures cache { cache.new ≡ record cache.old { insertions = cache.new.insertions } }
+{
+    cache.scratch.widen(0);
+    let Some(met) = meets(input, program, prefilter, &mut cache.scratch) else {
+        return None;
+    };
+    let low = low(input);
+    let high = high(input);
+    Some(met.end.max(low).min(high))
+}

@@ -1,0 +1,104 @@
+//! Where a thread enters.
+ghost use Rattle.std.specs.Prelude.{◌≡◌, ◌<◌, ◌∷◌, IsTrue, List, Option, ℕ};
+ghost use Rattle.rc_text.specs.Text.{Searched};
+ghost use Rattle.rc_walks.specs.Walks.{Pair};
+ghost use Rattle.rc_pikevm.specs.Entrances.{IsOnWay, IsShut, IsWayIn};
+ghost use Rattle.rc_pikevm.specs.Near.{IsHere, seen_from, size};
+ghost use Rattle.rc_pikevm.specs.Passing.{Carries};
+ghost use Rattle.rc_pikevm.specs.Threads.{Thread};
+ghost use Rattle.rc_pikevm.specs.Trace.{Trace};
+
+use crate::heads::is_dead;
+use crate::moves::{Move, look_up};
+use crate::sparse_set::SparseSet;
+use crate::spot::Spot;
+use rc_program::place::Place;
+
+/// How many choices a thread is led over at most before it enters.
+const MOST: usize = 4;
+
+/// Whether it is quickly looked up where a thread goes on from the place.
+#[inline(always)]
+fn is_quick(place: &Place) -> bool {
+    matches!(place, Place::Dead | Place::Byte(_, _) | Place::Guard(_, _))
+}
+
+/// Whether no walk leads on from the place, where that is quickly told.
+#[inline(always)]
+pub fn is_shut(spot: &Spot, place: usize) -> bool
+    ghost text: { Searched }
+    requires here { IsHere spot.now text }
+    requires place_in { place < size spot.now.course }
+    ensures { IsTrue result → IsShut (seen_from spot.now text) (place, spot.now.at) }
+{
+    if !is_quick(&spot.course.program.places[place]) {
+        return is_dead(spot, place);
+    }
+    match look_up(spot, place) {
+        Move::Stops => true,
+        _ => false,
+    }
+}
+
+/// The one of two ways on from the place by which alone walks lead on, where the other one is seen to be shut; else the place itself.
+#[inline(always)]
+fn way_on(spot: &Spot, place: usize) -> usize
+    ghost text: { Searched }
+    requires here { IsHere spot.now text }
+    requires place_in { place < size spot.now.course }
+    ensures inside { result < size spot.now.course }
+    ensures way { IsOnWay (seen_from spot.now text) spot.now.at place result }
+{
+    match &spot.course.program.places[place] {
+        Place::Choice(first, second) => {
+            if is_shut(spot, *second) {
+                return *first;
+            }
+            if is_shut(spot, *first) {
+                return *second;
+            }
+            place
+        }
+        _ => place,
+    }
+}
+
+/// The place at which a thread enters that is to enter at `root`: that place, or one to which a few choices lead, of each of which one way is
+/// shut, and which weren't entered yet.
+#[inline(always)]
+pub(crate) fn way_in(spot: &Spot, root: usize, entered: &SparseSet) -> usize
+    ghost text: { Searched }
+    requires here { IsHere spot.now text }
+    requires root { root < size spot.now.course }
+    requires capacity { entered.now.capacity ≡ size spot.now.course }
+    ensures inside { result < size spot.now.course }
+    ensures way { IsWayIn (seen_from spot.now text) spot.now.at entered.now.items root result }
+{
+    let mut place = root;
+    'ways: for _ in 0..MOST {
+        let next = way_on(spot, place);
+        if next == place {
+            return place;
+        }
+        if entered.contains(place) {
+            return place;
+        }
+        place = next;
+    }
+    place
+}
+
+/// The place at which a thread enters, as in `way_in`.
+#[inline(always)]
+pub fn entrance(spot: &Spot, root: usize, entered: &SparseSet) -> usize
+    ghost text: { Searched }
+    requires here { IsHere spot.now text }
+    requires root { root < size spot.now.course }
+    requires capacity { entered.now.capacity ≡ size spot.now.course }
+    ensures inside { result < size spot.now.course }
+    ensures carries { (h : Trace) (resting : List Thread) (below : List (Trace × Pair)) (best o : Option Trace)
+        → Carries (seen_from spot.now text) spot.now.at resting entered.now.items ((h, (result, spot.now.at)) ∷ below) best o
+        → Carries (seen_from spot.now text) spot.now.at resting entered.now.items ((h, (root, spot.now.at)) ∷ below) best o }
+{
+    way_in(spot, root, entered)
+}

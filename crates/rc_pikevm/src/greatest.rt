@@ -1,0 +1,218 @@
+//! Searches for the greatest span: of the spans that walks spell the one with the greatest end, then
+//! the least start, then the least pattern.
+ghost use Rattle.std.specs.Prelude.{◌≡◌, ℕ, ◌+◌, ◌-◌, ◌*◌, ◌<◌, ◌≤◌, ◌⊎◌, ⊤, ◌^◌, List, [], ◌++◌, length, map, min, Option, MatchOption, option_map};
+ghost use Rattle.rc_text.specs.Found.{Found};
+ghost use Rattle.rc_text.specs.Text.{Searched, Keeps, low, high};
+ghost use Rattle.rc_program.specs.Greatest.{greatest};
+ghost use Rattle.rc_program.specs.Programs.{search_of};
+ghost use Rattle.rc_pikevm.specs.Near.{IsHere, seen_from, size};
+ghost use Rattle.rc_pikevm.specs.Moves.{IsSetting, seen, seen_by};
+ghost use Rattle.rc_pikevm.specs.Passing.{AllIn, AllFrom, count_from, HasRoom, IsLined, IsCounted};
+ghost use Rattle.rc_pikevm.specs.Spread.{Runner, running, SomeSpells, IsTop, Seeks, BeginFrom, IsOrdered, span_of, starting};
+ghost use Rattle.rc_pikevm.specs.Caches.{IsCacheFor};
+ghost use Rattle.rc_pikevm.specs.Scratches.{IsSame};
+
+use crate::cache::Cache;
+use crate::growth::Growth;
+use crate::pass::{Ending, is_done};
+use crate::scratch::Scratch;
+use crate::search::{bounds, starts_of};
+use crate::spot::{Course, Spot};
+use crate::spread::spread;
+use crate::threads::Threads;
+use crate::window::{open, reach, spot_at};
+use rc_program::program::Program;
+use rc_text::cursor::Cursor;
+use rc_text::input::Input;
+use rc_text::types::{Match, PatternID, Span};
+
+/// Lets the threads of `curr` that go on at the spot do so, in order; those that go on later are put
+/// into the growth. `best` is the greatest of the walks that have ended so far.
+fn step(spot: &Spot, curr: &Threads, best: &mut Option<Ending>, growth: &mut Growth)
+    ghost text: { Searched }
+    requires here { IsHere spot.now text }
+    requires inside { AllIn (size spot.now.course) spot.now.at (min spot.now.course.hi (spot.now.at + 3)) curr.now.items }
+    requires ordered { IsOrdered spot.now.at curr.now.items }
+    requires widths { (curr.now.width ≡ 0) × (growth.old.threads.width ≡ 0) }
+    requires empty { (growth.old.threads.items ≡ []) × (growth.old.entered.items ≡ []) }
+    requires capacity { growth.old.entered.capacity ≡ size spot.now.course }
+    requires room { count_from (spot.now.at + 1) curr.now.items + size spot.now.course ≤ growth.old.threads.room }
+    ensures seeks { (below : List Runner) (o : Option Found) → BeginFrom spot.now.at below
+        → Seeks (seen_from spot.now text) spot.now.at growth.new.threads.items growth.new.entered.items below best.new o
+        → Seeks (seen_from spot.now text) spot.now.at [] [] (map running curr.now.items ++ below) best.old o }
+    ensures sound { HasRoom (size spot.now.course) spot.now.course.hi spot.now.at growth.new.threads growth.new.entered }
+    ensures same { (growth.new.threads.room ≡ growth.old.threads.room) × (growth.new.threads.most ≡ growth.old.threads.most)
+        × (growth.new.threads.width ≡ growth.old.threads.width) }
+    ensures counts { (q : ℕ) → count_from q growth.new.threads.items ≤ count_from q curr.now.items + length growth.new.entered.items }
+    ensures begun { (x : ℕ) → AllFrom x curr.now.items → AllFrom x growth.new.threads.items }
+    ensures ordered { IsOrdered spot.now.at growth.new.threads.items }
+    ensures some { (length curr.now.items ≡ 0) ⊎ (0 < length growth.new.threads.items + length growth.new.entered.items) }
+    ensures counted { (k : ℕ) → AllFrom (spot.now.at + 1 - k) curr.now.items → IsCounted k best.old → IsCounted k best.new }
+{
+    'threads: for index in 0..curr.len() {
+        let (head, row) = curr.get(index);
+        if head.at > spot.at {
+            growth.threads.push(head, row);
+            continue;
+        }
+        spread(spot, head.place, head.start, best, growth);
+    }
+}
+
+/// Lets the threads of `curr` go on at the spot, and after them, where the spot is no later than the
+/// last start, a new thread set out there. The rest is as in `step`.
+fn advance(spot: &Spot, curr: &Threads, best: &mut Option<Ending>, growth: &mut Growth)
+    ghost text: { Searched }
+    requires here { IsHere spot.now text }
+    requires inside { AllIn (size spot.now.course) spot.now.at (min spot.now.course.hi (spot.now.at + 3)) curr.now.items }
+    requires ordered { IsOrdered spot.now.at curr.now.items }
+    requires widths { (curr.now.width ≡ 0) × (growth.old.threads.width ≡ 0) }
+    requires empty { (growth.old.threads.items ≡ []) × (growth.old.entered.items ≡ []) }
+    requires capacity { growth.old.entered.capacity ≡ size spot.now.course }
+    requires room { count_from (spot.now.at + 1) curr.now.items + size spot.now.course ≤ growth.old.threads.room }
+    ensures seeks { (o : Option Found)
+        → Seeks (seen_from spot.now text) spot.now.at growth.new.threads.items growth.new.entered.items
+        (starting (spot.now.at + 1) spot.now.course.last) best.new o
+        → Seeks (seen_from spot.now text) spot.now.at [] [] (map running curr.now.items ++ starting spot.now.at spot.now.course.last)
+        best.old o }
+    ensures sound { HasRoom (size spot.now.course) spot.now.course.hi spot.now.at growth.new.threads growth.new.entered }
+    ensures same { (growth.new.threads.room ≡ growth.old.threads.room) × (growth.new.threads.most ≡ growth.old.threads.most)
+        × (growth.new.threads.width ≡ growth.old.threads.width) }
+    ensures counts { (q : ℕ) → count_from q growth.new.threads.items ≤ count_from q curr.now.items + length growth.new.entered.items }
+    ensures begun { (x : ℕ) → x ≤ spot.now.at → AllFrom x curr.now.items → AllFrom x growth.new.threads.items }
+    ensures ordered { IsOrdered spot.now.at growth.new.threads.items }
+    ensures some { (length curr.now.items ≡ 0) ⊎ (0 < length growth.new.threads.items + length growth.new.entered.items) }
+    ensures counted { (k : ℕ) → length growth.new.entered.items ≤ k → AllFrom (spot.now.at + 1 - k) curr.now.items
+        → IsCounted k best.old → IsCounted k best.new }
+{
+    step(spot, curr, best, growth);
+    if spot.at <= spot.course.last {
+        spread(spot, 0, spot.at, best, growth);
+    }
+}
+
+/// One position of a pass: lets the threads go on, and counts the places entered.
+fn turn(spot: &Spot, best: &mut Option<Ending>, scratch: &mut Scratch)
+    ghost text: { Searched }
+    requires here { IsHere spot.now text }
+    requires made { scratch.old.next.entered.capacity ≡ size spot.now.course }
+    requires lined { IsLined (size spot.now.course) spot.now.course.hi 0 spot.now.at scratch.old.insertions scratch.old.curr }
+    requires ordered { IsOrdered spot.now.at scratch.old.curr.items }
+    requires counted { IsCounted scratch.old.insertions best.old }
+    requires small { scratch.old.insertions + size spot.now.course < 2 ^ 128 }
+    ensures seeks { (o : Option Found)
+        → Seeks (seen_from spot.now text) (spot.now.at + 1) [] []
+        (map running scratch.new.curr.items ++ starting (spot.now.at + 1) spot.now.course.last) best.new o
+        → Seeks (seen_from spot.now text) spot.now.at [] []
+        (map running scratch.old.curr.items ++ starting spot.now.at spot.now.course.last) best.old o }
+    ensures lined { IsLined (size spot.now.course) spot.now.course.hi 0 (spot.now.at + 1) scratch.new.insertions scratch.new.curr }
+    ensures ordered { IsOrdered (spot.now.at + 1) scratch.new.curr.items }
+    ensures same { IsSame scratch.old scratch.new }
+    ensures counted { IsCounted scratch.new.insertions best.new }
+    ensures few { scratch.new.insertions ≤ scratch.old.insertions + size spot.now.course }
+{
+    scratch.next.clear();
+    advance(spot, &scratch.curr, best, &mut scratch.next);
+    scratch.finish();
+}
+
+/// One pass over the positions from `from` on: the greatest of the spans that walks from the starts
+/// there spell.
+///
+/// A place is entered once at a position, and `insertions` says how many were.
+pub(crate) fn reach_end<C: Cursor>(
+    input: &mut Input<C>,
+    course: Course,
+    from: usize,
+    scratch: &mut Scratch,
+) -> Option<Ending>
+    ghost text: { Searched }
+    requires same { Keeps text input.old }
+    requires setting { IsSetting course text }
+    requires bounds { (low text ≤ from) × (from ≤ course.last) }
+    requires made { scratch.old.next.entered.capacity ≡ size course }
+    requires width { scratch.old.next.threads.width ≡ 0 }
+    ensures keeps { Keeps input.old input.new }
+    ensures top { IsTop (SomeSpells (seen_by course.entry text) [] (starting from course.entry.last)) (option_map span_of result) }
+    ensures counted { IsCounted scratch.new.insertions result }
+    ensures few { scratch.new.insertions ≤ size course.entry * (course.entry.hi - from + 1) }
+    ensures same { IsSame scratch.old scratch.new }
+{
+    let mut best: Option<Ending> = None;
+    scratch.insertions = 0;
+    scratch.curr.clear(0);
+    let mut window = open(input, from);
+    'positions: for at in from..course.hi + 1 {
+        reach(&mut window, input, at);
+        turn(&spot_at(course, &window, at), &mut best, scratch);
+        if is_done(&scratch.curr, None, at, course.last) {
+            return best;
+        }
+    }
+    best
+}
+
+/// The walk of the greatest span that a search of the input spells.
+fn choose<C: Cursor>(
+    input: &mut Input<C>,
+    program: &Program,
+    scratch: &mut Scratch,
+) -> Option<Ending>
+    requires made { scratch.old.next.entered.capacity ≡ length program.now.places.items }
+    requires width { scratch.old.next.threads.width ≡ 0 }
+    ensures keeps { Keeps input.old input.new }
+    ensures chosen { option_map span_of result ≡ greatest (seen program.now input.old) }
+    ensures counted { IsCounted scratch.new.insertions result }
+    ensures few { scratch.new.insertions ≤ length program.now.places.items * (high input.old - low input.old + 2) }
+    ensures none { high input.old < low input.old → scratch.new.insertions ≡ 0 }
+    ensures same { IsSame scratch.old scratch.new }
+{
+    scratch.insertions = 0;
+    let (lo, hi) = bounds(input);
+    if lo > hi {
+        return None;
+    }
+    let (pattern, last) = starts_of(input.get_anchored(), lo, hi);
+    let course = Course {
+        program,
+        hi,
+        pattern,
+        last,
+        until: None,
+    };
+    reach_end(input, course, lo, scratch)
+}
+
+/// The greatest match of a search of the input: of all matches the one with the greatest end, then
+/// the least start, then the least pattern number. Neither the earliest flag is read, nor are matches
+/// passed over that end off a boundary.
+///
+/// The cache has to be made for programs of as many places; it stays so. No memory is taken, and the
+/// time is linear in the bytes between the search's bounds.
+pub fn find_greatest<C: Cursor>(
+    cache: &mut Cache,
+    input: &mut Input<C>,
+    program: &Program,
+) -> Option<Match>
+    requires made { IsCacheFor (length program.now.places.items) 0 cache.old }
+    ensures keeps { Keeps input.old input.new }
+    ensures found { result ≡ greatest (search_of program.now input.old) }
+    ensures within { MatchOption result ⊤ (λ m. (low input.old ≤ m.start) × (m.start ≤ m.end) × (m.end ≤ high input.old)) }
+    ensures cache { cache.new ≡ record cache.old { insertions = cache.new.insertions } }
+    ensures none { high input.old < low input.old → cache.new.insertions ≡ 0 }
+    ensures few { cache.new.insertions ≤ length program.now.places.items * (high input.old - low input.old + 2) }
+    ensures counted { MatchOption result ⊤ (λ m. m.end - m.start + 1 ≤ cache.new.insertions) }
+{
+    cache.scratch.widen(0);
+    let Some(end) = choose(input, program, &mut cache.scratch) else {
+        return None;
+    };
+    let Some(pattern) = PatternID::new(end.pattern) else {
+        return None;
+    };
+    let span = Span {
+        start: end.start,
+        end: end.end,
+    };
+    Some(Match::new(pattern, span))
+}

@@ -1,0 +1,262 @@
+//! How a thread goes on from a place.
+ghost use Rattle.std.specs.Prelude.{◌≡◌, ◌<◌, ◌≤◌, ℕ, [], ◌∷◌, length, slice_get, take, map};
+ghost use Rattle.rc_pattern.specs.Meaning.{byte_range, char_range};
+ghost use Rattle.rc_text.specs.Text.{Searched};
+ghost use Rattle.rc_pikevm.specs.Near.{IsHere, seen_from, size};
+ghost use Rattle.rc_program.specs.Places.{places_of};
+ghost use Rattle.rc_program.specs.Program.{in_ranges, is_match_place, place_at, accept, byte as byte_place, guard, scalar};
+ghost use Rattle.rc_program.specs.Scalars.{scalar_at};
+ghost use Rattle.rc_pikevm.specs.Moves.{IsMove, IsMoveAt, moving, reading};
+ghost use Rattle.rc_pikevm.specs.Sights.{is_there as there};
+ghost use Rattle.rc_pikevm.specs.declared.moves.Move.TheVariants.{Matches, Stays};
+
+use crate::sides::holds;
+use crate::spot::Spot;
+use rc_pattern::hir::{ClassBytesRange, ClassUnicodeRange, Look};
+use rc_program::look::scalar_at;
+use rc_program::place::Place;
+use rc_program::program::Program;
+
+/// How a thread goes on from a place that it enters.
+#[derive(Clone, Copy)]
+pub enum Move {
+    /// At either of two places, the first preferred.
+    Fork(usize, usize),
+    /// At a place, with the position in a slot: the slot, and the place.
+    Save(usize, usize),
+    /// Not at all: a walk of this pattern ends.
+    Matches(usize),
+    /// At a place.
+    Stays(usize),
+    /// At a place, once the position is a later one: the place, and the position in bytes.
+    Reads(usize, usize),
+    /// Not at all.
+    Stops,
+}
+
+/// How a thread goes on from a place that it enters at the spot.
+#[inline(always)]
+pub fn look_up(spot: &Spot, place: usize) -> Move
+    ghost text: { Searched }
+    requires here { IsHere spot.now text }
+    requires place_in { place < size spot.now.course }
+    ensures { IsMove (seen_from spot.now text) (place, spot.now.at) result }
+{
+    match &spot.course.program.places[place] {
+        Place::Choice(first, second) => Move::Fork(*first, *second),
+        Place::Pass(next) => Move::Stays(*next),
+        Place::Dead => Move::Stops,
+        Place::Byte(byte, next) => reading(*next, after_byte(spot, *byte)),
+        Place::Bytes(ranges, next) => reading(*next, after_one_of(spot, place, ranges)),
+        Place::Scalar(ranges, next) => reading(*next, after_scalar(spot, place, ranges)),
+        Place::Guard(look, next) => {
+            if !is_open(spot, *look) {
+                return Move::Stops;
+            }
+            Move::Stays(*next)
+        }
+        Place::Slot(slot, next) => Move::Save(*slot, *next),
+        Place::Accept(number) => {
+            if !may_end(spot, *number) {
+                return Move::Stops;
+            }
+            Move::Matches(*number)
+        }
+    }
+}
+
+/// How a thread goes on that reads on to the place and the position, if one is told.
+#[inline(always)]
+fn reading(place: usize, to: Option<usize>) -> Move
+    ensures { result ≡ reading place to }
+{
+    let Some(at) = to else {
+        return Move::Stops;
+    };
+    Move::Reads(place, at)
+}
+
+/// The position after the next byte, where it is this one.
+#[inline(always)]
+pub fn after_byte(spot: &Spot, byte: u8) -> Option<usize>
+    ghost text: { Searched }
+    requires here { IsHere spot.now text }
+    ensures { (p n : ℕ) → IsMoveAt (seen_from spot.now text) (p, spot.now.at) (byte_place ((byte, byte) ∷ []) n) (reading n result) }
+{
+    let Some(found) = next_byte(spot.after, spot.course.hi - spot.at) else {
+        return None;
+    };
+    if found != byte {
+        return None;
+    }
+    Some(spot.at + 1)
+}
+
+/// The position after the next byte, where one of the ranges has it, which are the place's.
+#[inline(always)]
+pub fn after_one_of(spot: &Spot, place: usize, ranges: &Vec<ClassBytesRange>) -> Option<usize>
+    ghost text: { Searched }
+    requires here { IsHere spot.now text }
+    requires place_in { place < size spot.now.course }
+    ensures { (n : ℕ) → IsMoveAt (seen_from spot.now text) (place, spot.now.at) (byte_place (map byte_range ranges.now.items) n) (reading n result) }
+{
+    let Some(found) = next_byte(spot.after, spot.course.hi - spot.at) else {
+        return None;
+    };
+    if !takes_byte(spot.course.program, place, ranges, found) {
+        return None;
+    }
+    Some(spot.at + 1)
+}
+
+/// The position after the next scalar, where one of the ranges has it, which are the place's.
+#[inline(always)]
+pub fn after_scalar(spot: &Spot, place: usize, ranges: &Vec<ClassUnicodeRange>) -> Option<usize>
+    ghost text: { Searched }
+    requires here { IsHere spot.now text }
+    requires place_in { place < size spot.now.course }
+    ensures { (n : ℕ) → IsMoveAt (seen_from spot.now text) (place, spot.now.at) (scalar (map char_range ranges.now.items) n) (reading n result) }
+{
+    let Some((c, count)) = next_scalar(spot.after, spot.course.hi - spot.at) else {
+        return None;
+    };
+    if !takes_scalar(spot.course.program, place, ranges, c) {
+        return None;
+    }
+    Some(spot.at + count)
+}
+
+/// Whether the assertion holds at the spot.
+#[inline(always)]
+pub fn is_open(spot: &Spot, look: Look) -> bool
+    ghost text: { Searched }
+    requires here { IsHere spot.now text }
+    ensures { (p n : ℕ) → IsMoveAt (seen_from spot.now text) (p, spot.now.at) (guard look n) (moving (Stays n) result) }
+{
+    holds(
+        look,
+        spot.course.program.terminator,
+        spot.before,
+        spot.after,
+    )
+}
+
+/// Whether a walk of the pattern counts that ends at the spot.
+#[inline(always)]
+pub fn may_end(spot: &Spot, number: usize) -> bool
+    ghost text: { Searched }
+    requires here { IsHere spot.now text }
+    ensures { (p : ℕ) → IsMoveAt (seen_from spot.now text) (p, spot.now.at) (accept number) (moving (Matches number) result) }
+{
+    is_allowed(spot.course.pattern, number) && is_there(spot.course.until, spot.at)
+}
+
+/// Whether walks of the pattern count.
+#[inline(always)]
+fn is_allowed(pattern: Option<usize>, number: usize) -> bool
+    ensures { result ≡ is_match_place pattern (accept number) }
+{
+    match pattern {
+        None => true,
+        Some(only) => number == only,
+    }
+}
+
+/// Whether walks that end at the position count.
+#[inline(always)]
+fn is_there(until: Option<usize>, at: usize) -> bool
+    ensures { result ≡ there until at }
+{
+    match until {
+        None => true,
+        Some(end) => at == end,
+    }
+}
+
+/// Whether one of the ranges has the byte, by the place's flags where it has any.
+#[inline(always)]
+fn takes_byte(program: &Program, place: usize, ranges: &Vec<ClassBytesRange>, byte: u8) -> bool
+    requires { place < length program.now.places.items }
+    ensures { (n : ℕ) → place_at (places_of program.now.places.items) place ≡ byte_place (map byte_range ranges.now.items) n
+        → result ≡ in_ranges (map byte_range ranges.now.items) byte }
+{
+    let Some(goes) = program.may_go_on(place, byte) else {
+        return has_byte(ranges, byte);
+    };
+    goes
+}
+
+/// Whether one of the ranges has the character, by the place's flags where it is one of ASCII and the place has any.
+#[inline(always)]
+fn takes_scalar(program: &Program, place: usize, ranges: &Vec<ClassUnicodeRange>, c: char) -> bool
+    requires { place < length program.now.places.items }
+    ensures { (n : ℕ) → place_at (places_of program.now.places.items) place ≡ scalar (map char_range ranges.now.items) n
+        → result ≡ in_ranges (map char_range ranges.now.items) c }
+{
+    let code = c as u32;
+    if code >= 128 {
+        return has_char(ranges, c);
+    }
+    let Some(goes) = program.may_go_on(place, code as u8) else {
+        return has_char(ranges, c);
+    };
+    goes
+}
+
+/// Whether one of the ranges has the byte.
+#[inline(always)]
+fn has_byte(ranges: &Vec<ClassBytesRange>, byte: u8) -> bool
+    ensures { result ≡ in_ranges (map byte_range ranges.now.items) byte }
+{
+    for range in ranges {
+        if range.start <= byte && byte <= range.end {
+            return true;
+        }
+    }
+    false
+}
+
+/// Whether one of the ranges has the character.
+#[inline(always)]
+fn has_char(ranges: &Vec<ClassUnicodeRange>, c: char) -> bool
+    ensures { result ≡ in_ranges (map char_range ranges.now.items) c }
+{
+    for range in ranges {
+        if range.start <= c && c <= range.end {
+            return true;
+        }
+    }
+    false
+}
+
+/// The first of the bytes, where one of the first `room` stands there.
+#[inline(always)]
+fn next_byte(after: &[u8], room: usize) -> Option<u8>
+    ensures { result ≡ slice_get (take room after.now) 0 }
+{
+    if room == 0 || after.is_empty() {
+        return None;
+    }
+    Some(after[0])
+}
+
+/// The scalar that begins the first `room` of the bytes, and how many it takes.
+#[inline(always)]
+fn next_scalar(after: &[u8], room: usize) -> Option<(char, usize)>
+    ensures { result ≡ scalar_at (take room after.now) }
+{
+    if let Some(byte) = next_byte(after, room) {
+        if byte < 128 {
+            return Some((char::from(byte), 1));
+        }
+    }
+    long_scalar(after, room)
+}
+
+/// As `next_scalar`, whatever byte comes first.
+#[inline(never)]
+fn long_scalar(after: &[u8], room: usize) -> Option<(char, usize)>
+    ensures { result ≡ scalar_at (take room after.now) }
+{
+    scalar_at(&after[..after.len().min(room)])
+}

@@ -1,0 +1,466 @@
+//! One ordered pass over a text.
+ghost use Rattle.std.specs.Prelude.{◌≡◌, ℕ, ◌+◌, ◌-◌, ◌*◌, ◌<◌, ◌≤◌, ◌⊎◌, ⊤, List, [], ◌∷◌, ◌++◌, length, map, min, Option, None, Some, MatchOption, Bool, true, false, replicate, ◌^◌, IsTrue, is_none, vec_capacity};
+ghost use Rattle.rc_walks.specs.Walks.{Pair};
+ghost use Rattle.rc_text.specs.Text.{Searched, Keeps, low, high};
+ghost use Rattle.rc_pikevm.specs.Sights.{HasNoWalkFrom};
+ghost use Rattle.rc_needles.specs.Guards.{Guards};
+ghost use Rattle.rc_needles.specs.Prefilters.{needles_of};
+ghost use Rattle.rc_program.specs.Places.{places_of};
+ghost use Rattle.rc_pikevm.specs.Alone.{EndsAlone, IsAhead, ReadsOne};
+ghost use Rattle.rc_pikevm.specs.Races.{Races, starts_to};
+ghost use Rattle.rc_pikevm.specs.Threads.{Thread};
+ghost use Rattle.rc_pikevm.specs.Near.{IsHere, seen_from, size};
+ghost use Rattle.rc_pikevm.specs.Moves.{IsSetting, seen_by};
+ghost use Rattle.rc_pikevm.specs.Roots.{StandsFor};
+ghost use Rattle.rc_pikevm.specs.Trace.{Trace, done};
+ghost use Rattle.rc_pikevm.specs.Passing.{Carries, pending, AllIn, AllFrom, count_from, HasRoom, waiting_starts, Pending, IsLined, IsCounted, GivesTrace, Tells, best_of};
+ghost use Rattle.rc_pikevm.specs.Scratches.{IsSame};
+
+use crate::alone::glide;
+use crate::closure::close;
+use crate::entrance::entrance;
+use crate::growth::{Growth, copy_row};
+use crate::heads::is_dead;
+use crate::scratch::Scratch;
+use crate::spot::{Course, Spot};
+use crate::threads::{Head, Threads};
+use crate::window::{open, reach, spot_at};
+use rc_needles::literal::find_from;
+use rc_needles::prefilter::Prefilter;
+use rc_text::cursor::Cursor;
+use rc_text::input::Input;
+
+/// How often in a row a lone thread, or a lone start, may be seen not to be simple.
+pub(crate) const PATIENCE: u32 = 4;
+
+/// A walk that has ended.
+#[derive(Clone, Copy)]
+pub struct Ending {
+    /// The number of its pattern.
+    pub pattern: usize,
+    /// Where it began, in bytes.
+    pub start: usize,
+    /// Where it ended, in bytes.
+    pub end: usize,
+}
+
+/// Lets the threads of `curr` that go on at the spot do so, in order; those that go on later are put
+/// into the growth.
+///
+/// Answers the pattern and the start of the first thread of which a walk ends: the slots are those
+/// of that walk then, and the threads behind it are dropped.
+fn step(spot: &Spot, curr: &Threads, growth: &mut Growth) -> Option<(usize, usize)>
+    ghost text: { Searched }
+    requires here { IsHere spot.now text }
+    requires inside { AllIn (size spot.now.course) spot.now.at (min spot.now.course.hi (spot.now.at + 3)) curr.now.items }
+    requires widths { curr.now.width ≡ growth.old.threads.width }
+    requires empty { (growth.old.threads.items ≡ []) × (growth.old.entered.items ≡ []) }
+    requires capacity { growth.old.entered.capacity ≡ size spot.now.course }
+    requires room { count_from (spot.now.at + 1) curr.now.items + size spot.now.course ≤ growth.old.threads.room }
+    ensures carries { (below : List (Trace × Pair)) (best o : Option Trace)
+        → MatchOption result
+        (Carries (seen_from spot.now text) spot.now.at growth.new.threads.items growth.new.entered.items below best o)
+        (λ r. Carries (seen_from spot.now text) spot.now.at growth.new.threads.items growth.new.entered.items []
+        (Some (done r.0 r.1 spot.now.at growth.new.slots.items)) o)
+        → Carries (seen_from spot.now text) spot.now.at [] [] (map pending curr.now.items ++ below) best o }
+    ensures sound { HasRoom (size spot.now.course) spot.now.course.hi spot.now.at growth.new.threads growth.new.entered }
+    ensures same { (growth.new.threads.room ≡ growth.old.threads.room) × (growth.new.threads.most ≡ growth.old.threads.most)
+        × (growth.new.threads.width ≡ growth.old.threads.width) }
+    ensures counts { (q : ℕ) → count_from q growth.new.threads.items ≤ count_from q curr.now.items + length growth.new.entered.items }
+    ensures begun { (x : ℕ) → AllFrom x curr.now.items → AllFrom x growth.new.threads.items }
+    ensures ended { MatchOption result
+        ((length curr.now.items ≡ 0) ⊎ (0 < length growth.new.threads.items + length growth.new.entered.items))
+        (λ r. (0 < length growth.new.entered.items) × ((x : ℕ) → AllFrom x curr.now.items → x ≤ r.1)) }
+{
+    'threads: for index in 0..curr.len() {
+        let (head, row) = curr.get(index);
+        if head.at > spot.at {
+            growth.threads.push(head, row);
+            continue;
+        }
+        copy_row(&mut growth.slots, row);
+        let place = entrance(spot, head.place, &growth.entered);
+        if let Some(number) = close(spot, place, head.start, growth) {
+            return Some((number, head.start));
+        }
+    }
+    None
+}
+
+/// Lets a thread set out at the spot, where `is_open` and the spot is no later than the last start, and none is under way. It enters at the
+/// place `root`, which stands for place 0. The rest is as in `step`.
+fn set_out(spot: &Spot, root: usize, is_open: bool, growth: &mut Growth) -> Option<(usize, usize)>
+    ghost text: { Searched }
+    requires here { IsHere spot.now text }
+    requires empty { (growth.old.threads.items ≡ []) × (growth.old.entered.items ≡ []) }
+    requires capacity { growth.old.entered.capacity ≡ size spot.now.course }
+    requires room { size spot.now.course ≤ growth.old.threads.room }
+    requires root { root < size spot.now.course }
+    requires stands { StandsFor (seen_from spot.now text) root }
+    ensures carries { (best o : Option Trace)
+        → MatchOption result
+        (Carries (seen_from spot.now text) spot.now.at growth.new.threads.items growth.new.entered.items
+        (waiting_starts is_open growth.old.threads.width (spot.now.at + 1) spot.now.course.last) best o)
+        (λ r. Carries (seen_from spot.now text) spot.now.at growth.new.threads.items growth.new.entered.items []
+        (Some (done r.0 r.1 spot.now.at growth.new.slots.items)) o)
+        → Carries (seen_from spot.now text) spot.now.at [] [] (waiting_starts is_open growth.old.threads.width spot.now.at spot.now.course.last) best o }
+    ensures sound { HasRoom (size spot.now.course) spot.now.course.hi spot.now.at growth.new.threads growth.new.entered }
+    ensures same { (growth.new.threads.room ≡ growth.old.threads.room) × (growth.new.threads.most ≡ growth.old.threads.most)
+        × (growth.new.threads.width ≡ growth.old.threads.width) }
+    ensures counts { (q : ℕ) → count_from q growth.new.threads.items ≤ length growth.new.entered.items }
+    ensures begun { (x : ℕ) → x ≤ spot.now.at → AllFrom x growth.new.threads.items }
+    ensures ended { MatchOption result ⊤ (λ r. (0 < length growth.new.entered.items) × ((x : ℕ) → x ≤ spot.now.at → x ≤ r.1)) }
+{
+    if !is_open || spot.at > spot.course.last {
+        return None;
+    }
+    empty(&mut growth.slots);
+    let place = entrance(spot, root, &growth.entered);
+    if let Some(number) = close(spot, place, spot.at, growth) {
+        return Some((number, spot.at));
+    }
+    None
+}
+
+/// Lets the threads of `curr` go on at the spot, and after them, where `is_open` and the spot is no
+/// later than the last start, a new thread set out there; where it is the only one, it enters at the place `root`, which stands for
+/// place 0. The rest is as in `step`.
+fn advance(
+    spot: &Spot,
+    root: usize,
+    is_open: bool,
+    curr: &Threads,
+    growth: &mut Growth,
+) -> Option<(usize, usize)>
+    ghost text: { Searched }
+    requires here { IsHere spot.now text }
+    requires inside { AllIn (size spot.now.course) spot.now.at (min spot.now.course.hi (spot.now.at + 3)) curr.now.items }
+    requires widths { curr.now.width ≡ growth.old.threads.width }
+    requires empty { (growth.old.threads.items ≡ []) × (growth.old.entered.items ≡ []) }
+    requires capacity { growth.old.entered.capacity ≡ size spot.now.course }
+    requires room { count_from (spot.now.at + 1) curr.now.items + size spot.now.course ≤ growth.old.threads.room }
+    requires root { root < size spot.now.course }
+    requires stands { StandsFor (seen_from spot.now text) root }
+    ensures carries { (best o : Option Trace)
+        → MatchOption result
+        (Carries (seen_from spot.now text) spot.now.at growth.new.threads.items growth.new.entered.items
+        (waiting_starts is_open growth.old.threads.width (spot.now.at + 1) spot.now.course.last) best o)
+        (λ r. Carries (seen_from spot.now text) spot.now.at growth.new.threads.items growth.new.entered.items []
+        (Some (done r.0 r.1 spot.now.at growth.new.slots.items)) o)
+        → Carries (seen_from spot.now text) spot.now.at [] []
+        (map pending curr.now.items ++ waiting_starts is_open growth.old.threads.width spot.now.at spot.now.course.last) best o }
+    ensures sound { HasRoom (size spot.now.course) spot.now.course.hi spot.now.at growth.new.threads growth.new.entered }
+    ensures same { (growth.new.threads.room ≡ growth.old.threads.room) × (growth.new.threads.most ≡ growth.old.threads.most)
+        × (growth.new.threads.width ≡ growth.old.threads.width) }
+    ensures counts { (q : ℕ) → count_from q growth.new.threads.items ≤ count_from q curr.now.items + length growth.new.entered.items }
+    ensures begun { (x : ℕ) → x ≤ spot.now.at → AllFrom x curr.now.items → AllFrom x growth.new.threads.items }
+    ensures ended { MatchOption result ⊤
+        (λ r. (0 < length growth.new.entered.items) × ((x : ℕ) → x ≤ spot.now.at → AllFrom x curr.now.items → x ≤ r.1)) }
+{
+    if curr.len() == 0 {
+        return set_out(spot, root, is_open, growth);
+    }
+    if let Some(end) = step(spot, curr, growth) {
+        return Some(end);
+    }
+    if !is_open || spot.at > spot.course.last {
+        return None;
+    }
+    if is_dead(spot, 0) {
+        return None;
+    }
+    empty(&mut growth.slots);
+    let place = entrance(spot, 0, &growth.entered);
+    if let Some(number) = close(spot, place, spot.at, growth) {
+        return Some((number, spot.at));
+    }
+    None
+}
+
+/// Forgets what stands in the slots.
+pub(crate) fn empty(slots: &mut Vec<Option<usize>>)
+    ensures slots { slots.new.items ≡ replicate (length slots.old.items) None }
+    ensures capacity { vec_capacity slots.new ≡ vec_capacity slots.old }
+{
+    slots.fill(None);
+}
+
+/// One position of a pass: lets the threads go on, counts the places entered, and answers the best
+/// walk that has ended so far, with its slots in `found`.
+fn turn(spot: &Spot, root: usize, best: Option<Ending>, scratch: &mut Scratch) -> Option<Ending>
+    ghost text: { Searched }
+    requires here { IsHere spot.now text }
+    requires made { scratch.old.next.entered.capacity ≡ size spot.now.course }
+    requires lined { IsLined (size spot.now.course) spot.now.course.hi scratch.old.next.threads.width spot.now.at scratch.old.insertions
+        scratch.old.curr }
+    requires counted { IsCounted scratch.old.insertions best }
+    requires small { scratch.old.insertions + size spot.now.course < 2 ^ 128 }
+    requires root { root < size spot.now.course }
+    requires stands { StandsFor (seen_from spot.now text) root }
+    ensures carries { (o : Option Trace)
+        → Pending (seen_from spot.now text) scratch.old.next.threads.width spot.now.course.last (spot.now.at + 1) scratch.new.curr.items
+        result scratch.new.found.items o
+        → Pending (seen_from spot.now text) scratch.old.next.threads.width spot.now.course.last spot.now.at scratch.old.curr.items
+        best scratch.old.found.items o }
+    ensures lined { IsLined (size spot.now.course) spot.now.course.hi scratch.old.next.threads.width (spot.now.at + 1)
+        scratch.new.insertions scratch.new.curr }
+    ensures same { IsSame scratch.old scratch.new }
+    ensures counted { IsCounted scratch.new.insertions result }
+    ensures few { scratch.new.insertions ≤ scratch.old.insertions + size spot.now.course }
+{
+    scratch.next.clear();
+    let end = advance(spot, root, best.is_none(), &scratch.curr, &mut scratch.next);
+    scratch.finish();
+    if let Some((number, start)) = end {
+        scratch.found.copy_from_slice(&scratch.next.slots);
+        return Some(Ending {
+            pattern: number,
+            start,
+            end: spot.at,
+        });
+    }
+    best
+}
+
+/// Ends the walk of the only thread, one of the pattern, at the position. The rest is as in `turn`.
+#[inline(always)]
+pub fn end_walk(course: Course, at: usize, number: usize, scratch: &mut Scratch) -> Ending
+    ghost text: { Searched }
+    requires lined { IsLined (size course) course.hi scratch.old.next.threads.width at scratch.old.insertions scratch.old.curr }
+    requires small { scratch.old.insertions + 1 < 2 ^ 128 }
+    requires ends { EndsAlone (seen_by course text) at scratch.old.curr.items number }
+    ensures carries { (best : Option Ending) (o : Option Trace)
+        → Pending (seen_by course.entry text) scratch.old.next.threads.width course.entry.last (at + 1) scratch.new.curr.items
+        (Some result) scratch.new.found.items o
+        → Pending (seen_by course.entry text) scratch.old.next.threads.width course.entry.last at scratch.old.curr.items
+        best scratch.old.found.items o }
+    ensures races { (all : List (Trace × Pair)) (best : Option Ending)
+        → IsAhead best result.start at
+        → Races (seen_by course.entry text) all at [] []
+        (map pending scratch.old.curr.items ++ starts_to scratch.old.next.threads.width at course.entry.last) best scratch.old.found.items
+        → Races (seen_by course.entry text) all (at + 1) [] []
+        (map pending scratch.new.curr.items ++ starts_to scratch.old.next.threads.width (at + 1) course.entry.last) (Some result)
+        scratch.new.found.items }
+    ensures start { (t : Thread) → scratch.old.curr.items ≡ t ∷ [] → result.start ≡ t.start }
+    ensures lined { IsLined (size course.entry) course.entry.hi scratch.old.next.threads.width (at + 1) scratch.new.insertions scratch.new.curr }
+    ensures same { IsSame scratch.old scratch.new }
+    ensures counted { IsCounted scratch.new.insertions (Some result) }
+    ensures few { scratch.new.insertions ≤ scratch.old.insertions + 1 }
+{
+    let (head, row) = scratch.curr.get(0);
+    let start = head.start;
+    copy_row(&mut scratch.found, row);
+    scratch.curr.clear(scratch.next.slots.len());
+    scratch.insertions += 1;
+    Ending {
+        pattern: number,
+        start,
+        end: at,
+    }
+}
+
+/// Lets a thread set out at the position that reads one byte there and goes on at `next`, where none is under way. The rest is as in `turn`.
+#[inline(always)]
+pub fn set_out_alone(course: Course, at: usize, root: usize, next: usize, scratch: &mut Scratch)
+    ghost text: { Searched }
+    requires setting { IsSetting course text }
+    requires lined { IsLined (size course) course.hi scratch.old.next.threads.width at scratch.old.insertions scratch.old.curr }
+    requires small { scratch.old.insertions + 1 < 2 ^ 128 }
+    requires none { length scratch.old.curr.items ≡ 0 }
+    requires within { at ≤ course.last }
+    requires stands { StandsFor (seen_by course text) root }
+    requires reads { (p : ℕ) × ReadsOne (seen_by course text) (size course) at root (p, next) }
+    ensures carries { (o : Option Trace)
+        → Pending (seen_by course.entry text) scratch.old.next.threads.width course.entry.last (at + 1) scratch.new.curr.items
+        None scratch.new.found.items o
+        → Pending (seen_by course.entry text) scratch.old.next.threads.width course.entry.last at scratch.old.curr.items
+        None scratch.old.found.items o }
+    ensures races { root ≡ 0 → (all : List (Trace × Pair))
+        → Races (seen_by course.entry text) all at [] []
+        (map pending scratch.old.curr.items ++ starts_to scratch.old.next.threads.width at course.entry.last) None scratch.old.found.items
+        → Races (seen_by course.entry text) all (at + 1) [] []
+        (map pending scratch.new.curr.items ++ starts_to scratch.old.next.threads.width (at + 1) course.entry.last) None scratch.new.found.items }
+    ensures lined { IsLined (size course.entry) course.entry.hi scratch.old.next.threads.width (at + 1) scratch.new.insertions scratch.new.curr }
+    ensures same { IsSame scratch.old scratch.new }
+    ensures few { scratch.new.insertions ≤ scratch.old.insertions + 1 }
+{
+    empty(&mut scratch.next.slots);
+    scratch.curr.push(
+        Head {
+            place: next,
+            at: at + 1,
+            start: at,
+        },
+        &scratch.next.slots,
+    );
+    scratch.insertions += 1;
+}
+
+/// How often what is simple is tried after it was in vain: where it is often in vain, it isn't tried to the end of the pass.
+pub(crate) fn patience_left(patience: u32, has_moved: bool, threads: usize) -> u32 {
+    if has_moved {
+        return PATIENCE;
+    }
+    if threads > 1 {
+        return patience;
+    }
+    patience.saturating_sub(1)
+}
+
+/// Whether after the position `at` no thread is left to go on, and none to set out.
+pub fn is_done(curr: &Threads, best: Option<Ending>, at: usize, last: usize) -> bool
+    ensures { IsTrue result → (length curr.now.items ≡ 0) × ((is_none best ≡ false) ⊎ (last ≤ at)) }
+{
+    if curr.len() > 0 {
+        return false;
+    }
+    if best.is_some() {
+        return true;
+    }
+    at >= last
+}
+
+/// Whether no thread is left to go on, and a walk has ended.
+fn is_over(curr: &Threads, best: Option<Ending>) -> bool
+    ensures { IsTrue result → (length curr.now.items ≡ 0) × (is_none best ≡ false) }
+{
+    curr.len() == 0 && best.is_some()
+}
+
+/// Whether no thread is left to go on, and no walk has ended.
+pub(crate) fn is_idle(curr: &Threads, best: Option<Ending>) -> bool
+    ensures { IsTrue result → (length curr.now.items ≡ 0) × (is_none best ≡ true) }
+{
+    curr.len() == 0 && best.is_none()
+}
+
+/// Where a pass goes on that has come to `at`: there, or, where it is idle and `last` is not yet
+/// reached, at the next position where a needle stands. None where it is idle and no needle stands
+/// from `at` on.
+pub(crate) fn next_position<C: Cursor>(
+    input: &mut Input<C>,
+    course: Course,
+    prefilter: Option<&Prefilter>,
+    at: usize,
+    idle: bool,
+) -> Option<usize>
+    requires inside { (at ≤ course.hi) × (course.hi ≡ high input.old) }
+    ensures keeps { Keeps input.old input.new }
+    ensures next { MatchOption prefilter.entry ⊤
+        (λ p. Guards (places_of course.entry.program.now.places.items) course.entry.program.now.terminator (needles_of p.now))
+        → MatchOption result
+        (IsTrue idle × ((y : ℕ) → at ≤ y → y ≤ course.entry.hi → HasNoWalkFrom (seen_by course.entry input.old) y))
+        (λ x. (at ≤ x) × (x ≤ course.entry.hi) × ((x ≡ at)
+        ⊎ (IsTrue idle × ((y : ℕ) → at ≤ y → y < x → HasNoWalkFrom (seen_by course.entry input.old) y)))) }
+{
+    if !idle || at >= course.last {
+        return Some(at);
+    }
+    let Some(needles) = prefilter else {
+        return Some(at);
+    };
+    let Some(hit) = find_from(input, needles, at, course.hi) else {
+        return None;
+    };
+    Some(hit.start)
+}
+
+/// One pass over the positions from `from` on: of the starts from there on the least that has a
+/// walk, and its first walk, with its slots in `found`. Without a match, `found` is left as it was.
+///
+/// A place is entered once at a position, and `insertions` says how many were. With a prefilter,
+/// starts at which no needle stands are left out, as far as no thread is alive there. With `earliest`
+/// it is only told whether some start has a walk: the pass ends at the first position at which one ends.
+#[tactic(auto, using(crate::proofs::RootLemmas::stands_itself))]
+pub fn pass<C: Cursor>(
+    input: &mut Input<C>,
+    course: Course,
+    prefilter: Option<&Prefilter>,
+    from: usize,
+    earliest: bool,
+    scratch: &mut Scratch,
+) -> Option<Ending>
+    ghost text: { Searched }
+    requires same { Keeps text input.old }
+    requires setting { IsSetting course text }
+    requires guarded { MatchOption prefilter ⊤
+        (λ p. Guards (places_of course.program.now.places.items) course.program.now.terminator (needles_of p.now)) }
+    requires bounds { (low text ≤ from) × (from ≤ course.last) }
+    requires made { scratch.old.next.entered.capacity ≡ size course }
+    ensures keeps { Keeps input.old input.new }
+    ensures gives { earliest ≡ false → GivesTrace (seen_by course.entry text) scratch.old.next.threads.width from course.entry.last
+        (best_of result scratch.new.found.items) }
+    ensures tells { Tells (seen_by course.entry text) from course.entry.last result }
+    ensures counted { IsCounted scratch.new.insertions result }
+    ensures few { scratch.new.insertions ≤ size course.entry * (course.entry.hi - from + 1) }
+    ensures same { IsSame scratch.old scratch.new }
+{
+    pass_from(input, course, 0, prefilter, from, earliest, scratch)
+}
+
+/// As `pass`, where a thread that sets out while no other is under way enters at the place `root`, which stands for place 0.
+pub(crate) fn pass_from<C: Cursor>(
+    input: &mut Input<C>,
+    course: Course,
+    root: usize,
+    prefilter: Option<&Prefilter>,
+    from: usize,
+    earliest: bool,
+    scratch: &mut Scratch,
+) -> Option<Ending>
+    ghost text: { Searched }
+    requires same { Keeps text input.old }
+    requires setting { IsSetting course text }
+    requires guarded { MatchOption prefilter ⊤
+        (λ p. Guards (places_of course.program.now.places.items) course.program.now.terminator (needles_of p.now)) }
+    requires bounds { (low text ≤ from) × (from ≤ course.last) }
+    requires made { scratch.old.next.entered.capacity ≡ size course }
+    requires root { root < size course }
+    requires stands { StandsFor (seen_by course text) root }
+    ensures keeps { Keeps input.old input.new }
+    ensures gives { earliest ≡ false → GivesTrace (seen_by course.entry text) scratch.old.next.threads.width from course.entry.last
+        (best_of result scratch.new.found.items) }
+    ensures tells { Tells (seen_by course.entry text) from course.entry.last result }
+    ensures counted { IsCounted scratch.new.insertions result }
+    ensures few { scratch.new.insertions ≤ size course.entry * (course.entry.hi - from + 1) }
+    ensures same { IsSame scratch.old scratch.new }
+{
+    let mut best: Option<Ending> = None;
+    scratch.insertions = 0;
+    scratch.curr.clear(scratch.next.slots.len());
+    let mut window = open(input, from);
+    let mut at = from;
+    let mut patience = PATIENCE;
+    'positions: while at <= course.hi {
+        let idle = is_idle(&scratch.curr, best);
+        let Some(next_at) = next_position(input, course, prefilter, at, idle) else {
+            return None;
+        };
+        at = next_at;
+        reach(&mut window, input, at);
+        let here = glide(
+            course,
+            &window,
+            root,
+            patience > 0,
+            prefilter.is_none(),
+            &mut best,
+            at,
+            scratch,
+        );
+        patience = patience_left(patience, here > at, scratch.curr.len());
+        if is_over(&scratch.curr, best) {
+            return best;
+        }
+        at = here;
+        best = turn(&spot_at(course, &window, at), root, best, scratch);
+        if earliest && best.is_some() {
+            return best;
+        }
+        if is_done(&scratch.curr, best, at, course.last) {
+            return best;
+        }
+        at += 1;
+    }
+    best
+}

@@ -1,0 +1,226 @@
+//! One ordered pass over a text for the longest walk of the least start.
+ghost use Rattle.std.specs.Prelude.{◌≡◌, ℕ, ◌+◌, ◌-◌, ◌*◌, ◌<◌, ◌≤◌, ◌⊎◌, ⊤, ◌^◌, List, [], ◌++◌, length, map, min, Option, MatchOption, IsTrue};
+ghost use Rattle.rc_walks.specs.Walks.{Pair};
+ghost use Rattle.rc_text.specs.Text.{Searched, Keeps, low};
+ghost use Rattle.rc_needles.specs.Guards.{Guards};
+ghost use Rattle.rc_needles.specs.Prefilters.{needles_of};
+ghost use Rattle.rc_program.specs.Places.{places_of};
+ghost use Rattle.rc_pikevm.specs.Near.{IsHere, seen_from, size};
+ghost use Rattle.rc_pikevm.specs.Moves.{IsSetting, seen_by};
+ghost use Rattle.rc_pikevm.specs.Trace.{Trace};
+ghost use Rattle.rc_pikevm.specs.Passing.{pending, AllIn, AllFrom, count_from, HasRoom, IsLined, IsCounted, best_of};
+ghost use Rattle.rc_pikevm.specs.Races.{Races, IsCutOff, starts_to, GivesLongest};
+ghost use Rattle.rc_pikevm.specs.Scratches.{IsSame};
+
+use crate::entrance::way_in;
+use crate::growth::{Growth, copy_row};
+use crate::heads::is_dead;
+use crate::pass::{Ending, PATIENCE, empty, is_idle, next_position, patience_left};
+use crate::race_alone::glide;
+use crate::race_closure::{is_sought, run};
+use crate::scratch::Scratch;
+use crate::spot::{Course, Spot};
+use crate::threads::Threads;
+use crate::window::{open, reach, spot_at};
+use rc_needles::prefilter::Prefilter;
+use rc_text::cursor::Cursor;
+use rc_text::input::Input;
+
+/// Lets the threads of `curr` that go on at the spot do so, in order; those that go on later are put into the growth. Threads of later
+/// starts than the best walk's are left out.
+fn step(
+    spot: &Spot,
+    curr: &Threads,
+    best: &mut Option<Ending>,
+    found: &mut [Option<usize>],
+    growth: &mut Growth,
+)
+    ghost text: { Searched }
+    requires here { IsHere spot.now text }
+    requires inside { AllIn (size spot.now.course) spot.now.at (min spot.now.course.hi (spot.now.at + 3)) curr.now.items }
+    requires widths { (curr.now.width ≡ growth.old.threads.width) × (length found.old ≡ growth.old.threads.width) }
+    requires empty { (growth.old.threads.items ≡ []) × (growth.old.entered.items ≡ []) }
+    requires capacity { growth.old.entered.capacity ≡ size spot.now.course }
+    requires room { count_from (spot.now.at + 1) curr.now.items + size spot.now.course ≤ growth.old.threads.room }
+    ensures races { (all below : List (Trace × Pair))
+        → Races (seen_from spot.now text) all spot.now.at [] [] (map pending curr.now.items ++ below) best.old found.old
+        → Races (seen_from spot.now text) all spot.now.at growth.new.threads.items growth.new.entered.items below best.new found.new }
+    ensures sound { HasRoom (size spot.now.course) spot.now.course.hi spot.now.at growth.new.threads growth.new.entered }
+    ensures same { (growth.new.threads.room ≡ growth.old.threads.room) × (growth.new.threads.most ≡ growth.old.threads.most)
+        × (growth.new.threads.width ≡ growth.old.threads.width) }
+    ensures counts { (q : ℕ) → count_from q growth.new.threads.items ≤ count_from q curr.now.items + length growth.new.entered.items }
+    ensures begun { (x : ℕ) → AllFrom x curr.now.items → AllFrom x growth.new.threads.items }
+    ensures counted { (k : ℕ) → AllFrom (spot.now.at + 1 - k) curr.now.items → IsCounted k best.old → IsCounted k best.new }
+    ensures still { (best.new ≡ best.old) ⊎ (0 < length growth.new.entered.items) }
+{
+    'threads: for index in 0..curr.len() {
+        let (head, row) = curr.get(index);
+        if !is_sought(*best, head.start) {
+            continue;
+        }
+        if head.at > spot.at {
+            growth.threads.push(head, row);
+            continue;
+        }
+        copy_row(&mut growth.slots, row);
+        let place = way_in(spot, head.place, &growth.entered);
+        run(spot, place, head.start, best, found, growth);
+    }
+}
+
+/// Lets the threads of `curr` go on at the spot, and after them, where the spot is no later than the last start and no walk has ended, a
+/// new thread set out there. The rest is as in `step`.
+fn advance(
+    spot: &Spot,
+    curr: &Threads,
+    best: &mut Option<Ending>,
+    found: &mut [Option<usize>],
+    growth: &mut Growth,
+)
+    ghost text: { Searched }
+    requires here { IsHere spot.now text }
+    requires inside { AllIn (size spot.now.course) spot.now.at (min spot.now.course.hi (spot.now.at + 3)) curr.now.items }
+    requires widths { (curr.now.width ≡ growth.old.threads.width) × (length found.old ≡ growth.old.threads.width) }
+    requires empty { (growth.old.threads.items ≡ []) × (growth.old.entered.items ≡ []) }
+    requires capacity { growth.old.entered.capacity ≡ size spot.now.course }
+    requires room { count_from (spot.now.at + 1) curr.now.items + size spot.now.course ≤ growth.old.threads.room }
+    ensures races { (all : List (Trace × Pair))
+        → Races (seen_from spot.now text) all spot.now.at [] []
+        (map pending curr.now.items ++ starts_to growth.old.threads.width spot.now.at spot.now.course.last) best.old found.old
+        → Races (seen_from spot.now text) all spot.now.at growth.new.threads.items growth.new.entered.items
+        (starts_to growth.old.threads.width (spot.now.at + 1) spot.now.course.last) best.new found.new }
+    ensures sound { HasRoom (size spot.now.course) spot.now.course.hi spot.now.at growth.new.threads growth.new.entered }
+    ensures same { (growth.new.threads.room ≡ growth.old.threads.room) × (growth.new.threads.most ≡ growth.old.threads.most)
+        × (growth.new.threads.width ≡ growth.old.threads.width) }
+    ensures counts { (q : ℕ) → count_from q growth.new.threads.items ≤ count_from q curr.now.items + length growth.new.entered.items }
+    ensures begun { (x : ℕ) → x ≤ spot.now.at → AllFrom x curr.now.items → AllFrom x growth.new.threads.items }
+    ensures counted { (k : ℕ) → length growth.new.entered.items ≤ k → AllFrom (spot.now.at + 1 - k) curr.now.items
+        → IsCounted k best.old → IsCounted k best.new }
+    ensures still { (best.new ≡ best.old) ⊎ (0 < length growth.new.entered.items) }
+{
+    step(spot, curr, best, found, growth);
+    if spot.at > spot.course.last {
+        return;
+    }
+    if !is_sought(*best, spot.at) {
+        return;
+    }
+    if is_dead(spot, 0) {
+        return;
+    }
+    empty(&mut growth.slots);
+    let place = way_in(spot, 0, &growth.entered);
+    run(spot, place, spot.at, best, found, growth);
+}
+
+/// One position of a pass: lets the threads go on, and counts the places entered.
+fn turn(spot: &Spot, best: &mut Option<Ending>, scratch: &mut Scratch)
+    ghost text: { Searched }
+    requires here { IsHere spot.now text }
+    requires made { scratch.old.next.entered.capacity ≡ size spot.now.course }
+    requires lined { IsLined (size spot.now.course) spot.now.course.hi scratch.old.next.threads.width spot.now.at scratch.old.insertions
+        scratch.old.curr }
+    requires counted { IsCounted scratch.old.insertions best.old }
+    requires small { scratch.old.insertions + size spot.now.course < 2 ^ 128 }
+    ensures races { (all : List (Trace × Pair))
+        → Races (seen_from spot.now text) all spot.now.at [] []
+        (map pending scratch.old.curr.items ++ starts_to scratch.old.next.threads.width spot.now.at spot.now.course.last)
+        best.old scratch.old.found.items
+        → Races (seen_from spot.now text) all (spot.now.at + 1) [] []
+        (map pending scratch.new.curr.items ++ starts_to scratch.old.next.threads.width (spot.now.at + 1) spot.now.course.last)
+        best.new scratch.new.found.items }
+    ensures lined { IsLined (size spot.now.course) spot.now.course.hi scratch.old.next.threads.width (spot.now.at + 1)
+        scratch.new.insertions scratch.new.curr }
+    ensures same { IsSame scratch.old scratch.new }
+    ensures counted { IsCounted scratch.new.insertions best.new }
+    ensures few { scratch.new.insertions ≤ scratch.old.insertions + size spot.now.course }
+{
+    scratch.next.clear();
+    advance(
+        spot,
+        &scratch.curr,
+        best,
+        &mut scratch.found,
+        &mut scratch.next,
+    );
+    scratch.finish();
+}
+
+/// Whether after the position `at` no thread is left to go on, and none to set out.
+fn is_over(curr: &Threads, best: Option<Ending>, at: usize, last: usize) -> bool
+    ensures { IsTrue result → (length curr.now.items ≡ 0) × ((last ≤ at) ⊎ IsCutOff best (at + 1)) }
+{
+    if curr.len() > 0 {
+        return false;
+    }
+    at >= last || !is_sought(best, at + 1)
+}
+
+/// Whether at the position no thread is left to go on, and no start is sought.
+fn is_spent(curr: &Threads, best: Option<Ending>, at: usize) -> bool
+    ensures { IsTrue result → (length curr.now.items ≡ 0) × IsCutOff best at }
+{
+    curr.len() == 0 && !is_sought(best, at)
+}
+
+/// One pass over the positions from `from` on: of the starts from there on the least that has a walk, and its longest walk, with its slots in
+/// `found`. Without a match, `found` is left as it was.
+///
+/// A place is entered once at a position, and `insertions` says how many were. With a prefilter, starts at which no needle stands are left
+/// out, as far as no thread is alive there.
+pub fn race<C: Cursor>(
+    input: &mut Input<C>,
+    course: Course,
+    prefilter: Option<&Prefilter>,
+    from: usize,
+    scratch: &mut Scratch,
+) -> Option<Ending>
+    ghost text: { Searched }
+    requires same { Keeps text input.old }
+    requires setting { IsSetting course text }
+    requires guarded { MatchOption prefilter ⊤
+        (λ p. Guards (places_of course.program.now.places.items) course.program.now.terminator (needles_of p.now)) }
+    requires bounds { (low text ≤ from) × (from ≤ course.last) }
+    requires made { scratch.old.next.entered.capacity ≡ size course }
+    ensures keeps { Keeps input.old input.new }
+    ensures gives { GivesLongest (seen_by course.entry text) scratch.old.next.threads.width from course.entry.last
+        (best_of result scratch.new.found.items) }
+    ensures counted { IsCounted scratch.new.insertions result }
+    ensures few { scratch.new.insertions ≤ size course.entry * (course.entry.hi - from + 1) }
+    ensures same { IsSame scratch.old scratch.new }
+{
+    let mut best: Option<Ending> = None;
+    scratch.insertions = 0;
+    scratch.curr.clear(scratch.next.slots.len());
+    let mut window = open(input, from);
+    let mut at = from;
+    let mut patience = PATIENCE;
+    'positions: while at <= course.hi {
+        let idle = is_idle(&scratch.curr, best);
+        let Some(next_at) = next_position(input, course, prefilter, at, idle) else {
+            return None;
+        };
+        at = next_at;
+        reach(&mut window, input, at);
+        let here = glide(
+            course,
+            &window,
+            patience > 0,
+            prefilter.is_none(),
+            &mut best,
+            at,
+            scratch,
+        );
+        patience = patience_left(patience, here > at, scratch.curr.len());
+        if is_spent(&scratch.curr, best, here) {
+            return best;
+        }
+        at = here;
+        turn(&spot_at(course, &window, at), &mut best, scratch);
+        if is_over(&scratch.curr, best, at, course.last) {
+            return best;
+        }
+        at += 1;
+    }
+    best
+}

@@ -1,0 +1,104 @@
+//! What passes work in.
+ghost use Rattle.std.specs.Prelude.{◌≡◌, ◌<◌, ◌≤◌, ℕ, length, vec_capacity};
+ghost use Rattle.rc_pikevm.specs.Passing.{AllIn};
+
+use crate::growth::{Growth, make_row};
+use crate::sparse_set::SparseSet;
+use crate::threads::Threads;
+use std::alloc::{AllocError, Global};
+
+/// What passes work in: all memory that they need, made once.
+#[derive(Drop)]
+pub struct Scratch {
+    /// The threads of the position.
+    pub curr: Threads,
+    /// What grows there: the threads of the next one.
+    pub next: Growth,
+    /// The slots of the walk that was found.
+    pub found: Vec<Option<usize>>,
+    /// How many places were entered, over all positions.
+    pub insertions: u128,
+    ghost alike: { (curr.room ≡ next.threads.room) × (curr.most ≡ next.threads.most) × (curr.width ≡ next.threads.width) },
+    ghost wide: { (length found.items ≡ next.threads.width) × (next.threads.most ≤ vec_capacity found) },
+}
+
+/// Where no place was entered and yet threads wait, puts the first one's place into the set: a
+/// position that threads pass within a scalar counts too.
+fn touch(entered: &mut SparseSet, threads: &Threads)
+    requires inside { (lo hi : ℕ) × AllIn entered.old.capacity lo hi threads.now.items }
+    requires few { length entered.old.items ≤ entered.old.capacity }
+    ensures capacity { entered.new.capacity ≡ entered.old.capacity }
+    ensures few { length entered.new.items ≤ entered.old.capacity }
+    ensures more { length entered.old.items ≤ length entered.new.items }
+    ensures some { (0 < length threads.now.items) → 0 < length entered.new.items }
+{
+    if entered.len() == 0 && threads.len() > 0 {
+        let (head, _) = threads.get(0);
+        entered.insert(head.place);
+    }
+}
+
+impl Scratch {
+    ghost use Rattle.std.specs.Prelude.{◌+◌, ◌<◌, ◌^◌, ℕ, IfOk};
+    ghost use Rattle.rc_pikevm.specs.Passing.{AllIn};
+    ghost use Rattle.rc_pikevm.specs.Scratches.{IsSame};
+
+    /// Room for programs of `places` places, and searches with at most `slots` slots.
+    pub fn new(alloc: Global, places: usize, slots: usize) -> Result<Scratch, AllocError>
+        ensures places { IfOk result (λ s. s.next.entered.capacity ≡ places) }
+        ensures slots { IfOk result (λ s. s.next.threads.most ≡ slots) }
+        ensures unused { IfOk result (λ s. s.insertions ≡ 0) }
+    {
+        let Some(room) = places.checked_mul(4) else {
+            return Err(AllocError);
+        };
+        let Some(depth) = places.checked_add(1) else {
+            return Err(AllocError);
+        };
+        let next = Growth {
+            threads: Threads::new(alloc, room, slots)?,
+            entered: SparseSet::new(alloc, places)?,
+            stack: Vec::with_capacity(alloc, depth)?,
+            slots: Vec::with_capacity(alloc, slots)?,
+        };
+        Ok(Scratch {
+            curr: Threads::new(alloc, room, slots)?,
+            next,
+            found: Vec::with_capacity(alloc, slots)?,
+            insertions: 0,
+        })
+    }
+
+    /// Gives each thread of the searches to come `width` slots.
+    pub fn widen(&mut self, width: usize)
+        requires { width ≤ self.old.next.threads.most }
+        ensures width { self.new.next.threads.width ≡ width }
+        ensures capacity { self.new.next.entered.capacity ≡ self.old.next.entered.capacity }
+        ensures most { self.new.next.threads.most ≡ self.old.next.threads.most }
+    {
+        self.next.widen(width);
+        make_row(&mut self.found, width);
+        self.curr.clear(width);
+    }
+
+    /// Ends a position: counts the places that were entered there, and makes the next position's
+    /// threads those of the position.
+    pub fn finish(&mut self)
+        requires inside { (lo hi : ℕ) × AllIn self.old.next.entered.capacity lo hi self.old.next.threads.items }
+        requires few { length self.old.next.entered.items ≤ self.old.next.entered.capacity }
+        requires small { self.old.insertions + self.old.next.entered.capacity < 2 ^ 128 }
+        ensures threads { self.new.curr ≡ self.old.next.threads }
+        ensures same { IsSame self.old self.new }
+        ensures found { self.new.found.items ≡ self.old.found.items }
+        ensures slots { self.new.next.slots.items ≡ self.old.next.slots.items }
+        ensures counted { self.old.insertions + length self.old.next.entered.items ≤ self.new.insertions }
+        ensures few { self.new.insertions ≤ self.old.insertions + self.old.next.entered.capacity }
+        ensures some { 0 < length self.old.next.threads.items → self.old.insertions < self.new.insertions }
+    {
+        touch(&mut self.next.entered, &self.next.threads);
+        self.insertions += self.next.entered.len() as u128;
+        if self.curr.len() > 0 || self.next.threads.len() > 0 {
+            self.curr.exchange(&mut self.next.threads);
+        }
+    }
+}

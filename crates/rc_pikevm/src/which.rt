@@ -1,0 +1,297 @@
+//! Which patterns have a match: one pass in which threads go on after a match, and each pattern whose match place is entered is noted.
+ghost use Rattle.std.specs.Prelude.{◌≡◌, ◌↔◌, ℕ, ◌+◌, ◌-◌, ◌*◌, ◌<◌, ◌≤◌, ◌⊎◌, ◌^◌, IsTrue, List, [], ◌∷◌, ◌++◌, length, map, min, reverse, slice_set, true, vec_len};
+ghost use Rattle.rc_text.specs.Text.{Searched, Keeps, low, high};
+ghost use Rattle.rc_pattern_set.specs.Sets.{Has};
+ghost use Rattle.rc_walks.specs.Walks.{Pair};
+ghost use Rattle.rc_program.specs.Program.{accept, is_match_place};
+ghost use Rattle.rc_program.specs.Places.{places_of};
+ghost use Rattle.rc_program.specs.Programs.{search_of};
+ghost use Rattle.rc_pikevm.specs.Caches.{IsCacheFor};
+ghost use Rattle.rc_pikevm.specs.Marking.{AreSame, Owed, SomeLeads, HasAll, KeepsMarks, MarksFrom, entering, explored, going};
+ghost use Rattle.rc_pikevm.specs.Moves.{IsSetting, seen, seen_by};
+ghost use Rattle.rc_pikevm.specs.Near.{IsHere, seen_from, size};
+ghost use Rattle.rc_pikevm.specs.Passing.{AllFrom, AllIn, AllInside, HasRoom, IsGrown, IsLined, count_from};
+ghost use Rattle.rc_pikevm.specs.PatternSpans.{AddsSpelled, AreOfFirst};
+ghost use Rattle.rc_pikevm.specs.Scratches.{IsSame};
+
+use crate::cache::Cache;
+use crate::closure::enter;
+use crate::growth::{Frame, Growth};
+use crate::pass::is_done;
+use crate::scratch::Scratch;
+use crate::search::{bounds, starts_of};
+use crate::spot::{Course, Spot};
+use crate::threads::Threads;
+use crate::window::{open, reach, spot_at};
+use rc_pattern_set::sets::PatternSet;
+use rc_program::program::Program;
+use rc_text::cursor::Cursor;
+use rc_text::input::Input;
+use rc_text::types::PatternID;
+
+/// Puts the pattern of this number into the set.
+fn mark(set: &mut PatternSet, number: usize)
+    requires { number ≤ 2147483646 }
+    ensures { set.new ≡ slice_set set.old number true }
+{
+    if let Some(pattern) = PatternID::new(number) {
+        set.insert(pattern);
+    }
+}
+
+/// Enters a place, unless it was entered at this position already. Where a walk ends there, its pattern is marked.
+fn visit(spot: &Spot, place: usize, start: usize, set: &mut PatternSet, growth: &mut Growth)
+    ghost text: { Searched }
+    requires here { IsHere spot.now text }
+    requires place_in { place < size spot.now.course }
+    requires sound { HasRoom (size spot.now.course) spot.now.course.hi spot.now.at growth.old.threads growth.old.entered }
+    requires width { growth.old.threads.width ≡ 0 }
+    requires frames { AllInside (size spot.now.course) 0 (reverse growth.old.stack.items) }
+    requires deep { vec_len growth.old.stack ≤ length growth.old.entered.items }
+    ensures same { (below : List Pair) → AreSame (length set.old)
+        (Owed (seen_from spot.now text) spot.now.at growth.old.threads.items growth.old.entered.items
+        ((place, spot.now.at) ∷ (explored spot.now.at (reverse growth.old.stack.items) ++ below)) set.old)
+        (Owed (seen_from spot.now text) spot.now.at growth.new.threads.items growth.new.entered.items
+        (explored spot.now.at (reverse growth.new.stack.items) ++ below) set.new) }
+    ensures long { length set.new ≡ length set.old }
+    ensures more { KeepsMarks set.old set.new }
+    ensures grown { IsGrown (size spot.now.course) spot.now.course.hi start spot.now.at growth.old.threads growth.old.entered
+        growth.new.threads growth.new.entered }
+    ensures some { 0 < length growth.new.entered.items }
+    ensures frames { AllInside (size spot.now.course) 0 (reverse growth.new.stack.items) }
+    ensures deep { vec_len growth.new.stack ≤ length growth.new.entered.items + 1 }
+    ensures falls { vec_len growth.new.stack + 3 * length growth.old.entered.items
+        ≤ vec_len growth.old.stack + 3 * length growth.new.entered.items }
+{
+    if let Some(number) = enter(spot, place, start, growth) {
+        mark(set, number);
+    }
+}
+
+/// Follows all ways from `root` that read nothing, puts a thread behind the others for each that reads, and marks the pattern of each
+/// walk that ends.
+fn spread(spot: &Spot, root: usize, start: usize, set: &mut PatternSet, growth: &mut Growth)
+    ghost text: { Searched }
+    requires here { IsHere spot.now text }
+    requires root_in { root < size spot.now.course }
+    requires sound { HasRoom (size spot.now.course) spot.now.course.hi spot.now.at growth.old.threads growth.old.entered }
+    requires width { growth.old.threads.width ≡ 0 }
+    ensures same { (below : List Pair) → AreSame (length set.old)
+        (Owed (seen_from spot.now text) spot.now.at growth.old.threads.items growth.old.entered.items ((root, spot.now.at) ∷ below) set.old)
+        (Owed (seen_from spot.now text) spot.now.at growth.new.threads.items growth.new.entered.items below set.new) }
+    ensures long { length set.new ≡ length set.old }
+    ensures more { KeepsMarks set.old set.new }
+    ensures grown { IsGrown (size spot.now.course) spot.now.course.hi start spot.now.at growth.old.threads growth.old.entered
+        growth.new.threads growth.new.entered }
+{
+    growth.stack.clear();
+    visit(spot, root, start, set, growth);
+    'frames: while let Some(frame) = growth.stack.pop() {
+        match frame {
+            Frame::Explore(place) => visit(spot, place, start, set, growth),
+            Frame::Restore(_, _) => {}
+        }
+    }
+}
+
+/// Lets the threads of `curr` that go on at the spot do so; those that go on later are put into the growth. The pattern of each walk that
+/// ends is marked.
+fn step(spot: &Spot, curr: &Threads, set: &mut PatternSet, growth: &mut Growth)
+    ghost text: { Searched }
+    requires here { IsHere spot.now text }
+    requires inside { AllIn (size spot.now.course) spot.now.at (min spot.now.course.hi (spot.now.at + 3)) curr.now.items }
+    requires widths { (curr.now.width ≡ 0) × (growth.old.threads.width ≡ 0) }
+    requires empty { (growth.old.threads.items ≡ []) × (growth.old.entered.items ≡ []) }
+    requires capacity { growth.old.entered.capacity ≡ size spot.now.course }
+    requires room { count_from (spot.now.at + 1) curr.now.items + size spot.now.course ≤ growth.old.threads.room }
+    ensures same { (below : List Pair) → AreSame (length set.old)
+        (Owed (seen_from spot.now text) spot.now.at [] [] (map going curr.now.items ++ below) set.old)
+        (Owed (seen_from spot.now text) spot.now.at growth.new.threads.items growth.new.entered.items below set.new) }
+    ensures long { length set.new ≡ length set.old }
+    ensures more { KeepsMarks set.old set.new }
+    ensures sound { HasRoom (size spot.now.course) spot.now.course.hi spot.now.at growth.new.threads growth.new.entered }
+    ensures kept { (growth.new.threads.room ≡ growth.old.threads.room) × (growth.new.threads.most ≡ growth.old.threads.most)
+        × (growth.new.threads.width ≡ growth.old.threads.width) }
+    ensures counts { (q : ℕ) → count_from q growth.new.threads.items ≤ count_from q curr.now.items + length growth.new.entered.items }
+    ensures begun { (x : ℕ) → AllFrom x curr.now.items → AllFrom x growth.new.threads.items }
+{
+    'threads: for index in 0..curr.len() {
+        let (head, row) = curr.get(index);
+        if head.at > spot.at {
+            growth.threads.push(head, row);
+            continue;
+        }
+        spread(spot, head.place, head.start, set, growth);
+    }
+}
+
+/// Lets the threads of `curr` go on at the spot, and after them, where the spot is no later than the last start, a new thread set out
+/// there. The rest is as in `step`.
+fn advance(spot: &Spot, curr: &Threads, set: &mut PatternSet, growth: &mut Growth)
+    ghost text: { Searched }
+    requires here { IsHere spot.now text }
+    requires inside { AllIn (size spot.now.course) spot.now.at (min spot.now.course.hi (spot.now.at + 3)) curr.now.items }
+    requires widths { (curr.now.width ≡ 0) × (growth.old.threads.width ≡ 0) }
+    requires empty { (growth.old.threads.items ≡ []) × (growth.old.entered.items ≡ []) }
+    requires capacity { growth.old.entered.capacity ≡ size spot.now.course }
+    requires room { count_from (spot.now.at + 1) curr.now.items + size spot.now.course ≤ growth.old.threads.room }
+    ensures same { AreSame (length set.old)
+        (Owed (seen_from spot.now text) spot.now.at [] [] (map going curr.now.items ++ entering spot.now.at spot.now.course.last) set.old)
+        (Owed (seen_from spot.now text) spot.now.at growth.new.threads.items growth.new.entered.items
+        (entering (spot.now.at + 1) spot.now.course.last) set.new) }
+    ensures long { length set.new ≡ length set.old }
+    ensures more { KeepsMarks set.old set.new }
+    ensures sound { HasRoom (size spot.now.course) spot.now.course.hi spot.now.at growth.new.threads growth.new.entered }
+    ensures kept { (growth.new.threads.room ≡ growth.old.threads.room) × (growth.new.threads.most ≡ growth.old.threads.most)
+        × (growth.new.threads.width ≡ growth.old.threads.width) }
+    ensures counts { (q : ℕ) → count_from q growth.new.threads.items ≤ count_from q curr.now.items + length growth.new.entered.items }
+    ensures begun { (x : ℕ) → x ≤ spot.now.at → AllFrom x curr.now.items → AllFrom x growth.new.threads.items }
+{
+    step(spot, curr, set, growth);
+    if spot.at <= spot.course.last {
+        spread(spot, 0, spot.at, set, growth);
+    }
+}
+
+/// One position of a pass: lets the threads go on, and counts the places entered.
+fn turn(spot: &Spot, set: &mut PatternSet, scratch: &mut Scratch)
+    ghost text: { Searched }
+    requires here { IsHere spot.now text }
+    requires made { scratch.old.next.entered.capacity ≡ size spot.now.course }
+    requires lined { IsLined (size spot.now.course) spot.now.course.hi 0 spot.now.at scratch.old.insertions scratch.old.curr }
+    requires small { scratch.old.insertions + size spot.now.course < 2 ^ 128 }
+    ensures same { AreSame (length set.old)
+        (Owed (seen_from spot.now text) spot.now.at [] []
+        (map going scratch.old.curr.items ++ entering spot.now.at spot.now.course.last) set.old)
+        (Owed (seen_from spot.now text) (spot.now.at + 1) [] []
+        (map going scratch.new.curr.items ++ entering (spot.now.at + 1) spot.now.course.last) set.new) }
+    ensures long { length set.new ≡ length set.old }
+    ensures more { KeepsMarks set.old set.new }
+    ensures lined { IsLined (size spot.now.course) spot.now.course.hi 0 (spot.now.at + 1) scratch.new.insertions scratch.new.curr }
+    ensures kept { IsSame scratch.old scratch.new }
+    ensures few { scratch.new.insertions ≤ scratch.old.insertions + size spot.now.course }
+{
+    scratch.next.clear();
+    advance(spot, &scratch.curr, set, &mut scratch.next);
+    scratch.finish();
+}
+
+/// The least number from `first` on that is no member, or `last` where that is less. Those below `first` are not looked at.
+fn first_absent(set: &PatternSet, first: usize, last: usize) -> usize
+    ensures from { first ≤ result }
+    ensures members { HasAll first result set.now }
+{
+    for number in first..last {
+        let Some(pattern) = PatternID::new(number) else {
+            return number;
+        };
+        if !set.contains(pattern) {
+            return number;
+        }
+    }
+    first.max(last)
+}
+
+/// From which number on, up to and without which, the patterns are of which walks count and that the set can hold.
+fn wanted(pattern: Option<usize>, patterns: usize, set: &PatternSet) -> (usize, usize)
+    ensures { (p : ℕ) → p < patterns → p < length set.now → IsTrue (is_match_place pattern (accept p)) → (result.0 ≤ p) × (p < result.1) }
+{
+    let end = patterns.min(set.capacity());
+    match pattern {
+        None => (0, end),
+        Some(only) => (only, end.min(only.saturating_add(1))),
+    }
+}
+
+/// One pass over the positions from `from` on: marks the patterns that walks from the starts there spell. It ends where each pattern from
+/// `first` on, up to and without `end`, is marked.
+fn pass<C: Cursor>(
+    input: &mut Input<C>,
+    course: Course,
+    from: usize,
+    first: usize,
+    end: usize,
+    set: &mut PatternSet,
+    scratch: &mut Scratch,
+)
+    ghost text: { Searched }
+    requires same { Keeps text input.old }
+    requires setting { IsSetting course text }
+    requires bounds { (low text ≤ from) × (from ≤ course.last) }
+    requires made { scratch.old.next.entered.capacity ≡ size course }
+    requires width { scratch.old.next.threads.width ≡ 0 }
+    ensures keeps { Keeps input.old input.new }
+    ensures marks { MarksFrom (seen_by course.entry text) from course.entry.last first end set.old set.new }
+    ensures kept { IsSame scratch.old scratch.new }
+{
+    scratch.insertions = 0;
+    scratch.curr.clear(0);
+    let mut window = open(input, from);
+    let mut absent = first;
+    'positions: for at in from..course.hi + 1 {
+        absent = first_absent(set, absent, end);
+        if absent >= end {
+            return;
+        }
+        reach(&mut window, input, at);
+        turn(&spot_at(course, &window, at), set, scratch);
+        if is_done(&scratch.curr, None, at, course.last) {
+            return;
+        }
+    }
+}
+
+/// Marks the patterns that walks of a search of the input spell.
+fn choose<C: Cursor>(
+    input: &mut Input<C>,
+    program: &Program,
+    patterns: usize,
+    set: &mut PatternSet,
+    scratch: &mut Scratch,
+)
+    requires first { AreOfFirst patterns (places_of program.now.places.items) }
+    requires made { scratch.old.next.entered.capacity ≡ length program.now.places.items }
+    requires width { scratch.old.next.threads.width ≡ 0 }
+    ensures keeps { Keeps input.old input.new }
+    ensures adds { AddsSpelled (seen program.now input.old) set.old set.new }
+    ensures kept { IsSame scratch.old scratch.new }
+{
+    scratch.insertions = 0;
+    let (lo, hi) = bounds(input);
+    if lo > hi {
+        return;
+    }
+    let (pattern, last) = starts_of(input.get_anchored(), lo, hi);
+    let course = Course {
+        program,
+        hi,
+        pattern,
+        last,
+        until: None,
+    };
+    let (first, end) = wanted(pattern, patterns, set);
+    pass(input, course, lo, first, end, set, scratch);
+}
+
+/// Puts into the set each pattern below its capacity of which a walk is spelled within the bounds of a search of the input, wherever
+/// others end. What the set has stays. Neither the earliest flag is read, nor are matches passed over that end off a boundary. The walks
+/// of the program are of the first `patterns` patterns.
+///
+/// The cache has to be made for programs of as many places; it stays so. No memory is taken, and the time is linear in the bytes between
+/// the search's bounds. Nothing is read beyond the position at which the last pattern is found that the set can hold.
+pub fn which_patterns<C: Cursor>(
+    cache: &mut Cache,
+    input: &mut Input<C>,
+    program: &Program,
+    patterns: usize,
+    set: &mut PatternSet,
+)
+    requires first { AreOfFirst patterns (places_of program.now.places.items) }
+    requires made { IsCacheFor (length program.now.places.items) 0 cache.old }
+    ensures keeps { Keeps input.old input.new }
+    ensures adds { AddsSpelled (search_of program.now input.old) set.old set.new }
+    ensures cache { cache.new ≡ record cache.old { insertions = cache.new.insertions } }
+{
+    cache.scratch.widen(0);
+    choose(input, program, patterns, set, &mut cache.scratch);
+}

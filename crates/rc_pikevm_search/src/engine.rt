@@ -1,0 +1,177 @@
+//! A program that can be searched for.
+
+ghost use Rattle.std.specs.Prelude.{◌≡◌};
+ghost use Rattle.rc_program.specs.Matches.{begin_of, end_of, is_again};
+ghost use Rattle.rc_program.specs.Places.{places_of};
+ghost use Rattle.rc_pikevm_search.specs.Strategies.{MayGoBy, MayGoBy-is_fact};
+
+use crate::strategy::{Strategy, guards_of, literals_of};
+use rc_captures::captures;
+use rc_captures::captures::Captures;
+use rc_needles::literal;
+use rc_pikevm::cache::Cache;
+use rc_pikevm::kinds::{find_by_kind, is_match_by_kind, search_slots_by_kind};
+use rc_program::program::Program;
+use rc_text::cursor::Cursor;
+use rc_text::input::Input;
+use rc_text::types::{Match, MatchKind, PatternID};
+use std::alloc::{AllocError, Global};
+
+/// A program, which kind of match is sought, and what a search may go by.
+#[derive(Drop)]
+pub struct Engine {
+    pub program: Program,
+    pub kind: MatchKind,
+    pub strategy: Strategy,
+    ghost sound: { MayGoBy (places_of program.places.items) program.terminator program.passes_over strategy } by { MayGoBy-is_fact (places_of program.places.items) program.terminator program.passes_over strategy },
+}
+
+impl Engine {
+    ghost use Rattle.std.specs.Prelude.{◌≡◌, ◌≤◌, is_some, IfOk, IfSome, MatchOption, Option, Some, None, length};
+    ghost use Rattle.std.specs.Option.{option_map};
+    ghost use Rattle.rc_text.specs.Found.{Found};
+    ghost use Rattle.rc_pikevm_search.specs.Walks.{next_start};
+    ghost use Rattle.rc_captures.specs.Captures.{captures_names, captures_pattern, captures_slots};
+    ghost use Rattle.rc_pikevm_search.specs.Tells.{TellsBy};
+    ghost use Rattle.rc_pikevm.specs.KindSlots.{slots_by};
+    ghost use Rattle.rc_program.specs.Kinds.{answer_by, answer_by_from};
+    ghost use Rattle.rc_text.specs.Text.{Keeps, low, high};
+    ghost use Rattle.rc_program.specs.Matches.{begin_of, end_of, next_match};
+    ghost use Rattle.rc_pikevm_search.specs.Engine.{engine_search, Counts, IsEngineCache, IsSameCache};
+    ghost use Rattle.rc_pikevm_search.specs.Moved.{IsMoved};
+
+    /// A cache for searches by this engine, with at most so many slots. An `Err` is want of memory.
+    pub fn create_cache(&self, alloc: Global, slots: usize) -> Result<Cache, AllocError>
+        ensures { IfOk result (IsEngineCache self.now slots) }
+    {
+        Cache::new(alloc, self.program.places.len(), slots)
+    }
+
+    /// The match that a search finds. It takes no memory. The cache counts the pass that it makes, or, where needles alone tell the
+    /// match, nothing anew.
+    pub fn find<C: Cursor>(&self, cache: &mut Cache, input: &mut Input<C>) -> Option<Match>
+        requires made { IsEngineCache self.now 0 cache.old }
+        ensures keeps { Keeps input.old input.new }
+        ensures found { result ≡ answer_by self.now.kind (engine_search self.now input.old) }
+        ensures within { IfSome result (λ m. (low input.old ≤ m.start) × (m.start ≤ m.end) × (m.end ≤ high input.old)) }
+        ensures cache { IsSameCache cache.old cache.new }
+        ensures counts { Counts self.now input.new result cache.old cache.new }
+    {
+        if let Some(needles) = literals_of(&self.strategy, self.kind) {
+            return literal::search(input, needles);
+        }
+        find_by_kind(
+            cache,
+            input,
+            &self.program,
+            guards_of(&self.strategy),
+            self.kind,
+        )
+    }
+
+    /// Whether a search finds a match. It takes no memory. Unless matches are passed over, nothing is read beyond the first position at
+    /// which one ends.
+    pub fn is_match<C: Cursor>(&self, cache: &mut Cache, input: &mut Input<C>) -> bool
+        requires made { IsEngineCache self.now 0 cache.old }
+        ensures keeps { Keeps input.old input.new }
+        ensures found { result ≡ is_some (answer_by self.now.kind (engine_search self.now input.old)) }
+        ensures cache { IsSameCache cache.old cache.new }
+    {
+        if let Some(needles) = literals_of(&self.strategy, self.kind) {
+            let found = literal::search(input, needles);
+            return found.is_some();
+        }
+        is_match_by_kind(
+            cache,
+            input,
+            &self.program,
+            guards_of(&self.strategy),
+            self.kind,
+        )
+    }
+
+    /// The pattern that a search finds, with the first of its slots. Without a match the slots stay. It takes no memory.
+    pub fn find_slots<C: Cursor>(
+        &self,
+        cache: &mut Cache,
+        input: &mut Input<C>,
+        slots: &mut [Option<usize>],
+    ) -> Option<PatternID>
+        requires made { IsEngineCache self.now (length slots.old) cache.old }
+        ensures keeps { Keeps input.old input.new }
+        ensures pattern { result ≡ option_map (λ (m : Found). m.pattern) (answer_by self.now.kind (engine_search self.now input.old)) }
+        ensures long { length slots.new ≡ length slots.old }
+        ensures slots { MatchOption result
+            (slots.new ≡ slots.old)
+            (λ _. Some slots.new ≡ slots_by self.now.kind (engine_search self.now input.old) (length slots.old)) }
+        ensures cache { IsSameCache cache.old cache.new }
+    {
+        search_slots_by_kind(
+            cache,
+            input,
+            &self.program,
+            guards_of(&self.strategy),
+            self.kind,
+            slots,
+        )
+    }
+
+    /// The next match of a list: the match from where the span starts, and where that is empty and ends at `last`, the match from
+    /// a byte later. The span then starts where the match was looked for. It takes no memory.
+    pub fn next_match<C: Cursor>(
+        &self,
+        cache: &mut Cache,
+        input: &mut Input<C>,
+        last: Option<usize>,
+    ) -> Option<Match>
+        requires made { IsEngineCache self.now 0 cache.old }
+        ensures moves { IsMoved input.old input.new }
+        ensures found { result
+            ≡ next_match begin_of end_of (answer_by_from self.now.kind (engine_search self.now input.old)) input.old.span.start last }
+        ensures start { input.new.span.start
+            ≡ next_start self.now.kind (engine_search self.now input.old) input.old.span.start last }
+        ensures there { result ≡ answer_by self.now.kind (engine_search self.now input.new) }
+        ensures within { IfSome result (λ m. (low input.new ≤ m.start) × (m.start ≤ m.end) × (m.end ≤ high input.new)) }
+        ensures cache { IsSameCache cache.old cache.new }
+        ensures counts { Counts self.now input.new result cache.old cache.new }
+    {
+        let found = self.find(cache, input)?;
+        if !is_again(last, found) {
+            return Some(found);
+        }
+        // The content is shorter than the greatest number.
+        let _offset = input.chunk_offset();
+        input.set_start(input.start() + 1);
+        self.find(cache, input)
+    }
+
+    /// Writes the match that a search finds, with its groups, into captures of the patterns of these names. Without a match they
+    /// hold none. It takes no memory.
+    pub fn find_captures<C: Cursor>(
+        &self,
+        cache: &mut Cache,
+        input: &mut Input<C>,
+        caps: &mut Captures,
+    )
+        requires made { IsEngineCache self.now (length (captures_slots caps.old)) cache.old }
+        ensures keeps { Keeps input.old input.new }
+        ensures names { captures_names caps.new ≡ captures_names caps.old }
+        ensures long { length (captures_slots caps.new) ≡ length (captures_slots caps.old) }
+        ensures found { TellsBy self.now.kind (engine_search self.now input.old) caps.new }
+        ensures cache { IsSameCache cache.old cache.new }
+    {
+        captures::clear(caps);
+        let pattern = self.find_slots(cache, input, caps.slots_mut());
+        captures::set_pattern(caps, pattern);
+    }
+}
+
+/// Whether the match is empty and ends at `last`.
+fn is_again(last: Option<usize>, found: Match) -> bool
+    ensures { result ≡ is_again begin_of end_of last found }
+{
+    match last {
+        Some(last) => found.is_empty() && found.end() == last,
+        None => false,
+    }
+}

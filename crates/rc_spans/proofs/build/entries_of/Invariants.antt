@@ -1,6 +1,0 @@
-use Rattle.std.proofs.Common.{drop}
-use Rattle.rc_spans.proofs.ChoiceLemmas.{IsChoice}
-use Rattle.rc_spans.proofs.build.entries_of.Given as goal
-
-abbrev pub invariant-choices : goal.invariant-choices
-invariant-choices g l = IsChoice g.hs (drop l._pattern g.hs) l.choice l.entries.items

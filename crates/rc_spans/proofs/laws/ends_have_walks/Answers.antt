@@ -1,5 +1,0 @@
-use Rattle.rc_spans.proofs.MetLemmas.{met_law}
-use Rattle.rc_spans.proofs.laws.ends_have_walks.Goals as goal
-
-pub returns : goal.returns
-returns c = met_law

@@ -1,5 +1,0 @@
-use Rattle.rc_spans.proofs.ReverseEndLemmas.{reverse_end_law}
-use Rattle.rc_spans.proofs.laws.last_spans_are_reversed.Goals as goal
-
-pub returns : goal.returns
-returns c = reverse_end_law

@@ -1,5 +1,0 @@
-use Rattle.rc_states.proofs.LawLemmas.{forward_law}
-use Rattle.rc_states.proofs.laws.states_carry_first_walks.Goals as goal
-
-pub returns : goal.returns
-returns c = forward_law

@@ -1,5 +1,0 @@
-use Rattle.rc_states.proofs.KindLemmas.{kind_law}
-use Rattle.rc_states.proofs.laws.steps_are_of_a_kind.Goals as goal
-
-pub returns : goal.returns
-returns c = kind_law

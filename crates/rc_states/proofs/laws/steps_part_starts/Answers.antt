@@ -1,5 +1,0 @@
-use Rattle.rc_states.proofs.LongestStepLemmas.{longest_step_law}
-use Rattle.rc_states.proofs.laws.steps_part_starts.Goals as goal
-
-pub returns : goal.returns
-returns c = longest_step_law

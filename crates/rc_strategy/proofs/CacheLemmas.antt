@@ -1,0 +1,132 @@
+-- What a cache serves.
+use Rattle.std.proofs.Common.{◌≡◌, ◌∙◌, ℕ, ◌+◌, ◌≤◌, List, length, Option, Some, None, IfSome, true≢false, refl, sym, subst, ap}
+use Rattle.std.specs.Prelude.{is_some}
+use Rattle.std.proofs.Math.Logic.{∥∥₁_elim}
+use denote.Struct.Props.{props}
+use Rattle.rc_dfa.specs.Automata.{classes_of, machine_of, samples_of}
+use Rattle.rc_dfa.specs.Samples.{AreSamples}
+use Rattle.rc_dfa.specs.declared.automaton.Direction.{Direction}
+use Rattle.rc_dfa.specs.declared.automaton.Direction.TheVariants.{Backwards, Forwards}
+use Rattle.rc_dfa.specs.Machine.{Machine}
+use Rattle.rc_pikevm.specs.Caches.{Made}
+use Rattle.rc_lazy_dfa.specs.Caches.{IsCacheOf}
+use Rattle.rc_lazy_dfa.specs.Halves.{IsHalf}
+use Rattle.rc_lazy_dfa.specs.Stores.{Frame, frame_of}
+use Rattle.rc_lazy_dfa.specs.declared.lazy.Lazy.{Lazy}
+use Rattle.rc_lazy_dfa.specs.declared.lazy.Cache as made
+use Rattle.rc_dfa_search.proofs.SameLemmas.{same_classes_of, same_count, same_machines}
+use Rattle.rc_determinize.specs.TableKinds.{table_kind_of}
+use Rattle.rc_strategy.specs.Caches.{IsCacheBy, IsCacheIn, IsCacheOfBoth, IsSameCacheIn, KeepsStates}
+use Rattle.rc_strategy.specs.Plans.{IsLazyFor, LazyPlan, ServesLazy}
+use Rattle.rc_strategy.specs.declared.cache.Cache.{Cache}
+use Rattle.rc_strategy.specs.declared.engines.Engines.{Engines}
+
+-- the rows of both are of one machine in each direction, and may weigh as much
+abbrev AreSame : Lazy → Lazy → Type 0
+AreSame l k =
+    (frame_of l.automaton Forwards ≡ frame_of k.automaton Forwards) × (frame_of l.automaton Backwards ≡ frame_of k.automaton Backwards)
+    × (l.capacity ≡ k.capacity)
+
+module _ (plan : LazyPlan) (l k : Lazy) (h : IsLazyFor plan l) (j : IsLazyFor plan k) where
+  same_classes : classes_of l.automaton ≡ classes_of k.automaton
+  same_classes = same_classes_of plan.byte_classes plan.patterns plan.terminator (classes_of l.automaton) (classes_of k.automaton) h.classes j.classes
+
+  same_samples : length (samples_of l.automaton) ≡ length (samples_of k.automaton)
+  same_samples =
+      same_count (classes_of k.automaton) (samples_of l.automaton) (samples_of k.automaton)
+      (subst (λ cs. AreSamples cs (samples_of l.automaton)) same_classes l.automaton.sampled) k.automaton.sampled
+
+  same_frame : (d : Direction) → machine_of l.automaton d ≡ machine_of k.automaton d → frame_of l.automaton d ≡ frame_of k.automaton d
+  same_frame d same =
+      let wide = ap (λ n. n + 1) same_samples in
+      let frame : Machine → List ℕ → ℕ → Frame = λ m cs w. record { machine = m; classes = cs; width = w } in
+      ap (λ m. frame m (classes_of l.automaton) (length (samples_of l.automaton) + 1)) same
+      ∙ ap (λ cs. frame (machine_of k.automaton d) cs (length (samples_of l.automaton) + 1)) same_classes
+      ∙ ap (λ w. frame (machine_of k.automaton d) (classes_of k.automaton) w) wide
+
+  same_by : AreSame l k
+  same_by =
+      let same =
+      same_machines plan.patterns plan.terminator (table_kind_of plan.kind) (machine_of l.automaton Forwards) (machine_of l.automaton Backwards) (machine_of k.automaton Forwards)
+      (machine_of k.automaton Backwards) h.machines j.machines in
+      (same_frame Forwards same.ahead, same_frame Backwards same.back, h.capacity_is ∙ sym j.capacity_is)
+
+same_prop : (l k : Lazy) → IsProp (AreSame l k)
+same_prop l k = hlevel props
+
+-- that is so whatever tells that they were made by the plan
+same_told : (plan : LazyPlan) (l k : Lazy) → ∥ IsLazyFor plan l ∥₁ → ∥ IsLazyFor plan k ∥₁ → AreSame l k
+same_told plan l k h j =
+    ∥∥₁_elim h (same_prop l k) (λ (x : IsLazyFor plan l). ∥∥₁_elim j (same_prop l k) (λ (y : IsLazyFor plan k). same_by plan l k x y))
+
+-- what was made for the one serves the other
+other_cache : (l k : Lazy) (c : made.Cache) → AreSame l k → IsCacheOf l c → IsCacheOf k c
+other_cache l k c same i = record {
+  forward_is = subst (λ f. IsHalf f c.forward) same.0 i.forward_is;
+  reverse_is = subst (λ f. IsHalf f c.reverse) same.1 i.reverse_is;
+  forward_capacity = i.forward_capacity ∙ same.2;
+  reverse_capacity = i.reverse_capacity ∙ same.2;
+}
+
+-- a cache that was made for some tables by the plan serves all
+pub serves : (plan : LazyPlan) (l : Lazy) (c : made.Cache) → ∥ IsLazyFor plan l ∥₁ → IsCacheOf l c → ServesLazy plan c
+serves plan l c h i k j = other_cache l k c (same_told plan l k h j) i
+
+pub states_stay : (l : Option Lazy) (c : Option made.Cache) → IsCacheOfBoth l c → KeepsStates l c c
+states_stay None c h = refl
+states_stay (Some l) None h = refl
+states_stay (Some l) (Some c) h = h
+
+pub states_kept : (l : Option Lazy) (c d : Option made.Cache) → IsCacheOfBoth l c → KeepsStates l c d → IsCacheOfBoth l d
+states_kept None c d h k = tt
+states_kept (Some l) None d h k = subst (IsCacheOfBoth (Some l)) (sym k) tt
+states_kept (Some l) (Some c) None h k = tt
+states_kept (Some l) (Some c) (Some d) h k = k
+
+-- A search leaves the cache one for the same searches.
+pub still_in : (e : Engines) (slots : ℕ) (c d : Cache) → IsCacheIn e slots c → IsSameCacheIn e c d → IsCacheIn e slots d
+still_in e slots c d h s = record {
+  pass = (
+    ap (λ (p : Made). p.places) s.pass ∙ h.pass.0,
+    subst (λ n. slots ≤ n) (sym (ap (λ (p : Made). p.slots) s.pass)) h.pass.1,
+  );
+  lazy = states_kept e.lazy c.lazy d.lazy h.lazy s.lazy;
+}
+
+pub same_in : (e : Engines) (slots : ℕ) (c : Cache) → IsCacheIn e slots c → IsSameCacheIn e c c
+same_in e slots c h = record { pass = refl; lazy = states_stay e.lazy c.lazy h.lazy }
+
+-- CACHES BY A PLAN
+
+states_by : (plan : LazyPlan) (l : Option Lazy) (c : Option made.Cache) → ∥ IfSome l (IsLazyFor plan) ∥₁ → is_some c ≡ is_some l → IsCacheOfBoth l c → IfSome c (ServesLazy plan)
+states_by plan l None h both i = tt
+states_by plan None (Some c) h both i = absurd (true≢false both)
+states_by plan (Some l) (Some c) h both i = serves plan l c h i
+
+states_in : (plan : LazyPlan) (l : Option Lazy) (c : Option made.Cache) → ∥ IfSome l (IsLazyFor plan) ∥₁ → IfSome c (ServesLazy plan) → IsCacheOfBoth l c
+states_in plan None c h i = tt
+states_in plan (Some l) None h i = tt
+states_in plan (Some l) (Some c) h i = i l h
+
+states_still : (plan : LazyPlan) (l : Option Lazy) (c d : Option made.Cache) → ∥ IfSome l (IsLazyFor plan) ∥₁ → IfSome c (ServesLazy plan) → KeepsStates l c d → IfSome d (ServesLazy plan)
+states_still plan None c d h i k = subst (λ o. IfSome o (ServesLazy plan)) (sym k) i
+states_still plan (Some l) None d h i k = subst (λ o. IfSome o (ServesLazy plan)) (sym k) tt
+states_still plan (Some l) (Some c) None h i k = tt
+states_still plan (Some l) (Some c) (Some d) h i k = serves plan l d h k
+
+module _ (e : Engines) (slots : ℕ) (plan : LazyPlan) (h : ∥ IfSome e.lazy (IsLazyFor plan) ∥₁) where
+  -- a cache that engines make by the plan was made by it,
+  pub made_by : (c : Cache) → is_some c.lazy ≡ is_some e.lazy → IsCacheIn e slots c → IsCacheBy (length e.engine.program.places.items) slots plan c
+  made_by c both i = record { pass = i.pass; lazy = states_by plan e.lazy c.lazy h both i.lazy }
+
+  -- serves any others by it,
+  pub serves_in : (c : Cache) → IsCacheBy (length e.engine.program.places.items) slots plan c → IsCacheIn e slots c
+  serves_in c i = record { pass = i.pass; lazy = states_in plan e.lazy c.lazy h i.lazy }
+
+  -- and stays so
+  pub still_by : (c d : Cache) → IsCacheBy (length e.engine.program.places.items) slots plan c → IsSameCacheIn e c d →
+      IsCacheBy (length e.engine.program.places.items) slots plan d
+  still_by c d i s = record {
+    pass = (still_in e slots c d (serves_in c i) s).pass;
+    lazy = states_still plan e.lazy c.lazy d.lazy h i.lazy s.lazy;
+  }

@@ -1,0 +1,23 @@
+use Rattle.rc_strategy.proofs.TableLemmas.{names_groups}
+use Rattle.rc_strategy.proofs.engines.Engines.new.Goals as goal
+
+pub invariant_of-result-clause-numbered : goal.invariant_of-result-clause-numbered
+invariant_of-result-clause-numbered g c = names_groups c.args.engine c.args.patterns g.hs c.requires.1.1.0 c.requires.1.1.1.0
+
+pub invariant_of-result-clause-programmed : goal.invariant_of-result-clause-programmed
+invariant_of-result-clause-programmed g c = ∣ (g.hs, c.requires.1.1.0) ∣₁
+
+pub returns-clause-barred : goal.returns-clause-barred
+returns-clause-barred g c = c.in_ok-tables.ensures.barred
+
+pub returns-clause-none : goal.returns-clause-none
+returns-clause-none g c = c.in_ok-tables.ensures.none
+
+pub returns-clause-planned : goal.returns-clause-planned
+returns-clause-planned g c = c.in_ok-tables.ensures.planned
+
+pub returns-clause-lazy_barred : goal.returns-clause-lazy_barred
+returns-clause-lazy_barred g c = c.in_ok-tables.ensures.lazy_barred
+
+pub returns-clause-lazy_none : goal.returns-clause-lazy_none
+returns-clause-lazy_none g c = c.in_ok-tables.ensures.lazy_none

@@ -1,0 +1,54 @@
+use Rattle.std.proofs.Common.{◌≡◌, Some, subst, sym}
+use Rattle.std.specs.Prelude.{is_some}
+use Rattle.rc_program.specs.Answer.{Search}
+use Rattle.rc_program.specs.Greatest.{HasNoSpan}
+use Rattle.rc_program.specs.Kinds.{answer_by}
+use Rattle.rc_pikevm_search.specs.Engine.{engine_search}
+use Rattle.rc_pikevm.specs.PatternSpans.{AddsSpelled}
+use Rattle.rc_strategy.specs.Starts.{IsFirstStart}
+use Rattle.rc_strategy.proofs.CacheLemmas.{same_in}
+use Rattle.rc_strategy.proofs.PatternLemmas.{early_adds, full_adds, kept_search, no_span_told, none_adds, one_told}
+use Rattle.rc_strategy.proofs.engines.Engines.which_patterns.Goals as goal
+
+pub returns-then-has_all-clause-adds : goal.returns-then-has_all-clause-adds
+returns-then-has_all-clause-adds g c =
+    full_adds (engine_search c.args.self.now.engine c.args.input.now) c.args.patterns c.args.set.now c.requires.first (c.has_all.ensures c.if-has_all.true)
+
+pub returns-then-has_all-clause-cache : goal.returns-then-has_all-clause-cache
+returns-then-has_all-clause-cache g c = same_in c.args.self.now 0 c.args.cache.now c.requires.made
+
+pub returns-then-leave_none-clause-adds : goal.returns-then-leave_none-clause-adds
+returns-then-leave_none-clause-adds g c =
+    let e = c.args.self.now in
+    early_adds e.engine e.spans c.args.input.now c.leave_none.result c.args.set.now e.bound c.leave_none.ensures.value c.if-leave_none.true
+
+pub returns-then-leave_none-clause-cache : goal.returns-then-leave_none-clause-cache
+returns-then-leave_none-clause-cache g c = same_in c.args.self.now 0 c.args.cache.now c.requires.made
+
+pub returns-then-is_match-clause-adds : goal.returns-then-is_match-clause-adds
+returns-then-is_match-clause-adds g c =
+    let e = c.args.self.now.engine in
+    let told =
+    subst (λ (q : Search). c.is_match.result ≡ is_some (answer_by e.kind q)) (kept_search e c.args.input.now c.leave_none.new.input c.leave_none.ensures.keeps) c.is_match.ensures.found in
+    subst (AddsSpelled (engine_search e c.args.input.now) c.args.set.now) (sym c.insert.ensures.set)
+    (one_told e.kind (engine_search e c.args.input.now) c.is_match.result c.args.patterns c.args.set.now c.requires.first c.if-patterns-eq1.true told c.if-is_match.true)
+
+pub returns-else-is_match-clause-adds : goal.returns-else-is_match-clause-adds
+returns-else-is_match-clause-adds g c =
+    let e = c.args.self.now.engine in
+    let told =
+    subst (λ (q : Search). c.is_match.result ≡ is_some (answer_by e.kind q)) (kept_search e c.args.input.now c.leave_none.new.input c.leave_none.ensures.keeps) c.is_match.ensures.found in
+    none_adds (engine_search e c.args.input.now) c.args.set.now
+    (no_span_told e.kind (engine_search e c.args.input.now) c.is_match.result c.if-self.false told c.if-is_match.false)
+
+pub mark_from-requires-clause-start : goal.mark_from-requires-clause-start
+mark_from-requires-clause-start g c =
+    subst (λ (q : Search). IsFirstStart q (Some c.in-Some.start))
+    (sym (kept_search c.args.self.now.engine c.leave_none.new.input c.least_start.new.input c.least_start.ensures.keeps)) c.in-Some.ensures.first
+
+pub returns-in_default-clause-adds : goal.returns-in_default-clause-adds
+returns-in_default-clause-adds g c =
+    let e = c.args.self.now.engine in
+    none_adds (engine_search e c.args.input.now) c.args.set.now
+    (subst HasNoSpan (kept_search e c.args.input.now c.leave_none.new.input c.leave_none.ensures.keeps)
+    (subst (IsFirstStart (engine_search e c.leave_none.new.input)) c.in_default.is c.least_start.ensures.first))

@@ -1,0 +1,12 @@
+use Rattle.std.proofs.Common.{◌∙◌}
+use Rattle.rc_pattern.specs.Meaning.{meaning}
+use Rattle.rc_pattern.specs.declared.hir.Look.TheVariants.{Start, End}
+use Rattle.rc_strategy.proofs.SpanLemmas.{bounds_own}
+use Rattle.rc_strategy.proofs.spans.Spans.of_one.Goals as goal
+
+pub returns : goal.returns
+returns c =
+    let h = meaning c.args.hir.now in
+    let p = c.properties-properties.ensures in
+    bounds_own h _ c.minimum_len.result (c.minimum_len.ensures h p) c.unwrap_or.ensures (c.maximum_len.ensures h p)
+    (c.contains.ensures ∙ c.look_set_prefix.ensures h p Start) (c.contains-2.ensures ∙ c.look_set_suffix.ensures h p End)

@@ -1,0 +1,43 @@
+-- What caches are made for, and what searches leave of them.
+use Rattle.std.specs.Prelude.{◌≡◌, ℕ, Option, Some, None, IfSome}
+use Rattle.rc_pikevm.specs.Caches.{IsCacheFor}
+use Rattle.rc_lazy_dfa.specs.Caches.{IsCacheOf, usage_of}
+use Rattle.rc_lazy_dfa.specs.declared.lazy.Lazy.{Lazy}
+use Rattle.rc_lazy_dfa.specs.declared.lazy.Cache as made
+use Rattle.rc_pikevm_search.specs.Engine.{IsEngineCache, IsSameCache}
+use Rattle.rc_strategy.specs.Plans.{LazyPlan, ServesLazy}
+use Rattle.rc_strategy.specs.declared.cache.Cache.{Cache}
+use Rattle.rc_strategy.specs.declared.engines.Engines.{Engines}
+
+-- where there are both, the cache was made for the tables
+abbrev pub IsCacheOfBoth : Option Lazy → Option made.Cache → Type 0
+IsCacheOfBoth None c = Unit {0}
+IsCacheOfBoth (Some l) None = Unit {0}
+IsCacheOfBoth (Some l) (Some c) = IsCacheOf l c
+
+-- The cache was made for searches by these engines with so many slots.
+pub record IsCacheIn (e : Engines) (slots : ℕ) (c : Cache) : Type 0 where
+  pub pass : IsEngineCache e.engine slots c.pass
+  pub lazy : IsCacheOfBoth e.lazy c.lazy
+
+-- what was the one cache is the other: one that was made for the tables, or, where there are none, as it was
+abbrev pub KeepsStates : Option Lazy → Option made.Cache → Option made.Cache → Type 0
+KeepsStates None c d = d ≡ c
+KeepsStates (Some l) None d = d ≡ None
+KeepsStates (Some l) (Some c) None = ⊥
+KeepsStates (Some l) (Some c) (Some d) = IsCacheOf l d
+
+-- The cache is made for what it was made for before.
+pub record IsSameCacheIn (e : Engines) (c d : Cache) : Type 0 where
+  pub pass : IsSameCache c.pass d.pass
+  pub lazy : KeepsStates e.lazy c.lazy d.lazy
+
+-- The cache was made for programs of so many places, searches with so many slots, and whatever tables are made by the plan.
+pub record IsCacheBy (places slots : ℕ) (plan : LazyPlan) (c : Cache) : Type 0 where
+  pub pass : IsCacheFor places slots c.pass
+  pub lazy : IfSome c.lazy (ServesLazy plan)
+
+-- how many bytes hold the states that were met, in both directions
+abbrev pub states_taken : Option made.Cache → ℕ
+states_taken None = 0
+states_taken (Some c) = usage_of c

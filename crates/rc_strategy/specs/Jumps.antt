@@ -1,0 +1,50 @@
+-- Only proofs use this file.
+-- What runs from needles tell of where a match is to be sought, if any is enough.
+use Rattle.std.specs.Prelude.{◌≡◌, ℕ, ◌<◌, ◌≤◌, ◌&&◌, true, false, nat_lt, nat_le, Option, Some, None, Result, Ok, Err, if◌then◌else◌}
+use Rattle.rc_text.specs.declared.types.Anchored.{Anchored}
+use Rattle.rc_text.specs.declared.types.Anchored.TheVariants.{No}
+use Rattle.rc_determinize.specs.declared.kind.TableKind.{TableKind}
+use Rattle.rc_text.specs.declared.types.MatchError as error
+use Rattle.rc_text.specs.declared.types.MatchError.TheVariants as errors
+use Rattle.rc_program.specs.Answer.{Search}
+use Rattle.rc_dfa.specs.Machine.{Machine}
+use Rattle.rc_dfa.specs.declared.ended.Met.{Met}
+use Rattle.rc_dfa.specs.declared.ended.Ended.{Ended}
+use Rattle.rc_dfa.specs.declared.ended.Ended.TheVariants as endings
+use Rattle.rc_dfa_search.specs.Leftmost.{IsLeftmost}
+use Rattle.rc_dfa_search.specs.Rests.{GivesToo, StartsGive}
+use Rattle.rc_dfa_search.specs.declared.search.Aim.{Aim}
+use Rattle.rc_strategy.specs.declared.needles.Leg.{Leg}
+use Rattle.rc_strategy.specs.declared.needles.Leg.TheVariants.{Nowhere, Here, Later}
+
+-- The search goes from needle to needle: it isn't anchored, any match of these is enough, and none is passed over.
+pub record GoesEarly (aim : Aim) (anchored : Anchored) : Type 0 where
+  pub kind : IsLeftmost aim.kind
+  pub early : aim.earliest ≡ true
+  pub all : aim.passes_over ≡ false
+  pub free : anchored ≡ No
+
+abbrev pub met_leg : Option Met → Leg
+met_leg (Some met) = Here
+met_leg None = Nowhere
+
+abbrev pub idle_leg : ℕ → ℕ → ℕ → Leg
+idle_leg i from hi = if nat_lt from i && nat_le i hi then Later i else Here
+
+-- what the end of a run tells
+abbrev pub leg_of : Ended → ℕ → ℕ → Result Leg error.MatchError
+leg_of (endings.Found met) from hi = Ok (met_leg met)
+leg_of (endings.Idle i) from hi = Ok (idle_leg i from hi)
+leg_of (endings.Quit b p) from hi = Err (errors.Quit b p)
+leg_of (endings.GaveUp p memory) from hi = Err (errors.GaveUp p memory)
+
+-- what that means for the starts from there on
+abbrev pub Tells : TableKind → Machine → Search → ℕ → Leg → Type 0
+Tells kind m s from Nowhere = StartsGive kind m s from None
+Tells kind m s from Here = Unit {0}
+Tells kind m s from (Later i) = GivesToo kind m s i from
+
+-- a later position lies behind
+abbrev pub ComesOn : ℕ → ℕ → Leg → Type 0
+ComesOn from hi (Later i) = (from < i) × (i ≤ hi)
+ComesOn from hi leg = Unit {0}

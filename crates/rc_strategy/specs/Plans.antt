@@ -1,0 +1,57 @@
+-- What tables are made from whose states are made as they are met.
+use Rattle.std.specs.Prelude.{◌≡◌, ℕ, ◌+◌, ◌<◌, Bool, List, length}
+use Rattle.rc_pattern.specs.Re.{Re}
+use Rattle.rc_determinize.specs.TableKinds.{table_kind_of}
+use Rattle.rc_text.specs.declared.types.MatchKind.{MatchKind}
+use Rattle.rc_dfa.specs.declared.automaton.Direction.TheVariants.{Backwards, Forwards}
+use Rattle.rc_dfa.specs.Automata.{machine_of, classes_of}
+use Rattle.rc_dfa.specs.Machine.{Machine}
+use Rattle.rc_dfa.specs.Samples.{AreSamples}
+use Rattle.rc_lazy_dfa.specs.Caches.{IsCacheOf}
+use Rattle.rc_lazy_dfa.specs.Stores.{minimum_of}
+use Rattle.rc_lazy_dfa.specs.declared.lazy.Lazy.{Lazy}
+use Rattle.rc_lazy_dfa.specs.declared.lazy.Cache as made
+use Rattle.rc_dfa_search.specs.Classes.{AreClassesOf}
+use Rattle.rc_dfa_search.specs.Machines.{AreMachines}
+use Rattle.rc_pikevm_search.specs.declared.engine.Engine.{Engine}
+use Rattle.rc_strategy.specs.declared.engines.Limits.{Limits}
+
+-- The patterns, the byte that ends lines, the kind of match, whether bytes that no step tells apart are of one class, and how many bytes the
+-- states of each direction may weigh.
+pub record LazyPlan : Type 0 where
+  pub patterns : List Re
+  pub terminator : ℕ
+  pub kind : MatchKind
+  pub byte_classes : Bool
+  pub capacity : ℕ
+
+-- the plan by which tables are made for an engine's patterns
+abbrev pub plan_of : Engine → List Re → Limits → LazyPlan
+plan_of e hs limits = record {
+  patterns = hs;
+  terminator = e.program.terminator;
+  kind = e.kind;
+  byte_classes = limits.byte_classes;
+  capacity = limits.capacity;
+}
+
+-- The tables were made by the plan.
+pub record IsLazyFor (plan : LazyPlan) (l : Lazy) : Type 0 where
+  pub machines : AreMachines plan.patterns plan.terminator (table_kind_of plan.kind) (machine_of l.automaton Forwards) (machine_of l.automaton Backwards)
+  pub classes : AreClassesOf plan.byte_classes plan.patterns plan.terminator (classes_of l.automaton)
+  pub capacity_is : l.capacity ≡ plan.capacity
+
+-- the cache was made for whatever tables are made by the plan
+abbrev pub ServesLazy : LazyPlan → made.Cache → Type 0
+ServesLazy plan c = (l : Lazy) → ∥ IsLazyFor plan l ∥₁ → IsCacheOf l c
+
+-- The least capacity that serves is more than the plan's.
+pub record IsShortFor (plan : LazyPlan) : Type 0 where
+  pub ahead : Machine
+  pub behind : Machine
+  pub machines : AreMachines plan.patterns plan.terminator (table_kind_of plan.kind) ahead behind
+  pub classes : List ℕ
+  pub are_classes : AreClassesOf plan.byte_classes plan.patterns plan.terminator classes
+  pub samples : List ℕ
+  pub are_samples : AreSamples classes samples
+  pub short : plan.capacity < minimum_of (record { machine = ahead; classes = classes; width = length samples + 1 })

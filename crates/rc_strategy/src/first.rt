@@ -1,0 +1,269 @@
+//! Searches that ask first whether a match begins where the first one may. Positions are in bytes of the whole content.
+ghost use Rattle.std.specs.Prelude.{◌≡◌, ◌↔◌, ◌<◌, ◌≤◌, ℕ, Bool, List, MatchOption, IfOk, IfSome, IsTrue, length, slice_index};
+ghost use Rattle.rc_text.specs.Text.{Keeps, low, high};
+ghost use Rattle.rc_pattern.specs.Re.{Re};
+ghost use Rattle.rc_program.specs.Program.{Place, program};
+ghost use Rattle.rc_program.specs.Answer.{HasNoWalkFrom};
+ghost use Rattle.rc_program.specs.Sought.{search_over};
+ghost use Rattle.rc_needles.specs.Guards.{Guards};
+ghost use Rattle.rc_needles.specs.Prefilters.{needles_of};
+ghost use Rattle.rc_needles.specs.Tables.{BeginsWithByte, numbered};
+ghost use Rattle.rc_determinize.specs.TableKinds.{IsAnswerBy, answer_by};
+ghost use Rattle.rc_dfa_search.specs.Aims.{AreHalvesOf, search_for};
+ghost use Rattle.rc_strategy.specs.Firsts.{AsksFirst, starting_at};
+
+use rc_determinize::kind::TableKind;
+use rc_dfa::halves::Halves;
+use rc_dfa_search::guarded::find_guarded;
+use rc_dfa_search::search::{Aim, find, id_of, told};
+use rc_literals::guard::{Guard, next_start};
+use rc_needles::prefilter::Prefilter;
+use rc_text::cursor::Cursor;
+use rc_text::input::{Input, high, low, piece_from};
+use rc_text::types::{Anchored, Match, MatchError, Span};
+
+/// So many bytes are looked at one by one, before the next needle is sought.
+const NEAR: usize = 16;
+
+/// Whether a search asks first whether a match begins where the first one may: it isn't anchored, and seeks the match of the least start alone, the
+/// preferred one or the longest, none of which is passed over.
+#[inline(always)]
+fn asks_first(aim: Aim, anchored: Anchored) -> bool
+    ensures { IsTrue result ↔ AsksFirst aim anchored }
+{
+    match (aim.kind, anchored) {
+        (TableKind::LeftmostFirst | TableKind::LeftmostLongest, Anchored::No) => {
+            !aim.earliest && !aim.passes_over
+        }
+        _ => false,
+    }
+}
+
+/// How many bytes of a piece are passed over: those before the first with which a needle begins.
+#[inline(always)]
+fn begin_none(needles: &Prefilter, piece: &[u8]) -> usize
+    ensures within { result ≤ length piece.now }
+    ensures passed { (k n : ℕ) → k < result → n < length (needles_of needles.now) → ¬ BeginsWithByte (numbered (needles_of needles.now) n) (slice_index piece.now k) }
+{
+    let table = &needles.searcher.table;
+    let count = table.needles.len();
+    for (i, byte) in piece.iter().enumerate() {
+        if table.heads[*byte as usize] < count {
+            return i;
+        }
+    }
+    piece.len()
+}
+
+/// Where the first match may begin from a position on, if each begins with a needle: none begins before. With None there is none at all.
+#[inline(always)]
+fn first_start<C: Cursor>(
+    input: &mut Input<C>,
+    needles: &Prefilter,
+    from: usize,
+    end: usize,
+) -> Option<usize>
+    requires end { end ≡ high input.old }
+    requires ordered { from ≤ end }
+    ensures keeps { Keeps input.old input.new }
+    ensures within { IfSome result (λ x. (from ≤ x) × (x ≤ end)) }
+    ensures passed { (places : List Place) (terminator : ℕ) (over : Bool) → Guards places terminator (needles_of needles.now) → MatchOption result
+        ((x : ℕ) → from ≤ x → x ≤ end → HasNoWalkFrom (search_over places terminator over input.old) x)
+        (λ start. (x : ℕ) → from ≤ x → x < start → HasNoWalkFrom (search_over places terminator over input.old) x) }
+{
+    if from >= end {
+        return Some(from);
+    }
+    let piece = piece_from(input, from, end);
+    let near = piece.len().min(NEAR);
+    let passed = begin_none(needles, &piece[..near]);
+    let at = from + passed;
+    if passed < near {
+        return Some(at);
+    }
+    let start = next_start(input, Guard::Begins(needles), at, end)?;
+    Some(start.from)
+}
+
+/// The same by needles that are sought fast: where the first of them stands.
+#[inline(always)]
+fn needle_start<C: Cursor>(
+    input: &mut Input<C>,
+    needles: &Prefilter,
+    from: usize,
+    end: usize,
+) -> Option<usize>
+    requires end { end ≡ high input.old }
+    ensures keeps { Keeps input.old input.new }
+    ensures within { IfSome result (λ x. (from ≤ x) × (x ≤ end)) }
+    ensures passed { (places : List Place) (terminator : ℕ) (over : Bool) → Guards places terminator (needles_of needles.now) → MatchOption result
+        ((x : ℕ) → from ≤ x → x ≤ end → HasNoWalkFrom (search_over places terminator over input.old) x)
+        (λ start. (x : ℕ) → from ≤ x → x < start → HasNoWalkFrom (search_over places terminator over input.old) x) }
+{
+    let start = next_start(input, Guard::Begins(needles), from, end)?;
+    Some(start.from)
+}
+
+/// Where the first match may begin, by needles that are sought fast or not.
+#[inline(always)]
+fn start_by<C: Cursor>(
+    input: &mut Input<C>,
+    needles: &Prefilter,
+    are_fast: bool,
+    from: usize,
+    end: usize,
+) -> Option<usize>
+    requires end { end ≡ high input.old }
+    requires ordered { from ≤ end }
+    ensures keeps { Keeps input.old input.new }
+    ensures within { IfSome result (λ x. (from ≤ x) × (x ≤ end)) }
+    ensures passed { (places : List Place) (terminator : ℕ) (over : Bool) → Guards places terminator (needles_of needles.now) → MatchOption result
+        ((x : ℕ) → from ≤ x → x ≤ end → HasNoWalkFrom (search_over places terminator over input.old) x)
+        (λ start. (x : ℕ) → from ≤ x → x < start → HasNoWalkFrom (search_over places terminator over input.old) x) }
+{
+    if are_fast {
+        return needle_start(input, needles, from, end);
+    }
+    first_start(input, needles, from, end)
+}
+
+/// The match of the kind that begins at the position, if one does. An `Err` says why the tables tell nothing.
+#[inline(always)]
+fn find_here<H: Halves, C: Cursor>(
+    halves: &H,
+    cache: &mut H::Cache,
+    input: &mut Input<C>,
+    from: usize,
+    bound: usize,
+) -> Result<Option<Match>, MatchError>
+    requires cache { H.IsCache halves.now cache.old }
+    requires low { low input.old ≤ from }
+    requires bound { bound ≡ high input.old }
+    requires within { from ≤ bound }
+    ensures cache { H.IsCache halves.now cache.new }
+    ensures keeps { Keeps input.old input.new }
+    ensures found { (aim : Aim) (hs : List Re) (terminator : ℕ) → AreHalvesOf (H.AreOf halves.now) aim hs terminator → AsksFirst aim input.old.anchored
+        → IfOk result (λ found. found ≡ answer_by aim.kind (starting_at from (search_for aim hs terminator input.old))) }
+    ensures within { IfOk result (λ found. IfSome found (λ m. (m.start ≡ from) × (m.start ≤ m.end) × (m.end ≤ bound))) }
+{
+    let ended = halves.run_forwards(cache, input, Anchored::Yes, from, false, false, 0);
+    let Some(met) = told(ended)? else {
+        return Ok(None);
+    };
+    let end = met.at.max(from).min(bound);
+    let pattern = id_of(met.pattern, end)?;
+    Ok(Some(Match::new(pattern, Span { start: from, end })))
+}
+
+/// The match that `find` finds where the span begins later. The input's span stays.
+#[inline(never)]
+pub(crate) fn find_later<H: Halves, C: Cursor>(
+    halves: &H,
+    cache: &mut H::Cache,
+    input: &mut Input<C>,
+    aim: Aim,
+    from: usize,
+) -> Result<Option<Match>, MatchError>
+    requires cache { H.IsCache halves.now cache.old }
+    requires low { low input.old ≤ from }
+    requires high { from ≤ high input.old }
+    ensures cache { H.IsCache halves.now cache.new }
+    ensures keeps { Keeps input.old input.new }
+    ensures found { (hs : List Re) (terminator : ℕ) → AreHalvesOf (H.AreOf halves.now) aim hs terminator
+        → IfOk result (IsAnswerBy aim.kind aim.earliest (record (search_for aim hs terminator input.old) { lo = from })) }
+    ensures within { IfOk result (λ found. IfSome found (λ m. (low input.old ≤ m.start) × (m.start ≤ m.end) × (m.end ≤ high input.old))) }
+{
+    let span = input.get_span();
+    input.set_start(from);
+    let found = find(halves, cache, input, aim);
+    input.set_span(span);
+    found
+}
+
+/// The match that `find_later` finds, where each begins with a needle: from needle to needle where these are sought fast.
+#[inline(never)]
+fn find_on<H: Halves, C: Cursor>(
+    halves: &H,
+    cache: &mut H::Cache,
+    input: &mut Input<C>,
+    aim: Aim,
+    needles: &Prefilter,
+    are_fast: bool,
+    from: usize,
+) -> Result<Option<Match>, MatchError>
+    requires cache { H.IsCache halves.now cache.old }
+    requires low { low input.old ≤ from }
+    requires high { from ≤ high input.old }
+    ensures cache { H.IsCache halves.now cache.new }
+    ensures keeps { Keeps input.old input.new }
+    ensures found { (hs : List Re) (terminator : ℕ) → AreHalvesOf (H.AreOf halves.now) aim hs terminator → Guards (program hs) terminator (needles_of needles.now)
+        → IfOk result (IsAnswerBy aim.kind aim.earliest (record (search_for aim hs terminator input.old) { lo = from })) }
+    ensures within { IfOk result (λ found. IfSome found (λ m. (low input.old ≤ m.start) × (m.start ≤ m.end) × (m.end ≤ high input.old))) }
+{
+    if !are_fast {
+        return find_later(halves, cache, input, aim, from);
+    }
+    let span = input.get_span();
+    input.set_start(from);
+    let found = find_guarded(halves, cache, input, aim, Guard::Begins(needles));
+    input.set_span(span);
+    found
+}
+
+/// The match of the least start, where each begins with a needle: a run from where the first may begin tells it, if one begins there; else it is
+/// sought from there on.
+#[inline(always)]
+fn find_by_first<H: Halves, C: Cursor>(
+    halves: &H,
+    cache: &mut H::Cache,
+    input: &mut Input<C>,
+    aim: Aim,
+    needles: &Prefilter,
+    are_fast: bool,
+) -> Result<Option<Match>, MatchError>
+    requires cache { H.IsCache halves.now cache.old }
+    requires goes { AsksFirst aim input.old.anchored }
+    ensures cache { H.IsCache halves.now cache.new }
+    ensures keeps { Keeps input.old input.new }
+    ensures found { (hs : List Re) (terminator : ℕ) → AreHalvesOf (H.AreOf halves.now) aim hs terminator → Guards (program hs) terminator (needles_of needles.now)
+        → IfOk result (λ found. found ≡ answer_by aim.kind (search_for aim hs terminator input.old)) }
+    ensures within { IfOk result (λ found. IfSome found (λ m. (low input.old ≤ m.start) × (m.start ≤ m.end) × (m.end ≤ high input.old))) }
+{
+    let hi = high(input);
+    let lo = low(input);
+    if lo > hi {
+        return Ok(None);
+    }
+    let Some(from) = start_by(input, needles, are_fast, lo, hi) else {
+        return Ok(None);
+    };
+    if let Some(found) = find_here(halves, cache, input, from, hi)? {
+        return Ok(Some(found));
+    }
+    find_on(halves, cache, input, aim, needles, are_fast, from)
+}
+
+/// The match that `find` finds, where each begins with a needle. A search for that of the least start, which isn't anchored and passes none over,
+/// asks first whether one begins where the first may; where none does, it goes on from needle to needle if these are sought fast. Each other
+/// search is that of `find`.
+#[inline(always)]
+pub(crate) fn find_first<H: Halves, C: Cursor>(
+    halves: &H,
+    cache: &mut H::Cache,
+    input: &mut Input<C>,
+    aim: Aim,
+    needles: &Prefilter,
+    are_fast: bool,
+) -> Result<Option<Match>, MatchError>
+    requires cache { H.IsCache halves.now cache.old }
+    ensures cache { H.IsCache halves.now cache.new }
+    ensures keeps { Keeps input.old input.new }
+    ensures found { (hs : List Re) (terminator : ℕ) → AreHalvesOf (H.AreOf halves.now) aim hs terminator → Guards (program hs) terminator (needles_of needles.now)
+        → IfOk result (IsAnswerBy aim.kind aim.earliest (search_for aim hs terminator input.old)) }
+    ensures within { IfOk result (λ found. IfSome found (λ m. (low input.old ≤ m.start) × (m.start ≤ m.end) × (m.end ≤ high input.old))) }
+{
+    if asks_first(aim, input.get_anchored()) {
+        return find_by_first(halves, cache, input, aim, needles, are_fast);
+    }
+    find(halves, cache, input, aim)
+}

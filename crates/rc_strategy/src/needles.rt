@@ -1,0 +1,192 @@
+//! Searches for which any match is enough, from needle to needle. Positions are in bytes of the whole content.
+ghost use Rattle.std.specs.Prelude.{◌≡◌, ◌↔◌, ◌≤◌, ℕ, List, IsTrue, IfOk, IfNone, IfSome};
+ghost use Rattle.rc_text.specs.Text.{Keeps, low, high};
+ghost use Rattle.rc_text.specs.declared.types.Anchored.TheVariants.{No};
+ghost use Rattle.rc_pattern.specs.Re.{Re};
+ghost use Rattle.rc_program.specs.Program.{program};
+ghost use Rattle.rc_literals.specs.Guard.{IsGuard};
+ghost use Rattle.rc_determinize.specs.TableKinds.{IsAnswerBy};
+ghost use Rattle.rc_dfa_search.specs.Aims.{AreHalvesOf, search_for};
+ghost use Rattle.rc_dfa_search.specs.Legs.{GoesByNeedles};
+ghost use Rattle.rc_dfa_search.specs.Rests.{GivesToo, StartsGive};
+ghost use Rattle.rc_strategy.specs.Jumps.{ComesOn, GoesEarly, Tells, idle_leg, leg_of, met_leg};
+
+use crate::first::find_later;
+use rc_determinize::kind::TableKind;
+use rc_dfa::ended::{Ended, Met};
+use rc_dfa::halves::Halves;
+use rc_dfa_search::search::{Aim, find};
+use rc_literals::guard::{Guard, next_start};
+use rc_text::cursor::Cursor;
+use rc_text::input::{Input, high, low};
+use rc_text::types::{Anchored, Match, MatchError};
+
+/// What a run from a needle tells of where a match is to be sought.
+#[derive(Clone, Copy)]
+enum Leg {
+    /// None begins from the needle on.
+    Nowhere,
+    /// From the needle on.
+    Here,
+    /// From this position on, which lies behind the needle.
+    Later(usize),
+}
+
+/// What is told by what was met.
+fn met_leg(met: Option<Met>) -> Leg
+    ensures { result ≡ met_leg met }
+{
+    match met {
+        Some(_) => Leg::Here,
+        None => Leg::Nowhere,
+    }
+}
+
+/// What is told where a run rests that began at `from`.
+fn idle_leg(at: usize, from: usize, bound: usize) -> Leg
+    ensures { result ≡ idle_leg at from bound }
+{
+    if from < at && at <= bound {
+        return Leg::Later(at);
+    }
+    Leg::Here
+}
+
+/// What the end of a run from `from` on tells, or why it tells nothing.
+fn leg_of(ended: Ended, from: usize, bound: usize) -> Result<Leg, MatchError>
+    ensures { result ≡ leg_of ended from bound }
+{
+    match ended {
+        Ended::Found(met) => Ok(met_leg(met)),
+        Ended::Idle(at) => Ok(idle_leg(at, from, bound)),
+        Ended::Quit(byte, offset) => Err(MatchError::Quit { byte, offset }),
+        Ended::GaveUp(offset, memory) => Err(MatchError::GaveUp { offset, memory }),
+    }
+}
+
+/// What a run from one position on tells, which stops at the first position at which a match ends. It may rest, from `rest_from` on.
+fn run_leg<H: Halves, C: Cursor>(
+    halves: &H,
+    cache: &mut H::Cache,
+    input: &mut Input<C>,
+    from: usize,
+    bound: usize,
+    rest_from: usize,
+) -> Result<Leg, MatchError>
+    requires cache { H.IsCache halves.now cache.old }
+    requires low { low input.old ≤ from }
+    requires bound { bound ≡ high input.old }
+    requires within { from ≤ bound }
+    requires free { input.old.anchored ≡ No }
+    ensures cache { H.IsCache halves.now cache.new }
+    ensures keeps { Keeps input.old input.new }
+    ensures tells { (aim : Aim) (hs : List Re) (terminator : ℕ) (of : AreHalvesOf (H.AreOf halves.now) aim hs terminator) → GoesByNeedles aim input.old.anchored
+        → IfOk result (Tells aim.kind of.ahead (search_for aim hs terminator input.old) from) }
+    ensures on { IfOk result (ComesOn from bound) }
+{
+    leg_of(
+        halves.run_forwards(cache, input, Anchored::No, from, true, true, rest_from),
+        from,
+        bound,
+    )
+}
+
+/// From where on a match is to be sought: none begins before. With None there is none at all.
+fn start_by_needles<H: Halves, C: Cursor>(
+    halves: &H,
+    cache: &mut H::Cache,
+    input: &mut Input<C>,
+    guard: Guard,
+    lo: usize,
+    hi: usize,
+) -> Result<Option<usize>, MatchError>
+    requires cache { H.IsCache halves.now cache.old }
+    requires free { input.old.anchored ≡ No }
+    requires bounds { (lo ≡ low input.old) × (hi ≡ high input.old) × (lo ≤ hi) }
+    ensures cache { H.IsCache halves.now cache.new }
+    ensures keeps { Keeps input.old input.new }
+    ensures none { (aim : Aim) (hs : List Re) (terminator : ℕ) (of : AreHalvesOf (H.AreOf halves.now) aim hs terminator) → GoesByNeedles aim input.old.anchored
+        → IsGuard (program hs) terminator guard.entry
+        → IfOk result (λ o. IfNone o (StartsGive aim.kind of.ahead (search_for aim hs terminator input.old) lo None)) }
+    ensures some { (aim : Aim) (hs : List Re) (terminator : ℕ) (of : AreHalvesOf (H.AreOf halves.now) aim hs terminator) → GoesByNeedles aim input.old.anchored
+        → IsGuard (program hs) terminator guard.entry
+        → IfOk result (λ o. IfSome o (λ from. GivesToo aim.kind of.ahead (search_for aim hs terminator input.old) from lo)) }
+    ensures within { IfOk result (λ o. IfSome o (λ from. (lo ≤ from) × (from ≤ hi))) }
+{
+    let mut at = lo;
+    'runs: loop {
+        let Some(start) = next_start(input, guard, at, hi) else {
+            return Ok(None);
+        };
+        let from = start.from;
+        match run_leg(halves, cache, input, from, hi, start.needle)? {
+            Leg::Nowhere => return Ok(None),
+            Leg::Here => return Ok(Some(from)),
+            Leg::Later(i) => {
+                at = i;
+            }
+        }
+    }
+}
+
+/// Whether such a search goes from needle to needle: it isn't anchored, any match is enough, and none is passed over.
+fn goes_early(aim: Aim, anchored: Anchored) -> bool
+    ensures { IsTrue result ↔ GoesEarly aim anchored }
+{
+    match (aim.kind, anchored) {
+        (TableKind::LeftmostFirst | TableKind::LeftmostLongest, Anchored::No) => {
+            aim.earliest && !aim.passes_over
+        }
+        _ => false,
+    }
+}
+
+/// Some match, from needle to needle. The input's span stays.
+fn find_by_needles<H: Halves, C: Cursor>(
+    halves: &H,
+    cache: &mut H::Cache,
+    input: &mut Input<C>,
+    aim: Aim,
+    guard: Guard,
+) -> Result<Option<Match>, MatchError>
+    requires cache { H.IsCache halves.now cache.old }
+    requires goes { GoesEarly aim input.old.anchored }
+    ensures cache { H.IsCache halves.now cache.new }
+    ensures keeps { Keeps input.old input.new }
+    ensures found { (hs : List Re) (terminator : ℕ) → AreHalvesOf (H.AreOf halves.now) aim hs terminator → IsGuard (program hs) terminator guard.entry
+        → IfOk result (IsAnswerBy aim.kind aim.earliest (search_for aim hs terminator input.old)) }
+    ensures within { IfOk result (λ found. IfSome found (λ m. (low input.old ≤ m.start) × (m.start ≤ m.end) × (m.end ≤ high input.old))) }
+{
+    let hi = high(input);
+    let lo = low(input);
+    if lo > hi {
+        return Ok(None);
+    }
+    let Some(from) = start_by_needles(halves, cache, input, guard, lo, hi)? else {
+        return Ok(None);
+    };
+    find_later(halves, cache, input, aim, from)
+}
+
+/// The match that `find` finds, by needles that guard the patterns: each match begins with one of them, or holds one. A search that isn't anchored goes
+/// from needle to needle wherever nothing is under way, if any match is enough, none is passed over, and not each match counts. Each other search
+/// is that of `find`.
+pub(crate) fn find_early_guarded<H: Halves, C: Cursor>(
+    halves: &H,
+    cache: &mut H::Cache,
+    input: &mut Input<C>,
+    aim: Aim,
+    guard: Guard,
+) -> Result<Option<Match>, MatchError>
+    requires cache { H.IsCache halves.now cache.old }
+    ensures cache { H.IsCache halves.now cache.new }
+    ensures keeps { Keeps input.old input.new }
+    ensures found { (hs : List Re) (terminator : ℕ) → AreHalvesOf (H.AreOf halves.now) aim hs terminator → IsGuard (program hs) terminator guard.entry
+        → IfOk result (IsAnswerBy aim.kind aim.earliest (search_for aim hs terminator input.old)) }
+    ensures within { IfOk result (λ found. IfSome found (λ m. (low input.old ≤ m.start) × (m.start ≤ m.end) × (m.end ≤ high input.old))) }
+{
+    if goes_early(aim, input.get_anchored()) {
+        return find_by_needles(halves, cache, input, aim, guard);
+    }
+    find(halves, cache, input, aim)
+}

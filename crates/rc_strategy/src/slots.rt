@@ -1,0 +1,98 @@
+//! The slots of a match that is known.
+ghost use Rattle.std.specs.Prelude.{◌≡◌, Some, length};
+ghost use Rattle.rc_text.specs.Text.{Keeps};
+ghost use Rattle.rc_program.specs.Answer.{answer, groups};
+ghost use Rattle.rc_program.specs.Kinds.{answer_by};
+ghost use Rattle.rc_program.specs.Places.{places_of};
+ghost use Rattle.rc_pikevm.specs.KindSlots.{slots_by, span_slots};
+ghost use Rattle.rc_pikevm_search.specs.Engine.{engine_search, IsEngineCache, IsSameCache};
+ghost use Rattle.rc_strategy.specs.Slots.{IsOfPatterns, NamesGroups};
+
+use crate::entries::entry_of;
+use crate::longest::search_longest_span;
+use rc_pikevm::cache::Cache;
+use rc_pikevm::search::search_slots_from;
+use rc_pikevm_search::engine::Engine;
+use rc_text::cursor::Cursor;
+use rc_text::input::Input;
+use rc_text::types::{Anchored, Match, MatchKind};
+
+/// Puts the whole match into its two slots, as far as these are there, and None into the others.
+fn put_span(found: Match, slots: &mut [Option<usize>])
+    ensures { slots.new ≡ span_slots (length slots.old) found }
+{
+    slots.fill(None);
+    let first = 2 * found.pattern().as_usize();
+    if first < slots.len() {
+        slots[first] = Some(found.start());
+    }
+    if first + 1 < slots.len() {
+        slots[first + 1] = Some(found.end());
+    }
+}
+
+/// The slots of the preferred match, which a pass over its span alone tells. It enters at the place of the match's pattern, and so at no other
+/// pattern's. The input's span and anchoring stay.
+fn search_span<C: Cursor>(
+    engine: &Engine,
+    cache: &mut Cache,
+    input: &mut Input<C>,
+    found: Match,
+    slots: &mut [Option<usize>],
+)
+    requires made { IsEngineCache engine.now (length slots.old) cache.old }
+    requires program { IsOfPatterns (places_of engine.now.program.places.items) }
+    requires found { answer (engine_search engine.now input.old) ≡ Some found }
+    ensures keeps { Keeps input.old input.new }
+    ensures long { length slots.new ≡ length slots.old }
+    ensures slots { Some slots.new ≡ groups (engine_search engine.now input.old) (length slots.old) }
+    ensures cache { IsSameCache cache.old cache.new }
+{
+    let span = input.get_span();
+    let anchored = input.get_anchored();
+    let program = &engine.program;
+    let root = entry_of(&program.places, found.pattern().as_usize());
+    input.set_range(found.start(), found.end());
+    input.set_anchored(Anchored::Pattern(found.pattern()));
+    search_slots_from(cache, input, program, root, None, slots);
+    input.set_anchored(anchored);
+    input.set_span(span);
+}
+
+/// The first slots of the match that a search of the input finds, as many as are handed in. Where these are but those of whole matches, no
+/// pass is made. `patterns` is how many patterns there are.
+pub(crate) fn fill_slots<C: Cursor>(
+    engine: &Engine,
+    cache: &mut Cache,
+    input: &mut Input<C>,
+    patterns: usize,
+    found: Match,
+    slots: &mut [Option<usize>],
+)
+    requires made { IsEngineCache engine.now (length slots.old) cache.old }
+    requires numbered { NamesGroups patterns (places_of engine.now.program.places.items) }
+    requires program { IsOfPatterns (places_of engine.now.program.places.items) }
+    requires found { answer_by engine.now.kind (engine_search engine.now input.old) ≡ Some found }
+    ensures keeps { Keeps input.old input.new }
+    ensures long { length slots.new ≡ length slots.old }
+    ensures slots { Some slots.new ≡ slots_by engine.now.kind (engine_search engine.now input.old) (length slots.old) }
+    ensures cache { IsSameCache cache.old cache.new }
+{
+    match engine.kind {
+        MatchKind::All => put_span(found, slots),
+        MatchKind::LeftmostFirst => {
+            if slots.len() <= patterns.saturating_mul(2) {
+                put_span(found, slots);
+            } else {
+                search_span(engine, cache, input, found, slots);
+            }
+        }
+        MatchKind::LeftmostLongest => {
+            if slots.len() <= patterns.saturating_mul(2) {
+                put_span(found, slots);
+            } else {
+                search_longest_span(engine, cache, input, found, slots);
+            }
+        }
+    }
+}

@@ -1,0 +1,164 @@
+//! What is known of matches before any search.
+ghost use Rattle.std.specs.Prelude.{◌≡◌, max};
+ghost use Rattle.rc_pattern.specs.Properties.{both};
+
+use rc_pattern::hir::{Hir, Look};
+use rc_text::cursor::Cursor;
+use rc_text::input::{Input, byte_at, high, low};
+
+/// What each span that some patterns spell keeps to, whatever the text. Lengths are in bytes.
+#[derive(Clone, Copy, Debug, PartialEq, Eq)]
+pub struct Spans {
+    /// No span is shorter.
+    least: usize,
+    /// No span is longer. With None no bound is known.
+    greatest: Option<usize>,
+    /// Whether each begins where the slice does.
+    begins: bool,
+    /// Whether each ends where the slice does.
+    ends: bool,
+}
+
+/// The greater of two bounds, where both are known.
+fn greater(left: Option<usize>, right: Option<usize>) -> Option<usize>
+    ensures { result ≡ both (λ m n. Some (max m n)) left right }
+{
+    match (left, right) {
+        (Some(m), Some(n)) => Some(m.max(n)),
+        (Some(_), None) => None,
+        (None, _) => None,
+    }
+}
+
+impl Spans {
+    ghost use Rattle.std.specs.Prelude.{◌≡◌, ◌↔◌, map, All, IfSome, IsTrue};
+    ghost use Rattle.rc_text.specs.Text.{Keeps, high};
+    ghost use Rattle.rc_pattern.specs.Meaning.{meaning};
+    ghost use Rattle.rc_strategy.specs.Spans.{Bounds, EndAlone, IsOneLength, either, are_longer, are_shorter, begin_early, end_late, leave_none, must_fill};
+
+    /// What the spans of this pattern keep to.
+    fn of_one(hir: &Hir) -> Spans
+        ensures { Bounds result (meaning hir.now) }
+    {
+        let properties = hir.properties();
+        Spans {
+            least: properties.minimum_len().unwrap_or(usize::MAX),
+            greatest: properties.maximum_len(),
+            begins: properties.look_set_prefix().contains(Look::Start),
+            ends: properties.look_set_suffix().contains(Look::End),
+        }
+    }
+
+    /// What spans keep to that keep to one or the other.
+    fn either(self, other: Spans) -> Spans
+        ensures { result ≡ either self other }
+    {
+        Spans {
+            least: self.least.min(other.least),
+            greatest: greater(self.greatest, other.greatest),
+            begins: self.begins && other.begins,
+            ends: self.ends && other.ends,
+        }
+    }
+
+    /// What the spans of these patterns keep to.
+    pub fn of(hirs: &[Hir]) -> Spans
+        ensures { All (Bounds result) (map meaning hirs.now) }
+    {
+        let mut spans = Spans {
+            least: usize::MAX,
+            greatest: Some(0),
+            begins: true,
+            ends: true,
+        };
+        for hir in hirs {
+            spans = spans.either(Spans::of_one(hir));
+        }
+        spans
+    }
+
+    /// Whether each span begins where the slice does, and the search later.
+    #[inline(always)]
+    fn begin_early<C: Cursor>(&self, input: &Input<C>) -> bool
+        ensures { result ≡ begin_early self.now input.now }
+    {
+        self.begins && input.get_slice_span().start < low(input)
+    }
+
+    /// Whether each span ends where the slice does, and the search, at `end`, before.
+    #[inline(always)]
+    fn end_late<C: Cursor>(&self, input: &mut Input<C>, end: usize) -> bool
+        requires end { end ≡ high input.old }
+        ensures keeps { Keeps input.old input.new }
+        ensures value { result ≡ end_late self.now input.old }
+    {
+        self.ends && end < input.get_slice_span().end && byte_at(input, end).is_some()
+    }
+
+    /// Whether each span is longer than so many bytes.
+    #[inline(always)]
+    fn are_longer(&self, length: usize) -> bool
+        ensures { result ≡ are_longer self.now length }
+    {
+        length < self.least
+    }
+
+    /// Whether each span is shorter than so many bytes.
+    #[inline(always)]
+    fn are_shorter(&self, length: usize) -> bool
+        ensures { result ≡ are_shorter self.now length }
+    {
+        match self.greatest {
+            Some(most) => most < length,
+            None => false,
+        }
+    }
+
+    /// Whether a match reaches from where the search begins to where it ends, if there is one.
+    #[inline(always)]
+    fn must_fill<C: Cursor>(&self, input: &Input<C>) -> bool
+        ensures { result ≡ must_fill self.now input.now }
+    {
+        self.ends && (self.begins || input.get_anchored().is_anchored())
+    }
+
+    /// The length of each span, where all are known to be of one.
+    #[inline(always)]
+    pub fn only_length(&self) -> Option<usize>
+        ensures { IfSome result (λ n. IsOneLength self.now n) }
+    {
+        match self.greatest {
+            Some(most) if most == self.least => Some(most),
+            _ => None,
+        }
+    }
+
+    /// Whether each span ends where the slice does, and not each begins where it does.
+    #[inline(always)]
+    pub fn end_alone(&self) -> bool
+        ensures { IsTrue result ↔ EndAlone self.now }
+    {
+        self.ends && !self.begins
+    }
+
+    /// Whether there can be no match: each would begin before the search or end behind it, or be longer than what is searched, or, where
+    /// it has to fill that, shorter.
+    ///
+    /// Where the cursor tells no total, this goes where the content ends.
+    #[inline(always)]
+    pub fn leave_none<C: Cursor>(&self, input: &mut Input<C>) -> bool
+        ensures keeps { Keeps input.old input.new }
+        ensures value { result ≡ leave_none self.now input.old }
+    {
+        if self.begin_early(input) {
+            return true;
+        }
+        let low = low(input);
+        let high = high(input);
+        if high < low || self.end_late(input, high) {
+            return true;
+        }
+        let length = high - low;
+        self.are_longer(length) || (self.must_fill(input) && self.are_shorter(length))
+    }
+}

@@ -1,0 +1,156 @@
+//! The tables by which patterns are searched for.
+ghost use Rattle.std.specs.Prelude.{◌≡◌, ◌⊎◌, ◌↔◌, ◌<◌, ◌≤◌, ⊤, ℕ, Bool, IfOk, IfSome, IsSomeAnd, IsTrue, List, MatchOption, None, true, false, length};
+ghost use Rattle.rc_pattern.specs.Re.{Re};
+ghost use Rattle.rc_program.specs.Laws.{heaviness};
+ghost use Rattle.rc_program.specs.Places.{places_of};
+ghost use Rattle.rc_program.specs.Program.{program};
+ghost use Rattle.rc_dfa.specs.Automata.{machine_of};
+ghost use Rattle.rc_dfa.specs.declared.automaton.Direction.TheVariants.{Backwards, Forwards};
+ghost use Rattle.rc_lazy_dfa.specs.Caches.{IsLazyOf, least_of};
+ghost use Rattle.rc_dfa_search.specs.Machines.{AreMachines};
+ghost use Rattle.rc_strategy.specs.Limits.{AreOff, AreTooHeavy};
+ghost use Rattle.rc_strategy.specs.Makes.{AreMade};
+ghost use Rattle.rc_strategy.specs.Tables.{MayBeTablesFor};
+ghost use Rattle.rc_determinize.specs.TableKinds.{table_kind_of};
+
+use crate::engines::Limits;
+use rc_dense_dfa::dense::Dense;
+use rc_dense_dfa::error::TableError;
+use rc_determinize::kind::table_kind;
+use rc_dfa::automaton::Automaton;
+use rc_dfa_search::build::automaton_of;
+use rc_lazy_dfa::error::LazyError;
+use rc_lazy_dfa::lazy::Lazy;
+use rc_pikevm_search::engine::Engine;
+use rc_pikevm_search::strategy::{Strategy, guards_of, literals_of};
+use std::alloc::{AllocError, Global};
+
+/// Tables of all states, or tables whose states are made as they are met, or neither.
+#[derive(Drop)]
+pub(crate) struct Tables {
+    pub(crate) dense: Option<Dense>,
+    pub(crate) lazy: Option<Lazy>,
+}
+
+/// Whether a program of so many places has more than the limit allows.
+fn exceeds(places: usize, limit: Option<usize>) -> bool
+    ensures { IsTrue result ↔ IsSomeAnd limit (λ most. most < places) }
+{
+    match limit {
+        Some(most) => places > most,
+        None => false,
+    }
+}
+
+/// Whether needles with which walks begin are sought fast, so that searches by tables go from one to the next. Where a search for them would go
+/// by a table of first bytes, the tables of states read a byte as fast, and need not begin anew at each needle.
+pub(crate) fn are_fast(strategy: &Strategy) -> bool {
+    match guards_of(strategy) {
+        Some(needles) => needles.is_fast(),
+        None => false,
+    }
+}
+
+/// Whether searches by tables of all states are to rest between needles: where each match holds one, where those with which each begins are sought
+/// fast, and where some byte isn't read, since a search that met one goes from needle to needle.
+fn are_to_rest(strategy: &Strategy, needed: bool, automaton: &Automaton) -> bool {
+    if needed {
+        return true;
+    }
+    match guards_of(strategy) {
+        Some(needles) => needles.is_fast() || !automaton.may_read(Some(128)),
+        None => false,
+    }
+}
+
+/// The tables of all states of the automaton, which is that of so many patterns by their engine's program, where the limits allow some; with `needed`
+/// searches go by needles that each match holds. An `Err` is want of memory.
+fn dense_of(
+    alloc: Global,
+    engine: &Engine,
+    needed: bool,
+    automaton: &Automaton,
+    patterns: usize,
+    limits: Limits,
+) -> Result<Option<Dense>, AllocError>
+    ghost hs: { List Re }
+    requires machines { AreMachines hs engine.now.program.terminator (table_kind_of engine.now.kind) (machine_of automaton.now Forwards) (machine_of automaton.now Backwards) }
+    requires program { places_of engine.now.program.places.items ≡ program hs }
+    requires patterns { patterns ≡ length hs }
+    requires light { heaviness (places_of engine.now.program.places.items) ≤ 2147483646 }
+    ensures fit { IfOk result (MayBeTablesFor engine.now patterns) }
+    ensures off { AreOff hs limits → IfOk result (λ tables. tables ≡ None) }
+    ensures none { IfOk result (λ tables. tables ≡ None → AreOff hs limits ⊎ AreTooHeavy engine.now hs limits) }
+{
+    if !limits.dfa {
+        return Ok(None);
+    }
+    if exceeds(automaton.places_len(), limits.state_limit) {
+        return Ok(None);
+    }
+    let rests = are_to_rest(&engine.strategy, needed, automaton);
+    match Dense::new(alloc, automaton, limits.size_limit, rests) {
+        Ok(tables) => Ok(Some(tables)),
+        Err(TableError::TooBig) => Ok(None),
+        Err(TableError::Memory) => Err(AllocError),
+    }
+}
+
+/// The tables of the automaton whose states are made as they are met, where they are switched on and their capacity serves.
+fn lazy_of(automaton: Automaton, limits: Limits) -> Option<Lazy>
+    ensures made { IfSome result (IsLazyOf automaton limits.capacity) }
+    ensures off { limits.hybrid ≡ false → result ≡ None }
+    ensures none { result ≡ None → (limits.hybrid ≡ false) ⊎ (limits.capacity < least_of automaton) }
+{
+    if !limits.hybrid {
+        return None;
+    }
+    match Lazy::new(automaton, limits.capacity) {
+        Ok(tables) => Some(tables),
+        Err(LazyError::TooSmall { .. }) => None,
+        Err(LazyError::Memory) => None,
+    }
+}
+
+/// The tables of so many patterns by their engine's program, where the limits allow some. Where needles alone tell each answer, none are
+/// made. With `needed` searches go by needles that each match holds. An `Err` is want of memory.
+pub(crate) fn tables_of(
+    alloc: Global,
+    engine: &Engine,
+    needed: bool,
+    patterns: usize,
+    limits: Limits,
+) -> Result<Tables, AllocError>
+    ghost hs: { List Re }
+    requires program { places_of engine.now.program.places.items ≡ program hs }
+    requires patterns { patterns ≡ length hs }
+    requires light { heaviness (places_of engine.now.program.places.items) ≤ 2147483646 }
+    ensures { IfOk result (λ tables. AreMade engine.now patterns hs limits tables.dense tables.lazy) }
+{
+    if literals_of(&engine.strategy, engine.kind).is_some() {
+        return Ok(Tables {
+            dense: None,
+            lazy: None,
+        });
+    }
+    if !limits.dfa && !limits.hybrid {
+        return Ok(Tables {
+            dense: None,
+            lazy: None,
+        });
+    }
+    let automaton = automaton_of(
+        alloc,
+        &engine.program.places,
+        patterns,
+        engine.program.terminator,
+        table_kind(engine.kind),
+        limits.byte_classes,
+    )?;
+    let dense = dense_of(alloc, engine, needed, &automaton, patterns, limits)?;
+    if dense.is_some() {
+        return Ok(Tables { dense, lazy: None });
+    }
+    let lazy = lazy_of(automaton, limits);
+    Ok(Tables { dense, lazy })
+}
