@@ -7,3 +7,4 @@ pub mod RefusalLemmas
 pub mod Runnable
 pub mod Sizes
 pub mod TextLemmas
+mod WeighingLemmas

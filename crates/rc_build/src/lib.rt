@@ -5,4 +5,6 @@ pub mod build;
 pub mod check;
 pub mod compile;
 pub mod laws;
+pub mod oversize;
 pub mod texts;
+pub mod weighing;

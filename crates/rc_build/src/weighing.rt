@@ -3,7 +3,7 @@
 ghost use Rattle.std.specs.Prelude.{◌↔◌, map, All, IfOk, IsTrue, MatchOption};
 ghost use Rattle.rc_pattern.specs.Meaning.{meaning};
 ghost use Rattle.rc_pattern.specs.WellFormed.{IsWellFormed};
-ghost use Rattle.rc_weigh.specs.Oversized.{IsOversize, IsUnrefused};
+ghost use Rattle.rc_build.specs.Oversized.{IsOversize, IsUnrefused};
 
 use crate::oversize::Oversize;
 use rc_pattern::check::{capped_list_weight, is_well_formed};

@@ -5,7 +5,7 @@ use Rattle.rc_pattern.specs.Re.{Re}
 use Rattle.rc_pattern.specs.Weight.{list_weight}
 use Rattle.rc_settings.specs.declared.error.BuildError.TheVariants.{SizeLimit}
 use Rattle.rc_build.specs.Refusals.{IsRefusal}
-use Rattle.rc_weigh.specs.declared.oversize.Oversize.{Oversize}
+use Rattle.rc_build.specs.declared.oversize.Oversize.{Oversize}
 
 -- a build of the patterns under the limit isn't refused for their size
 abbrev pub IsUnrefused : Option ℕ → List Re → Type 0

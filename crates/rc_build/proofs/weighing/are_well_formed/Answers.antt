@@ -1,8 +1,8 @@
 use Rattle.std.proofs.Common.{refl}
 use Rattle.std.proofs.lemmas.Bool.{false≢true, iff_false}
 use Rattle.rc_build.proofs.CheckLemmas.{sound_more, all_sound}
-use Rattle.rc_weigh.proofs.WeighingLemmas.{one_unsound}
-use Rattle.rc_weigh.proofs.weighing.are_well_formed.Goals as goal
+use Rattle.rc_build.proofs.WeighingLemmas.{one_unsound}
+use Rattle.rc_build.proofs.weighing.are_well_formed.Goals as goal
 
 pub returns-then-not-branch : goal.returns-then-not-branch
 returns-then-not-branch c = (

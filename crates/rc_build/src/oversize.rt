@@ -1,6 +1,6 @@
 //! The weight of patterns beside a limit on their size.
 
-ghost use Rattle.rc_weigh.specs.Oversized.{oversize_line};
+ghost use Rattle.rc_build.specs.Oversized.{oversize_line};
 
 use std::fmt;
 
