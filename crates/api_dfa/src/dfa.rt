@@ -1,4 +1,4 @@
-//! The tables of a list of patterns.
+//! DFA: the fully built automata of a list of patterns, forwards and backwards.
 
 ghost use Rattle.std.specs.Prelude.{◌≡◌, ◌≤◌, IfErr, IfOk, map};
 ghost use Rattle.rc_pattern.specs.Meaning.{meaning};

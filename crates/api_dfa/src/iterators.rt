@@ -1,4 +1,4 @@
-//! What goes over the matches in an input.
+//! Match iterators over a DFA.
 
 use crate::regex::Regex;
 use crate::search::next_match;

@@ -1,4 +1,7 @@
-//! Searches by tables of all the states that can be reached, as their users see them: what is built from patterns, and its searches.
+//! DFA front: the engine `engines::dfa` as its users see it, with its builder, its `Regex` and its
+//! searches.
+//!
+//! All states are built before the first search; `rc_dense_dfa` holds them.
 #![tactic(auto)]
 
 pub mod builder;

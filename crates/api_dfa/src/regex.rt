@@ -1,4 +1,4 @@
-//! A regex that searches by tables.
+//! DFA regex: a regex that searches by a fully built DFA alone.
 
 use crate::builder::Builder;
 use crate::dfa::DFA;

@@ -1,4 +1,4 @@
-//! Searches by tables. They take no memory.
+//! DFA searches: one match, its end, its start, and iteration. They take no memory.
 
 ghost use Rattle.std.specs.Prelude.{◌≡◌, ◌≤◌, ◌∷◌, [], IfErr, IfOk, IfSome, MatchOption, None, Option, Some, Result};
 ghost use Rattle.rc_text.specs.Text.{Keeps, low, high};

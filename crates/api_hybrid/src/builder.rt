@@ -1,4 +1,4 @@
-//! What builds.
+//! Lazy DFA builder: settings, and patterns built under them.
 
 ghost use Rattle.std.specs.Prelude.{◌≡◌, ◌≤◌, ◌∷◌, [], IfOk, IfErr, length, map};
 ghost use Rattle.rc_pattern.specs.Meaning.{meaning};

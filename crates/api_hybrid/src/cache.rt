@@ -1,4 +1,4 @@
-//! The states that searches met so far.
+//! Lazy DFA cache: the states that searches have built so far.
 
 use crate::regex::Regex;
 use rc_lazy_dfa::lazy;

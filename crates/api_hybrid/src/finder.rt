@@ -1,4 +1,4 @@
-//! What finds matches in a cache that is lent to it.
+//! Match finder of the iterators: a lazy DFA with a cache that is lent to it.
 
 ghost use Rattle.std.specs.Prelude.{◌≡◌, ◌∷◌, [], IfErr, IfOk, MatchOption, Some};
 ghost use Rattle.rc_pikevm_search.specs.Moved.{IsMoved};

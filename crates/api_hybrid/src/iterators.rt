@@ -1,4 +1,4 @@
-//! What goes over the matches in an input.
+//! Match iterators over a lazy DFA.
 
 use crate::finder::Finder;
 use crate::regex::Regex;

@@ -1,4 +1,4 @@
-//! What searches for a list of patterns are made of.
+//! Lazy DFA of a list of patterns: the byte program and the limits that searches need.
 
 ghost use Rattle.std.specs.Prelude.{◌≡◌, ◌≤◌, IfErr, IfOk, map};
 ghost use Rattle.rc_pattern.specs.Meaning.{meaning};

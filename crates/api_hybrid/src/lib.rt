@@ -1,5 +1,8 @@
-//! Searches by tables of states that are made as they are met, in a memory that never passes what was set, as their users see them: what is
-//! built from patterns, the caches, and the searches.
+//! Lazy DFA front: the engine `engines::hybrid` as its users see it, with its builder, its cache
+//! and its searches.
+//!
+//! States are built while a search runs, in a cache whose memory never passes its capacity;
+//! `rc_lazy_dfa` holds them.
 #![tactic(auto)]
 
 pub mod builder;

@@ -1,4 +1,4 @@
-//! A regex that searches by tables of states that are made as they are met.
+//! Lazy DFA regex: a regex that searches by a lazy DFA alone.
 
 ghost use Rattle.std.specs.Prelude.{◌≡◌, map};
 ghost use Rattle.rc_pattern.specs.Meaning.{meaning};

@@ -1,4 +1,4 @@
-//! Searches in a cache.
+//! Lazy DFA searches in a cache: one match, its end, its start, and iteration.
 
 ghost use Rattle.std.specs.Prelude.{◌≡◌, ◌≤◌, ◌∷◌, [], IfErr, IfOk, IfSome, MatchOption, None, Option, Some, Result};
 ghost use Rattle.rc_text.specs.Text.{Keeps, low, high};

@@ -1,4 +1,4 @@
-//! What makes regexes.
+//! Regex builder: settings, and regexes built under them.
 
 ghost use Rattle.std.specs.Prelude.{◌≡◌, ◌≤◌, ◌/◌, ◌∷◌, [], All, option_map, IfOk, IfErr, IfSome, List, length, map};
 ghost use Rattle.rc_pattern.specs.Re.{Re};

@@ -1,4 +1,4 @@
-//! What searches work in.
+//! Regex cache: the scratch memory of searches, made once.
 
 use crate::regex::Regex;
 use rc_strategy::cache;

@@ -1,4 +1,4 @@
-//! What searches by a regex in a cache of its own.
+//! Finder: a regex together with a cache of its own.
 
 ghost use Rattle.api_meta.specs.Caches.{IsCacheFor};
 ghost use Rattle.api_meta.specs.Views.{regex_patterns, regex_settings};

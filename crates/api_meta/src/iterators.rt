@@ -1,7 +1,7 @@
-//! What goes over the matches of a regex, with their groups, and over the pieces between them.
+//! Match iterators: the matches of a regex, with or without groups, and the pieces between them.
 //!
-//! Each keeps the input and a cache that is made with it, and searches when `next` is called: nothing is found ahead. The searches
-//! take no memory.
+//! Each iterator owns its input and a cache, and searches when you call `next`: nothing is found
+//! ahead. The searches take no memory.
 
 use crate::regex::Regex;
 use crate::seeker::{GroupSeeker, Seeker};

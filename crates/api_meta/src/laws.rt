@@ -1,4 +1,4 @@
-//! The laws that tie the definitions. Each function does nothing: its contract is the law.
+//! Laws that tie the definitions. Each function does nothing: its contract is the law.
 ghost use Rattle.api_meta.specs.Laws.{CuttingLaw};
 
 /// What a regex answers depends on the uncut bytes, the span, the slice and the anchoring alone: two inputs that are equal in

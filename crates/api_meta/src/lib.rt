@@ -1,4 +1,4 @@
-//! Regexes: patterns built under settings, and what a search by them answers.
+//! Regex front: `Regex`, its builder, its cache, its searches and its iterators.
 #![tactic(auto)]
 
 pub mod builder;

@@ -1,6 +1,7 @@
-//! The matches of a regex, one after another, in a cache that is lent.
+//! Match iterators in a borrowed cache and a borrowed input.
 //!
-//! What goes over them searches when `next` is called: nothing is found ahead. Cache and input are the caller's again once that is let go.
+//! They search when you call `next`: nothing is found ahead. Once an iterator is dropped, cache and
+//! input are yours again.
 
 use crate::cache::Cache;
 use crate::regex::Regex;

@@ -1,4 +1,4 @@
-//! A regex, and its searches.
+//! Regex: a list of patterns, built, and its searches.
 
 ghost use Rattle.std.specs.Prelude.{◌≡◌, ◌≤◌, ◌+◌, All, IfSome, None, false, length, map};
 ghost use Rattle.rc_pattern.specs.Properties.{common};

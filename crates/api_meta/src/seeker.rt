@@ -1,4 +1,4 @@
-//! What finds the matches of a list, one after another, in an input that is lent to it.
+//! Iteration state: where the next match of a list is searched for, in a borrowed input.
 
 ghost use Rattle.std.specs.Prelude.{◌≡◌, ◌≤◌, IfSome};
 ghost use Rattle.rc_text.specs.Text.{Keeps, high, low};

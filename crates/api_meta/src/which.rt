@@ -1,4 +1,5 @@
-//! Whether there is a match, and which patterns have one, in a cache that is lent.
+//! Match tests and pattern sets: whether there is a match, and which patterns have one, in a
+//! borrowed cache.
 
 use crate::cache::Cache;
 use crate::regex::Regex;

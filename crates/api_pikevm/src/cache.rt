@@ -1,4 +1,4 @@
-//! What searches work in.
+//! Pike VM cache: the scratch memory of searches.
 
 use crate::vm::PikeVM;
 use rc_pikevm::cache;

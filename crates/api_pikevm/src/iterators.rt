@@ -1,4 +1,4 @@
-//! What goes over the matches in an input.
+//! Match iterators over a Pike VM.
 
 ghost use Rattle.api_pikevm.specs.Caches.{IsCacheFor};
 ghost use Rattle.api_pikevm.specs.Views.{sought};

@@ -1,4 +1,7 @@
-//! The ordered pass over a text, as its users see it: what is built from patterns, its caches, and its searches.
+//! Pike VM front: the engine `engines::pikevm` as its users see it, with its builder, its cache and
+//! its searches.
+//!
+//! `rc_pikevm` is the engine itself.
 #![tactic(auto)]
 
 pub mod builder;

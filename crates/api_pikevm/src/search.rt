@@ -1,4 +1,4 @@
-//! Searches in a cache. They take no memory.
+//! Pike VM searches in a cache: one match, its slots, and iteration. They take no memory.
 
 ghost use Rattle.std.specs.Prelude.{◌≡◌, ◌≤◌, ◌<◌, ◌+◌, ◌-◌, ◌*◌, ◌↔◌, ◌∷◌, [], IsTrue, IsSome, IfSome, MatchOption, Some, None, length, option_map, replicate};
 ghost use Rattle.rc_text.specs.Found.{Found};

@@ -1,4 +1,4 @@
-//! A program of patterns, and the groups that are kept.
+//! Pike VM: the program of a list of patterns, and the groups that it keeps.
 
 ghost use Rattle.std.specs.Prelude.{◌≡◌, None, map};
 ghost use Rattle.rc_pattern.specs.Meaning.{meaning};

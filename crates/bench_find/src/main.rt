@@ -1,12 +1,24 @@
-//! Times searches: counts the matches of a pattern in the standard input, cut into chunks, in rounds.
+//! Benchmark: counts the matches of a pattern in the standard input, cut into chunks, and times
+//! rounds of it.
 //!
-//! The words are the pattern, the length of a chunk in bytes (0 for one chunk), the number of
-//! rounds (3 where it is left out) and what is timed: `matches`, which is the default, `captures` (the
-//! matches with their groups), `texts` (each chunk is searched as a text of its own, in one cache, and
-//! those with a match are counted), `finds` (the same, each in a cache of its own) or `build` (the
-//! pattern is built). A word more says by what is searched: `all`, which is the default, `plain` (no
-//! needles), `met` (no tables of all states), `lazy` (neither) or `pass` (no needles, and no tables). With no
-//! words it prints nothing.
+//! The arguments are the pattern, the length of a chunk in bytes (0 for one chunk), the number of
+//! rounds (3 by default), what is timed, and which engines search.
+//!
+//! What is timed:
+//! - `matches`: the matches (the default)
+//! - `captures`: the matches with their groups
+//! - `texts`: each chunk is a text of its own, searched in one cache, and those with a match count
+//! - `finds`: as `texts`, but with a cache for each text
+//! - `build`: the build of the pattern
+//!
+//! Which engines search:
+//! - `all`: any (the default)
+//! - `plain`: no prefilter
+//! - `met`: no fully built DFA
+//! - `lazy`: neither a prefilter nor a fully built DFA
+//! - `pass`: the Pike VM alone, with no prefilter
+//!
+//! Without arguments it prints nothing.
 #![tactic(auto)]
 
 use regex_cursor::Input;

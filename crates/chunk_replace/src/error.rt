@@ -1,4 +1,4 @@
-//! Why a rewriting stops.
+//! Replacement errors.
 
 use thiserror::Error;
 

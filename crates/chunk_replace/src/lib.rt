@@ -1,4 +1,4 @@
-//! Rewriting of text in chunks: each match of a regex is replaced by a template.
+//! Replacement: each match of a regex in chunks is replaced by a template.
 #![tactic(auto)]
 
 pub mod error;

@@ -1,4 +1,4 @@
-//! What stands after a `$` of a template.
+//! Template syntax: what follows a `$`.
 ghost use Rattle.std.specs.Prelude.{◌≡◌, MatchOption, SomeIff};
 ghost use Rattle.std.specs.Str.Parse.{digits_value};
 ghost use Rattle.rc_tokens.specs.Text.{each};

@@ -1,4 +1,4 @@
-//! Bytes of a content, and parts of a template, as they are put into a writer.
+//! Output: bytes of a content and parts of a template, put into a sink.
 ghost use Rattle.std.specs.Prelude.{◌≡◌, slice_range, IfErr, OnOk, true};
 ghost use Rattle.chunk_replace.specs.declared.error.ReplaceError.TheVariants.{Write};
 ghost use Rattle.regex_cursor.specs.Put.{Puts};

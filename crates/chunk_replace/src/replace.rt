@@ -1,4 +1,4 @@
-//! The replaced text of some chunks.
+//! Replace all: the replaced text of a list of chunks.
 ghost use Rattle.std.specs.Prelude.{◌≡◌, ◌≢◌, ◌↔◌, false, length, true, Err, IfErr, IfOk, MatchResult, OnOk};
 ghost use Rattle.std.specs.Io.KnownBytes.{Keeps};
 ghost use Rattle.rc_text.specs.Joined.{IsTooLong, joined};

@@ -1,4 +1,4 @@
-//! A text with its matches replaced, as it is put into a writer.
+//! Replacement loop: match by match, put into a sink.
 ghost use Rattle.std.specs.Prelude.{◌≡◌, ◌≢◌, ◌++◌, ◌<◌, ◌^◌, drop, false, length, slice_range, true, Err, IfErr, IfOk, OnOk};
 ghost use Rattle.rc_text.specs.declared.types.MatchKind.TheVariants.{All as greatest_matches};
 ghost use Rattle.api_meta.specs.Left.{captures_left, captures_regex, captures_walks};

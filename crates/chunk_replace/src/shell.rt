@@ -1,4 +1,4 @@
-//! All that the program `rcsub` does.
+//! Command line of the program `rcsub`.
 ghost use Rattle.std.specs.Prelude.{◌≡◌, ◌≢◌, ◌≤◌, false, nat_eq, nat_lt, IfOk, IfSome, List, ℕ, MatchOption, SomeIff};
 ghost use Rattle.std.specs.Str.Parse.{digits_value};
 ghost use Rattle.std.specs.Io.KnownBytes.{Keeps};

@@ -1,4 +1,4 @@
-//! What a match is replaced by: text, and marks for its groups.
+//! Templates: literal text, and references to groups.
 ghost use Rattle.std.specs.Prelude.{◌≡◌, MatchResult};
 ghost use Rattle.chunk_replace.specs.Template.{IsReadAs, IsTemplateError, template_items};
 ghost use Rattle.chunk_replace.specs.Laws.{TemplateLaw};

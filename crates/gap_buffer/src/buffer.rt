@@ -1,4 +1,4 @@
-//! A text with a gap where it is edited.
+//! Gap buffer: a text that is edited at its caret.
 
 ghost use Rattle.std.specs.Prelude.{◌≡◌, ◌+◌, ◌++◌, ◌≤◌, IfOk, drop, length, take, vec_len};
 

@@ -1,4 +1,4 @@
-//! A cursor over a text in two pieces.
+//! Cursor over a gap buffer: the text before the gap, and the text behind it.
 ghost use Rattle.std.specs.Prelude.{◌≡◌, ◌+◌, ◌++◌, ◌<◌, Some, false, if◌then◌else◌, length, true};
 
 use regex_cursor::Cursor;

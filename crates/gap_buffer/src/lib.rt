@@ -1,4 +1,4 @@
-//! A text with a gap where it is edited, and searches in it as an editor makes them.
+//! Gap buffer: a text that is edited at its caret, with the searches that an editor makes.
 #![tactic(auto)]
 
 pub mod buffer;

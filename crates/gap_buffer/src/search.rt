@@ -1,4 +1,4 @@
-//! Searches in a text with a caret, as an editor makes them.
+//! Editor searches: the next match, the previous one, and the matches on the screen.
 ghost use Rattle.std.specs.Prelude.{◌≡◌, ◌≤◌, ℕ, IfOk, false, filter, length};
 ghost use Rattle.api_meta.specs.Left.{find_left};
 ghost use Rattle.rc_program.specs.Matches.{AreInOrder, begin_of, end_of};

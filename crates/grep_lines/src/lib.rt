@@ -1,4 +1,4 @@
-//! The lines of what is read, and which of them are selected.
+//! Line selection: the lines of a reader, and which of them are selected.
 #![tactic(auto)]
 
 mod pages;

@@ -1,4 +1,4 @@
-//! Whole lines at the beginning of a page.
+//! Page scan: the whole lines at the beginning of a page.
 ghost use Rattle.std.specs.Prelude.{◌≡◌, ◌≤◌, length};
 ghost use Rattle.std.specs.List.{filter};
 ghost use Rattle.grep_lines.specs.Pages.{AreLinesBefore, is_newline};

@@ -1,4 +1,4 @@
-//! Lines, one after another, and which of them are selected.
+//! Line selection: lines one after another, and which of them are selected.
 ghost use Rattle.std.specs.Prelude.{◌≡◌, ◌≤◌, ◌<◌, ℕ, Bool, List, [], IfOk, IfSome, MatchOption, false, filter, length, slice_range};
 ghost use Rattle.grep_lines.specs.Lines.{AreLinesOf, lines};
 ghost use Rattle.grep_lines.specs.Pages.{MayTake};

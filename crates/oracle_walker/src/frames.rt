@@ -1,4 +1,4 @@
-//! The first walk from a start, on an explicit stack.
+//! Backtracking stack: the first walk from a start.
 ghost use Rattle.std.specs.Prelude.{◌≡◌, ◌≢◌, ◌<◌, ◌≤◌, [], ◌∷◌, ◌++◌, IfOk, IsTrue, Some, None, not, length, reverse, slice_index_or};
 ghost use Rattle.rc_text.specs.Text.{Keeps, high};
 ghost use Rattle.rc_walks.specs.Walks.{IsFirstWalk, HasNoWalk};

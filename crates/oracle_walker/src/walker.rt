@@ -1,4 +1,5 @@
-//! Searches by a walker, which tries the ways of each place in order and goes back where none leads on.
+//! Backtracking: searches that try the ways out of each state in order, and go back if none leads
+//! on.
 
 ghost use Rattle.std.specs.Prelude.{◌≡◌, ◌≤◌, ◌<◌, ◌||◌, IfErr, IfOk, IfSome, MatchOption, Some, None, length, map, min, not, replicate, slice_set, if◌then◌else◌};
 ghost use Rattle.std.specs.List.{range_with_len};

@@ -1,4 +1,4 @@
-//! The ways out of a place, as they stand in an input.
+//! Transitions: the ways out of a state at a position of an input.
 ghost use Rattle.std.specs.Prelude.{◌≡◌, ◌<◌, ◌≤◌, length, map, slice_get, slice_range};
 ghost use Rattle.rc_text.specs.Text.{Keeps, high, slice_end};
 ghost use Rattle.rc_pattern.specs.Meaning.{byte_range, char_range};

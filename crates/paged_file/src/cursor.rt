@@ -1,4 +1,4 @@
-//! A cursor over a file that is read a page at a time.
+//! Paged cursor: a cursor over a file that is read a page at a time.
 ghost use Rattle.std.specs.Prelude.{◌≡◌, ◌+◌, ◌<◌, ◌≤◌, IfOk, IfSome, MatchBool, None, Some, drop, false, length, max, take};
 ghost use Rattle.paged_file.specs.Kept.{IsEnd, IsMet, IsStart, Paged, Same, Shown};
 ghost use Rattle.paged_file.specs.Stored.{fault_of};

@@ -1,4 +1,5 @@
-//! A file that is read a page at a time, and a cursor that keeps a bounded number of its pages in memory.
+//! Paged files: a file that is read a page at a time, and a cursor that keeps a bounded number of
+//! its pages in memory.
 #![tactic(auto)]
 
 pub mod cursor;

@@ -1,4 +1,4 @@
-//! Pages in memory.
+//! Pages in memory, and which of them is read anew next.
 ghost use Rattle.std.specs.Prelude.{◌≡◌, ◌+◌, ◌<◌, ◌≤◌, ◌^◌, IfOk, IfSome, MatchOption, MatchResult, drop, length, take, true, slice_get, Some, vec_len};
 ghost use Rattle.paged_file.specs.Kept.{AreHeld, Fetched, IsHeld};
 ghost use Rattle.paged_file.specs.Stored.{Fails, fault_of};

@@ -1,4 +1,4 @@
-//! Files that are read a page at a time.
+//! Page readers: what a paged file asks of its source.
 ghost use Rattle.std.specs.Prelude.{◌≡◌, ◌+◌, ◌<◌, ◌^◌, MatchResult, false, length, min, take, true};
 ghost use Rattle.paged_file.specs.Stored.{Fails, Gives, Stored, cut};
 

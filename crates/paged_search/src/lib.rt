@@ -1,4 +1,4 @@
-//! Searches in a file that is read a page at a time.
+//! Paged search: searches in a file that is read a page at a time.
 #![tactic(auto)]
 
 pub mod search;

@@ -1,4 +1,4 @@
-//! Searches in a file that is read a page at a time.
+//! Paged search: the match of what can be read, and the match of a whole file.
 ghost use Rattle.std.specs.Prelude.{◌≡◌, IfOk, MatchResult, false, true};
 ghost use Rattle.paged_search.specs.Found.{IsFault, IsSearchedFrom, found_from};
 

@@ -1,4 +1,4 @@
-//! Patterns built: an engine over their program, and their groups.
+//! Build: patterns compiled and given an engine, with their groups.
 
 ghost use Rattle.std.specs.Prelude.{◌≡◌, ◌≤◌, IfErr, IfOk, None, false, length, map, option_map};
 ghost use Rattle.rc_pattern.specs.Meaning.{meaning};

@@ -1,4 +1,4 @@
-//! Whether patterns can be built.
+//! Checks before a build: well-formedness, weight and limits.
 ghost use Rattle.std.specs.Prelude.{◌≡◌, ◌≤◌, ◌<◌, ◌^◌, min, length, map, All, IfErr, IfOk};
 ghost use Rattle.rc_pattern.specs.Meaning.{meaning};
 ghost use Rattle.rc_pattern.specs.Weight.{list_weight};

@@ -1,4 +1,4 @@
-//! Patterns compiled: their program and their groups.
+//! Compilation of checked patterns: their program and their groups.
 ghost use Rattle.std.specs.Prelude.{◌≡◌, ◌≤◌, [], length, map, IfErr, IfOk};
 ghost use Rattle.rc_pattern.specs.Meaning.{meaning};
 ghost use Rattle.rc_pattern.specs.WellFormed.{group_names};

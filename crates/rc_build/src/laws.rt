@@ -1,5 +1,4 @@
-//! What holds of patterns that can be built, and of refusals. Each function does nothing: its contract is
-//! the law.
+//! Laws of builds and refusals. Each function does nothing: its contract is the law.
 ghost use Rattle.rc_build.specs.Laws.{BuiltLaw, RefusalLaw};
 
 /// Engines may run over the program of patterns that can be built, and the groups that are kept have as

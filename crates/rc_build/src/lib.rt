@@ -1,4 +1,4 @@
-//! What a regex is built from: the patterns read, checked and compiled, with an engine over their program.
+//! Build: patterns are parsed, checked and compiled, and given an engine.
 #![tactic(auto)]
 
 pub mod build;

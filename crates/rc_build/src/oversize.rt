@@ -1,4 +1,4 @@
-//! The weight of patterns beside a limit on their size.
+//! Oversize report: the weight of patterns beside the size limit.
 
 ghost use Rattle.rc_build.specs.Oversized.{oversize_line};
 

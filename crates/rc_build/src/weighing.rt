@@ -1,4 +1,4 @@
-//! Says how heavy patterns are that are too large for a limit.
+//! Size diagnostics: weighs patterns that are too large for the limit.
 
 ghost use Rattle.std.specs.Prelude.{◌↔◌, map, All, IfOk, IsTrue, MatchOption};
 ghost use Rattle.rc_pattern.specs.Meaning.{meaning};

@@ -1,4 +1,4 @@
-//! The groups of one match.
+//! Captures: the groups of one match.
 ghost use Rattle.std.specs.Prelude.{◌≡◌, ◌↔◌, None, IsTrue, IsSome, length, IfOk, replicate};
 ghost use Rattle.std.specs.Option.{option_map_or};
 ghost use Rattle.std.specs.Borrow.{sem};

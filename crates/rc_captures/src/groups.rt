@@ -1,4 +1,4 @@
-//! Which groups the patterns have.
+//! Group info: which groups the patterns have, and which slots are theirs.
 ghost use Rattle.std.specs.Prelude.{◌≡◌, ◌<◌, ◌^◌, length, map, option_map, position, slice_get, string_bytes, IfOk};
 ghost use Rattle.std.specs.Option.{option_copied};
 ghost use Rattle.rc_captures.specs.Groups.{names_of};

@@ -1,4 +1,4 @@
-//! The groups of patterns: which there are, in which slots they stand, and the captures that hold those of a match.
+//! Capture groups: which groups patterns have, their slots, and the captures of a match.
 #![tactic(auto)]
 
 pub mod captures;

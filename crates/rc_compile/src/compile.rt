@@ -1,4 +1,4 @@
-//! From patterns to a program.
+//! Thompson construction: from patterns to a program.
 
 ghost use Rattle.std.specs.Prelude.{◌≡◌, ◌+◌, ◌-◌, ◌<◌, ◌≤◌, ◌^◌, [], ◌∷◌, ◌++◌, All, IfOk, map, min, vec_len};
 ghost use Rattle.rc_pattern.specs.Meaning.{meaning};

@@ -1,4 +1,4 @@
-//! The program of a list of patterns, as code has it.
+//! Thompson construction: compiles a list of patterns to a program (an NFA).
 #![tactic(auto)]
 
 pub mod compile;

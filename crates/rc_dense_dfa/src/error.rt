@@ -1,4 +1,4 @@
-//! Why there is no table.
+//! DFA construction errors.
 
 use std::alloc::{AllocError, AllocFailed};
 

@@ -1,4 +1,4 @@
-//! The bytes that lead away from a row.
+//! Acceleration: the few bytes that lead out of a state.
 ghost use Rattle.std.specs.Prelude.{◌≡◌, ◌≢◌, ◌*◌, ◌<◌, ◌≤◌, ℕ, IfOk, IsTrue, false, length, slice_index_or};
 ghost use Rattle.rc_dense_dfa.specs.Cells.{dead};
 ghost use Rattle.rc_dense_dfa.specs.Exits.{AreExitsOf, Stays, is_exit};

@@ -1,4 +1,4 @@
-//! Rows in which a run stays over most bytes.
+//! Acceleration: states in which a search stays over most bytes.
 ghost use Rattle.std.specs.Prelude.{◌≡◌, ◌<◌, ◌≤◌, ◌+◌, IfOk, IfSome, IsTrue, false, length, slice_index_or};
 ghost use Rattle.rc_dense_dfa.specs.Cells.{dead, row_of};
 ghost use Rattle.rc_dense_dfa.specs.Exits.{AllStay, AreLeaps, AreStays, StaysAmong, cell_by};

@@ -1,4 +1,4 @@
-//! Tables of all the states that a search can reach.
+//! Full DFA: transition tables of all states that a search can reach, and searches by them.
 #![tactic(auto)]
 
 pub mod backward;

@@ -1,4 +1,4 @@
-//! The steps by which a table is made.
+//! DFA construction steps: one state and one transition at a time.
 ghost use Rattle.std.specs.Prelude.{◌≡◌, ◌+◌, ◌<◌, length, IfOk, IfErr, Some, slice_get};
 ghost use Rattle.rc_determinize.specs.Places.{state_of};
 ghost use Rattle.rc_determinize.specs.States as states;

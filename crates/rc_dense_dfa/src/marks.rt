@@ -1,4 +1,4 @@
-//! Cells with the mark `SKIP`.
+//! Acceleration marks: cells that lead to a state with few exits.
 ghost use Rattle.std.specs.Prelude.{◌<◌};
 ghost use Rattle.rc_dense_dfa.specs.Cells.{AreMarked, IsMarkedAs};
 

@@ -1,4 +1,4 @@
-//! Names of the rows of states.
+//! State identifiers: rows are named by the index of their first cell.
 ghost use Rattle.std.specs.Prelude.{◌≡◌, ◌+◌, ◌*◌, ◌<◌, ◌≤◌, length, IfOk, IfErr, MatchOption, Some, ℕ, IfSome, slice_get, []};
 ghost use Rattle.rc_determinize.specs.Places.{state_of};
 ghost use Rattle.rc_dfa.specs.Machine.{Machine, IsMachine};

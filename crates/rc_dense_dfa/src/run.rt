@@ -1,4 +1,4 @@
-//! How searches by a table end.
+//! Search results: how a search by a table ends.
 
 /// How a search by a table ended. Positions are in bytes of the whole content.
 #[derive(Clone, Copy)]

@@ -1,4 +1,4 @@
-//! A table of states.
+//! Transition table: a row for each state, a cell for each byte class.
 ghost use Rattle.std.specs.Prelude.{◌≡◌, ◌<◌, ◌*◌, ℕ, length, slice_index_or, All};
 ghost use Rattle.rc_dense_dfa.specs.Cells.{IsNamed, met};
 ghost use Rattle.rc_dense_dfa.specs.Exits.{AreExitsOf, AreLeaps};

@@ -1,4 +1,4 @@
-//! Classes of bytes that a program can't tell apart.
+//! Byte classes: equivalence classes of bytes that a program can't tell apart.
 ghost use Rattle.std.specs.Prelude.{ℕ, ◌≡◌, ◌+◌, ◌<◌, ◌≤◌, ◌||◌, IfOk, length, map, Some, slice_index, slice_index_or, false};
 ghost use Rattle.std.specs.List.{list_any};
 ghost use Rattle.rc_pattern.specs.Meaning.{byte_range};

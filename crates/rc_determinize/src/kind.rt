@@ -1,4 +1,4 @@
-//! The kinds of match that tables find.
+//! Match kinds of a determinized search.
 ghost use Rattle.std.specs.Prelude.{◌≡◌};
 ghost use Rattle.rc_determinize.specs.TableKinds.{table_kind_of};
 

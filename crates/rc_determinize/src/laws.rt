@@ -1,4 +1,4 @@
-//! The laws of states and steps. The functions do nothing: their contracts are the laws.
+//! Laws of states and steps. Each function does nothing: its contract is the law.
 ghost use Rattle.rc_determinize.specs.Laws.{ForwardLaw, BackwardLaw, SpanLaw, GatherLaw};
 ghost use Rattle.rc_determinize.specs.Classes.{ClassLaw};
 ghost use Rattle.rc_determinize.specs.Spans.{GreatestSpanLaw};

@@ -1,4 +1,7 @@
-//! States of a search over bytes: the places under way, stepped over one byte, forwards and backwards, with no text in sight.
+//! Determinization: subset construction over a byte program. A state is an ordered list of NFA
+//! states, and a step leads from one to the next over one byte, forwards or backwards.
+//!
+//! No text and no table is used here; `rc_dense_dfa` and `rc_lazy_dfa` hold the states.
 #![tactic(auto)]
 
 pub mod backward;

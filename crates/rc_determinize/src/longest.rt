@@ -1,4 +1,5 @@
-//! The step over one byte where the longest match of the least start is sought.
+//! Leftmost-longest transition: the step over one byte if the longest match of the least start is
+//! sought.
 ghost use Rattle.std.specs.Prelude.{ℕ, List, ◌≡◌, ◌≢◌, ◌<◌, ◌≤◌, ◌+◌, ◌∷◌, [], IfOk, length, reverse, drop, Some, None, slice_range};
 ghost use Rattle.rc_program.specs.Laws.{IsClosed};
 ghost use Rattle.rc_utf8.specs.Places.{places_of};

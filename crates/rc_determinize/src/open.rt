@@ -1,4 +1,4 @@
-//! What a step does at one place.
+//! Epsilon closure: what a step does at one NFA state.
 ghost use Rattle.std.specs.Prelude.{◌≡◌, ◌<◌, ◌≤◌, ◌++◌, IfOk, length, map, reverse, None};
 ghost use Rattle.rc_pattern.specs.Meaning.{byte_range};
 ghost use Rattle.rc_program.specs.Program.{in_ranges, branch_ways, ways_out, place_at, is_match_place};

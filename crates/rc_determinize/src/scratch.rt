@@ -1,4 +1,4 @@
-//! What a step works with.
+//! Scratch space of a step.
 ghost use Rattle.std.specs.Coded.{coded_ℕ};
 ghost use Rattle.std.specs.Prelude.{ℕ, ◌≡◌, IfOk};
 

@@ -1,4 +1,4 @@
-//! States of a search over bytes.
+//! DFA states: ordered lists of NFA states, with what is known of the byte before.
 
 use crate::sides::Seen;
 

@@ -1,4 +1,5 @@
-//! A byte program, ready to be gone through state by state.
+//! Determinizer: a byte program that is ready to be determinized state by state, in both
+//! directions.
 ghost use Rattle.std.specs.Prelude.{◌≡◌, ◌<◌, length, IfOk};
 ghost use Rattle.rc_program.specs.Laws.{IsClosed};
 ghost use Rattle.rc_utf8.specs.Places.{places_of};

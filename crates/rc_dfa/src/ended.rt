@@ -1,4 +1,4 @@
-//! How searches by states end. Positions are in bytes of the whole content.
+//! Search results: how a DFA search ends. Positions are in bytes of the whole content.
 
 /// What a search by states met.
 #[derive(Clone, Copy)]

@@ -1,4 +1,5 @@
-//! Searches by states: what a table or a cache of states is made of, and what its runs over a text tell.
+//! DFA basics: the determinizer that both DFAs are built of, the trait of their searches, and the
+//! laws of their runs.
 #![tactic(auto)]
 
 pub mod automaton;

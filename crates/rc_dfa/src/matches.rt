@@ -1,4 +1,4 @@
-//! The match places of one pattern.
+//! Match states of one pattern.
 ghost use Rattle.std.specs.Prelude.{◌≡◌, IfOk, Some};
 ghost use Rattle.rc_program.specs.Program.{is_match_place};
 ghost use Rattle.rc_program.specs.Answer.{pattern_at};

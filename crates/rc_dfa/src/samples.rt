@@ -1,4 +1,4 @@
-//! A byte of each class.
+//! Byte class representatives: one byte of each class.
 ghost use Rattle.std.specs.Prelude.{◌≡◌, length, IfOk};
 ghost use Rattle.rc_dfa.specs.Samples.{IsCounted, AreSamples};
 

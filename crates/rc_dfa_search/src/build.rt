@@ -1,4 +1,4 @@
-//! Automata of patterns.
+//! Automaton construction: from a program to its determinizer.
 ghost use Rattle.std.specs.Prelude.{◌≡◌, ◌≤◌, List, length, IfOk};
 ghost use Rattle.rc_pattern.specs.Re.{Re};
 ghost use Rattle.rc_program.specs.Laws.{heaviness};

@@ -1,4 +1,5 @@
-//! Searches that go from needle to needle, where each match begins with one, or holds one. Positions are in bytes of the whole content.
+//! DFA searches with a prefilter: the search goes from one literal to the next. Positions are in
+//! bytes of the whole content.
 ghost use Rattle.std.specs.Prelude.{◌≡◌, ◌↔◌, ◌+◌, ◌-◌, ◌*◌, ◌<◌, ◌≤◌, ℕ, false, true, List, length, IsTrue, IfOk, IfErr, IfSome};
 ghost use Rattle.std.specs.Option.{option_map};
 ghost use Rattle.rc_text.specs.Found.{half_of};

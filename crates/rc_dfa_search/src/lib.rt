@@ -1,4 +1,4 @@
-//! The spans that searches by states find: what the two halves of a search, forwards and backwards, tell of the matches of patterns.
+//! Two-way DFA search: forwards to the end of a match, then backwards to its start.
 #![tactic(auto)]
 
 pub mod build;

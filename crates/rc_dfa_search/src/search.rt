@@ -1,4 +1,4 @@
-//! Searches by two halves, forwards and backwards, whatever holds their states. Positions are in bytes of the whole content.
+//! Two-way DFA search over any DFA. Positions are in bytes of the whole content.
 ghost use Rattle.std.specs.Prelude.{◌≡◌, ◌⊎◌, ◌↔◌, ◌+◌, ◌-◌, ◌*◌, ◌<◌, ◌≤◌, ◌&&◌, ◌||◌, ℕ, true, not, min, max, List, Option, IsTrue, IfOk, IfErr, IfSome, IfNone};
 ghost use Rattle.std.specs.Option.{option_map};
 ghost use Rattle.rc_text.specs.Found.{Found};

@@ -1,4 +1,4 @@
-//! Escapes that aren't read.
+//! Diagnostics of escapes that don't parse.
 
 use crate::faults::FaultKind;
 use crate::places::Found;

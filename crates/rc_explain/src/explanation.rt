@@ -1,4 +1,4 @@
-//! Says what is wrong with a text.
+//! Diagnostics: explains why a text doesn't parse.
 
 ghost use Rattle.std.specs.Prelude.{chars, IfOk, IfSome, IfNone, MatchOption};
 ghost use Rattle.rc_parser.specs.Settings.{settings_of};

@@ -1,4 +1,4 @@
-//! What may be wrong with the text of a pattern.
+//! Faults: what may be wrong with the text of a pattern.
 
 use rc_text::types::Span;
 use std::fmt;

@@ -1,4 +1,4 @@
-//! What is wrong with a text that isn't read as a pattern.
+//! Diagnostics: what is wrong with a text that doesn't parse as a pattern, and where.
 #![tactic(auto)]
 
 mod escapes;

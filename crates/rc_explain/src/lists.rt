@@ -1,4 +1,4 @@
-//! Lists that aren't read.
+//! Diagnostics of bracketed lists that don't parse.
 
 use crate::escapes::escape_fault;
 use crate::faults::FaultKind;

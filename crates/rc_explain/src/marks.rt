@@ -1,4 +1,4 @@
-//! The marks of a text up to the one at which it isn't read.
+//! Diagnostics scan: the tokens of a text, up to the one that doesn't parse.
 
 use crate::escapes::escape_fault;
 use crate::faults::FaultKind;

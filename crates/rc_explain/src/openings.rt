@@ -1,4 +1,4 @@
-//! Openings of groups that aren't read.
+//! Diagnostics of group openings that don't parse.
 
 use crate::faults::FaultKind;
 use crate::places::Found;

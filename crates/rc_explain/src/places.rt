@@ -1,4 +1,4 @@
-//! Places in a text, counted in characters.
+//! Positions in a text, counted in characters.
 
 ghost use Rattle.std.specs.Prelude.{◌≡◌, length, IsCharBoundary};
 

@@ -1,4 +1,4 @@
-//! Counted repetitions that aren't read.
+//! Diagnostics of counted repetitions that don't parse.
 
 use crate::faults::FaultKind;
 use crate::places::Found;

@@ -1,4 +1,4 @@
-//! A fault, shown in the text.
+//! Rendering of a fault: the text, and a line that marks the part at fault.
 
 use crate::faults::Fault;
 use std::fmt;

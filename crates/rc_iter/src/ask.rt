@@ -1,4 +1,4 @@
-//! One call of a finder.
+//! Finder calls: one call of a closure that finds matches.
 ghost use Rattle.std.specs.Prelude.{◌≡◌, Option, IfOk, IfSome};
 ghost use Rattle.rc_text.specs.Found.{Found, HalfFound};
 ghost use Rattle.rc_text.specs.Text.{Keeps, Searched};

@@ -1,4 +1,4 @@
-//! The half matches over a finder, one after another.
+//! Half-match iterator over a finder.
 ghost use Rattle.std.specs.Prelude.{◌≡◌};
 ghost use Rattle.rc_iter.specs.Finders.{IsLawfulFinder, offset_of};
 

@@ -1,4 +1,4 @@
-//! What a searcher asks of the input that it keeps.
+//! Kept input: what a searcher asks of its input.
 ghost use Rattle.std.specs.Prelude.{◌≡◌, ◌+◌, ◌<◌, ◌≤◌, ◌^◌, length};
 ghost use Rattle.rc_text.specs.Text.{Keeps, Searched};
 ghost use Rattle.rc_iter.specs.Finders.{with_start};

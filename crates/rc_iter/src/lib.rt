@@ -1,4 +1,4 @@
-//! Iteration over any finder: matches one after another, each search from where the last match ended.
+//! Match iteration over any finder: each search begins where the last match ended.
 #![tactic(auto)]
 
 mod ask;

@@ -1,4 +1,4 @@
-//! A searcher: a kept input, whose matches a finder gives one after another.
+//! Searcher: an input, whose matches a finder returns one after another.
 ghost use Rattle.std.specs.Prelude.{◌≡◌, ◌+◌, ◌≤◌, IfErr, IfOk, None, Option, option_map};
 ghost use Rattle.rc_text.specs.Found.{Found, HalfFound, half_of};
 ghost use Rattle.rc_program.specs.Matches.{begin_of, end_of};

@@ -1,4 +1,4 @@
-//! Why there is no table, and why a search is given up.
+//! Lazy DFA errors: why none is built, and why a search gives up.
 ghost use Rattle.std.specs.Prelude.{◌≡◌};
 ghost use Rattle.rc_lazy_dfa.specs.Errors.{is_memory};
 

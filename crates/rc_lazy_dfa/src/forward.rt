@@ -1,4 +1,4 @@
-//! Searches forwards by a table that grows.
+//! Forward lazy DFA search.
 ghost use Rattle.std.specs.Prelude.{◌≡◌, ◌+◌, ◌-◌, ◌<◌, ◌≤◌, Bool, true, false, Some, IfSome, IsTrue, is_some, length, slice_range, slice_get};
 ghost use Rattle.rc_text.specs.Text.{Keeps, high, low, slice_end};
 ghost use Rattle.rc_dfa.specs.declared.automaton.Direction.TheVariants as direction;

@@ -1,4 +1,4 @@
-//! A table of states in one direction, with what makes the steps from one state to the next.
+//! One direction of a lazy DFA: its table, and what builds its next state.
 ghost use Rattle.std.specs.Prelude.{◌≡◌, ◌<◌, ◌≤◌, length, IfOk, IfErr, MatchOption, []};
 ghost use Rattle.rc_determinize.specs.Places.{state_of};
 ghost use Rattle.rc_determinize.specs.States as states;

@@ -1,4 +1,4 @@
-//! Searches by tables of states that are made as they are met.
+//! Lazy DFA: the automaton, its cache, and its searches.
 ghost use Rattle.std.specs.Prelude.{◌≡◌, ◌≤◌, ◌<◌, ◌↔◌, IsTrue, MatchOption};
 ghost use Rattle.rc_dfa.specs.declared.automaton.Direction.TheVariants as direction;
 ghost use Rattle.rc_dfa.specs.Automata.{machine_of};

@@ -1,4 +1,5 @@
-//! Searches by states that are made as they are met, within a memory that never passes what was set.
+//! Lazy DFA: states are built while a search runs, in a cache whose memory never passes its
+//! capacity.
 #![tactic(auto)]
 
 mod backward;

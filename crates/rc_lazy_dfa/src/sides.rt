@@ -1,4 +1,4 @@
-//! The bytes on the two sides of a position, as far as the slice goes.
+//! Look-around: the bytes on the two sides of a position, within the slice.
 ghost use Rattle.std.specs.Prelude.{◌≡◌, ◌≤◌, IfSome, slice_get, ◌-◌, ◌+◌};
 ghost use Rattle.rc_text.specs.Text.{Keeps, slice_end};
 ghost use Rattle.rc_program.specs.Sought.{text_of};

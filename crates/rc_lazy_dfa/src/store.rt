@@ -1,4 +1,4 @@
-//! A table of states that grows as they come, in one direction, and never beyond its capacity.
+//! Lazy transition table: it grows by a row for each new state, up to its capacity.
 ghost use Rattle.std.specs.Prelude.{◌≡◌, ◌+◌, ◌*◌, ◌<◌, ◌≤◌, length, IfOk, IfErr, IsTrue, Some, true, false, ℕ, Option, IfSome, slice_get};
 ghost use Rattle.rc_determinize.specs.Places.{state_of};
 ghost use Rattle.rc_determinize.specs.States as states;

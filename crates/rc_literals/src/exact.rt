@@ -1,4 +1,4 @@
-//! Patterns that are lists of needles.
+//! Exact literals: patterns that are a list of literals.
 ghost use Rattle.std.specs.Prelude.{◌≡◌, IfOk, map, option_map};
 ghost use Rattle.rc_pattern.specs.Re.{literal};
 ghost use Rattle.rc_pattern.specs.Meaning.{alt_all, meaning};

@@ -1,4 +1,4 @@
-//! Searches that go from needle to needle.
+//! Prefilter steps: where a search goes on, given the literals that every match has.
 ghost use Rattle.std.specs.Prelude.{◌≡◌, ◌-◌, ◌<◌, ◌≤◌, ℕ, Bool, IfSome, IsTrue, List, MatchOption, false, length, option_map, slice_index};
 ghost use Rattle.rc_text.specs.Text.{Keeps, high};
 ghost use Rattle.rc_program.specs.Program.{Place};

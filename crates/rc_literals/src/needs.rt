@@ -1,4 +1,4 @@
-//! What each match of some patterns holds, where it is worth a search.
+//! Required literals of patterns, if a search for them pays.
 ghost use Rattle.std.specs.Prelude.{◌≡◌, IfOk, IfSome, map};
 ghost use Rattle.rc_pattern.specs.Meaning.{meaning};
 ghost use Rattle.rc_program.specs.Text.{Text};

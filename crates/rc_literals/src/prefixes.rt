@@ -1,4 +1,4 @@
-//! Prefixes with which each text that patterns spell begins.
+//! Prefix literals: literals with which each match begins.
 ghost use Rattle.std.specs.Prelude.{◌≡◌, ◌+◌, ℕ, ◌∷◌, ◌++◌, [], List, Some, None, true, false, IfOk, IfSome, IfNone, MatchOption, drop, map, option_map, slice_get, unwrap_or};
 ghost use Rattle.std.specs.Bool.{Decides};
 ghost use Rattle.rc_pattern.specs.Meaning.{alt_all, byte_range, cat_all, char_range, class_meaning, meaning};

@@ -1,4 +1,4 @@
-//! The bytes that no pattern reads.
+//! Stop bytes: the bytes that no match contains.
 ghost use Rattle.std.specs.Prelude.{◌≡◌, ◌&&◌, ◌<◌, ◌≤◌, ℕ, List, length, map, nat_le, nat_lt, not};
 ghost use Rattle.rc_pattern.specs.Meaning.{alt_all, byte_range, char_range, class_meaning, meaning};
 ghost use Rattle.rc_pattern.specs.Re.{byte_in, char_in};

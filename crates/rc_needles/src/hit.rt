@@ -1,4 +1,4 @@
-//! Where a needle was found.
+//! Hits: where a needle was found.
 
 /// A needle that stands in a content.
 #[derive(Clone, Copy, Debug, PartialEq, Eq)]

@@ -1,4 +1,4 @@
-//! The law that ties the definitions. The function does nothing: its contract is the law.
+//! Law that ties the definitions. The function does nothing: its contract is the law.
 ghost use Rattle.rc_needles.specs.Needles.{NeedleLaw};
 
 /// The needle that is found, as contracts name it, is the first needle at the least start at which one stands, and none exactly

@@ -1,4 +1,4 @@
-//! Bits that tell which three bytes open needles, so that most places are passed over by one look.
+//! Three-byte filter: a bit set that tells which three bytes may begin a needle.
 ghost use Rattle.std.specs.Prelude.{◌≡◌, ◌+◌, ◌*◌, ◌%◌, ◌<◌, ◌≤◌, ℕ, IfOk, IsTrue, length, true};
 ghost use Rattle.rc_needles.specs.Openings.{AreOpened, ArePassed, AreWhole, IsOpened, opens, word_of};
 ghost use Rattle.rc_needles.specs.Tables.{needles_in};

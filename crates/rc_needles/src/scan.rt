@@ -1,4 +1,4 @@
-//! What pieces of chunks are searched for.
+//! Piece scanners: the search that serves a list of needles, within a piece of a chunk.
 ghost use Rattle.std.specs.Prelude.{◌≡◌, ◌+◌, ◌<◌, ◌≤◌, IfOk, length, slice_index};
 ghost use Rattle.memchr.specs.Find.{IsFirst};
 ghost use Rattle.rc_needles.specs.Tables.{AreSome, needles_in};

@@ -1,4 +1,4 @@
-//! A sieve that passes over the places where none of some needles begins, 32 places at a time.
+//! Teddy: a vector search for many needles, 32 places at a time.
 ghost use Rattle.std.specs.Prelude.{◌≡◌, ◌+◌, ◌++◌, ◌*◌, ◌/◌, ◌<◌, ◌≤◌, ◌^◌, ℕ, IfSome, IsTrue, List, length, slice_index};
 ghost use Rattle.std.specs.Int.{bit_at};
 ghost use Rattle.rc_needles.specs.Sieves.{AreLanes, AreMarked, AreSifted, HaveBegun, IsSifted, buckets};

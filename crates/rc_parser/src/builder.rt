@@ -1,4 +1,4 @@
-//! Builds a pattern from what its marks say, from left to right.
+//! Pattern construction from tokens, left to right.
 
 ghost use Rattle.std.specs.Prelude.{◌≡◌, ◌⊎◌, ◌+◌, ◌-◌, ◌^◌, ◌<◌, ◌≤◌, None, Some, [], option_map, MatchResult, MatchOption, OnOk, IfOk, IsOk, Err, map, string_bytes, ◌∷◌};
 ghost use Rattle.rc_pattern.specs.Re as re;

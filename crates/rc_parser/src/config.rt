@@ -1,4 +1,4 @@
-//! The settings of a reader of patterns.
+//! Syntax settings.
 
 ghost use Rattle.std.specs.Prelude.{◌≡◌, min};
 ghost use Rattle.rc_parser.specs.Settings.{settings_of, default_settings, first_flags};

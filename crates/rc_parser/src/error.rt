@@ -1,3 +1,3 @@
-//! Why a text isn't read as a pattern.
+//! Syntax errors.
 
 pub use rc_pattern::syntax::Error;

@@ -1,4 +1,4 @@
-//! The flags of a pattern.
+//! Inline flags.
 
 ghost use Rattle.std.specs.Prelude.{◌≡◌};
 ghost use Rattle.rc_parser.specs.Grammar.{set_flags};

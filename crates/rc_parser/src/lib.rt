@@ -1,4 +1,4 @@
-//! The text of a pattern, read as a pattern.
+//! Parser: reads the text of a pattern as a `Hir`.
 #![tactic(auto)]
 
 mod builder;

@@ -1,4 +1,4 @@
-//! The names of the groups of a pattern.
+//! Group names of a pattern.
 
 ghost use Rattle.std.specs.Prelude.{◌≡◌, ◌||◌, map, drop, true, false, string_bytes, length};
 ghost use Rattle.rc_tokens.specs.Text.{same_text};

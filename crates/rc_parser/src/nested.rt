@@ -1,4 +1,4 @@
-//! Patterns that have been read, and how deep they are nested.
+//! Nesting depth of the parsed patterns.
 
 ghost use Rattle.std.specs.Prelude.{IsTrue};
 ghost use Rattle.rc_pattern.specs.Kinds.{has_plain_nodes, all_have_plain_nodes};

@@ -1,4 +1,4 @@
-//! How patterns that have been read are joined.
+//! Concatenations and alternations of parsed patterns.
 
 ghost use Rattle.std.specs.Prelude.{◌≡◌, ◌⊎◌, ◌+◌, ◌<◌, None, Some, [], option_map, MatchResult, OnOk, IfOk, IsTrue};
 ghost use Rattle.rc_pattern.specs.Meaning.{meaning, concat_of, alternation_of};

@@ -1,4 +1,4 @@
-//! What a mark that stands alone is read as.
+//! Atoms: what a token that stands alone parses as.
 
 ghost use Rattle.std.specs.Prelude.{◌≡◌, ◌⊎◌, ◌+◌, ◌<◌, ◌∷◌, ◌++◌, true, false, None, Some, [], map, option_map, MatchResult, OnOk, IfOk, IsTrue, encode_utf8_all, length, drop};
 ghost use Rattle.rc_pattern.specs.Meaning.{meaning, literal_of, byte_range, char_range};

@@ -1,4 +1,4 @@
-//! Reads the text of a pattern.
+//! Parser: reads the text of a pattern as a `Hir`.
 
 ghost use Rattle.std.specs.Prelude.{◌≡◌, ℕ, ◌≤◌, ◌<◌, ◌+◌, None, [], MatchResult, IfOk, IsTrue, length, chars};
 ghost use Rattle.rc_pattern.specs.Re.{Re};

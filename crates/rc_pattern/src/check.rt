@@ -1,7 +1,8 @@
-//! What the layers above ask of a pattern. No part of the product's surface.
+//! Pattern queries for the layers above: well-formedness, weight, depth, groups and copies. They
+//! are not part of the public interface.
 //!
-//! But for `depth_within` and `is_well_formed`, each calls itself as deep as the pattern is: ask
-//! whether a pattern is well-formed first.
+//! Except for `depth_within` and `is_well_formed`, each recurses as deep as the pattern is nested.
+//! Ask first whether the pattern is well-formed.
 
 mod bounds;
 mod captures;

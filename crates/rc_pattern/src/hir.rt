@@ -1,4 +1,4 @@
-//! A pattern as a tree.
+//! High-level intermediate representation (HIR): a pattern as a tree.
 
 ghost use Rattle.std.specs.Prelude.{◌≡◌, IfOk, IsTrue, map, []};
 ghost use Rattle.rc_pattern.specs.declared.hir.Hir.{out-Hir};

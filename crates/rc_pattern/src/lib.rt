@@ -1,4 +1,4 @@
-//! Patterns as trees, and what is known of them.
+//! Patterns as trees (`Hir`), with their properties and their checks.
 #![tactic(auto)]
 
 pub mod check;

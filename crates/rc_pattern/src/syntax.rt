@@ -1,4 +1,4 @@
-//! Why a text is not read as a pattern.
+//! Syntax errors: why a text doesn't parse as a pattern.
 
 use std::alloc::AllocError;
 use thiserror::Error;

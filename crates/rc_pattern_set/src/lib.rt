@@ -1,4 +1,4 @@
-//! Sets of patterns.
+//! Pattern sets.
 #![tactic(auto)]
 
 pub mod sets;

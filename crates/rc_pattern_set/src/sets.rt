@@ -1,4 +1,4 @@
-//! Sets of patterns, by their numbers.
+//! Pattern sets: sets of pattern numbers.
 
 ghost use Rattle.std.specs.Prelude.{◌≡◌, ℕ, ◌+◌, ◌<◌, ◌≤◌, ◌^◌, Some, true, length, slice_get};
 

@@ -1,4 +1,4 @@
-//! A cursor over a slice of whatever holds bytes.
+//! Slice cursor: a cursor over a slice of any values that contain bytes, and the bytes of a span.
 #![tactic(auto)]
 
 pub mod pieces;

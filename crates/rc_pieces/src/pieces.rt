@@ -1,4 +1,4 @@
-//! What holds bytes that may be a chunk.
+//! Pieces: values whose bytes may be a chunk.
 ghost use Rattle.std.specs.Prelude.{◌≡◌, ℕ, List};
 ghost use Rattle.std.specs.String.{string_bytes};
 

@@ -1,4 +1,4 @@
-//! A cursor over a slice of pieces.
+//! Slice cursor: a cursor over a slice of pieces.
 ghost use Rattle.std.specs.Prelude.{◌≡◌, ◌+◌, ◌<◌, ◌≤◌, ◌^◌, length, take, drop, Some, MatchOption, MatchResult};
 ghost use Rattle.rc_text.specs.Joined.{joined, chunk_at, IsChunk, IsNextFilled, IsLastFilled, IsTooLong, ShowsAt};
 ghost use Rattle.rc_text.specs.Piece.{Shows, GoesOn};

@@ -1,4 +1,4 @@
-//! The bytes of a span, out of chunks.
+//! Span bytes: the bytes of a span, chunk by chunk.
 ghost use Rattle.std.specs.Prelude.{◌≡◌, ◌+◌, ◌<◌, ◌≤◌, ◌++◌, ◌↔◌, [], IsTrue, length, max, slice_range};
 ghost use Rattle.rc_text.specs.Piece.{Shows};
 

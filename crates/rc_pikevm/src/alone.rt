@@ -1,4 +1,4 @@
-//! Threads that go on alone, and starts from which no walk leads on: for neither a list of places is kept.
+//! Lone-thread fast path: a single thread, or none, is simulated without a list of threads.
 ghost use Rattle.std.specs.Prelude.{◌≡◌, ◌+◌, ◌<◌, ◌≤◌, ◌⊎◌, ◌^◌, [], ◌∷◌, IsTrue, IfSome, List, Option, MatchOption, ⊤, true, false, ℕ, length};
 ghost use Rattle.rc_text.specs.Text.{Searched};
 ghost use Rattle.rc_walks.specs.Walks.{Pair};

@@ -1,4 +1,4 @@
-//! What a search works in.
+//! Pike VM cache: the scratch memory of searches.
 
 use crate::growth::Frame;
 use crate::scratch::Scratch;

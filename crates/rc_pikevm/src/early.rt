@@ -1,4 +1,4 @@
-//! Where the first match ends.
+//! Earliest match: where the first match ends.
 ghost use Rattle.std.specs.Prelude.{◌≡◌, is_some, ◌≤◌, ⊤, length, MatchOption, IfSome};
 ghost use Rattle.rc_text.specs.Text.{Keeps, low, high};
 ghost use Rattle.rc_program.specs.Greatest.{greatest};

@@ -1,4 +1,4 @@
-//! Where a thread enters.
+//! Closure shortcuts: the state at which a thread enters, past choices with one open branch.
 ghost use Rattle.std.specs.Prelude.{◌≡◌, ◌<◌, ◌∷◌, IsTrue, List, Option, ℕ};
 ghost use Rattle.rc_text.specs.Text.{Searched};
 ghost use Rattle.rc_walks.specs.Walks.{Pair};

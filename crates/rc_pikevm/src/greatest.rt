@@ -1,5 +1,5 @@
-//! Searches for the greatest span: of the spans that walks spell the one with the greatest end, then
-//! the least start, then the least pattern.
+//! Pike VM search for `MatchKind::All`: of all matches the one with the greatest end, then the
+//! least start, then the least pattern.
 ghost use Rattle.std.specs.Prelude.{◌≡◌, ℕ, ◌+◌, ◌-◌, ◌*◌, ◌<◌, ◌≤◌, ◌⊎◌, ⊤, ◌^◌, List, [], ◌++◌, length, map, min, Option, MatchOption, option_map};
 ghost use Rattle.rc_text.specs.Found.{Found};
 ghost use Rattle.rc_text.specs.Text.{Searched, Keeps, low, high};

@@ -1,4 +1,4 @@
-//! What grows while a pass is at one position.
+//! Thread lists that grow at one position.
 ghost use Rattle.std.specs.Prelude.{◌≡◌, ◌+◌, ◌*◌, ◌≤◌, length, vec_capacity};
 
 use crate::sparse_set::SparseSet;

@@ -1,4 +1,4 @@
-//! Places from which the byte that stands next lets no walk go on, whatever assertions say.
+//! Dead states: states from which no walk goes on over the next byte, whatever the assertions say.
 ghost use Rattle.std.specs.Prelude.{◌≡◌, ◌≢◌, ◌<◌, ◌≤◌, IsTrue, List, false, ℕ, length, slice_index, slice_index_or};
 ghost use Rattle.rc_text.specs.Text.{Searched};
 ghost use Rattle.rc_walks.specs.Walks.{Pair};

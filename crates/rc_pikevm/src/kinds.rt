@@ -1,4 +1,4 @@
-//! Searches by the kind of match.
+//! Pike VM searches by the kind of match.
 ghost use Rattle.std.specs.Prelude.{◌≡◌, is_some, ◌+◌, ◌-◌, ◌*◌, ◌<◌, ◌≤◌, ⊤, length, Option, None, Some, MatchOption, Bool};
 ghost use Rattle.std.specs.Option.{option_map};
 ghost use Rattle.rc_text.specs.Found.{Found};

@@ -1,4 +1,5 @@
-//! The ordered pass over a text: all threads at once, in order, each place entered once at a position.
+//! The Pike VM: simulates all threads of a program at once, in order of preference, and enters each
+//! state once at a position.
 #![tactic(auto)]
 
 mod alone;

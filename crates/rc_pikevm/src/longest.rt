@@ -1,4 +1,5 @@
-//! Searches for the longest match of the least start, by one ordered pass for each start that is passed over.
+//! Pike VM search for leftmost-longest matches: one pass for each start, until a match isn't
+//! rejected.
 ghost use Rattle.std.specs.Prelude.{◌≡◌, ℕ, ◌+◌, ◌-◌, ◌*◌, ◌<◌, ◌≤◌, ⊤, length, Option, Some, MatchOption, IfNone};
 ghost use Rattle.std.specs.Option.{option_map};
 ghost use Rattle.rc_text.specs.Found.{Found};

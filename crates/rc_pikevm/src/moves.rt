@@ -1,4 +1,4 @@
-//! How a thread goes on from a place.
+//! Transitions: how a thread goes on from a state.
 ghost use Rattle.std.specs.Prelude.{◌≡◌, ◌<◌, ◌≤◌, ℕ, [], ◌∷◌, length, slice_get, take, map};
 ghost use Rattle.rc_pattern.specs.Meaning.{byte_range, char_range};
 ghost use Rattle.rc_text.specs.Text.{Searched};

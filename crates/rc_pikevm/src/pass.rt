@@ -1,4 +1,4 @@
-//! One ordered pass over a text.
+//! Pike VM pass: one simulation over a text, for the leftmost-first match.
 ghost use Rattle.std.specs.Prelude.{◌≡◌, ℕ, ◌+◌, ◌-◌, ◌*◌, ◌<◌, ◌≤◌, ◌⊎◌, ⊤, List, [], ◌∷◌, ◌++◌, length, map, min, Option, None, Some, MatchOption, Bool, true, false, replicate, ◌^◌, IsTrue, is_none, vec_capacity};
 ghost use Rattle.rc_walks.specs.Walks.{Pair};
 ghost use Rattle.rc_text.specs.Text.{Searched, Keeps, low, high};

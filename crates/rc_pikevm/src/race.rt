@@ -1,4 +1,4 @@
-//! One ordered pass over a text for the longest walk of the least start.
+//! Leftmost-longest pass: one simulation over a text, for the longest match of the least start.
 ghost use Rattle.std.specs.Prelude.{◌≡◌, ℕ, ◌+◌, ◌-◌, ◌*◌, ◌<◌, ◌≤◌, ◌⊎◌, ⊤, ◌^◌, List, [], ◌++◌, length, map, min, Option, MatchOption, IsTrue};
 ghost use Rattle.rc_walks.specs.Walks.{Pair};
 ghost use Rattle.rc_text.specs.Text.{Searched, Keeps, low};

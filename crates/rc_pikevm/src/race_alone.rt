@@ -1,4 +1,4 @@
-//! Threads that go on alone in a pass for the longest match, and starts from which no walk leads on.
+//! Lone-thread fast path of the leftmost-longest pass.
 ghost use Rattle.std.specs.Prelude.{◌≡◌, ◌+◌, ◌<◌, ◌≤◌, ◌^◌, ℕ, IsTrue, length};
 ghost use Rattle.rc_text.specs.Text.{Searched};
 ghost use Rattle.rc_pikevm.specs.Alone.{IsAhead};

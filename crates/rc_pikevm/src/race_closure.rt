@@ -1,4 +1,4 @@
-//! The closure of a thread at one position, where a walk that ends cuts off those of later starts alone.
+//! Epsilon closure of the leftmost-longest pass: a match cuts only threads with a later start.
 ghost use Rattle.std.specs.Prelude.{◌≡◌, ℕ, ◌+◌, ◌*◌, ◌<◌, ◌≤◌, List, ◌∷◌, ◌++◌, length, reverse, vec_len, Option, MatchBool};
 ghost use Rattle.rc_walks.specs.Walks.{Pair};
 ghost use Rattle.rc_text.specs.Text.{Searched};

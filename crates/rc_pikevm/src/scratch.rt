@@ -1,4 +1,4 @@
-//! What passes work in.
+//! Scratch space of passes.
 ghost use Rattle.std.specs.Prelude.{◌≡◌, ◌<◌, ◌≤◌, ℕ, length, vec_capacity};
 ghost use Rattle.rc_pikevm.specs.Passing.{AllIn};
 

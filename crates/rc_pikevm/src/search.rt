@@ -1,4 +1,4 @@
-//! Searches by ordered passes.
+//! Pike VM searches for leftmost-first matches.
 ghost use Rattle.std.specs.Prelude.{◌≡◌, is_some, ℕ, ◌+◌, ◌-◌, ◌*◌, ◌<◌, ◌≤◌, ◌^◌, List, length, vec_len, vec_capacity, Option, None, Some, MatchOption, if◌then◌else◌, slice_set, IfNone, ⊤};
 ghost use Rattle.std.specs.Option.{option_map};
 ghost use Rattle.rc_text.specs.Found.{Found};

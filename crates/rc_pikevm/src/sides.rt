@@ -1,4 +1,4 @@
-//! Where assertions hold, by bytes of ASCII alone where these stand on both sides.
+//! Look-around fast path: assertions decided by ASCII bytes if they are on both sides.
 ghost use Rattle.std.specs.Prelude.{◌≡◌, IsTrue, false};
 ghost use Rattle.rc_program.specs.Looks.{side_before, side_after, is_word_byte, is_ascii_word, is_unicode_word, is_broken, holds_between};
 ghost use Rattle.rc_pikevm.specs.Plain.{IsPlain};

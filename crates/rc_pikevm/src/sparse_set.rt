@@ -1,4 +1,4 @@
-//! A set of numbers that keeps the order of insertion, and is emptied in constant time.
+//! Sparse sets: sets of numbers that keep the order of insertion, and are cleared in constant time.
 ghost use Rattle.std.specs.Prelude.{◌≡◌, ◌<◌, ◌≤◌, [], ◌∷◌, ◌++◌, length, vec_len, vec_capacity, IfOk, slice_get, Some, slice_index};
 ghost use Rattle.std.specs.Bool.{MatchBool};
 ghost use Rattle.rc_pikevm.specs.Sparse.{Members, members_code, Has, IsIndexed, IsSet};

@@ -1,4 +1,4 @@
-//! What a pass goes by, and what it sees at one position.
+//! Pass parameters, and what a pass knows at one position.
 ghost use Rattle.std.specs.Prelude.{◌+◌, ◌<◌, ◌≤◌, ◌^◌};
 
 use rc_program::program::Program;

@@ -1,4 +1,4 @@
-//! The closure of a thread at one position, where a walk that ends cuts off no other.
+//! Epsilon closure of passes in which a match cuts no thread.
 ghost use Rattle.std.specs.Prelude.{◌≡◌, ℕ, ◌+◌, ◌*◌, ◌<◌, ◌≤◌, List, ◌∷◌, ◌++◌, length, reverse, vec_len, Option, MatchBool};
 ghost use Rattle.rc_text.specs.Found.{Found};
 ghost use Rattle.rc_text.specs.Text.{Searched};

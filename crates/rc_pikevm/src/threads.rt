@@ -1,4 +1,4 @@
-//! Lists of threads, in flat vectors that are made once.
+//! Thread lists, in flat vectors that are allocated once.
 ghost use Rattle.std.specs.Prelude.{◌≡◌, ◌+◌, ◌≤◌, ◌++◌, length, vec_len, vec_capacity};
 
 use std::alloc::{AllocError, Global};

@@ -1,4 +1,5 @@
-//! Which patterns have a match: one pass in which threads go on after a match, and each pattern whose match place is entered is noted.
+//! Overlapping pattern search: which patterns have a match. Threads go on after a match, and each
+//! pattern whose match state is entered is recorded.
 ghost use Rattle.std.specs.Prelude.{◌≡◌, ◌↔◌, ℕ, ◌+◌, ◌-◌, ◌*◌, ◌<◌, ◌≤◌, ◌⊎◌, ◌^◌, IsTrue, List, [], ◌∷◌, ◌++◌, length, map, min, reverse, slice_set, true, vec_len};
 ghost use Rattle.rc_text.specs.Text.{Searched, Keeps, low, high};
 ghost use Rattle.rc_pattern_set.specs.Sets.{Has};

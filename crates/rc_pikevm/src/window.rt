@@ -1,4 +1,4 @@
-//! The bytes of a text around the positions that a pass is at.
+//! Window: the bytes of a text around the current position.
 ghost use Rattle.std.specs.Prelude.{◌≡◌, ◌+◌, ◌-◌, ◌≤◌, ◌<◌, length, take, slice_range, min, ◌++◌, ℕ};
 ghost use Rattle.rc_text.specs.Text.{Searched, Keeps, slice_end};
 ghost use Rattle.rc_pikevm.specs.Moves.{IsSetting};

@@ -1,4 +1,4 @@
-//! Which strategy serves patterns.
+//! Strategy choice: which literals serve the patterns.
 ghost use Rattle.std.specs.Prelude.{◌≡◌, All, Bool, IfOk, IfSome, None, Some, false, if◌then◌else◌, map, option_map};
 ghost use Rattle.rc_pattern.specs.Meaning.{meaning};
 ghost use Rattle.rc_pattern.specs.WellFormed.{HasBounds};

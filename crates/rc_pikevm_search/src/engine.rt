@@ -1,4 +1,4 @@
-//! A program that can be searched for.
+//! Engine: a program with its strategy, and searches by the Pike VM.
 
 ghost use Rattle.std.specs.Prelude.{◌≡◌};
 ghost use Rattle.rc_program.specs.Matches.{begin_of, end_of, is_again};

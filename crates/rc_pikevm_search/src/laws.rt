@@ -1,4 +1,4 @@
-//! The laws that tie the definitions. Each function does nothing: its contract is the law.
+//! Laws that tie the definitions. Each function does nothing: its contract is the law.
 ghost use Rattle.rc_pikevm_search.specs.Lists.{LeftLaw};
 ghost use Rattle.rc_pikevm_search.specs.Walks.{WalksLaw};
 

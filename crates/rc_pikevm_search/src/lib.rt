@@ -1,4 +1,5 @@
-//! Searches over a program: one match, with its groups, and the next match of a list.
+//! Pike VM search with a literal strategy: one match, its groups, and the next match of an
+//! iteration.
 #![tactic(auto)]
 
 pub mod choice;

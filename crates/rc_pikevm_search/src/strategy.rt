@@ -1,4 +1,4 @@
-//! What a search may go by, beside its places.
+//! Literal strategies: exact literals, a prefilter, or neither.
 ghost use Rattle.std.specs.Prelude.{MatchOption, ◌≡◌, ℕ, Bool, List, ⊤, false, None, option_map};
 ghost use Rattle.rc_text.specs.declared.types.MatchKind.TheVariants.{LeftmostFirst};
 ghost use Rattle.rc_program.specs.Program.{Place as PlaceOf};

@@ -1,8 +1,8 @@
-//! What a program is, and what a search over it answers: the definitions that contracts cite, and the laws that tie them.
+//! Programs (Thompson NFAs): their states, and the definitions of what a search over them returns.
 //!
-//! `laws` has the laws, each as the contract of a function with nothing to do. `look` tests where assertions hold. `place` has the
-//! places of a program as code has them, `heads` tells over which bytes walks may go on from them, and `program` is a program that can be
-//! searched with.
+//! `program` is a program ready for searches, `place` has its states, and `heads` has the bytes
+//! over which a walk may go on from each of them. `look` tests assertions. `laws` has the laws,
+//! each as the contract of a function that does nothing.
 #![tactic(auto)]
 
 pub mod heads;

@@ -1,4 +1,4 @@
-//! The places of a program.
+//! NFA states of a program. The definitions call them places.
 
 use rc_pattern::hir::{ClassBytesRange, ClassUnicodeRange, Look};
 

@@ -1,4 +1,4 @@
-//! A program that can be searched with.
+//! Program: an NFA that is ready for searches.
 
 ghost use Rattle.std.specs.Prelude.{ℕ, ◌<◌, MatchBool, MatchOption, length, ⊤};
 ghost use Rattle.rc_program.specs.Heads.{AreHeads, MayGoOn, TellsHeads, flags_in};

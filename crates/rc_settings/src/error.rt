@@ -1,4 +1,4 @@
-//! Why a build is refused.
+//! Build errors: why a build is refused.
 ghost use Rattle.std.specs.Prelude.{◌≡◌, option_map};
 ghost use Rattle.rc_settings.specs.Lines.{line_of, pattern_of, size_limit_of, syntax_fault_of};
 

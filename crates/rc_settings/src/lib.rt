@@ -1,4 +1,4 @@
-//! The settings of a regex, of a `PikeVM` and of a program, and the refusals of a build.
+//! Settings of a regex, of each engine and of a program, and build errors.
 #![tactic(auto)]
 
 pub mod error;

@@ -1,4 +1,4 @@
-//! The settings of a regex.
+//! Regex settings.
 ghost use Rattle.std.specs.Prelude.{◌≡◌, IfOk, Some, option_map};
 ghost use Rattle.rc_settings.specs.Settings.{settings_of, unset, overwritten, match_kind_of, utf8_empty_of, auto_prefilter_of, prefilter_of, which_captures_of, nfa_size_limit_of, hybrid_cache_capacity_of, hybrid_of, dfa_of, dfa_size_limit_of, dfa_state_limit_of, byte_classes_of, line_terminator_of, program_settings};
 ghost use Rattle.rc_settings.specs.Thompson.{settings_of as program_settings_of};

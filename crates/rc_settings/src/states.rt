@@ -1,4 +1,4 @@
-//! The settings of searches by states: by a DFA whose states are all made at the build, and by one whose states are made as they come.
+//! DFA settings, of the full DFA and of the lazy DFA.
 ghost use Rattle.std.specs.Prelude.{◌≡◌, Some, option_map};
 ghost use Rattle.rc_needles.specs.Prefilters.{needles_of};
 ghost use Rattle.rc_settings.specs.SearchSettings.{search_settings_of};

@@ -1,4 +1,4 @@
-//! The settings of a program.
+//! Program settings: how patterns are compiled to an NFA.
 ghost use Rattle.std.specs.Prelude.{◌≡◌, Some};
 ghost use Rattle.rc_settings.specs.Thompson.{settings_of, unset, overwritten, utf8_of, nfa_size_limit_of, which_captures_of, line_terminator_of};
 

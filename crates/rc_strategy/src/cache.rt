@@ -1,4 +1,4 @@
-//! What searches work in.
+//! Cache: the scratch memory of searches.
 
 use rc_lazy_dfa::lazy;
 use rc_pikevm::cache;

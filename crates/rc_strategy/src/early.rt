@@ -1,5 +1,5 @@
-//! Searches under the earliest flag: where it is on, any match is enough, and the first position at which one ends is as far as a search has
-//! to read. Where matches are passed over the flag is read as off.
+//! Earliest searches: any match will do, and a search reads no further than to the first position
+//! at which one ends. If matches may be rejected, the flag is read as off.
 ghost use Rattle.std.specs.Prelude.{◌≡◌, ◌≤◌, true, IfOk, IfSome};
 ghost use Rattle.rc_text.specs.Text.{Keeps, low, high};
 ghost use Rattle.rc_program.specs.Greatest.{IsSpelledIn};

@@ -1,4 +1,4 @@
-//! Patterns that can be searched for, by tables where there are some.
+//! Engines: patterns with everything that may search for them, and the choice among these.
 ghost use Rattle.std.specs.Prelude.{◌≡◌, IfSome, option_map};
 ghost use Rattle.rc_text.specs.Found.{half_of};
 ghost use Rattle.rc_program.specs.Matches.{begin_of, end_of, is_again};

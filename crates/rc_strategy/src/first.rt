@@ -1,4 +1,5 @@
-//! Searches that ask first whether a match begins where the first one may. Positions are in bytes of the whole content.
+//! Anchored probe: a search first asks whether a match begins at the first candidate. Positions are
+//! in bytes of the whole content.
 ghost use Rattle.std.specs.Prelude.{◌≡◌, ◌↔◌, ◌<◌, ◌≤◌, ℕ, Bool, List, MatchOption, IfOk, IfSome, IsTrue, length, slice_index};
 ghost use Rattle.rc_text.specs.Text.{Keeps, low, high};
 ghost use Rattle.rc_pattern.specs.Re.{Re};

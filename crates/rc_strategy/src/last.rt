@@ -1,4 +1,4 @@
-//! The greatest match, sought from where the search ends.
+//! Reverse search from the end, for `MatchKind::All`.
 ghost use Rattle.std.specs.Prelude.{◌≡◌, ◌≤◌, IfOk, IfSome};
 ghost use Rattle.rc_text.specs.Text.{Keeps, low, high};
 ghost use Rattle.rc_program.specs.Kinds.{answer_by};

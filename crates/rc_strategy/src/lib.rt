@@ -1,4 +1,4 @@
-//! The engines by which patterns are searched for: tables where there are some, else the ordered pass.
+//! Meta strategy: chooses among the literal search, the full DFA, the lazy DFA and the Pike VM.
 #![tactic(auto)]
 
 pub mod cache;

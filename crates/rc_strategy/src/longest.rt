@@ -1,4 +1,4 @@
-//! The groups of the longest match, where its span is known.
+//! Groups of a leftmost-longest match whose span is known.
 ghost use Rattle.std.specs.Prelude.{◌≡◌, Some, length};
 ghost use Rattle.rc_text.specs.Text.{Keeps};
 ghost use Rattle.rc_text.specs.declared.types.MatchKind.TheVariants.{LeftmostLongest};

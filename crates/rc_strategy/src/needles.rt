@@ -1,4 +1,5 @@
-//! Searches for which any match is enough, from needle to needle. Positions are in bytes of the whole content.
+//! Prefiltered match tests: any match will do, and the search goes from one literal to the next.
+//! Positions are in bytes of the whole content.
 ghost use Rattle.std.specs.Prelude.{◌≡◌, ◌↔◌, ◌≤◌, ℕ, List, IsTrue, IfOk, IfNone, IfSome};
 ghost use Rattle.rc_text.specs.Text.{Keeps, low, high};
 ghost use Rattle.rc_text.specs.declared.types.Anchored.TheVariants.{No};

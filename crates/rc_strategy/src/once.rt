@@ -1,4 +1,4 @@
-//! Searches in a cache that is made for the search.
+//! Searches without a cache: each makes what it needs.
 
 use crate::engines::{Engines, half_of};
 use crate::route::Way;

@@ -1,4 +1,4 @@
-//! By what a search goes, and how a search by tables does.
+//! Plan of a search: which DFA it uses, if any, and how.
 
 use crate::engines::Engines;
 use rc_dense_dfa::dense::Dense;

@@ -1,4 +1,4 @@
-//! The slots of a match that is known.
+//! Slots of a match whose span is known.
 ghost use Rattle.std.specs.Prelude.{◌≡◌, Some, length};
 ghost use Rattle.rc_text.specs.Text.{Keeps};
 ghost use Rattle.rc_program.specs.Answer.{answer, groups};

@@ -1,4 +1,4 @@
-//! What is known of matches before any search.
+//! Match bounds: what is known of the length and the place of matches before any search.
 ghost use Rattle.std.specs.Prelude.{◌≡◌, max};
 ghost use Rattle.rc_pattern.specs.Properties.{both};
 

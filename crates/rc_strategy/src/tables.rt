@@ -1,4 +1,4 @@
-//! The tables by which patterns are searched for.
+//! DFA construction: which DFAs are built for the patterns.
 ghost use Rattle.std.specs.Prelude.{◌≡◌, ◌⊎◌, ◌↔◌, ◌<◌, ◌≤◌, ⊤, ℕ, Bool, IfOk, IfSome, IsSomeAnd, IsTrue, List, MatchOption, None, true, false, length};
 ghost use Rattle.rc_pattern.specs.Re.{Re};
 ghost use Rattle.rc_program.specs.Laws.{heaviness};

@@ -1,5 +1,5 @@
-//! Which patterns have a match: tables, or needles that alone tell each answer, tell first where a pass is to begin. Positions are in bytes of the
-//! whole content.
+//! Which patterns have a match: a DFA or the literals tell where the Pike VM begins. Positions are
+//! in bytes of the whole content.
 ghost use Rattle.std.specs.Prelude.{◌<◌, ℕ, IsTrue, Some, length};
 ghost use Rattle.rc_text.specs.Text.{Keeps};
 ghost use Rattle.rc_pattern_set.specs.Sets.{Has};

@@ -1,4 +1,4 @@
-//! The plain types of searches: spans, patterns' numbers, matches, anchoring and errors.
+//! Search types: spans, pattern numbers, matches, anchoring and errors.
 ghost use Rattle.std.specs.Prelude.{◌≡◌, ◌+◌, ◌-◌, ◌≤◌, ◌↔◌, IsTrue, SomeIff};
 
 use std::marker::Model;

@@ -1,4 +1,4 @@
-//! Sets of characters and of bytes, as ranges.
+//! Character classes and byte classes, as ranges.
 
 ghost use Rattle.std.specs.Prelude.{◌≡◌, ◌+◌, ◌-◌, ◌<◌, ◌≤◌, ◌++◌, ◌∷◌, [], List, ℕ, Some, None, map, max, min, true, false, nat_lt, IfOk, OnOk, option_map};
 ghost use Rattle.rc_pattern.specs.Re.{Range};

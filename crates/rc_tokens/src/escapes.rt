@@ -1,4 +1,4 @@
-//! What follows a backslash.
+//! Escapes: what follows a backslash.
 
 ghost use Rattle.std.specs.Prelude.{◌≡◌, ◌+◌, ◌<◌, ◌≤◌, ◌-◌, ◌∷◌, [], None, Some, true, false, drop, take, length};
 ghost use Rattle.rc_tokens.specs.Text.{is_at, is_scalar};

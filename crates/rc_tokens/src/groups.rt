@@ -1,4 +1,4 @@
-//! What follows an opening parenthesis.
+//! Group openings: what follows an opening parenthesis.
 
 ghost use Rattle.std.specs.Prelude.{◌≡◌, ◌+◌, ◌<◌, ◌≤◌, ◌-◌, ◌∷◌, ◌++◌, [], None, Some, true, false, not, ◌&&◌, ◌||◌, ◌==◌, drop, take, length, IfOk, string_bytes, encode_utf8_all};
 ghost use Rattle.rc_tokens.specs.Text.{is_at, is_empty, each};

@@ -1,4 +1,4 @@
-//! The ranges of a list.
+//! List ranges: the ranges of a bracketed list.
 
 ghost use Rattle.std.specs.Prelude.{◌≡◌, ◌+◌, ◌-◌, ◌<◌, ◌≤◌, ◌++◌, ◌∷◌, [], List, ℕ, Some, None, true, false, IfOk, OnOk, MatchOption, drop, length};
 ghost use Rattle.rc_pattern.specs.Re.{Range};

@@ -1,4 +1,4 @@
-//! The first mark of a text.
+//! Lexer: the first token of a text.
 
 ghost use Rattle.std.specs.Prelude.{◌≡◌, ◌+◌, ◌<◌, ◌≤◌, ◌-◌, ◌∷◌, ◌++◌, [], None, Some, true, false, not, ◌&&◌, ◌||◌, ◌==◌, ◌↔◌, ℕ, List, drop, take, length, MatchResult};
 ghost use Rattle.rc_tokens.specs.Text.{Characters, is_at, is_digit};

@@ -1,4 +1,4 @@
-//! The marks of which the text of a pattern is made.
+//! Lexer: the tokens of the text of a pattern.
 #![tactic(auto)]
 
 pub mod classes;

@@ -1,4 +1,4 @@
-//! What stands in a list.
+//! Bracketed lists: what is inside the brackets.
 
 ghost use Rattle.std.specs.Prelude.{◌≡◌, ◌+◌, ◌<◌, ◌≤◌, ◌-◌, ◌∷◌, ◌++◌, [], None, Some, true, false, not, ◌&&◌, ◌||◌, ◌==◌, drop, take, length};
 ghost use Rattle.rc_tokens.specs.Text.{is_at, has_twice};

@@ -1,4 +1,4 @@
-//! Why a text isn't read.
+//! Token errors: why a text doesn't parse.
 
 ghost use Rattle.std.specs.Prelude.{◌≡◌};
 

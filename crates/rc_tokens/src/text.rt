@@ -1,4 +1,4 @@
-//! Tests and steps over the characters of a text.
+//! Character tests and steps over a text.
 
 ghost use Rattle.std.specs.Prelude.{◌≡◌, ℕ, ◌^◌, ◌+◌, ◌*◌, ◌<◌, ◌≤◌, ◌-◌, ◌++◌, ◌∷◌, [], None, Some, true, false, drop, take, length, MatchOption, if◌then◌else◌};
 ghost use Rattle.rc_tokens.specs.Text.{is_at, is_digit, is_letter, is_scalar, each, number, value_from, same_text, has_twice};

@@ -1,4 +1,4 @@
-//! What the marks of a pattern's text say.
+//! Tokens of the text of a pattern.
 
 /// A set of characters that a letter names.
 #[derive(Clone, Copy, Debug, PartialEq, Eq)]

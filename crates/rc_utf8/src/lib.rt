@@ -1,4 +1,5 @@
-//! The byte program of a program: each edge of it reads one byte at most, and its walks are those of the program.
+//! UTF-8 lowering: from a program over characters to a byte program, in which each transition reads
+//! at most one byte and whose walks are those of the program.
 #![tactic(auto)]
 
 pub mod laws;

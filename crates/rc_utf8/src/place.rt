@@ -1,4 +1,4 @@
-//! The places of a byte program.
+//! NFA states of a byte program.
 
 use rc_pattern::hir::{ClassBytesRange, Look};
 

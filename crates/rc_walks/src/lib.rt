@@ -1,6 +1,7 @@
-//! Walks over a graph in which the ways out of each pair of a place and a position stand in order.
+//! Walks over a graph whose edges out of each pair of a state and a position are ordered.
 //!
-//! The crate has definitions and lemmas alone: it knows no pattern, no text and no engine, so what is proved here serves them all.
+//! The crate contains definitions and lemmas alone. It knows no pattern, no text and no engine, so
+//! what is proved here serves all of them.
 #![tactic(auto)]
 
 ghost use Rattle.rc_walks.specs.Walks.{FirstWalkLaw};

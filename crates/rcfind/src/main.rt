@@ -1,4 +1,5 @@
-//! Finds a pattern in the standard input, read in chunks of a length, and prints a line for each match.
+//! Command line `rcfind`: finds a pattern in the standard input, read in chunks of a given length,
+//! and prints a line for each match.
 #![tactic(auto)]
 
 use regex_cursor::run::{Written, program};

@@ -1,4 +1,4 @@
-//! What is told at a fault.
+//! Error messages.
 
 use regex_cursor::engines::meta::BuildError;
 use regex_cursor::hir::Hir;

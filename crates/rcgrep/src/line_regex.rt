@@ -1,4 +1,4 @@
-//! Patterns that select lines.
+//! Line matching: patterns that select lines.
 ghost use Rattle.std.specs.Prelude.{◌≡◌, ◌≤◌, false, length};
 ghost use Rattle.rc_program.specs.Kinds.{answer_by};
 ghost use Rattle.rc_program.specs.Sought.{search_for};

@@ -1,4 +1,5 @@
-//! Prints the lines of files, or of the standard input, in which a pattern matches.
+//! Command line `rcgrep`: prints the lines of files, or of the standard input, that match a
+//! pattern.
 #![tactic(auto)]
 
 mod faults;

@@ -1,4 +1,4 @@
-//! What the words of the program ask for.
+//! Command-line options.
 
 use std::alloc::{AllocFailed, Global};
 

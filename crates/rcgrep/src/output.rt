@@ -1,4 +1,4 @@
-//! How a selected line is printed.
+//! Line output.
 
 use crate::line_regex::LineRegex;
 use crate::options::Options;

@@ -1,4 +1,4 @@
-//! The patterns by which lines are selected.
+//! Pattern setup: the patterns by which lines are selected.
 ghost use Rattle.std.specs.Prelude.{◌≡◌, ◌≤◌, All, IsTrue, length, map, true};
 ghost use Rattle.rc_pattern.specs.Meaning.{meaning};
 ghost use Rattle.rcgrep.specs.Local.{HasLineLooks, IsLocalPattern, IsLocalRegex};

@@ -1,4 +1,4 @@
-//! The search of the files, or of the standard input.
+//! File search: the files, or the standard input, line by line.
 
 use crate::line_regex::LineRegex;
 use crate::options::Options;

@@ -1,4 +1,5 @@
-//! Replaces each match of a pattern in the standard input, read in chunks of a length, by a template.
+//! Command line `rcsub`: replaces each match of a pattern in the standard input, read in chunks of
+//! a given length, by a template.
 #![tactic(auto)]
 
 use chunk_replace::program;

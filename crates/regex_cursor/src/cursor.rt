@@ -1,4 +1,4 @@
-//! Contents that are shown a chunk at a time.
+//! Cursors: contents that are shown a chunk at a time.
 
 pub use rc_pieces::pieces::Piece;
 pub use rc_pieces::slices::SliceCursor;

@@ -1,4 +1,4 @@
-//! What searches.
+//! Regex engines: the regex that chooses among all, and each engine by itself.
 
 pub mod dfa;
 pub mod hybrid;

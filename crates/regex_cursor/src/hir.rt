@@ -1,4 +1,4 @@
-//! Patterns as trees.
+//! High-level intermediate representation (HIR): patterns as trees.
 
 pub use rc_pattern::hir::{
     Capture, Class, ClassBytesRange, ClassUnicodeRange, Dot, Hir, HirKind, Look, LookSet,

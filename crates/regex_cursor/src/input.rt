@@ -1,3 +1,3 @@
-//! What is searched, and how.
+//! Search input: a content, and how it is searched.
 
 pub use rc_text::input::Input;

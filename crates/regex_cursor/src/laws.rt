@@ -1,4 +1,4 @@
-//! What holds of all engines. The function does nothing: its contract is the law.
+//! Law of all engines. The function does nothing: its contract is the law.
 ghost use Rattle.regex_cursor.specs.Cuttings.{EnginesLaw};
 
 /// What an engine answers depends on the uncut bytes, the span, the slice, the anchoring and the earliest flag alone: two inputs that are equal

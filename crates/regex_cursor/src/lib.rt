@@ -1,4 +1,6 @@
-//! Regex search over text in chunks.
+//! Regex search over text in chunks, as an editor's buffer, a gap buffer or a paged file holds it.
+//!
+//! Nothing is copied or joined. The answer is that of the whole text, wherever it is cut.
 #![tactic(auto)]
 
 pub mod cursor;

@@ -1,3 +1,3 @@
-//! Needles that a search may look for first.
+//! Prefilters: literals that a search may look for first.
 
 pub use rc_needles::prefilter::Prefilter;

@@ -1,5 +1,5 @@
-//! The engine of the program `rcfind`: a line for each match, put into a writer. Bytes and spans of
-//! a content are put by it too.
+//! Match output: the program `rcfind`, which writes a line for each match, and helpers that write
+//! the bytes of spans.
 
 mod engine;
 mod error;

@@ -1,4 +1,5 @@
-//! The texts of patterns, why one is not read, and how heavy patterns are that a limit on their size refuses.
+//! Pattern syntax: parsing, what is wrong with a text that doesn't parse, and how heavy patterns
+//! are that the size limit refuses.
 
 pub use rc_build::oversize::Oversize;
 pub use rc_build::weighing::explain_size;

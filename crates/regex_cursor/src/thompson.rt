@@ -1,4 +1,4 @@
-//! Programs of patterns: how they are built, and what is kept of their groups.
+//! Program settings: how patterns are compiled to an NFA, and which groups are kept.
 
 pub use rc_settings::thompson::Config;
 pub use rc_settings::which::WhichCaptures;

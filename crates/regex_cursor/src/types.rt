@@ -1,4 +1,4 @@
-//! The plain types of searches.
+//! Search types: spans, matches, pattern numbers and sets, anchoring and errors.
 
 pub use rc_pattern_set::sets::{PatternSet, PatternSetIter};
 pub use rc_text::types::{Anchored, HalfMatch, Match, MatchError, MatchKind, PatternID, Span};

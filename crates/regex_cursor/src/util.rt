@@ -1,3 +1,3 @@
-//! Iteration over finders of a caller's own.
+//! Iteration over finders of your own.
 
 pub mod iter;

@@ -1,5 +1,5 @@
-//! Reads rows from the standard input, each some patterns, a text and what is wanted, and tells which of them some engine answers
-//! otherwise over some cutting of the text.
+//! Row checker: reads rows from the standard input, each some patterns, a text and the expected
+//! answer, and reports those that some engine answers otherwise over some cutting of the text.
 #![tactic(auto)]
 
 use engines_alike::faults::Fault;

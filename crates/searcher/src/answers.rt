@@ -1,4 +1,4 @@
-//! What searches answer, and why there is no answer.
+//! Search results as plain numbers, and why there is none.
 
 ghost use Rattle.std.specs.Prelude.{◌≤◌, Some, length};
 ghost use Rattle.rc_pattern_set.specs.Sets.{Has};

@@ -1,4 +1,4 @@
-//! The matches of an iteration, one after another, into places that a caller lends.
+//! Batches: the next matches of an iteration, written to places that a caller lends.
 ghost use Rattle.std.specs.Prelude.{◌≡◌, ◌≤◌, IfSome, false};
 ghost use Rattle.rc_pikevm_search.specs.Moved.{IsMoved};
 ghost use Rattle.api_meta.specs.Caches.{IsCacheFor};

@@ -1,4 +1,5 @@
-//! A regex with all that its searches need, as one value: for callers that keep it between calls and hand their text again each time.
+//! Owned searcher: a regex with everything that its searches need, as one value. It is for callers
+//! that keep it between calls and pass their text again each time.
 #![tactic(auto)]
 
 pub mod answers;

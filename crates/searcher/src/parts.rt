@@ -1,4 +1,5 @@
-//! A box as its pointer and its allocator: taken from the kit's `futures`, with its proofs.
+//! Box parts: a box as its pointer and its allocator. The code and its proofs are taken from the
+//! kit's `futures`.
 ghost use Rattle.std.specs.Prelude.{◌≡◌};
 ghost use Rattle.std.specs.Box.Ownership.{box_owns};
 

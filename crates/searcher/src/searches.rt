@@ -1,4 +1,4 @@
-//! A regex with its cache, the groups of a match, and the state of an iteration.
+//! Searcher: a regex with its cache, the groups of a match, and the state of an iteration.
 ghost use Rattle.std.specs.Prelude.{◌≡◌, ◌≤◌, IfErr, IfOk, None, length};
 ghost use Rattle.rc_build.specs.TextRefusals.{AllRead, IsTextRefusal, texts_of};
 ghost use Rattle.api_meta.specs.Views.{regex_patterns, regex_settings};

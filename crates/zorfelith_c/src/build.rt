@@ -1,4 +1,4 @@
-//! How a handle is filled and emptied.
+//! Compile and free: how a handle is filled and emptied.
 ghost use Rattle.std.specs.Prelude.{◌≡◌, ◌≢◌, MatchOption, None};
 ghost use Rattle.searcher.specs.Answers.{IsBuilt};
 ghost use Rattle.zorfelith_c.specs.Refusals.{IsToldRefusal, told_refusal};

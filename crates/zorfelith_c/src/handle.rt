@@ -1,4 +1,4 @@
-//! What C keeps of a searcher.
+//! Handle: the part of a searcher that C keeps.
 ghost use Rattle.std.specs.Prelude.{◌≡◌, Option, Some, None, true, false, is_some};
 
 use crate::held::Held;

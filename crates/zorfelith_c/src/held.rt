@@ -1,4 +1,4 @@
-//! A searcher behind a pointer that C keeps.
+//! Held searcher: a searcher behind a pointer that C keeps.
 ghost use Rattle.std.specs.Prelude.{◌≡◌, Option, Some, None, is_some, true};
 ghost use Rattle.searcher.specs.Searching.{Searching};
 ghost use Rattle.zorfelith_c.specs.Held.{held, searcher_coded};

@@ -1,6 +1,8 @@
-//! `libzorfelith`: a searcher for callers in C, and in what calls C. `include/zorfelith.h` declares what is exported here.
+//! C interface: `libzorfelith`, a searcher for callers in C and in whatever calls C.
+//! `include/zorfelith.h` declares what is exported here.
 //!
-//! Each call takes the searcher out of its handle, works, and puts it back. It answers a status, whose numbers `specs/Statuses.antt` tells.
+//! Each call takes the searcher out of its handle, works, and puts it back. It returns a status;
+//! `specs/Statuses.antt` has their numbers.
 #![tactic(auto)]
 
 pub mod build;

@@ -1,4 +1,4 @@
-//! Searches.
+//! Search calls.
 ghost use Rattle.std.specs.Prelude.{◌≡◌, ◌≤◌, IfSome, MatchOption, None, Some, if◌then◌else◌, option_map};
 ghost use Rattle.searcher.specs.Flags.{is_on};
 ghost use Rattle.searcher.specs.Searching.{Searching};

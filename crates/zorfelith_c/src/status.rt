@@ -1,4 +1,4 @@
-//! The statuses that calls answer.
+//! Status codes that calls return.
 
 /// It is done; of a search: there is no match.
 pub const DONE: u32 = 0;

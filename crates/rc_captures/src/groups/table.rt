@@ -1,4 +1,4 @@
-//! The names of all groups, and where the slots of each pattern's begin.
+//! Group table: the names of all groups, and where the slots of each pattern begin.
 ghost use Rattle.std.specs.Prelude.{◌≡◌, ℕ, ◌+◌, ◌<◌, ◌≤◌, ◌^◌, Some, length, IfOk, MatchResult, slice_get};
 ghost use Rattle.rc_captures.specs.Names.{names_in, slot_len, first_slot, group_len};
 

@@ -1,4 +1,4 @@
-//! How many places a pattern's part of a program has.
+//! Sizes: how many states the part of a pattern has.
 
 ghost use Rattle.std.specs.Prelude.{◌≡◌, ◌<◌, ◌^◌, map};
 ghost use Rattle.rc_pattern.specs.Meaning.{meaning, cat_all, alt_all, repetition_meaning};

@@ -1,4 +1,4 @@
-//! Whether a pattern's repetitions and classes are in order.
+//! Bounds checks: whether repetitions and classes of a pattern are in order.
 
 ghost use Rattle.std.specs.Prelude.{◌↔◌, IsTrue, map};
 ghost use Rattle.rc_pattern.specs.Meaning.{meaning, cat_all, class_meaning, byte_range, char_range};

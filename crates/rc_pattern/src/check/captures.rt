@@ -1,4 +1,4 @@
-//! The groups of a pattern.
+//! Groups of a pattern.
 
 ghost use Rattle.std.specs.Prelude.{◌≡◌, ◌-◌, ◌^◌, ◌++◌, min, string_bytes, IfOk, OnOk, map};
 ghost use Rattle.std.specs.Option.{option_map};

@@ -1,4 +1,4 @@
-//! How deep a pattern is.
+//! Nesting depth of a pattern.
 
 ghost use Rattle.std.specs.Prelude.{◌≤◌, ◌↔◌, ◌+◌, IsTrue, map};
 ghost use Rattle.rc_pattern.specs.Meaning.{meaning, cat_all};

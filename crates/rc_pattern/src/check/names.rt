@@ -1,4 +1,4 @@
-//! The names of groups.
+//! Group name checks.
 
 ghost use Rattle.std.specs.Prelude.{◌↔◌, IfOk, IsTrue, map};
 ghost use Rattle.rc_pattern.specs.WellFormed.{AreDistinct};

@@ -1,4 +1,4 @@
-//! How heavy a pattern is, up to a cap, so that nothing wraps.
+//! Weight of a pattern, up to a cap, so that nothing overflows.
 
 ghost use Rattle.std.specs.Prelude.{◌≡◌, ◌≤◌, ◌^◌, min, map};
 ghost use Rattle.rc_pattern.specs.Meaning.{meaning, cat_all, alt_all, repetition_meaning, class_meaning};

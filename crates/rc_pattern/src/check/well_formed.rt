@@ -1,4 +1,4 @@
-//! Whether a pattern is well-formed.
+//! Well-formedness of a pattern.
 
 ghost use Rattle.std.specs.Prelude.{◌≡◌, ◌↔◌, length, IfOk, IsTrue, map};
 ghost use Rattle.std.specs.List.{range_with_len};

@@ -1,4 +1,4 @@
-//! The class that a dot stands for.
+//! Dots: the class that a dot matches.
 
 ghost use Rattle.std.specs.Prelude.{◌≡◌, ◌<◌, IfOk, OnOk, map, ◌++◌, ◌∷◌, []};
 ghost use Rattle.rc_pattern.specs.Meaning.{byte_range, char_range, class_meaning};

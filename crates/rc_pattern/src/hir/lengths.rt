@@ -1,4 +1,4 @@
-//! Lengths and counts that stay within a usize.
+//! Length arithmetic that stays within a `usize`.
 
 ghost use Rattle.std.specs.Prelude.{◌≡◌, ◌+◌, ◌*◌, ◌<◌, max, map, Some};
 ghost use Rattle.std.specs.Option.{option_map};

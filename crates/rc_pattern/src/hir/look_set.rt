@@ -1,4 +1,4 @@
-//! Sets of assertions.
+//! Look sets: sets of assertions.
 
 ghost use Rattle.std.specs.Prelude.{◌≡◌, ◌<◌, ◌^◌};
 ghost use Rattle.rc_pattern.specs.Properties.{look_number};

@@ -1,4 +1,4 @@
-//! The members of concatenations and alternations.
+//! Members of concatenations and alternations.
 
 ghost use Rattle.std.specs.Prelude.{◌≡◌, List, ◌++◌, ◌∷◌, [], IfOk, OnOk, IsTrue, map};
 ghost use Rattle.std.specs.List.{flat_map};

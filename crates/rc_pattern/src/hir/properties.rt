@@ -1,4 +1,4 @@
-//! What is known of a pattern before any search.
+//! Properties of a pattern, known before any search.
 
 mod known;
 mod parts;

@@ -1,4 +1,4 @@
-//! The places of a class: those that read any so many continuation bytes, and those of the tree of its sequences.
+//! UTF-8 trie: the states of a class, with shared prefixes and shared continuation bytes.
 
 ghost use Rattle.std.specs.Prelude.{◌≡◌, ◌+◌, ◌-◌, ◌<◌, ◌≤◌, ◌^◌, [], ◌∷◌, ◌++◌, IfOk, drop, length, take, vec_len};
 ghost use Rattle.std.specs.List.{AllByRecursion};

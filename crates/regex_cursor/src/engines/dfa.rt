@@ -1,4 +1,5 @@
-//! Searches by tables of states, all made at the build: forwards to where a match ends, and backwards to where it begins.
+//! DFA: all states are built before the first search. A search goes forwards to the end of a match,
+//! and backwards to its start.
 
 pub use api_dfa::builder::{Builder, Config};
 pub use api_dfa::dfa::DFA;

@@ -1,5 +1,5 @@
-//! Searches by tables of states that are made as they are met, in a cache whose memory never passes what was set: forwards to where a match ends,
-//! and backwards to where it begins.
+//! Lazy DFA: states are built while a search runs, in a cache whose memory never passes its
+//! capacity. A search goes forwards to the end of a match, and backwards to its start.
 
 pub use api_hybrid::builder::{Builder, Config};
 pub use api_hybrid::cache::Cache;

@@ -1,4 +1,4 @@
-//! Regexes: patterns built under settings, and their searches.
+//! Regex: patterns built under settings, their searches and their iterators.
 
 pub use api_meta::builder::Builder;
 pub use api_meta::cache::Cache;

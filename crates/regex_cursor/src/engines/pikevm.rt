@@ -1,4 +1,4 @@
-//! The ordered pass as an engine of its own: built from patterns, with caches that are handed in.
+//! Pike VM: simulates all threads of a program at once, in a cache of yours.
 
 pub use api_pikevm::builder::Builder;
 pub use api_pikevm::cache::Cache;

@@ -1,4 +1,4 @@
-//! A search of chunks, with a line for each match.
+//! Match output: a search of chunks, with a line for each match.
 ghost use Rattle.std.specs.Prelude.{◌≡◌, ◌≢◌, ◌⊎◌, ◌∷◌, [], false, true, Err, IfErr, IfOk, List, MatchResult, OnErr, OnOk, ℕ};
 ghost use Rattle.std.specs.Io.KnownBytes.{Keeps};
 ghost use Rattle.rc_text.specs.Joined.{joined, IsTooLong};

@@ -1,4 +1,4 @@
-//! Why a run stops.
+//! Run errors.
 
 use rc_settings::error::BuildError;
 use rc_text::chunks::TooLong;

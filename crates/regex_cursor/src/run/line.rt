@@ -1,4 +1,4 @@
-//! One line, as it is made.
+//! Line formatting.
 ghost use Rattle.std.specs.Prelude.{◌≡◌, ◌+◌, ◌<◌, ◌≤◌, ◌++◌, ◌∷◌, [], length};
 ghost use Rattle.std.specs.Fmt.{decimal};
 ghost use Rattle.regex_cursor.specs.declared.run.line.TheConstants.{LONGEST};

@@ -1,4 +1,4 @@
-//! The lines of matches.
+//! Match lines, written to a sink.
 ghost use Rattle.std.specs.Prelude.{◌≡◌, true, OnOk, OnErr};
 ghost use Rattle.std.specs.Io.KnownBytes.{Appends};
 ghost use Rattle.regex_cursor.specs.Output.{line_of};

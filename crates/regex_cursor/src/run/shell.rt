@@ -1,4 +1,4 @@
-//! All that the program `rcfind` does.
+//! Command line of the program `rcfind`.
 ghost use Rattle.std.specs.Prelude.{◌≡◌, ◌≢◌, ◌≤◌, false, true, nat_eq, IfOk, IfSome, List, ℕ, MatchOption, SomeIff};
 ghost use Rattle.std.specs.Str.Parse.{digits_value};
 ghost use Rattle.std.specs.Io.KnownBytes.{Keeps};

@@ -1,4 +1,4 @@
-//! The bytes of a span, put into a writer.
+//! Span output: the bytes of a span, written to a sink.
 ghost use Rattle.std.specs.Prelude.{◌≡◌, true, slice_range, OnOk, OnErr};
 ghost use Rattle.regex_cursor.specs.Put.{Puts};
 

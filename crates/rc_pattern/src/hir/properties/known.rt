@@ -1,4 +1,4 @@
-//! The properties of a pattern, from its leaves up.
+//! Properties of a pattern, from its leaves up.
 
 ghost use Rattle.std.specs.Prelude.{map};
 ghost use Rattle.rc_pattern.specs.Meaning.{meaning, repetition_meaning, cat_all, alt_all};

@@ -1,4 +1,4 @@
-//! The properties of a node from those of its parts.
+//! Properties of a node, from those of its parts.
 
 ghost use Rattle.std.specs.Prelude.{◌≡◌, Bool, List, Option, ℕ};
 ghost use Rattle.rc_pattern.specs.Re as re;
