@@ -20,10 +20,12 @@ use rc_settings::error::BuildError;
 use rc_settings::{states, thompson};
 use std::alloc::Global;
 
-/// The settings of searches by tables, with a limit on how many bytes the states of each direction may weigh.
+/// The settings of searches by tables, with a limit on how many bytes the states of each direction
+/// may weigh.
 pub type Config = states::Config<Option<usize>>;
 
-/// Builds a `Regex` under settings of its own: those of its tables, those of its program, and those by which text is read.
+/// Builds a `Regex` under settings of its own: those of its tables, those of its program, and those
+/// by which text is read.
 #[derive(Drop)]
 pub struct Builder {
     config: Config,
@@ -45,7 +47,8 @@ impl Builder {
         }
     }
 
-    /// Takes over what `config` sets for the tables and their searches, keeps what it doesn't, and lends the builder on.
+    /// Takes each setting that `config` sets for the tables and their searches, keeps the others,
+    /// and returns the builder.
     pub fn dense(&mut self, config: Config) -> &mut Builder
         ensures same_reference { result.ghost_name ≡ self.entry.ghost_name }
         ensures value { builder_settings result.now ≡ state_settings_over (builder_settings self.entry.now) (state_settings_of config) }
@@ -56,7 +59,8 @@ impl Builder {
         self
     }
 
-    /// Takes over what `config` sets for the program, keeps what it doesn't, and lends the builder on.
+    /// Takes each setting that `config` sets for the program, keeps the others, and returns the
+    /// builder.
     pub fn thompson(&mut self, config: thompson::Config) -> &mut Builder
         ensures same_reference { result.ghost_name ≡ self.entry.ghost_name }
         ensures value { builder_program result.now ≡ overwritten (builder_program self.entry.now) (settings_of config) }
@@ -67,7 +71,7 @@ impl Builder {
         self
     }
 
-    /// Reads text by these settings from now on, and lends the builder on.
+    /// Reads text by these settings from now on, and returns the builder.
     pub fn syntax(&mut self, config: rc_parser::Config) -> &mut Builder
         ensures same_reference { result.ghost_name ≡ self.entry.ghost_name }
         ensures value { builder_syntax result.now ≡ syntax_of config }
@@ -78,7 +82,8 @@ impl Builder {
         self
     }
 
-    /// What is built of the pattern as which this text is read. The `Err`s are those of `build_many`.
+    /// What is built of the pattern as which this text is read. The `Err`s are those of
+    /// `build_many`.
     pub fn build(&self, alloc: Global, pattern: &str) -> Result<Regex, BuildError>
         ensures read { IfOk result (λ re. AllRead (builder_syntax self.now) (pattern.now ∷ []) (dfa_patterns (dfa_of re))) }
         ensures settings { IfOk result (λ re. dfa_settings (dfa_of re) ≡ (builder_settings self.now).search) }
@@ -92,8 +97,9 @@ impl Builder {
 
     /// What is built of the patterns as which these texts are read, at most 2,147,483,647.
     ///
-    /// An `Err` is the first of these that applies: `Syntax`, with the least text from which no pattern is read, and a byte of it;
-    /// then those of `build_many_from_hir`. All texts are read before any pattern is built. The builder stays as it was.
+    /// An `Err` is the first of these that applies: `Syntax`, with the least text from which no
+    /// pattern is read, and a byte of it; then those of `build_many_from_hir`. All texts are read
+    /// before any pattern is built. The builder stays as it was.
     pub fn build_many(&self, alloc: Global, patterns: &[&str]) -> Result<Regex, BuildError>
         requires { length patterns.now ≤ 2147483647 }
         ensures read { IfOk result (λ re. AllRead (builder_syntax self.now) (texts_of patterns.now) (dfa_patterns (dfa_of re))) }
@@ -109,10 +115,12 @@ impl Builder {
 
     /// What is built of these patterns, at most 2,147,483,647.
     ///
-    /// An `Err` is the first of these that applies: `IllFormed`, with the least pattern that isn't well-formed; `SizeLimit`, where
-    /// 32 times the weight of the patterns is above the limit on their size; `PlaceLimit`, where the weight is above 2,147,483,646;
-    /// `DfaSizeLimit`, where in one of the directions the states that searches can reach weigh more than the limit that is set for them.
-    /// `Memory` comes where memory was refused, or where no memory could hold the tables. The builder stays as it was.
+    /// An `Err` is the first of these that applies: `IllFormed`, with the least pattern that isn't
+    /// well-formed; `SizeLimit`, if 32 times the weight of the patterns is above the limit on their
+    /// size; `PlaceLimit`, if the weight is above 2,147,483,646; `DfaSizeLimit`, if in one of the
+    /// directions the states that searches can reach weigh more than the limit that is set for
+    /// them. `Memory` comes if memory was refused, or if no memory could hold the tables. The
+    /// builder stays as it was.
     pub fn build_many_from_hir(&self, alloc: Global, hirs: &[Hir]) -> Result<Regex, BuildError>
         requires { length hirs.now ≤ 2147483647 }
         ensures patterns { IfOk result (λ re. dfa_patterns (dfa_of re) ≡ map meaning hirs.now) }

@@ -25,10 +25,11 @@ use rc_settings::pikevm::Config;
 use rc_settings::thompson;
 use std::alloc::Global;
 
-/// A list of patterns, built to tables of all the states that a search can reach, forwards and backwards.
+/// A list of patterns, built to tables of all the states that a search can reach, forwards and
+/// backwards.
 ///
-/// It holds the tables of both directions, so it may be searched by in either: it is the same value that `Regex::forward` and
-/// `Regex::reverse` lend.
+/// It holds the tables of both directions, so it may be searched by in either: it is the same value
+/// that `Regex::forward` and `Regex::reverse` lend.
 #[derive(Drop)]
 pub struct DFA {
     pub(crate) hirs: Vec<Hir>,
@@ -65,7 +66,8 @@ impl DFA {
     }
 }
 
-/// The tables of patterns by their program, for matches of this kind. What holds the states of each direction may weigh `limit` bytes.
+/// The tables of patterns by their program, for matches of this kind. What holds the states of each
+/// direction may weigh `limit` bytes.
 pub(crate) fn tables_of(
     alloc: Global,
     hirs: &[Hir],

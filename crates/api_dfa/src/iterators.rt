@@ -7,10 +7,11 @@ use rc_text::input::Input;
 use rc_text::types::{Match, MatchError};
 use std::iter::FusedIterator;
 
-/// The matches in an input, from left to right. Each is searched for when `next` is called, and takes no memory.
+/// The matches in an input, from left to right. Each is searched for when `next` is called, and
+/// takes no memory.
 ///
-/// A call keeps the `Regex`, and the input but for where its span starts. An error of a search is an item. After an error, and after the
-/// last match, it gives none, whatever its input becomes.
+/// A call keeps the `Regex`, and the input but for where its span starts. An error of a search is
+/// an item. After an error, and after the last match, it gives none, whatever its input becomes.
 #[derive(Drop)]
 pub struct FindMatches<'r, C: Cursor> {
     pub(crate) regex: &'r Regex,

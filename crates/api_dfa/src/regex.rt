@@ -5,8 +5,8 @@ use crate::dfa::DFA;
 use rc_settings::error::BuildError;
 use std::alloc::Global;
 
-/// A list of patterns, built for searches by tables of all the states that can be reached: forwards to where a match ends, and backwards to
-/// where it begins.
+/// A list of patterns, built for searches by tables of all the states that can be reached: forwards
+/// to where a match ends, and backwards to where it begins.
 #[derive(Drop)]
 pub struct Regex {
     pub(crate) dfa: DFA,
@@ -23,8 +23,8 @@ impl Regex {
     ghost use Rattle.api_dfa.specs.Refusals.{IsDfaTextRefusal, no_limit_set};
     ghost use Rattle.api_dfa.specs.Views.{builder_settings, builder_program, builder_syntax, dfa_of, dfa_patterns, dfa_program, dfa_settings};
 
-    /// What is built of the pattern as which this text is read by the default settings. Nothing else is set, so no limit is on the tables. The
-    /// `Err`s are those of `new_many`.
+    /// What is built of the pattern as which this text is read by the default settings. Nothing
+    /// else is set, so no limit is on the tables. The `Err`s are those of `new_many`.
     pub fn new(alloc: Global, pattern: &str) -> Result<Regex, BuildError>
         ensures read { IfOk result (λ re. AllRead default_settings (pattern.now ∷ []) (dfa_patterns (dfa_of re))) }
         ensures settings { IfOk result (λ re. dfa_settings (dfa_of re) ≡ none_set) }
@@ -35,12 +35,13 @@ impl Regex {
         Regex::builder().build(alloc, pattern)
     }
 
-    /// What is built of the patterns as which these texts are read by the default settings, at most 2,147,483,647. Nothing else is
-    /// set, so no limit is on the tables.
+    /// What is built of the patterns as which these texts are read by the default settings, at most
+    /// 2,147,483,647. Nothing else is set, so no limit is on the tables.
     ///
-    /// An `Err` is the first of these that applies: `Syntax`, with the least text from which no pattern is read, and a byte of it;
-    /// `IllFormed`, with the least pattern that isn't well-formed; `PlaceLimit`, where the weight of the patterns is above
-    /// 2,147,483,646. `Memory` comes where memory was refused, or where no memory could hold the tables.
+    /// An `Err` is the first of these that applies: `Syntax`, with the least text from which no
+    /// pattern is read, and a byte of it; `IllFormed`, with the least pattern that isn't
+    /// well-formed; `PlaceLimit`, if the weight of the patterns is above 2,147,483,646. `Memory`
+    /// comes if memory was refused, or if no memory could hold the tables.
     pub fn new_many(alloc: Global, patterns: &[&str]) -> Result<Regex, BuildError>
         requires { length patterns.now ≤ 2147483647 }
         ensures read { IfOk result (λ re. AllRead default_settings (texts_of patterns.now) (dfa_patterns (dfa_of re))) }

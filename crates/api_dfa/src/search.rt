@@ -24,11 +24,14 @@ use rc_text::types::{HalfMatch, Match, MatchError};
 
 /// The match that a search of the input finds.
 ///
-/// Under `MatchKind::LeftmostFirst` it is the one that is preferred of the least start, and under `LeftmostLongest` the longest of the least
-/// start, of these the one that is preferred. Under `MatchKind::All` it is the one with the greatest end, then the least start, then the
-/// least pattern, and no match is passed over. With the input's earliest flag on it may be any match, unless matches are passed over.
+/// Under `MatchKind::LeftmostFirst` it is the one that is preferred of the least start, and under
+/// `LeftmostLongest` the longest of the least start, of these the one that is preferred. Under
+/// `MatchKind::All` it is the one with the greatest end, then the least start, then the least
+/// pattern, and no match is passed over. With the input's earliest flag on it may be any match,
+/// unless matches are passed over.
 ///
-/// An `Err` is `Quit`: where an assertion of the patterns speaks of Unicode's words, the search doesn't go past a byte above 127.
+/// An `Err` is `Quit`: if an assertion of the patterns speaks of Unicode's words, the search
+/// doesn't go past a byte above 127.
 pub fn find<C: Cursor>(re: &Regex, input: &mut Input<C>) -> Result<Option<Match>, MatchError>
     ensures keeps { Keeps input.old input.new }
     ensures found { IfOk result (IsAnswerBy (dfa_kind (dfa_of re.now)) input.old.earliest (search_for (sought (dfa_of re.now)) input.old)) }
@@ -49,9 +52,11 @@ pub fn try_search<C: Cursor>(re: &Regex, input: &mut Input<C>) -> Result<Option<
     find(re, input)
 }
 
-/// Where the match ends that a search of the input finds, in bytes of the whole content, and its pattern.
+/// Where the match ends that a search of the input finds, in bytes of the whole content, and its
+/// pattern.
 ///
-/// Under `MatchKind::All` the pattern is some pattern of which a match ends there. The `Err`s are those of `find`.
+/// Under `MatchKind::All` the pattern is some pattern of which a match ends there. The `Err`s are
+/// those of `find`.
 pub fn try_search_fwd<C: Cursor>(
     dfa: &DFA,
     input: &mut Input<C>,
@@ -66,8 +71,9 @@ pub fn try_search_fwd<C: Cursor>(
     spans::find_end(&dfa.tables, &mut cache, input, aim)
 }
 
-/// Where the longest match begins that ends where the input's bounds end, in bytes of the whole content, and the least pattern of which one
-/// does. With the input's earliest flag on it may be any such match, unless matches are passed over.
+/// Where the longest match begins that ends where the input's bounds end, in bytes of the whole
+/// content, and the least pattern of which one does. With the input's earliest flag on it may be
+/// any such match, unless matches are passed over.
 ///
 /// The `Err`s are those of `find`.
 pub fn try_search_rev<C: Cursor>(
@@ -84,10 +90,12 @@ pub fn try_search_rev<C: Cursor>(
     spans::find_start(&dfa.tables, &mut cache, input, aim)
 }
 
-/// The matches in the input, from left to right, whatever its earliest flag. An error is an item, and the last one.
+/// The matches in the input, from left to right, whatever its earliest flag. An error is an item,
+/// and the last one.
 ///
-/// Each is the match that `find` finds with the earliest flag off from where the one before ended, or from a byte later where that would be
-/// an empty one that ends there again. So under `MatchKind::All` the first is the one with the greatest end of all.
+/// Each is the match that `find` finds with the earliest flag off from where the one before ended,
+/// or from a byte later if that would be an empty one that ends there again. So under
+/// `MatchKind::All` the first is the one with the greatest end of all.
 pub fn find_iter<'r, C: Cursor + Drop>(re: &'r Regex, input: Input<C>) -> FindMatches<'r, C>
     ensures left { find_left result ≡ matches_in (dfa_of re.now) input None }
     ensures leftmost { dfa_kind (dfa_of re.now) ≡ LeftmostFirst
@@ -104,7 +112,8 @@ pub fn find_iter<'r, C: Cursor + Drop>(re: &'r Regex, input: Input<C>) -> FindMa
     }
 }
 
-/// The match that a search of the input finds, with the earliest flag on or off, whatever the input's.
+/// The match that a search of the input finds, with the earliest flag on or off, whatever the
+/// input's.
 fn find_by<C: Cursor>(
     dfa: &DFA,
     input: &mut Input<C>,
@@ -120,7 +129,8 @@ fn find_by<C: Cursor>(
     spans::find(&dfa.tables, &mut cache, input, aim)
 }
 
-/// The next match in the input, where the match before ended at `last`. The span then starts where that next match ends.
+/// The next match in the input, where the match before ended at `last`. The span then starts where
+/// that next match ends.
 pub(crate) fn next_match<C: Cursor>(
     dfa: &DFA,
     input: &mut Input<C>,
@@ -142,8 +152,8 @@ pub(crate) fn next_match<C: Cursor>(
     }
 }
 
-/// The match from where the input's span starts, or from a byte later where that is an empty one that ends at `last`. The span then starts
-/// where the match was looked for.
+/// The match from where the input's span starts, or from a byte later if that is an empty one that
+/// ends at `last`. The span then starts where the match was looked for.
 fn look_on<C: Cursor>(
     dfa: &DFA,
     input: &mut Input<C>,

@@ -4,7 +4,8 @@ use crate::regex::Regex;
 use rc_lazy_dfa::lazy;
 use std::alloc::{AllocError, Global};
 
-/// The states that searches by a `Regex` met so far, with what is known of their steps: a table for each direction.
+/// The states that searches by a `Regex` built so far, with what is known of their steps: a table
+/// for each direction.
 #[derive(Drop)]
 pub struct Cache {
     pub(crate) inner: lazy::Cache,
@@ -14,7 +15,7 @@ impl Cache {
     ghost use Rattle.std.specs.Prelude.{◌≡◌, IfErr, IfOk, min};
     ghost use Rattle.api_hybrid.specs.Caches.{IsCacheFor, IsFresh, capacity_of, clears_of, usage_of};
 
-    /// A cache for searches by this regex, with no states yet. An `Err` is want of memory.
+    /// A cache for searches by this regex, with no states yet. An `Err` means out of memory.
     pub fn new(alloc: Global, re: &Regex) -> Result<Cache, AllocError>
         ensures made { IfOk result (IsCacheFor re.now) }
         ensures fresh { IfOk result IsFresh }
@@ -23,7 +24,8 @@ impl Cache {
         Ok(Cache { inner })
     }
 
-    /// Makes this a cache for searches by another regex, with no states yet. An `Err` is want of memory, and then the cache stays as it was.
+    /// Makes this a cache for searches by another regex, with no states yet. An `Err` means out of
+    /// memory, and then the cache stays as it was.
     pub fn reset(&mut self, re: &Regex) -> Result<(), AllocError>
         ensures made { IfOk result (λ _. IsCacheFor re.now self.new) }
         ensures fresh { IfOk result (λ _. IsFresh self.new) }
@@ -32,25 +34,26 @@ impl Cache {
         self.inner.reset(&re.lazy)
     }
 
-    /// How many bytes hold the states of both directions, or the greatest number where that is more.
+    /// How many bytes hold the states of both directions, or the greatest number if that is more.
     ///
-    /// For each direction that are 8 for each cell of a row and each start, and for each state 32 and 8 for each entry of its list: a place, or in
-    /// tables that seek the longest match a mark that parts the places of different starts. It is at most twice the capacity.
+    /// For each direction that are 8 for each cell of a row and each start, and for each state 32
+    /// and 8 for each entry of its list: a place, or in tables that seek the longest match a mark
+    /// that parts the places of different starts. It is at most twice the capacity.
     pub fn memory_usage(&self) -> usize
         ensures { result ≡ min (usage_of self.now) usize.MAX }
     {
         self.inner.memory_usage()
     }
 
-    /// So many bytes may hold the states of each direction.
+    /// This many bytes may hold the states of each direction.
     pub fn capacity(&self) -> usize
         ensures { result ≡ capacity_of self.now }
     {
         self.inner.capacity()
     }
 
-    /// How often all states of a direction were let go since the cache was made or reset: the greater of the two counts. A count stays at the greatest
-    /// number once there.
+    /// How often all states of a direction were let go since the cache was made or reset: the
+    /// greater of the two counts. A count stays at the greatest number once there.
     pub fn clear_count(&self) -> usize
         ensures { result ≡ clears_of self.now }
     {

@@ -1,4 +1,4 @@
-//! Match finder of the iterators: a lazy DFA with a cache that is lent to it.
+//! Match finder of the iterators: a lazy DFA with a borrowed cache to it.
 
 ghost use Rattle.std.specs.Prelude.{◌≡◌, ◌∷◌, [], IfErr, IfOk, MatchOption, Some};
 ghost use Rattle.rc_pikevm_search.specs.Moved.{IsMoved};
@@ -45,7 +45,8 @@ impl<'r, 'c> Finder<'r, 'c> {
         self.regex
     }
 
-    /// The next match in the input, where the match before ended at `last`. The span then starts where that next match ends.
+    /// The next match in the input, where the match before ended at `last`. The span then starts
+    /// where that next match ends.
     pub(crate) fn next_match<C: Cursor>(
         &mut self,
         input: &mut Input<C>,

@@ -7,10 +7,12 @@ use rc_text::input::Input;
 use rc_text::types::{Match, MatchError};
 use std::iter::FusedIterator;
 
-/// The matches in an input, from left to right. Each is searched for when `next` is called, in the cache that is lent.
+/// The matches in an input, from left to right. Each is searched for when `next` is called, in the
+/// cache that is lent.
 ///
-/// A call keeps the `Regex`, and the input but for where its span starts. An error of a search is an item. After an error, and after the
-/// last match, it gives none, whatever its input becomes. The cache is always one that was made for the `Regex`.
+/// A call keeps the `Regex`, and the input but for where its span starts. An error of a search is
+/// an item. After an error, and after the last match, it gives none, whatever its input becomes.
+/// The cache is always one that was made for the `Regex`.
 #[derive(Drop)]
 pub struct FindMatches<'r, 'c, C: Cursor> {
     pub(crate) finder: Finder<'r, 'c>,

@@ -21,7 +21,8 @@ use rc_settings::error::BuildError;
 use rc_settings::thompson;
 use std::alloc::Global;
 
-/// What searches for patterns are made of, by their program, for matches of this kind. The states of each direction may weigh `capacity` bytes.
+/// What searches for patterns are made of, by their program, for matches of this kind. The states
+/// of each direction may weigh `capacity` bytes.
 pub(crate) fn lazy_of(
     alloc: Global,
     hirs: &[Hir],

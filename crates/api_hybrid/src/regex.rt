@@ -20,8 +20,8 @@ use rc_settings::pikevm::Config;
 use rc_settings::thompson;
 use std::alloc::{AllocError, Global};
 
-/// A list of patterns, built for searches by tables of states that are made as they are met: forwards to where a match ends, and backwards to
-/// where it begins. The states are in a `Cache`.
+/// A list of patterns, built for searches by a lazy DFA: forwards to where a match ends, and
+/// backwards to where it begins. The states are in a `Cache`.
 #[derive(Drop)]
 pub struct Regex {
     pub(crate) hirs: Vec<Hir>,
@@ -46,8 +46,9 @@ impl Regex {
     ghost use Rattle.api_hybrid.specs.Refusals.{IsHybridTextRefusal, IsWithinCapacity, no_capacity_set};
     ghost use Rattle.api_hybrid.specs.Views.{builder_settings, builder_program, builder_syntax, least_of, regex_kind, regex_patterns, regex_program, regex_settings, sought, table_kind};
 
-    /// What is built of the pattern as which this text is read by the default settings. Nothing else is set, so the states of each direction may
-    /// weigh 2,097,152 bytes. The `Err`s are those of `new_many`.
+    /// What is built of the pattern as which this text is read by the default settings. Nothing
+    /// else is set, so the states of each direction may weigh 2,097,152 bytes. The `Err`s are those
+    /// of `new_many`.
     pub fn new(alloc: Global, pattern: &str) -> Result<Regex, BuildError>
         ensures read { IfOk result (λ re. AllRead default_settings (pattern.now ∷ []) (regex_patterns re)) }
         ensures settings { IfOk result (λ re. regex_settings re ≡ none_set) }
@@ -59,13 +60,15 @@ impl Regex {
         Regex::builder().build(alloc, pattern)
     }
 
-    /// What is built of the patterns as which these texts are read by the default settings, at most 2,147,483,647. Nothing else is
-    /// set, so the states of each direction may weigh 2,097,152 bytes.
+    /// What is built of the patterns as which these texts are read by the default settings, at most
+    /// 2,147,483,647. Nothing else is set, so the states of each direction may weigh 2,097,152
+    /// bytes.
     ///
-    /// An `Err` is the first of these that applies: `Syntax`, with the least text from which no pattern is read, and a byte of it;
-    /// `IllFormed`, with the least pattern that isn't well-formed; `PlaceLimit`, where the weight of the patterns is above
-    /// 2,147,483,646; `CacheTooSmall`, where the least capacity that serves is more than 2,097,152. `Memory` comes where memory was refused, or
-    /// where no number tells the least capacity.
+    /// An `Err` is the first of these that applies: `Syntax`, with the least text from which no
+    /// pattern is read, and a byte of it; `IllFormed`, with the least pattern that isn't
+    /// well-formed; `PlaceLimit`, if the weight of the patterns is above 2,147,483,646;
+    /// `CacheTooSmall`, if the least capacity that serves is more than 2,097,152. `Memory` comes if
+    /// memory was refused, or if the least capacity overflows.
     pub fn new_many(alloc: Global, patterns: &[&str]) -> Result<Regex, BuildError>
         requires { length patterns.now ≤ 2147483647 }
         ensures read { IfOk result (λ re. AllRead default_settings (texts_of patterns.now) (regex_patterns re)) }
@@ -94,16 +97,17 @@ impl Regex {
         self.hirs.len()
     }
 
-    /// The least capacity with which it is built, in bytes for each direction: what five states weigh whose lists have as many entries as a list
-    /// has at most. Those are as many as the program has places, and twice as many in tables that seek the longest match, whose lists have marks
-    /// that part the places of different starts.
+    /// The least capacity with which it is built, in bytes for each direction: what five states
+    /// weigh whose lists have as many entries as a list has at most. Those are as many as the
+    /// program has places, and twice as many in tables that seek the longest match, whose lists
+    /// have marks that part the places of different starts.
     pub fn minimum_cache_capacity(&self) -> usize
         ensures { result ≡ least_of self.now }
     {
         self.lazy.minimum_capacity()
     }
 
-    /// A cache for searches by this regex, with no states yet. An `Err` is want of memory.
+    /// A cache for searches by this regex, with no states yet. An `Err` means out of memory.
     pub fn create_cache(&self, alloc: Global) -> Result<Cache, AllocError>
         ensures made { IfOk result (IsCacheFor self.now) }
         ensures fresh { IfOk result IsFresh }

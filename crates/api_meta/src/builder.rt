@@ -33,7 +33,8 @@ use rc_strategy::engines::{Engines, Limits};
 use rc_strategy::spans::Spans;
 use std::alloc::{AllocError, Global};
 
-/// Makes regexes under settings of its own: those of the regex, and those by which its text is read.
+/// Makes regexes under settings of its own: those of the regex, and those by which its text is
+/// read.
 #[derive(Drop)]
 pub struct Builder {
     config: Config,
@@ -52,7 +53,7 @@ impl Builder {
         }
     }
 
-    /// Takes over what `config` sets, keeps what it doesn't, and lends the builder on.
+    /// Takes each setting that `config` sets, keeps the others, and returns the builder.
     pub fn configure(&mut self, config: Config) -> &mut Builder
         ensures same_reference { result.ghost_name ≡ self.entry.ghost_name }
         ensures value { builder_settings result.now ≡ overwritten (builder_settings self.entry.now) (settings_of config) }
@@ -62,7 +63,7 @@ impl Builder {
         self
     }
 
-    /// Reads text by these settings from now on, and lends the builder on.
+    /// Reads text by these settings from now on, and returns the builder.
     pub fn syntax(&mut self, config: rc_parser::Config) -> &mut Builder
         ensures same_reference { result.ghost_name ≡ self.entry.ghost_name }
         ensures value { builder_syntax result.now ≡ syntax_of config }
@@ -84,8 +85,9 @@ impl Builder {
 
     /// The regex of the patterns as which these texts are read, at most 2,147,483,647.
     ///
-    /// An `Err` is the first of these that applies: `Syntax`, with the least text from which no pattern is read, and a byte of it;
-    /// then those of `build_many_from_hir`. All texts are read before any pattern is built. The builder stays as it was.
+    /// An `Err` is the first of these that applies: `Syntax`, with the least text from which no
+    /// pattern is read, and a byte of it; then those of `build_many_from_hir`. All texts are read
+    /// before any pattern is built. The builder stays as it was.
     pub fn build_many(&self, alloc: Global, patterns: &[&str]) -> Result<Regex, BuildError>
         requires { length patterns.now ≤ 2147483647 }
         ensures read { IfOk result (λ r. AllRead (builder_syntax self.now) (texts_of patterns.now) (regex_patterns r)) }
@@ -109,9 +111,10 @@ impl Builder {
 
     /// The regex of these patterns, at most 2,147,483,647.
     ///
-    /// An `Err` is the first of these that applies: `IllFormed`, with the least pattern that isn't well-formed; `SizeLimit`, where
-    /// 32 times the weight of the patterns is above the limit on their size; `PlaceLimit`, where the weight is above 2,147,483,646.
-    /// `Memory` comes where memory was refused. The builder stays as it was.
+    /// An `Err` is the first of these that applies: `IllFormed`, with the least pattern that isn't
+    /// well-formed; `SizeLimit`, if 32 times the weight of the patterns is above the limit on their
+    /// size; `PlaceLimit`, if the weight is above 2,147,483,646. `Memory` comes if memory was
+    /// refused. The builder stays as it was.
     pub fn build_many_from_hir(&self, alloc: Global, hirs: &[Hir]) -> Result<Regex, BuildError>
         requires { length hirs.now ≤ 2147483647 }
         ensures patterns { IfOk result (λ r. regex_patterns r ≡ map meaning hirs.now) }
@@ -178,7 +181,8 @@ fn engines_of(
     )
 }
 
-/// What each match holds, where searches go by that: needles are only taken from the patterns where the settings say so.
+/// What each match holds, if searches go by that: needles are only taken from the patterns if the
+/// settings say so.
 fn needs_of(alloc: Global, config: &Config, hirs: &[Hir]) -> Result<Option<Needs>, AllocError>
     ensures holds { IfOk result (λ found. IfSome found (λ n. (t : Text) → Holds t (map meaning hirs.now) (needles_of n.needles))) }
     ensures leaves { IfOk result (λ found. IfSome found (λ n. (t : Text) → LeavesOut t (map meaning hirs.now) n.stops.table)) }
@@ -189,7 +193,8 @@ fn needs_of(alloc: Global, config: &Config, hirs: &[Hir]) -> Result<Option<Needs
     needs::needs_of(alloc, hirs)
 }
 
-/// What the settings say of tables: each direction may take a quarter of the size of those of all states.
+/// What the settings say of tables: each direction may take a quarter of the size of those of all
+/// states.
 fn limits_of(config: &Config) -> Limits
     ensures dfa { result.dfa ≡ dfa_of (settings_of config.now) }
     ensures hybrid { result.hybrid ≡ hybrid_of (settings_of config.now) }

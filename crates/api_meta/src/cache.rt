@@ -16,7 +16,8 @@ impl Cache {
     ghost use Rattle.api_meta.specs.Caches.{IsCacheFor};
     ghost use Rattle.api_meta.specs.Views.{regex_patterns, regex_settings};
 
-    /// A cache for searches by this regex, and by any of the same patterns under the same settings. An `Err` is want of memory.
+    /// A cache for searches by this regex, and by any of the same patterns under the same settings.
+    /// An `Err` means out of memory.
     pub fn new(alloc: Global, regex: &Regex) -> Result<Cache, AllocError>
         ensures { IfOk result (IsCacheFor (regex_patterns regex.now) (regex_settings regex.now)) }
     {
@@ -24,7 +25,8 @@ impl Cache {
         Ok(Cache { alloc, inner })
     }
 
-    /// Makes this a cache for searches by another regex. An `Err` is want of memory, and then the cache stays as it was.
+    /// Makes this a cache for searches by another regex. An `Err` means out of memory, and then the
+    /// cache stays as it was.
     pub fn reset(&mut self, regex: &Regex) -> Result<(), AllocError>
         ensures made { OnOk result (IsCacheFor (regex_patterns regex.now) (regex_settings regex.now) self.new) }
         ensures refused { OnErr result (self.new ≡ self.old) }
@@ -33,7 +35,8 @@ impl Cache {
         Ok(())
     }
 
-    /// About how many bytes the cache has taken for its lists, and for the states that searches met.
+    /// About how many bytes the cache has taken for its lists, and for the states that searches
+    /// found.
     pub fn memory_usage(&self) -> usize {
         self.inner.memory_usage()
     }

@@ -13,8 +13,8 @@ use rc_text::types::{HalfMatch, Match};
 use std::alloc::{AllocError, Global};
 use std::marker::Model;
 
-/// A regex that is lent to it, and a cache that was made for that regex, so that its searches ask for nothing else. Contracts see it as
-/// the regex.
+/// A regex that it borrows, and a cache that was made for that regex, so that its searches ask for
+/// nothing else. Contracts see it as the regex.
 #[derive(Drop)]
 pub struct Finder<'r> {
     regex: &'r Regex,
@@ -53,7 +53,7 @@ impl<'r> Finder<'r> {
     ghost use Rattle.rc_text.specs.Text.{Keeps, high, low};
     ghost use Rattle.rc_text.specs.declared.types.MatchKind.TheVariants.{LeftmostFirst};
 
-    /// What searches by this regex, with a cache that is made for it. An `Err` is want of memory.
+    /// What searches by this regex, with a cache that is made for it. An `Err` means out of memory.
     pub fn new(alloc: Global, regex: &'r Regex) -> Result<Finder<'r>, AllocError>
         ensures { IfOk result (λ f. f ≡ regex.now) }
     {
@@ -105,8 +105,9 @@ impl<'r> Finder<'r> {
         self.regex.is_match_with(&mut self.cache, input)
     }
 
-    /// The match that `find` finds with the earliest flag off, with its groups, in captures that are made for it. Without a match they
-    /// hold none. An `Err` is want of memory for them, and then the input stays as it was.
+    /// The match that `find` finds with the earliest flag off, with its groups, in captures that
+    /// are made for it. Without a match they hold none. An `Err` means out of memory for them, and
+    /// then the input stays as it was.
     pub fn captures<C: Cursor>(
         &mut self,
         alloc: Global,
@@ -130,8 +131,8 @@ impl<'r> Finder<'r> {
         Ok(caps)
     }
 
-    /// Puts into the set each pattern that has a match within the bounds of a search of the input, as `Regex::which_patterns_with` says.
-    /// It takes no memory.
+    /// Puts into the set each pattern that has a match within the bounds of a search of the input,
+    /// as `Regex::which_patterns_with` says. It takes no memory.
     pub fn which_patterns<C: Cursor>(&mut self, input: &mut Input<C>, set: &mut PatternSet)
         ensures regex { self.new ≡ self.old }
         ensures keeps { Keeps input.old input.new }

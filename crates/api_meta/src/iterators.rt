@@ -14,8 +14,8 @@ use std::iter::FusedIterator;
 
 /// The matches of a regex in an input, from left to right.
 ///
-/// Each call of `next` searches, and takes no memory. It keeps the regex, and the input but for where its span starts. After the last
-/// match it gives None, whatever the input becomes.
+/// Each call of `next` searches, and takes no memory. It keeps the regex, and the input but for
+/// where its span starts. After the last match it gives None, whatever the input becomes.
 #[derive(Drop)]
 pub struct FindMatches<'r, C: Cursor> {
     pub(crate) seeker: Seeker<'r>,
@@ -24,9 +24,10 @@ pub struct FindMatches<'r, C: Cursor> {
 
 /// The matches of a regex in an input, from left to right, each with its groups.
 ///
-/// Each call of `next` searches, and takes the memory of one match's captures, and no other: it gives them with the match, or gives the
-/// memory back where none is left. It keeps the regex, and the input but for where its span starts. Want of memory is an item, where a
-/// match is left, after which None comes, whatever the input becomes; so it does after the last match.
+/// Each call of `next` searches, and takes the memory of one match's captures, and no other: it
+/// gives them with the match, or gives the memory back if none is left. It keeps the regex, and the
+/// input but for where its span starts. Want of memory is an item, if a match is left, after which
+/// None comes, whatever the input becomes; so it does after the last match.
 #[derive(Drop)]
 pub struct CapturesMatches<'r, C: Cursor> {
     pub(crate) seeker: GroupSeeker<'r>,
@@ -35,15 +36,15 @@ pub struct CapturesMatches<'r, C: Cursor> {
 
 /// The pieces of a content between the matches of a regex, from left to right.
 ///
-/// Each call of `next` searches, and takes no memory. It keeps the regex, and the input but for where its span starts. After the last
-/// piece it gives None, whatever the input becomes.
+/// Each call of `next` searches, and takes no memory. It keeps the regex, and the input but for
+/// where its span starts. After the last piece it gives None, whatever the input becomes.
 #[derive(Drop)]
 pub struct Split<'r, C: Cursor> {
     pub(crate) pieces: Pieces<'r>,
     pub(crate) input: Input<C>,
 }
 
-/// The same, of which there are at most so many. Each call of `next` lowers that number by one.
+/// The same, of which there are at most this many. Each call of `next` lowers that number by one.
 #[derive(Drop)]
 pub struct SplitN<'r, C: Cursor> {
     pub(crate) pieces: Pieces<'r>,
@@ -52,7 +53,7 @@ pub struct SplitN<'r, C: Cursor> {
     pub(crate) limit: usize,
 }
 
-/// What finds the pieces between the matches, one after another, in an input that is lent to it.
+/// What finds the pieces between the matches, one after another, in an input that it borrows.
 #[derive(Drop)]
 pub(crate) struct Pieces<'r> {
     pub(crate) seeker: Seeker<'r>,
@@ -76,7 +77,8 @@ impl<'r, C: Cursor> FindMatches<'r, C> {
         self.seeker.regex
     }
 
-    /// The input. It may be changed: `next` then goes on in what it is, and the iterator is otherwise as before.
+    /// The input. It may be changed: `next` then goes on in what it is, and the iterator is
+    /// otherwise as before.
     pub fn input(&mut self) -> &mut Input<C>
         ensures* kept { sem 𝓛 (Lends (the_row (record { mir = named 1; lft = [] }) C.row C.Cursor)
             (input_row C.row C.Cursor) self.entry result (with_find_input self.old)) }
@@ -133,7 +135,8 @@ impl<'r, C: Cursor> CapturesMatches<'r, C> {
         self.seeker.seeker.regex
     }
 
-    /// The input. It may be changed: `next` then goes on in what it is, and the iterator is otherwise as before.
+    /// The input. It may be changed: `next` then goes on in what it is, and the iterator is
+    /// otherwise as before.
     pub fn input(&mut self) -> &mut Input<C>
         ensures* kept { sem 𝓛 (Lends (the_row (record { mir = named 1; lft = [] }) C.row C.Cursor)
             (input_row C.row C.Cursor) self.entry result (with_captures_input self.old)) }
@@ -148,8 +151,8 @@ impl<'r, C: Cursor + Drop> CapturesMatches<'r, C> {
     ghost use Rattle.std.specs.Prelude.{◌≡◌, length};
     ghost use Rattle.api_meta.specs.Left.{captures_left};
 
-    /// How many matches are left: as many items as `next` would give with no memory refused. It makes no captures, and takes no
-    /// memory.
+    /// How many matches are left: as many items as `next` would give with no memory refused. It
+    /// makes no captures, and takes no memory.
     pub fn count(self) -> usize
         ensures { result ≡ length (captures_left self.entry) }
     {
@@ -171,7 +174,8 @@ impl<'r, C: Cursor + Drop> Iterator for CapturesMatches<'r, C> {
 
     ghost remaining = { item_count captures_left };
 
-    /// The next match, with its groups. An `Err` is want of memory for them, and after it no item comes.
+    /// The next match, with its groups. An `Err` means out of memory for them, and after it no item
+    /// comes.
     fn next(&mut self) -> Option<Result<Captures, AllocError>> {
         self.seeker.next(&mut self.input)
     }
@@ -231,7 +235,8 @@ impl<'r, C: Cursor> Split<'r, C> {
     ghost use Rattle.api_meta.specs.contracts.iterators.Split.{the_row};
     ghost use Rattle.api_meta.specs.Left.{split_input, with_split_input};
 
-    /// The input. It may be changed: `next` then goes on in what it is, and the iterator is otherwise as before.
+    /// The input. It may be changed: `next` then goes on in what it is, and the iterator is
+    /// otherwise as before.
     pub fn input(&mut self) -> &mut Input<C>
         ensures* kept { sem 𝓛 (Lends (the_row (record { mir = named 1; lft = [] }) C.row C.Cursor)
             (input_row C.row C.Cursor) self.entry result (with_split_input self.old)) }
@@ -268,7 +273,8 @@ impl<'r, C: Cursor> SplitN<'r, C> {
     ghost use Rattle.api_meta.specs.contracts.iterators.SplitN.{the_row};
     ghost use Rattle.api_meta.specs.Left.{SplitnKeeps, splitn_input, splitn_left, splitn_limit, with_splitn_input};
 
-    /// The input. It may be changed: `next` then goes on in what it is, and the iterator is otherwise as before.
+    /// The input. It may be changed: `next` then goes on in what it is, and the iterator is
+    /// otherwise as before.
     pub fn input(&mut self) -> &mut Input<C>
         ensures* kept { sem 𝓛 (Lends (the_row (record { mir = named 1; lft = [] }) C.row C.Cursor)
             (input_row C.row C.Cursor) self.entry result (with_splitn_input self.old)) }

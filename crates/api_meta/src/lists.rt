@@ -13,10 +13,11 @@ use rc_text::types::Match;
 use std::alloc::{AllocError, Global};
 use std::iter::FusedIterator;
 
-/// The matches of a regex in an input, from left to right, in a cache that is lent as the input is.
+/// The matches of a regex in an input, from left to right, in a borrowed cache as the input is.
 ///
-/// Each call of `next` searches, and takes no memory. It keeps the regex, the cache, which stays one that was made for the regex, and the
-/// input but for where its span starts, which is where the match ended. After the last match it gives None.
+/// Each call of `next` searches, and takes no memory. It keeps the regex, the cache, which stays
+/// one that was made for the regex, and the input but for where its span starts, which is where the
+/// match ended. After the last match it gives None.
 #[derive(Drop)]
 pub struct FindMatchesWith<'r, 'c, 'i, C: Cursor> {
     pub(crate) regex: &'r Regex,
@@ -25,11 +26,13 @@ pub struct FindMatchesWith<'r, 'c, 'i, C: Cursor> {
     pub(crate) standing: Standing,
 }
 
-/// The matches of a regex in an input, from left to right, each with its groups, in a cache that is lent as the input is.
+/// The matches of a regex in an input, from left to right, each with its groups, in a borrowed
+/// cache as the input is.
 ///
-/// Each call of `next` searches, and takes the memory of one match's captures, and no other: it gives them with the match, or gives the memory
-/// back where none is left. It keeps what a call of `FindMatchesWith` keeps. Want of memory is an item, where a match is left, after which None
-/// comes; so it does after the last match.
+/// Each call of `next` searches, and takes the memory of one match's captures, and no other: it
+/// gives them with the match, or gives the memory back if none is left. It keeps what a call of
+/// `FindMatchesWith` keeps. Want of memory is an item, if a match is left, after which None comes;
+/// so it does after the last match.
 #[derive(Drop)]
 pub struct CapturesMatchesWith<'r, 'c, 'i, C: Cursor> {
     pub(crate) regex: &'r Regex,
@@ -53,9 +56,11 @@ impl Regex {
     ghost use Rattle.rc_text.specs.Text.{low, high};
     ghost use Rattle.rc_text.specs.declared.types.MatchKind.TheVariants.{All as greatest_matches, LeftmostFirst};
 
-    /// The matches of `find_iter`, in a cache that was made for this regex. Neither this call nor an item takes memory.
+    /// The matches of `find_iter`, in a cache that was made for this regex. Neither this call nor
+    /// an item takes memory.
     ///
-    /// The cache stays one that was made for this regex, also where what goes over the matches is let go before the last one.
+    /// The cache stays one that was made for this regex, even if what goes over the matches is
+    /// dropped before the last one.
     pub fn find_iter_with<'r, 'c, 'i, C: Cursor>(
         &'r self,
         cache: &'c mut Cache,
@@ -89,10 +94,12 @@ impl Regex {
         }
     }
 
-    /// The matches of `captures_iter`, each with its groups, in a cache that was made for this regex. This call takes no memory; an item
-    /// takes the memory of its captures alone, and is an `Err` where that is refused.
+    /// The matches of `captures_iter`, each with its groups, in a cache that was made for this
+    /// regex. This call takes no memory; an item takes the memory of its captures alone, and is an
+    /// `Err` if that is refused.
     ///
-    /// The cache stays one that was made for this regex, also where what goes over the matches is let go before the last one.
+    /// The cache stays one that was made for this regex, even if what goes over the matches is
+    /// dropped before the last one.
     pub fn captures_iter_with<'r, 'c, 'i, C: Cursor>(
         &'r self,
         alloc: Global,
@@ -190,7 +197,8 @@ impl<'r, 'c, 'i, C: Cursor> Iterator for CapturesMatchesWith<'r, 'c, 'i, C> {
 
     ghost remaining = { item_count captures_with_left };
 
-    /// The next match, with its groups. An `Err` is want of memory for them, and after it no item comes.
+    /// The next match, with its groups. An `Err` means out of memory for them, and after it no item
+    /// comes.
     fn next(&mut self) -> Option<Result<Captures, AllocError>> {
         let cache = &mut self.cache.inner;
         let input = &mut *self.input;

@@ -44,7 +44,7 @@ pub struct Regex {
     ghost fits: { Fits (program_settings (settings_of config)) (match_kind_of (settings_of config)) (map meaning hirs.items) engines.engine info },
     ghost planned: { ∥ IfSome engines.lazy (IsLazyFor (plan_by (map meaning hirs.items) (settings_of config))) ∥₁ },
     ghost well_formed: { ∥ All IsWellFormed (map meaning hirs.items) ∥₁ },
-    // no needles, where none are asked for
+    // no needles, if none are asked for
     ghost unguarded: { auto_prefilter_of (settings_of config) ≡ false → prefilter_of (settings_of config) ≡ None → guarding engines.engine.strategy ≡ None },
 }
 
@@ -77,8 +77,8 @@ impl Regex {
     ghost use Rattle.api_meta.specs.Preferred.{HoldsPreferred};
     ghost use Rattle.api_meta.specs.Views.{builder_settings, builder_syntax, regex_kind, regex_patterns, regex_settings, regex_names, sought};
 
-    /// The regex of the pattern as which this text is read by the default settings. Nothing else is set. The `Err`s are those of
-    /// `new_many`.
+    /// The regex of the pattern as which this text is read by the default settings. Nothing else is
+    /// set. The `Err`s are those of `new_many`.
     pub fn new(alloc: Global, pattern: &str) -> Result<Regex, BuildError>
         ensures read { IfOk result (λ r. AllRead default_settings (pattern.now ∷ []) (regex_patterns r)) }
         ensures settings { IfOk result (λ r. regex_settings r ≡ unset) }
@@ -88,11 +88,13 @@ impl Regex {
         Regex::builder().build(alloc, pattern)
     }
 
-    /// The regex of the patterns as which these texts are read by the default settings, at most 2,147,483,647. Nothing else is set.
+    /// The regex of the patterns as which these texts are read by the default settings, at most
+    /// 2,147,483,647. Nothing else is set.
     ///
-    /// An `Err` is the first of these that applies: `Syntax`, with the least text from which no pattern is read, and a byte of it;
-    /// `IllFormed`, with the least pattern that isn't well-formed; `SizeLimit`, where 32 times the weight of the patterns is above
-    /// 10,485,760; `PlaceLimit`, where the weight is above 2,147,483,646. `Memory` comes where memory was refused.
+    /// An `Err` is the first of these that applies: `Syntax`, with the least text from which no
+    /// pattern is read, and a byte of it; `IllFormed`, with the least pattern that isn't
+    /// well-formed; `SizeLimit`, if 32 times the weight of the patterns is above 10,485,760;
+    /// `PlaceLimit`, if the weight is above 2,147,483,646. `Memory` comes if memory was refused.
     pub fn new_many(alloc: Global, patterns: &[&str]) -> Result<Regex, BuildError>
         requires { length patterns.now ≤ 2147483647 }
         ensures read { IfOk result (λ r. AllRead default_settings (texts_of patterns.now) (regex_patterns r)) }
@@ -118,17 +120,20 @@ impl Regex {
         Config::new()
     }
 
-    /// The match that a search of the input finds. An `Err` is want of memory.
+    /// The match that a search of the input finds. An `Err` means out of memory.
     ///
-    /// Under `MatchKind::All` it is the match with the greatest end, of these the one with the least start, and of these the one of
-    /// the least pattern. Empty matches inside a character aren't passed over then. Under `MatchKind::LeftmostLongest` it is, of the
-    /// matches of the least start, the longest.
+    /// Under `MatchKind::All` it is the match with the greatest end, of these the one with the
+    /// least start, and of these the one of the least pattern. Empty matches inside a character
+    /// aren't passed over then. Under `MatchKind::LeftmostLongest` it is, of the matches of the
+    /// least start, the longest.
     ///
-    /// With the input's earliest flag on, unless matches are passed over, any span that a pattern spells may be the answer, and there is
-    /// one where there is one with the flag off. The search then stops at the first position at which some match ends.
+    /// With the input's earliest flag on, unless matches are passed over, any span that a pattern
+    /// spells may be the answer, and there is one if there is one with the flag off. The search
+    /// then stops at the first position at which some match ends.
     ///
-    /// The match depends on the uncut bytes of the content alone, however the cursor cuts them. Where `is_plain` is true, the match that is
-    /// preferred is the least parse of the least start that has one.
+    /// The match depends on the uncut bytes of the content alone, however the cursor cuts them. If
+    /// `is_plain` is true, the match that is preferred is the least parse of the least start that
+    /// has one.
     pub fn find<C: Cursor + Drop>(
         &self,
         alloc: Global,
@@ -178,7 +183,7 @@ impl Regex {
         early::search(&self.engines, &mut cache.inner, input)
     }
 
-    /// The pattern and the end of the match that `find` finds. An `Err` is want of memory.
+    /// The pattern and the end of the match that `find` finds. An `Err` means out of memory.
     pub fn search_half<C: Cursor + Drop>(
         &self,
         alloc: Global,
@@ -209,7 +214,7 @@ impl Regex {
         early::search_end(&self.engines, &mut cache.inner, input)
     }
 
-    /// Whether a search of the input finds a match. An `Err` is want of memory.
+    /// Whether a search of the input finds a match. An `Err` means out of memory.
     ///
     /// Under `MatchKind::All` empty matches inside a character aren't passed over.
     pub fn is_match<C: Cursor + Drop>(
@@ -229,15 +234,16 @@ impl Regex {
         self.hirs.len()
     }
 
-    /// How many groups the patterns have: group 0 of each, and the explicit ones, whether they are kept or not.
+    /// How many groups the patterns have: group 0 of each, and the explicit ones, whether they are
+    /// kept or not.
     pub fn captures_len(&self) -> usize
         ensures { result ≡ length (regex_patterns self.now) + all_groups (regex_patterns self.now) }
     {
         self.pattern_len() + explicit_groups(&self.hirs)
     }
 
-    /// How many groups take part in each match, group 0 among them, where that is known to be one number for all patterns. `None`
-    /// where there is no pattern.
+    /// How many groups take part in each match, group 0 among them, if that is known to be one
+    /// number for all patterns. `None` if there is no pattern.
     pub fn static_captures_len(&self) -> Option<usize>
         ensures { result ≡ static_captures_len (regex_patterns self.now) }
     {
@@ -245,8 +251,8 @@ impl Regex {
         Some(explicit.saturating_add(1))
     }
 
-    /// Whether no pattern repeats what may be empty. Then the patterns alone tell which match is preferred, and its groups. It takes no
-    /// memory.
+    /// Whether no pattern repeats what may be empty. Then the patterns alone tell which match is
+    /// preferred, and its groups. It takes no memory.
     pub fn is_plain(&self) -> bool
         ensures { IsTrue result ↔ ArePlain (regex_patterns self.now) }
     {
@@ -272,7 +278,7 @@ impl Regex {
         &self.config
     }
 
-    /// A regex of the same patterns under the same settings. An `Err` is want of memory.
+    /// A regex of the same patterns under the same settings. An `Err` means out of memory.
     pub fn try_clone(&self, alloc: Global) -> Result<Regex, AllocError>
         ensures patterns { IfOk result (λ r. regex_patterns r ≡ regex_patterns self.now) }
         ensures settings { IfOk result (λ r. regex_settings r ≡ regex_settings self.now) }
@@ -284,7 +290,8 @@ impl Regex {
         }
     }
 
-    /// Whether searches go by needles, and one for these goes by a needle or by at most three bytes.
+    /// Whether searches go by needles, and one for these goes by a needle or by at most three
+    /// bytes.
     pub fn is_accelerated(&self) -> bool
         ensures { auto_prefilter_of (regex_settings self.now) ≡ false → prefilter_of (regex_settings self.now) ≡ None
             → result ≡ false }
@@ -311,7 +318,7 @@ impl Regex {
             .saturating_add(self.engines.memory_usage())
     }
 
-    /// A cache for searches by this regex. An `Err` is want of memory.
+    /// A cache for searches by this regex. An `Err` means out of memory.
     pub fn create_cache(&self, alloc: Global) -> Result<Cache, AllocError>
         ensures { IfOk result (IsCacheFor (regex_patterns self.now) (regex_settings self.now)) }
     {
@@ -326,7 +333,8 @@ impl Regex {
         self.engines.create_cache(alloc, self.info.slot_len())
     }
 
-    /// Captures that keep the groups of the patterns. They hold no match. An `Err` is want of memory.
+    /// Captures that keep the groups of the patterns. They hold no match. An `Err` means out of
+    /// memory.
     pub fn create_captures(&self, alloc: Global) -> Result<Captures, AllocError>
         ensures made { IfOk result (IsCapturesFor (regex_names self.now)) }
         ensures whole { IfOk result (KeepsAll (regex_names self.now)) }
@@ -335,10 +343,12 @@ impl Regex {
         Captures::all(alloc, &self.info)
     }
 
-    /// The match that `find` finds, with its groups. Without a match the captures hold none. An `Err` is want of memory.
+    /// The match that `find` finds, with its groups. Without a match the captures hold none. An
+    /// `Err` means out of memory.
     ///
-    /// Under `MatchKind::All` explicit groups hold nothing. Under `MatchKind::LeftmostLongest` they are those of the walk that is
-    /// preferred of those that are that long. Else, where `is_plain` is true, the groups are those of the least parse.
+    /// Under `MatchKind::All` explicit groups hold nothing. Under `MatchKind::LeftmostLongest` they
+    /// are those of the walk that is preferred of those that are that long. Otherwise, if
+    /// `is_plain` is true, the groups are those of the least parse.
     pub fn captures<C: Cursor + Drop>(
         &self,
         alloc: Global,
@@ -361,8 +371,8 @@ impl Regex {
         Ok(caps)
     }
 
-    /// As `captures`, into captures that were made for this regex: by `create_captures`, or of its `group_info`. After an `Err` they
-    /// hold no match.
+    /// As `captures`, into captures that were made for this regex: by `create_captures`, or of its
+    /// `group_info`. After an `Err` they hold no match.
     pub fn search_captures<C: Cursor + Drop>(
         &self,
         alloc: Global,
@@ -411,8 +421,9 @@ impl Regex {
         self.engines.find_captures(&mut cache.inner, input, caps);
     }
 
-    /// The pattern of the match that `find` finds, and its slots in `slots`, which may be fewer than the regex has. Without a match
-    /// the slots stay. An `Err` is want of memory, and then the slots stay too.
+    /// The pattern of the match that `find` finds, and its slots in `slots`, which may be fewer
+    /// than the regex has. Without a match the slots stay. An `Err` means out of memory, and then
+    /// the slots stay too.
     ///
     /// Under `MatchKind::All` the slots of explicit groups hold nothing.
     pub fn search_slots<C: Cursor + Drop>(
@@ -453,8 +464,9 @@ impl Regex {
 
     /// All matches in the input, from left to right.
     ///
-    /// Each search starts where the match before ended. A match that is empty and ends there gives way to the answer from a byte
-    /// later. An `Err` is want of memory for the cache; the items take none.
+    /// Each search starts where the match before ended. A match that is empty and ends there gives
+    /// way to the answer from a byte later. An `Err` means out of memory for the cache; the items
+    /// take none.
     ///
     /// Each search finds the match of the regex's kind, as `find` does.
     pub fn find_iter<'r, C: Cursor + Drop>(
@@ -485,8 +497,8 @@ impl Regex {
         Ok(FindMatches { seeker, input })
     }
 
-    /// The matches of `find_iter`, each with its groups. An `Err` is want of memory for the cache; an item takes the memory of its
-    /// captures alone, and is an `Err` where that is refused.
+    /// The matches of `find_iter`, each with its groups. An `Err` means out of memory for the
+    /// cache; an item takes the memory of its captures alone, and is an `Err` if that is refused.
     ///
     /// Under `MatchKind::All` explicit groups hold nothing.
     pub fn captures_iter<'r, C: Cursor + Drop>(
@@ -520,8 +532,9 @@ impl Regex {
         Ok(CapturesMatches { seeker, input })
     }
 
-    /// The pieces of the content between the matches of `find_iter`, from left to right: the first begins at 0, and the last ends
-    /// where the search does. An `Err` is want of memory for the cache; the items take none.
+    /// The pieces of the content between the matches of `find_iter`, from left to right: the first
+    /// begins at 0, and the last ends where the search does. An `Err` means out of memory for the
+    /// cache; the items take none.
     pub fn split<'r, C: Cursor + Drop>(
         &'r self,
         alloc: Global,
@@ -544,8 +557,8 @@ impl Regex {
         Ok(Split { pieces, input })
     }
 
-    /// The pieces of `split`, but no more than `limit`: the last one then goes on to where the search ends. An `Err` is want of
-    /// memory for the cache; the items take none.
+    /// The pieces of `split`, but no more than `limit`: the last one then goes on to where the
+    /// search ends. An `Err` means out of memory for the cache; the items take none.
     pub fn splitn<'r, C: Cursor + Drop>(
         &'r self,
         alloc: Global,
@@ -587,7 +600,8 @@ fn explicit_groups(hirs: &[Hir]) -> usize
     total
 }
 
-/// How many explicit groups take part in each match, where that is known to be one number for all patterns.
+/// How many explicit groups take part in each match, if that is known to be one number for all
+/// patterns.
 fn static_groups(hirs: &[Hir]) -> Option<usize>
     ensures { result ≡ static_groups (map meaning hirs.now) }
 {

@@ -1,4 +1,4 @@
-//! Iteration state: where the next match of a list is searched for, in a borrowed input.
+//! Iteration state: if the next match of a list is searched for, in a borrowed input.
 
 ghost use Rattle.std.specs.Prelude.{◌≡◌, ◌≤◌, IfSome};
 ghost use Rattle.rc_text.specs.Text.{Keeps, high, low};
@@ -23,14 +23,14 @@ use rc_text::types::Match;
 use std::alloc::{AllocError, Global};
 use std::marker::Model;
 
-/// Where a list of matches stands: where the last match ended, and whether none comes any more.
+/// Where a list of matches is: where the last match ended, and whether none comes any more.
 #[derive(Drop)]
 pub(crate) struct Standing {
     pub(crate) last: Option<usize>,
     pub(crate) is_done: bool,
 }
 
-/// A regex with a cache for its searches, and where the list of its matches stands.
+/// A regex with a cache for its searches, and where the list of its matches is.
 #[derive(Drop)]
 pub(crate) struct Seeker<'r> {
     pub(crate) regex: &'r Regex,
@@ -110,8 +110,9 @@ fn find_groups<C: Cursor>(
     caps.get_match()
 }
 
-/// The next match of a list, with its groups in the captures: the match from where the span starts, and where that is empty and ends at `last`, the
-/// match from a byte later. The span then starts where the match was looked for.
+/// The next match of a list, with its groups in the captures: the match from where the span starts,
+/// and if that is empty and ends at `last`, the match from a byte later. The span then starts where
+/// the match was looked for.
 fn next_groups<C: Cursor>(
     regex: &Regex,
     cache: &mut Cache,
@@ -148,7 +149,8 @@ impl Standing {
     ghost use Rattle.api_meta.specs.Left.{GivesNext, GivesCaptures};
     ghost use Rattle.api_meta.specs.Seeking.{seeking};
 
-    /// The next match of the list in the input. Its span then starts where that ends. It takes no memory.
+    /// The next match of the list in the input. Its span then starts where that ends. It takes no
+    /// memory.
     pub(crate) fn next_match<C: Cursor>(
         &mut self,
         regex: &Regex,
@@ -174,7 +176,8 @@ impl Standing {
         Some(found)
     }
 
-    /// What is given where no memory is there for captures: want of memory where a match is left, else nothing. The list is over.
+    /// What is given if no memory is there for captures: out of memory if a match is left, else
+    /// nothing. The list is over.
     fn lacks_memory<C: Cursor>(
         &mut self,
         regex: &Regex,
@@ -196,8 +199,8 @@ impl Standing {
         None
     }
 
-    /// The captures of the next match of the list in the input. It takes their memory alone, which it gives back where no match is left, and ends
-    /// where that is refused.
+    /// The captures of the next match of the list in the input. It takes their memory alone, which
+    /// it gives back if no match is left, and ends if that is refused.
     pub(crate) fn next_captures<C: Cursor>(
         &mut self,
         regex: &Regex,
@@ -243,7 +246,8 @@ impl<'r> Seeker<'r> {
         self.standing.next_match(self.regex, &mut self.cache, input)
     }
 
-    /// The captures of the next match in the input. It takes their memory alone, and ends where that is refused.
+    /// The captures of the next match in the input. It takes their memory alone, and ends if that
+    /// is refused.
     pub(crate) fn next_captures<C: Cursor>(
         &mut self,
         alloc: Global,

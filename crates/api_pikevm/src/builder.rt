@@ -18,7 +18,8 @@ use rc_settings::pikevm::Config;
 use rc_settings::thompson;
 use std::alloc::Global;
 
-/// Builds a `PikeVM` under settings of its own: those of its searches, those of its program, and those by which text is read.
+/// Builds a `PikeVM` under settings of its own: those of its searches, those of its program, and
+/// those by which text is read.
 #[derive(Drop)]
 pub struct Builder {
     config: Config,
@@ -40,7 +41,7 @@ impl Builder {
         }
     }
 
-    /// Takes over what `config` sets, keeps what it doesn't, and lends the builder on.
+    /// Takes each setting that `config` sets, keeps the others, and returns the builder.
     pub fn configure(&mut self, config: Config) -> &mut Builder
         ensures same_reference { result.ghost_name ≡ self.entry.ghost_name }
         ensures value { builder_settings result.now ≡ set_over (builder_settings self.entry.now) (search_settings_of config) }
@@ -51,7 +52,8 @@ impl Builder {
         self
     }
 
-    /// Takes over what `config` sets for the program, keeps what it doesn't, and lends the builder on.
+    /// Takes each setting that `config` sets for the program, keeps the others, and returns the
+    /// builder.
     pub fn thompson(&mut self, config: thompson::Config) -> &mut Builder
         ensures same_reference { result.ghost_name ≡ self.entry.ghost_name }
         ensures value { builder_program result.now ≡ overwritten (builder_program self.entry.now) (settings_of config) }
@@ -62,7 +64,7 @@ impl Builder {
         self
     }
 
-    /// Reads text by these settings from now on, and lends the builder on.
+    /// Reads text by these settings from now on, and returns the builder.
     pub fn syntax(&mut self, config: rc_parser::Config) -> &mut Builder
         ensures same_reference { result.ghost_name ≡ self.entry.ghost_name }
         ensures value { builder_syntax result.now ≡ syntax_of config }
@@ -73,7 +75,8 @@ impl Builder {
         self
     }
 
-    /// What is built of the pattern as which this text is read. The `Err`s are those of `build_many`.
+    /// What is built of the pattern as which this text is read. The `Err`s are those of
+    /// `build_many`.
     pub fn build(&self, alloc: Global, pattern: &str) -> Result<PikeVM, BuildError>
         ensures read { IfOk result (λ vm. AllRead (builder_syntax self.now) (pattern.now ∷ []) (vm_patterns vm)) }
         ensures settings { IfOk result (λ vm. vm_settings vm ≡ builder_settings self.now) }
@@ -86,8 +89,9 @@ impl Builder {
 
     /// What is built of the patterns as which these texts are read, at most 2,147,483,647.
     ///
-    /// An `Err` is the first of these that applies: `Syntax`, with the least text from which no pattern is read, and a byte of it;
-    /// then those of `build_many_from_hir`. All texts are read before any pattern is built. The builder stays as it was.
+    /// An `Err` is the first of these that applies: `Syntax`, with the least text from which no
+    /// pattern is read, and a byte of it; then those of `build_many_from_hir`. All texts are read
+    /// before any pattern is built. The builder stays as it was.
     pub fn build_many(&self, alloc: Global, patterns: &[&str]) -> Result<PikeVM, BuildError>
         requires { length patterns.now ≤ 2147483647 }
         ensures read { IfOk result (λ vm. AllRead (builder_syntax self.now) (texts_of patterns.now) (vm_patterns vm)) }
@@ -102,9 +106,10 @@ impl Builder {
 
     /// What is built of these patterns, at most 2,147,483,647.
     ///
-    /// An `Err` is the first of these that applies: `IllFormed`, with the least pattern that isn't well-formed; `SizeLimit`, where
-    /// 32 times the weight of the patterns is above the limit on their size; `PlaceLimit`, where the weight is above 2,147,483,646.
-    /// `Memory` comes where memory was refused. The builder stays as it was.
+    /// An `Err` is the first of these that applies: `IllFormed`, with the least pattern that isn't
+    /// well-formed; `SizeLimit`, if 32 times the weight of the patterns is above the limit on their
+    /// size; `PlaceLimit`, if the weight is above 2,147,483,646. `Memory` comes if memory was
+    /// refused. The builder stays as it was.
     pub fn build_many_from_hir(&self, alloc: Global, hirs: &[Hir]) -> Result<PikeVM, BuildError>
         requires { length hirs.now ≤ 2147483647 }
         ensures patterns { IfOk result (λ vm. vm_patterns vm ≡ map meaning hirs.now) }

@@ -16,7 +16,8 @@ impl Cache {
     ghost use Rattle.api_pikevm.specs.Caches.{IsCacheFor, insertions_of};
     ghost use Rattle.api_pikevm.specs.Views.{sought};
 
-    /// A cache for searches by this `PikeVM`, and by any that seeks the same. An `Err` is want of memory.
+    /// A cache for searches by this `PikeVM`, and by any that seeks the same. An `Err` means out of
+    /// memory.
     pub fn new(alloc: Global, vm: &PikeVM) -> Result<Cache, AllocError>
         ensures made { IfOk result (IsCacheFor (sought vm.now)) }
         ensures unused { IfOk result (λ c. insertions_of c ≡ 0) }
@@ -25,7 +26,8 @@ impl Cache {
         Ok(Cache { alloc, inner })
     }
 
-    /// Makes this a cache for searches by another `PikeVM`. An `Err` is want of memory, and then the cache stays as it was.
+    /// Makes this a cache for searches by another `PikeVM`. An `Err` means out of memory, and then
+    /// the cache stays as it was.
     pub fn reset(&mut self, vm: &PikeVM) -> Result<(), AllocError>
         ensures made { OnOk result (IsCacheFor (sought vm.now) self.new) }
         ensures unused { OnOk result (insertions_of self.new ≡ 0) }
@@ -35,7 +37,8 @@ impl Cache {
         Ok(())
     }
 
-    /// How many places the last pass of the last search entered, over all positions; 0 where that search made no pass.
+    /// How many places the last pass of the last search entered, over all positions; 0 if that
+    /// search made no pass.
     pub fn insertions(&self) -> u128
         ensures { result ≡ insertions_of self.now }
     {

@@ -11,10 +11,11 @@ use rc_text::input::Input;
 use rc_text::types::Match;
 use std::iter::FusedIterator;
 
-/// The matches in an input, from left to right. Each is searched for when `next` is called, in the cache that is lent.
+/// The matches in an input, from left to right. Each is searched for when `next` is called, in the
+/// cache that is lent.
 ///
-/// A call keeps the `PikeVM`, and the input but for where its span starts. After the last match it gives none, whatever its input
-/// becomes. The cache is always one that was made for the `PikeVM`.
+/// A call keeps the `PikeVM`, and the input but for where its span starts. After the last match it
+/// gives none, whatever its input becomes. The cache is always one that was made for the `PikeVM`.
 #[derive(Drop)]
 pub struct FindMatches<'v, 'c, C: Cursor> {
     pub(crate) vm: &'v PikeVM,

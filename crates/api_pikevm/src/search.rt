@@ -29,11 +29,12 @@ use rc_text::cursor::Cursor;
 use rc_text::input::Input;
 use rc_text::types::{Match, PatternID};
 
-/// Whether a search of the input finds a match, in a cache that was made for this `PikeVM`. The cache stays so.
+/// Whether a search of the input finds a match, in a cache that was made for this `PikeVM`. The
+/// cache stays so.
 ///
-/// Under `MatchKind::LeftmostFirst` the match is the one that is preferred of the least start, and under `LeftmostLongest` the longest of
-/// that start. Under `MatchKind::All` it is the one with the greatest end, then the least start, then the least pattern, and no match is
-/// passed over.
+/// Under `MatchKind::LeftmostFirst` the match is the one that is preferred of the least start, and
+/// under `LeftmostLongest` the longest of that start. Under `MatchKind::All` it is the one with the
+/// greatest end, then the least start, then the least pattern, and no match is passed over.
 pub fn is_match<C: Cursor>(vm: &PikeVM, cache: &mut Cache, input: &mut Input<C>) -> bool
     requires made { IsCacheFor (sought vm.now) cache.old }
     ensures cache { IsCacheFor (sought vm.now) cache.new }
@@ -54,13 +55,14 @@ pub fn is_match<C: Cursor>(vm: &PikeVM, cache: &mut Cache, input: &mut Input<C>)
     .is_some()
 }
 
-/// Writes the match that a search of the input finds, with its groups, into captures that were made of the groups of this `PikeVM`.
-/// Without a match they hold none. All slots but the match's are empty afterwards. The cache has to be made for this `PikeVM`; it stays
-/// so.
+/// Writes the match that a search of the input finds, with its groups, into captures that were made
+/// of the groups of this `PikeVM`. Without a match they hold none. All slots but the match's are
+/// empty afterwards. The cache has to be made for this `PikeVM`; it stays so.
 ///
-/// Under `MatchKind::LeftmostFirst` the match is the one that is preferred of the least start, and under `LeftmostLongest` the longest of
-/// that start, with the groups of the walk that is preferred of those that long. Under `MatchKind::All` it is the one with the greatest
-/// end, then the least start, then the least pattern; no match is passed over, and explicit groups hold nothing.
+/// Under `MatchKind::LeftmostFirst` the match is the one that is preferred of the least start, and
+/// under `LeftmostLongest` the longest of that start, with the groups of the walk that is preferred
+/// of those that long. Under `MatchKind::All` it is the one with the greatest end, then the least
+/// start, then the least pattern; no match is passed over, and explicit groups hold nothing.
 pub fn search<C: Cursor>(vm: &PikeVM, cache: &mut Cache, input: &mut Input<C>, caps: &mut Captures)
     requires made { IsCacheFor (sought vm.now) cache.old }
     requires for_vm { IsCapturesFor (vm_names vm.now) caps.old }
@@ -91,12 +93,15 @@ pub fn search<C: Cursor>(vm: &PikeVM, cache: &mut Cache, input: &mut Input<C>, c
     captures::set_pattern(caps, pattern);
 }
 
-/// The pattern of the match that a search of the input finds, and its slots in `slots`, which may be fewer than there are. Without
-/// a match the slots stay. The cache has to be made for this `PikeVM`; it stays so.
+/// The pattern of the match that a search of the input finds, and its slots in `slots`, which may
+/// be fewer than there are. Without a match the slots stay. The cache has to be made for this
+/// `PikeVM`; it stays so.
 ///
-/// Under `MatchKind::LeftmostFirst` the match is the one that is preferred of the least start, and under `LeftmostLongest` the longest of
-/// that start, with the slots of the walk that is preferred of those that long. Under `MatchKind::All` it is the one with the greatest
-/// end, then the least start, then the least pattern; no match is passed over, and all slots but the two of the whole match are `None`.
+/// Under `MatchKind::LeftmostFirst` the match is the one that is preferred of the least start, and
+/// under `LeftmostLongest` the longest of that start, with the slots of the walk that is preferred
+/// of those that long. Under `MatchKind::All` it is the one with the greatest end, then the least
+/// start, then the least pattern; no match is passed over, and all slots but the two of the whole
+/// match are `None`.
 pub fn search_slots<C: Cursor>(
     vm: &PikeVM,
     cache: &mut Cache,
@@ -127,13 +132,15 @@ pub fn search_slots<C: Cursor>(
     )
 }
 
-/// The matches in the input, from left to right. None is searched for before it is asked for, and neither this call nor an item takes
-/// memory. The cache has to be made for this `PikeVM`; it stays so, also where the iterator is dropped before its end.
+/// The matches in the input, from left to right. None is searched for before it is asked for, and
+/// neither this call nor an item takes memory. The cache has to be made for this `PikeVM`; it stays
+/// so, even if the iterator is dropped before its end.
 ///
 /// The cache counts the last pass for an item as for a search.
 ///
-/// Each is the match that `search` finds from where the one before ended, or from a byte later where that would be an empty one
-/// that ends there again. So under `MatchKind::All` the first is the one with the greatest end of all.
+/// Each is the match that `search` finds from if the one before ended, or from a byte later if that
+/// would be an empty one that ends there again. So under `MatchKind::All` the first is the one with
+/// the greatest end of all.
 pub fn find_iter<'v, 'c, C: Cursor + Drop>(
     vm: &'v PikeVM,
     cache: &'c mut Cache,
@@ -158,7 +165,8 @@ pub fn find_iter<'v, 'c, C: Cursor + Drop>(
     }
 }
 
-/// The next match in the input, where the match before ended at `last`. The span then starts where that next match ends.
+/// The next match in the input, where the match before ended at `last`. The span then starts where
+/// that next match ends.
 pub(crate) fn next_match<C: Cursor>(
     vm: &PikeVM,
     cache: &mut Cache,

@@ -33,7 +33,7 @@ use std::time::{Duration, Instant};
 /// The status of a fault.
 const FAULT: u8 = 2;
 
-/// The rounds where the words name no number.
+/// The rounds if the words name no number.
 const ROUNDS: u32 = 3;
 
 const USAGE: &str =
@@ -57,13 +57,13 @@ enum What {
 /// By what is searched.
 #[derive(Clone, Copy)]
 enum By {
-    /// What is chosen where nothing is set.
+    /// What is chosen if nothing is set.
     All,
     /// No needles.
     Plain,
-    /// No tables of all states.
+    /// No full DFA.
     Met,
-    /// No needles, and no tables of all states.
+    /// No needles, and no full DFA.
     Lazy,
     /// No needles, and no tables.
     Pass,
@@ -108,7 +108,7 @@ impl From<io::Error> for BenchError {
     }
 }
 
-/// The words after the program's name. An error is want of memory, or a word that isn't text.
+/// The words after the program's name. An error means out of memory, or a word that isn't text.
 fn words_of(rt: &HostRuntime) -> io::Result<Vec<String>> {
     let words = std::env::args(rt)?.skip(1).collect(rt.alloc())?;
     Ok(words)
@@ -143,7 +143,7 @@ fn by_of(word: &str) -> Option<By> {
     }
 }
 
-/// What these words ask for, where they ask for at least one round.
+/// What these words ask for, if they ask for at least one round.
 fn job_of<'a>(words: &[&'a str]) -> Option<Job<'a>> {
     if words.len() < 2 || words.len() > 5 {
         return None;
@@ -192,7 +192,7 @@ fn built(alloc: Global, pattern: &str, by: By) -> Result<Regex, BuildError> {
     built
 }
 
-/// The bytes in chunks of `n` bytes, of which the last may be shorter, or in one chunk where `n` is 0.
+/// The bytes in chunks of `n` bytes, of which the last may be shorter, or in one chunk if `n` is 0.
 fn cut(alloc: Global, bytes: &[u8], n: usize) -> Result<Vec<&[u8]>, AllocError> {
     let mut chunks = Vec::new(alloc);
     if n == 0 {
@@ -238,7 +238,7 @@ fn count_texts(alloc: Global, regex: &Regex, chunks: &[&[u8]]) -> Result<usize, 
     Ok(count)
 }
 
-/// The same, each searched in a cache that is made for it where one is needed.
+/// The same, each searched in a cache that is made for it if one is needed.
 fn count_finds(alloc: Global, regex: &Regex, chunks: &[&[u8]]) -> Result<usize, BenchError> {
     let mut count: usize = 0;
     for chunk in chunks {
@@ -287,7 +287,7 @@ fn round(
     Ok(time)
 }
 
-/// Counts in so many rounds, and writes the least time at the end.
+/// Counts in this many rounds, and writes the least time at the end.
 fn rounds(
     rt: &HostRuntime,
     regex: &Regex,
@@ -322,7 +322,7 @@ fn report(rt: &HostRuntime, error: &BenchError) -> u8 {
     FAULT
 }
 
-/// Does what the words ask for, which is nothing where there are none.
+/// Does what the words ask for, which is nothing if there are none.
 fn run_with(rt: &HostRuntime, words: &[&str]) -> u8 {
     if words.is_empty() {
         return 0;

@@ -24,7 +24,8 @@ fn put_bytes<W: Sink>(out: &mut W, bytes: &[u8]) -> Result<(), ReplaceError>
     }
 }
 
-/// Puts the bytes of the content from `start` to `end`, or to the content's end where that comes first.
+/// Puts the bytes of the content from `start` to `end`, or to the content's end if that comes
+/// first.
 pub(crate) fn put_range<W: Sink, C: Cursor>(
     out: &mut W,
     cursor: &mut C,
@@ -42,7 +43,7 @@ pub(crate) fn put_range<W: Sink, C: Cursor>(
     }
 }
 
-/// Puts the bytes of a group's span; none where the group took no part.
+/// Puts the bytes of a group's span; none if the group took no part.
 fn put_group<W: Sink, C: Cursor>(
     out: &mut W,
     cursor: &mut C,

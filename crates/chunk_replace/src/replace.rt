@@ -31,16 +31,18 @@ fn input_over<'a>(
     Ok((Input::new(cursor), cursor))
 }
 
-/// Puts the chunks' bytes, one chunk after another, with each match of the regex replaced by the template. It tells how many matches
-/// there were.
+/// Puts the chunks' bytes, one chunk after another, with each match of the regex replaced by the
+/// template. It returns how many matches there were.
 ///
-/// The matches are those of `Regex::captures_iter`: what was replaced isn't searched again. A group's bytes are those of the chunks, and
-/// a group that took no part, or that the match's pattern doesn't have, gives none. The bytes go out a piece of a chunk at a time. It
-/// takes the memory of the search's cache and of the captures of one match at a time, however long the text is. The sink has not failed
-/// before.
+/// The matches are those of `Regex::captures_iter`: what was replaced isn't searched again. A
+/// group's bytes are those of the chunks, and a group that took no part, or that the match's
+/// pattern doesn't have, gives none. The bytes go out a piece of a chunk at a time. It takes the
+/// memory of the search's cache and of the captures of one match at a time, however long the text
+/// is. The sink has not failed before.
 ///
-/// `TooLong` comes exactly where the number of bytes reaches the greatest `usize`, and nothing was put then. `Write` comes only where
-/// the sink failed in this call. After `Memory` and `Write` what was put is a beginning of the replaced text.
+/// `TooLong` comes if and only if the number of bytes reaches the greatest `usize`, and nothing was
+/// put then. `Write` comes only if the sink failed in this call. After `Memory` and `Write` what
+/// was put is a beginning of the replaced text.
 pub fn replace_all<W: Sink>(
     alloc: Global,
     regex: &Regex,

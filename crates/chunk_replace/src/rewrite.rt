@@ -17,7 +17,8 @@ use regex_cursor::engines::meta::{Captures, CapturesMatches};
 use regex_cursor::run::Sink;
 use regex_cursor::types::Match;
 
-/// Puts the content's bytes from `from` to a match, and some parts for it, and tells where the match ends.
+/// Puts the content's bytes from `from` to a match, and some parts for it, and returns where the
+/// match ends.
 fn put_match<W: Sink, C: Cursor>(
     out: &mut W,
     text: &mut C,
@@ -49,7 +50,7 @@ fn put_rest<W: Sink, C: Cursor>(out: &mut W, text: &mut C, from: usize) -> Resul
     put_range(out, text, from, usize::MAX)
 }
 
-/// Puts the text with the matches replaced, and tells how many there were.
+/// Puts the text with the matches replaced, and returns how many there were.
 pub(crate) fn put_replaced<W: Sink, C: Cursor + Drop, T: Cursor>(
     out: &mut W,
     text: &mut T,

@@ -17,10 +17,10 @@ use std::alloc::{AllocError, Global};
 use std::io;
 use std::io::{Read, Write};
 
-/// The status where something was replaced.
+/// The status if something was replaced.
 const REPLACED: u8 = 0;
 
-/// The status where nothing was.
+/// The status if nothing was.
 const UNREPLACED: u8 = 1;
 
 /// The status of a fault.
@@ -44,7 +44,7 @@ fn chunk_len(word: &str) -> Option<usize>
     Some(n)
 }
 
-/// The pattern, the template and the length of chunks, or `None` where these are not the words.
+/// The pattern, the template and the length of chunks, or `None` if these are not the words.
 fn arguments<'a>(words: &[&'a str]) -> Option<(&'a str, &'a str, usize)>
     ensures { MatchOption result
         (¬ HasWords words.now)
@@ -97,7 +97,8 @@ fn any_replaced(replaced: Result<usize, ReplaceError>) -> Result<bool, RunError>
     }
 }
 
-/// Puts the bytes in chunks of `n`, with each match of the pattern replaced, and tells whether there was one.
+/// Puts the bytes in chunks of `n`, with each match of the pattern replaced, and returns whether
+/// there was one.
 fn substitute<W: Sink>(
     alloc: Global,
     pattern: &str,
@@ -114,11 +115,12 @@ fn substitute<W: Sink>(
     any_replaced(replaced)
 }
 
-/// Replaces each match of a pattern in an input that is cut into chunks. The words are the pattern, the template and the length of a
-/// chunk in bytes.
+/// Replaces each match of a pattern in an input that is cut into chunks. The words are the pattern,
+/// the template and the length of a chunk in bytes.
 ///
-/// The answer is 0 where something was replaced, 1 where nothing was and the bytes went out unchanged, and 2 at a fault, of which one
-/// line goes to `err`. A fault of `err` is ignored. The words and the template are checked before anything is read.
+/// The answer is 0 if something was replaced, 1 if nothing was and the bytes went out unchanged,
+/// and 2 at a fault, of which one line goes to `err`. A fault of `err` is ignored. The words and
+/// the template are checked before anything is read.
 pub fn program<R: Read, W: Sink, E: Write>(
     alloc: Global,
     words: &[&str],

@@ -18,7 +18,8 @@ pub(crate) enum Part<'t> {
     Name(&'t str),
 }
 
-/// What a match is replaced by: text that stands for itself, and groups of the match. It keeps its text.
+/// What a match is replaced by: text that stands for itself, and groups of the match. It keeps its
+/// text.
 #[derive(Drop)]
 pub struct Template<'t> {
     pub(crate) parts: Vec<Part<'t>>,
@@ -27,7 +28,8 @@ pub struct Template<'t> {
 /// Why a text is no template.
 #[derive(Clone, Copy, Debug, PartialEq, Eq, Error)]
 pub enum TemplateError {
-    /// A `$` begins neither `$$` nor the mark of a group. It is the first such one, and `at` is its place in bytes.
+    /// A `$` begins neither `$$` nor the mark of a group. It is the first such one, and `at` is its
+    /// place in bytes.
     #[error("error parsing template at byte {at}")]
     Syntax { at: usize },
     /// Memory was refused.
@@ -38,8 +40,9 @@ pub enum TemplateError {
 impl<'t> Template<'t> {
     /// Reads a template.
     ///
-    /// `$$` is a `$`, `${n}` is the group of the number `n`, in decimal digits, and `${name}` is the group of that name. All else
-    /// stands for itself. The text is refused where a `$` begins none of these, also where a number is above the greatest `usize`.
+    /// `$$` is a `$`, `${n}` is the group of the number `n`, in decimal digits, and `${name}` is
+    /// the group of that name. All else stands for itself. The text is refused if a `$` begins none
+    /// of these, even if a number is above the greatest `usize`.
     pub fn parse(alloc: Global, text: &'t str) -> Result<Template<'t>, TemplateError>
         ensures { MatchResult result (λ t. IsReadAs (template_items t) text.now) (IsTemplateError text.now) }
     {

@@ -10,8 +10,8 @@ use std::marker::Model;
 /// The room that a gap gets at least, in bytes.
 const LEAST_ROOM: usize = 64;
 
-/// A text that is edited at its caret. The bytes before the caret stand before a gap, and those after it behind the gap, so an edit at
-/// the caret moves nothing.
+/// A text that is edited at its caret. The bytes before the caret are before a gap, and those after
+/// it behind the gap, so an edit at the caret moves nothing.
 ///
 /// Places are in bytes of the text, as if there was no gap.
 #[derive(Drop)]
@@ -76,7 +76,8 @@ impl GapBuffer {
         self.gap // the gap begins there
     }
 
-    /// Moves the caret to a place, or to the end where the place is past it. It moves the bytes between, and takes no memory.
+    /// Moves the caret to a place, or to the end if the place is past it. It moves the bytes
+    /// between, and takes no memory.
     pub fn move_to(&mut self, at: usize)
         ensures content { self.new.content ≡ self.old.content }
         ensures caret { self.new.caret ≡ min at (length self.old.content) }
@@ -96,7 +97,8 @@ impl GapBuffer {
         }
     }
 
-    /// Inserts bytes at the caret, which stands behind them then. An `Err` is want of memory, and nothing has changed then.
+    /// Inserts bytes at the caret, which is behind them then. An `Err` means out of memory, and
+    /// nothing has changed then.
     pub fn insert(&mut self, bytes: &[u8]) -> Result<(), AllocError>
         ensures { MatchResult result (λ _. self.new ≡ inserted self.old bytes.now) (λ _. self.new ≡ self.old) }
     {
@@ -115,21 +117,22 @@ impl GapBuffer {
         Ok(())
     }
 
-    /// Removes so many bytes before the caret, or all of them where there are fewer.
+    /// Removes this many bytes before the caret, or all of them if there are fewer.
     pub fn delete_before(&mut self, count: usize)
         ensures { self.new ≡ cut_before self.old count }
     {
         self.gap = self.gap.saturating_sub(count);
     }
 
-    /// Removes so many bytes after the caret, or all of them where there are fewer.
+    /// Removes this many bytes after the caret, or all of them if there are fewer.
     pub fn delete_after(&mut self, count: usize)
         ensures { self.new ≡ cut_after self.old count }
     {
         self.rest = self.rest.saturating_add(count).min(self.bytes.len());
     }
 
-    /// A cursor over the text, at its start. It looks at the bytes where they stand, on both sides of the gap.
+    /// A cursor over the text, at its start. It looks at the bytes where they are, on both sides of
+    /// the gap.
     pub fn cursor(&self) -> GapCursor<'_>
         ensures content { ⟦<GapCursor<'static> as Cursor>⟧.content result ≡ self.now.content }
         ensures start { ⟦<GapCursor<'static> as Cursor>⟧.offset result ≡ 0 }
@@ -148,7 +151,8 @@ fn write_at(bytes: &mut Vec<u8>, at: usize, text: &[u8])
     bytes[at..at + text.len()].copy_from_slice(text);
 }
 
-/// The front, the inserted bytes, a gap that is no shorter than all of these, and the back; and where the back begins.
+/// The front, the inserted bytes, a gap that is no shorter than all of these, and the back; and
+/// where the back begins.
 fn spread(
     alloc: Global,
     front: &[u8],

@@ -11,8 +11,8 @@ use regex_cursor::engines::meta::{Cache, FindMatches, Regex};
 use regex_cursor::types::{Match, Span};
 use std::alloc::{AllocError, Global};
 
-/// The match that a search from the caret on finds, in a cache that was made for the regex. Assertions see the whole text. It takes no
-/// memory.
+/// The match that a search from the caret on finds, in a cache that was made for the regex.
+/// Assertions see the whole text. It takes no memory.
 pub fn next_match(text: &GapBuffer, regex: &Regex, cache: &mut Cache) -> Option<Match>
     requires made { IsCacheOf regex.now cache.old }
     ensures cache { IsCacheOf regex.now cache.new }
@@ -22,8 +22,9 @@ pub fn next_match(text: &GapBuffer, regex: &Regex, cache: &mut Cache) -> Option<
     regex.search_with(cache, &mut input)
 }
 
-/// The last of the text's matches that begin before the caret. The matches are those of `Regex::find_iter` over the whole text, and
-/// are looked at from its start on, up to the caret. An `Err` is want of memory for the search's cache.
+/// The last of the text's matches that begin before the caret. The matches are those of
+/// `Regex::find_iter` over the whole text, and are looked at from its start on, up to the caret. An
+/// `Err` means out of memory for the search's cache.
 pub fn previous_match(
     alloc: Global,
     text: &GapBuffer,
@@ -51,8 +52,9 @@ fn last_of(matches: &mut FindMatches<'_, GapCursor<'_>>, at: usize) -> Option<Ma
     last
 }
 
-/// The text's matches with a byte in the window, also those that begin before it: each begins before the window's end, and ends after
-/// its start. The matches are those of `Regex::find_iter` over the whole text, in order. An `Err` is want of memory.
+/// The text's matches with a byte in the window, also those that begin before it: each begins
+/// before the window's end, and ends after its start. The matches are those of `Regex::find_iter`
+/// over the whole text, in order. An `Err` means out of memory.
 pub fn matches_on_screen(
     alloc: Global,
     text: &GapBuffer,

@@ -18,7 +18,8 @@ fn count_newlines(bytes: &[u8]) -> u64
     count
 }
 
-/// Where the last of the lines of a page ends, with its newline, that end before a place, and how many these are.
+/// Where the last of the lines of a page ends, with its newline, that end before a place, and how
+/// many these are.
 pub fn lines_before(page: &[u8], place: usize) -> (usize, u64)
     requires { place ≤ length page.now }
     ensures { AreLinesBefore page.now place result.0 result.1 }

@@ -19,8 +19,9 @@ pub trait LineSelector {
         ensures value { result ≡ selects self.old line.now }
         ensures same { selects self.new ≡ selects self.old };
 
-    /// A place in a page, which begins where a line does, such that no line of the page that ends before it is selected: so these need not
-    /// be looked at one by one. It is 0 where nothing is known.
+    /// A place in a page, which begins where a line does, such that no line of the page that ends
+    /// before it is selected: so these need not be looked at one by one. It is 0 if nothing is
+    /// known.
     fn next_candidate(&mut self, page: &[u8]) -> usize
         ensures within { result ≤ length page.now }
         ensures unselected { (start end : ℕ) → start ≤ end → end < result → AreLinesOf page.now start end → selects self.old (slice_range page.now start end) ≡ false }
@@ -30,8 +31,9 @@ pub trait LineSelector {
     }
 }
 
-/// Reads the next line into `line`, without its newline, in place of what stood there, where that line and its newline stand in what the
-/// reader has read. Answers whether they do; else nothing is taken, and the line is empty.
+/// Reads the next line into `line`, without its newline, replacing its content, if that line and
+/// its newline are in what the reader has read. Returns whether they do; otherwise nothing is
+/// taken, and the line is empty.
 fn take_line<R: BufRead>(reader: &mut R, line: &mut Vec<u8>) -> io::Result<bool>
     ensures { IfOk result (λ taken. MayTake taken (R.remaining reader.old) (R.remaining reader.new) line.new.items) }
 {
@@ -49,8 +51,9 @@ fn take_line<R: BufRead>(reader: &mut R, line: &mut Vec<u8>) -> io::Result<bool>
     Ok(true)
 }
 
-/// Reads the next line into `line`, without its newline, in place of what stood there. Answers false at the end, and then the line is
-/// empty. The bytes after the last newline are a line, where there are any.
+/// Reads the next line into `line`, without its newline, replacing its content. Returns false at
+/// the end, and then the line is empty. The bytes after the last newline are a line, if there are
+/// any.
 ///
 /// After an `Err` some bytes of the line may have been read, and are lost.
 pub fn next_line<R: BufRead>(reader: &mut R, line: &mut Vec<u8>) -> io::Result<bool>
@@ -70,7 +73,8 @@ pub fn next_line<R: BufRead>(reader: &mut R, line: &mut Vec<u8>) -> io::Result<b
     Ok(true)
 }
 
-/// Passes over lines that stand in what the reader has read, of which none is selected, and tells how many. It may be none.
+/// Passes over lines that are in what the reader has read, of which none is selected, and returns
+/// how many. It may be none.
 fn skip_lines<R: BufRead, S: LineSelector>(reader: &mut R, selector: &mut S) -> io::Result<u64>
     ensures skipped { IfOk result (λ count. IfSome (R.remaining reader.old) (λ text.
         AreSkipped (S.selects selector.old) text count (R.remaining reader.new))) }
@@ -87,10 +91,11 @@ fn skip_lines<R: BufRead, S: LineSelector>(reader: &mut R, selector: &mut S) -> 
     Ok(count)
 }
 
-/// Reads lines up to the next one that is selected, which stands in `line` then, and tells how many were read, that one among them. `None`
-/// where no line is selected up to the end.
+/// Reads lines up to the next one that is selected, which is in `line` then, and returns how many
+/// were read, that one among them. `None` if no line is selected up to the end.
 ///
-/// It keeps one line at a time. An `Err` is one of the reader, or want of memory for a line, or comes after 2^64 - 2 lines.
+/// It keeps one line at a time. An `Err` is one of the reader, or out of memory for a line, or
+/// comes after 2^64 - 2 lines.
 pub fn next_selected<R: BufRead, S: LineSelector>(
     reader: &mut R,
     selector: &mut S,

@@ -49,7 +49,7 @@ fn is_match(program: &Program, place: usize, only: Option<usize>) -> bool
     }
 }
 
-/// The pair stands on the stack: its place is marked with its position.
+/// The pair is on the stack: its place is marked with its position.
 fn is_on(marks: &[Option<usize>], place: usize, position: usize) -> bool
     requires { place < length marks.now }
     ensures on { IsTrue result → slice_index_or marks.now place None ≡ Some position }
@@ -95,8 +95,8 @@ fn unwind(stack: &mut Vec<Frame>, marks: &mut [Option<usize>])
     }
 }
 
-/// Whether a walk leads on from `start`. Where one does, the stack ends as the frames of the first
-/// of them. Each place on the stack is marked with the position of its uppermost frame. The stack and
+/// Whether a walk leads on from `start`. If one does, the stack ends as the frames of the first of
+/// them. Each place on the stack is marked with the position of its uppermost frame. The stack and
 /// the marks are taken as the start before left them.
 pub fn first_walk<C: Cursor>(
     input: &mut Input<C>,

@@ -66,7 +66,7 @@ fn end_of(walk: &Vec<Frame>) -> (usize, usize)
     }
 }
 
-/// Passing over, where it is in play, allows the walk.
+/// Passing over, if it is in play, allows the walk.
 fn allows<C: Cursor>(input: &mut Input<C>, passes_over: bool, walk: &Vec<Frame>) -> bool
     ensures keeps { Keeps input.old input.new }
     ensures value { result ≡ (not passes_over || is_boundary input.old.content (last_of (walk_of walk.now)).1) }
@@ -127,7 +127,7 @@ fn pattern_of(program: &Program, place: usize) -> PatternID
     }
 }
 
-/// The match that a search of the input finds. The earliest flag is not read. An `Err` is want of
+/// The match that a search of the input finds. The earliest flag is not read. An `Err` means out of
 /// memory.
 pub fn find<C: Cursor>(
     alloc: Global,
@@ -151,7 +151,7 @@ pub fn find<C: Cursor>(
     }
 }
 
-/// Writes the position into the slot, where there is such a slot.
+/// Writes the position into the slot, if there is such a slot.
 fn put(slots: &mut [Option<usize>], slot: usize, position: usize)
     ensures { slots.new ≡ slice_set slots.old slot (Some position) }
 {
@@ -187,8 +187,8 @@ fn clear(slots: &mut [Option<usize>])
     slots.fill(None);
 }
 
-/// Writes into each slot the position of the walk's last visit to a place that names it, and empties
-/// the others.
+/// Writes into each slot the position of the walk's last visit to a place that names it, and
+/// empties the others.
 fn note_visits(program: &Program, frames: &Vec<Frame>, slots: &mut [Option<usize>])
     ensures { slots.new ≡ map (λ k. last_visit (places_of program.now.places.items) k (walk_of frames.now)) (range_with_len 0 (length slots.old)) }
 {
@@ -201,7 +201,8 @@ fn note_visits(program: &Program, frames: &Vec<Frame>, slots: &mut [Option<usize
 }
 
 /// The pattern that a search of the input finds, with the first of its slots. Without a match the
-/// slots stay. The earliest flag is not read. An `Err` is want of memory, and the slots stay then.
+/// slots stay. The earliest flag is not read. An `Err` means out of memory, and the slots stay
+/// then.
 pub fn find_slots<C: Cursor>(
     alloc: Global,
     input: &mut Input<C>,

@@ -50,7 +50,7 @@ fn next_byte<C: Cursor>(input: &mut Input<C>, hi: usize, position: usize) -> Opt
     byte_at(input, position)
 }
 
-/// The scalar whose bytes stand from the position on, below `hi`, and how many they are.
+/// The scalar whose bytes are from the position on, below `hi`, and how many they are.
 fn next_scalar<C: Cursor>(input: &mut Input<C>, hi: usize, position: usize) -> Option<(char, usize)>
     requires { hi ≤ length input.old.content }
     ensures keeps { Keeps input.old input.new }

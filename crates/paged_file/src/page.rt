@@ -17,7 +17,7 @@ pub(crate) struct Page {
 }
 
 impl Page {
-    /// Room for so many bytes, which holds none yet.
+    /// Room for this many bytes, which holds none yet.
     pub(crate) fn new(alloc: Global, page_len: usize) -> Result<Page, AllocError>
         ensures len { IfOk result (λ p. p.len ≡ 0) }
         ensures offset { IfOk result (λ p. p.offset ≡ 0) }
@@ -32,7 +32,8 @@ impl Page {
         })
     }
 
-    /// Reads the page at a place, and lets go what it held. It holds none where no byte can be read there.
+    /// Reads the page at a place, and lets go what it held. It holds none if no byte can be read
+    /// there.
     pub(crate) fn read<P: Pages>(&mut self, file: &mut P, at: usize) -> Result<(), ReadFault>
         requires room { 0 < length self.old.bytes.items }
         ensures stored { P.stored file.new ≡ P.stored file.old }
@@ -56,12 +57,12 @@ impl Page {
 #[derive(Drop)]
 pub(crate) struct Spares {
     pub(crate) pages: Vec<Page>,
-    /// Which of them is let go next.
+    /// Which of them is dropped next.
     pub(crate) oldest: usize,
 }
 
 impl Spares {
-    /// Room for so many pages.
+    /// Room for this many pages.
     pub(crate) fn new(alloc: Global, count: usize, page_len: usize) -> Result<Spares, AllocError>
         requires some { 0 < count }
         ensures count { IfOk result (λ s. vec_len s.pages ≡ count) }
@@ -87,7 +88,8 @@ impl Spares {
         None
     }
 
-    /// Where the page at a place is in memory, once it was read where it wasn't. None is the file's end, where no byte stands there.
+    /// Where the page at a place is in memory, once it was read if it wasn't. None is the file's
+    /// end, if there is no byte.
     pub(crate) fn fetch<P: Pages>(
         &mut self,
         file: &mut P,

@@ -17,10 +17,11 @@ pub enum FindError {
     Memory,
 }
 
-/// The match that a search of the bytes that can be read finds, from the shown page on. Assertions see all these bytes, so where a
-/// page can't be read, the text ends before it: `failure` of the cursor tells then whether the search came there.
+/// The match that a search of the bytes that can be read finds, from the shown page on. Assertions
+/// see all these bytes, so if a page can't be read, the text ends before it: `failure` of the
+/// cursor tells then whether the search came there.
 ///
-/// An `Err` is want of memory for the search's cache.
+/// An `Err` means out of memory for the search's cache.
 pub fn find<P: Pages>(
     alloc: Global,
     cursor: &mut PagedCursor<P>,
@@ -32,8 +33,8 @@ pub fn find<P: Pages>(
     Ok(found) // and what it met, the cursor tells
 }
 
-/// The match that a search of the whole file finds, from the shown page on. The file is read to its end first, and is searched only
-/// where each page could be read.
+/// The match that a search of the whole file finds, from the shown page on. The file is read to its
+/// end first, and is searched only if each page could be read.
 pub fn find_whole<P: Pages>(
     alloc: Global,
     cursor: &mut PagedCursor<P>,

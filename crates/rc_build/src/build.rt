@@ -39,15 +39,15 @@ pub struct Built {
     pub info: GroupInfo,
 }
 
-/// The patterns, at most 2,147,483,647 of them, built under the settings of their program, for searches
-/// for this kind of match.
+/// The patterns, at most 2,147,483,647 of them, built under the settings of their program, for
+/// searches for this kind of match.
 ///
-/// Searches may go by the needles of `prefilter`, and where `is_auto` is on also by the patterns' own.
-/// No answer depends on them.
+/// Searches may go by the needles of `prefilter`, and if `is_auto` is on also by the patterns' own.
+/// No search result depends on them.
 ///
 /// An `Err` is the first of these that applies: `IllFormed`, with the least pattern that isn't
-/// well-formed; `SizeLimit`, where 32 times the weight of the patterns is above the limit on their
-/// size; `PlaceLimit`, where the weight is above 2,147,483,646. `Memory` comes where memory was refused.
+/// well-formed; `SizeLimit`, if 32 times the weight of the patterns is above the limit on their
+/// size; `PlaceLimit`, if the weight is above 2,147,483,646. `Memory` comes if memory was refused.
 pub fn build_all(
     alloc: Global,
     hirs: &[Hir],
@@ -82,7 +82,8 @@ pub fn build_all(
     })
 }
 
-/// The engine of these patterns, whose program this is with its heads, and whose searches may go by the strategy.
+/// The engine of these patterns, whose program this is with its heads, and whose searches may go by
+/// the strategy.
 fn engine_of(
     settings: thompson::Config,
     kind: MatchKind,

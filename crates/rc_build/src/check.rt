@@ -14,13 +14,13 @@ use std::alloc::Global;
 /// The greatest weight of patterns that have a program.
 const GREATEST_WEIGHT: u128 = 2_147_483_646;
 
-/// Whether the patterns, at most 2,147,483,647 of them, can be built under a limit on 32 times their
-/// weight.
+/// Whether the patterns, at most 2,147,483,647 of them, can be built under a limit on 32 times
+/// their weight.
 ///
 /// An `Err` is the first of these that applies: `IllFormed`, with the least pattern that isn't
-/// well-formed; `SizeLimit`, where 32 times the weight is above the limit; `PlaceLimit`, where the
-/// weight is above 2,147,483,646. `Memory` may come at any time. The patterns may be of any depth and
-/// any weight.
+/// well-formed; `SizeLimit`, if 32 times the weight is above the limit; `PlaceLimit`, if the weight
+/// is above 2,147,483,646. `Memory` may come at any time. The patterns may be of any depth and any
+/// weight.
 pub fn check(alloc: Global, hirs: &[Hir], limit: Option<usize>) -> Result<(), BuildError>
     requires { length hirs.now ≤ 2147483647 }
     ensures buildable { IfOk result (λ _. IsBuildable limit (map meaning hirs.now)) }

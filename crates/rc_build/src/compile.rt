@@ -32,8 +32,8 @@ pub struct Compiled {
 /// The patterns, at most 2,147,483,647 of them, compiled under a limit on 32 times their weight.
 ///
 /// An `Err` is the first of these that applies: `IllFormed`, with the least pattern that isn't
-/// well-formed; `SizeLimit`, where 32 times the weight is above the limit; `PlaceLimit`, where the
-/// weight is above 2,147,483,646. `Memory` comes where memory was refused.
+/// well-formed; `SizeLimit`, if 32 times the weight is above the limit; `PlaceLimit`, if the weight
+/// is above 2,147,483,646. `Memory` comes if memory was refused.
 pub fn compile_all(
     alloc: Global,
     hirs: &[Hir],

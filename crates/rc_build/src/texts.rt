@@ -11,9 +11,10 @@ use rc_settings::error::BuildError;
 use rc_text::types::PatternID;
 use std::alloc::Global;
 
-/// The patterns as which the texts are read, at most 2,147,483,647 of them, each at the place of its text.
+/// The patterns as which the texts are read, at most 2,147,483,647 of them, each at the place of
+/// its text.
 ///
-/// An `Err` is `Syntax`, with the least text from which no pattern is read, or `Memory`, where memory
+/// An `Err` is `Syntax`, with the least text from which no pattern is read, or `Memory`, if memory
 /// was refused.
 pub fn parse_all(alloc: Global, texts: &[&str], config: &Config) -> Result<Vec<Hir>, BuildError>
     requires { length texts.now ≤ 2147483647 }

@@ -10,10 +10,11 @@ use rc_pattern::check::{capped_list_weight, is_well_formed};
 use rc_pattern::hir::Hir;
 use std::alloc::{AllocError, Global};
 
-/// How heavy the patterns are whose build under this limit, in bytes, is refused with `SizeLimit`: they are well-formed, and
-/// 32 times their weight is above it.
+/// How heavy the patterns are whose build under this limit, in bytes, is refused with `SizeLimit`:
+/// they are well-formed, and 32 times their weight is above it.
 ///
-/// It is `None` exactly where such a build isn't refused for the patterns' size. An `Err` is want of memory.
+/// It is `None` if and only if such a build isn't refused for the patterns' size. An `Err` means
+/// out of memory.
 pub fn explain_size(
     alloc: Global,
     hirs: &[Hir],

@@ -15,7 +15,8 @@ use std::alloc::{AllocError, Global};
 
 /// The pattern that matched, and the positions of its groups.
 ///
-/// A group is the span of its two slots. It is absent without a match, and where a slot is empty or isn't kept.
+/// A group is the span of its two slots. It is absent without a match, and if a slot is empty or
+/// isn't kept.
 #[derive(Drop)]
 pub struct Captures {
     info: GroupInfo,
@@ -24,8 +25,8 @@ pub struct Captures {
 }
 
 impl Captures {
-    /// Captures that keep all groups of these patterns. They hold no match, and each slot is empty. An error is want of
-    /// memory.
+    /// Captures that keep all groups of these patterns. They hold no match, and each slot is empty.
+    /// An error means out of memory.
     pub fn all(alloc: Global, info: &GroupInfo) -> Result<Captures, AllocError>
         ensures made { IfOk result (IsCapturesFor (names_of info.now)) }
         ensures pattern { IfOk result (λ c. captures_pattern c ≡ None) }
@@ -34,8 +35,8 @@ impl Captures {
         empty(alloc, info, info.slot_len())
     }
 
-    /// Captures that keep the whole matches of these patterns alone. They hold no match, and each slot is empty. An error
-    /// is want of memory.
+    /// Captures that keep the whole matches of these patterns alone. They hold no match, and each
+    /// slot is empty. An error means out of memory.
     pub fn matches(alloc: Global, info: &GroupInfo) -> Result<Captures, AllocError>
         ensures made { IfOk result (IsCapturesFor (names_of info.now)) }
         ensures pattern { IfOk result (λ c. captures_pattern c ≡ None) }
@@ -59,8 +60,8 @@ impl Captures {
         self.pattern.is_some()
     }
 
-    /// The match: the pattern, and the span of its group 0. `None` without a match, and where that group is absent or
-    /// its start is above its end.
+    /// The match: the pattern, and the span of its group 0. `None` without a match, and if that
+    /// group is absent or its start is above its end.
     pub fn get_match(&self) -> Option<Match>
         ensures { result ≡ match_of self.now }
     {
@@ -73,7 +74,8 @@ impl Captures {
         }
     }
 
-    /// The span of a group of the pattern that matched, in bytes of the content; `None` where the group is absent.
+    /// The span of a group of the pattern that matched, in bytes of the content; `None` if the
+    /// group is absent.
     pub fn get_group(&self, index: usize) -> Option<Span>
         ensures { result ≡ group_span self.now index }
     {
@@ -83,7 +85,7 @@ impl Captures {
         Some(Span { start, end })
     }
 
-    /// The span of the group of that name; `None` where the group is absent, or none has the name.
+    /// The span of the group of that name; `None` if the group is absent, or none has the name.
     pub fn get_group_by_name(&self, name: &str) -> Option<Span>
         ensures { result ≡ named_span self.now name.now }
     {
@@ -110,7 +112,7 @@ impl Captures {
     }
 }
 
-/// Captures with so many empty slots.
+/// Captures with this many empty slots.
 fn empty(alloc: Global, info: &GroupInfo, len: usize) -> Result<Captures, AllocError>
     ensures names { IfOk result (λ c. captures_names c ≡ names_of info.now) }
     ensures pattern { IfOk result (λ c. captures_pattern c ≡ None) }
@@ -159,7 +161,7 @@ pub fn group_info_of(caps: &Captures) -> &GroupInfo
     &caps.info
 }
 
-/// The same captures in memory of their own. An error is want of memory.
+/// The same captures in memory of their own. An error means out of memory.
 pub fn copy_of(alloc: Global, caps: &Captures) -> Result<Captures, AllocError>
     ensures names { IfOk result (λ c. captures_names c ≡ captures_names caps.now) }
     ensures pattern { IfOk result (λ c. captures_pattern c ≡ captures_pattern caps.now) }
@@ -178,7 +180,8 @@ pub fn captures_tell_their_match()
     ensures { MatchLaw }
 {}
 
-/// Lending the slots keeps the patterns, the pattern that matched and the number of slots. A law: it does nothing.
+/// Lending the slots keeps the patterns, the pattern that matched and the number of slots. A law:
+/// it does nothing.
 pub fn lending_keeps_the_patterns()
     ensures { LentLaw }
 {}

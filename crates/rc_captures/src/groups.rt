@@ -12,7 +12,8 @@ use std::alloc::{AllocError, Global};
 use std::sync::Arc;
 use table::{Table, table_of};
 
-/// Which groups the patterns of a list have, what they are called, and in which slots their bounds stand.
+/// Which groups the patterns of a list have, what they are called, and in which slots their bounds
+/// are.
 ///
 /// Group 0 of a pattern is its whole match, and has no name. The others are its explicit groups.
 #[derive(Drop)]
@@ -43,7 +44,7 @@ impl GroupInfo {
         2 * self.table.names.len()
     }
 
-    /// How many groups the pattern has, group 0 among them; 0 where there is no such pattern.
+    /// How many groups the pattern has, group 0 among them; 0 if there is no such pattern.
     pub fn group_len(&self, pattern: PatternID) -> usize
         ensures { result ≡ group_len (names_of self.now) pattern }
     {
@@ -53,10 +54,10 @@ impl GroupInfo {
         }
     }
 
-    /// The slots of a group's start and end; `None` where there is no such pattern or group.
+    /// The slots of a group's start and end; `None` if there is no such pattern or group.
     ///
-    /// The whole match of pattern p stands in the slots 2p and 2p + 1. The explicit groups' slots follow, by pattern
-    /// and then by number.
+    /// The whole match of pattern p is in the slots 2p and 2p + 1. The explicit groups' slots
+    /// follow, by pattern and then by number.
     pub fn slots(&self, pattern: PatternID, group: usize) -> Option<(usize, usize)>
         ensures { result ≡ slots (names_of self.now) pattern group }
     {
@@ -67,8 +68,8 @@ impl GroupInfo {
         Some((slot, slot + 1))
     }
 
-    /// The group of that name, from 1 on; the first one where several have it, and `None` where none has it or there
-    /// is no such pattern.
+    /// The group of that name, from 1 on; the first one if several have it, and `None` if none has
+    /// it or there is no such pattern.
     pub fn to_index(&self, pattern: PatternID, name: &str) -> Option<usize>
         ensures { result ≡ to_index (names_of self.now) pattern name.now }
     {
@@ -77,7 +78,7 @@ impl GroupInfo {
         Some(before + 1)
     }
 
-    /// The name of a group; `None` where it has none, or there is no such pattern or group.
+    /// The name of a group; `None` if it has none, or there is no such pattern or group.
     pub fn to_name(&self, pattern: PatternID, group: usize) -> Option<&str>
         ensures { option_copied result ≡ to_name (names_of self.now) pattern group }
     {
@@ -100,8 +101,8 @@ impl GroupInfo {
     }
 }
 
-/// The groups of patterns with these names: for each pattern those of its explicit groups 1, 2, .. in order. An error is
-/// want of memory.
+/// The groups of patterns with these names: for each pattern those of its explicit groups 1, 2, ..
+/// in order. An error means out of memory.
 pub fn group_info(alloc: Global, names: Vec<Vec<Option<String>>>) -> Result<GroupInfo, AllocError>
     ensures { IfOk result (λ g. names_of g ≡ names_in names.items) }
 {
@@ -109,7 +110,8 @@ pub fn group_info(alloc: Global, names: Vec<Vec<Option<String>>>) -> Result<Grou
     Ok(GroupInfo { table })
 }
 
-/// The same groups. The names are shared, so this takes no memory; an error means that there are too many copies.
+/// The same groups. The names are shared, so this takes no memory; an error means that there are
+/// too many copies.
 pub fn copy_of(info: &GroupInfo) -> Result<GroupInfo, AllocError>
     ensures { IfOk result (λ g. names_of g ≡ names_of info.now) }
 {
@@ -127,7 +129,7 @@ fn is_named(other: &Option<String>, name: &str) -> bool
     }
 }
 
-/// How many groups stand before the first one of that name.
+/// How many groups are before the first one of that name.
 fn position_of(names: &[Option<String>], name: &str) -> Option<usize>
     ensures { result
         ≡ position (λ other. is_named (option_map string_bytes other) name.now) names.now }

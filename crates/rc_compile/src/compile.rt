@@ -18,7 +18,7 @@ use rc_program::place::Place;
 use sizes::size;
 use std::alloc::{AllocError, Global};
 
-/// How many groups the pattern's part names, or the greatest usize where there are more.
+/// How many groups the pattern's part names, or the greatest usize if there are more.
 fn shown_groups(hir: &Hir, groups: bool) -> usize
     ensures { result ≡ min (group_count (shown_one groups (meaning hir.now))) (2 ^ 64 - 1) }
 {
@@ -51,8 +51,8 @@ fn emit_pattern(
     append(places, Place::Accept(pattern))
 }
 
-/// The program of the patterns: with their groups, or with each group as its body. An `Err` is want
-/// of memory.
+/// The program of the patterns: with their groups, or with each group as its body. An `Err` means
+/// out of memory.
 pub fn compile(alloc: Global, hirs: &[Hir], groups: bool) -> Result<Vec<Place>, AllocError>
     requires well_formed { All IsWellFormed (map meaning hirs.now) }
     requires light { list_weight (map meaning hirs.now) ≤ 2147483646 }

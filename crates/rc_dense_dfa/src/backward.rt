@@ -17,7 +17,8 @@ use rc_text::cursor::Cursor;
 use rc_text::input::{Input, piece_before};
 use rc_text::types::Anchored;
 
-/// The cell to which the last of so many bytes of a piece leads. Where it has no mark, it names the row of the run before that byte.
+/// The cell to which the last of this many bytes of a piece leads. If it has no mark, it names the
+/// row of the run before that byte.
 #[inline(always)]
 fn cell_at(
     table: &Table,
@@ -44,8 +45,9 @@ fn cell_at(
     cells[stand.row + classes[piece[left - 1] as usize] as usize]
 }
 
-/// Runs over bytes whose cells have no mark, four at a time towards the beginning of a piece, and answers how many bytes are left and the row
-/// before the others. Fewer than four are left, or the next cell has a mark.
+/// Runs over bytes whose cells have no mark, four at a time towards the beginning of a piece, and
+/// returns how many bytes are left and the row before the others. Fewer than four are left, or the
+/// next cell has a mark.
 #[inline(always)]
 fn stride(table: &Table, piece: &[u8], from: usize, start: usize, stand: Stand) -> (usize, usize)
     ghost course: { Course }
@@ -122,8 +124,9 @@ fn stride(table: &Table, piece: &[u8], from: usize, start: usize, stand: Stand) 
     (left, row)
 }
 
-/// Runs over the bytes of a piece from its end, down to one of which the cell needs a look, and answers how many bytes are left. A mark of
-/// something met needs none where `limit` is `SKIP`, and one where it is 0.
+/// Runs over the bytes of a piece from its end, down to one of which the cell needs a look, and
+/// returns how many bytes are left. A mark of something found needs none if `limit` is `SKIP`, and
+/// one if it is 0.
 #[inline(never)]
 fn run(table: &Table, piece: &[u8], start: usize, stand: Stand, limit: usize) -> (usize, Stand)
     ghost course: { Course }
@@ -261,7 +264,8 @@ fn begin(table: &Table, anchored: Anchored, beside: Option<u8>, from: usize) -> 
     Leg::Through(Stand { row, noted: None })
 }
 
-/// How a search ends that came to its lower bound: the byte that stands before it decides what is met there, or the beginning of what is seen.
+/// How a search ends that came to its lower bound: the byte before it decides what is found there,
+/// or the beginning of what is seen.
 #[inline(always)]
 fn finish<C: Cursor>(table: &Table, input: &mut Input<C>, end: usize, stand: Stand) -> Ended
     ghost course: { Course }
@@ -317,10 +321,11 @@ fn search<C: Cursor>(
     }
 }
 
-/// Searches backwards by the table, from the position `end` down to `least`, in bytes of the whole content, wherever it is cut, and tells the
-/// least position at which an entry is met, with the entry's number: the first of those met there. With `earliest` it is the first position
-/// that is come to, and nothing before it is read. A byte that the table doesn't read ends the search. Nothing is copied, and no memory is
-/// taken.
+/// Searches backwards by the table, from the position `end` down to `least`, in bytes of the whole
+/// content, wherever it is cut, and returns the least position at which an entry is found, with the
+/// entry's number: the first of those found there. With `earliest` it is the first position that is
+/// come to, and nothing before it is read. A byte that the table doesn't read ends the search.
+/// Nothing is copied, and no memory is taken.
 #[inline(always)]
 pub fn run_backwards<C: Cursor>(
     table: &Table,

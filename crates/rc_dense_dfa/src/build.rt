@@ -23,7 +23,7 @@ use rc_dfa::states::States;
 use rc_text::types::{Anchored, PatternID};
 use std::alloc::{AllocError, Global};
 
-/// What was met, as a number; None where that is none.
+/// What was found, as a number; None if that is none.
 fn code_of(met: Option<usize>) -> Option<usize>
     ensures { IfSome result (λ code. code ≡ code_of met) }
 {
@@ -33,7 +33,7 @@ fn code_of(met: Option<usize>) -> Option<usize>
     }
 }
 
-/// The way of anchoring of this number; None where there is none.
+/// The way of anchoring of this number; None if there is none.
 fn anchoring(mode: usize) -> Option<Anchored>
     ensures { IfSome result (λ anchored. mode_of anchored ≡ mode) }
 {
@@ -76,7 +76,7 @@ fn starts_of(
     Ok(starts)
 }
 
-/// What is met at the end, from the state of the number on.
+/// What is found at the end, from the state of the number on.
 fn end_of(
     maker: &mut Maker,
     automaton: &Automaton,
@@ -99,7 +99,7 @@ fn end_of(
     Ok(code)
 }
 
-/// What was met before each row, as a number.
+/// What was found before each row, as a number.
 fn tells_of(alloc: Global, states: &States) -> Result<Vec<usize>, TableError>
     ensures tells { IfOk result (λ tells. (length tells.items ≡ length states.now) × AreTells states.now tells.items) }
     ensures refused { IfErr result (λ e. e ≡ Memory) }
@@ -194,7 +194,7 @@ fn maker_of(
     Ok(Maker { names, scratch, to })
 }
 
-/// How many starts a table has; None where memory could not hold them.
+/// How many starts a table has; None if memory could not hold them.
 fn start_count(modes: usize, width: usize) -> Option<usize>
     ensures { IfSome result (λ count. count ≡ modes * (width + 1)) }
 {
@@ -279,7 +279,8 @@ fn have_few(exits: &[Exits]) -> bool {
     false
 }
 
-/// Which rows are marked: those with few exits or of which a leap is told, and with `rests` those at which searches may rest.
+/// Which rows are marked: those with few exits or of which a leap is known, and with `rests` those
+/// at which searches may rest.
 fn hints_of(
     alloc: Global,
     exits: &[Exits],
@@ -302,8 +303,9 @@ fn hints_of(
     Ok(hints)
 }
 
-/// A table of all the states that searches by the automaton can reach in this direction. The error `TooBig` comes where what holds the states
-/// weighs more than `limit` bytes, and `Memory` where memory is wanting. With `rests` searches that may rest stop to look at the rows at which they may.
+/// A table of all the states that searches by the automaton can reach in this direction. The error
+/// `TooBig` comes if what holds the states weighs more than `limit` bytes, and `Memory` if memory
+/// is wanting. With `rests` searches that may rest stop to look at the rows at which they may.
 pub(crate) fn table_of(
     alloc: Global,
     automaton: &Automaton,

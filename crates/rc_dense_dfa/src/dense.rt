@@ -27,7 +27,7 @@ pub struct NoCache;
 pub struct Dense {
     forward: Table,
     reverse: Table,
-    /// For each place of the byte program the pattern whose match place it is; 0 where it is none.
+    /// For each place of the byte program the pattern whose match place it is; 0 if it is none.
     patterns: Vec<usize>,
 }
 
@@ -89,9 +89,10 @@ fn table_usage(table: &Table) -> u128
 }
 
 impl Dense {
-    /// The tables of the automaton, each of them within `limit` bytes: so much what holds its states may weigh. The error `TooBig` comes where
-    /// the states of one of the two weigh more, and `Memory` where memory is wanting. With `rests` the searches forwards that may rest
-    /// do so wherever they may.
+    /// The tables of the automaton, each of them within `limit` bytes: so much what holds its
+    /// states may weigh. The error `TooBig` comes if the states of one of the two weigh more, and
+    /// `Memory` if memory is wanting. With `rests` the searches forwards that may rest do so
+    /// wherever they may.
     pub fn new(
         alloc: Global,
         automaton: &Automaton,
@@ -113,7 +114,7 @@ impl Dense {
         })
     }
 
-    /// How many bytes the tables take, or `usize::MAX` where that is more.
+    /// How many bytes the tables take, or `usize::MAX` if that is more.
     pub fn memory_usage(&self) -> usize
         ensures { result ≡ min (bytes_of self.now.forward + bytes_of self.now.reverse + 8 * length self.now.patterns.items) usize.MAX }
     {

@@ -10,23 +10,24 @@ use memchr::{memchr, memchr2, memchr3};
 use rc_dfa::automaton::Direction;
 use std::alloc::{AllocError, Global};
 
-/// The bytes of which the cells of a row don't name that row itself, or tell of something met.
+/// The bytes of which the cells of a row don't name that row itself, or tell of something found.
 #[derive(Clone, Copy)]
 pub enum Exits {
     Zero,
     One(u8),
     Two(u8, u8),
     Three(u8, u8, u8),
-    /// More, or such as stand in most texts: the row is not worth a search for them.
+    /// More, or such as are in most texts: the row is not worth a search for them.
     Many,
 }
 
-/// Whether the byte stands close together in most texts.
+/// Whether the byte is common in most texts.
 fn is_common(byte: u8) -> bool {
     matches!(byte, b' ' | b'\n' | b'0'..=b'9' | b'a'..=b'z')
 }
 
-/// The exits, and one more. A common byte is taken for many, since a search for it would end too soon to be worth it.
+/// The exits, and one more. A common byte is taken for many, since a search for it would end too
+/// soon to be worth it.
 fn with(exits: Exits, byte: u8) -> Exits
     ensures { (b : ℕ) → is_exit result b ≡ false → (is_exit exits b ≡ false) × (b ≢ byte) }
 {
@@ -49,7 +50,7 @@ pub(crate) fn are_few(exits: Exits) -> bool {
     }
 }
 
-/// Whether the byte leads from the row to the row itself, and nothing is met.
+/// Whether the byte leads from the row to the row itself, and nothing is found.
 fn stays(classes: &[u8], cells: &[usize], row: usize, byte: usize) -> bool
     requires { row < 9223372036854775808 }
     ensures { IsTrue result → Stays dead classes.now cells.now row byte }
@@ -77,7 +78,7 @@ fn exits_from(classes: &[u8], cells: &[usize], row: usize) -> Exits
     exits
 }
 
-/// The exits of each row; none are told of a table for searches backwards, which read each byte.
+/// The exits of each row; none are known of a table for searches backwards, which read each byte.
 pub(crate) fn exits_of(
     alloc: Global,
     classes: &[u8],
@@ -101,7 +102,8 @@ pub(crate) fn exits_of(
     Ok(exits)
 }
 
-/// The first place of the piece at which an exit stands, or the piece's length; 0 where there are many exits.
+/// The first place of the piece at which an exit is, or the piece's length; 0 if there are many
+/// exits.
 pub(crate) fn first_exit(exits: Exits, piece: &[u8]) -> usize
     ensures within { result ≤ length piece.now }
     ensures passed { (k : ℕ) → k < result → is_exit exits (slice_index_or piece.now k 0) ≡ false }

@@ -21,7 +21,7 @@ use rc_text::cursor::Cursor;
 use rc_text::input::{Input, high, piece_from};
 use rc_text::types::Anchored;
 
-/// The position from which on a search rests where it may.
+/// The position from which on a search rests if it may.
 #[inline(always)]
 fn looks_from(may_rest: bool, rest_from: usize) -> usize {
     if may_rest {
@@ -30,7 +30,8 @@ fn looks_from(may_rest: bool, rest_from: usize) -> usize {
     usize::MAX
 }
 
-/// The cell to which the byte of a piece at an index leads. Where it has no mark, it names the row of the run behind that byte.
+/// The cell to which the byte of a piece at an index leads. If it has no mark, it names the row of
+/// the run behind that byte.
 #[inline(always)]
 fn cell_at(
     table: &Table,
@@ -56,8 +57,8 @@ fn cell_at(
     cells[stand.row + classes[piece[index] as usize] as usize]
 }
 
-/// Runs over bytes whose cells have no mark, four at a time, and answers how many bytes were read and the row behind them. Fewer than four are
-/// left, or the next cell has a mark.
+/// Runs over bytes whose cells have no mark, four at a time, and returns how many bytes were read
+/// and the row behind them. Fewer than four are left, or the next cell has a mark.
 #[inline(always)]
 fn stride(table: &Table, piece: &[u8], from: usize, start: usize, stand: Stand) -> (usize, usize)
     ghost course: { Course }
@@ -134,9 +135,10 @@ fn stride(table: &Table, piece: &[u8], from: usize, start: usize, stand: Stand) 
     (index, row)
 }
 
-/// Leaps over the bytes of a piece from an index on, behind a cell with the mark `SKIP`, up to the first that may lead away, and answers how many bytes were read and
-/// the row behind them. No byte is read where no leap is told of the row. None where that cell needs a look: a search may rest at the row from the position
-/// `looks` on, or a search for its few exits serves better.
+/// Leaps over the bytes of a piece from an index on, behind a cell with the mark `SKIP`, up to the
+/// first that may lead away, and returns how many bytes were read and the row behind them. No byte
+/// is read if no leap is known of the row. None if that cell needs a look: a search may rest at the
+/// row from the position `looks` on, or a search for its few exits serves better.
 #[inline(always)]
 fn leap(
     table: &Table,
@@ -174,8 +176,9 @@ fn leap(
     Some((from + passed, row_of(cell)))
 }
 
-/// Runs over the bytes of a piece from an index on, up to one of which the cell needs a look, and answers how many bytes were read. A mark of something met
-/// needs none where `limit` is `SKIP`, and one where it is 0; a mark `SKIP` needs none where `leap` tells how far to go.
+/// Runs over the bytes of a piece from an index on, up to one of which the cell needs a look, and
+/// returns how many bytes were read. A mark of something found needs none if `limit` is `SKIP`, and
+/// one if it is 0; a mark `SKIP` needs none if `leap` tells how far to go.
 #[inline(never)]
 fn run(
     table: &Table,
@@ -236,7 +239,8 @@ fn run(
     (index, Stand { row, noted })
 }
 
-/// Reads one byte, whatever its cell. With `may_rest` the search rests behind it where it may, from the position `rest_from` on.
+/// Reads one byte, whatever its cell. With `may_rest` the search rests behind it if it may, from
+/// the position `rest_from` on.
 #[inline(always)]
 fn step(
     table: &Table,
@@ -276,7 +280,8 @@ fn step(
     Leg::Through(Stand { row, noted })
 }
 
-/// How many bytes of a piece are passed over: those before the first that may lead away from the row. None are where the search is to rest.
+/// How many bytes of a piece are passed over: those before the first that may lead away from the
+/// row. None are if the search is to rest.
 #[inline(always)]
 fn pass(table: &Table, piece: &[u8], start: usize, stand: Stand, may_rest: bool) -> usize
     ghost course: { Course }
@@ -371,7 +376,8 @@ fn begin(table: &Table, anchored: Anchored, beside: Option<u8>, from: usize) -> 
     Leg::Through(Stand { row, noted: None })
 }
 
-/// How a search ends that came to its upper bound: the byte that stands beyond decides what is met there, or the end of what is seen.
+/// How a search ends that came to its upper bound: the byte beyond decides what is found there, or
+/// the end of what is seen.
 #[inline(always)]
 fn finish<C: Cursor>(table: &Table, input: &mut Input<C>, end: usize, stand: Stand) -> Ended
     ghost course: { Course }
@@ -430,9 +436,12 @@ fn search<C: Cursor>(
     }
 }
 
-/// Searches forwards by the table, from the position `from` up to where the input's bounds end, in bytes of the whole content, wherever it is
-/// cut: what is met last is told, with its position; with `earliest` the first that is met, and nothing is read beyond it. Where `may_rest` is set, the search may end behind a byte
-/// that it read, where nothing was met and nothing is under way; before `rest_from` it reads on. A byte that the table doesn't read ends the search. Nothing is copied, and no memory is taken.
+/// Searches forwards by the table, from the position `from` up to where the input's bounds end, in
+/// bytes of the whole content, wherever it is cut: what is found last is returned, with its
+/// position; with `earliest` the first that is found, and nothing is read beyond it. If `may_rest`
+/// is set, the search may end behind a byte that it read, if nothing was found and nothing is under
+/// way; before `rest_from` it reads on. A byte that the table doesn't read ends the search. Nothing
+/// is copied, and no memory is taken.
 #[inline(always)]
 pub fn run_forwards<C: Cursor>(
     table: &Table,

@@ -8,10 +8,10 @@ use crate::look::row_of;
 use crate::table::{DEAD, QUIT};
 use std::alloc::{AllocError, Global};
 
-/// So many leaps are told of at most.
+/// This many leaps are known at most.
 const MOST: usize = 4;
 
-/// Of a thousand bytes of most texts, so many lead away at most where a leap is told.
+/// Of a thousand bytes of most texts, this many lead away at most if a leap is known.
 const LEAVING: usize = 60;
 
 /// Bytes of most texts, the most common ones first.
@@ -24,7 +24,8 @@ pub struct Leap {
     pub row: usize,
     /// Another one, or the same again.
     pub other: usize,
-    /// For each byte whether it is known to lead from both rows to the same one of the two, where nothing is met.
+    /// For each byte whether it is known to lead from both rows to the same one of the two, if
+    /// nothing is found.
     pub stays: [bool; 256],
     /// Whether a search may rest at the row.
     pub rests: bool,
@@ -47,7 +48,7 @@ fn share(byte: u8) -> usize {
     }
 }
 
-/// The row to which a byte leads, if it goes on from there and nothing is met.
+/// The row to which a byte leads, if it goes on from there and nothing is found.
 fn row_behind(classes: &[u8], cells: &[usize], row: usize, byte: usize) -> Option<usize>
     requires { row < 9223372036854775808 }
     ensures small { IfSome result (λ behind. behind < 9223372036854775808) }
@@ -66,7 +67,7 @@ fn row_behind(classes: &[u8], cells: &[usize], row: usize, byte: usize) -> Optio
     Some(row_of(*cell))
 }
 
-/// Whether the byte leads from both rows to the same one of the two, and nothing is met.
+/// Whether the byte leads from both rows to the same one of the two, and nothing is found.
 fn stays_among(classes: &[u8], cells: &[usize], row: usize, other: usize, byte: usize) -> bool
     requires row { row < 9223372036854775808 }
     requires other { other < 9223372036854775808 }
@@ -81,7 +82,8 @@ fn stays_among(classes: &[u8], cells: &[usize], row: usize, other: usize, byte: 
     behind == beside && (behind == row || behind == other)
 }
 
-/// Whether the byte isn't read in the row: a search ends there, so it is no matter how it comes there.
+/// Whether the byte isn't read in the row: a search ends there, so it is no matter how it comes
+/// there.
 fn quits(classes: &[u8], cells: &[usize], row: usize, byte: usize) -> bool
     requires { row < 9223372036854775808 }
 {
@@ -94,7 +96,8 @@ fn quits(classes: &[u8], cells: &[usize], row: usize, byte: usize) -> bool
     *cell == QUIT
 }
 
-/// How many of a thousand bytes of most texts lead away from the two rows, about. Where it is more than `LEAVING`, it may be more still.
+/// How many of a thousand bytes of most texts lead away from the two rows, about. If it is more
+/// than `LEAVING`, it may be more still.
 fn leaving(classes: &[u8], cells: &[usize], row: usize, other: usize) -> usize
     requires row { row < 9223372036854775808 }
     requires other { other < 9223372036854775808 }
@@ -113,7 +116,8 @@ fn leaving(classes: &[u8], cells: &[usize], row: usize, other: usize) -> usize
     sum
 }
 
-/// Another row, to which the most common byte leads that leads away from the row; or the row itself.
+/// Another row, to which the most common byte leads that leads away from the row; or the row
+/// itself.
 fn likely(classes: &[u8], cells: &[usize], row: usize) -> usize
     requires { row < 9223372036854775808 }
     ensures { result < 9223372036854775808 }
@@ -128,7 +132,7 @@ fn likely(classes: &[u8], cells: &[usize], row: usize) -> usize
     row
 }
 
-/// What is told of two rows.
+/// What is known of two rows.
 fn among(classes: &[u8], cells: &[usize], row: usize, other: usize) -> Leap
     requires row { row < 9223372036854775808 }
     requires other { other < 9223372036854775808 }
@@ -149,7 +153,7 @@ fn among(classes: &[u8], cells: &[usize], row: usize, other: usize) -> Leap
     }
 }
 
-/// What is told of a row, where few bytes of most texts lead away from it, or from it and another.
+/// What is known of a row, if few bytes of most texts lead away from it, or from it and another.
 fn leap_of(classes: &[u8], cells: &[usize], row: usize) -> Option<Leap>
     requires { row < 9223372036854775808 }
     ensures { IfSome result (λ leap. AreStays dead classes.now cells.now leap.row leap.other leap.stays) }
@@ -166,7 +170,7 @@ fn leap_of(classes: &[u8], cells: &[usize], row: usize) -> Option<Leap>
     None
 }
 
-/// Whether something is told of the row.
+/// Whether something is known of the row.
 fn is_in(leaps: &[Leap], row: usize) -> bool {
     for leap in leaps {
         if leap.row == row || leap.other == row {
@@ -176,7 +180,8 @@ fn is_in(leaps: &[Leap], row: usize) -> bool {
     false
 }
 
-/// What is told of a row with these exits, unless they are few, or something is told of it already.
+/// What is known of a row with these exits, unless they are few, or something is known of it
+/// already.
 fn wanted(classes: &[u8], cells: &[usize], exits: Exits, leaps: &[Leap], row: usize) -> Option<Leap>
     requires { row < 9223372036854775808 }
     ensures { IfSome result (λ leap. AreStays dead classes.now cells.now leap.row leap.other leap.stays) }
@@ -207,7 +212,7 @@ fn resting(mut leap: Leap, idles: &[bool], width: usize) -> Leap
     leap
 }
 
-/// What is told of some rows, of which these are the exits. Rows with few exits are left out.
+/// What is known of some rows, of which these are the exits. Rows with few exits are left out.
 pub(crate) fn leaps_of(
     alloc: Global,
     classes: &[u8],
@@ -234,7 +239,7 @@ pub(crate) fn leaps_of(
     Ok(leaps)
 }
 
-/// Whether something is told of the row of this number.
+/// Whether something is known of the row of this number.
 pub(crate) fn is_told(leaps: &[Leap], number: usize, width: usize) -> bool
     requires { 0 < width }
 {
@@ -255,7 +260,8 @@ fn stays_at(stays: &[bool; 256], piece: &[u8], index: usize) -> bool
     stays[piece[index] as usize]
 }
 
-/// The first place of a piece, from an index on before which all bytes stay, at which a byte doesn't, or the piece's length.
+/// The first place of a piece, from an index on before which all bytes stay, at which a byte
+/// doesn't, or the piece's length.
 #[inline(always)]
 fn rest(stays: &[bool; 256], piece: &[u8], from: usize) -> usize
     requires from { from ≤ length piece.now }
@@ -295,8 +301,9 @@ pub(crate) fn first_leaving(stays: &[bool; 256], piece: &[u8]) -> usize
     rest(stays, piece, index)
 }
 
-/// Where a leap ends at most that begins at an index of a piece, of so many bytes: the piece's length, or the position `looks` where a search may rest at one of
-/// the two rows. From there on a byte at a time is read; None where the search may rest where it stands.
+/// Where a leap ends at most that begins at an index of a piece, of this many bytes: the piece's
+/// length, or the position `looks` if a search may rest at one of the two rows. From there on a
+/// byte at a time is read; None if the search may rest where it is.
 #[inline(always)]
 pub(crate) fn leap_end(
     leap: &Leap,

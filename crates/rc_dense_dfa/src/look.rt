@@ -36,7 +36,8 @@ pub(crate) fn cell_of(table: &Table, row: usize, byte: u8) -> usize
     table.cells[row + table.classes[byte as usize] as usize]
 }
 
-/// What is noted once a cell was read at the position: that row, if something was met on the way to it.
+/// What is noted once a cell was read at the position: that row, if something was found on the way
+/// to it.
 #[inline(always)]
 pub(crate) fn noted_by(
     cell: usize,
@@ -73,7 +74,7 @@ pub(crate) fn exits_at(table: &Table, row: usize) -> Exits
     }
 }
 
-/// The leap of the row, if one is told.
+/// The leap of the row, if one is known.
 #[inline(always)]
 pub(crate) fn leap_at(table: &Table, row: usize) -> Option<&Leap>
     ensures here { IfSome result (λ leap. (row ≡ leap.now.row) ⊎ (row ≡ leap.now.other)) }
@@ -87,7 +88,7 @@ pub(crate) fn leap_at(table: &Table, row: usize) -> Option<&Leap>
     None
 }
 
-/// The code of the row in a list of codes, or 0 where it has none.
+/// The code of the row in a list of codes, or 0 if it has none.
 #[inline(always)]
 fn code_of(codes: &[usize], row: usize, width: usize) -> usize
     requires { 0 < width }
@@ -99,7 +100,7 @@ fn code_of(codes: &[usize], row: usize, width: usize) -> usize
     }
 }
 
-/// What was met, by its code, with the position; or the other where the code is 0.
+/// What was found, by its code, with the position; or the other if the code is 0.
 #[inline(always)]
 pub(crate) fn met_by(
     code: usize,
@@ -114,7 +115,7 @@ pub(crate) fn met_by(
     other
 }
 
-/// What was met last, with its position, by what is noted.
+/// What was found last, with its position, by what is noted.
 #[inline(always)]
 pub(crate) fn told(table: &Table, noted: Option<(usize, usize)>) -> Option<(usize, usize)>
     ensures { result ≡ told table.now noted }
@@ -125,7 +126,7 @@ pub(crate) fn told(table: &Table, noted: Option<(usize, usize)>) -> Option<(usiz
     }
 }
 
-/// What is met at the end of what a search sees, from this row on, and else what was met last.
+/// What is found at the end of what a search sees, from this row on, and else what was found last.
 #[inline(always)]
 pub(crate) fn met_at_end(
     table: &Table,

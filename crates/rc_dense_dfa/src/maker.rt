@@ -71,7 +71,7 @@ impl Maker {
         Ok(name)
     }
 
-    /// The cell of a way of anchoring and of what stands beside where a search begins.
+    /// The cell of a way of anchoring and of what is beside where a search begins.
     pub(crate) fn start(
         &mut self,
         automaton: &Automaton,
@@ -149,7 +149,7 @@ impl Maker {
         Ok(())
     }
 
-    /// Adds the start of a way of anchoring where nothing stands beside.
+    /// Adds the start of a way of anchoring if nothing is beside it.
     pub(crate) fn start_at_end(
         &mut self,
         automaton: &Automaton,

@@ -5,7 +5,7 @@ ghost use Rattle.rc_dense_dfa.specs.Cells.{AreMarked, IsMarkedAs};
 use crate::look::row_of;
 use crate::table::{QUIT, SKIP};
 
-/// The cell, with the mark where its row has the hint.
+/// The cell, with the mark if its row has the hint.
 fn marked(cell: usize, width: usize, hints: &[bool]) -> usize
     requires { 0 < width }
     ensures { IsMarkedAs cell result }

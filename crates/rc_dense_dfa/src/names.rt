@@ -13,7 +13,7 @@ use rc_determinize::state::State;
 use rc_dfa::states::States;
 use std::alloc::{AllocError, Global};
 
-/// The states of a table under way. Each has a row, and the rows stand one behind another.
+/// The states of a table under way. Each has a row, and the rows are one behind another.
 #[derive(Drop)]
 pub(crate) struct Names {
     pub states: States,
@@ -21,11 +21,12 @@ pub(crate) struct Names {
     pub width: usize,
     /// What the states may weigh, in bytes.
     pub limit: Option<usize>,
-    /// What they weigh, where there is a limit.
+    /// What they weigh, if there is a limit.
     pub weight: u128,
 }
 
-/// The weight, with what comes to it; None where that is more than the limit. Without a limit it is as before.
+/// The weight, with what comes to it; None if that is more than the limit. Without a limit it is as
+/// before.
 fn weigh(weight: u128, more: u128, limit: Option<usize>) -> Option<u128>
     requires weight { weight ≤ 18446744073709551616 }
     requires more { more < 2361183241434822606848 }
@@ -73,8 +74,8 @@ fn marks(state: &State) -> usize
 }
 
 impl Names {
-    /// The number of the state. It is added where it isn't there. The error `TooBig` comes where the state is a new one, and what holds all
-    /// weighs more than the limit.
+    /// The number of the state. It is added if it isn't there. The error `TooBig` comes if the
+    /// state is a new one, and what holds all weighs more than the limit.
     fn number(&mut self, state: &State) -> Result<usize, TableError>
         ghost m: { Machine }
         requires named { AreNamed m self.old }
@@ -102,8 +103,8 @@ impl Names {
         Ok(number)
     }
 
-    /// The name of the state's row. The state is added where it isn't there. The error `TooBig` comes where it is a new one, and what
-    /// holds all weighs more than the limit.
+    /// The name of the state's row. The state is added if it isn't there. The error `TooBig` comes
+    /// if it is a new one, and what holds all weighs more than the limit.
     pub(crate) fn name(&mut self, state: &State) -> Result<usize, TableError>
         ghost m: { Machine }
         requires named { AreNamed m self.old }
@@ -118,7 +119,7 @@ impl Names {
         Ok(number * self.width + marks(state))
     }
 
-    /// No states yet, for rows of so many cells and a table of `starts` starts.
+    /// No states yet, for rows of this many cells and a table of `starts` starts.
     pub(crate) fn new(
         alloc: Global,
         width: usize,

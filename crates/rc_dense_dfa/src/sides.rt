@@ -8,7 +8,7 @@ ghost use Rattle.rc_dense_dfa.specs.Tables.{IsByte};
 use rc_text::cursor::Cursor;
 use rc_text::input::{Input, byte_at};
 
-/// The byte before the position, or None where the slice begins.
+/// The byte before the position, or None if the slice begins.
 #[inline(always)]
 pub(crate) fn byte_behind<C: Cursor>(input: &mut Input<C>, at: usize) -> Option<u8>
     requires low { input.old.slice.start ≤ at }
@@ -24,7 +24,7 @@ pub(crate) fn byte_behind<C: Cursor>(input: &mut Input<C>, at: usize) -> Option<
     None
 }
 
-/// The byte at the position, or None where the slice or the content ends.
+/// The byte at the position, or None if the slice or the content ends.
 #[inline(always)]
 pub(crate) fn byte_ahead<C: Cursor>(input: &mut Input<C>, at: usize) -> Option<u8>
     requires { at ≤ slice_end input.old }

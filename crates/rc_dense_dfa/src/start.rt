@@ -31,7 +31,7 @@ fn column(table: &Table, beside: Option<u8>) -> usize
     }
 }
 
-/// The cell at an index, or `QUIT` where there is none.
+/// The cell at an index, or `QUIT` if there is none.
 #[inline(always)]
 fn cell_at(cells: &[usize], index: usize) -> usize
     ensures { result ≡ slice_index_or cells.now index QUIT }
@@ -42,8 +42,8 @@ fn cell_at(cells: &[usize], index: usize) -> usize
     }
 }
 
-/// The name of the row in which a search begins where this byte stands beside, or none. `QUIT` where the byte isn't read, or the table has no
-/// such row.
+/// The name of the row in which a search begins if this byte is beside it, or none. `QUIT` if the
+/// byte isn't read, or the table has no such row.
 #[inline(always)]
 pub(crate) fn start(table: &Table, anchored: Anchored, beside: Option<u8>) -> usize
     ensures value { result ≡ start_at table.now (mode_of anchored * (table.now.width + 1) + column table.now beside) }

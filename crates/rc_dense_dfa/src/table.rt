@@ -7,30 +7,35 @@ ghost use Rattle.rc_dense_dfa.specs.declared.exits.Exits.TheVariants.{Many};
 use crate::exits::Exits;
 use crate::leaps::Leap;
 
-/// A table of states, in one direction. Each state has a row of cells, one for each class of bytes. A row is named by the index of its first
-/// cell, and a cell names the row to which a byte leads; where that row needs a look, `MET`, `DEAD` or `SKIP` or more of them are added to its name.
+/// A table of states, in one direction. Each state has a row of cells, one for each class of bytes.
+/// A row is named by the index of its first cell, and a cell names the row to which a byte leads;
+/// if that row needs a look, `MET`, `DEAD` or `SKIP` or more of them are added to its name.
 #[derive(Drop)]
 pub struct Table {
     /// The class of each byte.
     pub classes: Vec<u8>,
-    /// How many classes there are: so many cells has a row.
+    /// How many classes there are: this many cells has a row.
     pub width: usize,
     /// The rows, one behind another. Each cell names a row, or is `QUIT`.
     pub cells: Vec<usize>,
-    /// For each row what is met at the end of what a search sees: 0 for nothing, else one more than that.
+    /// For each row what is found at the end of what a search sees: 0 for nothing, else one more
+    /// than that.
     pub ends: Vec<usize>,
-    /// For each row what was met on the way to it, in the same way.
+    /// For each row what was found on the way to it, in the same way.
     pub tells: Vec<usize>,
     /// For each row whether nothing is under way in its state but walks that begin there or later.
     pub idles: Vec<bool>,
-    /// For each row the bytes that lead away from it, where searches pass over the others; none are told where they read each byte.
+    /// For each row the bytes that lead away from it, if searches pass over the others; none are
+    /// known if they read each byte.
     pub exits: Vec<Exits>,
-    /// Whether some row has few exits. Where none has, and a search may not rest, it heeds no mark `SKIP`.
+    /// Whether some row has few exits. If none has, and a search may not rest, it heeds no mark
+    /// `SKIP`.
     pub skips: bool,
-    /// What is told of some rows among which a run stays over most bytes, so that it may leap over them; nothing is told where searches read
-    /// each byte.
+    /// What is known of some rows among which a run stays over most bytes, so that it may leap over
+    /// them; nothing is known if searches read each byte.
     pub leaps: Vec<Leap>,
-    /// The rows in which searches begin: for each way of anchoring, the class of the byte beside and the end of what is seen.
+    /// The rows in which searches begin: for each way of anchoring, the class of the byte beside
+    /// and the end of what is seen.
     pub starts: Vec<usize>,
     ghost classed: { (length classes.items ≡ 256) × All (λ c. c < width) classes.items },
     ghost inside: { All (IsNamed width (length cells.items)) cells.items × All (IsNamed width (length cells.items)) starts.items },
@@ -39,14 +44,15 @@ pub struct Table {
     ghost small: { length cells.items < 2305843009213693952 },
 }
 
-/// Added to the name of a row where something was met on the way to it.
+/// Added to the name of a row if something was found on the way to it.
 pub const MET: usize = 9_223_372_036_854_775_808;
 
 /// Added to the name of a row from which nothing goes on.
 pub const DEAD: usize = 4_611_686_018_427_387_904;
 
-/// Added to the name of a row at which a search may have more to do than to read on. It is a hint: a search that heeds it not is slower alone.
+/// Added to the name of a row at which a search may have more to do than to read on. It is a hint:
+/// a search that heeds it not is slower alone.
 pub const SKIP: usize = 2_305_843_009_213_693_952;
 
-/// In place of a row, where a byte stands that isn't read.
+/// In place of a row, where a byte is that isn't read.
 pub const QUIT: usize = 18_446_744_073_709_551_615;

@@ -26,7 +26,7 @@ use std::alloc::{AllocError, Global};
 pub enum Over {
     /// Nothing.
     Nothing,
-    /// Nothing, where the assertion holds.
+    /// Nothing, if the assertion holds.
     Where(Look),
     /// A byte from the one to the other, both included.
     Within(u8, u8),
@@ -110,7 +110,7 @@ impl Reversed {
         }
     }
 
-    /// So many places without edges.
+    /// This many places without edges.
     fn empty(alloc: Global, len: usize) -> Result<Reversed, AllocError>
         ensures len { IfOk result (λ r. length r.into.items ≡ len) }
         ensures none { IfOk result (λ r. (p : ℕ) → into_at r p ≡ []) }
@@ -122,7 +122,7 @@ impl Reversed {
         Ok(Reversed { into })
     }
 
-    /// The edges of a program, by the places to which they lead. An `Err` is want of memory.
+    /// The edges of a program, by the places to which they lead. An `Err` means out of memory.
     pub fn new(alloc: Global, places: &[BytePlace]) -> Result<Reversed, AllocError>
         requires closed { IsClosed (places_of places.now) }
         ensures reversed { IfOk result (λ r. IsReversed (places_of places.now) r) }
@@ -191,7 +191,7 @@ fn add_list(set: &mut SparseSet, list: &[usize])
     }
 }
 
-/// Which of the roots is the first that stands in the set.
+/// Which of the roots is the first that is in the set.
 fn first_root(set: &SparseSet, roots: &[usize]) -> Option<usize>
     requires { AreBelow set.now.capacity roots.now }
     ensures { IsFirstRoot (λ q. HasPlace q set.now.items) roots.now result }
@@ -212,8 +212,9 @@ fn edges_into(reversed: &Reversed, place: usize) -> &Vec<Source>
     &reversed.into[place]
 }
 
-/// Goes back from the places that were entered, by the edges that read nothing, until each that leads to them was entered; and lists
-/// the places from which edges over the byte lead to one of them.
+/// Goes back from the places that were entered, by the edges that read nothing, until each that
+/// leads to them was entered; and lists the places from which edges over the byte lead to one of
+/// them.
 fn go_back(
     reversed: &Reversed,
     behind: Seen,
@@ -240,11 +241,13 @@ fn go_back(
     }
 }
 
-/// Makes `to` the state to which a byte leads back from a state, or the beginning of what a search sees, where `before` is None; of the
-/// roots its `stop` tells the first that reached the end before that byte was read. Lines end at the byte `terminator`. `needs` says what
-/// the program's assertions ask for, and `reversed` its edges.
+/// Makes `to` the state to which a byte leads back from a state, or the beginning of what a search
+/// sees, if `before` is None; of the roots its `stop` tells the first that reached the end before
+/// that byte was read. Lines end at the byte `terminator`. `needs` says what the program's
+/// assertions ask for, and `reversed` its edges.
 ///
-/// No memory is taken but what the list of `to` grows by. An `Err` is want of it; then `to` is some state.
+/// No memory is taken but what the list of `to` grows by. An `Err` is want of it; then `to` is some
+/// state.
 pub fn prior(
     reversed: &Reversed,
     needs: Needs,
@@ -282,8 +285,8 @@ pub fn prior(
     Ok(())
 }
 
-/// Makes `to` the state at the end of a match: the match places. `after` is the byte that stands there, or None at the end of what a
-/// search sees. An `Err` is want of memory; then `to` is some state.
+/// Makes `to` the state at the end of a match: the match places. `after` is the byte there, or None
+/// at the end of what a search sees. An `Err` means out of memory; then `to` is some state.
 pub fn last(
     places: &[BytePlace],
     needs: Needs,

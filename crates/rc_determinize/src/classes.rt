@@ -85,7 +85,8 @@ fn are_parted(places: &[BytePlace], byte: u8) -> bool
     false
 }
 
-/// Whether some place or some assertion of the program may tell the byte from the next, or the one is read and the other not.
+/// Whether some place or some assertion of the program may tell the byte from the next, or the one
+/// is read and the other not.
 fn is_border(places: &[BytePlace], needs: Needs, terminator: u8, byte: u8) -> bool
     requires { byte < 255 }
     ensures { result ≡ is_border (places_of places.now) needs terminator byte }
@@ -98,9 +99,9 @@ fn is_border(places: &[BytePlace], needs: Needs, terminator: u8, byte: u8) -> bo
         || (needs.unicode && byte == 127)
 }
 
-/// The class of each byte, from 0 on: a class ends only where some place or some assertion of the program may tell a byte from the next,
-/// or the one is read and the other not.
-/// An `Err` is want of memory.
+/// The class of each byte, from 0 on: a class ends only if some place or some assertion of the
+/// program may tell a byte from the next, or the one is read and the other not. An `Err` means out
+/// of memory.
 pub fn classes(
     alloc: Global,
     places: &[BytePlace],
@@ -121,7 +122,7 @@ pub fn classes(
     Ok(classes)
 }
 
-/// Each byte as a class of its own. An `Err` is want of memory.
+/// Each byte as a class of its own. An `Err` means out of memory.
 pub fn single_classes(alloc: Global) -> Result<Vec<u8>, AllocError>
     ensures { IfOk result (λ classes. AreSingle classes.items) }
 {

@@ -31,8 +31,9 @@ pub fn stack_up(list: &[usize], stack: &mut Vec<usize>) -> Result<(), AllocError
     Ok(())
 }
 
-/// Goes on from the places on the stack, the uppermost first, by the ways that read nothing, until a match place is met, which is
-/// answered, or none is left. The places to which the byte leads are added as they are met.
+/// Goes on from the places on the stack, the uppermost first, by the ways that read nothing, until
+/// a match place is found, which is answered, or none is left. The places to which the byte leads
+/// are added as they are found.
 fn follow(
     places: &[BytePlace],
     behind: Seen,
@@ -62,8 +63,8 @@ fn follow(
     Ok(None)
 }
 
-/// Goes on from the places on the stack, by the ways that read nothing, until none is left, and answers the least match place met. The
-/// places to which the byte leads are added.
+/// Goes on from the places on the stack, by the ways that read nothing, until none is left, and
+/// returns the least match place found. The places to which the byte leads are added.
 fn gather(
     places: &[BytePlace],
     behind: Seen,
@@ -92,14 +93,14 @@ fn gather(
     Ok(least)
 }
 
-/// Walks may begin at the positions to come, unless a match was met.
+/// Walks may begin at the positions to come, unless a match was found.
 pub fn goes_on(from: &State, stop: Option<usize>) -> bool
     ensures { result ≡ (from.now.goes_on && is_none stop) }
 {
     from.goes_on && stop.is_none()
 }
 
-/// The step where the preferred match is sought.
+/// The step if the preferred match is sought.
 fn next_preferred(
     places: &[BytePlace],
     needs: Needs,
@@ -139,7 +140,7 @@ fn next_preferred(
     Ok(())
 }
 
-/// The step where each match counts.
+/// The step if each match counts.
 fn next_of_all(
     places: &[BytePlace],
     needs: Needs,
@@ -178,11 +179,12 @@ fn next_of_all(
     Ok(())
 }
 
-/// Makes `to` the state to which a byte leads from a state, or the end of what a search sees, where `after` is None. Matches of this
-/// kind are sought, walks begin at the place `root`, and lines end at the byte `terminator`. `needs` says what the program's
-/// assertions ask for.
+/// Makes `to` the state to which a byte leads from a state, or the end of what a search sees, if
+/// `after` is None. Matches of this kind are sought, walks begin at the place `root`, and lines end
+/// at the byte `terminator`. `needs` says what the program's assertions ask for.
 ///
-/// No memory is taken but what the lists of `scratch` and `to` grow by. An `Err` is want of it; then `to` is some state.
+/// No memory is taken but what the lists of `scratch` and `to` grow by. An `Err` is want of it;
+/// then `to` is some state.
 pub fn next_by(
     kind: TableKind,
     places: &[BytePlace],
@@ -212,9 +214,9 @@ pub fn next_by(
     }
 }
 
-/// Makes `to` the state before the first byte, where walks begin at the place `root`, and at later positions too unless the search is
-/// anchored. `before` is the byte that stands before, or None at the beginning of what a search sees. An `Err` is want of memory; then
-/// `to` is some state.
+/// Makes `to` the state before the first byte, where walks begin at the place `root`, and at later
+/// positions too unless the search is anchored. `before` is the byte before, or None at the
+/// beginning of what a search sees. An `Err` means out of memory; then `to` is some state.
 pub fn first(
     needs: Needs,
     terminator: u8,

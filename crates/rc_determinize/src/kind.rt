@@ -11,7 +11,8 @@ pub enum TableKind {
     All,
     /// The one with the least start, and there the one that the pattern prefers.
     LeftmostFirst,
-    /// The one with the least start, and there the longest; of those that are as long the one that the pattern prefers.
+    /// The one with the least start, and there the longest; of those that are as long the one that
+    /// the pattern prefers.
     LeftmostLongest,
 }
 

@@ -19,8 +19,9 @@ use crate::state::State;
 use rc_utf8::place::BytePlace;
 use std::alloc::AllocError;
 
-/// Goes on from the places on the stack, the uppermost first, by the ways that read nothing, until none is left, and answers the first
-/// match place that was met. The places to which the byte leads are added as they are met.
+/// Goes on from the places on the stack, the uppermost first, by the ways that read nothing, until
+/// none is left, and returns the first match place that was found. The places to which the byte
+/// leads are added as they are found.
 fn close(
     places: &[BytePlace],
     behind: Seen,
@@ -66,8 +67,8 @@ fn group_end(list: &[usize], from: usize, mark: usize) -> usize
     list.len()
 }
 
-/// Closes over the groups of the list, one after the other, up to the first that meets a match, and answers its place. What comes of them
-/// is put into `to`.
+/// Closes over the groups of the list, one after the other, up to the first that meets a match, and
+/// returns its place. What comes of them is put into `to`.
 fn close_groups(
     places: &[BytePlace],
     behind: Seen,
@@ -103,7 +104,7 @@ fn close_groups(
     Ok(None)
 }
 
-/// The step where the longest match of the least start is sought.
+/// The step if the longest match of the least start is sought.
 pub fn next_longest(
     places: &[BytePlace],
     needs: Needs,

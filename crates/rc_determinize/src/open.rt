@@ -36,7 +36,7 @@ fn has_byte(ranges: &Vec<ClassBytesRange>, byte: u8) -> bool
     false
 }
 
-/// Adds the place, where the set doesn't have it.
+/// Adds the place, if the set doesn't have it.
 pub fn add(listed: &mut SparseSet, place: usize)
     requires { place < listed.old.capacity }
     ensures { listed.new ≡ record listed.old { items = add_one listed.old.items place } }
@@ -76,7 +76,8 @@ pub fn is_match(place: &BytePlace) -> bool
     }
 }
 
-/// Puts the places to which ways lead that read nothing onto the stack, the first uppermost, and adds those to which the byte leads.
+/// Puts the places to which ways lead that read nothing onto the stack, the first uppermost, and
+/// adds those to which the byte leads.
 pub fn open(
     place: &BytePlace,
     behind: Seen,
@@ -138,7 +139,7 @@ pub fn open(
     }
 }
 
-/// The lesser of what was met and this place, where a walk may end at it.
+/// The lesser of what was found and this place, if a walk may end at it.
 pub fn least_with(least: Option<usize>, here: &BytePlace, index: usize) -> Option<usize>
     ensures { result ≡ least_with (is_match_place None (place_of here.now)) least index }
 {
@@ -151,7 +152,7 @@ pub fn least_with(least: Option<usize>, here: &BytePlace, index: usize) -> Optio
     }
 }
 
-/// What was met first, with this place behind, if a walk may end at it.
+/// What was found first, with this place behind, if a walk may end at it.
 pub fn first_with(first: Option<usize>, here: &BytePlace, index: usize) -> Option<usize>
     ensures { result ≡ first_with (is_match_place None (place_of here.now)) first index }
 {

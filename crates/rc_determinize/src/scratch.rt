@@ -25,7 +25,7 @@ impl Model for Scratch {
 }
 
 impl Scratch {
-    /// Scratch for programs of so many places. An `Err` is want of memory.
+    /// Scratch for programs of this many places. An `Err` means out of memory.
     pub fn new(alloc: Global, places: usize) -> Result<Scratch, AllocError>
         ensures { IfOk result (λ scratch. scratch ≡ places) }
     {

@@ -7,18 +7,18 @@ ghost use Rattle.rc_determinize.specs.Sides.{seen_of, holds_by, told, is_unicode
 use rc_pattern::hir::Look;
 use rc_utf8::place::BytePlace;
 
-/// What is told of one side of a position.
+/// What is known of one side of a position.
 #[derive(Clone, Copy, PartialEq, Eq)]
 pub struct Seen {
-    /// Nothing stands there.
+    /// Nothing is there.
     pub edge: bool,
-    /// The line terminator stands there.
+    /// The line terminator is there.
     pub terminator: bool,
-    /// An LF stands there.
+    /// An LF is there.
     pub line_feed: bool,
-    /// A CR stands there.
+    /// A CR is there.
     pub carriage_return: bool,
-    /// A letter, a digit or `_` of ASCII stands there.
+    /// A letter, a digit or `_` of ASCII is there.
     pub word: bool,
 }
 
@@ -37,7 +37,7 @@ fn is_word_byte(byte: u8) -> bool
     matches!(byte, b'0'..=b'9' | b'A'..=b'Z' | b'_' | b'a'..=b'z')
 }
 
-/// All that is told of a byte, or of the end.
+/// All that is known of a byte, or of the end.
 fn seen_of(terminator: u8, byte: Option<u8>) -> Seen
     ensures { result ≡ seen_of terminator byte }
 {
@@ -59,7 +59,8 @@ fn seen_of(terminator: u8, byte: Option<u8>) -> Seen
     }
 }
 
-/// What is told of a byte, or of the end, as far as the program asks. Lines end at the byte `terminator`.
+/// What is known of a byte, or of the end, as far as the program asks. Lines end at the byte
+/// `terminator`.
 pub fn told(needs: Needs, terminator: u8, byte: Option<u8>) -> Seen
     ensures { result ≡ told needs terminator byte }
 {
@@ -73,7 +74,7 @@ pub fn told(needs: Needs, terminator: u8, byte: Option<u8>) -> Seen
     }
 }
 
-/// Whether the assertion holds between what is told of the two sides.
+/// Whether the assertion holds between what is known of the two sides.
 pub(crate) fn holds_by(before: Seen, after: Seen, look: Look) -> bool
     ensures { result ≡ holds_by before after look }
 {
@@ -152,7 +153,7 @@ fn asking(look: Look, needs: Needs) -> Needs
     }
 }
 
-/// The assertion that stands at the place.
+/// The assertion that is at the place.
 fn guarded(place: &BytePlace) -> Option<Look>
     ensures { result ≡ guarded (place_of place.now) }
 {

@@ -13,7 +13,7 @@ use std::marker::Model;
 pub struct SparseSet {
     /// The members, in the order in which they were inserted.
     dense: Vec<usize>,
-    /// At a member, where it stands in `dense`.
+    /// At a member, where it is in `dense`.
     sparse: Vec<usize>,
 }
 
@@ -37,7 +37,8 @@ impl SparseSet {
         Ok(SparseSet { dense, sparse })
     }
 
-    /// Puts the members into the list, in the order in which they were inserted, in place of what it held.
+    /// Puts the members into the list, in the order in which they were inserted, in place of what
+    /// it held.
     pub fn copy_to(&self, list: &mut Vec<usize>) -> Result<(), AllocError>
         ensures { IfOk result (λ _. list.new.items ≡ self.now.items) }
     {
@@ -45,7 +46,8 @@ impl SparseSet {
         list.extend_from_slice(&self.dense)
     }
 
-    /// Adds the members from number `from` on to the list, in the order in which they were inserted, behind a mark if the list holds any.
+    /// Adds the members from number `from` on to the list, in the order in which they were
+    /// inserted, behind a mark if the list holds any.
     pub fn part_to(&self, from: usize, mark: usize, list: &mut Vec<usize>) -> Result<(), AllocError>
         requires { from ≤ length self.now.items }
         ensures { IfOk result (λ _. list.new.items ≡ with_group mark list.old.items (drop from self.now.items)) }

@@ -32,8 +32,8 @@ pub enum Direction {
     Backwards,
 }
 
-/// A byte program, ready to be gone through state by state, in both directions. It is entered at place 0, and by the entry of each of its
-/// patterns.
+/// A byte program, ready to be gone through state by state, in both directions. It is entered at
+/// place 0, and by the entry of each of its patterns.
 #[derive(Drop)]
 pub struct Automaton {
     places: Vec<BytePlace>,
@@ -54,7 +54,8 @@ pub struct Automaton {
     ghost sampled: { AreSamples classes.items samples.items },
 }
 
-/// The class of each byte: found by what the program tells apart, or each byte as a class of its own.
+/// The class of each byte: found by what the program distinguishes, or each byte as a class of its
+/// own.
 fn classes_by(
     alloc: Global,
     places: &[BytePlace],
@@ -84,8 +85,9 @@ impl Automaton {
     ghost use Rattle.rc_program.specs.Program.{place_at};
     ghost use Rattle.rc_program.specs.Answer.{pattern_at};
 
-    /// An automaton of a byte program whose patterns are entered at these places, and whose lines end at the byte `terminator`. Forwards
-    /// it seeks matches of this kind. Unless `byte_classes` is set, each byte is a class of its own. An `Err` is want of memory.
+    /// An automaton of a byte program whose patterns are entered at these places, and whose lines
+    /// end at the byte `terminator`. Forwards it seeks matches of this kind. Unless `byte_classes`
+    /// is set, each byte is a class of its own. An `Err` means out of memory.
     pub fn new(
         alloc: Global,
         places: Vec<BytePlace>,
@@ -122,8 +124,8 @@ impl Automaton {
         self.places.len()
     }
 
-    /// How many entries the list of a state has at most that is gone through in this direction: as many as the program has places, and
-    /// twice as many forwards where the longest match is sought.
+    /// How many entries the list of a state has at most that is gone through in this direction: as
+    /// many as the program has places, and twice as many forwards if the longest match is sought.
     pub fn longest_list(&self, direction: Direction) -> usize
         ensures { result ≡ longest_in (machine_of self.now direction).direction (length (machine_of self.now direction).setting.places) }
     {
@@ -134,7 +136,7 @@ impl Automaton {
         }
     }
 
-    /// The pattern whose match place this is; 0 where it is none.
+    /// The pattern whose match place this is; 0 if it is none.
     pub fn pattern_at(&self, place: usize) -> usize
         requires { place < length (machine_of self.now Forwards).setting.places }
         ensures { result ≡ pattern_at (place_at (machine_of self.now Forwards).setting.places place) }
@@ -165,8 +167,8 @@ impl Automaton {
         &self.samples
     }
 
-    /// Whether a search may read the byte, or the end of what it sees: where some assertion speaks of Unicode's words, a byte of at least
-    /// 128 can't be read.
+    /// Whether a search may read the byte, or the end of what it sees: if some assertion speaks of
+    /// Unicode's words, a byte of at least 128 can't be read.
     pub fn may_read(&self, byte: Option<u8>) -> bool
         ensures { (direction : Direction) → IsTrue result ↔ IsReadable (machine_of self.now direction).setting.needs byte }
     {
@@ -176,7 +178,7 @@ impl Automaton {
         }
     }
 
-    /// What steps work with. An `Err` is want of memory.
+    /// What steps work with. An `Err` means out of memory.
     pub fn create_scratch(&self, alloc: Global) -> Result<Scratch, AllocError>
         ensures { IfOk result (λ scratch. (direction : Direction) → scratch ≡ length (machine_of self.now direction).setting.places) }
     {
@@ -184,8 +186,9 @@ impl Automaton {
         Scratch::new(alloc, places.len())
     }
 
-    /// Makes `to` the state in which a search begins, where this byte stands beside: before its start, or backwards ahead of its end; None at
-    /// an end of what it sees. An `Err` is want of memory; then `to` is some state.
+    /// Makes `to` the state in which a search begins, if this byte is beside it: before its start,
+    /// or backwards ahead of its end; None at an end of what it sees. An `Err` means out of memory;
+    /// then `to` is some state.
     pub fn begin(
         &self,
         direction: Direction,
@@ -243,8 +246,9 @@ impl Automaton {
         }
     }
 
-    /// Makes `to` the state to which a byte leads from a state: the byte ahead, or backwards the one before; None is an end of what a search
-    /// sees. No memory is taken but what the lists of `scratch` and `to` grow by. An `Err` is want of it; then `to` is some state.
+    /// Makes `to` the state to which a byte leads from a state: the byte ahead, or backwards the
+    /// one before; None is an end of what a search sees. No memory is taken but what the lists of
+    /// `scratch` and `to` grow by. An `Err` is want of it; then `to` is some state.
     pub fn step(
         &self,
         direction: Direction,

@@ -10,8 +10,8 @@ use rc_text::cursor::Cursor;
 use rc_text::input::Input;
 use rc_text::types::Anchored;
 
-/// The two halves of a search by states: forwards from a start to an end, and backwards from an end to a start. A table holds all
-/// states, and a cache those that were met so far.
+/// The two halves of a search by states: forwards from a start to an end, and backwards from an end
+/// to a start. A table holds all states, and a cache those that were built so far.
 pub trait Halves {
     /// What a search changes.
     type Cache;
@@ -20,14 +20,16 @@ pub trait Halves {
     ghost AreOf: { Self → Machine → Machine → Type 0 };
     // The cache was made for these halves.
     ghost IsCache: { Self → Self.Cache → Type 0 };
-    // From the one cache to the other at most so many states were added.
+    // From the one cache to the other at most this many states were added.
     ghost Spends: { Self → Self.Cache → Self.Cache → ℕ → Type 0 };
-    // A search that found the one cache, left the other, and added at most so many states may have been given up, for want of memory or else.
+    // A search that found the one cache, left the other, and added at most this many states may
+    // have been given up, for out of memory or else.
     ghost GivesUp: { Self → Self.Cache → Self.Cache → ℕ → Bool → Type 0 };
 
-    /// Searches forwards from the position `from` up to where the input's bounds end, in bytes of the whole content: what is met last is told;
-    /// with `earliest` the first that is met, and nothing is read beyond it. Where `may_rest` is set, the search may rest where nothing is under way;
-    /// before the position `rest_from` it is to read on all the same, which is a hint alone.
+    /// Searches forwards from the position `from` up to where the input's bounds end, in bytes of
+    /// the whole content: what is found last is returned; with `earliest` the first that is found,
+    /// and nothing is read beyond it. If `may_rest` is set, the search may rest if nothing is under
+    /// way; before the position `rest_from` it is to read on all the same, which is a hint alone.
     fn run_forwards<C: Cursor>(
         &self,
         cache: &mut Self::Cache,
@@ -48,8 +50,9 @@ pub trait Halves {
         ensures spends { Spends self.now cache.old cache.new (high input.old - from + 2) }
         ensures gives_up { (memory : Bool) → gave_up result ≡ Some memory → GivesUp self.now cache.old cache.new (high input.old - from + 2) memory };
 
-    /// Searches backwards from the position `end` down to `from`, in bytes of the whole content: the least position at which something is met is
-    /// told; with `earliest` the first that is met.
+    /// Searches backwards from the position `end` down to `from`, in bytes of the whole content:
+    /// the least position at which something is found is returned; with `earliest` the first that
+    /// is found.
     fn run_backwards<C: Cursor>(
         &self,
         cache: &mut Self::Cache,

@@ -6,8 +6,9 @@ pub fn machines_keep_places()
     ensures { MachineLaw }
 {}
 
-/// What a search by states meets: forwards where the first walk ends, or the last position at which a walk ends; backwards the least
-/// position from which a walk leads to the end. And where it stops, at a byte that can't be read.
+/// What a search by states meets: forwards where the first walk ends, or the last position at which
+/// a walk ends; backwards the least position from which a walk leads to the end. And if it stops,
+/// at a byte that can't be read.
 pub fn runs_meet_walks()
     ensures { RunLaw }
 {}

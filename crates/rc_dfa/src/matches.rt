@@ -45,8 +45,9 @@ pub fn pattern_of(place: &BytePlace) -> usize
     }
 }
 
-/// Makes `to` the state at the end of a match of the pattern: its match places. `after` is the byte that stands there, or None at the
-/// end of what a search sees. An `Err` is want of memory; then `to` is some state.
+/// Makes `to` the state at the end of a match of the pattern: its match places. `after` is the byte
+/// there, or None at the end of what a search sees. An `Err` means out of memory; then `to` is some
+/// state.
 pub fn last_of(
     places: &[BytePlace],
     needs: Needs,

@@ -88,7 +88,7 @@ impl States {
         &self.list[number]
     }
 
-    /// The number of the state, or None where it isn't there. An `Err` is want of memory.
+    /// The number of the state, or None if it isn't there. An `Err` means out of memory.
     pub fn find(&mut self, state: &State) -> Result<Option<usize>, AllocError>
         ensures kept { self.new ≡ self.old }
         ensures found { IfOk result (IsFound self.old (state_of state.now)) }
@@ -105,7 +105,8 @@ impl States {
         self.numbers.clear();
     }
 
-    /// Adds a copy of the state, under the next number. An `Err` is want of memory; then it isn't added.
+    /// Adds a copy of the state, under the next number. An `Err` means out of memory; then it isn't
+    /// added.
     pub fn add(&mut self, state: &State) -> Result<(), AllocError>
         requires { IsAbsent self.old (state_of state.now) }
         ensures added { IfOk result (λ _. self.new ≡ self.old ++ state_of state.now ∷ []) }

@@ -15,8 +15,8 @@ use rc_program::place::Place;
 use rc_utf8::program::byte_program;
 use std::alloc::{AllocError, Global};
 
-/// The places by which the patterns of a program are entered, in their order: each choice, from place 0 on, leads to a pattern or on to the
-/// next choice.
+/// The places by which the patterns of a program are entered, in their order: each choice, from
+/// place 0 on, leads to a pattern or on to the next choice.
 fn entries_of(alloc: Global, program: &[Place], patterns: usize) -> Result<Vec<usize>, AllocError>
     ghost hs: { List Re }
     requires program { places_of program.now ≡ program_by hs }
@@ -35,8 +35,9 @@ fn entries_of(alloc: Global, program: &[Place], patterns: usize) -> Result<Vec<u
     Ok(entries)
 }
 
-/// The automaton of patterns by their program, whose lines end at the byte `terminator`. Forwards it seeks matches of this kind. Unless
-/// `byte_classes` is set, each byte is a class of its own. An `Err` is want of memory.
+/// The automaton of patterns by their program, whose lines end at the byte `terminator`. Forwards
+/// it seeks matches of this kind. Unless `byte_classes` is set, each byte is a class of its own. An
+/// `Err` means out of memory.
 pub fn automaton_of(
     alloc: Global,
     program: &[Place],

@@ -29,14 +29,14 @@ use rc_text::types::{Anchored, HalfMatch, Match, MatchError, Span};
 /// How far a run forwards came.
 #[derive(Clone, Copy)]
 enum Leg {
-    /// To its end, with what it met last, if anything.
+    /// To its end, with what it found last, if anything.
     Ended(Option<Met>),
-    /// To this position, where it rested: nothing was met, and nothing is under way there.
+    /// To this position, if it rested: nothing was found, and nothing is under way there.
     Rested(usize),
 }
 
-/// Whether a search goes from needle to needle: it isn't anchored, and seeks the preferred or the longest match alone, none of which is
-/// passed over.
+/// Whether a search goes from needle to needle: it isn't anchored, and seeks the preferred or the
+/// longest match alone, none of which is passed over.
 #[inline(always)]
 pub fn goes_by_needles(aim: Aim, anchored: Anchored) -> bool
     ensures { IsTrue result ↔ GoesByNeedles aim anchored }
@@ -49,7 +49,8 @@ pub fn goes_by_needles(aim: Aim, anchored: Anchored) -> bool
     }
 }
 
-/// How far a run forwards came from one position on, or why it tells nothing. It rests at or above that position, and at or below `bound`.
+/// How far a run forwards came from one position on, or why it tells nothing. It rests at or above
+/// that position, and at or below `bound`.
 #[inline(always)]
 fn leg_of(ended: Ended, from: usize, bound: usize) -> Result<Leg, MatchError>
     ensures { result ≡ leg_of ended from bound }
@@ -62,7 +63,8 @@ fn leg_of(ended: Ended, from: usize, bound: usize) -> Result<Leg, MatchError>
     }
 }
 
-/// How far a run forwards comes from one position on, up to `bound`. It may rest, from `rest_from` on.
+/// How far a run forwards comes from one position on, up to `bound`. It may rest, from `rest_from`
+/// on.
 #[inline(always)]
 fn run_leg<H: Halves, C: Cursor>(
     halves: &H,
@@ -93,7 +95,8 @@ fn run_leg<H: Halves, C: Cursor>(
     )
 }
 
-/// The end of the match of the least start: runs forwards begin where a match may that goes by the next needle, and where one rests behind that, the next is sought.
+/// The end of the match of the least start: runs forwards begin where a match may that goes by the
+/// next needle, and if one rests behind that, the next is sought.
 #[inline(always)]
 fn seek_by_needles<H: Halves, C: Cursor>(
     halves: &H,
@@ -199,8 +202,9 @@ fn find_end_by_needles<H: Halves, C: Cursor>(
     Ok(Some(HalfMatch::new(pattern, end)))
 }
 
-/// The match that `find` finds, by needles that guard the patterns: each match begins with one of them, or holds one. A search that isn't anchored
-/// goes from needle to needle wherever nothing is under way, if it is for the preferred match or the longest, the earliest flag is off, and no
+/// The match that `find` finds, by needles that guard the patterns: each match begins with one of
+/// them, or holds one. A search that isn't anchored goes from needle to needle wherever nothing is
+/// under way, if it is for the preferred match or the longest, the earliest flag is off, and no
 /// match is passed over. Each other search is that of `find`.
 ///
 /// An `Err` comes as for `find`.
@@ -227,8 +231,9 @@ pub fn find_guarded<H: Halves, C: Cursor>(
     find(halves, cache, input, aim)
 }
 
-/// The end of the match that `find_guarded` finds, and its pattern; where each match counts, the number of a pattern that has a match with
-/// this end. It searches forwards alone. An `Err` comes as for `find`.
+/// The end of the match that `find_guarded` finds, and its pattern; if each match counts, the
+/// number of a pattern that has a match with this end. It searches forwards alone. An `Err` comes
+/// as for `find`.
 pub fn find_end_guarded<H: Halves, C: Cursor>(
     halves: &H,
     cache: &mut H::Cache,

@@ -29,9 +29,10 @@ pub struct Aim {
     pub kind: TableKind,
     /// How many patterns there are.
     pub patterns: usize,
-    /// Whether matches that end off a boundary of characters are passed over. Where each match counts, none is.
+    /// Whether matches that end off a boundary of characters are passed over. If each match counts,
+    /// none is.
     pub passes_over: bool,
-    /// Whether any match is enough. Where matches are passed over, none but the answer is.
+    /// Whether any match is enough. If matches are passed over, none but the answer is.
     pub earliest: bool,
 }
 
@@ -45,9 +46,9 @@ pub(crate) struct Bounds {
 /// The end of a match.
 #[derive(Clone, Copy)]
 struct End {
-    /// Where the search stood that met it, once what begins before was passed over.
+    /// Where the search stood that found it, once what begins before was passed over.
     from: usize,
-    /// The pattern whose match place was met.
+    /// The pattern whose match place was found.
     pattern: usize,
     /// Where the match ends.
     at: usize,
@@ -61,7 +62,7 @@ fn is_early(aim: Aim) -> bool
     aim.earliest && !aim.passes_over
 }
 
-/// Whether the pattern that is asked for, if any, is one of so many.
+/// Whether the pattern that is asked for, if any, is one of this many.
 #[inline(always)]
 fn asks(anchored: Anchored, patterns: usize) -> bool
     ensures { IsTrue result ↔ Asks patterns anchored }
@@ -73,7 +74,8 @@ fn asks(anchored: Anchored, patterns: usize) -> bool
     }
 }
 
-/// Where a search begins and ends; None where it finds nothing: it has no position, or the pattern that is asked for is none.
+/// Where a search begins and ends; None if it finds nothing: it has no position, or the pattern
+/// that is asked for is none.
 #[inline(always)]
 pub(crate) fn bounds_of<C: Cursor>(input: &mut Input<C>, aim: Aim) -> Option<Bounds>
     ensures keeps { Keeps input.old input.new }
@@ -92,7 +94,7 @@ pub(crate) fn bounds_of<C: Cursor>(input: &mut Input<C>, aim: Aim) -> Option<Bou
     Some(Bounds { low, high })
 }
 
-/// What a run met, or why it tells nothing.
+/// What a run found, or why it tells nothing.
 #[inline(always)]
 pub fn told(ended: Ended) -> Result<Option<Met>, MatchError>
     ensures { result ≡ told_of ended }
@@ -157,7 +159,7 @@ pub(crate) fn run_backwards<H: Halves, C: Cursor>(
     told(halves.run_backwards(cache, input, anchored, from, end, is_early(aim)))
 }
 
-/// Whether a match may end here where matches are passed over that end off a boundary.
+/// Whether a match may end here if matches are passed over that end off a boundary.
 #[inline(always)]
 fn is_allowed<C: Cursor>(input: &mut Input<C>, aim: Aim, at: usize) -> bool
     ensures keeps { Keeps input.old input.new }
@@ -178,7 +180,8 @@ fn may_end<C: Cursor>(input: &mut Input<C>, aim: Aim, at: usize) -> bool
     }
 }
 
-/// The end of the match that is sought: a run from where the search begins meets it, or, where matches are passed over, a run from a later start.
+/// The end of the match that is sought: a run from where the search begins meets it, or, if matches
+/// are passed over, a run from a later start.
 #[inline(always)]
 fn seek_end<H: Halves, C: Cursor>(
     halves: &H,
@@ -221,7 +224,7 @@ fn seek_end<H: Halves, C: Cursor>(
     }
 }
 
-/// Whether a match begins where the run forwards did that met its end.
+/// Whether a match begins where the run forwards did that found its end.
 #[inline(always)]
 fn begins_there(aim: Aim, anchored: Anchored) -> bool
     ensures { result ≡ begins_there aim.kind (is_early aim) (is_anchored anchored) }
@@ -232,7 +235,7 @@ fn begins_there(aim: Aim, anchored: Anchored) -> bool
     }
 }
 
-/// Whether the pattern that was met with the end is the match's.
+/// Whether the pattern that was found with the end is the match's.
 #[inline(always)]
 fn keeps_pattern(aim: Aim) -> bool
     ensures { result ≡ keeps_pattern aim.kind (is_early aim) }
@@ -243,7 +246,7 @@ fn keeps_pattern(aim: Aim) -> bool
     }
 }
 
-/// The start of the match with this end and its pattern, by what a run backwards met.
+/// The start of the match with this end and its pattern, by what a run backwards found.
 #[inline(always)]
 fn start_by(aim: Aim, end: End, met: Met) -> Met
     ensures { result ≡ start_by aim.kind (is_early aim) end met }
@@ -297,8 +300,8 @@ fn seek_start<H: Halves, C: Cursor>(
     Ok(Some(start_by(aim, end, met)))
 }
 
-/// The number of the pattern that was met at the position. An `Err` comes where `PatternID` has none for it; it has one for each of the
-/// patterns.
+/// The number of the pattern that was found at the position. An `Err` comes if `PatternID` has none
+/// for it; it has one for each of the patterns.
 #[inline(always)]
 pub fn id_of(pattern: usize, offset: usize) -> Result<PatternID, MatchError>
     ensures id { IfOk result (λ id. id ≡ pattern) }
@@ -313,11 +316,12 @@ pub fn id_of(pattern: usize, offset: usize) -> Result<PatternID, MatchError>
     }
 }
 
-/// The match that a search of the input finds: forwards to its end, and from there, unless it is known, backwards to its start. Where any
-/// match is enough, some match. Where matches are passed over that end off a boundary, a run forwards is made again from the next start.
+/// The match that a search of the input finds: forwards to its end, and from there, unless it is
+/// known, backwards to its start. If any match is enough, some match. If matches are passed over
+/// that end off a boundary, a run forwards is made again from the next start.
 ///
-/// An `Err` comes where the patterns speak of Unicode's words and a byte above 127 would have to be read, and where the halves give a
-/// search up.
+/// An `Err` comes if the patterns speak of Unicode's words and a byte above 127 would have to be
+/// read, and if the halves give a search up.
 #[inline(always)]
 pub fn find<H: Halves, C: Cursor>(
     halves: &H,
@@ -349,8 +353,9 @@ pub fn find<H: Halves, C: Cursor>(
     Ok(Some(Match::new(pattern, span)))
 }
 
-/// The end of the match that `find` finds, and its pattern; where each match counts, the number of a pattern that has a match with this end.
-/// It searches forwards alone. An `Err` comes as for `find`.
+/// The end of the match that `find` finds, and its pattern; if each match counts, the number of a
+/// pattern that has a match with this end. It searches forwards alone. An `Err` comes as for
+/// `find`.
 pub fn find_end<H: Halves, C: Cursor>(
     halves: &H,
     cache: &mut H::Cache,
@@ -374,9 +379,10 @@ pub fn find_end<H: Halves, C: Cursor>(
     Ok(Some(HalfMatch::new(pattern, end.at)))
 }
 
-/// The least start from which a match leads to where the search ends, and the first pattern of which one does; with `earliest` some such
-/// start. None where matches are passed over that end off a boundary and the search ends off one. It searches backwards alone, from there down
-/// to where the search begins. An `Err` comes as for `find`.
+/// The least start from which a match leads to where the search ends, and the first pattern of
+/// which one does; with `earliest` some such start. None if matches are passed over that end off a
+/// boundary and the search ends off one. It searches backwards alone, from there down to where the
+/// search begins. An `Err` comes as for `find`.
 pub fn find_start<H: Halves, C: Cursor>(
     halves: &H,
     cache: &mut H::Cache,
@@ -407,8 +413,9 @@ pub fn find_start<H: Halves, C: Cursor>(
     Ok(Some(HalfMatch::new(pattern, offset)))
 }
 
-/// The match from the start that `find_start` tells to where the search ends, of the pattern that it tells. Where each match ends there, and
-/// the search isn't anchored, it is the preferred one, and the longest one. It searches backwards alone. An `Err` comes as for `find`.
+/// The match from the start that `find_start` tells to where the search ends, of the pattern that
+/// it tells. If each match ends there, and the search isn't anchored, it is the preferred one, and
+/// the longest one. It searches backwards alone. An `Err` comes as for `find`.
 pub fn find_to_end<H: Halves, C: Cursor>(
     halves: &H,
     cache: &mut H::Cache,

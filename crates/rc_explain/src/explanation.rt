@@ -13,7 +13,7 @@ use std::alloc::{AllocError, Global};
 
 /// What is wrong with a text from which `parse` may read no pattern, and with which part of it.
 ///
-/// It is `None` exactly where a pattern is read from the text. An `Err` is want of memory.
+/// It is `None` if and only if a pattern is read from the text. An `Err` means out of memory.
 pub fn explain(alloc: Global, text: &str, config: &Config) -> Result<Option<Fault>, AllocError>
     ensures answer { IfOk result (λ found. MatchOption found
         (IsRead (settings_of config.now) (chars text.now))

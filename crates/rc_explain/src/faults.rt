@@ -8,8 +8,8 @@ use std::fmt;
 pub struct Fault {
     /// What is wrong.
     pub kind: FaultKind,
-    /// The part of the text that the kind speaks of, in bytes: the opening `(`, `[`, `{` or `<` of what isn't closed, and else
-    /// what can't stand there.
+    /// The part of the text that the kind speaks of, in bytes: the opening `(`, `[`, `{` or `<` of
+    /// what isn't closed, and else what can't be there.
     pub span: Span,
 }
 
@@ -28,7 +28,7 @@ pub enum FaultKind {
     MissingFlags,
     /// `(?q)`
     UnknownFlag,
-    /// `(?x)`, where blanks and comments in a pattern would count for nothing.
+    /// `(?x)`, if blanks and comments in a pattern would count for nothing.
     VerboseFlag,
     /// `(?ii)`, `(?i-i)`
     RepeatedFlag,
@@ -38,7 +38,8 @@ pub enum FaultKind {
     DanglingNegation,
     /// `(?<>a)`
     EmptyName,
-    /// `(?<1>a)`, `(?<a b>a)`: names are ASCII letters, digits, `_`, `.`, `[` and `]`, and begin with a letter or `_`.
+    /// `(?<1>a)`, `(?<a b>a)`: names are ASCII letters, digits, `_`, `.`, `[` and `]`, and begin
+    /// with a letter or `_`.
     NameCharacter,
     /// `(?<a`: the span is the `<`.
     UnclosedName,
@@ -56,7 +57,7 @@ pub enum FaultKind {
     BoundsOutOfOrder,
     /// `[a`: the span is the `[`.
     UnclosedList,
-    /// `[]`, `[^]`, where a `]` that stands first is a member, and no other closes the list.
+    /// `[]`, `[^]`, where a `]` that is first is a member, and no other closes the list.
     EmptyList,
     /// `[a[b]]`
     NestedList,
@@ -88,11 +89,12 @@ pub enum FaultKind {
     UnclosedBrace,
     /// `\b{word}`
     UnknownBoundary,
-    /// `(?-u).`, `(?-u)\xFF`, `(?-u)[^a]`, where a pattern may match nothing but UTF-8.
+    /// `(?-u).`, `(?-u)\xFF`, `(?-u)[^a]`, if a pattern may match nothing but UTF-8.
     NotUtf8,
-    /// `.`, where a line terminator past ASCII is to be left out of the characters.
+    /// `.`, if a line terminator past ASCII is to be left out of the characters.
     LineTerminator,
-    /// The nest limit is passed. The span is what is nested too deeply, from the opener of the innermost open group on.
+    /// The nest limit is passed. The span is what is nested too deeply, from the opener of the
+    /// innermost open group on.
     NestedTooDeeply,
 }
 

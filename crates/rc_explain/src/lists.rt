@@ -17,7 +17,7 @@ fn front(mark: &[char]) -> (usize, bool) {
     }
 }
 
-/// Whether two characters that stand side by side are an operation on sets.
+/// Whether two characters that are adjacent are an operation on sets.
 fn is_operation(before: char, c: char) -> bool {
     before == c && (c == '&' || c == '~')
 }
@@ -161,7 +161,7 @@ fn place_of(alloc: Global, mark: &[char], number: usize) -> Result<usize, AllocE
     Ok(at)
 }
 
-/// What is wrong with the members of a list that is a mark; `None` where they are its items.
+/// What is wrong with the members of a list that is a mark; `None` if they are its items.
 pub fn members_fault(
     alloc: Global,
     is_unicode: bool,

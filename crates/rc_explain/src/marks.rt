@@ -12,7 +12,7 @@ use rc_tokens::refusal::Refusal;
 use rc_tokens::tokens::{Opening, Token};
 use std::alloc::{AllocError, Global};
 
-/// The first mark of a text, and of how many characters it is; `None` where no mark begins the text.
+/// The first mark of a text, and of how many characters it is; `None` if no mark begins the text.
 pub fn first_mark(alloc: Global, text: &[char]) -> Result<Option<(Token, usize)>, AllocError> {
     match first_token(alloc, text) {
         Ok((token, rest)) => Ok(Some((token, text.len().saturating_sub(rest.len())))),
@@ -29,7 +29,7 @@ pub fn from(text: &[char], at: usize) -> &[char] {
 /// A group that is open.
 #[derive(Clone, Copy)]
 struct OpenGroup {
-    /// Where its `(` stands.
+    /// Where its `(` is.
     at: usize,
     /// The flag `u` outside.
     is_unicode_outside: bool,
@@ -46,7 +46,7 @@ struct Standing {
 }
 
 impl Standing {
-    /// Goes past a mark that stands at this place.
+    /// Goes past a mark that is at this place.
     fn pass(&mut self, token: &Token, at: usize) -> Result<(), AllocError> {
         self.has_item = match token {
             Token::Bar | Token::Setting(_) | Token::Opens(_) => false,
@@ -95,7 +95,7 @@ impl Standing {
         }
     }
 
-    /// What is wrong with a mark that can't stand at this place.
+    /// What is wrong with a mark that can't be at this place.
     fn mark_fault(
         &self,
         alloc: Global,

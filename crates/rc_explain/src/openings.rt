@@ -21,7 +21,7 @@ pub fn opening_fault(mark: &[char]) -> Found {
     }
 }
 
-/// Whether the character may stand in the name of a group.
+/// Whether the character may be in the name of a group.
 fn is_in_name(c: char, is_first: bool) -> bool {
     if c.is_ascii_alphabetic() || c == '_' {
         return true;
@@ -43,7 +43,7 @@ fn name_fault(mark: &[char], from: usize) -> Found {
     Found::new(FaultKind::UnclosedName, from.saturating_sub(1), from)
 }
 
-/// The name of the group that opens so: what stands between `<` and `>`.
+/// The name of the group that opens so: what is between `<` and `>`.
 pub fn name_of(mark: &[char]) -> (usize, usize) {
     let mut start = 0;
     for i in 0..mark.len() {

@@ -15,7 +15,7 @@ fn number_at(mark: &[char], from: usize) -> (u64, usize) {
     (number, mark.len().max(from))
 }
 
-/// Whether a character stands there.
+/// Whether a character is there.
 fn is_at(mark: &[char], at: usize, c: char) -> bool {
     mark.get(at).copied() == Some(c)
 }

@@ -18,7 +18,7 @@ pub type Searcher<C> = SearcherOf<Input<C>>;
 ///
 /// Each call of `advance`, `try_advance` or `try_advance_half` gives the next match that a finder
 /// finds. A finder is called with the kept input. Each of its calls has to leave the input's span,
-/// slice, anchoring and earliest flag, and a match that it answers has to lie from the input's
+/// slice, anchoring and earliest flag, and a match that it returns has to lie from the input's
 /// start to its end, and in the content.
 #[derive(Drop)]
 pub struct SearcherOf<I: KeptInput> {
@@ -46,7 +46,8 @@ impl<I: KeptInput + Drop> SearcherOf<I> {
         SearcherOf { input, last: None }
     }
 
-    /// Lends the kept input. It may be changed: the next search is over what it then is. The searcher is otherwise as before.
+    /// Lends the kept input. It may be changed: the next search is over what it then is. The
+    /// searcher is otherwise as before.
     pub fn input(&mut self) -> &mut I
         ensures* kept { sem 𝓛 (Lends (the_row I.row I.KeptInput) I.row self.entry result
             (λ i. record { input = I.searched i; last = self.old.last })) }
@@ -72,11 +73,11 @@ impl<I: KeptInput + Drop> SearcherOf<I> {
         self.try_advance(finder)
     }
 
-    /// The next match: what the finder answers from where the last match ended, or where that is an
-    /// empty match that ends there too, what it answers from a byte later.
+    /// The next match: what the finder answers from where the last match ended, or if that is an
+    /// empty match that ends there too, what it returns from a byte later.
     ///
     /// An error is the finder's. After a match the kept input's span begins where the match ends.
-    /// After None and after an error all is as before, save the input's position and chunk.
+    /// After None and after an error all is as before, except the input's position and chunk.
     pub fn try_advance<F: FnMut(&mut I) -> Result<Option<Match>, MatchError>>(
         &mut self,
         mut finder: F,
@@ -109,10 +110,10 @@ impl<I: KeptInput + Drop> SearcherOf<I> {
     }
 
     /// The pattern and the end of the next match: the half that the finder answers from where the
-    /// last match ended, or where that half ends there too, what it answers from a byte later.
+    /// last match ended, or if that half ends there too, what it returns from a byte later.
     ///
-    /// An error is the finder's. After a half the kept input's span begins where it ends. After None
-    /// and after an error all is as before, save the input's position and chunk.
+    /// An error is the finder's. After a half the kept input's span begins where it ends. After
+    /// None and after an error all is as before, except the input's position and chunk.
     pub fn try_advance_half<F: FnMut(&mut I) -> Result<Option<HalfMatch>, MatchError>>(
         &mut self,
         mut finder: F,
@@ -132,7 +133,7 @@ impl<I: KeptInput + Drop> SearcherOf<I> {
         self.next_half(&mut finder)
     }
 
-    /// The same, by a finder that is lent.
+    /// The same, by a borrowed finder.
     pub(crate) fn next_half<F: FnMut(&mut I) -> Result<Option<HalfMatch>, MatchError>>(
         &mut self,
         finder: &mut F,

@@ -22,8 +22,8 @@ use rc_text::cursor::Cursor;
 use rc_text::input::{Input, piece_before};
 use rc_text::types::Anchored;
 
-/// The cell to which the last of so many bytes of a piece leads. Where it is known and has no mark, it names the row of the run before that
-/// byte.
+/// The cell to which the last of this many bytes of a piece leads. If it is known and has no mark,
+/// it names the row of the run before that byte.
 #[inline(always)]
 fn cell_at(
     store: &Store,
@@ -51,8 +51,9 @@ fn cell_at(
     cells[here.row + classes[piece[left - 1] as usize] as usize]
 }
 
-/// Runs over bytes whose cells are known and have no mark, four at a time towards the beginning of a piece, and answers how many bytes are left and
-/// the row before the others. Fewer than four are left, or the next cell is unknown or has a mark.
+/// Runs over bytes whose cells are known and have no mark, four at a time towards the beginning of
+/// a piece, and returns how many bytes are left and the row before the others. Fewer than four are
+/// left, or the next cell is unknown or has a mark.
 #[inline(always)]
 fn stride(
     store: &Store,
@@ -151,8 +152,9 @@ fn stride(
     (left, row)
 }
 
-/// Runs over the bytes of a piece from its end, down to one of which the cell needs a look, and answers how many are left. A cell that tells of
-/// something met needs none where `limit` is `UNKNOWN`, and one where it is 0.
+/// Runs over the bytes of a piece from its end, down to one of which the cell needs a look, and
+/// returns how many are left. A cell that tells of something found needs none if `limit` is
+/// `UNKNOWN`, and one if it is 0.
 #[inline(never)]
 fn run(
     automaton: &Automaton,
@@ -327,7 +329,8 @@ fn begin(
     Leg::Through(Stand { row, met: None })
 }
 
-/// How a search ends that came to its lower bound: the byte that stands before it decides what is met there, or the beginning of what is seen.
+/// How a search ends that came to its lower bound: the byte before it decides what is found there,
+/// or the beginning of what is seen.
 #[inline(always)]
 fn finish<C: Cursor>(
     automaton: &Automaton,

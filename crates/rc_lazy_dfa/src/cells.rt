@@ -11,10 +11,11 @@ use rc_text::types::Anchored;
 /// It isn't known where the byte leads.
 pub(crate) const UNKNOWN: usize = 2_305_843_009_213_693_952;
 
-/// Nothing goes on. Added to the name of a row where something was met on the way to it; alone where nothing was.
+/// Nothing goes on. Added to the name of a row if something was found on the way to it; alone if
+/// nothing was.
 pub(crate) const DEAD: usize = 4_611_686_018_427_387_904;
 
-/// Added to the name of a row where something was met on the way to it.
+/// Added to the name of a row if something was found on the way to it.
 pub(crate) const MET: usize = 9_223_372_036_854_775_808;
 
 /// The byte isn't read.

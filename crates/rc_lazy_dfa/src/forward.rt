@@ -38,7 +38,7 @@ fn reach(at: usize, end: usize, may_rest: bool, rest_from: usize) -> usize
     at.max(rest_from).saturating_add(REACH).min(end)
 }
 
-/// Whether nothing was met, and nothing is under way but walks that begin there or later.
+/// Whether nothing was found, and nothing is under way but walks that begin there or later.
 #[inline(always)]
 fn is_idle_at(half: &Half, stand: Stand) -> bool
     ghost f: { Frame }
@@ -48,7 +48,8 @@ fn is_idle_at(half: &Half, stand: Stand) -> bool
     stand.met.is_none() && half.store.idles_at(stand.row)
 }
 
-/// The cell to which the byte of a piece at an index leads. Where it is known and has no mark, it names the row of the run behind that byte.
+/// The cell to which the byte of a piece at an index leads. If it is known and has no mark, it
+/// names the row of the run behind that byte.
 #[inline(always)]
 fn cell_at(
     store: &Store,
@@ -75,8 +76,9 @@ fn cell_at(
     cells[here.row + classes[piece[index] as usize] as usize]
 }
 
-/// Runs over bytes whose cells are known and have no mark, four at a time, and answers how many bytes were read and the row behind them. Fewer
-/// than four are left, or the next cell is unknown or has a mark.
+/// Runs over bytes whose cells are known and have no mark, four at a time, and returns how many
+/// bytes were read and the row behind them. Fewer than four are left, or the next cell is unknown
+/// or has a mark.
 #[inline(always)]
 fn stride(
     store: &Store,
@@ -175,8 +177,9 @@ fn stride(
     (index, row)
 }
 
-/// Runs over the bytes of a piece, up to one of which the cell needs a look, and answers how many were read. A cell that tells of something
-/// met needs none where `limit` is `UNKNOWN`, and one where it is 0.
+/// Runs over the bytes of a piece, up to one of which the cell needs a look, and returns how many
+/// were read. A cell that tells of something found needs none if `limit` is `UNKNOWN`, and one if
+/// it is 0.
 #[inline(never)]
 fn run(
     automaton: &Automaton,
@@ -229,7 +232,8 @@ fn run(
     (index, Stand { row, met })
 }
 
-/// Reads one byte, whatever its cell. With `may_rest` the search rests behind it where it may, from the position `rest_from` on.
+/// Reads one byte, whatever its cell. With `may_rest` the search rests behind it if it may, from
+/// the position `rest_from` on.
 #[inline(always)]
 fn step(
     automaton: &Automaton,
@@ -374,7 +378,8 @@ fn begin(
     Leg::Through(Stand { row, met: None })
 }
 
-/// How a search ends that came to its upper bound: the byte that stands beyond decides what is met there, or the end of what is seen.
+/// How a search ends that came to its upper bound: the byte beyond decides what is found there, or
+/// the end of what is seen.
 #[inline(always)]
 fn finish<C: Cursor>(
     automaton: &Automaton,

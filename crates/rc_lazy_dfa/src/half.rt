@@ -46,7 +46,8 @@ fn no_places(alloc: Global) -> State {
     }
 }
 
-/// How many starts there are: for each way of anchoring, and for each class of the byte beside and the end. None where no number tells it.
+/// How many starts there are: for each way of anchoring, and for each class of the byte beside and
+/// the end. None if that overflows.
 pub(crate) fn starts_in(automaton: &Automaton, direction: Direction, width: usize) -> Option<usize>
     requires { width ≡ (frame_of automaton.now direction).width }
     ensures { MatchOption result (usize.MAX < starts_in (frame_of automaton.now direction)) (λ n. n ≡ starts_in (frame_of automaton.now direction)) }
@@ -58,7 +59,7 @@ pub(crate) fn starts_in(automaton: &Automaton, direction: Direction, width: usiz
 }
 
 impl Half {
-    /// No states yet, with this capacity in bytes. An `Err` is want of memory.
+    /// No states yet, with this capacity in bytes. An `Err` means out of memory.
     pub(crate) fn new(
         alloc: Global,
         automaton: &Automaton,
@@ -93,7 +94,7 @@ impl Half {
         })
     }
 
-    /// So many bytes were read.
+    /// This many bytes were read.
     #[inline(always)]
     pub(crate) fn serve(&mut self, bytes: usize)
         ensures store { self.new.store ≡ self.old.store }
@@ -123,7 +124,7 @@ impl Half {
         Ok(())
     }
 
-    /// The cell that leads to the state that was made last. The state is added where it isn't there.
+    /// The cell that leads to the state that was made last. The state is added if it isn't there.
     fn name(&mut self) -> Result<Named, Refusal>
         ghost f: { Frame }
         requires half { IsHalf f self.old }
@@ -140,7 +141,8 @@ impl Half {
         Ok(named)
     }
 
-    /// The cell of a row and a byte, or of the end. Where it isn't known, the step is made, and it is known from then on.
+    /// The cell of a row and a byte, or of the end. If it isn't known, the step is made, and it is
+    /// known from then on.
     #[inline(always)]
     pub(crate) fn next(
         &mut self,
@@ -176,8 +178,8 @@ impl Half {
         Ok(named.cell)
     }
 
-    /// The cell in which a search begins that is anchored so, where this byte stands beside, or none. Where it isn't known, the state is made,
-    /// and it is known from then on.
+    /// The cell in which a search begins that is anchored so, if this byte is beside it, or none.
+    /// If it isn't known, the state is made, and it is known from then on.
     #[inline(always)]
     pub(crate) fn begin(
         &mut self,

@@ -16,7 +16,8 @@ use rc_text::input::Input;
 use rc_text::types::Anchored;
 use std::alloc::{AllocError, Global};
 
-/// What searches by an automaton are made of whose states are found as they are met. The states themselves are in a `Cache`.
+/// What searches by an automaton are made of whose states are found as they are found. The states
+/// themselves are in a `Cache`.
 #[derive(Drop)]
 pub struct Lazy {
     automaton: Automaton,
@@ -26,7 +27,8 @@ pub struct Lazy {
     ghost roomy: { minimum ≤ capacity },
 }
 
-/// The states that searches met so far, with what is known of their steps: a table for each direction.
+/// The states that searches built so far, with what is known of their steps: a table for each
+/// direction.
 #[derive(Drop)]
 pub struct Cache {
     forward: Half,
@@ -34,7 +36,7 @@ pub struct Cache {
     alloc: Global,
 }
 
-/// The least capacity that serves, in bytes; None where no number tells it.
+/// The least capacity that serves, in bytes; None if that overflows.
 fn minimum(automaton: &Automaton) -> Option<usize>
     ensures { MatchOption result (usize.MAX < minimum_of (frame_of automaton.now direction.Forwards)) (λ n. n ≡ minimum_of (frame_of automaton.now direction.Forwards)) }
 {
@@ -62,8 +64,9 @@ impl Lazy {
     ghost use Rattle.std.specs.Prelude.{◌≡◌, IfOk, IfErr};
     ghost use Rattle.rc_lazy_dfa.specs.Caches.{IsCacheOf, IsFreshCache, IsLazyOf, IsNone, least_of};
 
-    /// What searches by this automaton are made of, with so many bytes for the states of each direction. The error `TooSmall` comes where the
-    /// capacity is less than the least that serves, and `Memory` where that is more than any number tells.
+    /// What searches by this automaton are made of, with this many bytes for the states of each
+    /// direction. The error `TooSmall` comes if the capacity is less than the least that serves,
+    /// and `Memory` if that overflows.
     pub fn new(automaton: Automaton, capacity: usize) -> Result<Lazy, LazyError>
         ensures made { IfOk result (IsLazyOf automaton capacity) }
         ensures refused { IfErr result (IsNone automaton capacity) }
@@ -91,7 +94,7 @@ impl Lazy {
         self.minimum
     }
 
-    /// A cache for searches, with no states yet. An `Err` is want of memory.
+    /// A cache for searches, with no states yet. An `Err` means out of memory.
     pub fn create_cache(&self, alloc: Global) -> Result<Cache, AllocError>
         ensures made { IfOk result (IsCacheOf self.now) }
         ensures fresh { IfOk result IsFreshCache }
@@ -110,7 +113,8 @@ impl Cache {
     ghost use Rattle.std.specs.Prelude.{◌≡◌, IfOk, IfErr, min};
     ghost use Rattle.rc_lazy_dfa.specs.Caches.{IsCacheOf, IsFreshCache, capacity_of, clears_of, usage_of};
 
-    /// Makes this a cache for other searches, with no states yet. An `Err` is want of memory, and then the cache stays as it was.
+    /// Makes this a cache for other searches, with no states yet. An `Err` means out of memory, and
+    /// then the cache stays as it was.
     pub fn reset(&mut self, lazy: &Lazy) -> Result<(), AllocError>
         ensures made { IfOk result (λ _. IsCacheOf lazy.now self.new) }
         ensures fresh { IfOk result (λ _. IsFreshCache self.new) }
@@ -121,7 +125,7 @@ impl Cache {
         Ok(())
     }
 
-    /// How many bytes hold the states of both directions, or the greatest number where that is more.
+    /// How many bytes hold the states of both directions, or the greatest number if that is more.
     pub fn memory_usage(&self) -> usize
         ensures { result ≡ min (usage_of self.now) usize.MAX }
     {
@@ -131,15 +135,15 @@ impl Cache {
             .saturating_add(self.reverse.store.used)
     }
 
-    /// So many bytes may hold the states of each direction.
+    /// This many bytes may hold the states of each direction.
     pub fn capacity(&self) -> usize
         ensures { result ≡ capacity_of self.now }
     {
         self.forward.store.capacity
     }
 
-    /// How often all states of a direction were let go since the cache was made or reset: the greater of the two counts. A count stays at the greatest
-    /// number once there.
+    /// How often all states of a direction were let go since the cache was made or reset: the
+    /// greater of the two counts. A count stays at the greatest number once there.
     pub fn clear_count(&self) -> usize
         ensures { result ≡ clears_of self.now }
     {

@@ -11,36 +11,36 @@ use crate::store::Store;
 use rc_dfa::automaton::Automaton;
 use rc_dfa::ended::{Ended, Met};
 
-/// Where a search stands between two bytes.
+/// Where a search is between two bytes.
 #[derive(Clone, Copy)]
 pub(crate) struct Stand {
     /// The row of its state.
     pub row: usize,
-    /// What was met last, with the position: forwards a match place, and backwards an entry.
+    /// What was found last, with the position: forwards a match place, and backwards an entry.
     pub met: Option<(usize, usize)>,
 }
 
-/// Where a run over a piece stands between two bytes.
+/// Where a run over a piece is between two bytes.
 #[derive(Clone, Copy)]
 pub(crate) struct Noted {
     /// The row of its state.
     pub row: usize,
-    /// The row that tells what was met last on the way, with the position; None where nothing was.
+    /// The row that tells what was found last on the way, with the position; None if nothing was.
     pub noted: Option<(usize, usize)>,
-    /// What was met before, with the position.
+    /// What was found before, with the position.
     pub before: Option<(usize, usize)>,
 }
 
 /// What became of a search over some bytes.
 #[derive(Clone, Copy)]
 pub(crate) enum Leg {
-    /// It stands behind them.
+    /// It is behind them.
     Through(Stand),
     /// It ended among them.
     Over(Ended),
 }
 
-/// What was met where the cell leads.
+/// What was found if the cell leads.
 #[inline(always)]
 pub(crate) fn stop_by(store: &Store, cell: usize) -> Option<usize>
     ghost f: { Frame }
@@ -53,7 +53,8 @@ pub(crate) fn stop_by(store: &Store, cell: usize) -> Option<usize>
     None
 }
 
-/// What was met last, where it was met by the way to the row that is noted, at the position beside it, or else before.
+/// What was found last, if it was found by the way to the row that is noted, at the position beside
+/// it, or else before.
 #[inline(always)]
 pub(crate) fn told(
     store: &Store,
@@ -73,7 +74,7 @@ pub(crate) fn told(
     }
 }
 
-/// What is said of a search by what was met last: a match place, with the position.
+/// What is said of a search by what was found last: a match place, with the position.
 #[inline(always)]
 pub(crate) fn found(automaton: &Automaton, met: Option<(usize, usize)>) -> Ended
     ensures { SaysMet (machine_of automaton.now Forwards) met result }
@@ -91,7 +92,7 @@ pub(crate) fn found(automaton: &Automaton, met: Option<(usize, usize)>) -> Ended
     }
 }
 
-/// What is said of a search backwards by what was met last: an entry, with the position.
+/// What is said of a search backwards by what was found last: an entry, with the position.
 #[inline(always)]
 pub(crate) fn found_down(met: Option<(usize, usize)>) -> Ended
     ensures { SaysLeast met result }
@@ -102,7 +103,7 @@ pub(crate) fn found_down(met: Option<(usize, usize)>) -> Ended
     }
 }
 
-/// What was met last, once a cell was read at the position.
+/// What was found last, once a cell was read at the position.
 #[inline(always)]
 pub(crate) fn met_by(
     store: &Store,

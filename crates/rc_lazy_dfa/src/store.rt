@@ -20,19 +20,21 @@ pub(crate) struct Store {
     pub states: States,
     /// The rows, one behind another.
     pub cells: Vec<usize>,
-    /// The cells in which searches begin: for each way of anchoring, the class of the byte beside and the end of what is seen.
+    /// The cells in which searches begin: for each way of anchoring, the class of the byte beside
+    /// and the end of what is seen.
     pub starts: Vec<usize>,
     /// How many cells a row has: one for each class of bytes, and one for the end.
     pub width: usize,
-    /// So many bytes it may hold.
+    /// This many bytes it may hold.
     pub capacity: usize,
-    /// So many bytes it holds.
+    /// This many bytes it holds.
     pub used: usize,
     /// How often all states were let go, or the greatest number.
     pub clears: usize,
 }
 
-/// What is told of a state: the cell that leads to it, and whether the rows that there were still stand.
+/// What is known of a state: the cell that leads to it, and whether the rows that there were still
+/// are.
 #[derive(Clone, Copy)]
 pub(crate) struct Named {
     pub cell: usize,
@@ -69,15 +71,16 @@ impl Store {
         self.clears = self.clears.saturating_add(1);
     }
 
-    /// Whether it is of no use to let all states go again: that was done three times, and since the last each of them served fewer than 10
-    /// bytes.
+    /// Whether it is of no use to let all states go again: that was done three times, and since the
+    /// last each of them served fewer than 10 bytes.
     fn is_futile(&self, served: usize) -> bool
         ensures { IsTrue result → 3 ≤ self.now.clears }
     {
         self.clears >= 3 && served / 10 < self.states.len()
     }
 
-    /// Makes room for so many bytes, and lets all states go where there is none. Answers whether they stayed.
+    /// Makes room for this many bytes, and lets all states go if there is none. Returns whether
+    /// they stayed.
     fn make_room(&mut self, weight: usize, served: usize) -> Result<bool, Refusal>
         ghost f: { Frame }
         requires held { Held f self.old }
@@ -96,7 +99,8 @@ impl Store {
         Ok(false)
     }
 
-    /// Adds a state for which there is room, and answers its row. An `Err` is want of memory; then it isn't added.
+    /// Adds a state for which there is room, and returns its row. An `Err` means out of memory;
+    /// then it isn't added.
     fn add(&mut self, state: &State) -> Result<usize, AllocError>
         ghost f: { Frame }
         requires held { Held f self.old }
@@ -115,8 +119,9 @@ impl Store {
         Ok(row)
     }
 
-    /// The cell that leads to the state. The state is added where it isn't there, and the others let go where there is no room for it; `served` is
-    /// how many bytes were read since that was done last.
+    /// The cell that leads to the state. The state is added if it isn't there, and the others let
+    /// go if there is no room for it; `served` is how many bytes were read since that was done
+    /// last.
     pub(crate) fn name(&mut self, state: &State, served: usize) -> Result<Named, Refusal>
         ghost f: { Frame }
         requires held { Held f self.old }
@@ -169,7 +174,7 @@ impl Store {
         self.starts[mode * self.width + column] = cell;
     }
 
-    /// What was met on the way to the row.
+    /// What was found on the way to the row.
     #[inline(always)]
     pub(crate) fn stop_at(&self, row: usize) -> Option<usize>
         ghost f: { Frame }

@@ -27,7 +27,7 @@ pub fn exact_literals(alloc: Global, hir: &Hir) -> Result<Option<Vec<Vec<u8>>>, 
     }
 }
 
-/// The bytes of a literal alone; None where there are none.
+/// The bytes of a literal alone; None if there are none.
 fn one_literal(alloc: Global, bytes: &Vec<u8>) -> Result<Option<Vec<Vec<u8>>>, AllocError>
     ensures { IfOk result (λ found. option_map (λ v. needles_in v.items) found ≡ literals_of (literal bytes.now.items)) }
 {
@@ -39,7 +39,7 @@ fn one_literal(alloc: Global, bytes: &Vec<u8>) -> Result<Option<Vec<Vec<u8>>>, A
     Ok(Some(literals))
 }
 
-/// The bytes of the members; None where there is no member, or one is no literal or an empty one.
+/// The bytes of the members; None if there is no member, or one is no literal or an empty one.
 fn members(alloc: Global, subs: &Vec<Hir>) -> Result<Option<Vec<Vec<u8>>>, AllocError>
     ensures { IfOk result (λ found. option_map (λ v. needles_in v.items) found ≡ literals_of (alt_all (map meaning subs.now.items))) }
 {

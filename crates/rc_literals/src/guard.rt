@@ -1,4 +1,4 @@
-//! Prefilter steps: where a search goes on, given the literals that every match has.
+//! Prefilter steps: if a search goes on, given the literals that every match has.
 ghost use Rattle.std.specs.Prelude.{◌≡◌, ◌-◌, ◌<◌, ◌≤◌, ℕ, Bool, IfSome, IsTrue, List, MatchOption, false, length, option_map, slice_index};
 ghost use Rattle.rc_text.specs.Text.{Keeps, high};
 ghost use Rattle.rc_program.specs.Program.{Place};
@@ -24,7 +24,7 @@ pub struct Needs {
 /// Needles by which a search may go.
 #[derive(Clone, Copy)]
 pub enum Guard<'a> {
-    /// No match begins but where one of these needles stands.
+    /// No match begins but where one of these needles occurs.
     Begins(&'a Prefilter),
     /// Each match holds one of the needles, and has no byte of the set.
     Holds(&'a Needs),
@@ -35,12 +35,12 @@ pub enum Guard<'a> {
 pub struct Start {
     /// No match begins before it.
     pub from: usize,
-    /// Where the needle stands, at or above `from`.
+    /// Where the needle occurs, at or above `from`.
     pub needle: usize,
 }
 
 /// Where a search is to go on that has come to `at`: at the next needle, or behind the last byte
-/// before it that no match has. None where no needle is left, and so no match.
+/// before it that no match has. None if no needle is left, and so no match.
 ///
 /// `end` is where the input's bounds end. It reads on the uncut bytes, wherever the input stood
 /// before, none of them below `at`, takes no memory and copies nothing.
@@ -79,8 +79,8 @@ pub fn next_start<C: Cursor>(
     }
 }
 
-/// Where no byte of the set is left before the needle: behind the last one, or at `at` where there
-/// is none from there on.
+/// Where no byte of the set is left before the needle: behind the last one, or at `at` if there is
+/// none from there on.
 #[inline(always)]
 fn behind_stop<C: Cursor>(input: &mut Input<C>, stops: &Stops, at: usize, needle: usize) -> usize
     requires ordered { at ≤ needle }
@@ -102,7 +102,7 @@ fn behind_stop<C: Cursor>(input: &mut Input<C>, stops: &Stops, at: usize, needle
     at
 }
 
-/// How many bytes the piece has up to the last one of the set, and 0 where it has none of it.
+/// How many bytes the piece has up to the last one of the set, and 0 if it has none of it.
 #[inline(always)]
 fn stopped_len(piece: &[u8], stops: &Stops) -> usize
     ensures within { result ≤ length piece.now }

@@ -13,12 +13,12 @@ use rc_needles::prefilter::{Prefilter, from_needles};
 use rc_pattern::hir::Hir;
 use std::alloc::{AllocError, Global};
 
-/// Whether the byte stands close together in most texts.
+/// Whether the byte is common in most texts.
 fn is_common(byte: u8) -> bool {
     matches!(byte, b' ' | b'\n' | b'0'..=b'9' | b'a'..=b'z')
 }
 
-/// Whether none of the needles is a single byte that stands close together in most texts.
+/// Whether none of the needles is a single byte that is common in most texts.
 fn are_rare(needles: &[Vec<u8>]) -> bool {
     for needle in needles {
         if needle.len() < 2 && needle.iter().all(|byte| is_common(*byte)) {
@@ -33,7 +33,7 @@ fn has_single(needles: &[Vec<u8>]) -> bool {
     needles.iter().any(|needle| needle.len() < 2)
 }
 
-/// The needles made ready for searches; None where they are not sought fast.
+/// The needles made ready for searches; None if they are not sought fast.
 fn fast_prefilter(alloc: Global, needles: Vec<Vec<u8>>) -> Result<Option<Prefilter>, AllocError>
     ensures { IfOk result (λ found. IfSome found (λ p. needles_of p ≡ needles_in needles.items)) }
 {
@@ -46,8 +46,9 @@ fn fast_prefilter(alloc: Global, needles: Vec<Vec<u8>>) -> Result<Option<Prefilt
     Ok(Some(prefilter))
 }
 
-/// The needles with what is read behind single bytes, made ready for searches; None where there are none, and where they are not sought by a
-/// sieve that is fast: by few first bytes they are sought no sooner than single bytes are, and then compared.
+/// The needles with what is read behind single bytes, made ready for searches; None if there are
+/// none, and if they are not sought by a sieve that is fast: by few first bytes they are sought no
+/// sooner than single bytes are, and then compared.
 fn longer_prefilter(alloc: Global, hirs: &[Hir]) -> Result<Option<Prefilter>, AllocError>
     ensures { IfOk result (λ found. IfSome found (λ p. (t : Text) → Holds t (map meaning hirs.now) (needles_of p))) }
 {
@@ -63,7 +64,8 @@ fn longer_prefilter(alloc: Global, hirs: &[Hir]) -> Result<Option<Prefilter>, Al
     Ok(longer)
 }
 
-/// Needles of which each match of the patterns holds one, made ready for searches, where they are worth it.
+/// Needles of which each match of the patterns holds one, made ready for searches, if they are
+/// worth it.
 fn needed_prefilter(alloc: Global, hirs: &[Hir]) -> Result<Option<Prefilter>, AllocError>
     ensures { IfOk result (λ found. IfSome found (λ p. (t : Text) → Holds t (map meaning hirs.now) (needles_of p))) }
 {
@@ -82,10 +84,11 @@ fn needed_prefilter(alloc: Global, hirs: &[Hir]) -> Result<Option<Prefilter>, Al
     fast_prefilter(alloc, list)
 }
 
-/// Needles of which each match of the patterns holds one, and the bytes of which it has none. None where there are no such needles, and where a
-/// search for them isn't likely to pass over much: one of them is a single byte that stands close together in most texts, or they are so
-/// many that they are not sought fast. Where one is a single byte, they have what is read behind it, as long as they are sought fast so.
-/// Which it is, is a matter of speed alone. An `Err` is want of memory.
+/// Needles of which each match of the patterns holds one, and the bytes of which it has none. None
+/// if there are no such needles, and if a search for them isn't likely to pass over much: one of
+/// them is a single byte that is common in most texts, or they are so many that they are not sought
+/// fast. If one is a single byte, they have what is read behind it, as long as they are sought fast
+/// so. Which it is, is a matter of speed alone. An `Err` means out of memory.
 pub fn needs_of(alloc: Global, hirs: &[Hir]) -> Result<Option<Needs>, AllocError>
     ensures holds { IfOk result (λ found. IfSome found (λ n. (t : Text) → Holds t (map meaning hirs.now) (needles_of n.needles))) }
     ensures leaves { IfOk result (λ found. IfSome found (λ n. (t : Text) → LeavesOut t (map meaning hirs.now) n.stops.table)) }

@@ -29,11 +29,12 @@ const GREATEST_VARIANTS: usize = 32;
 /// Prefixes with one of which each text begins that one of the patterns spells, none of them empty.
 ///
 /// They are what may be read first: a literal, of which at most 32 bytes are taken, or each byte or
-/// character of a class. Where one of these has fewer than 3 bytes, they are lengthened by the literals and
-/// classes behind it, in groups and alternations too, one after another, as long as that makes no more than
-/// 32 of them. None where in some pattern a body that may be left out, or nothing but
-/// assertions, is read first, where there are more than 64, and where there is none. An `Err` is want
-/// of memory. It takes time linear in the patterns' size, and calls itself as deep as a pattern is.
+/// character of a class. If one of these has fewer than 3 bytes, they are lengthened by the
+/// literals and classes behind it, in groups and alternations too, one after another, as long as
+/// that makes no more than 32 of them. None if in some pattern a body that may be left out, or
+/// nothing but assertions, is read first, if there are more than 64, and if there is none. An `Err`
+/// means out of memory. It takes time linear in the patterns' size, and calls itself as deep as a
+/// pattern is.
 pub fn prefixes(alloc: Global, hirs: &[Hir]) -> Result<Option<Vec<Vec<u8>>>, AllocError>
     ensures usable { IfOk result (λ found. IfSome found (λ v. IsUsable (needles_in v.items))) }
     ensures exact { IfOk result (λ found. MatchOption found ((ws : List (List ℕ)) → ¬ ArePrefixes (map meaning hirs.now) ws)
@@ -47,7 +48,7 @@ pub fn prefixes(alloc: Global, hirs: &[Hir]) -> Result<Option<Vec<Vec<u8>>>, All
     Ok(Some(list))
 }
 
-/// Adds the prefixes of a pattern; false where it has none of use.
+/// Adds the prefixes of a pattern; false if it has none of use.
 #[cycle(add)]
 fn add(alloc: Global, hir: &Hir, list: &mut Vec<Vec<u8>>) -> Result<bool, AllocError>
     ensures { IfOk result (λ done. Extends done (needles_in list.old.items) (needles_in list.new.items) (first_bytes (meaning hir.now))) }
@@ -74,7 +75,7 @@ fn add(alloc: Global, hir: &Hir, list: &mut Vec<Vec<u8>>) -> Result<bool, AllocE
     }
 }
 
-/// Adds the prefixes of each pattern; false where one has none of use.
+/// Adds the prefixes of each pattern; false if one has none of use.
 #[cycle(add)]
 fn add_alternation(alloc: Global, subs: &[Hir], list: &mut Vec<Vec<u8>>) -> Result<bool, AllocError>
     ensures { IfOk result (λ done. Extends done (needles_in list.old.items) (needles_in list.new.items) (first_bytes (alt_all (map meaning subs.now)))) }
@@ -87,8 +88,8 @@ fn add_alternation(alloc: Global, subs: &[Hir], list: &mut Vec<Vec<u8>>) -> Resu
     Ok(true)
 }
 
-/// Adds the prefixes of what may be read first: where each text of it is known, and one is short, with what is read behind it. False where
-/// it has none of use.
+/// Adds the prefixes of what may be read first: if each text of it is known, and one is short, with
+/// what is read behind it. False if it has none of use.
 #[cycle(add)]
 fn add_begun(
     alloc: Global,
@@ -108,8 +109,8 @@ fn add_begun(
     }
 }
 
-/// Each text that a pattern spells: a literal, a class, a group of these and an alternation of these. None for other patterns, and where that
-/// is too much to be kept.
+/// Each text that a pattern spells: a literal, a class, a group of these and an alternation of
+/// these. None for other patterns, and if that is too much to be kept.
 fn whole_bytes(alloc: Global, hir: &Hir) -> Result<Option<Vec<Vec<u8>>>, AllocError>
     ensures { IfOk result (λ found. option_map (λ v. needles_in v.items) found ≡ whole_bytes (meaning hir.now)) }
 {
@@ -120,7 +121,7 @@ fn whole_bytes(alloc: Global, hir: &Hir) -> Result<Option<Vec<Vec<u8>>>, AllocEr
     Ok(None)
 }
 
-/// Adds each text that a pattern spells; false where that is not known, or there is no room.
+/// Adds each text that a pattern spells; false if that is not known, or there is no room.
 #[cycle(add_whole)]
 fn add_whole(alloc: Global, hir: &Hir, list: &mut Vec<Vec<u8>>) -> Result<bool, AllocError>
     ensures { IfOk result (λ done. Extends done (needles_in list.old.items) (needles_in list.new.items) (spelled_bytes (meaning hir.now))) }
@@ -136,7 +137,8 @@ fn add_whole(alloc: Global, hir: &Hir, list: &mut Vec<Vec<u8>>) -> Result<bool, 
     }
 }
 
-/// Adds each text that one of the patterns spells; false where that is not known of one, or there is no room.
+/// Adds each text that one of the patterns spells; false if that is not known of one, or there is
+/// no room.
 #[cycle(add_whole)]
 fn add_whole_alternation(
     alloc: Global,
@@ -153,7 +155,7 @@ fn add_whole_alternation(
     Ok(true)
 }
 
-/// Adds the bytes of a literal; false where they are too many.
+/// Adds the bytes of a literal; false if they are too many.
 fn add_whole_literal(
     alloc: Global,
     bytes: &[u8],
@@ -185,8 +187,8 @@ fn lengthened(
     Ok(longer)
 }
 
-/// Each needle with each text behind it that the pattern spells. None where no needle is short, the texts are not known, or they would be
-/// too many.
+/// Each needle with each text behind it that the pattern spells. None if no needle is short, the
+/// texts are not known, or they would be too many.
 fn crossed_with(
     alloc: Global,
     needles: &[Vec<u8>],
@@ -252,7 +254,7 @@ fn add_joined(
     Ok(())
 }
 
-/// Adds each of the needles; false where there is no room for one.
+/// Adds each of the needles; false if there is no room for one.
 fn add_needles(
     alloc: Global,
     needles: &[Vec<u8>],
@@ -268,7 +270,7 @@ fn add_needles(
     Ok(true)
 }
 
-/// How many members stand before the first that may read.
+/// How many members are before the first that may read.
 fn still_count(subs: &[Hir]) -> usize
     ensures first { IfSome (slice_get subs.now result) (λ first. first_bytes (cat_all (map meaning subs.now))
         ≡ begun_by (whole_bytes (meaning first)) (first_bytes (meaning first)) (cat_all (map meaning (drop (result + 1) subs.now)))) }
@@ -304,7 +306,7 @@ fn add_literal(alloc: Global, bytes: &[u8], list: &mut Vec<Vec<u8>>) -> Result<b
     add_needle(alloc, &bytes[..bytes.len().min(GREATEST_LENGTH)], list)
 }
 
-/// Adds each member of a class; false where there are too many.
+/// Adds each member of a class; false if there are too many.
 fn add_class(alloc: Global, class: &Class, list: &mut Vec<Vec<u8>>) -> Result<bool, AllocError>
     ensures { IfOk result (λ done. Extends done (needles_in list.old.items) (needles_in list.new.items) (first_bytes (class_meaning class.now))) }
 {
@@ -381,7 +383,7 @@ fn add_chars(
     Ok(true)
 }
 
-/// Adds these bytes; false where the list is full.
+/// Adds these bytes; false if the list is full.
 fn add_needle(alloc: Global, needle: &[u8], list: &mut Vec<Vec<u8>>) -> Result<bool, AllocError>
     ensures { IfOk result (λ done. Extends done (needles_in list.old.items) (needles_in list.new.items) (Some (needle.now ∷ []))) }
 {
@@ -394,7 +396,7 @@ fn add_needle(alloc: Global, needle: &[u8], list: &mut Vec<Vec<u8>>) -> Result<b
 
 /// Whether each of the prefixes begins with one of the prefilter's needles.
 ///
-/// Where the prefixes cover patterns, the needles cover them then.
+/// If the prefixes cover patterns, the needles cover them then.
 pub fn begins_with_one_of(prefixes: &[Vec<u8>], prefilter: &Prefilter) -> bool
     ensures { Decides result (EachBegins (needles_in prefixes.now) (needles_of prefilter.now)) }
 {

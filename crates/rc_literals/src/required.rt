@@ -21,15 +21,17 @@ const GREATEST_LENGTH: usize = 32;
 /// How many needles a byte becomes at most with what is read behind it.
 const GREATEST_REST: usize = 16;
 
-/// Needles of which each text holds one, somewhere, that one of the patterns spells; none of them is empty.
+/// Needles of which each text holds one, somewhere, that one of the patterns spells; none of them
+/// is empty.
 ///
-/// They are literals that have to be read, of each at most its first 32 bytes: of a concatenation those of the
-/// member whose shortest is the longest, and of an alternation those of each member. An alternation has none
-/// where a member has none, or where they would be more than 64. With `longer` a literal of one byte in a
-/// concatenation has each of the prefixes of the next member behind it, as `rc_literals::prefixes` tells
-/// them, where these are at most 16: so those of `:[0-9]` are `:0` to `:9`. The patterns are taken as an alternation:
-/// None where that has none. An `Err` is want of memory. It takes time linear in the patterns' size, with
-/// at most 64 needles moved for each node, and calls itself as deep as a pattern is.
+/// They are literals that have to be read, of each at most its first 32 bytes: of a concatenation
+/// those of the member whose shortest is the longest, and of an alternation those of each member.
+/// An alternation has none if a member has none, or if they would be more than 64. With `longer` a
+/// literal of one byte in a concatenation has each of the prefixes of the next member behind it, as
+/// `rc_literals::prefixes` tells them, if these are at most 16: so those of `:[0-9]` are `:0` to
+/// `:9`. The patterns are taken as an alternation: None if that has none. An `Err` means out of
+/// memory. It takes time linear in the patterns' size, with at most 64 needles moved for each node,
+/// and calls itself as deep as a pattern is.
 pub fn required(
     alloc: Global,
     hirs: &[Hir],
@@ -49,7 +51,7 @@ pub fn required(
     Ok(Some(needles))
 }
 
-/// The needles of a pattern; None where it has to read no literal, and where they are too many.
+/// The needles of a pattern; None if it has to read no literal, and if they are too many.
 #[cycle(needed)]
 fn needed(alloc: Global, hir: &Hir, longer: bool) -> Result<Option<Vec<Vec<u8>>>, AllocError>
     ensures { IfOk result (λ found. option_map (λ v. needles_in v.items) found ≡ needed longer (meaning hir.now)) }
@@ -69,7 +71,8 @@ fn needed(alloc: Global, hir: &Hir, longer: bool) -> Result<Option<Vec<Vec<u8>>>
     }
 }
 
-/// The needles of the member of a concatenation whose shortest is the longest; None where no member has some.
+/// The needles of the member of a concatenation whose shortest is the longest; None if no member
+/// has some.
 #[cycle(needed)]
 fn needed_by_one(
     alloc: Global,
@@ -89,7 +92,7 @@ fn needed_by_one(
     Ok(best)
 }
 
-/// The needles of each member of an alternation; None where one has none, and where they are too many.
+/// The needles of each member of an alternation; None if one has none, and if they are too many.
 #[cycle(needed)]
 fn needed_by_each(
     alloc: Global,
@@ -111,7 +114,7 @@ fn needed_by_each(
     Ok(Some(list))
 }
 
-/// The first bytes of a literal; None where it has none.
+/// The first bytes of a literal; None if it has none.
 fn literal_needle(alloc: Global, bytes: &[u8]) -> Result<Option<Vec<Vec<u8>>>, AllocError>
     ensures { IfOk result (λ found. option_map (λ v. needles_in v.items) found ≡ literal_needle bytes.now) }
 {
@@ -123,8 +126,8 @@ fn literal_needle(alloc: Global, bytes: &[u8]) -> Result<Option<Vec<Vec<u8>>>, A
     Ok(Some(list))
 }
 
-/// The needles of a member of a concatenation before the others; those of a literal of one byte with what is read behind it, where that
-/// begins with few prefixes.
+/// The needles of a member of a concatenation before the others; those of a literal of one byte
+/// with what is read behind it, if that begins with few prefixes.
 fn with_rest(
     alloc: Global,
     member: &Hir,
@@ -164,7 +167,8 @@ fn only_byte(hir: &Hir) -> Option<u8>
     }
 }
 
-/// The prefixes of a concatenation's first member; None where there is no member, or it has none or many.
+/// The prefixes of a concatenation's first member; None if there is no member, or it has none or
+/// many.
 fn next_bytes(alloc: Global, subs: &[Hir]) -> Result<Option<Vec<Vec<u8>>>, AllocError>
     ensures { IfOk result (λ found. option_map (λ v. needles_in v.items) found ≡ next_bytes (cat_all (map meaning subs.now))) }
 {
@@ -194,7 +198,8 @@ fn with_each(alloc: Global, byte: u8, behind: &[Vec<u8>]) -> Result<Vec<Vec<u8>>
     Ok(list)
 }
 
-/// Of two members' needles those whose shortest is longer, and the first member's where they are alike.
+/// Of two members' needles those whose shortest is longer, and the first member's if they are
+/// alike.
 fn better(first: Option<Vec<Vec<u8>>>, rest: Option<Vec<Vec<u8>>>) -> Option<Vec<Vec<u8>>>
     ensures { option_map (λ v. needles_in v.items) result
         ≡ better (option_map (λ v. needles_in v.items) first) (option_map (λ v. needles_in v.items) rest) }
@@ -211,7 +216,7 @@ fn better(first: Option<Vec<Vec<u8>>>, rest: Option<Vec<Vec<u8>>>) -> Option<Vec
     Some(ours)
 }
 
-/// How many bytes the shortest needle has; 32 where there is none.
+/// How many bytes the shortest needle has; 32 if there is none.
 fn shortest(needles: &[Vec<u8>]) -> usize
     ensures { result ≡ shortest (needles_in needles.now) }
 {
@@ -222,7 +227,7 @@ fn shortest(needles: &[Vec<u8>]) -> usize
     least
 }
 
-/// The needles of both; None where they are too many.
+/// The needles of both; None if they are too many.
 fn joined(first: Vec<Vec<u8>>, rest: Vec<Vec<u8>>) -> Result<Option<Vec<Vec<u8>>>, AllocError>
     ensures { IfOk result (λ found. option_map (λ v. needles_in v.items) found ≡ joined (Some (needles_in first.items)) (Some (needles_in rest.items))) }
 {

@@ -15,10 +15,10 @@ use memchr::{memchr, memchr2, memchr3};
 use rc_text::cursor::Cursor;
 use rc_text::input::{Input, piece_from, takes_next};
 
-/// A chunk of fewer bytes is passed over where two bytes of the only needle stand nowhere in it.
+/// A chunk of fewer bytes is passed over if two bytes of the only needle are nowhere in it.
 const SHORT_PIECE: usize = 512;
 
-/// In a piece of fewer bytes the needle is compared at each place where these two bytes stand.
+/// In a piece of fewer bytes the needle is compared at each place where these two bytes are.
 const LONG_PIECE: usize = 8192;
 
 /// A needle with more bytes from the offset on is left to the library, whose search stays linear.
@@ -36,11 +36,11 @@ trait Candidates {
     /// The needles.
     ghost needles: { Self → List (List ℕ) };
 
-    /// How many bytes behind a needle's start that stands which is looked for.
+    /// How many bytes behind a needle's start which is looked for.
     ghost offset: { Self → ℕ };
 
-    /// The first place of the piece to which a needle may belong that starts the offset before it, or
-    /// the piece's length.
+    /// The first place of the piece to which a needle may belong that starts the offset before it,
+    /// or the piece's length.
     fn candidate(&self, piece: &[u8]) -> usize
         ensures within { result ≤ length piece.now }
         ensures passed { (k : ℕ) → k < result → IsRuledOut (needles self.now) (offset self.now) piece.now k };
@@ -150,7 +150,7 @@ fn is_between(piece: &[u8], low: usize, high: usize) -> bool
     low < piece.len() && piece.len() < high
 }
 
-/// Where the finder's bytes stand in the piece, else where they may begin at its end.
+/// Where the finder's bytes are in the piece, else where they may begin at its end.
 #[inline(never)]
 fn rest_candidate(finder: &Finder, piece: &[u8]) -> usize
     requires some { 0 < length finder.now }
@@ -182,7 +182,7 @@ fn head_candidate(table: &Table, piece: &[u8]) -> usize
     piece.len()
 }
 
-/// The first place where a bucket of the sieve takes three bytes. Where the sieve reads too much, the
+/// The first place if a bucket of the sieve takes three bytes. If the sieve reads too much, the
 /// first with a byte with which a needle begins.
 fn sieve_candidate(sieve: &Sieve, table: &Table, piece: &[u8]) -> usize
     requires { AreSifted sieve.now (needles_in table.now.needles.items) }
@@ -200,7 +200,7 @@ fn sieve_candidate(sieve: &Sieve, table: &Table, piece: &[u8]) -> usize
     last + head_candidate(table, &piece[last..])
 }
 
-/// The first place from one on to which a needle may belong that starts the offset before it. Where
+/// The first place from one on to which a needle may belong that starts the offset before it. If
 /// there is none below `end`, it is at least `end`.
 #[inline(always)]
 fn look_from<C: Cursor, L: Candidates>(
@@ -233,8 +233,8 @@ fn look_from<C: Cursor, L: Candidates>(
     at
 }
 
-/// Where quick looks no longer pass over the chunks that follow one another from `from` on, at or below
-/// `end`.
+/// If quick looks no longer pass over the chunks that follow one another from `from` on, at or
+/// below `end`.
 #[inline(always)]
 fn chunks_passed<C: Cursor, L: Candidates>(
     input: &mut Input<C>,

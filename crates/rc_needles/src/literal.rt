@@ -18,7 +18,7 @@ use rc_text::cursor::Cursor;
 use rc_text::input::{Input, byte_at, high, low, piece_from};
 use rc_text::types::{Anchored, Match, PatternID, Span};
 
-/// Whether the needle stands from `at` to `to`, read a piece of a chunk at a time.
+/// Whether the needle occurs from `at` to `to`, read a piece of a chunk at a time.
 #[inline(always)]
 fn stands_by_pieces<C: Cursor>(input: &mut Input<C>, needle: &[u8], at: usize, to: usize) -> bool
     requires long { to ≡ at + length needle.now }
@@ -38,7 +38,7 @@ fn stands_by_pieces<C: Cursor>(input: &mut Input<C>, needle: &[u8], at: usize, t
     true
 }
 
-/// Whether the needle stands from `at` to `to`, where its first byte does.
+/// Whether the needle occurs from `at` to `to`, if its first byte does.
 #[inline(always)]
 fn stands<C: Cursor>(input: &mut Input<C>, needle: &[u8], at: usize, to: usize) -> bool
     requires long { to ≡ at + length needle.now }
@@ -53,7 +53,7 @@ fn stands<C: Cursor>(input: &mut Input<C>, needle: &[u8], at: usize, to: usize) 
     stands_by_pieces(input, needle, at, to)
 }
 
-/// The least number of a needle that may stand at `at`, as far as the trie tells. Where none does, how
+/// The least number of a needle that may occur at `at`, as far as the trie shows. If none does, how
 /// many needles there are.
 #[inline(always)]
 fn least_number<C: Cursor>(
@@ -95,7 +95,7 @@ fn begins_with(needle: &[u8], byte: u8) -> bool
     }
 }
 
-/// A number below which no needle stands at `at`, where the content has this byte: that of a needle
+/// A number below which no needle occurs at `at`, if the content has this byte: that of a needle
 /// that begins with it, or how many needles there are.
 #[inline(always)]
 fn start_number<C: Cursor>(
@@ -128,7 +128,7 @@ fn start_number<C: Cursor>(
     head
 }
 
-/// The first of the needles that stands at `at`, wholly at or below `end`.
+/// The first of the needles that is at `at`, wholly at or below `end`.
 #[inline(always)]
 fn needle_at<C: Cursor>(input: &mut Input<C>, table: &Table, at: usize, end: usize) -> Option<Hit>
     requires low { at < end }
@@ -172,7 +172,7 @@ fn needle_there<C: Cursor>(
     needle_at(input, table, at, end)
 }
 
-/// The trie by which needles are sought: where there is one, and they begin with many bytes.
+/// The trie by which needles are sought: if there is one, and they begin with many bytes.
 #[inline(always)]
 fn trie_sought(searcher: &Searcher) -> Option<&Trie>
     ensures { IfSome result (λ trie. AreCarriedBy (Some trie.now) (needles_in searcher.now.table.needles.items)) }
@@ -221,7 +221,7 @@ fn find_by_trie<C: Cursor>(
     None
 }
 
-/// What `find_from` finds, by places where a needle may stand.
+/// What `find_from` finds, by places where a needle may occur.
 #[inline(never)]
 fn find_by_places<C: Cursor>(
     input: &mut Input<C>,
@@ -250,11 +250,11 @@ fn find_by_places<C: Cursor>(
     None
 }
 
-/// The least start from `from` on at which a needle stands, wholly at or below `end`, and the first
+/// The least start from `from` on at which a needle occurs, wholly at or below `end`, and the first
 /// of the needles there, in bytes.
 ///
-/// It reads on the uncut bytes, wherever the input stood before, takes no memory and copies nothing.
-/// The input's bounds are not read.
+/// It reads on the uncut bytes, wherever the input stood before, takes no memory and copies
+/// nothing. The input's bounds are not read.
 pub fn find_from<C: Cursor>(
     input: &mut Input<C>,
     prefilter: &Prefilter,
@@ -273,9 +273,10 @@ pub fn find_from<C: Cursor>(
     find_by_places(input, prefilter, from, end)
 }
 
-/// The least start at which a needle stands, and the first of the needles there, within the bounds.
+/// The least start at which a needle occurs, and the first of the needles there, within the bounds.
 ///
-/// It reads on the uncut bytes, wherever the input stood before, takes no memory and copies nothing.
+/// It reads on the uncut bytes, wherever the input stood before, takes no memory and copies
+/// nothing.
 pub fn find<C: Cursor>(input: &mut Input<C>, prefilter: &Prefilter) -> Option<Hit>
     ensures keeps { Keeps input.old input.new }
     ensures value { result ≡ find_needle (needles_of prefilter.now) input.old.content (low input.old) (high input.old) }
@@ -286,7 +287,7 @@ pub fn find<C: Cursor>(input: &mut Input<C>, prefilter: &Prefilter) -> Option<Hi
     find_from(input, prefilter, from, end)
 }
 
-/// The first of the needles that stands where the bounds begin.
+/// The first of the needles that is where the bounds begin.
 pub fn prefix<C: Cursor>(input: &mut Input<C>, prefilter: &Prefilter) -> Option<Hit>
     ensures keeps { Keeps input.old input.new }
     ensures value { result ≡ prefix_needle (needles_of prefilter.now) input.old.content (low input.old) (high input.old) }

@@ -11,7 +11,7 @@ use crate::trie::Trie;
 pub struct Seen {
     /// How many places were passed over.
     pub passed: usize,
-    /// The number of the first needle that stands behind them. Where it isn't told whether one does, how
+    /// The number of the first needle that is behind them. If it isn't told whether one does, how
     /// many needles there are.
     pub number: usize,
 }
@@ -45,7 +45,8 @@ pub fn seen_in(table: &Table, trie: &Trie, piece: &[u8]) -> Seen
     }
 }
 
-/// The number, where its needle stands in the piece at the place; else how many needles there are.
+/// The number, if its needle occurs in the piece at the place; otherwise how many needles there
+/// are.
 #[inline(always)]
 fn number_seen(table: &Table, piece: &[u8], at: usize, number: usize) -> usize
     requires within { at ≤ length piece.now }

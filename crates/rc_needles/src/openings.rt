@@ -5,7 +5,7 @@ ghost use Rattle.rc_needles.specs.Tables.{needles_in};
 
 use std::alloc::{AllocError, Global};
 
-/// How many words of bits there are, where there are any.
+/// How many words of bits there are, if there are any.
 const WORDS: usize = 2048;
 
 /// Fewer needles have no bits: a sieve is made for them.
@@ -43,7 +43,7 @@ fn opens_each(words: &[u32], first: u8, second: u8) -> bool
     true
 }
 
-/// Whether the bits let a needle stand, whatever follows it.
+/// Whether the bits allow a needle, whatever follows it.
 fn takes(words: &[u32], needle: &[u8]) -> bool
     requires { AreWhole words.now }
     ensures { IsTrue result → IsOpened words.now needle.now }
@@ -57,7 +57,8 @@ fn takes(words: &[u32], needle: &[u8]) -> bool
     opens(words, needle[0], needle[1], needle[2])
 }
 
-/// The first place from one on whose three bytes have their bit. Where there are no bits, it is that one.
+/// The first place from one on whose three bytes have their bit. If there are no bits, it is that
+/// one.
 #[inline(always)]
 pub fn opened_from(words: &[u32], piece: &[u8], from: usize) -> usize
     ensures low { from ≤ result }
@@ -70,8 +71,8 @@ pub fn opened_from(words: &[u32], piece: &[u8], from: usize) -> usize
     first_opened(words, piece, from)
 }
 
-/// The first place from one on whose three bytes have their bit. Where there is none, the place of the
-/// last two bytes, or the one where it began.
+/// The first place from one on whose three bytes have their bit. If there is none, the place of the
+/// last two bytes, or the one if it began.
 #[inline(always)]
 fn first_opened(words: &[u32], piece: &[u8], from: usize) -> usize
     requires { AreWhole words.now }
@@ -88,7 +89,7 @@ fn first_opened(words: &[u32], piece: &[u8], from: usize) -> usize
     from.max(last)
 }
 
-/// The bits of the first three bytes of these needles. There are none of few needles, nor where one
+/// The bits of the first three bytes of these needles. There are none of few needles, nor if one
 /// has a byte alone.
 pub fn openings_of(alloc: Global, needles: &[Vec<u8>]) -> Result<Vec<u32>, AllocError>
     ensures { IfOk result (λ words. AreOpened words.items (needles_in needles.now)) }
@@ -103,7 +104,7 @@ pub fn openings_of(alloc: Global, needles: &[Vec<u8>]) -> Result<Vec<u32>, Alloc
     Ok(Vec::new(alloc))
 }
 
-/// Whether the bits let each of the needles stand.
+/// Whether the bits allow each of the needles.
 fn take_each(words: &[u32], needles: &[Vec<u8>]) -> bool
     requires { AreWhole words.now }
     ensures { IsTrue result → AreOpened words.now (needles_in needles.now) }

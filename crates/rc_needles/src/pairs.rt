@@ -9,8 +9,8 @@ use std::simd::prelude::*;
 /// How many places a vector covers.
 pub const LANES: usize = 32;
 
-/// Whether it is seen that the two bytes stand nowhere side by side, and the first of them not at
-/// the piece's end.
+/// Whether it is seen that the two bytes are nowhere side by side, and the first of them not at the
+/// piece's end.
 #[inline(always)]
 pub fn are_nowhere(piece: &[u8], first: u8, second: u8) -> bool
     requires { 33 ≤ length piece.now }
@@ -29,7 +29,7 @@ pub fn are_nowhere(piece: &[u8], first: u8, second: u8) -> bool
 }
 
 /// The first place from which the piece has the bytes of the rest, as far as both go, or one before
-/// it near the piece's end. Where there is none, the piece's length.
+/// it near the piece's end. If there is none, the piece's length.
 #[inline(never)]
 pub fn first_place(piece: &[u8], rest: &[u8]) -> usize
     requires long { 33 ≤ length piece.now }
@@ -55,8 +55,8 @@ pub fn first_place(piece: &[u8], rest: &[u8]) -> usize
     place_at_end(piece, first, second)
 }
 
-/// The first of the piece's last 33 places where the two bytes stand side by side, or the first of
-/// them at its end. Where there is none, the piece's length.
+/// The first of the piece's last 33 places where the two bytes are adjacent, or the first of them
+/// at its end. If there is none, the piece's length.
 #[inline(always)]
 fn place_at_end(piece: &[u8], first: u8, second: u8) -> usize
     requires { 33 ≤ length piece.now }
@@ -83,8 +83,8 @@ fn begin_alike(piece: &[u8], rest: &[u8]) -> bool
     piece[..len] == rest[..len]
 }
 
-/// A number whose bit k is set where the two bytes stand side by side at the place `at + k`, for
-/// each k below 32.
+/// A number whose bit k is set where the two bytes are adjacent at the place `at + k`, for each k
+/// below 32.
 #[inline(always)]
 fn pairs_from(piece: &[u8], at: usize, first: u8, second: u8) -> u64
     requires { at + 33 ≤ length piece.now }
@@ -94,7 +94,8 @@ fn pairs_from(piece: &[u8], at: usize, first: u8, second: u8) -> u64
     marks(piece, at, first) & marks(piece, at + 1, second)
 }
 
-/// A number whose bit k is set where the piece has the byte at its place `at + k`, for each k below 32.
+/// A number whose bit k is set where the piece has the byte at its place `at + k`, for each k below
+/// 32.
 #[inline(always)]
 fn marks(piece: &[u8], at: usize, byte: u8) -> u64
     requires { at + 32 ≤ length piece.now }

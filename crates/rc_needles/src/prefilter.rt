@@ -12,21 +12,21 @@ use std::fmt;
 
 /// A list of needles, none of them empty, made ready for searches.
 ///
-/// A search for one needle passes over short chunks by two of its bytes that stand side by side, and
-/// goes by those behind them too; one for needles that begin with at most three bytes goes by these.
-/// Several needles of at least three bytes, or of at least two where one begins with a byte that is common
-/// in typical text, and up to 64 others that begin with more than three bytes go by a sieve of their first
-/// three bytes; more go by a trie, so that the work at a place grows with the bytes that
-/// are read there, and not with how many needles there are. Where each of more than 64 has two bytes, the
-/// trie is asked where a table of bits lets the first three stand. Fewer than 16 needles have no trie: of
-/// those alone are compared that begin with the byte there.
+/// A search for one needle passes over short chunks by two of its bytes that are adjacent, and goes
+/// by those behind them too; one for needles that begin with at most three bytes goes by these.
+/// Several needles of at least three bytes, or of at least two if one begins with a byte that is
+/// common in typical text, and up to 64 others that begin with more than three bytes go by a sieve
+/// of their first three bytes; more go by a trie, so that the work at a place grows with the bytes
+/// that are read there, and not with how many needles there are. If each of more than 64 has two
+/// bytes, the trie is asked where a table of bits allows the first three. Fewer than 16 needles
+/// have no trie: of those alone are compared that begin with the byte there.
 #[derive(Drop)]
 pub struct Prefilter {
     pub searcher: Searcher,
 }
 
 impl Prefilter {
-    /// A search for these needles, in order; None where there is none, or one of them is empty.
+    /// A search for these needles, in order; None if there is none, or one of them is empty.
     ///
     /// It is the same for each kind of match.
     pub fn new(
@@ -60,8 +60,8 @@ impl Prefilter {
         matches!(&self.searcher.scan, Scan::Sieve(_))
     }
 
-    /// Whether a search goes by a needle, by at most three bytes, or by a sieve of needles that begin with
-    /// at most three, or that have all the bytes that it reads.
+    /// Whether a search goes by a needle, by at most three bytes, or by a sieve of needles that
+    /// begin with at most three, or that have all the bytes that it reads.
     pub fn is_fast(&self) -> bool {
         let table = &self.searcher.table;
         match &self.searcher.scan {

@@ -38,7 +38,7 @@ pub enum Scan {
 }
 
 /// A table of needles, how a piece is searched for them, and how many bytes behind a needle's start
-/// that stands which a piece is searched for.
+/// which a piece is searched for.
 #[derive(Drop)]
 pub struct Searcher {
     pub table: Table,
@@ -71,7 +71,7 @@ pub fn searcher_of(alloc: Global, needles: Vec<Vec<u8>>) -> Result<Searcher, All
     })
 }
 
-/// What a piece is searched for where there are several needles, or one of a byte.
+/// What a piece is searched for if there are several needles, or one of a byte.
 fn scan_of(table: &Table) -> Scan
     ensures { IsScanOf (needles_in table.now.needles.items) 0 result }
 {
@@ -84,8 +84,9 @@ fn scan_of(table: &Table) -> Scan
     Scan::Heads(heads)
 }
 
-/// Whether several needles are sought sooner by a sieve than by few bytes with which they begin: each has
-/// the three bytes that it reads, or each has two, and one begins with a byte that stands close together.
+/// Whether several needles are sought sooner by a sieve than by few bytes with which they begin:
+/// each has the three bytes that it reads, or each has two, and one begins with a byte that is
+/// common.
 fn suits_sieve(needles: &[Vec<u8>]) -> bool {
     if needles.len() < 2 {
         return false;
@@ -112,14 +113,14 @@ fn begins_common(needle: &[u8]) -> bool {
     }
 }
 
-/// Whether the byte is common in typical text. The library ranks most bytes past ASCII as common, which
-/// they are in few texts; here none is.
+/// Whether the byte is common in typical text. The library ranks most bytes past ASCII as common,
+/// which they are in few texts; here none is.
 fn is_common(byte: u8) -> bool {
     let ranks = DefaultFrequencyRank;
     byte < 128 && ranks.rank(byte) >= LEAST_COMMON
 }
 
-/// Where in the needle its two bytes side by side stand that are rarest in typical text.
+/// Where in the needle its two bytes side by side are that are rarest in typical text.
 fn rare_offset(needle: &[u8]) -> usize
     requires { 2 ≤ length needle.now }
     ensures { result + 2 ≤ length needle.now }

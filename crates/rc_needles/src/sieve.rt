@@ -26,7 +26,8 @@ const GREATEST_COUNT: usize = 64;
 /// How many buckets there are.
 const BUCKETS: usize = 8;
 
-/// Which buckets take a byte, each of them a bit: those that take its low four bits and its high four.
+/// Which buckets take a byte, each of them a bit: those that take its low four bits and its high
+/// four.
 #[derive(Clone, Copy)]
 pub struct Sift {
     pub low: [u8; 16],
@@ -35,8 +36,8 @@ pub struct Sift {
 
 /// Which buckets take a byte as the first, the second and the third of a needle.
 ///
-/// Each needle is in a bucket. It takes any byte past the needle's end. Where no needle goes on behind its
-/// first byte, the second and the third aren't looked up.
+/// Each needle is in a bucket. It takes any byte past the needle's end. If no needle goes on behind
+/// its first byte, the second and the third aren't looked up.
 #[derive(Clone, Copy)]
 pub struct Sieve {
     pub is_set: bool,
@@ -67,7 +68,8 @@ impl Sift {
         self.high[(byte / 16) as usize] |= bits;
     }
 
-    /// The buckets of these bits take the byte of the needle at a place too, or any byte past its end.
+    /// The buckets of these bits take the byte of the needle at a place too, or any byte past its
+    /// end.
     fn add_at(&mut self, needle: &[u8], at: usize, bits: u8) {
         match needle.get(at) {
             Some(byte) => self.add(*byte, bits),
@@ -146,8 +148,8 @@ impl Sieve {
         bits != 0
     }
 
-    /// The buckets that take the three bytes from `at + k` on, or in a set the first of them, for each k
-    /// below 16.
+    /// The buckets that take the three bytes from `at + k` on, or in a set the first of them, for
+    /// each k below 16.
     #[inline(always)]
     fn taken_from(&self, piece: &[u8], at: usize) -> u8x16
         requires { at + 18 ≤ length piece.now }
@@ -175,8 +177,8 @@ impl Sieve {
         }
     }
 
-    /// The buckets that take three bytes of which the last stands at `at + k`, for each k below 16. Given is
-    /// what these 16 bytes and the 16 before them are taken as.
+    /// The buckets that take three bytes of which the last is at `at + k`, for each k below 16.
+    /// Given is what these 16 bytes and the 16 before them are taken as.
     #[inline(always)]
     fn taken_behind(&self, before: Begun, now: Begun, piece: &[u8], at: usize) -> u8x16
         requires inside { at + 16 ≤ length piece.now }
@@ -190,8 +192,8 @@ impl Sieve {
         first & (second & self.third.lanes(piece, at))
     }
 
-    /// The first place of the piece where a bucket takes three bytes. Where there is none, the place
-    /// of the last two bytes.
+    /// The first place of the piece if a bucket takes three bytes. If there is none, the place of
+    /// the last two bytes.
     #[inline(never)]
     pub fn place(&self, piece: &[u8]) -> usize
         requires { LEAST_PIECE ≤ length piece.now }
@@ -204,7 +206,7 @@ impl Sieve {
         self.place_by_blocks(piece)
     }
 
-    /// The same, where the bytes of each place are looked up by themselves.
+    /// The same, if the bytes of each place are looked up by themselves.
     #[inline(always)]
     fn place_by_places(&self, piece: &[u8]) -> usize
         requires { LEAST_PIECE ≤ length piece.now }
@@ -225,7 +227,7 @@ impl Sieve {
         self.place_at_end(piece, at)
     }
 
-    /// The same, where each byte is looked up once.
+    /// The same, if each byte is looked up once.
     #[inline(always)]
     fn place_by_blocks(&self, piece: &[u8]) -> usize
         requires { LEAST_BLOCKS ≤ length piece.now }
@@ -253,7 +255,7 @@ impl Sieve {
         self.place_at_end(piece, at.saturating_sub(2))
     }
 
-    /// The same from a place on, where at most 32 places are left to be looked up.
+    /// The same from a place on, if at most 32 places are left to be looked up.
     #[inline(never)]
     fn place_at_end(&self, piece: &[u8], from: usize) -> usize
         requires long { LEAST_PIECE ≤ length piece.now }
@@ -336,7 +338,7 @@ fn marks_of_both(low: u8x16, high: u8x16) -> u64
     marks_of(low) | marks_of(high) << HALF
 }
 
-/// A sieve for these needles, where they are few enough.
+/// A sieve for these needles, if they are few enough.
 pub fn sieve_of(needles: &[Vec<u8>]) -> Option<Sieve>
     ensures { IfSome result (λ s. AreSifted s (needles_in needles.now)) }
 {

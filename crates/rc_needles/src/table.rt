@@ -7,8 +7,8 @@ use crate::trie::{Trie, trie_of};
 use std::alloc::{AllocError, Global};
 
 /// The needles, for each byte the first that begins with it, and for each needle the next that
-/// begins with the same byte. Where there is none, how many needles there are. Many needles have a trie
-/// too.
+/// begins with the same byte. If there is none, how many needles there are. Many needles have a
+/// trie too.
 #[derive(Drop)]
 pub struct Table {
     pub needles: Vec<Vec<u8>>,

@@ -23,7 +23,7 @@ const FREE: Node = Node {
 /// How many places are tried for a node's children behind the one where the search begins.
 const REACH: usize = 64;
 
-/// A node of paths. Its child by a byte is the node that so many places behind its base, where that
+/// A node of paths. Its child by a byte is the node that this many places behind its base, if that
 /// one's parent is this.
 #[derive(Clone, Copy)]
 pub struct Node {
@@ -33,7 +33,7 @@ pub struct Node {
     pub number: u32,
 }
 
-/// Needles as paths of nodes, and where these are asked at each place the bits of their first bytes.
+/// Needles as paths of nodes, and if these are asked at each place the bits of their first bytes.
 #[derive(Drop)]
 pub struct Trie {
     pub nodes: Vec<Node>,
@@ -41,7 +41,7 @@ pub struct Trie {
 }
 
 /// A node while paths are made: its byte, the first needle that ends there, its last child, and the
-/// child of its parent that was made before it. Where there is none, 0.
+/// child of its parent that was made before it. If there is none, 0.
 #[derive(Clone, Copy)]
 struct Branch {
     byte: u8,
@@ -66,7 +66,7 @@ impl Trie {
         }
     }
 
-    /// The number of the first needle that ends at the node, or a greater one where there is none.
+    /// The number of the first needle that ends at the node, or a greater one if there is none.
     #[inline(always)]
     pub fn number(&self, at: usize) -> usize
         ensures { result ≡ number_at self.now.nodes.items at }
@@ -77,7 +77,7 @@ impl Trie {
         }
     }
 
-    /// Whether the needle is a path, which ends where the first needle's number is at most this one.
+    /// Whether the needle is a path, which ends if the first needle's number is at most this one.
     fn carries(&self, needle: &[u8], number: usize) -> bool
         ensures { IsTrue result → IsCarried self.now.nodes.items needle.now number }
     {
@@ -91,8 +91,8 @@ impl Trie {
         self.number(at) <= number
     }
 
-    /// The least number of a needle that stands where the bytes begin, as far as the paths tell; the count
-    /// where none below it does. None where the bytes end on the way, or there is no path.
+    /// The least number of a needle that is where the bytes begin, as far as the paths show; the
+    /// count if none below it does. None if the bytes end on the way, or there is no path.
     #[inline(always)]
     pub fn lead(&self, bytes: &[u8], count: usize) -> Option<usize>
         ensures { IfSome result (λ number. (needle : List ℕ) (n : ℕ) → IsCarried self.now.nodes.items needle n → 0 < length needle
@@ -116,8 +116,8 @@ impl Trie {
         None
     }
 
-    /// The first place from one on where a needle may begin, as far as the bits of first bytes tell. Where
-    /// there are none, it is that one.
+    /// The first place from one on where a needle may begin, as far as the bits of first bytes
+    /// show. If there are none, it is that one.
     #[inline(always)]
     pub fn opened_from(&self, piece: &[u8], from: usize) -> usize
         ensures low { from ≤ result }
@@ -161,7 +161,7 @@ impl Trie {
         Ok(())
     }
 
-    /// Where the children of a branch have room, from a node on. Behind the last node there is some.
+    /// If the children of a branch have room, from a node on. Behind the last node there is some.
     fn room_for(&self, branches: &[Branch], at: usize, from: usize) -> usize {
         for base in from..self.nodes.len() {
             if self.is_room(branches, at, base) {
@@ -189,7 +189,7 @@ impl Trie {
     }
 }
 
-/// The needles as paths, where there are many.
+/// The needles as paths, if there are many.
 pub fn trie_of(alloc: Global, needles: &[Vec<u8>]) -> Result<Option<Trie>, AllocError>
     ensures { IfOk result (λ found. AreCarriedBy found (needles_in needles.now)) }
 {

@@ -46,7 +46,7 @@ pub struct Group {
 /// A level that waits for a group to end.
 #[derive(Drop)]
 pub struct Outside {
-    /// The group, where it captures.
+    /// The group, if it captures.
     pub group: Option<Group>,
     pub level: Level,
 }
@@ -345,7 +345,7 @@ impl Work {
         self.step(alloc, token)
     }
 
-    /// The pattern, where no group is open.
+    /// The pattern, if no group is open.
     pub fn finish(&mut self, alloc: Global) -> Result<Nested, Refusal>
         ensures { IsResultOf result (finish (settings_of self.old.config) (settled (state self.old).last (state self.old).level) (state self.old).outer) part }
     {

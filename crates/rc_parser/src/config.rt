@@ -21,7 +21,8 @@ pub struct Config {
 }
 
 impl Config {
-    /// `unicode` and `utf8` are on, all other flags are off, the line terminator is LF, and the nest limit is 250.
+    /// `unicode` and `utf8` are on, all other flags are off, the line terminator is LF, and the
+    /// nest limit is 250.
     pub fn new() -> Config
         ensures { settings_of result ≡ default_settings }
     {
@@ -38,7 +39,8 @@ impl Config {
         }
     }
 
-    /// A scalar where it is on, a byte where it is off: what classes and dots hold, and how word assertions look. It is the flag `u` at the start.
+    /// A scalar if it is on, a byte if it is off: what classes and dots hold, and how word
+    /// assertions look. It is the flag `u` at the start.
     pub fn unicode(self, unicode: bool) -> Config
         ensures { settings_of result ≡ record (settings_of self) { unicode = unicode } }
     {

@@ -83,8 +83,9 @@ fn characters(alloc: Global, text: &str) -> Result<Vec<char>, AllocError>
 
 /// Reads the text of a pattern.
 ///
-/// The answer is the pattern as which the grammar reads the text, and is well-formed. No node of it is a
-/// concatenation of nothing, and of the empty text it is the node `Empty`. `Syntax` comes only where the grammar reads none, and `Memory` is want of memory.
+/// The answer is the pattern as which the grammar reads the text, and is well-formed. No node of it
+/// is a concatenation of nothing, and of the empty text it is the node `Empty`. `Syntax` comes only
+/// if the grammar reads none, and `Memory` means out of memory.
 pub fn parse(alloc: Global, text: &str, config: &Config) -> Result<Hir, Error>
     ensures reads { MatchResult result
         (λ h. Reads (settings_of config.now) (chars text.now) (meaning h))

@@ -4,8 +4,8 @@
 
 ghost use Rattle.rc_parses.specs.Laws.{OrderLaw, PreferenceLaw, SamenessLaw};
 
-/// Of plain patterns, which repeat nothing that may be empty, a search answers the least parse of the least start that gives a match,
-/// with its groups.
+/// Of plain patterns, which repeat nothing that may be empty, a search answers the least parse of
+/// the least start that gives a match, with its groups.
 pub fn answers_are_least_parses()
     ensures { PreferenceLaw }
 {}
@@ -15,7 +15,8 @@ pub fn parses_are_ordered()
     ensures { OrderLaw }
 {}
 
-/// Two lists of plain patterns that have the same parses in the same order give the same answers, with the same groups.
+/// Two lists of plain patterns that have the same parses in the same order give the same answers,
+/// with the same groups.
 pub fn same_parses_give_same_answers()
     ensures { SamenessLaw }
 {}

@@ -25,13 +25,13 @@ pub enum Look {
     Start,
     /// The end of what is searched.
     End,
-    /// The start of a line, where the line terminator ends lines.
+    /// The start of a line, if the line terminator ends lines.
     StartLF,
-    /// The end of a line, where the line terminator ends lines.
+    /// The end of a line, if the line terminator ends lines.
     EndLF,
-    /// The start of a line, where CR, LF and CR with LF end lines.
+    /// The start of a line, if CR, LF and CR with LF end lines.
     StartCRLF,
-    /// The end of a line, where CR, LF and CR with LF end lines.
+    /// The end of a line, if CR, LF and CR with LF end lines.
     EndCRLF,
     /// An ASCII word character on one side alone.
     WordAscii,
@@ -102,7 +102,7 @@ pub enum HirKind {
     Literal(Vec<u8>),
     /// One character or one byte of the class.
     Class(Class),
-    /// The empty text, where the assertion holds.
+    /// The empty text, if the assertion holds.
     Look(Look),
     /// Turns of a pattern.
     Repetition(Repetition),
@@ -114,8 +114,8 @@ pub enum HirKind {
     Alternation(Vec<Hir>),
 }
 
-/// From `min` to `max` turns of a pattern, without a bound where `max` is `None`. More turns are
-/// preferred where it is `greedy`, and fewer where it isn't.
+/// From `min` to `max` turns of a pattern, without a bound if `max` is `None`. More turns are
+/// preferred if it is `greedy`, and fewer if it isn't.
 #[cycle(hir)]
 #[derive(Drop)]
 pub struct Repetition {
@@ -155,7 +155,7 @@ impl Hir {
         Hir::class(Class::Bytes(Vec::new(alloc)))
     }
 
-    /// These bytes. Of no bytes it is `empty`. An `Err` is want of memory.
+    /// These bytes. Of no bytes it is `empty`. An `Err` means out of memory.
     pub fn literal(alloc: Global, bytes: &[u8]) -> Result<Hir, AllocError>
         ensures meaning { IfOk result (λ h. meaning h ≡ literal_of bytes.now) }
         ensures kind { IfOk result (λ h. IsTrue (has_plain_nodes h)) }
@@ -188,7 +188,7 @@ impl Hir {
         }
     }
 
-    /// The class of what the dot leaves in. An `Err` is want of memory.
+    /// The class of what the dot leaves in. An `Err` means out of memory.
     pub fn dot(alloc: Global, dot: Dot) -> Result<Hir, AllocError>
         ensures meaning { IfOk result (λ h. meaning h ≡ dot_of dot) }
         ensures kind { IfOk result (λ h. IsTrue (has_plain_nodes h)) }
@@ -218,7 +218,7 @@ impl Hir {
 
     /// One pattern after another. An empty one is dropped, a concatenation gives its members, and
     /// neighbouring literals are joined. No member left is `empty`, and one stands for itself. An
-    /// `Err` is want of memory, and the patterns are dropped then.
+    /// `Err` means out of memory, and the patterns are dropped then.
     pub fn concat(alloc: Global, subs: Vec<Hir>) -> Result<Hir, AllocError>
         ensures meaning { IfOk result (λ h. meaning h ≡ concat_of (map meaning subs.items)) }
         ensures kind { IfOk result (λ h. IsTrue (all_have_plain_nodes subs.items) → IsTrue (has_plain_nodes h)) }
@@ -234,8 +234,8 @@ impl Hir {
     }
 
     /// One of the patterns, the earlier ones preferred. An alternation gives its members. No member
-    /// is `fail`, and one stands for itself. An `Err` is want of memory, and the patterns are dropped
-    /// then.
+    /// is `fail`, and one stands for itself. An `Err` means out of memory, and the patterns are
+    /// dropped then.
     pub fn alternation(alloc: Global, subs: Vec<Hir>) -> Result<Hir, AllocError>
         ensures meaning { IfOk result (λ h. meaning h ≡ alternation_of (map meaning subs.items)) }
         ensures kind { IfOk result (λ h. IsTrue (all_have_plain_nodes subs.items) → IsTrue (has_plain_nodes h)) }

@@ -6,8 +6,8 @@ use thiserror::Error;
 /// Why a text was not read.
 #[derive(Clone, Copy, Debug, PartialEq, Eq, Error)]
 pub enum Error {
-    /// No pattern is read from the text. The fault was met `at` this place: a byte offset, at most
-    /// the text's length.
+    /// No pattern is read from the text. The fault was found `at` this place: a byte offset, at
+    /// most the text's length.
     #[error("syntax error at byte {at}")]
     Syntax {
         /// The place, in bytes.

@@ -7,8 +7,8 @@ use std::alloc::{AllocError, Global};
 use std::iter::FusedIterator;
 use std::marker::Model;
 
-/// A set of patterns whose numbers are below its capacity. Contracts see it as a list that says of each such number whether it is a
-/// member.
+/// A set of patterns whose numbers are below its capacity. Contracts see it as a list that says of
+/// each such number whether it is a member.
 #[derive(Drop)]
 pub struct PatternSet {
     marks: Vec<bool>,
@@ -30,7 +30,8 @@ impl PatternSet {
     ghost use Rattle.std.specs.Prelude.{◌≡◌, ◌<◌, ◌↔◌, IfOk, IsTrue, true, false, length, replicate, slice_set};
     ghost use Rattle.rc_pattern_set.specs.Sets.{Has, members, members_left};
 
-    /// A set of no pattern, for those whose numbers are below `capacity`. An `Err` is want of memory.
+    /// A set of no pattern, for those whose numbers are below `capacity`. An `Err` means out of
+    /// memory.
     pub fn new(alloc: Global, capacity: usize) -> Result<PatternSet, AllocError>
         ensures { IfOk result (λ s. s ≡ replicate capacity false) }
     {
@@ -38,8 +39,8 @@ impl PatternSet {
         Ok(PatternSet { marks, len: 0 })
     }
 
-    /// Makes the pattern a member, and tells whether it was none before. Where its number is not below the capacity, nothing changes, and
-    /// this is false.
+    /// Makes the pattern a member, and returns whether it was none before. If its number is not
+    /// below the capacity, nothing changes, and this is false.
     pub fn insert(&mut self, pattern: PatternID) -> bool
         ensures set { self.new ≡ slice_set self.old pattern true }
         ensures new { IsTrue result ↔ ((pattern < length self.old) × ¬ Has self.old pattern) }

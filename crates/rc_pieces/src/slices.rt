@@ -40,9 +40,9 @@ impl<T: Piece> Clone for SliceCursor<'_, T> {
 impl<T: Piece> Copy for SliceCursor<'_, T> {}
 
 impl<'a, T: Piece> SliceCursor<'a, T> {
-    /// The cursor that shows the first piece with a byte, or an empty chunk where there is no byte.
+    /// The cursor that shows the first piece with a byte, or an empty chunk if there is no byte.
     ///
-    /// Fails where the number of bytes reaches the greatest `usize`, and only there.
+    /// Fails if the number of bytes reaches the greatest `usize`, and only there.
     pub fn new(pieces: &'a [T]) -> Result<SliceCursor<'a, T>, TooLong>
         ensures { MatchResult result
             (λ c. ShowsAt (chunks_of T.bytes pieces.now) 0
@@ -57,11 +57,11 @@ impl<'a, T: Piece> SliceCursor<'a, T> {
         }
     }
 
-    /// The cursor that shows the piece with the byte `at`, or the last piece with a byte where `at`
-    /// is the number of bytes.
+    /// The cursor that shows the piece with the byte `at`, or the last piece with a byte if `at` is
+    /// the number of bytes.
     ///
-    /// Fails with `TooLong` where the number of bytes reaches the greatest `usize`, and else with
-    /// `PastEnd` where `at` is above it.
+    /// Fails with `TooLong` if the number of bytes reaches the greatest `usize`, and else with
+    /// `PastEnd` if `at` is above it.
     pub fn at(pieces: &'a [T], at: usize) -> Result<SliceCursor<'a, T>, AtError>
         ensures { MatchResult result
             (λ c. ShowsAt (chunks_of T.bytes pieces.now) at
@@ -112,7 +112,7 @@ impl<'a, T: Piece> SliceCursor<'a, T> {
         }
     }
 
-    /// Goes to the next piece with a byte, or answers false where there is none.
+    /// Goes to the next piece with a byte, or returns false if there is none.
     fn next(&mut self) -> bool
         ensures pieces { self.new.pieces ≡ self.old.pieces }
         ensures total { self.new.total ≡ self.old.total }
@@ -179,7 +179,7 @@ impl<T: Piece> Cursor for SliceCursor<'_, T> {
     }
 }
 
-/// The number of all bytes, where it is below the greatest `usize`.
+/// The number of all bytes, if it is below the greatest `usize`.
 fn total_of<T: Piece>(pieces: &[T]) -> Option<usize>
     ensures { MatchOption result (IsTooLong (chunks_of T.bytes pieces.now))
         (λ n. (n ≡ length (joined (chunks_of T.bytes pieces.now))) × (n + 1 < 2 ^ 64)) }

@@ -52,7 +52,7 @@ impl<C: Cursor> SpanPieces<C> {
         }
     }
 
-    /// Goes to the next piece, which has a byte, or answers false where no byte is left.
+    /// Goes to the next piece, which has a byte, or returns false if no byte is left.
     pub fn advance(&mut self) -> bool
         ensures goes_on { self.old.left ≡ self.new.shown ++ self.new.left }
         ensures some { IsTrue result ↔ 0 < length self.new.shown }
@@ -73,7 +73,7 @@ impl<C: Cursor> SpanPieces<C> {
     }
 }
 
-/// Goes to the chunk with the byte `at`, or to the last one where there is no such byte.
+/// Goes to the chunk with the byte `at`, or to the last one if there is no such byte.
 pub fn seek<C: Cursor>(cursor: &mut C, at: usize)
     ensures content { C.content cursor.new ≡ C.content cursor.old }
     ensures shows { Shows (C.content cursor.new) (C.offset cursor.new) (C.chunk cursor.new) }
@@ -93,8 +93,8 @@ pub fn seek<C: Cursor>(cursor: &mut C, at: usize)
     }
 }
 
-/// The bytes of the shown chunk from the place `at` in the content on, up to `end`: some where it
-/// has any.
+/// The bytes of the shown chunk from the place `at` in the content on, up to `end`: some if it has
+/// any.
 pub fn piece<C: Cursor>(cursor: &C, at: usize, end: usize) -> &[u8]
     requires { C.offset cursor.now ≤ at }
     ensures bytes { result.now ≡ slice_range (C.content cursor.now) at (at + length result.now) }

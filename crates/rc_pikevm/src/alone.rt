@@ -41,7 +41,8 @@ fn is_tried(tried: Option<usize>, place: usize) -> bool
     }
 }
 
-/// Whether no walk leads on from the place, where that is told by a few places. Walks over the place that was tried don't count.
+/// Whether no walk leads on from the place, if that is known by a few places. Walks over the place
+/// that was tried don't count.
 #[inline(never)]
 fn leads_nowhere(spot: &Spot, from: usize, tried: Option<usize>) -> bool
     ghost text: { Searched }
@@ -84,7 +85,7 @@ fn leads_nowhere(spot: &Spot, from: usize, tried: Option<usize>) -> bool
     false
 }
 
-/// The place behind this one, where this one fills a slot; else the place itself.
+/// The place behind this one, if this one fills a slot; otherwise the place itself.
 #[inline(always)]
 fn past_slot(spot: &Spot, place: usize) -> usize
     requires place_in { place < size spot.now.course }
@@ -97,7 +98,7 @@ fn past_slot(spot: &Spot, place: usize) -> usize
     }
 }
 
-/// Whether no walk leads on from the place, where that is quickly told.
+/// Whether no walk leads on from the place, if that is quickly decided.
 #[inline(always)]
 fn is_closed(spot: &Spot, place: usize) -> bool
     ghost text: { Searched }
@@ -108,7 +109,8 @@ fn is_closed(spot: &Spot, place: usize) -> bool
     is_shut(spot, past_slot(spot, place))
 }
 
-/// The one of two ways on from the place by which alone walks lead on, where that is told by a few places.
+/// The one of two ways on from the place by which alone walks lead on, if that is known by a few
+/// places.
 #[inline(always)]
 fn only_way(spot: &Spot, place: usize, first: usize, second: usize) -> Option<usize>
     ghost text: { Searched }
@@ -136,7 +138,8 @@ fn only_way(spot: &Spot, place: usize, first: usize, second: usize) -> Option<us
     None
 }
 
-/// A place at which a thread may go on in place of this one, since it has one way alone to go as far as there, and how it goes on from there.
+/// A place at which a thread may go on in place of this one, since it has one way alone to go as
+/// far as there, and how it goes on from there.
 #[inline(always)]
 fn onward(spot: &Spot, from: usize) -> Option<(usize, Move)>
     ghost text: { Searched }
@@ -160,7 +163,7 @@ fn onward(spot: &Spot, from: usize) -> Option<(usize, Move)>
     None
 }
 
-/// The first way on from the place, where the second is a dead end; else the place itself.
+/// The first way on from the place, if the second is a dead end; otherwise the place itself.
 pub(crate) fn opening(course: Course, place: usize) -> usize
     ghost text: { Searched }
     requires place_in { place < size course }
@@ -176,8 +179,8 @@ pub(crate) fn opening(course: Course, place: usize) -> usize
     }
 }
 
-/// Whether a walk may lead on from the start at the spot, where `is_open`. Walks over the place that was tried don't count. The place `way` is
-/// the opening of place 0.
+/// Whether a walk may lead on from the start at the spot, if `is_open`. Walks over the place that
+/// was tried don't count. The place `way` is the opening of place 0.
 #[inline(always)]
 fn may_set_out(spot: &Spot, is_open: bool, way: usize, tried: usize) -> bool
     ghost text: { Searched }
@@ -202,8 +205,9 @@ fn may_set_out(spot: &Spot, is_open: bool, way: usize, tried: usize) -> bool
     !leads_nowhere(spot, way, Some(tried))
 }
 
-/// Lets a lone thread go on through the window, as long as it reads single bytes and no other sets out, where `is_open`. Beside the thread
-/// stands the pattern of which its walk ends, where one is seen to end. The place `way` is the opening of place 0.
+/// Lets a lone thread go on through the window, as long as it reads single bytes and no other sets
+/// out, if `is_open`. Beside the thread is the pattern of which its walk ends, if one is seen to
+/// end. The place `way` is the opening of place 0.
 pub(crate) fn run(
     course: Course,
     window: &Window,
@@ -268,9 +272,10 @@ pub(crate) fn run(
     (Head { place, at, start }, None)
 }
 
-/// The position from which a pass goes on that has come to `at`, with no thread under way: no walk leads on from the starts before it. Beside
-/// it stands the place at which a thread goes on that sets out there and reads one byte, where that is seen.
-/// The place `root` stands for place 0, and `way` is its opening.
+/// The position from which a pass goes on that has come to `at`, with no thread under way: no walk
+/// leads on from the starts before it. Beside it is the place at which a thread goes on that sets
+/// out there and reads one byte, if that is seen. The place `root` stands for place 0, and `way` is
+/// its opening.
 pub(crate) fn seek(
     course: Course,
     window: &Window,
@@ -330,8 +335,8 @@ pub(crate) fn seek(
     (here, None)
 }
 
-/// Lets a lone thread that waits for `at` go on through the window. The answer is the position to which the pass has come, and the best walk
-/// that has ended so far, with its slots in `found`.
+/// Lets a lone thread that waits for `at` go on through the window. The answer is the position to
+/// which the pass has come, and the best walk that has ended so far, with its slots in `found`.
 fn go_alone(
     course: Course,
     window: &Window,
@@ -374,7 +379,7 @@ fn go_alone(
     head.at + 1
 }
 
-/// Lets the only thread go on elsewhere, so many positions later.
+/// Lets the only thread go on elsewhere, this many positions later.
 #[inline(always)]
 pub(crate) fn move_alone(head: Head, count: usize, scratch: &mut Scratch)
     requires small { scratch.old.insertions + count < 2 ^ 128 }
@@ -389,8 +394,8 @@ pub(crate) fn move_alone(head: Head, count: usize, scratch: &mut Scratch)
     scratch.curr.move_first(head);
 }
 
-/// The position to which a pass goes on that has come to `at`, and whether a lone thread may go on there: starts from which no walk leads on were
-/// left out, where `skips`, and a thread set out.
+/// The position to which a pass goes on that has come to `at`, and whether a lone thread may go on
+/// there: starts from which no walk leads on were left out, if `skips`, and a thread set out.
 fn begin(
     course: Course,
     window: &Window,
@@ -436,8 +441,9 @@ fn begin(
     (here + 1, true)
 }
 
-/// The position from which all threads have to go on together, of a pass that has come to `at`, and the best walk that has ended so far, with
-/// its slots in `found`: up to there, starts from which no walk leads on were left out, where `skips`, and a lone thread went on.
+/// The position from which all threads have to go on together, of a pass that has come to `at`, and
+/// the best walk that has ended so far, with its slots in `found`: up to there, starts from which
+/// no walk leads on were left out, if `skips`, and a lone thread went on.
 #[inline(never)]
 fn wander(
     course: Course,
@@ -475,7 +481,8 @@ fn wander(
     go_alone(course, window, best, here, scratch)
 }
 
-/// Whether starts may be left out, where there is no thread, or the only one may go on alone, where `is_on`.
+/// Whether starts may be left out, if there is no thread, or the only one may go on alone, if
+/// `is_on`.
 #[inline(always)]
 pub(crate) fn is_worth(is_on: bool, skips: bool, threads: usize) -> bool {
     match threads {
@@ -485,7 +492,8 @@ pub(crate) fn is_worth(is_on: bool, skips: bool, threads: usize) -> bool {
     }
 }
 
-/// As `wander`, where there is no thread, or one and `is_on`; else the position and the best walk are those given.
+/// As `wander`, if there is no thread, or one and `is_on`; otherwise the position and the best walk
+/// are those given.
 #[inline(always)]
 pub fn glide(
     course: Course,

@@ -44,7 +44,7 @@ impl Cache {
         })
     }
 
-    /// How many places the last pass of the last search entered, over all positions; 0 where that
+    /// How many places the last pass of the last search entered, over all positions; 0 if that
     /// search made no pass.
     pub fn insertions(&self) -> u128
         ensures { result ≡ self.now.insertions }

@@ -70,7 +70,8 @@ fn note(slot: usize, place: usize, at: usize, growth: &mut Growth)
     }
 }
 
-/// Puts a thread behind the others that goes on at the place, if the position is told at which it does.
+/// Puts a thread behind the others that goes on at the place, if the position is known at which it
+/// does.
 #[inline(always)]
 fn read(place: usize, to: Option<usize>, start: usize, growth: &mut Growth)
     requires room { length growth.old.threads.items < growth.old.threads.room }
@@ -85,9 +86,9 @@ fn read(place: usize, to: Option<usize>, start: usize, growth: &mut Growth)
         .push(Head { place, at, start }, &growth.slots);
 }
 
-/// Makes the move of a place: the places to which it leads go on the stack, the first uppermost, and a thread that reads goes behind the
-/// threads. None is made at a choice, a slot or an assertion from which the next byte lets no walk go on. Answers the pattern where a
-/// walk ends there.
+/// Makes the move of a place: the places to which it leads go on the stack, the first uppermost,
+/// and a thread that reads goes behind the threads. None is made at a choice, a slot or an
+/// assertion from which the next byte lets no walk go on. Returns the pattern if a walk ends there.
 #[inline(always)]
 fn act(spot: &Spot, place: usize, start: usize, growth: &mut Growth) -> Option<usize>
     ghost text: { Searched }
@@ -149,7 +150,8 @@ fn act(spot: &Spot, place: usize, start: usize, growth: &mut Growth) -> Option<u
     }
 }
 
-/// Enters a place, unless it was entered at this position already, and makes its move. Answers the pattern where a walk ends there.
+/// Enters a place, unless it was entered at this position already, and makes its move. Returns the
+/// pattern if a walk ends there.
 #[inline(always)]
 pub fn enter(spot: &Spot, place: usize, start: usize, growth: &mut Growth) -> Option<usize>
     ghost text: { Searched }
@@ -235,10 +237,10 @@ fn drain(spot: &Spot, start: usize, growth: &mut Growth) -> Option<usize>
     None
 }
 
-/// Follows all ways from `root` that read nothing, in order, and puts a thread behind the others for
-/// each that reads.
+/// Follows all ways from `root` that read nothing, in order, and puts a thread behind the others
+/// for each that reads.
 ///
-/// Answers the pattern where a walk ends on the way: the slots are those of that walk then, and the
+/// Returns the pattern if a walk ends on the way: the slots are those of that walk then, and the
 /// ways that were still to come are dropped.
 #[inline(always)]
 pub fn close(spot: &Spot, root: usize, start: usize, growth: &mut Growth) -> Option<usize>

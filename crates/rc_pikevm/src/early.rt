@@ -15,9 +15,10 @@ use rc_program::program::Program;
 use rc_text::cursor::Cursor;
 use rc_text::input::{Input, high, low};
 
-/// A position between the bounds of the input's search, in bytes, up to which the pass had to read to see that some walk begins at one of its starts;
-/// None where none does. That is the first position at which a walk ends, wherever that is. The earliest flag is not read. With a prefilter, the
-/// pass goes from needle to needle where no walk is under way.
+/// A position between the bounds of the input's search, in bytes, up to which the pass had to read
+/// to see that some walk begins at one of its starts; None if none does. That is the first position
+/// at which a walk ends, wherever that is. The earliest flag is not read. With a prefilter, the
+/// pass goes from needle to needle if no walk is under way.
 ///
 /// The cache has to be made for programs of as many places; it stays so. No memory is taken.
 pub fn first_end<C: Cursor>(

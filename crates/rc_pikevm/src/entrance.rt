@@ -17,13 +17,13 @@ use rc_program::place::Place;
 /// How many choices a thread is led over at most before it enters.
 const MOST: usize = 4;
 
-/// Whether it is quickly looked up where a thread goes on from the place.
+/// Whether it is quickly looked up if a thread goes on from the place.
 #[inline(always)]
 fn is_quick(place: &Place) -> bool {
     matches!(place, Place::Dead | Place::Byte(_, _) | Place::Guard(_, _))
 }
 
-/// Whether no walk leads on from the place, where that is quickly told.
+/// Whether no walk leads on from the place, if that is quickly decided.
 #[inline(always)]
 pub fn is_shut(spot: &Spot, place: usize) -> bool
     ghost text: { Searched }
@@ -40,7 +40,8 @@ pub fn is_shut(spot: &Spot, place: usize) -> bool
     }
 }
 
-/// The one of two ways on from the place by which alone walks lead on, where the other one is seen to be shut; else the place itself.
+/// The one of two ways on from the place by which alone walks lead on, if the other one is seen to
+/// be shut; otherwise the place itself.
 #[inline(always)]
 fn way_on(spot: &Spot, place: usize) -> usize
     ghost text: { Searched }
@@ -63,8 +64,8 @@ fn way_on(spot: &Spot, place: usize) -> usize
     }
 }
 
-/// The place at which a thread enters that is to enter at `root`: that place, or one to which a few choices lead, of each of which one way is
-/// shut, and which weren't entered yet.
+/// The place at which a thread enters that is to enter at `root`: that place, or one to which a few
+/// choices lead, of each of which one way is shut, and which weren't entered yet.
 #[inline(always)]
 pub(crate) fn way_in(spot: &Spot, root: usize, entered: &SparseSet) -> usize
     ghost text: { Searched }

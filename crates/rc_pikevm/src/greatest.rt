@@ -26,8 +26,8 @@ use rc_text::cursor::Cursor;
 use rc_text::input::Input;
 use rc_text::types::{Match, PatternID, Span};
 
-/// Lets the threads of `curr` that go on at the spot do so, in order; those that go on later are put
-/// into the growth. `best` is the greatest of the walks that have ended so far.
+/// Lets the threads of `curr` that go on at the spot do so, in order; those that go on later are
+/// put into the growth. `best` is the greatest of the walks that have ended so far.
 fn step(spot: &Spot, curr: &Threads, best: &mut Option<Ending>, growth: &mut Growth)
     ghost text: { Searched }
     requires here { IsHere spot.now text }
@@ -59,7 +59,7 @@ fn step(spot: &Spot, curr: &Threads, best: &mut Option<Ending>, growth: &mut Gro
     }
 }
 
-/// Lets the threads of `curr` go on at the spot, and after them, where the spot is no later than the
+/// Lets the threads of `curr` go on at the spot, and after them, if the spot is no later than the
 /// last start, a new thread set out there. The rest is as in `step`.
 fn advance(spot: &Spot, curr: &Threads, best: &mut Option<Ending>, growth: &mut Growth)
     ghost text: { Searched }
@@ -184,11 +184,11 @@ fn choose<C: Cursor>(
 }
 
 /// The greatest match of a search of the input: of all matches the one with the greatest end, then
-/// the least start, then the least pattern number. Neither the earliest flag is read, nor are matches
-/// passed over that end off a boundary.
+/// the least start, then the least pattern number. Neither the earliest flag is read, nor are
+/// matches passed over that end off a boundary.
 ///
-/// The cache has to be made for programs of as many places; it stays so. No memory is taken, and the
-/// time is linear in the bytes between the search's bounds.
+/// The cache has to be made for programs of as many places; it stays so. No memory is taken, and
+/// the time is linear in the bytes between the search's bounds.
 pub fn find_greatest<C: Cursor>(
     cache: &mut Cache,
     input: &mut Input<C>,

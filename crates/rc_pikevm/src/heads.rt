@@ -14,7 +14,7 @@ use crate::window::Window;
 use rc_program::place::Place;
 use rc_program::program::Program;
 
-/// Whether no walk leads on from the place, where that is told by the byte that stands next.
+/// Whether no walk leads on from the place, if that is known by the next byte.
 #[inline(always)]
 pub(crate) fn is_dead(spot: &Spot, place: usize) -> bool
     ghost text: { Searched }
@@ -31,7 +31,7 @@ pub(crate) fn is_dead(spot: &Spot, place: usize) -> bool
     }
 }
 
-/// How many of the bytes stand before the first one of which the flag is set.
+/// How many of the bytes are before the first one of which the flag is set.
 fn unset_before(bytes: &[u8], flags: &[bool]) -> usize
     requires { length flags.now ≡ 256 }
     ensures within { result ≤ length bytes.now }
@@ -46,7 +46,7 @@ fn unset_before(bytes: &[u8], flags: &[bool]) -> usize
     bytes.len()
 }
 
-/// How many of the bytes stand before the first one that is this byte.
+/// How many of the bytes are before the first one that is this byte.
 fn others_before(bytes: &[u8], byte: u8) -> usize
     ensures within { result ≤ length bytes.now }
     ensures others { (k : ℕ) → k < result → slice_index bytes.now k ≢ byte }
@@ -59,7 +59,8 @@ fn others_before(bytes: &[u8], byte: u8) -> usize
     bytes.len()
 }
 
-/// How many of the bytes stand before the first one over which a walk may go on from the place, where that is quickly told; else none.
+/// How many of the bytes are before the first one over which a walk may go on from the place, if
+/// that is quickly decided; otherwise none.
 #[inline(always)]
 fn barred_before(program: &Program, place: usize, bytes: &[u8]) -> usize
     requires place_in { place < length program.now.places.items }
@@ -75,7 +76,8 @@ fn barred_before(program: &Program, place: usize, bytes: &[u8]) -> usize
     }
 }
 
-/// The first position from `at` on, up to `end`, at which a walk may lead on from the place, as the bytes tell that stand there.
+/// The first position from `at` on, up to `end`, at which a walk may lead on from the place, as the
+/// bytes tell that are there.
 #[inline(always)]
 pub(crate) fn pass_over(
     course: Course,

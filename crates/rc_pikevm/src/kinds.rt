@@ -51,9 +51,10 @@ pub fn find_by_kind<C: Cursor>(
     }
 }
 
-/// Whether a search of the input finds a match of the kind. The earliest flag is not read: unless matches are passed over,
-/// nothing is read beyond the first position at which one ends. The program says whether matches that end off a boundary are
-/// passed over; where each match counts, none is.
+/// Whether a search of the input finds a match of the kind. The earliest flag is not read: unless
+/// matches are passed over, nothing is read beyond the first position at which one ends. The
+/// program says whether matches that end off a boundary are passed over; if each match counts, none
+/// is.
 ///
 /// The cache has to be made for programs of as many places; it stays so. No memory is taken.
 pub fn is_match_by_kind<C: Cursor>(
@@ -102,8 +103,9 @@ fn put_span(found: Match, slots: &mut [Option<usize>])
     }
 }
 
-/// The pattern of the greatest match that a search of the input finds, with its slots: the two of the
-/// whole match, as far as they are handed in, and None in all others. Without a match the slots stay.
+/// The pattern of the greatest match that a search of the input finds, with its slots: the two of
+/// the whole match, as far as they are passed in, and None in all others. Without a match the slots
+/// stay.
 fn search_span<C: Cursor>(
     cache: &mut Cache,
     input: &mut Input<C>,
@@ -125,7 +127,7 @@ fn search_span<C: Cursor>(
 }
 
 /// The pattern of the match of the kind that a search of the input finds, with the first of its
-/// slots, as many as are handed in. Without a match the slots stay. The earliest flag is not read.
+/// slots, as many as are passed in. Without a match the slots stay. The earliest flag is not read.
 /// The program says whether matches that end off a boundary are passed over; a search for the
 /// greatest match passes none over, and of its slots the two of the whole match alone are set, the
 /// others None.

@@ -26,8 +26,9 @@ use rc_text::cursor::Cursor;
 use rc_text::input::{Input, is_boundary_at};
 use rc_text::types::{Match, PatternID, Span};
 
-/// The longest walk of the least start that a search of the input finds, with its slots in `found`: the pass over the starts is made again
-/// from the next start, as long as what it found is passed over.
+/// The longest walk of the least start that a search of the input finds, with its slots in `found`:
+/// the pass over the starts is made again from the next start, as long as what it found is passed
+/// over.
 fn outlast<C: Cursor>(
     input: &mut Input<C>,
     program: &Program,
@@ -98,11 +99,13 @@ fn choose_longest<C: Cursor>(
     Some(ending)
 }
 
-/// The pattern of the longest match of the least start that a search of the input finds, with the first of its slots, as many as are
-/// handed in: those of the preferred walk of that length. Without a match the slots stay. The earliest flag is not read. The program
-/// says whether matches that end off a boundary are passed over.
+/// The pattern of the longest match of the least start that a search of the input finds, with the
+/// first of its slots, as many as are passed in: those of the preferred walk of that length.
+/// Without a match the slots stay. The earliest flag is not read. The program says whether matches
+/// that end off a boundary are passed over.
 ///
-/// The cache has to be made for programs of as many places, and searches with as many slots or more; it stays so. No memory is taken.
+/// The cache has to be made for programs of as many places, and searches with as many slots or
+/// more; it stays so. No memory is taken.
 pub fn search_longest_slots<C: Cursor>(
     cache: &mut Cache,
     input: &mut Input<C>,
@@ -134,8 +137,9 @@ pub fn search_longest_slots<C: Cursor>(
     Some(pattern)
 }
 
-/// The longest match of the least start that a search of the input finds. The earliest flag is not read. The program says whether
-/// matches that end off a boundary are passed over: then the next start is tried.
+/// The longest match of the least start that a search of the input finds. The earliest flag is not
+/// read. The program says whether matches that end off a boundary are passed over: then the next
+/// start is tried.
 ///
 /// The cache has to be made for programs of as many places; it stays so. No memory is taken.
 pub fn find_longest<C: Cursor>(

@@ -65,7 +65,7 @@ pub fn look_up(spot: &Spot, place: usize) -> Move
     }
 }
 
-/// How a thread goes on that reads on to the place and the position, if one is told.
+/// How a thread goes on that reads on to the place and the position, if one is known.
 #[inline(always)]
 fn reading(place: usize, to: Option<usize>) -> Move
     ensures { result ≡ reading place to }
@@ -76,7 +76,7 @@ fn reading(place: usize, to: Option<usize>) -> Move
     Move::Reads(place, at)
 }
 
-/// The position after the next byte, where it is this one.
+/// The position after the next byte, if it is this one.
 #[inline(always)]
 pub fn after_byte(spot: &Spot, byte: u8) -> Option<usize>
     ghost text: { Searched }
@@ -92,7 +92,7 @@ pub fn after_byte(spot: &Spot, byte: u8) -> Option<usize>
     Some(spot.at + 1)
 }
 
-/// The position after the next byte, where one of the ranges has it, which are the place's.
+/// The position after the next byte, if one of the ranges has it, which are the place's.
 #[inline(always)]
 pub fn after_one_of(spot: &Spot, place: usize, ranges: &Vec<ClassBytesRange>) -> Option<usize>
     ghost text: { Searched }
@@ -109,7 +109,7 @@ pub fn after_one_of(spot: &Spot, place: usize, ranges: &Vec<ClassBytesRange>) ->
     Some(spot.at + 1)
 }
 
-/// The position after the next scalar, where one of the ranges has it, which are the place's.
+/// The position after the next scalar, if one of the ranges has it, which are the place's.
 #[inline(always)]
 pub fn after_scalar(spot: &Spot, place: usize, ranges: &Vec<ClassUnicodeRange>) -> Option<usize>
     ghost text: { Searched }
@@ -173,7 +173,7 @@ fn is_there(until: Option<usize>, at: usize) -> bool
     }
 }
 
-/// Whether one of the ranges has the byte, by the place's flags where it has any.
+/// Whether one of the ranges has the byte, by the place's flags if it has any.
 #[inline(always)]
 fn takes_byte(program: &Program, place: usize, ranges: &Vec<ClassBytesRange>, byte: u8) -> bool
     requires { place < length program.now.places.items }
@@ -186,7 +186,8 @@ fn takes_byte(program: &Program, place: usize, ranges: &Vec<ClassBytesRange>, by
     goes
 }
 
-/// Whether one of the ranges has the character, by the place's flags where it is one of ASCII and the place has any.
+/// Whether one of the ranges has the character, by the place's flags if it is one of ASCII and the
+/// place has any.
 #[inline(always)]
 fn takes_scalar(program: &Program, place: usize, ranges: &Vec<ClassUnicodeRange>, c: char) -> bool
     requires { place < length program.now.places.items }
@@ -229,7 +230,7 @@ fn has_char(ranges: &Vec<ClassUnicodeRange>, c: char) -> bool
     false
 }
 
-/// The first of the bytes, where one of the first `room` stands there.
+/// The first of the bytes, if one of the first `room` is there.
 #[inline(always)]
 fn next_byte(after: &[u8], room: usize) -> Option<u8>
     ensures { result ≡ slice_get (take room after.now) 0 }

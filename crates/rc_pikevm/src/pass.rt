@@ -38,16 +38,16 @@ pub(crate) const PATIENCE: u32 = 4;
 pub struct Ending {
     /// The number of its pattern.
     pub pattern: usize,
-    /// Where it began, in bytes.
+    /// If it began, in bytes.
     pub start: usize,
     /// Where it ended, in bytes.
     pub end: usize,
 }
 
-/// Lets the threads of `curr` that go on at the spot do so, in order; those that go on later are put
-/// into the growth.
+/// Lets the threads of `curr` that go on at the spot do so, in order; those that go on later are
+/// put into the growth.
 ///
-/// Answers the pattern and the start of the first thread of which a walk ends: the slots are those
+/// Returns the pattern and the start of the first thread of which a walk ends: the slots are those
 /// of that walk then, and the threads behind it are dropped.
 fn step(spot: &Spot, curr: &Threads, growth: &mut Growth) -> Option<(usize, usize)>
     ghost text: { Searched }
@@ -87,8 +87,9 @@ fn step(spot: &Spot, curr: &Threads, growth: &mut Growth) -> Option<(usize, usiz
     None
 }
 
-/// Lets a thread set out at the spot, where `is_open` and the spot is no later than the last start, and none is under way. It enters at the
-/// place `root`, which stands for place 0. The rest is as in `step`.
+/// Lets a thread set out at the spot, if `is_open` and the spot is no later than the last start,
+/// and none is under way. It enters at the place `root`, which stands for place 0. The rest is as
+/// in `step`.
 fn set_out(spot: &Spot, root: usize, is_open: bool, growth: &mut Growth) -> Option<(usize, usize)>
     ghost text: { Searched }
     requires here { IsHere spot.now text }
@@ -122,9 +123,9 @@ fn set_out(spot: &Spot, root: usize, is_open: bool, growth: &mut Growth) -> Opti
     None
 }
 
-/// Lets the threads of `curr` go on at the spot, and after them, where `is_open` and the spot is no
-/// later than the last start, a new thread set out there; where it is the only one, it enters at the place `root`, which stands for
-/// place 0. The rest is as in `step`.
+/// Lets the threads of `curr` go on at the spot, and after them, if `is_open` and the spot is no
+/// later than the last start, a new thread set out there; if it is the only one, it enters at the
+/// place `root`, which stands for place 0. The rest is as in `step`.
 fn advance(
     spot: &Spot,
     root: usize,
@@ -177,7 +178,7 @@ fn advance(
     None
 }
 
-/// Forgets what stands in the slots.
+/// Forgets what is in the slots.
 pub(crate) fn empty(slots: &mut Vec<Option<usize>>)
     ensures slots { slots.new.items ≡ replicate (length slots.old.items) None }
     ensures capacity { vec_capacity slots.new ≡ vec_capacity slots.old }
@@ -185,7 +186,7 @@ pub(crate) fn empty(slots: &mut Vec<Option<usize>>)
     slots.fill(None);
 }
 
-/// One position of a pass: lets the threads go on, counts the places entered, and answers the best
+/// One position of a pass: lets the threads go on, counts the places entered, and returns the best
 /// walk that has ended so far, with its slots in `found`.
 fn turn(spot: &Spot, root: usize, best: Option<Ending>, scratch: &mut Scratch) -> Option<Ending>
     ghost text: { Searched }
@@ -259,7 +260,8 @@ pub fn end_walk(course: Course, at: usize, number: usize, scratch: &mut Scratch)
     }
 }
 
-/// Lets a thread set out at the position that reads one byte there and goes on at `next`, where none is under way. The rest is as in `turn`.
+/// Lets a thread set out at the position that reads one byte there and goes on at `next`, if none
+/// is under way. The rest is as in `turn`.
 #[inline(always)]
 pub fn set_out_alone(course: Course, at: usize, root: usize, next: usize, scratch: &mut Scratch)
     ghost text: { Searched }
@@ -296,7 +298,8 @@ pub fn set_out_alone(course: Course, at: usize, root: usize, next: usize, scratc
     scratch.insertions += 1;
 }
 
-/// How often what is simple is tried after it was in vain: where it is often in vain, it isn't tried to the end of the pass.
+/// How often what is simple is tried after it was in vain: if it is often in vain, it isn't tried
+/// to the end of the pass.
 pub(crate) fn patience_left(patience: u32, has_moved: bool, threads: usize) -> u32 {
     if has_moved {
         return PATIENCE;
@@ -334,8 +337,8 @@ pub(crate) fn is_idle(curr: &Threads, best: Option<Ending>) -> bool
     curr.len() == 0 && best.is_none()
 }
 
-/// Where a pass goes on that has come to `at`: there, or, where it is idle and `last` is not yet
-/// reached, at the next position where a needle stands. None where it is idle and no needle stands
+/// Where a pass goes on that has come to `at`: there, or, if it is idle and `last` is not yet
+/// reached, at the next position where a needle occurs. None if it is idle and no needle occurs
 /// from `at` on.
 pub(crate) fn next_position<C: Cursor>(
     input: &mut Input<C>,
@@ -369,8 +372,9 @@ pub(crate) fn next_position<C: Cursor>(
 /// walk, and its first walk, with its slots in `found`. Without a match, `found` is left as it was.
 ///
 /// A place is entered once at a position, and `insertions` says how many were. With a prefilter,
-/// starts at which no needle stands are left out, as far as no thread is alive there. With `earliest`
-/// it is only told whether some start has a walk: the pass ends at the first position at which one ends.
+/// starts at which no needle occurs are left out, as far as no thread is alive there. With
+/// `earliest` it is only told whether some start has a walk: the pass ends at the first position at
+/// which one ends.
 #[tactic(auto, using(crate::proofs::RootLemmas::stands_itself))]
 pub fn pass<C: Cursor>(
     input: &mut Input<C>,
@@ -398,7 +402,8 @@ pub fn pass<C: Cursor>(
     pass_from(input, course, 0, prefilter, from, earliest, scratch)
 }
 
-/// As `pass`, where a thread that sets out while no other is under way enters at the place `root`, which stands for place 0.
+/// As `pass`, if a thread that sets out while no other is under way enters at the place `root`,
+/// which stands for place 0.
 pub(crate) fn pass_from<C: Cursor>(
     input: &mut Input<C>,
     course: Course,

@@ -26,8 +26,8 @@ use rc_needles::prefilter::Prefilter;
 use rc_text::cursor::Cursor;
 use rc_text::input::Input;
 
-/// Lets the threads of `curr` that go on at the spot do so, in order; those that go on later are put into the growth. Threads of later
-/// starts than the best walk's are left out.
+/// Lets the threads of `curr` that go on at the spot do so, in order; those that go on later are
+/// put into the growth. Threads of later starts than the best walk's are left out.
 fn step(
     spot: &Spot,
     curr: &Threads,
@@ -68,8 +68,8 @@ fn step(
     }
 }
 
-/// Lets the threads of `curr` go on at the spot, and after them, where the spot is no later than the last start and no walk has ended, a
-/// new thread set out there. The rest is as in `step`.
+/// Lets the threads of `curr` go on at the spot, and after them, if the spot is no later than the
+/// last start and no walk has ended, a new thread set out there. The rest is as in `step`.
 fn advance(
     spot: &Spot,
     curr: &Threads,
@@ -163,11 +163,12 @@ fn is_spent(curr: &Threads, best: Option<Ending>, at: usize) -> bool
     curr.len() == 0 && !is_sought(best, at)
 }
 
-/// One pass over the positions from `from` on: of the starts from there on the least that has a walk, and its longest walk, with its slots in
-/// `found`. Without a match, `found` is left as it was.
+/// One pass over the positions from `from` on: of the starts from there on the least that has a
+/// walk, and its longest walk, with its slots in `found`. Without a match, `found` is left as it
+/// was.
 ///
-/// A place is entered once at a position, and `insertions` says how many were. With a prefilter, starts at which no needle stands are left
-/// out, as far as no thread is alive there.
+/// A place is entered once at a position, and `insertions` says how many were. With a prefilter,
+/// starts at which no needle occurs are left out, as far as no thread is alive there.
 pub fn race<C: Cursor>(
     input: &mut Input<C>,
     course: Course,

@@ -16,7 +16,8 @@ use crate::spot::Course;
 use crate::threads::Head;
 use crate::window::Window;
 
-/// Whether the thread goes on at the position, and the best walk that has ended so far doesn't stand in its way.
+/// Whether the thread goes on at the position, and the best walk that has ended so far doesn't
+/// stand in its way.
 #[inline(always)]
 fn is_ahead(head: Head, best: Option<Ending>, at: usize) -> bool
     ensures { IsTrue result → (head.at ≡ at) × IsAhead best head.start at }
@@ -30,8 +31,9 @@ fn is_ahead(head: Head, best: Option<Ending>, at: usize) -> bool
     head.start <= old.start && old.start < at && old.end < at
 }
 
-/// Lets a lone thread that waits for `at` go on through the window. The answer is the position to which the pass has come, and the best walk
-/// that has ended so far, with its slots in `found`. The place `way` is the opening of place 0.
+/// Lets a lone thread that waits for `at` go on through the window. The answer is the position to
+/// which the pass has come, and the best walk that has ended so far, with its slots in `found`. The
+/// place `way` is the opening of place 0.
 fn go_alone(
     course: Course,
     window: &Window,
@@ -76,8 +78,9 @@ fn go_alone(
     head.at + 1
 }
 
-/// The position to which a pass goes on that has come to `at`, and whether a lone thread may go on there: starts from which no walk leads on were
-/// left out, where `skips`, and a thread set out. The place `way` is the opening of place 0.
+/// The position to which a pass goes on that has come to `at`, and whether a lone thread may go on
+/// there: starts from which no walk leads on were left out, if `skips`, and a thread set out. The
+/// place `way` is the opening of place 0.
 fn begin(
     course: Course,
     window: &Window,
@@ -122,8 +125,9 @@ fn begin(
     (here + 1, true)
 }
 
-/// The position from which all threads have to go on together, of a pass that has come to `at`, and the best walk that has ended so far, with
-/// its slots in `found`: up to there, starts from which no walk leads on were left out, where `skips`, and a lone thread went on.
+/// The position from which all threads have to go on together, of a pass that has come to `at`, and
+/// the best walk that has ended so far, with its slots in `found`: up to there, starts from which
+/// no walk leads on were left out, if `skips`, and a lone thread went on.
 #[inline(never)]
 fn wander(
     course: Course,
@@ -159,7 +163,8 @@ fn wander(
     go_alone(course, window, way, best, here, scratch)
 }
 
-/// As `wander`, where there is no thread, or one and `is_on`; else the position and the best walk are those given.
+/// As `wander`, if there is no thread, or one and `is_on`; otherwise the position and the best walk
+/// are those given.
 #[inline(always)]
 pub fn glide(
     course: Course,

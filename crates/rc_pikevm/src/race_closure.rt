@@ -24,7 +24,8 @@ pub fn is_sought(best: Option<Ending>, start: usize) -> bool
     start <= old.start
 }
 
-/// A walk has ended: it becomes the best, and its slots are `found`, unless one ended at that position before.
+/// A walk has ended: it becomes the best, and its slots are `found`, unless one ended at that
+/// position before.
 #[inline(always)]
 fn record(
     new: Ending,
@@ -44,7 +45,8 @@ fn record(
     found.copy_from_slice(slots);
 }
 
-/// Enters a place, unless it was entered at this position already. Where a walk ends there, it is recorded.
+/// Enters a place, unless it was entered at this position already. If a walk ends there, it is
+/// recorded.
 #[inline(always)]
 fn visit(
     spot: &Spot,
@@ -122,8 +124,9 @@ fn drain(
     }
 }
 
-/// Follows all ways from `root` that read nothing, in order, and puts a thread behind the others for each that reads. `best` is the longest
-/// walk of the least start among those that have ended so far, and `found` are its slots.
+/// Follows all ways from `root` that read nothing, in order, and puts a thread behind the others
+/// for each that reads. `best` is the longest walk of the least start among those that have ended
+/// so far, and `found` are its slots.
 #[inline(always)]
 pub fn run(
     spot: &Spot,

@@ -22,7 +22,7 @@ pub struct Scratch {
     ghost wide: { (length found.items ≡ next.threads.width) × (next.threads.most ≤ vec_capacity found) },
 }
 
-/// Where no place was entered and yet threads wait, puts the first one's place into the set: a
+/// If no place was entered and yet threads wait, puts the first one's place into the set: a
 /// position that threads pass within a scalar counts too.
 fn touch(entered: &mut SparseSet, threads: &Threads)
     requires inside { (lo hi : ℕ) × AllIn entered.old.capacity lo hi threads.now.items }

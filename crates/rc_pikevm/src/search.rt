@@ -26,7 +26,7 @@ use rc_text::cursor::Cursor;
 use rc_text::input::{Input, high, is_boundary_at, low, move_to};
 use rc_text::types::{Anchored, Match, PatternID, Span};
 
-/// Where a search begins and ends, in bytes; it stands where it begins then.
+/// Where a search begins and ends, in bytes; it is where it begins then.
 pub(crate) fn bounds<C: Cursor>(input: &mut Input<C>) -> (usize, usize)
     ensures keeps { Keeps input.old input.new }
     ensures low { result.0 ≡ low input.old }
@@ -66,7 +66,8 @@ pub(crate) fn put_match(end: Ending, slots: &mut [Option<usize>])
 }
 
 /// The walk that a search of the input chooses, with its slots in `found`: the pass over the starts
-/// is made again from the next start, as long as what it found is passed over. Walks enter at the place `root`, which stands for place 0.
+/// is made again from the next start, as long as what it found is passed over. Walks enter at the
+/// place `root`, which stands for place 0.
 fn choose<C: Cursor>(
     input: &mut Input<C>,
     program: &Program,
@@ -143,10 +144,10 @@ fn choose_in<C: Cursor>(
     None
 }
 
-/// The pattern that a search of the input finds, with the first of its slots, as many as are handed
+/// The pattern that a search of the input finds, with the first of its slots, as many as are passed
 /// in. Without a match the slots stay. The earliest flag is not read. The program says whether
-/// matches that end off a boundary are passed over. With a prefilter, the search goes from needle to
-/// needle where no walk is under way.
+/// matches that end off a boundary are passed over. With a prefilter, the search goes from needle
+/// to needle if no walk is under way.
 ///
 /// The cache has to be made for programs of as many places, and searches with as many slots or
 /// more; it stays so. No memory is taken.
@@ -174,8 +175,9 @@ pub fn search_slots<C: Cursor>(
     search_slots_from(cache, input, program, 0, prefilter, slots)
 }
 
-/// As `search_slots`, where walks may enter at the place `root` as well as at place 0, since the first walk from the one is, after choices, the
-/// first from the other. So a search for one pattern alone enters at that pattern's own place, and no thread sets out for another.
+/// As `search_slots`, if walks may enter at the place `root` as well as at place 0, since the first
+/// walk from the one is, after choices, the first from the other. So a search for one pattern alone
+/// enters at that pattern's own place, and no thread sets out for another.
 pub fn search_slots_from<C: Cursor>(
     cache: &mut Cache,
     input: &mut Input<C>,
@@ -212,7 +214,7 @@ pub fn search_slots_from<C: Cursor>(
 
 /// The match that a search of the input finds. The earliest flag is not read. `passes_over` says
 /// whether matches that end off a boundary are passed over. With a prefilter, the search goes from
-/// needle to needle where no walk is under way.
+/// needle to needle if no walk is under way.
 ///
 /// The cache has to be made for programs of as many places; it stays so. No memory is taken.
 pub fn find<C: Cursor>(
@@ -244,7 +246,8 @@ pub fn find<C: Cursor>(
     Some(Match::new(pattern, span))
 }
 
-/// The first walk of the starts of a search that was seen to end, if any does. Nothing is read beyond the first position at which one ends.
+/// The first walk of the starts of a search that was seen to end, if any does. Nothing is read
+/// beyond the first position at which one ends.
 pub(crate) fn meets<C: Cursor>(
     input: &mut Input<C>,
     program: &Program,
@@ -274,9 +277,9 @@ pub(crate) fn meets<C: Cursor>(
     pass(input, course, prefilter, lo, true, scratch)
 }
 
-/// Whether some walk begins at one of the starts of a search of the input, wherever it ends. The earliest flag is not read:
-/// nothing is read beyond the first position at which a walk ends. With a prefilter, the search goes from needle to needle
-/// where no walk is under way.
+/// Whether some walk begins at one of the starts of a search of the input, wherever it ends. The
+/// earliest flag is not read: nothing is read beyond the first position at which a walk ends. With
+/// a prefilter, the search goes from needle to needle if no walk is under way.
 ///
 /// The cache has to be made for programs of as many places; it stays so. No memory is taken.
 pub fn meets_any<C: Cursor>(

@@ -27,7 +27,8 @@ static WORDS: [bool; 256] = [
     false, false, false, false, false, false, false, false, false, false, false, false, false, false, false, false,
 ];
 
-/// Whether the assertion holds at a position, as `rc_program::look::holds` says it. Between bytes of ASCII no character is decoded.
+/// Whether the assertion holds at a position, as `rc_program::look::holds` says it. Between bytes
+/// of ASCII no character is decoded.
 #[inline(always)]
 pub fn holds(look: Look, terminator: u8, before: &[u8], after: &[u8]) -> bool
     ensures { result ≡ holds_between terminator (side_before before.now) (side_after after.now) look }

@@ -11,7 +11,7 @@ use std::marker::Model;
 pub struct SparseSet {
     /// The members, in the order in which they were inserted.
     dense: Vec<usize>,
-    /// At a member, where it stands in `dense`.
+    /// At a member, where it is in `dense`.
     sparse: Vec<usize>,
 }
 

@@ -10,11 +10,11 @@ pub struct Course<'a> {
     pub program: &'a Program,
     /// No walk goes past it, in bytes.
     pub hi: usize,
-    /// Where it is Some, walks of this pattern alone count.
+    /// If it is Some, walks of this pattern alone count.
     pub pattern: Option<usize>,
     /// The last start, in bytes: at most `hi`.
     pub last: usize,
-    /// Where it is Some, walks that end at this position alone count, in bytes.
+    /// If it is Some, walks that end at this position alone count, in bytes.
     pub until: Option<usize>,
     ghost small: { hi + 1 < 2 ^ 64 },
     ghost ordered: { last ≤ hi },

@@ -39,8 +39,8 @@ fn greater(best: Option<Ending>, new: Ending) -> Ending
     old
 }
 
-/// Enters a place, unless it was entered at this position already. Where a walk ends there, it is
-/// held against the best so far.
+/// Enters a place, unless it was entered at this position already. If a walk ends there, it is held
+/// against the best so far.
 fn visit(spot: &Spot, place: usize, start: usize, best: &mut Option<Ending>, growth: &mut Growth)
     ghost text: { Searched }
     requires here { IsHere spot.now text }
@@ -75,8 +75,8 @@ fn visit(spot: &Spot, place: usize, start: usize, best: &mut Option<Ending>, gro
     }
 }
 
-/// Follows all ways from `root` that read nothing, in order, and puts a thread behind the others for
-/// each that reads. `best` is the greatest of the walks that have ended so far.
+/// Follows all ways from `root` that read nothing, in order, and puts a thread behind the others
+/// for each that reads. `best` is the greatest of the walks that have ended so far.
 pub fn spread(
     spot: &Spot,
     root: usize,

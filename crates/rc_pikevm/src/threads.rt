@@ -12,7 +12,7 @@ pub struct Head {
     pub place: usize,
     /// The position at which it enters there, in bytes.
     pub at: usize,
-    /// Where its walk began, in bytes.
+    /// If its walk began, in bytes.
     pub start: usize,
 }
 
@@ -104,7 +104,8 @@ impl Threads {
         self.heads[0] = head;
     }
 
-    /// Exchanges the threads for those of the other list, which has as much room, and as many slots for each.
+    /// Exchanges the threads for those of the other list, which has as much room, and as many slots
+    /// for each.
     #[inline(always)]
     pub fn exchange(&mut self, other: &mut Threads)
         requires room { self.old.room ≡ other.old.room }

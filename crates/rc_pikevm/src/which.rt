@@ -40,7 +40,8 @@ fn mark(set: &mut PatternSet, number: usize)
     }
 }
 
-/// Enters a place, unless it was entered at this position already. Where a walk ends there, its pattern is marked.
+/// Enters a place, unless it was entered at this position already. If a walk ends there, its
+/// pattern is marked.
 fn visit(spot: &Spot, place: usize, start: usize, set: &mut PatternSet, growth: &mut Growth)
     ghost text: { Searched }
     requires here { IsHere spot.now text }
@@ -69,8 +70,8 @@ fn visit(spot: &Spot, place: usize, start: usize, set: &mut PatternSet, growth: 
     }
 }
 
-/// Follows all ways from `root` that read nothing, puts a thread behind the others for each that reads, and marks the pattern of each
-/// walk that ends.
+/// Follows all ways from `root` that read nothing, puts a thread behind the others for each that
+/// reads, and marks the pattern of each walk that ends.
 fn spread(spot: &Spot, root: usize, start: usize, set: &mut PatternSet, growth: &mut Growth)
     ghost text: { Searched }
     requires here { IsHere spot.now text }
@@ -95,8 +96,8 @@ fn spread(spot: &Spot, root: usize, start: usize, set: &mut PatternSet, growth: 
     }
 }
 
-/// Lets the threads of `curr` that go on at the spot do so; those that go on later are put into the growth. The pattern of each walk that
-/// ends is marked.
+/// Lets the threads of `curr` that go on at the spot do so; those that go on later are put into the
+/// growth. The pattern of each walk that ends is marked.
 fn step(spot: &Spot, curr: &Threads, set: &mut PatternSet, growth: &mut Growth)
     ghost text: { Searched }
     requires here { IsHere spot.now text }
@@ -126,8 +127,8 @@ fn step(spot: &Spot, curr: &Threads, set: &mut PatternSet, growth: &mut Growth)
     }
 }
 
-/// Lets the threads of `curr` go on at the spot, and after them, where the spot is no later than the last start, a new thread set out
-/// there. The rest is as in `step`.
+/// Lets the threads of `curr` go on at the spot, and after them, if the spot is no later than the
+/// last start, a new thread set out there. The rest is as in `step`.
 fn advance(spot: &Spot, curr: &Threads, set: &mut PatternSet, growth: &mut Growth)
     ghost text: { Searched }
     requires here { IsHere spot.now text }
@@ -177,7 +178,8 @@ fn turn(spot: &Spot, set: &mut PatternSet, scratch: &mut Scratch)
     scratch.finish();
 }
 
-/// The least number from `first` on that is no member, or `last` where that is less. Those below `first` are not looked at.
+/// The least number from `first` on that is no member, or `last` if that is less. Those below
+/// `first` are not looked at.
 fn first_absent(set: &PatternSet, first: usize, last: usize) -> usize
     ensures from { first ≤ result }
     ensures members { HasAll first result set.now }
@@ -193,7 +195,8 @@ fn first_absent(set: &PatternSet, first: usize, last: usize) -> usize
     first.max(last)
 }
 
-/// From which number on, up to and without which, the patterns are of which walks count and that the set can hold.
+/// From which number on, up to and without which, the patterns are of which walks count and that
+/// the set can hold.
 fn wanted(pattern: Option<usize>, patterns: usize, set: &PatternSet) -> (usize, usize)
     ensures { (p : ℕ) → p < patterns → p < length set.now → IsTrue (is_match_place pattern (accept p)) → (result.0 ≤ p) × (p < result.1) }
 {
@@ -204,8 +207,8 @@ fn wanted(pattern: Option<usize>, patterns: usize, set: &PatternSet) -> (usize, 
     }
 }
 
-/// One pass over the positions from `from` on: marks the patterns that walks from the starts there spell. It ends where each pattern from
-/// `first` on, up to and without `end`, is marked.
+/// One pass over the positions from `from` on: marks the patterns that walks from the starts there
+/// spell. It ends if each pattern from `first` on, up to and without `end`, is marked.
 fn pass<C: Cursor>(
     input: &mut Input<C>,
     course: Course,
@@ -274,12 +277,14 @@ fn choose<C: Cursor>(
     pass(input, course, lo, first, end, set, scratch);
 }
 
-/// Puts into the set each pattern below its capacity of which a walk is spelled within the bounds of a search of the input, wherever
-/// others end. What the set has stays. Neither the earliest flag is read, nor are matches passed over that end off a boundary. The walks
-/// of the program are of the first `patterns` patterns.
+/// Puts into the set each pattern below its capacity of which a walk is spelled within the bounds
+/// of a search of the input, wherever others end. What the set has stays. Neither the earliest flag
+/// is read, nor are matches passed over that end off a boundary. The walks of the program are of
+/// the first `patterns` patterns.
 ///
-/// The cache has to be made for programs of as many places; it stays so. No memory is taken, and the time is linear in the bytes between
-/// the search's bounds. Nothing is read beyond the position at which the last pattern is found that the set can hold.
+/// The cache has to be made for programs of as many places; it stays so. No memory is taken, and
+/// the time is linear in the bytes between the search's bounds. Nothing is read beyond the position
+/// at which the last pattern is found that the set can hold.
 pub fn which_patterns<C: Cursor>(
     cache: &mut Cache,
     input: &mut Input<C>,

@@ -15,7 +15,7 @@ use rc_text::input::{Input, piece_from};
 pub struct Window {
     /// The bytes.
     pub bytes: [u8; 64],
-    /// Where the first stands, in bytes.
+    /// Where the first is, in bytes.
     pub start: usize,
     /// How many there are, at most 64.
     pub len: usize,
@@ -53,7 +53,7 @@ fn append(bytes: &mut [u8; 64], len: usize, piece: &[u8])
     bytes[len..len + piece.len()].copy_from_slice(piece);
 }
 
-/// Opens the window anew, where it ends within four bytes after `at` and the slice goes on.
+/// Opens the window anew, if it ends within four bytes after `at` and the slice goes on.
 pub fn reach<C: Cursor>(window: &mut Window, input: &mut Input<C>, at: usize)
     requires inside { (input.old.slice.start ≤ at) × (at ≤ slice_end input.old) }
     requires window { IsWindow input.old window.old }

@@ -40,15 +40,16 @@ impl Engine {
     ghost use Rattle.rc_pikevm_search.specs.Engine.{engine_search, Counts, IsEngineCache, IsSameCache};
     ghost use Rattle.rc_pikevm_search.specs.Moved.{IsMoved};
 
-    /// A cache for searches by this engine, with at most so many slots. An `Err` is want of memory.
+    /// A cache for searches by this engine, with at most this many slots. An `Err` means out of
+    /// memory.
     pub fn create_cache(&self, alloc: Global, slots: usize) -> Result<Cache, AllocError>
         ensures { IfOk result (IsEngineCache self.now slots) }
     {
         Cache::new(alloc, self.program.places.len(), slots)
     }
 
-    /// The match that a search finds. It takes no memory. The cache counts the pass that it makes, or, where needles alone tell the
-    /// match, nothing anew.
+    /// The match that a search finds. It takes no memory. The cache counts the pass that it makes,
+    /// or, if needles alone decide the match, nothing anew.
     pub fn find<C: Cursor>(&self, cache: &mut Cache, input: &mut Input<C>) -> Option<Match>
         requires made { IsEngineCache self.now 0 cache.old }
         ensures keeps { Keeps input.old input.new }
@@ -69,8 +70,8 @@ impl Engine {
         )
     }
 
-    /// Whether a search finds a match. It takes no memory. Unless matches are passed over, nothing is read beyond the first position at
-    /// which one ends.
+    /// Whether a search finds a match. It takes no memory. Unless matches are passed over, nothing
+    /// is read beyond the first position at which one ends.
     pub fn is_match<C: Cursor>(&self, cache: &mut Cache, input: &mut Input<C>) -> bool
         requires made { IsEngineCache self.now 0 cache.old }
         ensures keeps { Keeps input.old input.new }
@@ -90,7 +91,8 @@ impl Engine {
         )
     }
 
-    /// The pattern that a search finds, with the first of its slots. Without a match the slots stay. It takes no memory.
+    /// The pattern that a search finds, with the first of its slots. Without a match the slots
+    /// stay. It takes no memory.
     pub fn find_slots<C: Cursor>(
         &self,
         cache: &mut Cache,
@@ -116,8 +118,9 @@ impl Engine {
         )
     }
 
-    /// The next match of a list: the match from where the span starts, and where that is empty and ends at `last`, the match from
-    /// a byte later. The span then starts where the match was looked for. It takes no memory.
+    /// The next match of a list: the match from where the span starts, and if that is empty and
+    /// ends at `last`, the match from a byte later. The span then starts where the match was looked
+    /// for. It takes no memory.
     pub fn next_match<C: Cursor>(
         &self,
         cache: &mut Cache,
@@ -145,8 +148,8 @@ impl Engine {
         self.find(cache, input)
     }
 
-    /// Writes the match that a search finds, with its groups, into captures of the patterns of these names. Without a match they
-    /// hold none. It takes no memory.
+    /// Writes the match that a search finds, with its groups, into captures of the patterns of
+    /// these names. Without a match they hold none. It takes no memory.
     pub fn find_captures<C: Cursor>(
         &self,
         cache: &mut Cache,

@@ -15,14 +15,15 @@ use rc_text::types::MatchKind;
 pub enum Strategy {
     /// By nothing.
     Pass,
-    /// By needles: no walk begins where none of them stands.
+    /// By needles: no walk begins where none of them occurs.
     Guarded(Prefilter),
     /// By needles that are the pattern's texts, each before those that are less preferred.
     Literal(Prefilter),
 }
 
 impl Strategy {
-    /// Whether searches go by needles, and one for these goes by a needle or by at most three bytes.
+    /// Whether searches go by needles, and one for these goes by a needle or by at most three
+    /// bytes.
     pub fn is_fast(&self) -> bool
         ensures { guarding self.now ≡ None → result ≡ false }
     {

@@ -11,7 +11,8 @@ use crate::place::Place;
 use rc_pattern::hir::{ClassBytesRange, ClassUnicodeRange};
 use std::alloc::{AllocError, Global};
 
-/// A place from which more places than these are reached without reading gets no flags. So a build stays linear.
+/// A place from which more places than these are reached without reading gets no flags. So a build
+/// stays linear.
 const MOST_REACHED: usize = 62;
 
 /// No place from this number on gets flags. So they stay within 4 MiB.
@@ -31,8 +32,8 @@ pub fn heads_of(alloc: Global, places: &[Place]) -> Result<Vec<Vec<bool>>, Alloc
     Ok(tables)
 }
 
-/// The flags of the place. None where one byte is to be compared, where no walk goes on at all or one ends, and where too many places are reached.
-/// `opened` and `spots` are room to work in.
+/// The flags of the place. None if one byte is to be compared, if no walk goes on at all or one
+/// ends, and if too many places are reached. `opened` and `spots` are room to work in.
 fn flags_of(
     alloc: Global,
     places: &[Place],
@@ -59,7 +60,7 @@ fn flags_of(
     Ok(flags)
 }
 
-/// Opens the places that are reached from this one without reading. False where these are too many.
+/// Opens the places that are reached from this one without reading. False if these are too many.
 fn open_all(
     opened: &mut Vec<usize>,
     spots: &mut [usize],
@@ -105,7 +106,8 @@ fn open_from(
     }
 }
 
-/// Opens a place, where it isn't open. Where it was opened last, `spots` says where that was: so one look tells whether it still is.
+/// Opens a place, if it isn't open. If it was opened last, `spots` says where that was: so one look
+/// says whether it still is.
 fn open(opened: &mut Vec<usize>, spots: &mut [usize], place: usize) -> Result<(), AllocError>
     ensures { OnOk result (Opens (place ∷ []) opened.old.items opened.new.items) }
 {
@@ -141,7 +143,7 @@ fn join_at(flags: &mut [bool], places: &[Place], number: usize)
     }
 }
 
-/// Sets the flags of the bytes that the place takes, or of all where a walk ends there.
+/// Sets the flags of the bytes that the place takes, or of all if a walk ends there.
 fn join(flags: &mut [bool], place: &Place)
     requires { length flags.old ≡ 256 }
     ensures { AreJoined 256 (may_take (place_of place.now)) flags.old flags.new }

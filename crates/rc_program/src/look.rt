@@ -6,8 +6,9 @@ ghost use Rattle.rc_program.specs.Looks.{side_before, side_after, has_byte, is_w
 use rc_pattern::hir::Look;
 use unicode::properties::{GeneralCategory, is_alphabetic};
 
-/// Whether the assertion holds at a position, where `before` are the bytes that lead up to it and `after` those that go on from
-/// it. Lines end at the byte `terminator`; `StartCRLF` and `EndCRLF` know CR, LF and both as one end instead.
+/// Whether the assertion holds at a position, if `before` are the bytes that lead up to it and
+/// `after` those that go on from it. Lines end at the byte `terminator`; `StartCRLF` and `EndCRLF`
+/// know CR, LF and both as one end instead.
 ///
 /// Of longer bytes the four next to the position are enough.
 pub fn holds(look: Look, terminator: u8, before: &[u8], after: &[u8]) -> bool
@@ -38,7 +39,8 @@ pub fn holds(look: Look, terminator: u8, before: &[u8], after: &[u8]) -> bool
     }
 }
 
-/// The scalar whose UTF-8 bytes begin these, and how many they are, from 1 to 4. None where the bytes begin with no scalar.
+/// The scalar whose UTF-8 bytes begin these, and how many they are, from 1 to 4. None if the bytes
+/// begin with no scalar.
 pub fn scalar_at(bytes: &[u8]) -> Option<(char, usize)>
     ensures { result ≡ scalar_at bytes.now }
 {
@@ -57,7 +59,7 @@ pub fn scalar_at(bytes: &[u8]) -> Option<(char, usize)>
     }
 }
 
-/// The scalar whose UTF-8 bytes end these. None where the bytes end with no scalar.
+/// The scalar whose UTF-8 bytes end these. None if the bytes end with no scalar.
 pub fn scalar_before(bytes: &[u8]) -> Option<char>
     ensures { result ≡ scalar_before bytes.now }
 {
@@ -73,8 +75,8 @@ pub fn scalar_before(bytes: &[u8]) -> Option<char>
     scalar_of_last(4, bytes)
 }
 
-/// Whether the character stands in words: it is alphabetic, a mark, a decimal number or a connecting punctuation, or one of the two
-/// joiners U+200C and U+200D.
+/// Whether the character is in words: it is alphabetic, a mark, a decimal number or a connecting
+/// punctuation, or one of the two joiners U+200C and U+200D.
 pub fn is_word_char(c: char) -> bool
     ensures { result ≡ is_word_scalar c }
 {
@@ -166,7 +168,7 @@ fn are_same(before: Option<bool>, after: Option<bool>) -> bool
     }
 }
 
-// Whether a word character stands before a position; None where bytes stand there and no scalar.
+// Whether a word character is before a position; None if bytes are there and no scalar.
 fn word_before(before: &[u8]) -> Option<bool>
     ensures word { unwrap_or result false ≡ is_unicode_word (side_before before.now) }
     ensures broken { is_none result ≡ is_broken (side_before before.now) }
@@ -178,7 +180,7 @@ fn word_before(before: &[u8]) -> Option<bool>
     Some(is_word_char(c))
 }
 
-// The same of what stands after it.
+// The same of what is after it.
 fn word_after(after: &[u8]) -> Option<bool>
     ensures word { unwrap_or result false ≡ is_unicode_word (side_after after.now) }
     ensures broken { is_none result ≡ is_broken (side_after after.now) }
@@ -190,7 +192,7 @@ fn word_after(after: &[u8]) -> Option<bool>
     Some(is_word_char(c))
 }
 
-// The scalar of the last `count` bytes, where one is all of them.
+// The scalar of the last `count` bytes, if one is all of them.
 fn scalar_of_last(count: usize, bytes: &[u8]) -> Option<char>
     ensures { result ≡ scalar_of_last count bytes.now }
 {
@@ -205,7 +207,7 @@ fn continues(byte: u8) -> bool
     byte >= 128 && byte < 192
 }
 
-// The scalar of so many bytes, which is none below `least`.
+// The scalar of this many bytes, which is none below `least`.
 fn in_bytes(count: usize, least: u32, code: u32) -> Option<(char, usize)>
     ensures { result ≡ in_bytes count least code }
 {

@@ -17,7 +17,7 @@ pub enum Place {
     Bytes(Vec<ClassBytesRange>, usize),
     /// One way out, over the bytes of one scalar of the ranges.
     Scalar(Vec<ClassUnicodeRange>, usize),
-    /// One way out, where the assertion holds.
+    /// One way out, if the assertion holds.
     Guard(Look, usize),
     /// One way out, and the slot that a visit here fills.
     Slot(usize, usize),

@@ -7,23 +7,26 @@ ghost use Rattle.rc_program.specs.Places.{places_of};
 
 use crate::place::Place;
 
-/// A program that can be searched with: it is entered at place 0, no way leads out, and each pattern's number is one of `PatternID`.
+/// A program that can be searched with: it is entered at place 0, no way leads out, and each
+/// pattern's number is one of `PatternID`.
 #[derive(Drop)]
 pub struct Program {
     /// The places. Walks enter at place 0.
     pub places: Vec<Place>,
-    /// The byte at which lines end, where an assertion asks for lines.
+    /// The byte at which lines end, if an assertion asks for lines.
     pub terminator: u8,
     /// Whether matches are passed over that end off a boundary of characters.
     pub passes_over: bool,
-    /// For each place over which bytes walks may go on from there, 256 flags; none where that wasn't closed over.
+    /// For each place over which bytes walks may go on from there, 256 flags; none if that wasn't
+    /// closed over.
     pub heads: Vec<Vec<bool>>,
     ghost runnable: { IsRunnable (places_of places.items) },
     ghost closed_over: { AreHeads (places_of places.items) (flags_in heads.items) },
 }
 
 impl Program {
-    /// Over which bytes walks may go on from the place, whatever assertions say: 256 flags. None where that wasn't closed over.
+    /// Over which bytes walks may go on from the place, whatever assertions say: 256 flags. None if
+    /// that wasn't closed over.
     #[inline(always)]
     #[tactic(auto, using(crate::proofs::HeadsLemmas::flags_tell))]
     pub fn head_table(&self, place: usize) -> Option<&[bool]>
@@ -34,7 +37,8 @@ impl Program {
         if flags.is_empty() { None } else { Some(flags) }
     }
 
-    /// Whether a walk may go on from the place over the byte, whatever assertions say. None where that wasn't closed over.
+    /// Whether a walk may go on from the place over the byte, whatever assertions say. None if that
+    /// wasn't closed over.
     #[inline(always)]
     pub fn may_go_on(&self, place: usize, byte: u8) -> Option<bool>
         requires { place < length self.now.places.items }

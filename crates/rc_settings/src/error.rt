@@ -96,7 +96,7 @@ impl<T: Drop> From<AllocFailed<T>> for BuildError {
 }
 
 impl BuildError {
-    /// The number of the text that isn't read; `None` where the refusal has another cause.
+    /// The number of the text that isn't read; `None` if the refusal has another cause.
     pub fn pattern(&self) -> Option<PatternID>
         ensures { result ≡ pattern_of self.now }
     {
@@ -106,7 +106,7 @@ impl BuildError {
         }
     }
 
-    /// The limit on the size of the patterns that was passed; `None` where the refusal has another
+    /// The limit on the size of the patterns that was passed; `None` if the refusal has another
     /// cause.
     pub fn size_limit(&self) -> Option<usize>
         ensures { result ≡ size_limit_of self.now }
@@ -117,7 +117,7 @@ impl BuildError {
         }
     }
 
-    /// Why the text isn't read; `None` where the refusal has another cause.
+    /// Why the text isn't read; `None` if the refusal has another cause.
     pub fn syntax_error(&self) -> Option<&syntax::Error>
         ensures { option_map (λ r. r.now) result ≡ syntax_fault_of self.now }
     {

@@ -10,7 +10,7 @@ use rc_needles::prefilter::{Prefilter, copy_of};
 use rc_text::types::MatchKind;
 use std::alloc::{AllocError, Global};
 
-/// The settings of a build. One that isn't set has its default.
+/// The settings of a build. A setting that isn't set has its default.
 #[derive(Debug, Drop)]
 pub struct Config {
     match_kind: Option<MatchKind>,
@@ -31,7 +31,7 @@ pub struct Config {
 }
 
 impl Config {
-    /// Nothing is set.
+    /// Returns settings with nothing set.
     pub fn new() -> Config
         ensures { settings_of result ≡ unset }
     {
@@ -62,7 +62,7 @@ impl Config {
         self
     }
 
-    /// Whether empty matches stand on boundaries alone.
+    /// Whether empty matches occur only on character boundaries.
     pub fn utf8_empty(mut self, yes: bool) -> Config
         ensures { settings_of result ≡ record (settings_of self) { utf8_empty = Some yes } }
     {
@@ -70,7 +70,8 @@ impl Config {
         self
     }
 
-    /// Whether a search may look for literals of the patterns first. No answer depends on it.
+    /// Whether a search may look for literals of the patterns first. No search result depends on
+    /// it.
     pub fn auto_prefilter(mut self, yes: bool) -> Config
         ensures { settings_of result ≡ record (settings_of self) { auto_prefilter = Some yes } }
     {
@@ -78,8 +79,9 @@ impl Config {
         self
     }
 
-    /// The needles that a search may look for first; `None` for none of the caller's. No answer depends
-    /// on it: they are used only where each prefix of the patterns begins with one of them.
+    /// The needles that a search may look for first; `None` for none of the caller's. No search
+    /// result depends on it: they are used only if each prefix of the patterns begins with one of
+    /// them.
     pub fn prefilter(mut self, value: Option<Prefilter>) -> Config
         ensures { settings_of result ≡ record (settings_of self) { prefilter = Some (option_map needles_of value) } }
     {
@@ -103,7 +105,7 @@ impl Config {
         self
     }
 
-    /// Kept, and read by nothing.
+    /// This setting is kept, and has no effect.
     pub fn onepass_size_limit(mut self, value: Option<usize>) -> Config
         ensures { settings_of result ≡ record (settings_of self) { onepass_size_limit = Some value } }
     {
@@ -111,7 +113,7 @@ impl Config {
         self
     }
 
-    /// The capacity of the cache of the lazy DFA, in bytes. No answer depends on it.
+    /// The capacity of the cache of the lazy DFA, in bytes. No search result depends on it.
     pub fn hybrid_cache_capacity(mut self, value: usize) -> Config
         ensures { settings_of result ≡ record (settings_of self) { hybrid_cache_capacity = Some value } }
     {
@@ -119,7 +121,7 @@ impl Config {
         self
     }
 
-    /// Whether a search may run a lazy DFA. No answer depends on it.
+    /// Whether a search may run a lazy DFA. No search result depends on it.
     pub fn hybrid(mut self, yes: bool) -> Config
         ensures { settings_of result ≡ record (settings_of self) { hybrid = Some yes } }
     {
@@ -127,7 +129,7 @@ impl Config {
         self
     }
 
-    /// Whether a search may run a DFA. No answer depends on it.
+    /// Whether a search may run a DFA. No search result depends on it.
     pub fn dfa(mut self, yes: bool) -> Config
         ensures { settings_of result ≡ record (settings_of self) { dfa = Some yes } }
     {
@@ -135,7 +137,8 @@ impl Config {
         self
     }
 
-    /// The limit on the size of DFAs, in bytes, a quarter of it for each direction; `None` for no limit. No answer depends on it.
+    /// The limit on the size of DFAs, in bytes, a quarter of it for each direction; `None` for no
+    /// limit. No search result depends on it.
     pub fn dfa_size_limit(mut self, value: Option<usize>) -> Config
         ensures { settings_of result ≡ record (settings_of self) { dfa_size_limit = Some value } }
     {
@@ -143,7 +146,8 @@ impl Config {
         self
     }
 
-    /// The number of places up to which a DFA is tried; `None` for no limit. No answer depends on it.
+    /// The number of places up to which a DFA is tried; `None` for no limit. No search result
+    /// depends on it.
     pub fn dfa_state_limit(mut self, value: Option<usize>) -> Config
         ensures { settings_of result ≡ record (settings_of self) { dfa_state_limit = Some value } }
     {
@@ -151,7 +155,8 @@ impl Config {
         self
     }
 
-    /// Whether DFAs put bytes that no pattern tells apart into one class. No answer depends on it.
+    /// Whether DFAs put bytes that no pattern distinguishes into one class. No search result
+    /// depends on it.
     pub fn byte_classes(mut self, yes: bool) -> Config
         ensures { settings_of result ≡ record (settings_of self) { byte_classes = Some yes } }
     {
@@ -159,7 +164,7 @@ impl Config {
         self
     }
 
-    /// Kept, and read by nothing.
+    /// This setting is kept, and has no effect.
     pub fn backtrack(mut self, yes: bool) -> Config
         ensures { settings_of result ≡ record (settings_of self) { backtrack = Some yes } }
     {
@@ -175,28 +180,28 @@ impl Config {
         self
     }
 
-    /// Which match is sought; `LeftmostFirst` where it isn't set.
+    /// Which match is sought; `LeftmostFirst` if it isn't set.
     pub fn get_match_kind(&self) -> MatchKind
         ensures { result ≡ match_kind_of (settings_of self.now) }
     {
         self.match_kind.unwrap_or(MatchKind::LeftmostFirst)
     }
 
-    /// Whether empty matches stand on boundaries alone; true where it isn't set.
+    /// Whether empty matches occur only on character boundaries; true if it isn't set.
     pub fn get_utf8_empty(&self) -> bool
         ensures { result ≡ utf8_empty_of (settings_of self.now) }
     {
         self.utf8_empty.unwrap_or(true)
     }
 
-    /// Whether a search may look for literals of the patterns first; true where it isn't set.
+    /// Whether a search may look for literals of the patterns first; true if it isn't set.
     pub fn get_auto_prefilter(&self) -> bool
         ensures { result ≡ auto_prefilter_of (settings_of self.now) }
     {
         self.auto_prefilter.unwrap_or(true)
     }
 
-    /// The needles that a search may look for first; `None` where they aren't set.
+    /// The needles that a search may look for first; `None` if they aren't set.
     pub fn get_prefilter(&self) -> Option<&Prefilter>
         ensures { option_map (λ p. needles_of p.now) result ≡ prefilter_of (settings_of self.now) }
     {
@@ -206,70 +211,72 @@ impl Config {
         }
     }
 
-    /// Which groups the regex keeps; `All` where it isn't set.
+    /// Which groups the regex keeps; `All` if it isn't set.
     pub fn get_which_captures(&self) -> WhichCaptures
         ensures { result ≡ which_captures_of (settings_of self.now) }
     {
         self.which_captures.unwrap_or(WhichCaptures::All)
     }
 
-    /// The limit on 32 times the weight of the patterns, `None` for no limit; 10,485,760 where it isn't set.
+    /// The limit on 32 times the weight of the patterns, `None` for no limit; 10,485,760 if it
+    /// isn't set.
     pub fn get_nfa_size_limit(&self) -> Option<usize>
         ensures { result ≡ nfa_size_limit_of (settings_of self.now) }
     {
         self.nfa_size_limit.unwrap_or(Some(10_485_760))
     }
 
-    /// The capacity of the cache of the lazy DFA, in bytes; 2,097,152 where it isn't set.
+    /// The capacity of the cache of the lazy DFA, in bytes; 2,097,152 if it isn't set.
     pub fn get_hybrid_cache_capacity(&self) -> usize
         ensures { result ≡ hybrid_cache_capacity_of (settings_of self.now) }
     {
         self.hybrid_cache_capacity.unwrap_or(2_097_152)
     }
 
-    /// Whether a search may run a lazy DFA; true where it isn't set.
+    /// Whether a search may run a lazy DFA; true if it isn't set.
     pub fn get_hybrid(&self) -> bool
         ensures { result ≡ hybrid_of (settings_of self.now) }
     {
         self.hybrid.unwrap_or(true)
     }
 
-    /// Whether a search may run a DFA; true where it isn't set.
+    /// Whether a search may run a DFA; true if it isn't set.
     pub fn get_dfa(&self) -> bool
         ensures { result ≡ dfa_of (settings_of self.now) }
     {
         self.dfa.unwrap_or(true)
     }
 
-    /// The limit on the size of DFAs, in bytes, `None` for no limit; 40,960 where it isn't set.
+    /// The limit on the size of DFAs, in bytes, `None` for no limit; 40,960 if it isn't set.
     pub fn get_dfa_size_limit(&self) -> Option<usize>
         ensures { result ≡ dfa_size_limit_of (settings_of self.now) }
     {
         self.dfa_size_limit.unwrap_or(Some(40_960))
     }
 
-    /// The number of places up to which a DFA is tried, `None` for no limit; 30 where it isn't set.
+    /// The number of places up to which a DFA is tried, `None` for no limit; 30 if it isn't set.
     pub fn get_dfa_state_limit(&self) -> Option<usize>
         ensures { result ≡ dfa_state_limit_of (settings_of self.now) }
     {
         self.dfa_state_limit.unwrap_or(Some(30))
     }
 
-    /// Whether DFAs put bytes that no pattern tells apart into one class; true where it isn't set.
+    /// Whether DFAs put bytes that no pattern distinguishes into one class; true if it isn't set.
     pub fn get_byte_classes(&self) -> bool
         ensures { result ≡ byte_classes_of (settings_of self.now) }
     {
         self.byte_classes.unwrap_or(true)
     }
 
-    /// The byte that ends a line for `^` and `$`; 10 where it isn't set.
+    /// The byte that ends a line for `^` and `$`; 10 if it isn't set.
     pub fn get_line_terminator(&self) -> u8
         ensures { result ≡ line_terminator_of (settings_of self.now) }
     {
         self.line_terminator.unwrap_or(b'\n')
     }
 
-    /// The settings of the regex's program. All four are set, where they aren't set here to the defaults here.
+    /// The settings of the regex's program. All four are set, if they aren't set here to the
+    /// defaults here.
     pub fn program_settings(&self) -> thompson::Config
         ensures { program_settings_of result ≡ program_settings (settings_of self.now) }
     {
@@ -280,7 +287,7 @@ impl Config {
             .line_terminator(self.get_line_terminator())
     }
 
-    /// Takes over what `new` sets, and keeps what it doesn't.
+    /// Takes each setting that `new` sets, and keeps the others.
     pub fn overwrite(&mut self, new: Config)
         ensures { settings_of self.new ≡ overwritten (settings_of self.old) (settings_of new) }
     {
@@ -303,7 +310,7 @@ impl Config {
         }
     }
 
-    /// The same settings. An `Err` is want of memory, which a prefilter takes.
+    /// The same settings. An `Err` means out of memory, which a prefilter takes.
     pub fn try_clone(&self, alloc: Global) -> Result<Config, AllocError>
         ensures { IfOk result (λ c. settings_of c ≡ settings_of self.now) }
     {

@@ -7,7 +7,7 @@ use rc_needles::prefilter::{Prefilter, copy_of};
 use rc_text::types::MatchKind;
 use std::alloc::{AllocError, Global};
 
-/// The settings of searches. One that isn't set has its default.
+/// The settings of searches. A setting that isn't set has its default.
 #[derive(Debug, Drop)]
 pub struct Config {
     match_kind: Option<MatchKind>,
@@ -15,7 +15,7 @@ pub struct Config {
 }
 
 impl Config {
-    /// Nothing is set.
+    /// Returns settings with nothing set.
     pub fn new() -> Config
         ensures { search_settings_of result ≡ none_set }
     {
@@ -25,9 +25,9 @@ impl Config {
         }
     }
 
-    /// Which match is sought: the first walk of the least start, as where it isn't set; or the greatest, which has the greatest end,
-    /// then the least start, then the least pattern. A search for the greatest passes no match over, and finds no groups but the
-    /// whole match.
+    /// Which match is sought: the first walk of the least start, as by default; or the greatest,
+    /// which has the greatest end, then the least start, then the least pattern. A search for the
+    /// greatest passes no match over, and finds no groups but the whole match.
     pub fn match_kind(mut self, value: MatchKind) -> Config
         ensures { search_settings_of result ≡ record (search_settings_of self) { match_kind = Some value } }
     {
@@ -35,8 +35,9 @@ impl Config {
         self
     }
 
-    /// The needles that a search may look for first; `None`, as where it isn't set, for none. No answer depends on it: they are used
-    /// only where prefixes of the patterns were extracted and each begins with one of them.
+    /// The needles that a search may look for first; `None`, as by default, for none. No search
+    /// result depends on it: they are used only if prefixes of the patterns were extracted and each
+    /// begins with one of them.
     pub fn prefilter(mut self, value: Option<Prefilter>) -> Config
         ensures { search_settings_of result ≡ record (search_settings_of self) { prefilter = Some (option_map needles_of value) } }
     {
@@ -51,7 +52,7 @@ impl Config {
         self.match_kind.unwrap_or(MatchKind::LeftmostFirst)
     }
 
-    /// Takes over what `new` sets, and keeps what it doesn't.
+    /// Takes each setting that `new` sets, and keeps the others.
     pub fn overwrite(&mut self, new: Config)
         ensures { search_settings_of self.new ≡ set_over (search_settings_of self.old) (search_settings_of new) }
     {
@@ -70,7 +71,7 @@ impl Config {
         }
     }
 
-    /// The same settings. An `Err` is want of memory, which a prefilter takes.
+    /// The same settings. An `Err` means out of memory, which a prefilter takes.
     pub fn try_clone(&self, alloc: Global) -> Result<Config, AllocError>
         ensures { IfOk result (λ c. search_settings_of c ≡ search_settings_of self.now) }
     {

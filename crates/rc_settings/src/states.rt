@@ -8,7 +8,8 @@ use crate::pikevm;
 use rc_needles::prefilter::Prefilter;
 use rc_text::types::MatchKind;
 
-/// The settings of searches by states, with a limit `L` on what the states may weigh. One that isn't set has its default.
+/// The settings of searches by states, with a limit `L` on what the states may weigh. A setting
+/// that isn't set has its default.
 #[derive(Debug, Drop)]
 pub struct Config<L> {
     search: pikevm::Config,
@@ -17,7 +18,7 @@ pub struct Config<L> {
 }
 
 impl<L: Drop> Config<L> {
-    /// Nothing is set.
+    /// Returns settings with nothing set.
     pub fn new() -> Config<L>
         ensures { state_settings_of result ≡ no_state_setting L }
     {
@@ -36,7 +37,8 @@ impl<L: Drop> Config<L> {
         self
     }
 
-    /// The needles that a search may look for first, as in the settings of a `PikeVM`. No answer depends on it.
+    /// The needles that a search may look for first, as in the settings of a `PikeVM`. No search
+    /// result depends on it.
     pub fn prefilter(mut self, value: Option<Prefilter>) -> Config<L>
         ensures { let s = (state_settings_of self).search in state_settings_of result ≡ record (state_settings_of self) { search = record s { prefilter = Some (option_map needles_of value) } } }
     {
@@ -44,7 +46,8 @@ impl<L: Drop> Config<L> {
         self
     }
 
-    /// Whether bytes that no pattern tells apart share a column of a table; true where it isn't set. No answer depends on it.
+    /// Whether bytes that no pattern distinguishes share a column of a table; true if it isn't set.
+    /// No search result depends on it.
     pub fn byte_classes(mut self, yes: bool) -> Config<L>
         ensures { state_settings_of result ≡ record (state_settings_of self) { byte_classes = Some yes } }
     {
@@ -52,7 +55,7 @@ impl<L: Drop> Config<L> {
         self
     }
 
-    /// Takes over what `new` sets, and keeps what it doesn't.
+    /// Takes each setting that `new` sets, and keeps the others.
     pub fn overwrite(&mut self, new: Config<L>)
         ensures { state_settings_of self.new ≡ state_settings_over (state_settings_of self.old) (state_settings_of new) }
     {
@@ -70,7 +73,7 @@ impl<L: Drop> Config<L> {
         &self.search
     }
 
-    /// Whether bytes that no pattern tells apart share a column of a table.
+    /// Whether bytes that no pattern distinguishes share a column of a table.
     pub fn get_byte_classes(&self) -> bool
         ensures { result ≡ byte_classes_of (state_settings_of self.now) }
     {
@@ -89,7 +92,8 @@ impl<L: Drop> Config<L> {
 }
 
 impl Config<Option<usize>> {
-    /// How many bytes the states of each direction may weigh, where all of them are made at the build; `None`, as where it isn't set, for no limit.
+    /// How many bytes the states of each direction may weigh, if all of them are made at the build;
+    /// `None`, as by default, for no limit.
     pub fn dfa_size_limit(mut self, value: Option<usize>) -> Config<Option<usize>>
         ensures { state_settings_of result ≡ record (state_settings_of self) { limit = Some value } }
     {
@@ -99,7 +103,8 @@ impl Config<Option<usize>> {
 }
 
 impl Config<usize> {
-    /// How many bytes the states of each direction may weigh that a cache keeps; 2,097,152 where it isn't set.
+    /// How many bytes the states of each direction may weigh that a cache keeps; 2,097,152 if it
+    /// isn't set.
     pub fn cache_capacity(mut self, bytes: usize) -> Config<usize>
         ensures { state_settings_of result ≡ record (state_settings_of self) { limit = Some bytes } }
     {

@@ -4,7 +4,7 @@ ghost use Rattle.rc_settings.specs.Thompson.{settings_of, unset, overwritten, ut
 
 use crate::which::WhichCaptures;
 
-/// The settings of a program. One that isn't set has its default.
+/// The settings of a program. A setting that isn't set has its default.
 #[derive(Clone, Copy, Debug)]
 pub struct Config {
     utf8: Option<bool>,
@@ -14,7 +14,7 @@ pub struct Config {
 }
 
 impl Config {
-    /// Nothing is set.
+    /// Returns settings with nothing set.
     pub fn new() -> Config
         ensures { settings_of result ≡ unset }
     {
@@ -26,7 +26,7 @@ impl Config {
         }
     }
 
-    /// Whether empty matches stand on boundaries alone; true where it isn't set.
+    /// Whether empty matches occur only on character boundaries; true if it isn't set.
     pub fn utf8(mut self, yes: bool) -> Config
         ensures { settings_of result ≡ record (settings_of self) { utf8 = Some yes } }
     {
@@ -34,7 +34,7 @@ impl Config {
         self
     }
 
-    /// The limit on 32 times the weight of the patterns; `None`, for no limit, where it isn't set.
+    /// The limit on 32 times the weight of the patterns; `None`, for no limit, if it isn't set.
     pub fn nfa_size_limit(mut self, value: Option<usize>) -> Config
         ensures { settings_of result ≡ record (settings_of self) { nfa_size_limit = Some value } }
     {
@@ -42,7 +42,7 @@ impl Config {
         self
     }
 
-    /// Which groups are kept; all where it isn't set.
+    /// Which groups are kept; all if it isn't set.
     pub fn which_captures(mut self, value: WhichCaptures) -> Config
         ensures { settings_of result ≡ record (settings_of self) { which_captures = Some value } }
     {
@@ -50,7 +50,7 @@ impl Config {
         self
     }
 
-    /// The byte that ends a line for `^` and `$`; 10 where it isn't set.
+    /// The byte that ends a line for `^` and `$`; 10 if it isn't set.
     pub fn line_terminator(mut self, byte: u8) -> Config
         ensures { settings_of result ≡ record (settings_of self) { line_terminator = Some byte } }
     {
@@ -58,7 +58,7 @@ impl Config {
         self
     }
 
-    /// Whether empty matches stand on boundaries alone.
+    /// Whether empty matches occur only on character boundaries.
     pub fn get_utf8(&self) -> bool
         ensures { result ≡ utf8_of (settings_of self.now) }
     {
@@ -86,7 +86,7 @@ impl Config {
         self.line_terminator.unwrap_or(b'\n')
     }
 
-    /// Takes over what `new` sets, and keeps what it doesn't.
+    /// Takes each setting that `new` sets, and keeps the others.
     pub fn overwrite(&mut self, new: &Config)
         ensures { settings_of self.new ≡ overwritten (settings_of self.old) (settings_of new.now) }
     {

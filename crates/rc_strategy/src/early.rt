@@ -57,8 +57,8 @@ fn find_up_to<C: Cursor>(
     found
 }
 
-/// Some match, where any is enough: a pass ends at the first position at which one ends, and a search up to there finds it. Where needles alone
-/// tell the match, no pass is made.
+/// Some match, if any is enough: a pass ends at the first position at which one ends, and a search
+/// up to there finds it. If needles alone decide the match, no pass is made.
 fn find_by_pass<C: Cursor>(
     engine: &Engine,
     cache: &mut cache::Cache,
@@ -84,8 +84,8 @@ fn find_by_pass<C: Cursor>(
     engine.find(cache, input)
 }
 
-/// A match that the tables tell, under the input's flag: forwards, from needle to needle where some are given, and then backwards. An `Err` says why
-/// they tell none.
+/// A match that the tables find, under the input's flag: forwards, from needle to needle if some
+/// are given, and then backwards. An `Err` says why they find none.
 fn find_along<H: Halves, C: Cursor>(
     engines: &Engines,
     halves: &H,
@@ -111,7 +111,8 @@ fn find_along<H: Halves, C: Cursor>(
     }
 }
 
-/// A match that the tables tell by the route of the search, under the input's flag. An `Err` says why they tell none.
+/// A match that the tables find by the route of the search, under the input's flag. An `Err` says
+/// why they find none.
 fn find_by_tables<H: Halves, C: Cursor>(
     engines: &Engines,
     halves: &H,
@@ -134,8 +135,8 @@ fn find_by_tables<H: Halves, C: Cursor>(
     }
 }
 
-/// A match that tables tell, under the input's flag: those of all states, or else those whose states the cache holds. With None there are neither,
-/// or they tell none.
+/// A match that tables find, under the input's flag: those of all states, or else those whose
+/// states the cache holds. With None there are neither, or they find none.
 fn find_in<C: Cursor>(
     engines: &Engines,
     cache: &mut Option<lazy::Cache>,
@@ -159,9 +160,11 @@ fn find_in<C: Cursor>(
     }
 }
 
-/// The match that a search finds, under the input's flag: with the flag off, or where matches are passed over, that of `Engines::find`; else some
-/// match, and nothing is read beyond the first position at which one ends, unless each ends where the slice does or needles alone tell the match.
-/// There it is read once more, and by tables backwards. It takes memory as `Engines::find` does.
+/// The match that a search finds, under the input's flag: with the flag off, or if matches are
+/// passed over, that of `Engines::find`; otherwise some match, and nothing is read beyond the first
+/// position at which one ends, unless each ends where the slice does or needles alone decide the
+/// match. There it is read once more, and by tables backwards. It takes memory as `Engines::find`
+/// does.
 pub fn search<C: Cursor>(
     engines: &Engines,
     cache: &mut Cache,
@@ -203,7 +206,8 @@ pub fn search_end<C: Cursor>(
     engines.find_end(cache, input)
 }
 
-/// The match that `search` finds, in a cache that is made for this search, as by `Engines::find_once`. An `Err` is want of memory.
+/// The match that `search` finds, in a cache that is made for this search, as by
+/// `Engines::find_once`. An `Err` means out of memory.
 pub fn search_once<C: Cursor>(
     engines: &Engines,
     alloc: Global,
@@ -231,7 +235,7 @@ pub fn search_once<C: Cursor>(
     Ok(found)
 }
 
-/// The end of the match that `search_once` finds, and its pattern. An `Err` is want of memory.
+/// The end of the match that `search_once` finds, and its pattern. An `Err` means out of memory.
 pub fn search_end_once<C: Cursor>(
     engines: &Engines,
     alloc: Global,

@@ -35,28 +35,30 @@ use rc_text::input::Input;
 use rc_text::types::{HalfMatch, Match, MatchError, MatchKind, PatternID, Span};
 use std::alloc::{AllocError, Global};
 
-/// Up to so many patterns the pass seeks a match with its groups.
+/// Up to this many patterns the pass seeks a match with its groups.
 const FEW_PATTERNS: usize = 8;
 
 /// Which tables may be made.
 #[derive(Clone, Copy, Debug, PartialEq, Eq)]
 pub struct Limits {
-    /// Whether tables of all states may.
+    /// Whether the full DFA may.
     pub dfa: bool,
-    /// How many places the byte program may have at most for tables of all states. With None it may have any number.
+    /// How many places the byte program may have at most for the full DFA. With None it may have
+    /// any number.
     pub state_limit: Option<usize>,
-    /// How many bytes what holds all states of one direction may weigh at most. With None it may weigh anything.
+    /// How many bytes what holds all states of one direction may weigh at most. With None it may
+    /// weigh anything.
     pub size_limit: Option<usize>,
-    /// Whether tables may whose states are made as they are met.
+    /// Whether tables may whose states are made as they are found.
     pub hybrid: bool,
-    /// How many bytes the states that were met may weigh in each direction, before all are let go.
+    /// How many bytes the states built so far may weigh in each direction, before all are dropped.
     pub capacity: usize,
-    /// Whether bytes that no step tells apart are of one class.
+    /// Whether bytes that no step distinguishes are of one class.
     pub byte_classes: bool,
 }
 
-/// The engines by which some patterns are searched for: tables of all states or of those that were met, where there are some, and the ordered
-/// pass.
+/// The engines by which some patterns are searched for: the full DFA or the lazy DFA, if there are
+/// some, and the ordered pass.
 #[derive(Drop)]
 pub struct Engines {
     /// The ordered pass, and the needles.
@@ -65,7 +67,7 @@ pub struct Engines {
     pub(crate) lazy: Option<Lazy>,
     pub(crate) patterns: usize,
     pub(crate) spans: Spans,
-    /// Needles that each match holds, where searches go by them.
+    /// Needles that each match holds, if searches go by them.
     pub(crate) needs: Option<Needs>,
     /// Whether needles with which walks begin are sought fast.
     pub(crate) sought_fast: bool,
@@ -105,12 +107,15 @@ impl Engines {
     ghost use Rattle.rc_strategy.specs.Spans.{BoundsWalks, IsOneLength, SeeksFromEnd, is_leftmost};
     ghost use Rattle.rc_strategy.specs.Tables.{AreHalvesFor, aim_of, bytes_taken};
 
-    /// The engines of so many patterns, whose program `engine` searches, with tables where the limits allow some. An `Err` is want of memory.
+    /// The engines of this many patterns, whose program `engine` searches, with tables if the
+    /// limits allow some. An `Err` means out of memory.
     ///
-    /// Tables of all states are made where `dfa` is set, the byte program has no more places than `state_limit`, and in each direction what holds
-    /// the states weighs no more than `size_limit`; and none where needles alone tell each answer. Where none are, tables whose states are made
-    /// as they are met are there if `hybrid` is set and `capacity` is no less than the least that serves. `spans` is what the patterns' spans
-    /// keep to, and `needs` what each match holds, by which searches go where no needles guard them that are sought fast.
+    /// Tables of all states are made if `dfa` is set, the byte program has no more places than
+    /// `state_limit`, and in each direction what holds the states weighs no more than `size_limit`;
+    /// and none if needles alone decide each answer. If none are, the lazy DFA is there if `hybrid`
+    /// is set and `capacity` is no less than the least that serves. `spans` is what the patterns'
+    /// spans keep to, and `needs` what each match holds, by which searches go if no needles guard
+    /// them that are sought fast.
     pub fn new(
         alloc: Global,
         engine: Engine,
@@ -145,14 +150,14 @@ impl Engines {
         })
     }
 
-    /// Whether there are tables of all states.
+    /// Whether there is a full DFA.
     pub fn has_tables(&self) -> bool
         ensures { result ≡ is_some self.now.tables }
     {
         self.tables.is_some()
     }
 
-    /// How many bytes the tables of all states take, or `usize::MAX` where that is more; 0 where there are none.
+    /// How many bytes the the full DFA take, or `usize::MAX` if that is more; 0 if there are none.
     pub fn memory_usage(&self) -> usize
         ensures { result ≡ bytes_taken self.now.tables }
     {
@@ -162,8 +167,8 @@ impl Engines {
         }
     }
 
-    /// A cache for searches by these engines, with at most so many slots: for the pass, and for the tables whose states are made as they are met,
-    /// where there are some. An `Err` is want of memory.
+    /// A cache for searches by these engines, with at most this many slots: for the pass, and for
+    /// the the lazy DFA, if there are some. An `Err` means out of memory.
     pub fn create_cache(&self, alloc: Global, slots: usize) -> Result<Cache, AllocError>
         ensures made { IfOk result (IsCacheIn self.now slots) }
         ensures both { IfOk result (λ cache. is_some cache.lazy ≡ is_some self.now.lazy) }
@@ -192,7 +197,8 @@ impl Engines {
         }
     }
 
-    /// The match of the least start, sought from where the search ends. An `Err` says why the tables tell none.
+    /// The match of the least start, sought from where the search ends. An `Err` says why the
+    /// tables find none.
     pub(crate) fn find_from_end<H: Halves, C: Cursor>(
         &self,
         halves: &H,
@@ -210,7 +216,8 @@ impl Engines {
         search::find_to_end(halves, cache, input, self.aim())
     }
 
-    /// The match that the tables tell, by the route of the search. An `Err` says why they tell none.
+    /// The match that the tables find, by the route of the search. An `Err` says why they find
+    /// none.
     #[inline(always)]
     fn find_by_tables<H: Halves, C: Cursor>(
         &self,
@@ -235,7 +242,8 @@ impl Engines {
         }
     }
 
-    /// The match that the tables tell, from needle to needle where some are given. An `Err` says why they tell none.
+    /// The match that the tables find, from needle to needle if some are given. An `Err` says why
+    /// they find none.
     #[inline(always)]
     fn find_along<H: Halves, C: Cursor>(
         &self,
@@ -261,8 +269,9 @@ impl Engines {
         }
     }
 
-    /// The match that the tables tell by needles that are sought fast. Where each match begins with one, the first is asked first whether a match
-    /// begins there. An `Err` says why they tell none.
+    /// The match that the tables find by needles that are sought fast. If each match begins with
+    /// one, the first is asked first whether a match begins there. An `Err` says why they find
+    /// none.
     #[inline(always)]
     fn find_by_needles<H: Halves, C: Cursor>(
         &self,
@@ -285,8 +294,8 @@ impl Engines {
         }
     }
 
-    /// The match that the tables tell where each walk begins with a needle that is sought fast: the first is asked first whether a match begins
-    /// there. An `Err` says why they tell none.
+    /// The match that the tables find if each walk begins with a needle that is sought fast: the
+    /// first is asked first whether a match begins there. An `Err` says why they find none.
     #[inline(always)]
     fn find_by_begin<H: Halves, C: Cursor>(
         &self,
@@ -306,7 +315,7 @@ impl Engines {
         find_first(halves, cache, input, self.aim(), needles, true)
     }
 
-    /// The match that the tables tell from needle to needle. An `Err` says why they tell none.
+    /// The match that the tables find from needle to needle. An `Err` says why they find none.
     #[inline(always)]
     fn find_by_guard<H: Halves, C: Cursor>(
         &self,
@@ -326,9 +335,10 @@ impl Engines {
         find_guarded(halves, cache, input, self.aim(), guard)
     }
 
-    /// The match that the tables tell where each walk begins with a needle: it is sought where the first may begin, and then along. Where the
-    /// tables quit, they go once more, from needle to needle: fewer bytes are read then, and so fewer that they don't read. An `Err` says why
-    /// they tell none.
+    /// The match that the tables find if each walk begins with a needle: it is sought where the
+    /// first may begin, and then along. If the tables quit, they go once more, from needle to
+    /// needle: fewer bytes are read then, and so fewer that they don't read. An `Err` says why they
+    /// find none.
     #[inline(always)]
     fn find_past_quit<H: Halves, C: Cursor>(
         &self,
@@ -352,8 +362,9 @@ impl Engines {
         found
     }
 
-    /// The end of the match of the least start, the preferred one or the longest, and its pattern, which the tables tell by searches forwards
-    /// alone, from needle to needle where some are given. An `Err` says why they tell none.
+    /// The end of the match of the least start, the preferred one or the longest, and its pattern,
+    /// which the tables find by searches forwards alone, from needle to needle if some are given.
+    /// An `Err` says why they find none.
     fn find_first_end<H: Halves, C: Cursor>(
         &self,
         halves: &H,
@@ -377,8 +388,8 @@ impl Engines {
         }
     }
 
-    /// The match of the least start, where each is of this length: from where it ends nothing is searched backwards. An `Err` says why the tables
-    /// tell none.
+    /// The match of the least start, if each is of this length: from where it ends nothing is
+    /// searched backwards. An `Err` says why the tables find none.
     fn find_of_length<H: Halves, C: Cursor>(
         &self,
         halves: &H,
@@ -405,8 +416,9 @@ impl Engines {
         Ok(Some(Match::new(half.pattern(), Span { start, end })))
     }
 
-    /// The end of the match that the tables tell, and its pattern. An `Err` says why they tell none. Where each match counts, the pattern is
-    /// known once the start is; and where each match ends where the search does, the end once there is a start.
+    /// The end of the match that the tables find, and its pattern. An `Err` says why they find
+    /// none. If each match counts, the pattern is known once the start is; and if each match ends
+    /// where the search does, the end once there is a start.
     fn find_end_by_tables<H: Halves, C: Cursor>(
         &self,
         halves: &H,
@@ -430,7 +442,8 @@ impl Engines {
         }
     }
 
-    /// The end of the match that `find_along` tells, and its pattern. That of the least start is told by searches forwards alone.
+    /// The end of the match that `find_along` tells, and its pattern. That of the least start is
+    /// told by searches forwards alone.
     fn find_end_along<H: Halves, C: Cursor>(
         &self,
         halves: &H,
@@ -454,8 +467,9 @@ impl Engines {
         }
     }
 
-    /// Whether the tables tell a match, from needle to needle where needles guard the patterns. An `Err` says why they tell nothing. Unless matches
-    /// are passed over, nothing is read beyond the first position at which some match ends.
+    /// Whether the tables find a match, from needle to needle if needles guard the patterns. An
+    /// `Err` says why they find nothing. Unless matches are passed over, nothing is read beyond the
+    /// first position at which some match ends.
     fn any_by_tables<H: Halves, C: Cursor>(
         &self,
         halves: &H,
@@ -479,7 +493,8 @@ impl Engines {
         }
     }
 
-    /// Whether the tables tell a match, forwards, from needle to needle where some are given. An `Err` says why they tell nothing.
+    /// Whether the tables find a match, forwards, from needle to needle if some are given. An `Err`
+    /// says why they find nothing.
     fn any_along<H: Halves, C: Cursor>(
         &self,
         halves: &H,
@@ -506,7 +521,8 @@ impl Engines {
         Ok(half.is_some())
     }
 
-    /// Whether tables tell a match: those of all states, or else those whose states the cache holds. With None there are neither, or they tell nothing.
+    /// Whether tables find a match: those of all states, or else those whose states the cache
+    /// holds. With None there are neither, or they find nothing.
     pub(crate) fn any_in<C: Cursor>(
         &self,
         cache: &mut Option<lazy::Cache>,
@@ -529,7 +545,8 @@ impl Engines {
         }
     }
 
-    /// The match that tables tell: those of all states, or else those whose states the cache holds. With None there are neither, or they tell none.
+    /// The match that tables find: those of all states, or else those whose states the cache holds.
+    /// With None there are neither, or they find none.
     pub(crate) fn find_in<C: Cursor>(
         &self,
         cache: &mut Option<lazy::Cache>,
@@ -553,7 +570,7 @@ impl Engines {
         }
     }
 
-    /// The end of the match that tables tell, and its pattern, as `find_in`.
+    /// The end of the match that tables find, and its pattern, as `find_in`.
     pub(crate) fn find_end_in<C: Cursor>(
         &self,
         cache: &mut Option<lazy::Cache>,
@@ -577,8 +594,8 @@ impl Engines {
         }
     }
 
-    /// Whether a search finds a match. It takes no memory but for states. Nothing is read beyond the first position at which some match ends,
-    /// unless matches are passed over.
+    /// Whether a search finds a match. It takes no memory but for states. Nothing is read beyond
+    /// the first position at which some match ends, unless matches are passed over.
     pub fn is_match<C: Cursor>(&self, cache: &mut Cache, input: &mut Input<C>) -> bool
         requires made { IsCacheIn self.now 0 cache.old }
         ensures keeps { Keeps input.old input.new }
@@ -594,10 +611,11 @@ impl Engines {
         self.engine.is_match(&mut cache.pass, input)
     }
 
-    /// The match that a search finds. Where what is known of the patterns' spans leaves none between its bounds, nothing is searched. Else
-    /// needles tell it where they alone do, else the tables, and where there are none, or they quit or give up, the pass. The earliest flag is not
-    /// read. It takes no memory but for states that are met for the first time, within the cache's capacity; where that is refused, the pass
-    /// tells the match.
+    /// The match that a search finds. If what is known of the patterns' spans leaves none between
+    /// its bounds, nothing is searched. Otherwise, needles decide it if they alone can, else the
+    /// tables, and if there are none, or they quit or give up, the pass. The earliest flag is not
+    /// read. It takes no memory but for states that are found for the first time, within the
+    /// cache's capacity; if that is refused, the pass tells the match.
     pub fn find<C: Cursor>(&self, cache: &mut Cache, input: &mut Input<C>) -> Option<Match>
         requires made { IsCacheIn self.now 0 cache.old }
         ensures keeps { Keeps input.old input.new }
@@ -614,8 +632,8 @@ impl Engines {
         self.engine.find(&mut cache.pass, input)
     }
 
-    /// The end of the match that `find` finds, and its pattern. It takes memory as `find` does. Where tables tell the preferred match, nothing is searched
-    /// backwards.
+    /// The end of the match that `find` finds, and its pattern. It takes memory as `find` does. If
+    /// tables find the preferred match, nothing is searched backwards.
     pub fn find_end<C: Cursor>(&self, cache: &mut Cache, input: &mut Input<C>) -> Option<HalfMatch>
         requires made { IsCacheIn self.now 0 cache.old }
         ensures keeps { Keeps input.old input.new }
@@ -632,16 +650,18 @@ impl Engines {
         half_of(self.engine.find(&mut cache.pass, input))
     }
 
-    /// Whether the pass seeks the match alone before its groups: each of its threads has the slots of all patterns, and where these are many, they
-    /// would be handed on at each byte for each pattern.
+    /// Whether the pass seeks the match alone before its groups: each of its threads has the slots
+    /// of all patterns, and if these are many, they would be handed on at each byte for each
+    /// pattern.
     fn finds_first(&self) -> bool {
         self.patterns > FEW_PATTERNS
     }
 
-    /// The pattern that a search finds, with the first of its slots. Without a match the slots stay. It takes memory as `find` does.
+    /// The pattern that a search finds, with the first of its slots. Without a match the slots
+    /// stay. It takes memory as `find` does.
     ///
-    /// Where tables tell the match and its groups are asked for, a pass over its span alone tells them. So it goes too where there are no tables
-    /// but many patterns.
+    /// If tables find the match and its groups are asked for, a pass over its span alone tells
+    /// them. So it goes too if there are no tables but many patterns.
     pub fn find_slots<C: Cursor>(
         &self,
         cache: &mut Cache,
@@ -676,9 +696,9 @@ impl Engines {
         self.engine.find_slots(&mut cache.pass, input, slots)
     }
 
-    /// The next match of a list: the match from where the span starts, and where that is empty and ends at `last`, the match from
-    /// a byte later. The span then starts where the match was looked for. It takes memory as `find`
-    /// does.
+    /// The next match of a list: the match from where the span starts, and if that is empty and
+    /// ends at `last`, the match from a byte later. The span then starts where the match was looked
+    /// for. It takes memory as `find` does.
     pub fn next_match<C: Cursor>(
         &self,
         cache: &mut Cache,
@@ -705,8 +725,8 @@ impl Engines {
         self.find(cache, input)
     }
 
-    /// Writes the match that a search finds, with its groups, into captures of the patterns of these names. Without a match they
-    /// hold none. It takes memory as `find` does.
+    /// Writes the match that a search finds, with its groups, into captures of the patterns of
+    /// these names. Without a match they hold none. It takes memory as `find` does.
     pub fn find_captures<C: Cursor>(
         &self,
         cache: &mut Cache,

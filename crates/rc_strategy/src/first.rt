@@ -23,11 +23,12 @@ use rc_text::cursor::Cursor;
 use rc_text::input::{Input, high, low, piece_from};
 use rc_text::types::{Anchored, Match, MatchError, Span};
 
-/// So many bytes are looked at one by one, before the next needle is sought.
+/// This many bytes are looked at one by one, before the next needle is sought.
 const NEAR: usize = 16;
 
-/// Whether a search asks first whether a match begins where the first one may: it isn't anchored, and seeks the match of the least start alone, the
-/// preferred one or the longest, none of which is passed over.
+/// Whether a search asks first whether a match begins where the first one may: it isn't anchored,
+/// and seeks the match of the least start alone, the preferred one or the longest, none of which is
+/// passed over.
 #[inline(always)]
 fn asks_first(aim: Aim, anchored: Anchored) -> bool
     ensures { IsTrue result ↔ AsksFirst aim anchored }
@@ -56,7 +57,8 @@ fn begin_none(needles: &Prefilter, piece: &[u8]) -> usize
     piece.len()
 }
 
-/// Where the first match may begin from a position on, if each begins with a needle: none begins before. With None there is none at all.
+/// Where the first match may begin from a position on, if each begins with a needle: none begins
+/// before. With None there is none at all.
 #[inline(always)]
 fn first_start<C: Cursor>(
     input: &mut Input<C>,
@@ -86,7 +88,7 @@ fn first_start<C: Cursor>(
     Some(start.from)
 }
 
-/// The same by needles that are sought fast: where the first of them stands.
+/// The same by needles that are sought fast: where the first of them occurs.
 #[inline(always)]
 fn needle_start<C: Cursor>(
     input: &mut Input<C>,
@@ -128,7 +130,8 @@ fn start_by<C: Cursor>(
     first_start(input, needles, from, end)
 }
 
-/// The match of the kind that begins at the position, if one does. An `Err` says why the tables tell nothing.
+/// The match of the kind that begins at the position, if one does. An `Err` says why the tables
+/// find nothing.
 #[inline(always)]
 fn find_here<H: Halves, C: Cursor>(
     halves: &H,
@@ -156,7 +159,7 @@ fn find_here<H: Halves, C: Cursor>(
     Ok(Some(Match::new(pattern, Span { start: from, end })))
 }
 
-/// The match that `find` finds where the span begins later. The input's span stays.
+/// The match that `find` finds if the span begins later. The input's span stays.
 #[inline(never)]
 pub(crate) fn find_later<H: Halves, C: Cursor>(
     halves: &H,
@@ -181,7 +184,8 @@ pub(crate) fn find_later<H: Halves, C: Cursor>(
     found
 }
 
-/// The match that `find_later` finds, where each begins with a needle: from needle to needle where these are sought fast.
+/// The match that `find_later` finds, if each begins with a needle: from needle to needle if these
+/// are sought fast.
 #[inline(never)]
 fn find_on<H: Halves, C: Cursor>(
     halves: &H,
@@ -211,8 +215,8 @@ fn find_on<H: Halves, C: Cursor>(
     found
 }
 
-/// The match of the least start, where each begins with a needle: a run from where the first may begin tells it, if one begins there; else it is
-/// sought from there on.
+/// The match of the least start, if each begins with a needle: a run from where the first may begin
+/// tells it, if one begins there; otherwise it is sought from there on.
 #[inline(always)]
 fn find_by_first<H: Halves, C: Cursor>(
     halves: &H,
@@ -244,9 +248,10 @@ fn find_by_first<H: Halves, C: Cursor>(
     find_on(halves, cache, input, aim, needles, are_fast, from)
 }
 
-/// The match that `find` finds, where each begins with a needle. A search for that of the least start, which isn't anchored and passes none over,
-/// asks first whether one begins where the first may; where none does, it goes on from needle to needle if these are sought fast. Each other
-/// search is that of `find`.
+/// The match that `find` finds, if each begins with a needle. A search for that of the least start,
+/// which isn't anchored and passes none over, asks first whether one begins where the first may; if
+/// none does, it goes on from needle to needle if these are sought fast. Each other search is that
+/// of `find`.
 #[inline(always)]
 pub(crate) fn find_first<H: Halves, C: Cursor>(
     halves: &H,

@@ -13,7 +13,8 @@ use rc_text::cursor::Cursor;
 use rc_text::input::Input;
 use rc_text::types::{Match, MatchError};
 
-/// The greatest match, sought from where the search ends: the one from the least start that leads there. An `Err` says why the tables tell none.
+/// The greatest match, sought from where the search ends: the one from the least start that leads
+/// there. An `Err` says why the tables find none.
 pub(crate) fn find_greatest_from_end<H: Halves, C: Cursor>(
     engines: &Engines,
     halves: &H,

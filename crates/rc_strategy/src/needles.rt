@@ -33,7 +33,7 @@ enum Leg {
     Later(usize),
 }
 
-/// What is told by what was met.
+/// What is told by what was found.
 fn met_leg(met: Option<Met>) -> Leg
     ensures { result ≡ met_leg met }
 {
@@ -43,7 +43,7 @@ fn met_leg(met: Option<Met>) -> Leg
     }
 }
 
-/// What is told where a run rests that began at `from`.
+/// What is told if a run rests that began at `from`.
 fn idle_leg(at: usize, from: usize, bound: usize) -> Leg
     ensures { result ≡ idle_leg at from bound }
 {
@@ -65,7 +65,8 @@ fn leg_of(ended: Ended, from: usize, bound: usize) -> Result<Leg, MatchError>
     }
 }
 
-/// What a run from one position on tells, which stops at the first position at which a match ends. It may rest, from `rest_from` on.
+/// What a run from one position on tells, which stops at the first position at which a match ends.
+/// It may rest, from `rest_from` on.
 fn run_leg<H: Halves, C: Cursor>(
     halves: &H,
     cache: &mut H::Cache,
@@ -130,7 +131,8 @@ fn start_by_needles<H: Halves, C: Cursor>(
     }
 }
 
-/// Whether such a search goes from needle to needle: it isn't anchored, any match is enough, and none is passed over.
+/// Whether such a search goes from needle to needle: it isn't anchored, any match is enough, and
+/// none is passed over.
 fn goes_early(aim: Aim, anchored: Anchored) -> bool
     ensures { IsTrue result ↔ GoesEarly aim anchored }
 {
@@ -169,9 +171,10 @@ fn find_by_needles<H: Halves, C: Cursor>(
     find_later(halves, cache, input, aim, from)
 }
 
-/// The match that `find` finds, by needles that guard the patterns: each match begins with one of them, or holds one. A search that isn't anchored goes
-/// from needle to needle wherever nothing is under way, if any match is enough, none is passed over, and not each match counts. Each other search
-/// is that of `find`.
+/// The match that `find` finds, by needles that guard the patterns: each match begins with one of
+/// them, or holds one. A search that isn't anchored goes from needle to needle wherever nothing is
+/// under way, if any match is enough, none is passed over, and not each match counts. Each other
+/// search is that of `find`.
 pub(crate) fn find_early_guarded<H: Halves, C: Cursor>(
     halves: &H,
     cache: &mut H::Cache,

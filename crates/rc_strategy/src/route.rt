@@ -14,9 +14,9 @@ use rc_text::types::{Anchored, MatchKind};
 pub(crate) enum Way<'a> {
     /// By those of all states.
     AllStates(&'a Dense),
-    /// By those whose states are made as they are met.
+    /// By the lazy DFA.
     MetStates(&'a Lazy),
-    /// By none: needles alone tell the answer, or the pass does.
+    /// By none: needles alone decide the answer, or the pass does.
     NoTables,
 }
 
@@ -27,10 +27,10 @@ pub(crate) enum Route<'a> {
     FromEnd,
     /// The same for the greatest match.
     GreatestFromEnd,
-    /// Forwards, from needle to needle where something guards the search, to the end of a match of this length in bytes. Nothing is searched
-    /// backwards.
+    /// Forwards, from needle to needle if something guards the search, to the end of a match of
+    /// this length in bytes. Nothing is searched backwards.
     OfLength(usize, Option<Guard<'a>>),
-    /// Forwards, from needle to needle where something guards the search, and then backwards.
+    /// Forwards, from needle to needle if something guards the search, and then backwards.
     Along(Option<Guard<'a>>),
 }
 
@@ -39,8 +39,8 @@ impl Engines {
     ghost use Rattle.rc_strategy.specs.Route.{GoesBy, MayGuard, Relies};
     ghost use Rattle.rc_strategy.specs.Spans.{IsOneLength, SeeksFromEnd, SeeksGreatestFromEnd, is_leftmost};
 
-    /// By what a search goes: by tables of all states, where there are some; else by those whose states are made as they are met, where there are
-    /// some and a cache holds their states, as `has_states` says.
+    /// By what a search goes: by the full DFA, if there are some; otherwise by the lazy DFA, if
+    /// there are some and a cache holds their states, as `has_states` says.
     #[inline(always)]
     pub(crate) fn way(&self, has_states: bool) -> Way
         ensures { GoesBy self.now has_states result }
@@ -74,8 +74,8 @@ impl Engines {
         }
     }
 
-    /// Whether the match of the least start is sought from where the search ends: each match ends where the slice does, not each begins where it
-    /// does, and the search isn't anchored.
+    /// Whether the match of the least start is sought from where the search ends: each match ends
+    /// where the slice does, not each begins where it does, and the search isn't anchored.
     #[inline(always)]
     fn seeks_from_end<C: Cursor>(&self, input: &Input<C>) -> bool
         ensures { IsTrue result ↔ SeeksFromEnd self.now.engine.kind self.now.spans input.now }
@@ -99,7 +99,7 @@ impl Engines {
         }
     }
 
-    /// The length of each match, where all are of one and that of the least start is sought.
+    /// The length of each match, if all are of one and that of the least start is sought.
     #[inline(always)]
     fn only_length(&self) -> Option<usize>
         ensures { IfSome result (λ n. (is_leftmost self.now.engine.kind ≡ true) × IsOneLength self.now.spans n) }
@@ -110,8 +110,8 @@ impl Engines {
         }
     }
 
-    /// By what a search goes from needle to needle: by the needles where walks begin, where these are sought fast, else by those that each match
-    /// holds.
+    /// By what a search goes from needle to needle: by the needles where walks begin, if these are
+    /// sought fast, else by those that each match holds.
     #[inline(always)]
     fn guard(&self) -> Option<Guard>
         ensures { MayGuard self.now.engine result }

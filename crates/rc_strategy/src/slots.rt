@@ -31,8 +31,8 @@ fn put_span(found: Match, slots: &mut [Option<usize>])
     }
 }
 
-/// The slots of the preferred match, which a pass over its span alone tells. It enters at the place of the match's pattern, and so at no other
-/// pattern's. The input's span and anchoring stay.
+/// The slots of the preferred match, which a pass over its span alone tells. It enters at the place
+/// of the match's pattern, and so at no other pattern's. The input's span and anchoring stay.
 fn search_span<C: Cursor>(
     engine: &Engine,
     cache: &mut Cache,
@@ -59,8 +59,9 @@ fn search_span<C: Cursor>(
     input.set_span(span);
 }
 
-/// The first slots of the match that a search of the input finds, as many as are handed in. Where these are but those of whole matches, no
-/// pass is made. `patterns` is how many patterns there are.
+/// The first slots of the match that a search of the input finds, as many as are passed in. If
+/// these are but those of whole matches, no pass is made. `patterns` is how many patterns there
+/// are.
 pub(crate) fn fill_slots<C: Cursor>(
     engine: &Engine,
     cache: &mut Cache,

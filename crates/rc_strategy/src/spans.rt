@@ -19,7 +19,7 @@ pub struct Spans {
     ends: bool,
 }
 
-/// The greater of two bounds, where both are known.
+/// The greater of two bounds, if both are known.
 fn greater(left: Option<usize>, right: Option<usize>) -> Option<usize>
     ensures { result ≡ both (λ m n. Some (max m n)) left right }
 {
@@ -95,7 +95,7 @@ impl Spans {
         self.ends && end < input.get_slice_span().end && byte_at(input, end).is_some()
     }
 
-    /// Whether each span is longer than so many bytes.
+    /// Whether each span is longer than this many bytes.
     #[inline(always)]
     fn are_longer(&self, length: usize) -> bool
         ensures { result ≡ are_longer self.now length }
@@ -103,7 +103,7 @@ impl Spans {
         length < self.least
     }
 
-    /// Whether each span is shorter than so many bytes.
+    /// Whether each span is shorter than this many bytes.
     #[inline(always)]
     fn are_shorter(&self, length: usize) -> bool
         ensures { result ≡ are_shorter self.now length }
@@ -122,7 +122,7 @@ impl Spans {
         self.ends && (self.begins || input.get_anchored().is_anchored())
     }
 
-    /// The length of each span, where all are known to be of one.
+    /// The length of each span, if all are known to be of one.
     #[inline(always)]
     pub fn only_length(&self) -> Option<usize>
         ensures { IfSome result (λ n. IsOneLength self.now n) }
@@ -141,10 +141,10 @@ impl Spans {
         self.ends && !self.begins
     }
 
-    /// Whether there can be no match: each would begin before the search or end behind it, or be longer than what is searched, or, where
-    /// it has to fill that, shorter.
+    /// Whether there can be no match: each would begin before the search or end behind it, or be
+    /// longer than what is searched, or, if it has to fill that, shorter.
     ///
-    /// Where the cursor tells no total, this goes where the content ends.
+    /// If the cursor knows no total, this goes where the content ends.
     #[inline(always)]
     pub fn leave_none<C: Cursor>(&self, input: &mut Input<C>) -> bool
         ensures keeps { Keeps input.old input.new }

@@ -25,14 +25,14 @@ use rc_pikevm_search::engine::Engine;
 use rc_pikevm_search::strategy::{Strategy, guards_of, literals_of};
 use std::alloc::{AllocError, Global};
 
-/// Tables of all states, or tables whose states are made as they are met, or neither.
+/// Tables of all states, or the lazy DFA, or neither.
 #[derive(Drop)]
 pub(crate) struct Tables {
     pub(crate) dense: Option<Dense>,
     pub(crate) lazy: Option<Lazy>,
 }
 
-/// Whether a program of so many places has more than the limit allows.
+/// Whether a program of this many places has more than the limit allows.
 fn exceeds(places: usize, limit: Option<usize>) -> bool
     ensures { IsTrue result ↔ IsSomeAnd limit (λ most. most < places) }
 {
@@ -42,8 +42,9 @@ fn exceeds(places: usize, limit: Option<usize>) -> bool
     }
 }
 
-/// Whether needles with which walks begin are sought fast, so that searches by tables go from one to the next. Where a search for them would go
-/// by a table of first bytes, the tables of states read a byte as fast, and need not begin anew at each needle.
+/// Whether needles with which walks begin are sought fast, so that searches by tables go from one
+/// to the next. If a search for them would go by a table of first bytes, the tables of states read
+/// a byte as fast, and need not begin anew at each needle.
 pub(crate) fn are_fast(strategy: &Strategy) -> bool {
     match guards_of(strategy) {
         Some(needles) => needles.is_fast(),
@@ -51,8 +52,9 @@ pub(crate) fn are_fast(strategy: &Strategy) -> bool {
     }
 }
 
-/// Whether searches by tables of all states are to rest between needles: where each match holds one, where those with which each begins are sought
-/// fast, and where some byte isn't read, since a search that met one goes from needle to needle.
+/// Whether searches by the full DFA are to rest between needles: if each match holds one, if those
+/// with which each begins are sought fast, and if some byte isn't read, since a search that found
+/// one goes from needle to needle.
 fn are_to_rest(strategy: &Strategy, needed: bool, automaton: &Automaton) -> bool {
     if needed {
         return true;
@@ -63,8 +65,9 @@ fn are_to_rest(strategy: &Strategy, needed: bool, automaton: &Automaton) -> bool
     }
 }
 
-/// The tables of all states of the automaton, which is that of so many patterns by their engine's program, where the limits allow some; with `needed`
-/// searches go by needles that each match holds. An `Err` is want of memory.
+/// The the full DFA of the automaton, which is that of this many patterns by their engine's
+/// program, if the limits allow some; with `needed` searches go by needles that each match holds.
+/// An `Err` means out of memory.
 fn dense_of(
     alloc: Global,
     engine: &Engine,
@@ -96,7 +99,7 @@ fn dense_of(
     }
 }
 
-/// The tables of the automaton whose states are made as they are met, where they are switched on and their capacity serves.
+/// The tables of the lazy DFA, if they are switched on and their capacity serves.
 fn lazy_of(automaton: Automaton, limits: Limits) -> Option<Lazy>
     ensures made { IfSome result (IsLazyOf automaton limits.capacity) }
     ensures off { limits.hybrid ≡ false → result ≡ None }
@@ -112,8 +115,9 @@ fn lazy_of(automaton: Automaton, limits: Limits) -> Option<Lazy>
     }
 }
 
-/// The tables of so many patterns by their engine's program, where the limits allow some. Where needles alone tell each answer, none are
-/// made. With `needed` searches go by needles that each match holds. An `Err` is want of memory.
+/// The tables of this many patterns by their engine's program, if the limits allow some. If needles
+/// alone decide each answer, none are made. With `needed` searches go by needles that each match
+/// holds. An `Err` means out of memory.
 pub(crate) fn tables_of(
     alloc: Global,
     engine: &Engine,

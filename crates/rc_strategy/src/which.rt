@@ -19,8 +19,8 @@ use rc_text::cursor::Cursor;
 use rc_text::input::{Input, low};
 use rc_text::types::{Match, MatchKind, PatternID};
 
-/// Puts into the set each of so many patterns that has a match, as far as the set can hold it: a pass from the start on before which no walk
-/// begins tells all. The input's span stays.
+/// Puts into the set each of this many patterns that has a match, as far as the set can hold it: a
+/// pass from the start on before which no walk begins tells all. The input's span stays.
 fn mark_from<C: Cursor>(
     engine: &Engine,
     cache: &mut cache::Cache,
@@ -42,7 +42,7 @@ fn mark_from<C: Cursor>(
     input.set_span(span);
 }
 
-/// Whether the set has each of so many patterns that it can hold.
+/// Whether the set has each of this many patterns that it can hold.
 fn has_all(set: &PatternSet, patterns: usize) -> bool
     ensures { IsTrue result → (p : ℕ) → p < patterns → p < length set.now → Has set.now p }
 {
@@ -67,7 +67,8 @@ impl Engines {
     ghost use Rattle.rc_strategy.specs.Starts.{IsFirstStart};
     ghost use Rattle.rc_pikevm.specs.PatternSpans.{AddsSpelled, AreOfFirst};
 
-    /// The match that needles alone tell, or tables. With None there are neither, or they tell none.
+    /// The match that needles alone tell, or tables. With None there are neither, or they find
+    /// none.
     fn find_told<C: Cursor>(&self, cache: &mut Cache, input: &mut Input<C>) -> Option<Option<Match>>
         requires made { IsCacheIn self.now 0 cache.old }
         ensures keeps { Keeps input.old input.new }
@@ -82,8 +83,8 @@ impl Engines {
 
     /// From where on a pass tells each walk: none begins before. With None there is none at all.
     ///
-    /// The preferred match begins at the least start of all walks, and so does the longest. Where each match counts, tables tell no more than
-    /// whether there is one.
+    /// The preferred match begins at the least start of all walks, and so does the longest. If each
+    /// match counts, tables tell no more than whether there is one.
     fn least_start<C: Cursor>(&self, cache: &mut Cache, input: &mut Input<C>) -> Option<usize>
         requires made { IsCacheIn self.now 0 cache.old }
         requires ordered { low input.old ≤ high input.old }
@@ -107,12 +108,15 @@ impl Engines {
         }
     }
 
-    /// Puts into the set each of so many patterns, all that there are, that has a match within the bounds, as far as the set can hold it.
-    /// What the set has stays. It takes no memory but for states, as `find` does.
+    /// Puts into the set each of this many patterns, all that there are, that has a match within
+    /// the bounds, as far as the set can hold it. What the set has stays. It takes no memory but
+    /// for states, as `find` does.
     ///
-    /// Where the set has each pattern that it can hold, or what is known of the patterns' spans leaves none between the bounds, nothing is
-    /// searched. Else a search as that of `find` tells where the first match begins, if there is one, and a pass from there on tells which
-    /// patterns have one; of one pattern the search alone tells. Where matches are passed over, which count here, the pass tells all.
+    /// If the set has each pattern that it can hold, or what is known of the patterns' spans leaves
+    /// none between the bounds, nothing is searched. Otherwise, a search as that of `find` tells
+    /// where the first match begins, if there is one, and a pass from there on tells which patterns
+    /// have one; of one pattern the search alone tells. If matches are passed over, which count
+    /// here, the pass tells all.
     pub fn which_patterns<C: Cursor>(
         &self,
         cache: &mut Cache,

@@ -7,7 +7,7 @@ use thiserror::Error;
 
 /// A range of positions, in bytes of a content: from `start` on, up to and without `end`.
 ///
-/// Nothing orders the two. Where `start` is at least `end`, the span is empty.
+/// `start` may be above `end`. If `start` is at least `end`, the span is empty.
 #[derive(Clone, Copy, Debug, PartialEq, Eq, Hash)]
 pub struct Span {
     /// Where it begins, in bytes.
@@ -17,7 +17,7 @@ pub struct Span {
 }
 
 impl Span {
-    /// The number of its bytes, which is 0 where `start` is above `end`.
+    /// The number of bytes, which is 0 if `start` is above `end`.
     pub fn len(&self) -> usize
         ensures { result ≡ self.now.end - self.now.start }
     {
@@ -66,7 +66,7 @@ impl PatternID {
     /// The number of the first pattern.
     pub const ZERO: PatternID = PatternID { index: 0 };
 
-    /// The pattern with this number, or None above 2,147,483,646.
+    /// Returns the pattern with this number, or `None` above 2,147,483,646.
     pub fn new(index: usize) -> Option<PatternID>
         ensures { SomeIff result (index ≤ MAX_PATTERN) index }
     {
@@ -77,7 +77,7 @@ impl PatternID {
         }
     }
 
-    /// The pattern with this number, which has to be at most 2,147,483,646.
+    /// Returns the pattern with this number, which has to be at most 2,147,483,646.
     pub const fn must(index: usize) -> PatternID
         requires { index ≤ MAX_PATTERN }
         ensures { result ≡ index }
@@ -131,7 +131,7 @@ impl Model for Match {
 }
 
 impl Match {
-    /// The match of a pattern at a span. The span's start has to be at most its end.
+    /// Returns the match of a pattern at a span. The start of the span has to be at most its end.
     pub fn new(pattern: PatternID, span: Span) -> Match
         requires { span.start ≤ span.end }
         ensures { result ≡ record { pattern = pattern; start = span.start; end = span.end } }
@@ -193,7 +193,7 @@ impl Match {
     }
 }
 
-/// One side of a match: its pattern, and where it ends, or for a search backwards where it begins.
+/// One side of a match: its pattern, and where it ends, or, for a reverse search, where it begins.
 #[derive(Clone, Copy, Debug, PartialEq, Eq, Hash)]
 pub struct HalfMatch {
     pattern: PatternID,
@@ -211,7 +211,7 @@ impl Model for HalfMatch {
 }
 
 impl HalfMatch {
-    /// The half match of a pattern at an offset, in bytes.
+    /// Returns the half match of a pattern at an offset, in bytes.
     pub fn new(pattern: PatternID, offset: usize) -> HalfMatch
         ensures { result ≡ record { pattern = pattern; offset = offset } }
     {
@@ -225,7 +225,7 @@ impl HalfMatch {
         self.pattern
     }
 
-    /// Where the match ends, or for a search backwards where it begins, in bytes.
+    /// Where the match ends, or, for a reverse search, where it begins, in bytes.
     pub fn offset(&self) -> usize
         ensures { result ≡ self.now.offset }
     {
@@ -257,7 +257,7 @@ impl Anchored {
         }
     }
 
-    /// The only pattern that may match, or None where each may.
+    /// The only pattern that may match, or `None` if each may.
     pub fn pattern(&self) -> Option<PatternID>
         ensures { result ≡ only_pattern self.now }
     {
@@ -268,34 +268,35 @@ impl Anchored {
     }
 }
 
-/// Which match is the answer.
+/// Which match a search returns.
 #[derive(Clone, Copy, Debug, PartialEq, Eq)]
 pub enum MatchKind {
-    /// The one with the greatest end, then the least start, then the first pattern.
+    /// The match with the greatest end, then the least start, then the first pattern.
     All,
-    /// The one with the least start, and there the one that the pattern prefers.
+    /// The match with the least start, and of these the one that the pattern prefers.
     LeftmostFirst,
-    /// The one with the least start, and there the longest; of the ways to match that much the one that the pattern prefers.
+    /// The match with the least start, and of these the longest; of the ways to match that span,
+    /// the one that the pattern prefers.
     LeftmostLongest,
 }
 
-/// Why a search has no answer.
+/// Why a search failed.
 #[derive(Clone, Copy, Debug, PartialEq, Eq, Error)]
 pub enum MatchError {
-    /// It met a byte that it cannot go past.
+    /// The search found a byte that it cannot go past.
     #[error("the search quit at the byte {byte}, at offset {offset}")]
     Quit {
         /// The byte.
         byte: u8,
-        /// Where that byte stands, in bytes of the content.
+        /// Where that byte is, in bytes of the content.
         offset: usize,
     },
-    /// It gave up.
+    /// The search gave up.
     #[error("the search gave up at offset {offset} (out of memory: {memory})")]
     GaveUp {
-        /// How far it came, in bytes of the content.
+        /// How far the search came, in bytes of the content.
         offset: usize,
-        /// Whether this was for want of memory.
+        /// Whether it ran out of memory.
         memory: bool,
     },
 }

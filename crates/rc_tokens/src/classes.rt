@@ -69,7 +69,7 @@ fn sorted(alloc: Global, ranges: &[CodeRange]) -> Result<Vec<CodeRange>, AllocEr
     Ok(all)
 }
 
-/// Joins ranges that stand in the order of where they begin.
+/// Joins ranges that are in the order of where they begin.
 #[tactic(auto, using(crate::proofs::ClassSteps::merges_apart, crate::proofs::ClassSteps::merges_touch, crate::proofs::ClassSteps::merges_end))]
 fn merged(alloc: Global, unicode: bool, ranges: &[CodeRange]) -> Result<Vec<CodeRange>, AllocError>
     ensures { IfOk result (λ v. pairs v.items ≡ merged unicode (pairs ranges.now)) }
@@ -92,8 +92,8 @@ fn merged(alloc: Global, unicode: bool, ranges: &[CodeRange]) -> Result<Vec<Code
     Ok(all)
 }
 
-/// The ranges in order, and joined where they touch: sorted, and then joined in one pass. The definition puts them in
-/// one by one, which gives the same where they are ranges of codes.
+/// The ranges in order, and joined if they touch: sorted, and then joined in one pass. The
+/// definition puts them in one by one, which gives the same if they are ranges of codes.
 #[tactic(auto, using(crate::proofs::MergedLemmas::merged_sorted))]
 fn canonical(
     alloc: Global,

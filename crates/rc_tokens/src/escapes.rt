@@ -113,7 +113,7 @@ fn opens_brace(c: char, rest: &[char]) -> bool
     c == 'b' && is_brace_name(rest)
 }
 
-/// What stands in braces after `c`.
+/// What is in braces after `c`.
 fn in_brace(c: char, inside: &[char]) -> Option<Escape>
     ensures { result ≡ in_brace c inside.now }
 {

@@ -238,8 +238,9 @@ pub fn classes_ascend()
     ensures lists { ListLaw }
 {}
 
-/// A code is in the class of a list exactly where one of the list's items has it, or its other case where letters are folded; in a
-/// negated class, exactly where none has. The ranges stand in order, and no two of them touch.
+/// A code is in the class of a list if and only if one of the list's items has it, or its other
+/// case if letters are folded; in a negated class, if and only if none has. The ranges are in
+/// order, and no two of them touch.
 pub fn classes_have_members()
     ensures { MembersLaw }
 {}

@@ -15,7 +15,7 @@ use crate::text::{after, digits, first, number};
 use crate::tokens::{Assertion, Bounds, Escape, Token};
 use std::alloc::Global;
 
-/// A repetition with these limits, lazy where a `?` follows.
+/// A repetition with these limits, lazy if a `?` follows.
 fn repeats(text: &[char], min: u32, max: Option<u32>) -> (Token, &[char])
     ensures token { said_of result.0 ≡ Repeats (bounds (is_at 63 text.now) min max) }
     ensures rest { result.1.now ≡ past 63 text.now }
@@ -110,8 +110,8 @@ fn token_at(alloc: Global, c: char, rest: &[char]) -> Result<(Token, &[char]), R
     }
 }
 
-/// What the first mark of a text says, and the rest. It is `Refusal::Syntax` only where no mark
-/// begins the text. `Refusal::Memory` is want of memory.
+/// What the first mark of a text says, and the rest. It is `Refusal::Syntax` only if no mark begins
+/// the text. `Refusal::Memory` means out of memory.
 #[tactic(auto, using(crate::proofs::OrderLemmas::lex_is, crate::proofs::OrderLemmas::lex_none))]
 pub fn first_token(alloc: Global, text: &[char]) -> Result<(Token, &[char]), Refusal>
     ensures { LexesToken result (lex text.now) }
@@ -122,7 +122,7 @@ pub fn first_token(alloc: Global, text: &[char]) -> Result<(Token, &[char]), Ref
     token_at(alloc, c, rest)
 }
 
-/// What the reader of marks gives is the mark with which the text begins, and none where none does.
+/// What the reader of marks gives is the mark with which the text begins, and none if none does.
 pub fn gives_the_mark()
     ensures { (t : Characters) (k : Said) (u : Characters) → (lex t ≡ Some (k, u)) ↔ BeginsWithMark t k u }
 {}

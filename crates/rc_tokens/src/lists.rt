@@ -65,7 +65,7 @@ fn first_member(text: &[char]) -> Option<(Member, &[char])>
     member_at(c, rest)
 }
 
-/// Whether `c` is the character `d`, and no backslash stands before it.
+/// Whether `c` is the character `d`, and no backslash is before it.
 fn is_free(past_slash: bool, c: char, d: char) -> bool
     ensures { result ≡ (not past_slash && c == d) }
 {

@@ -15,7 +15,7 @@ pub(crate) fn first(text: &[char]) -> Option<(char, &[char])>
     Some((text[0], &text[1..]))
 }
 
-/// The text after the character `d`, where it begins with that.
+/// The text after the character `d`, if it begins with that.
 pub(crate) fn after(text: &[char], d: char) -> Option<&[char]>
     ensures { MatchOption result (is_at d text.now ≡ false) (λ rest. (is_at d text.now ≡ true) × (rest.now ≡ drop 1 text.now)) }
 {
@@ -52,7 +52,7 @@ pub(crate) fn digits(text: &[char]) -> (&[char], &[char])
     (text, &text[text.len()..])
 }
 
-/// What stands before the first of the two characters, and the rest.
+/// What is before the first of the two characters, and the rest.
 #[tactic(auto, using(crate::proofs::RunLemmas::passed_none, crate::proofs::RunLemmas::passed_more, crate::proofs::RunLemmas::passed_until))]
 pub(crate) fn until(text: &[char], d: char, e: char) -> (&[char], &[char])
     ensures front { result.0.now ≡ run (is_before d e) text.now }
@@ -66,7 +66,7 @@ pub(crate) fn until(text: &[char], d: char, e: char) -> (&[char], &[char])
     (text, &text[text.len()..])
 }
 
-/// The number that the digits write, where it is below the limit.
+/// The number that the digits write, if it is below the limit.
 #[tactic(auto, using(crate::proofs::TextLemmas::number_start, crate::proofs::TextLemmas::number_empty, crate::proofs::TextLemmas::read_step, crate::proofs::TextLemmas::read_none, crate::proofs::TextLemmas::read_large, crate::proofs::TextLemmas::read_end))]
 pub(crate) fn number(digits: &[char], radix: u32, limit: u64) -> Option<u32>
     requires least { 2 ≤ radix }
@@ -109,7 +109,7 @@ pub(crate) fn is_same(text: &[char], other: &[char]) -> bool
     true
 }
 
-/// Whether the character stands twice side by side.
+/// Whether the character occurs twice side by side.
 pub(crate) fn has_twice(text: &[char], c: char) -> bool
     ensures { result ≡ has_twice c text.now }
 {

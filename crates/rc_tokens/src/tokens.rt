@@ -54,7 +54,7 @@ pub enum Escape {
     Assertion(Assertion),
 }
 
-/// What stands in a list.
+/// What is in a list.
 #[derive(Clone, Copy, Debug, PartialEq, Eq)]
 pub enum Member {
     /// A character, plain or escaped.
@@ -66,7 +66,7 @@ pub enum Member {
     Perl(Perl),
 }
 
-/// A list: what stands after `[` or `[^`, up to the closing `]`.
+/// A list: what is after `[` or `[^`, up to the closing `]`.
 #[derive(Drop)]
 pub struct List {
     /// Whether `^` came first.

@@ -25,7 +25,7 @@ pub enum BytePlace {
     Bytes(Vec<ClassBytesRange>, usize),
     /// A way out over each range of bytes.
     Branch(Vec<ByteWay>),
-    /// One way out, where the assertion holds.
+    /// One way out, if the assertion holds.
     Guard(Look, usize),
     /// One way out, and the slot that a visit here fills.
     Slot(usize, usize),

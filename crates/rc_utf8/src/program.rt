@@ -76,10 +76,12 @@ fn add_place(
     }
 }
 
-/// The byte program of a program: each place keeps its number, and the places that take scalars byte by byte stand behind.
+/// The byte program of a program: each place keeps its number, and the places that take scalars
+/// byte by byte are behind.
 ///
-/// It has no more places than the program weighs: 1 for each place, and 84 more for each range of a place of scalars. So a program
-/// of patterns that may be built is light enough. An `Err` is want of memory, and nothing else.
+/// It has no more places than the program weighs: 1 for each place, and 84 more for each range of a
+/// place of scalars. So a program of patterns that may be built is light enough. An `Err` means out
+/// of memory, and nothing else.
 pub fn byte_program(alloc: Global, program: &[Place]) -> Result<Vec<BytePlace>, AllocError>
     requires light { heaviness (sources_of program.now) ≤ 2147483646 }
     ensures { IfOk result (λ places. places_of places.items ≡ bytes_of (sources_of program.now)) }

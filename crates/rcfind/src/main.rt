@@ -8,10 +8,10 @@ use std::io;
 use std::io::Write;
 use std::process::ExitCode;
 
-/// The status where memory was refused before the words were read.
+/// The status if memory was refused before the words were read.
 const FAULT: u8 = 2;
 
-/// The words after the program's name. An error is want of memory, or a word that isn't text.
+/// The words after the program's name. An error means out of memory, or a word that isn't text.
 fn words_of(rt: &HostRuntime) -> io::Result<Vec<String>> {
     let words = std::env::args(rt)?.skip(1).collect(rt.alloc())?;
     Ok(words)

@@ -15,7 +15,7 @@ pub fn report(rt: &HostRuntime, line: &str) -> u8 {
     FAULT
 }
 
-/// What is wrong with the pattern of this number. It is None where memory was refused.
+/// What is wrong with the pattern of this number. It is None if memory was refused.
 fn explained<'p>(
     alloc: Global,
     patterns: &[&'p str],
@@ -36,7 +36,7 @@ pub fn report_unread(rt: &HostRuntime, patterns: &[&str], number: usize, config:
     FAULT
 }
 
-/// How heavy the patterns are, where their build was refused for that.
+/// How heavy the patterns are, if their build was refused for that.
 fn oversize_of(alloc: Global, hirs: &[Hir], refusal: &BuildError) -> Option<Oversize> {
     let BuildError::SizeLimit { limit } = refusal else {
         return None;
@@ -44,7 +44,7 @@ fn oversize_of(alloc: Global, hirs: &[Hir], refusal: &BuildError) -> Option<Over
     explain_size(alloc, hirs, Some(*limit)).ok()?
 }
 
-/// Tells why the patterns weren't built, and how large they are, where that is why.
+/// Tells why the patterns weren't built, and how large they are, if that is why.
 pub fn report_refusal(rt: &HostRuntime, hirs: &[Hir], refusal: &BuildError) -> u8 {
     if let Some(oversize) = oversize_of(rt.alloc(), hirs, refusal) {
         let _ = writeln!(rt.stderr(), "rcgrep: {oversize}");

@@ -22,10 +22,11 @@ const LEAST: usize = 512;
 /// How many bytes of a page are searched at once at most.
 const GREATEST: usize = 1 << 20;
 
-/// So many bytes of a page are looked at together for one past ASCII.
+/// This many bytes of a page are looked at together for one past ASCII.
 const BLOCK: usize = 64;
 
-/// A match that begins so close behind a line has its line looked at without such a search, and so has the next one.
+/// A match that begins so close behind a line has its line looked at without such a search, and so
+/// has the next one.
 const CLOSE: usize = 64;
 
 /// Selects the lines in which a pattern matches, or the others. It keeps a cache over all lines.
@@ -34,8 +35,9 @@ pub struct LineRegex<'p> {
     patterns: &'p Patterns,
     cache: Cache,
     is_inverted: bool,
-    /// How many bytes of a page are searched at once next: four times what was passed over to a match, and twice as many where nothing was
-    /// found, so what is read twice is no more than some times what was passed over. At 0 the next line is looked at by itself.
+    /// How many bytes of a page are searched at once next: four times what was passed over to a
+    /// match, and twice as many if nothing was found, so what is read twice is no more than some
+    /// times what was passed over. At 0 the next line is looked at by itself.
     reach: usize,
 }
 
@@ -56,7 +58,7 @@ impl<'p> Model for LineRegex<'p> {
 }
 
 impl<'p> LineRegex<'p> {
-    /// Selects by these patterns. An `Err` is want of memory for the cache.
+    /// Selects by these patterns. An `Err` means out of memory for the cache.
     pub fn new(
         alloc: Global,
         patterns: &'p Patterns,
@@ -109,7 +111,8 @@ impl<'p> LineRegex<'p> {
         start
     }
 
-    /// How many bytes of a page are searched at once: only blocks before the first that has one past ASCII, where a search would be slow from there on.
+    /// How many bytes of a page are searched at once: only blocks before the first that has one
+    /// past ASCII, if a search would be slow from there on.
     fn reach_in(&self, page: &[u8]) -> usize
         ensures { result ≤ length page.now }
     {
@@ -131,7 +134,7 @@ impl<'p> LineRegex<'p> {
     }
 }
 
-/// How many bytes stand in whole blocks before the first block in which one is past ASCII.
+/// How many bytes are in whole blocks before the first block in which one is past ASCII.
 fn ascii_len(bytes: &[u8]) -> usize
     ensures { result ≤ length bytes.now }
 {
@@ -145,7 +148,7 @@ fn ascii_len(bytes: &[u8]) -> usize
     place
 }
 
-/// Whether one of the first bytes is past ASCII, so many as a block has.
+/// Whether one of the first bytes is past ASCII, this many as a block has.
 #[inline(always)]
 fn is_past_ascii(bytes: &[u8]) -> bool
     requires { 64 ≤ length bytes.now }

@@ -5,7 +5,7 @@ use std::alloc::{AllocFailed, Global};
 /// What is searched, and how it is printed.
 #[derive(Drop)]
 pub struct Options<'w> {
-    /// `-n`: the number of each line stands before it.
+    /// `-n`: the number of each line is before it.
     pub numbers: bool,
     /// `-c`: the number of lines alone.
     pub count: bool,
@@ -70,7 +70,7 @@ impl<'w> Options<'w> {
         Ok(())
     }
 
-    /// Takes a word that begins with `-`. Answers whether the next word is a pattern.
+    /// Takes a word that begins with `-`. Returns whether the next word is a pattern.
     fn take(&mut self, word: &'w str) -> Result<bool, WordsError> {
         if word == "--help" {
             return Err(WordsError::Help);
@@ -93,7 +93,8 @@ impl<'w> Options<'w> {
     }
 }
 
-/// What the words ask for. The first word that is no option is the pattern, where no `-e` gives one; the others are files.
+/// What the words ask for. The first word that is no option is the pattern, if no `-e` gives one;
+/// the others are files.
 pub fn read_words<'w>(alloc: Global, words: &[&'w str]) -> Result<Options<'w>, WordsError> {
     let mut options = Options::new(alloc);
     let mut is_pattern_next = false;

@@ -5,10 +5,11 @@ use crate::options::Options;
 use std::io;
 use std::io::Write;
 
-/// What stands before a match, and after it, where matches are marked.
+/// What is before a match, and after it, if matches are marked.
 const MARK: (&str, &str) = ("\x1b[01;31m", "\x1b[0m");
 
-/// Puts what stands before a line: the name of its file, where one is given, and its number, where that is asked for.
+/// Puts what is before a line: the name of its file, if one is given, and its number, if that is
+/// asked for.
 fn put_prefix<W: Write>(
     out: &mut W,
     options: &Options<'_>,
@@ -29,7 +30,7 @@ fn part(line: &[u8], start: usize, end: usize) -> &[u8] {
     line.get(start..end).unwrap_or(&[])
 }
 
-/// Puts a match, marked where that is asked for.
+/// Puts a match, marked if that is asked for.
 fn put_match<W: Write>(out: &mut W, options: &Options<'_>, bytes: &[u8]) -> io::Result<()> {
     if !options.color {
         return out.write_all(bytes);
@@ -115,7 +116,7 @@ pub fn put_line<W: Write>(
     out.write_all(b"\n")
 }
 
-/// Puts the number of a file's selected lines, or its name where it has one, as the options ask for.
+/// Puts the number of a file's selected lines, or its name if it has one, as the options ask for.
 pub fn put_count<W: Write>(
     out: &mut W,
     options: &Options<'_>,

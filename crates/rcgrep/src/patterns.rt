@@ -43,11 +43,11 @@ pub fn read_patterns(alloc: Global, texts: &[&str], config: &Config) -> Result<V
 #[derive(Drop)]
 pub struct Patterns {
     pub regex: Regex,
-    /// Each assertion in them says the same at a newline as at the end of a text, and none spells an empty text. So a line that has a match
-    /// has one between other lines too.
+    /// Each assertion in them says the same at a newline as at the end of a text, and none spells
+    /// an empty text. So a line that has a match has one between other lines too.
     pub is_local: bool,
-    /// A search is slow from the first byte past ASCII on: tables don't read it where an assertion asks for words of Unicode, and no needle is
-    /// sought behind it. A matter of speed alone.
+    /// A search is slow from the first byte past ASCII on: tables don't read it if an assertion
+    /// asks for words of Unicode, and no needle is sought behind it. A matter of speed alone.
     pub is_slow_past_ascii: bool,
     ghost local: { is_local ≡ true → ∥ IsLocalRegex regex ∥₁ },
 }
@@ -66,7 +66,8 @@ pub fn build(alloc: Global, hirs: &[Hir]) -> Result<Patterns, BuildError>
     })
 }
 
-/// Whether each assertion in the pattern says the same at a newline as at the end of a text. `\b` and `(?m)$` do, `$` doesn't.
+/// Whether each assertion in the pattern says the same at a newline as at the end of a text. `\b`
+/// and `(?m)$` do, `$` doesn't.
 fn has_line_looks(hir: &Hir) -> bool
     ensures { IsTrue result → HasLineLooks (meaning hir.now) }
 {
@@ -96,7 +97,7 @@ fn are_local(hirs: &[Hir]) -> bool
     true
 }
 
-/// Whether an assertion on words of Unicode stands in a pattern.
+/// Whether an assertion on words of Unicode is in a pattern.
 fn has_scalar_looks(hirs: &[Hir]) -> bool {
     for hir in hirs {
         let looks = hir.properties().look_set();

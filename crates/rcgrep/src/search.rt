@@ -33,8 +33,8 @@ struct Job<'o, 'w> {
 }
 
 impl Job<'_, '_> {
-    /// Prints the selected lines of a reader, where lines are asked for, and tells how many there were: at most one where names alone
-    /// are asked for.
+    /// Prints the selected lines of a reader, if lines are asked for, and returns how many there
+    /// were: at most one if names alone are asked for.
     fn print_lines<R: BufRead, W: Write>(
         &self,
         selector: &mut LineRegex<'_>,
@@ -66,7 +66,7 @@ impl Job<'_, '_> {
         Ok(count)
     }
 
-    /// Searches one reader, in pages, and tells whether a line was selected.
+    /// Searches one reader, in pages, and returns whether a line was selected.
     fn search<R: Read + Drop, W: Write>(
         &self,
         selector: &mut LineRegex<'_>,
@@ -130,9 +130,10 @@ impl Job<'_, '_> {
     }
 }
 
-/// Searches all files, one after another, or the standard input, and tells the status: 0 where a line was selected, 1 where none was, and
-/// 2 where a file wasn't read. Its line goes to the standard error, and the next file is searched. An `Err` is a fault of the standard
-/// output, or want of memory.
+/// Searches all files, one after another, or the standard input, and returns the status: 0 if a
+/// line was selected, 1 if none was, and 2 if a file wasn't read. Its line goes to the standard
+/// error, and the next file is searched. An `Err` is a fault of the standard output, or out of
+/// memory.
 pub fn search_all(rt: &HostRuntime, patterns: &Patterns, options: &Options<'_>) -> io::Result<u8> {
     let alloc = rt.alloc();
     let mut selector = LineRegex::new(alloc, patterns, options.invert)?;

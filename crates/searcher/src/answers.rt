@@ -22,7 +22,8 @@ pub struct MatchAt {
     pub end: usize,
 }
 
-/// From where to where a group goes, in bytes of the whole text. Both are the greatest `usize` where the group took no part.
+/// From where to where a group goes, in bytes of the whole text. Both are the greatest `usize` if
+/// the group took no part.
 #[repr(C)]
 #[derive(Clone, Copy)]
 pub struct GroupAt {
@@ -92,7 +93,8 @@ impl GroupAt {
         }
     }
 
-    /// Writes the groups that the captures hold, one after another from group 0 on. Where there is no such group, it took no part.
+    /// Writes the groups that the captures hold, one after another from group 0 on. If there is no
+    /// such group, it took no part.
     pub fn write_all(captures: &Captures, groups: &mut [GroupAt])
         ensures { AreGroups captures.now groups.new }
     {

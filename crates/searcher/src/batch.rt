@@ -16,7 +16,7 @@ use rc_text::cursor::Cursor;
 use rc_text::input::Input;
 use rc_text::types::Match;
 
-/// What a batch was filled with, and where the iteration stands behind it.
+/// What a batch was filled with, and where the iteration is behind it.
 #[derive(Clone, Copy)]
 pub(crate) struct Filled {
     /// How many matches there are.
@@ -53,7 +53,8 @@ fn is_again(last: Option<usize>, found: Match) -> bool
     }
 }
 
-/// The same match, as the first of the list of the input's matches: that doesn't read the earliest flag. The span may start elsewhere then.
+/// The same match, as the first of the list of the input's matches: that doesn't read the earliest
+/// flag. The span may start elsewhere then.
 fn first<C: Cursor>(regex: &Regex, cache: &mut Cache, input: &mut Input<C>) -> Option<Match>
     requires made { IsCacheFor (regex_patterns regex.now) (regex_settings regex.now) cache.old }
     ensures cache { IsCacheFor (regex_patterns regex.now) (regex_settings regex.now) cache.new }
@@ -65,7 +66,8 @@ fn first<C: Cursor>(regex: &Regex, cache: &mut Cache, input: &mut Input<C>) -> O
     matches.next()
 }
 
-/// The next match of the list, where the one before ended at `last`. The span may start elsewhere then.
+/// The next match of the list, where the one before ended at `last`. The span may start elsewhere
+/// then.
 fn next_match<C: Cursor>(
     regex: &Regex,
     cache: &mut Cache,

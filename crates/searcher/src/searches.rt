@@ -22,10 +22,12 @@ use rc_text::types::{Match, MatchKind, Span};
 use std::alloc::{AllocError, Global};
 use std::marker::Model;
 
-/// A regex, with all that its searches need: a cache, captures, a set of its patterns, and where an iteration stands.
+/// A regex, with all that its searches need: a cache, captures, a set of its patterns, and where an
+/// iteration is.
 ///
-/// The text isn't kept. Each search is handed its chunks, and says what the text is that they make then. No search answers want of memory:
-/// its cache may grow up to a limit, and where that is refused the answer is the same.
+/// The text isn't kept. Each search is handed its chunks, and says what the text is that they make
+/// then. No search answers out of memory: its cache may grow up to a limit, and if that is refused
+/// the answer is the same.
 #[derive(Drop)]
 pub struct Searcher {
     regex: Regex,
@@ -67,10 +69,11 @@ impl Searcher {
     ghost use Rattle.searcher.specs.Places.{AreMarks, IsFilled};
     ghost use Rattle.searcher.specs.Ranges.{IsFault};
 
-    /// A searcher for the patterns as which these texts are read, each in UTF-8. Its iteration stands before the text's first byte.
+    /// A searcher for the patterns as which these texts are read, each in UTF-8. Its iteration is
+    /// before the text's first byte.
     ///
-    /// An `Err` is the first of these that applies: no kind of match has the number; there are too many texts; a text isn't UTF-8; what the
-    /// build refuses. Want of memory may come at any time.
+    /// An `Err` is the first of these that applies: no kind of match has the number; there are too
+    /// many texts; a text isn't UTF-8; what the build refuses. Want of memory may come at any time.
     pub fn new(alloc: Global, patterns: &[&[u8]], settings: &Settings) -> Result<Searcher, Refusal>
         ensures built { IfOk result (IsBuilt settings.now patterns.now) }
         ensures refused { IfErr result (IsRefused settings.now patterns.now) }
@@ -131,7 +134,8 @@ impl Searcher {
         Ok(self.regex.is_match_with(&mut self.cache, &mut input))
     }
 
-    /// The match in the text from `start` to `end`, or to the text's end where that comes first. Assertions see the whole text.
+    /// The match in the text from `start` to `end`, or to the text's end if that comes first.
+    /// Assertions see the whole text.
     pub fn find(
         &mut self,
         chunks: &[&[u8]],
@@ -146,9 +150,10 @@ impl Searcher {
         Ok(batch::search(&self.regex, &mut self.cache, &mut input))
     }
 
-    /// Marks which patterns have a match in the text from `start` to `end`: the place of a pattern's number is 1 where it has one, and each
-    /// other place is 0. A pattern has a match where it spells some span there, also where that is never found since another is preferred.
-    /// After an `Err` the marks are as before.
+    /// Marks which patterns have a match in the text from `start` to `end`: the place of a
+    /// pattern's number is 1 if it has one, and each other place is 0. A pattern has a match if it
+    /// spells some span there, even if that is never found since another is preferred. After an
+    /// `Err` the marks are as before.
     pub fn which_patterns(
         &mut self,
         chunks: &[&[u8]],
@@ -169,8 +174,8 @@ impl Searcher {
         Ok(())
     }
 
-    /// The match that `find` finds, whose groups are kept then, and none where there is no match. After an `Err` those of the search before
-    /// are still kept.
+    /// The match that `find` finds, whose groups are kept then, and none if there is no match.
+    /// After an `Err` those of the search before are still kept.
     pub fn find_groups(
         &mut self,
         chunks: &[&[u8]],
@@ -190,7 +195,8 @@ impl Searcher {
         Ok(self.captures.get_match())
     }
 
-    /// Begins an iteration at a place. A match ended at `last`, where that is given: an empty one there gives way to the next.
+    /// Begins an iteration at a place. A match ended at `last`, if that is given: an empty one
+    /// there gives way to the next.
     pub fn restart(&mut self, from: usize, last: Option<usize>)
         ensures { self.new ≡ record self.old { from = from; last = last } }
     {
@@ -206,12 +212,12 @@ impl Searcher {
         *from
     }
 
-    /// Fills the batch with the next matches of the text, up to `end`, and tells how many they are. Where the batch isn't full, no more is
-    /// left. Each match is sought from where the one before ended, and an empty one that ends there gives way to the answer from a byte
-    /// later.
+    /// Fills the batch with the next matches of the text, up to `end`, and returns how many they
+    /// are. If the batch isn't full, no more is left. Each match is sought from where the one
+    /// before ended, and an empty one that ends there gives way to the answer from a byte later.
     ///
-    /// The matches are those of the text that is handed in. Where it is another than in the call before, the list goes on from the same
-    /// place in that one. After an `Err` all is as before.
+    /// The matches are those of the text that is passed in. If it is another than in the call
+    /// before, the list goes on from the same place in that one. After an `Err` all is as before.
     pub fn fill(
         &mut self,
         chunks: &[&[u8]],

@@ -6,8 +6,8 @@ use rc_parser as syntax;
 use rc_settings::meta;
 use rc_text::types::MatchKind;
 
-/// How patterns are read, and which match is sought. Each field but `kind` is a flag, off at 0 and on at each other number. With all fields
-/// 0, the settings are the default ones.
+/// How patterns are read, and which match is sought. Each field but `kind` is a flag, off at 0 and
+/// on at each other number. With all fields 0, the settings are the default ones.
 #[repr(C)]
 #[derive(Clone, Copy)]
 pub struct Settings {
@@ -27,8 +27,8 @@ pub struct Settings {
     pub any_bytes: u8,
     /// Empty matches may split a character.
     pub split_characters: u8,
-    /// The number of the kind of match that is sought: 0 for the preferred match of the least start, 1 for the match with the greatest end, 2 for
-    /// the longest match of the least start.
+    /// The number of the kind of match that is sought: 0 for the preferred match of the least
+    /// start, 1 for the match with the greatest end, 2 for the longest match of the least start.
     pub kind: u8,
 }
 
@@ -51,7 +51,7 @@ impl Settings {
             .utf8(self.any_bytes == 0)
     }
 
-    /// The kind of match that is sought, where one has the number.
+    /// The kind of match that is sought, if one has the number.
     pub(crate) fn kind(&self) -> Option<MatchKind>
         ensures { result ≡ kind_of self.now.kind }
     {

@@ -11,7 +11,8 @@ use rc_settings::error::BuildError;
 use searcher::{Refusal, Searcher, Settings, free};
 use std::alloc::Global;
 
-/// Why patterns were refused, and where: the number of the pattern, and a byte of it. Both are 0 where the status doesn't tell of them.
+/// Why patterns were refused, and where: the number of the pattern, and a byte of it. Both are 0 if
+/// the status doesn't tell of them.
 #[repr(C)]
 #[derive(Clone, Copy)]
 pub struct Refused {
@@ -19,7 +20,7 @@ pub struct Refused {
     pub status: u32,
     /// The number of the pattern.
     pub pattern: usize,
-    /// The byte of its text at which the fault was met.
+    /// The byte of its text at which the fault was found.
     pub at: usize,
 }
 
@@ -52,8 +53,8 @@ fn told(refusal: Refusal) -> Refused
     }
 }
 
-/// Frees what the handle holds, and fills it with a searcher for these patterns, each in UTF-8. Where the status isn't `DONE`, the handle is
-/// empty, and `refused` tells why.
+/// Frees what the handle holds, and fills it with a searcher for these patterns, each in UTF-8. If
+/// the status isn't `DONE`, the handle is empty, and `refused` tells why.
 #[unsafe(no_mangle)]
 pub extern "C" fn zf_compile(
     alloc: Global,

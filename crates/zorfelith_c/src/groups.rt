@@ -25,8 +25,8 @@ pub extern "C" fn zf_pattern_count(alloc: Global, handle: &mut Handle, count: &m
     DONE
 }
 
-/// How many groups a pattern has, the whole match among them: `DONE`, and 0 where there is no such pattern; or `ABSENT`, where its number is
-/// above 2,147,483,646.
+/// How many groups a pattern has, the whole match among them: `DONE`, and 0 if there is no such
+/// pattern; or `ABSENT`, if its number is above 2,147,483,646.
 #[unsafe(no_mangle)]
 pub extern "C" fn zf_group_count(
     alloc: Global,
@@ -52,8 +52,9 @@ pub extern "C" fn zf_group_count(
     }
 }
 
-/// Writes the name of a group: `DONE`, and `length` tells how many bytes it has; `SHORT`, where `name` has fewer, and `length` tells how
-/// many are needed; or `ABSENT`, where it has no name, or there is no such pattern or group.
+/// Writes the name of a group: `DONE`, and `length` tells how many bytes it has; `SHORT`, if `name`
+/// has fewer, and `length` tells how many are needed; or `ABSENT`, if it has no name, or there is
+/// no such pattern or group.
 #[unsafe(no_mangle)]
 pub extern "C" fn zf_group_name(
     alloc: Global,
@@ -75,8 +76,8 @@ pub extern "C" fn zf_group_name(
     status
 }
 
-/// The number of the group of a name, from 1 on: the first one where several have it; `ABSENT` where none has it, or there is no such
-/// pattern; `NOT_UTF8` where the name isn't UTF-8.
+/// The number of the group of a name, from 1 on: the first one if several have it; `ABSENT` if none
+/// has it, or there is no such pattern; `NOT_UTF8` if the name isn't UTF-8.
 #[unsafe(no_mangle)]
 pub extern "C" fn zf_group_number(
     alloc: Global,
@@ -97,7 +98,7 @@ pub extern "C" fn zf_group_number(
     status
 }
 
-/// How many groups a pattern has; `None` where no pattern can have that number.
+/// How many groups a pattern has; `None` if no pattern can have that number.
 fn group_count(regex: &Regex, pattern: usize) -> Option<usize>
     ensures { MatchOption result (TellsCount regex.now pattern 5 0) (TellsCount regex.now pattern 0) }
 {

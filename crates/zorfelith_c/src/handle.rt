@@ -6,7 +6,8 @@ use searcher::{Searcher, box_of, parts_of};
 use std::alloc::Global;
 use std::mem::replace;
 
-/// A searcher, or none. C makes an empty one of bytes that are 0, and writes nothing in one that is full.
+/// A searcher, or none. C makes an empty one of bytes that are 0, and writes nothing in one that is
+/// full.
 ///
 /// What is dropped full is not freed, so each call takes the searcher out first.
 #[repr(C)]

@@ -76,7 +76,8 @@ pub extern "C" fn zf_find(
     }
 }
 
-/// The match that `zf_find` finds, and its groups, as many as there are places for them. Without a match each took no part.
+/// The match that `zf_find` finds, and its groups, as many as there are places for them. Without a
+/// match each took no part.
 #[unsafe(no_mangle)]
 pub extern "C" fn zf_find_groups(
     alloc: Global,
@@ -112,8 +113,8 @@ pub extern "C" fn zf_find_groups(
     status
 }
 
-/// Marks which patterns have a match in the text from `start` to `end`: the place of a pattern's number is 1 where it has one, and each other
-/// place is 0.
+/// Marks which patterns have a match in the text from `start` to `end`: the place of a pattern's
+/// number is 1 if it has one, and each other place is 0.
 #[unsafe(no_mangle)]
 pub extern "C" fn zf_which_patterns(
     alloc: Global,
@@ -139,7 +140,8 @@ pub extern "C" fn zf_which_patterns(
     }
 }
 
-/// Begins an iteration at a place. Where `follows` isn't 0, a match ended there, so that an empty one there gives way to the next.
+/// Begins an iteration at a place. If `follows` isn't 0, a match ended there, so that an empty one
+/// there gives way to the next.
 #[unsafe(no_mangle)]
 pub extern "C" fn zf_restart(alloc: Global, handle: &mut Handle, from: usize, follows: u8) -> u32
     ensures answered { MatchOption handle.old.held.value (result ≡ empty) (λ _. result ≡ done) }
@@ -156,7 +158,8 @@ pub extern "C" fn zf_restart(alloc: Global, handle: &mut Handle, from: usize, fo
     DONE
 }
 
-/// Fills the batch with the next matches of the text, up to `end`. No more is left where the batch isn't full.
+/// Fills the batch with the next matches of the text, up to `end`. No more is left if the batch
+/// isn't full.
 #[unsafe(no_mangle)]
 pub extern "C" fn zf_next(
     alloc: Global,

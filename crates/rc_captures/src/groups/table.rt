@@ -4,10 +4,11 @@ ghost use Rattle.rc_captures.specs.Names.{names_in, slot_len, first_slot, group_
 
 use std::alloc::{AllocError, Global};
 
-/// So many groups have slots that can be numbered.
+/// This many groups have slots that can be numbered.
 const MOST: usize = usize::MAX / 4;
 
-/// The names of the explicit groups of each pattern, the slot of each pattern's group 1, and how many slots there are.
+/// The names of the explicit groups of each pattern, the slot of each pattern's group 1, and how
+/// many slots there are.
 #[derive(Drop)]
 pub struct Table {
     pub names: Vec<Vec<Option<String>>>,
@@ -51,7 +52,8 @@ pub fn table_of(alloc: Global, names: Vec<Vec<Option<String>>>) -> Result<Table,
     })
 }
 
-/// So many groups and so many more. More than can be numbered take more memory than there can be.
+/// This many groups and this many more. More than can be numbered take more memory than there can
+/// be.
 fn added(groups: usize, more: usize) -> Result<usize, AllocError>
     ensures { MatchResult result (λ n. (n ≡ groups + more) × (n < 2 ^ 62)) (λ _. 2 ^ 62
         ≤ groups + more) }

@@ -69,8 +69,8 @@ fn emit_class(places: &mut Vec<Place>, class: &Class, next: usize) -> Result<(),
     }
 }
 
-/// Appends the part of the pattern, which leads to `next`: with its groups, of which group 1 has the
-/// slot `slots`, or with each group as its body.
+/// Appends the part of the pattern, which leads to `next`: with its groups, of which group 1 has
+/// the slot `slots`, or with each group as its body.
 #[cycle(emit)]
 pub(super) fn emit(
     places: &mut Vec<Place>,

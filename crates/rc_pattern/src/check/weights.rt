@@ -9,7 +9,7 @@ use crate::hir::{Class, Hir, HirKind, Repetition};
 /// A weight from here on is told as this.
 const CAP: u128 = 0x1_0000_0000_0000_0000;
 
-/// The pattern's weight, or 2 to the power of 64 where it is above that. It calls itself as deep as
+/// The pattern's weight, or 2 to the power of 64 if it is above that. It calls itself as deep as
 /// the pattern is.
 #[cycle(weight)]
 pub fn capped_weight(hir: &Hir) -> u128
@@ -79,7 +79,7 @@ fn alternation_weight(subs: &[Hir]) -> u128
     (total + 2).min(CAP)
 }
 
-/// The weight of a list of patterns, or 2 to the power of 64 where it is above that.
+/// The weight of a list of patterns, or 2 to the power of 64 if it is above that.
 #[tactic(auto, using(crate::proofs::WeightLemmas::list_weights))]
 pub fn capped_list_weight(hirs: &[Hir]) -> u128
     ensures { result ≡ min (list_weight (map meaning hirs.now)) (2 ^ 64) }

@@ -29,7 +29,7 @@ pub(super) fn least(a: Option<usize>, b: Option<usize>) -> Option<usize>
     }
 }
 
-/// The greater of both, where both are there.
+/// The greater of both, if both are there.
 pub(super) fn greatest(a: Option<usize>, b: Option<usize>) -> Option<usize>
     ensures { result ≡ given.both (λ m n. Some (max m n)) a b }
 {
@@ -40,7 +40,7 @@ pub(super) fn greatest(a: Option<usize>, b: Option<usize>) -> Option<usize>
     }
 }
 
-/// The sum, or the greatest usize where it is above that, where both are there.
+/// The sum, or the greatest usize if it is above that, if both are there.
 pub(super) fn saturated_sum(a: Option<usize>, b: Option<usize>) -> Option<usize>
     ensures { result ≡ given.both (λ m n. Some (given.saturated (m + n))) a b }
 {
@@ -51,7 +51,7 @@ pub(super) fn saturated_sum(a: Option<usize>, b: Option<usize>) -> Option<usize>
     }
 }
 
-/// The sum, where both are there and it fits.
+/// The sum, if both are there and it fits.
 pub(super) fn capped_sum(a: Option<usize>, b: Option<usize>) -> Option<usize>
     ensures { result ≡ given.both (λ m n. given.capped (m + n)) a b }
 {
@@ -62,7 +62,7 @@ pub(super) fn capped_sum(a: Option<usize>, b: Option<usize>) -> Option<usize>
     }
 }
 
-/// The number, where both are there and equal.
+/// The number, if both are there and equal.
 pub(super) fn common(a: Option<usize>, b: Option<usize>) -> Option<usize>
     ensures { result ≡ given.common a b }
 {
@@ -124,7 +124,7 @@ pub(super) fn optional_static(max: Option<u32>, body: Option<usize>) -> Option<u
     }
 }
 
-/// The number of bytes of a byte of the ranges. `None` where there are no ranges.
+/// The number of bytes of a byte of the ranges. `None` if there are no ranges.
 pub(super) fn length_of_bytes(ranges: &[ClassBytesRange]) -> Option<usize>
     ensures least { result ≡ given.minimum_len (re.byte_in (map byte_range ranges.now)) }
     ensures greatest { result ≡ given.maximum_len (re.byte_in (map byte_range ranges.now)) }
@@ -135,7 +135,7 @@ pub(super) fn length_of_bytes(ranges: &[ClassBytesRange]) -> Option<usize>
     Some(1)
 }
 
-/// The least number of bytes of a character of the ranges. `None` where there are no ranges.
+/// The least number of bytes of a character of the ranges. `None` if there are no ranges.
 pub(super) fn minimum_of_chars(ranges: &[ClassUnicodeRange]) -> Option<usize>
     ensures { result ≡ given.minimum_len (re.char_in (map char_range ranges.now)) }
 {
@@ -146,7 +146,7 @@ pub(super) fn minimum_of_chars(ranges: &[ClassUnicodeRange]) -> Option<usize>
     shortest
 }
 
-/// The greatest number of bytes of a character of the ranges. `None` where there are no ranges.
+/// The greatest number of bytes of a character of the ranges. `None` if there are no ranges.
 pub(super) fn maximum_of_chars(ranges: &[ClassUnicodeRange]) -> Option<usize>
     ensures { result ≡ given.maximum_len (re.char_in (map char_range ranges.now)) }
 {

@@ -34,7 +34,7 @@ fn put_cat_members(members: &mut Vec<Hir>, sub: Hir) -> Result<(), AllocError>
     }
 }
 
-/// Appends a literal, joined to the last member where that is one too.
+/// Appends a literal, joined to the last member if that is one too.
 fn append_literal(members: &mut Vec<Hir>, bytes: Vec<u8>) -> Result<(), AllocError>
     ensures meaning { OnOk result ((xs : List Re) → map meaning members.old.items ≡ joined xs
         → map meaning members.new.items ≡ joined (xs ++ literal bytes.items ∷ [])) }
@@ -57,7 +57,7 @@ fn append_literal(members: &mut Vec<Hir>, bytes: Vec<u8>) -> Result<(), AllocErr
     }
 }
 
-/// Appends a member, where neighbouring literals are joined.
+/// Appends a member, if neighbouring literals are joined.
 fn append(members: &mut Vec<Hir>, member: Hir) -> Result<(), AllocError>
     ensures meaning { OnOk result ((xs : List Re) → map meaning members.old.items ≡ joined xs
         → map meaning members.new.items ≡ joined (xs ++ meaning member ∷ [])) }

@@ -26,51 +26,51 @@ impl Properties {
     ghost use Rattle.rc_pattern.specs.LookSets.{HasOnly};
     ghost use Rattle.rc_pattern.specs.PropertiesOf.{IsPropertiesOf};
 
-    /// The least number of bytes that the pattern spells, or the greatest usize where it is above
-    /// that. `None` where the pattern is known to spell nothing at all.
+    /// The least number of bytes that the pattern spells, or the greatest usize if it is above
+    /// that. `None` if the pattern is known to spell nothing at all.
     pub fn minimum_len(&self) -> Option<usize>
         ensures { (h : re.Re) → IsPropertiesOf h self.now → result ≡ given.minimum_len h }
     {
         self.minimum_len
     }
 
-    /// The greatest number of bytes that the pattern spells. `None` where there is no bound, where
-    /// it is above the greatest usize, or where a part of the pattern spells nothing at all.
+    /// The greatest number of bytes that the pattern spells. `None` if there is no bound, if it is
+    /// above the greatest usize, or if a part of the pattern spells nothing at all.
     pub fn maximum_len(&self) -> Option<usize>
         ensures { (h : re.Re) → IsPropertiesOf h self.now → result ≡ given.maximum_len h }
     {
         self.maximum_len
     }
 
-    /// How many groups the pattern has, or the greatest usize where there are more.
+    /// How many groups the pattern has, or the greatest usize if there are more.
     pub fn explicit_captures_len(&self) -> usize
         ensures { (h : re.Re) → IsPropertiesOf h self.now → result ≡ given.explicit_captures_len h }
     {
         self.explicit_captures_len
     }
 
-    /// How many groups take part in each match, where that is known to be one number.
+    /// How many groups take part in each match, if that is known to be one number.
     pub fn static_explicit_captures_len(&self) -> Option<usize>
         ensures { (h : re.Re) → IsPropertiesOf h self.now → result ≡ given.static_explicit_captures_len h }
     {
         self.static_explicit_captures_len
     }
 
-    /// The assertions that stand in the pattern.
+    /// The assertions that are in the pattern.
     pub fn look_set(&self) -> LookSet
         ensures { (h : re.Re) → IsPropertiesOf h self.now → HasOnly result (given.has_look h) }
     {
         self.look_set
     }
 
-    /// The assertions that stand where each match begins.
+    /// The assertions that are where each match begins.
     pub fn look_set_prefix(&self) -> LookSet
         ensures { (h : re.Re) → IsPropertiesOf h self.now → HasOnly result (given.begins_with_look h) }
     {
         self.look_prefix
     }
 
-    /// The assertions that stand where each match ends.
+    /// The assertions that are where each match ends.
     pub fn look_set_suffix(&self) -> LookSet
         ensures { (h : re.Re) → IsPropertiesOf h self.now → HasOnly result (given.ends_with_look h) }
     {

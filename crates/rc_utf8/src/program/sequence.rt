@@ -8,7 +8,7 @@ ghost use Rattle.rc_utf8.specs.Places.{sequences_of};
 use rc_pattern::hir::{ClassBytesRange, ClassUnicodeRange};
 use std::alloc::{AllocError, Global};
 
-/// One byte of each of the ranges in turn, and then any so many continuation bytes.
+/// One byte of each of the ranges in turn, and then some number of continuation bytes.
 #[derive(Drop)]
 pub(super) struct Sequence {
     pub(super) ranges: Vec<ClassBytesRange>,
@@ -49,7 +49,8 @@ fn add_range(
     Ok(())
 }
 
-/// Adds the sequence of the ranges, then a byte above `byte` up to `end`, if there is one, and `rest` continuation bytes.
+/// Adds the sequence of the ranges, then a byte above `byte` up to `end`, if there is one, and
+/// `rest` continuation bytes.
 fn add_above(
     alloc: Global,
     list: &mut Vec<Sequence>,
@@ -67,7 +68,8 @@ fn add_above(
     add_range(alloc, list, ranges, byte + 1, end, rest)
 }
 
-/// Adds the sequence of the ranges, then a continuation byte below `byte`, if there is one, and `rest` continuation bytes.
+/// Adds the sequence of the ranges, then a continuation byte below `byte`, if there is one, and
+/// `rest` continuation bytes.
 fn add_below(
     alloc: Global,
     list: &mut Vec<Sequence>,
@@ -96,14 +98,16 @@ fn all_are(byte: u8, bytes: &[u8]) -> bool
     true
 }
 
-/// Whether the bytes from `first` and `left` on, the first of them at most `last`, are all that begin with a byte from `first` to `last`.
+/// Whether the bytes from `first` and `left` on, the first of them at most `last`, are all that
+/// begin with a byte from `first` to `last`.
 fn reach_all_from(first: u8, left: &[u8], last: u8) -> bool
     ensures { result ≡ (all_are 128 left.now && nat_le first last) }
 {
     all_are(128, left) && first <= last
 }
 
-/// Whether the bytes from a lesser first byte up to `last` and `left` are all that begin with a byte up to `last`.
+/// Whether the bytes from a lesser first byte up to `last` and `left` are all that begin with a
+/// byte up to `last`.
 fn reach_all_to(first: u8, last: u8, left: &[u8]) -> bool
     ensures { result ≡ (all_are 191 left.now && nat_lt first last) }
 {
@@ -117,7 +121,8 @@ fn are_any(low: &[u8], high: &[u8]) -> bool
     all_are(128, low) && all_are(191, high)
 }
 
-/// Adds the sequences over the bytes that are at least those of `low`, the first of them at most `last`, behind the ranges.
+/// Adds the sequences over the bytes that are at least those of `low`, the first of them at most
+/// `last`, behind the ranges.
 fn add_from(
     alloc: Global,
     list: &mut Vec<Sequence>,
@@ -140,7 +145,8 @@ fn add_from(
     add_above(alloc, list, ranges, first, last, left.len())
 }
 
-/// Adds the sequences over the continuation bytes that are at most those of `high`, behind the ranges.
+/// Adds the sequences over the continuation bytes that are at most those of `high`, behind the
+/// ranges.
 fn add_to(
     alloc: Global,
     list: &mut Vec<Sequence>,
@@ -162,8 +168,8 @@ fn add_to(
     add_to(alloc, list, &longer, left)
 }
 
-/// Adds the sequences over the bytes from those of `low` to `last` and those of `high`, behind the ranges, where the first of `low` is
-/// another byte than `last`.
+/// Adds the sequences over the bytes from those of `low` to `last` and those of `high`, behind the
+/// ranges, if the first of `low` is another byte than `last`.
 fn add_both(
     alloc: Global,
     list: &mut Vec<Sequence>,
@@ -235,7 +241,8 @@ fn earlier(one: char, other: char) -> char
     one
 }
 
-/// Adds the sequences of the scalars of a range that lie between `least` and `most`, which take as many bytes as each other.
+/// Adds the sequences of the scalars of a range that lie between `least` and `most`, which take as
+/// many bytes as each other.
 fn add_between(
     alloc: Global,
     list: &mut Vec<Sequence>,

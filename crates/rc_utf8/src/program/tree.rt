@@ -11,8 +11,8 @@ use crate::place::{BytePlace, ByteWay};
 use rc_pattern::hir::ClassBytesRange;
 use std::alloc::{AllocError, Global};
 
-/// Where a class leads: behind `count` places that read any so many continuation bytes, the first the most, of which the first stands
-/// at `tail`, and that lead to `next`.
+/// Where a class leads: behind `count` places that read that many continuation bytes, the first
+/// the most, of which the first is at `tail`, and that lead to `next`.
 #[derive(Clone, Copy)]
 pub(super) struct Exits {
     pub(super) count: usize,
@@ -53,7 +53,7 @@ fn rest_of(exits: Exits, rest: usize) -> usize
     exits.tail + (exits.count - rest)
 }
 
-/// Appends the places that read any so many continuation bytes.
+/// Appends the places that read any `n` continuation bytes.
 pub(super) fn add_tails(
     alloc: Global,
     blocks: &mut Vec<BytePlace>,
@@ -101,7 +101,8 @@ fn begins_with(sequence: &Sequence, level: usize, range: ClassBytesRange) -> boo
     here.start == range.start && here.end == range.end
 }
 
-/// How many of the first sequences go on with this range, behind `level` ranges, and then with others.
+/// How many of the first sequences go on with this range, behind `level` ranges, and then with
+/// others.
 fn group_len(sequences: &[Sequence], level: usize, range: ClassBytesRange) -> usize
     requires { level < 4 }
     ensures within { result ≤ length sequences.now }
@@ -116,8 +117,8 @@ fn group_len(sequences: &[Sequence], level: usize, range: ClassBytesRange) -> us
     sequences.len()
 }
 
-/// Adds the first way over sequences behind `level` ranges, and the places below it, where `blocks` begin at place number `first`. Gives
-/// how many sequences are over that way.
+/// Adds the first way over sequences behind `level` ranges, and the places below it, where `blocks`
+/// begin at place number `first`. Gives how many sequences are over that way.
 #[cycle(tree)]
 fn add_group(
     alloc: Global,
@@ -153,7 +154,8 @@ fn add_group(
     Ok(count)
 }
 
-/// The ways over sequences behind `level` ranges; the places below them are added to `blocks`, which begin at place number `first`.
+/// The ways over sequences behind `level` ranges; the places below them are added to `blocks`,
+/// which begin at place number `first`.
 #[cycle(tree)]
 pub(super) fn add_tree(
     alloc: Global,

@@ -26,7 +26,7 @@ fn input_over<'a>(chunks: &'a [&'a [u8]]) -> Result<Input<ChunkCursor<'a>>, TooL
     Ok(Input::new(ChunkCursor::new(chunks)?))
 }
 
-/// Puts the lines of the matches, and tells whether there is one.
+/// Puts the lines of the matches, and returns whether there is one.
 fn put_lines<W: Sink, C: Cursor + Drop>(
     out: &mut W,
     matches: FindMatches<'_, C>,
@@ -46,7 +46,7 @@ fn put_lines<W: Sink, C: Cursor + Drop>(
     Ok(is_found)
 }
 
-/// Puts the lines of the matches of a regex that is lent, in which nothing is set, and tells whether
+/// Puts the lines of the matches of a borrowed regex, in which nothing is set, and returns whether
 /// there is one.
 fn run_lent<W: Sink>(
     alloc: Global,
@@ -70,11 +70,11 @@ fn run_lent<W: Sink>(
     Ok(is_found)
 }
 
-/// Puts a line for each match of the pattern in the chunks, one after another, and tells whether
+/// Puts a line for each match of the pattern in the chunks, one after another, and returns whether
 /// there is one.
 ///
-/// The text is read and its pattern built first, both by the default settings, so that any error but
-/// `Build` comes only where that can be done. After any error but `Write` nothing was put, and the
+/// The text is read and its pattern built first, both by the default settings, so that any error
+/// but `Build` comes only if that can be done. After any error but `Write` nothing was put, and the
 /// sink has not failed.
 pub fn run<W: Sink>(
     alloc: Global,

@@ -28,7 +28,7 @@ pub fn put_all<W: Sink>(out: &mut W, bytes: &[u8]) -> io::Result<()>
     Ok(())
 }
 
-/// Puts the line of a match, in one call where the sink takes it whole. It takes no memory.
+/// Puts the line of a match, in one call if the sink takes it whole. It takes no memory.
 pub fn put_line<W: Sink>(out: &mut W, found: Match) -> io::Result<()>
     ensures appended { OnOk result (Appends (W.taken out.old) (W.taken out.new) (line_of found)) }
     ensures ok { OnOk result (W.has_failed out.new ≡ W.has_failed out.old) }

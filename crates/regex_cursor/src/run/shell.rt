@@ -11,10 +11,10 @@ use std::alloc::{AllocError, Global};
 use std::io;
 use std::io::{Read, Write};
 
-/// The status where there is a match.
+/// The status if there is a match.
 const MATCHED: u8 = 0;
 
-/// The status where there is none.
+/// The status if there is none.
 const UNMATCHED: u8 = 1;
 
 /// The status of a fault.
@@ -41,7 +41,7 @@ fn chunk_len(word: &str) -> Option<usize>
     Some(n)
 }
 
-/// The pattern and the length of chunks, or `None` where these are not the words.
+/// The pattern and the length of chunks, or `None` if these are not the words.
 fn arguments<'a>(words: &[&'a str]) -> Option<(&'a str, usize)>
     ensures { MatchOption result
         (¬ ((text : List ℕ) × AreWords words.now text))
@@ -85,8 +85,8 @@ fn read_fault(fault: &io::Error) -> &'static str {
 /// Finds a pattern in an input that is cut into chunks, and puts a line for each match. The words
 /// are the pattern and the length of a chunk in bytes.
 ///
-/// The answer is 0 where there is a match, 1 where there is none, and 2 at a fault, of which one
-/// line goes to `err`. A fault of `err` is ignored. The words are checked before anything is read.
+/// The answer is 0 if there is a match, 1 if there is none, and 2 at a fault, of which one line
+/// goes to `err`. A fault of `err` is ignored. The words are checked before anything is read.
 pub fn program<R: Read, W: Sink, E: Write>(
     alloc: Global,
     words: &[&str],

@@ -7,13 +7,13 @@ use std::io::Write;
 
 /// Takes bytes, and remembers whether it failed.
 pub trait Sink {
-    /// The bytes that it holds, or `None` where it does not tell them.
+    /// The bytes that it holds, or `None` if it doesn't know them.
     ghost taken: { Self → Option (List ℕ) } = { λ _. None };
 
     /// Whether a call failed.
     ghost has_failed: { Self → Bool };
 
-    /// Takes the first bytes of a piece, and answers how many it took.
+    /// Takes the first bytes of a piece, and returns how many it took.
     ///
     /// It takes at least one byte of a piece that has one. An error takes none, and from then on
     /// the sink has failed.
