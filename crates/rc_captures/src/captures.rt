@@ -154,14 +154,7 @@ pub fn slots_of(caps: &Captures) -> &[Option<usize>]
     &caps.slots
 }
 
-/// The groups of the patterns.
-pub fn group_info_of(caps: &Captures) -> &GroupInfo
-    ensures { names_of result.now ≡ captures_names caps.now }
-{
-    &caps.info
-}
-
-/// The same captures in memory of their own. An error means out of memory.
+/// The same captures in memory of their own. An error is want of memory.
 pub fn copy_of(alloc: Global, caps: &Captures) -> Result<Captures, AllocError>
     ensures names { IfOk result (λ c. captures_names c ≡ captures_names caps.now) }
     ensures pattern { IfOk result (λ c. captures_pattern c ≡ captures_pattern caps.now) }

@@ -6,8 +6,6 @@ ghost use Rattle.rc_program.specs.Places.{places_of};
 ghost use Rattle.rc_pikevm_search.specs.Strategies.{MayGoBy, MayGoBy-is_fact};
 
 use crate::strategy::{Strategy, guards_of, literals_of};
-use rc_captures::captures;
-use rc_captures::captures::Captures;
 use rc_needles::literal;
 use rc_pikevm::cache::Cache;
 use rc_pikevm::kinds::{find_by_kind, is_match_by_kind, search_slots_by_kind};
@@ -31,8 +29,6 @@ impl Engine {
     ghost use Rattle.std.specs.Option.{option_map};
     ghost use Rattle.rc_text.specs.Found.{Found};
     ghost use Rattle.rc_pikevm_search.specs.Walks.{next_start};
-    ghost use Rattle.rc_captures.specs.Captures.{captures_names, captures_pattern, captures_slots};
-    ghost use Rattle.rc_pikevm_search.specs.Tells.{TellsBy};
     ghost use Rattle.rc_pikevm.specs.KindSlots.{slots_by};
     ghost use Rattle.rc_program.specs.Kinds.{answer_by, answer_by_from};
     ghost use Rattle.rc_text.specs.Text.{Keeps, low, high};
@@ -146,26 +142,6 @@ impl Engine {
         let _offset = input.chunk_offset();
         input.set_start(input.start() + 1);
         self.find(cache, input)
-    }
-
-    /// Writes the match that a search finds, with its groups, into captures of the patterns of
-    /// these names. Without a match they hold none. It takes no memory.
-    pub fn find_captures<C: Cursor>(
-        &self,
-        cache: &mut Cache,
-        input: &mut Input<C>,
-        caps: &mut Captures,
-    )
-        requires made { IsEngineCache self.now (length (captures_slots caps.old)) cache.old }
-        ensures keeps { Keeps input.old input.new }
-        ensures names { captures_names caps.new ≡ captures_names caps.old }
-        ensures long { length (captures_slots caps.new) ≡ length (captures_slots caps.old) }
-        ensures found { TellsBy self.now.kind (engine_search self.now input.old) caps.new }
-        ensures cache { IsSameCache cache.old cache.new }
-    {
-        captures::clear(caps);
-        let pattern = self.find_slots(cache, input, caps.slots_mut());
-        captures::set_pattern(caps, pattern);
     }
 }
 

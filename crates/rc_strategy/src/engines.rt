@@ -150,14 +150,7 @@ impl Engines {
         })
     }
 
-    /// Whether there is a full DFA.
-    pub fn has_tables(&self) -> bool
-        ensures { result ≡ is_some self.now.tables }
-    {
-        self.tables.is_some()
-    }
-
-    /// How many bytes the the full DFA take, or `usize::MAX` if that is more; 0 if there are none.
+    /// How many bytes the tables of all states take, or `usize::MAX` where that is more; 0 where there are none.
     pub fn memory_usage(&self) -> usize
         ensures { result ≡ bytes_taken self.now.tables }
     {
