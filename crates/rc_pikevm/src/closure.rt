@@ -175,35 +175,6 @@ pub fn enter(spot: &Spot, place: usize, start: usize, growth: &mut Growth) -> Op
     act(spot, place, start, growth)
 }
 
-/// Enters a place, as `enter` does.
-#[inline(always)]
-fn visit(spot: &Spot, place: usize, start: usize, growth: &mut Growth) -> Option<usize>
-    ghost text: { Searched }
-    requires here { IsHere spot.now text }
-    requires place_in { place < size spot.now.course }
-    requires sound { HasRoom (size spot.now.course) spot.now.course.hi spot.now.at growth.old.threads growth.old.entered }
-    requires frames { AllInside (size spot.now.course) growth.old.threads.width (reverse growth.old.stack.items) }
-    requires deep { vec_len growth.old.stack ≤ length growth.old.entered.items }
-    ensures carries { (below : List (Trace × Pair)) (best o : Option Trace)
-        → MatchOption result
-        (Carries (seen_from spot.now text) spot.now.at growth.new.threads.items growth.new.entered.items
-        (waits start spot.now.at (reverse growth.new.stack.items) growth.new.slots.items ++ below) best o)
-        (λ p. Carries (seen_from spot.now text) spot.now.at growth.new.threads.items growth.new.entered.items []
-        (Some (done p start spot.now.at growth.new.slots.items)) o)
-        → Carries (seen_from spot.now text) spot.now.at growth.old.threads.items growth.old.entered.items
-        ((trace start growth.old.slots.items, (place, spot.now.at))
-        ∷ (waits start spot.now.at (reverse growth.old.stack.items) growth.old.slots.items ++ below)) best o }
-    ensures grown { IsGrown (size spot.now.course) spot.now.course.hi start spot.now.at growth.old.threads growth.old.entered
-        growth.new.threads growth.new.entered }
-    ensures some { 0 < length growth.new.entered.items }
-    ensures frames { AllInside (size spot.now.course) growth.new.threads.width (reverse growth.new.stack.items) }
-    ensures deep { vec_len growth.new.stack ≤ length growth.new.entered.items + 1 }
-    ensures falls { vec_len growth.new.stack + 3 * length growth.old.entered.items
-        ≤ vec_len growth.old.stack + 3 * length growth.new.entered.items }
-{
-    enter(spot, place, start, growth)
-}
-
 /// Goes on from the frames of the stack, the uppermost first. The rest is as in `close`.
 #[inline(never)]
 fn drain(spot: &Spot, start: usize, growth: &mut Growth) -> Option<usize>
@@ -227,7 +198,7 @@ fn drain(spot: &Spot, start: usize, growth: &mut Growth) -> Option<usize>
     'frames: while let Some(frame) = growth.stack.pop() {
         match frame {
             Frame::Explore(place) => {
-                if let Some(number) = visit(spot, place, start, growth) {
+                if let Some(number) = enter(spot, place, start, growth) {
                     return Some(number);
                 }
             }
@@ -260,7 +231,7 @@ pub fn close(spot: &Spot, root: usize, start: usize, growth: &mut Growth) -> Opt
     ensures some { 0 < length growth.new.entered.items }
 {
     growth.stack.clear();
-    if let Some(number) = visit(spot, root, start, growth) {
+    if let Some(number) = enter(spot, root, start, growth) {
         return Some(number);
     }
     if growth.stack.is_empty() {

@@ -1,12 +1,8 @@
-//! Closure shortcuts: the state at which a thread enters, past choices with one open branch.
-ghost use Rattle.std.specs.Prelude.{◌≡◌, ◌<◌, ◌∷◌, IsTrue, List, Option, ℕ};
+//! Where a thread enters.
+ghost use Rattle.std.specs.Prelude.{◌≡◌, ◌<◌, IsTrue};
 ghost use Rattle.rc_text.specs.Text.{Searched};
-ghost use Rattle.rc_walks.specs.Walks.{Pair};
 ghost use Rattle.rc_pikevm.specs.Entrances.{IsOnWay, IsShut, IsWayIn};
 ghost use Rattle.rc_pikevm.specs.Near.{IsHere, seen_from, size};
-ghost use Rattle.rc_pikevm.specs.Passing.{Carries};
-ghost use Rattle.rc_pikevm.specs.Threads.{Thread};
-ghost use Rattle.rc_pikevm.specs.Trace.{Trace};
 
 use crate::heads::is_dead;
 use crate::moves::{Move, look_up};
@@ -87,19 +83,4 @@ pub(crate) fn way_in(spot: &Spot, root: usize, entered: &SparseSet) -> usize
         place = next;
     }
     place
-}
-
-/// The place at which a thread enters, as in `way_in`.
-#[inline(always)]
-pub fn entrance(spot: &Spot, root: usize, entered: &SparseSet) -> usize
-    ghost text: { Searched }
-    requires here { IsHere spot.now text }
-    requires root { root < size spot.now.course }
-    requires capacity { entered.now.capacity ≡ size spot.now.course }
-    ensures inside { result < size spot.now.course }
-    ensures carries { (h : Trace) (resting : List Thread) (below : List (Trace × Pair)) (best o : Option Trace)
-        → Carries (seen_from spot.now text) spot.now.at resting entered.now.items ((h, (result, spot.now.at)) ∷ below) best o
-        → Carries (seen_from spot.now text) spot.now.at resting entered.now.items ((h, (root, spot.now.at)) ∷ below) best o }
-{
-    way_in(spot, root, entered)
 }

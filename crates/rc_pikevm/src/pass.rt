@@ -18,7 +18,7 @@ ghost use Rattle.rc_pikevm.specs.Scratches.{IsSame};
 
 use crate::alone::glide;
 use crate::closure::close;
-use crate::entrance::entrance;
+use crate::entrance::way_in;
 use crate::growth::{Growth, copy_row};
 use crate::heads::is_dead;
 use crate::scratch::Scratch;
@@ -79,7 +79,7 @@ fn step(spot: &Spot, curr: &Threads, growth: &mut Growth) -> Option<(usize, usiz
             continue;
         }
         copy_row(&mut growth.slots, row);
-        let place = entrance(spot, head.place, &growth.entered);
+        let place = way_in(spot, head.place, &growth.entered);
         if let Some(number) = close(spot, place, head.start, growth) {
             return Some((number, head.start));
         }
@@ -116,7 +116,7 @@ fn set_out(spot: &Spot, root: usize, is_open: bool, growth: &mut Growth) -> Opti
         return None;
     }
     empty(&mut growth.slots);
-    let place = entrance(spot, root, &growth.entered);
+    let place = way_in(spot, root, &growth.entered);
     if let Some(number) = close(spot, place, spot.at, growth) {
         return Some((number, spot.at));
     }
@@ -171,7 +171,7 @@ fn advance(
         return None;
     }
     empty(&mut growth.slots);
-    let place = entrance(spot, 0, &growth.entered);
+    let place = way_in(spot, 0, &growth.entered);
     if let Some(number) = close(spot, place, spot.at, growth) {
         return Some((number, spot.at));
     }

@@ -281,57 +281,16 @@ impl Engines {
         ensures found { IfOk result (λ found. found ≡ answer_by self.now.engine.kind (engine_search self.now.engine input.old)) }
         ensures within { IfOk result (λ found. IfSome found (λ m. (low input.old ≤ m.start) × (m.start ≤ m.end) × (m.end ≤ high input.old))) }
     {
+        let aim = self.aim();
         match guard {
-            Guard::Begins(needles) => self.find_by_begin(halves, cache, input, needles),
-            Guard::Holds(_) => self.find_by_guard(halves, cache, input, guard),
+            Guard::Begins(needles) => find_first(halves, cache, input, aim, needles, true),
+            Guard::Holds(_) => find_guarded(halves, cache, input, aim, guard),
         }
     }
 
-    /// The match that the tables find if each walk begins with a needle that is sought fast: the
-    /// first is asked first whether a match begins there. An `Err` says why they find none.
-    #[inline(always)]
-    fn find_by_begin<H: Halves, C: Cursor>(
-        &self,
-        halves: &H,
-        cache: &mut H::Cache,
-        input: &mut Input<C>,
-        needles: &Prefilter,
-    ) -> Result<Option<Match>, MatchError>
-        requires own { ∥ AreHalvesFor self.now.engine self.now.patterns (H.AreOf halves.now) ∥₁ }
-        requires cache { H.IsCache halves.now cache.old }
-        requires guards { Guards (places_of self.now.engine.program.places.items) self.now.engine.program.terminator (needles_of needles.now) }
-        ensures cache { H.IsCache halves.now cache.new }
-        ensures keeps { Keeps input.old input.new }
-        ensures found { IfOk result (λ found. found ≡ answer_by self.now.engine.kind (engine_search self.now.engine input.old)) }
-        ensures within { IfOk result (λ found. IfSome found (λ m. (low input.old ≤ m.start) × (m.start ≤ m.end) × (m.end ≤ high input.old))) }
-    {
-        find_first(halves, cache, input, self.aim(), needles, true)
-    }
-
-    /// The match that the tables find from needle to needle. An `Err` says why they find none.
-    #[inline(always)]
-    fn find_by_guard<H: Halves, C: Cursor>(
-        &self,
-        halves: &H,
-        cache: &mut H::Cache,
-        input: &mut Input<C>,
-        guard: Guard,
-    ) -> Result<Option<Match>, MatchError>
-        requires own { ∥ AreHalvesFor self.now.engine self.now.patterns (H.AreOf halves.now) ∥₁ }
-        requires cache { H.IsCache halves.now cache.old }
-        requires guards { IsGuard (places_of self.now.engine.program.places.items) self.now.engine.program.terminator guard }
-        ensures cache { H.IsCache halves.now cache.new }
-        ensures keeps { Keeps input.old input.new }
-        ensures found { IfOk result (λ found. found ≡ answer_by self.now.engine.kind (engine_search self.now.engine input.old)) }
-        ensures within { IfOk result (λ found. IfSome found (λ m. (low input.old ≤ m.start) × (m.start ≤ m.end) × (m.end ≤ high input.old))) }
-    {
-        find_guarded(halves, cache, input, self.aim(), guard)
-    }
-
-    /// The match that the tables find if each walk begins with a needle: it is sought where the
-    /// first may begin, and then along. If the tables quit, they go once more, from needle to
-    /// needle: fewer bytes are read then, and so fewer that they don't read. An `Err` says why they
-    /// find none.
+    /// The match that the tables tell where each walk begins with a needle: it is sought where the first may begin, and then along. Where the
+    /// tables quit, they go once more, from needle to needle: fewer bytes are read then, and so fewer that they don't read. An `Err` says why
+    /// they tell none.
     #[inline(always)]
     fn find_past_quit<H: Halves, C: Cursor>(
         &self,
@@ -348,9 +307,10 @@ impl Engines {
         ensures found { IfOk result (λ found. found ≡ answer_by self.now.engine.kind (engine_search self.now.engine input.old)) }
         ensures within { IfOk result (λ found. IfSome found (λ m. (low input.old ≤ m.start) × (m.start ≤ m.end) × (m.end ≤ high input.old))) }
     {
-        let found = find_first(halves, cache, input, self.aim(), needles, false);
+        let aim = self.aim();
+        let found = find_first(halves, cache, input, aim, needles, false);
         if let Err(MatchError::Quit { .. }) = found {
-            return self.find_by_guard(halves, cache, input, Guard::Begins(needles));
+            return find_guarded(halves, cache, input, aim, Guard::Begins(needles));
         }
         found
     }

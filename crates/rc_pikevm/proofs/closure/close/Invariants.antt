@@ -1,7 +1,7 @@
 use Rattle.rc_pikevm.proofs.closure.close.Given as goal
 
-abbrev pub ghost-visit : goal.ghost-visit
-ghost-visit g a = g.text
+abbrev pub ghost-enter : goal.ghost-enter
+ghost-enter g a = g.text
 
 abbrev pub ghost-drain : goal.ghost-drain
 ghost-drain g a = g.text

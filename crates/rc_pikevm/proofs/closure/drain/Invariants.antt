@@ -14,5 +14,5 @@ invariant-frames g l = record {
 abbrev pub decreases-frames : goal.decreases-frames
 decreases-frames g l = 3 * (size l.spot.course - length l.growth.entered.items) + vec_len l.growth.stack
 
-abbrev pub ghost-visit : goal.ghost-visit
-ghost-visit g a = g.text
+abbrev pub ghost-enter : goal.ghost-enter
+ghost-enter g a = g.text

@@ -3,6 +3,7 @@ use Rattle.rc_walks.specs.Walks.{Pair}
 use Rattle.rc_pikevm.specs.Near.{seen_from}
 use Rattle.rc_pikevm.specs.Trace.{Trace, trace}
 use Rattle.rc_pikevm.specs.Passing.{Carries, pairs, waiting_starts}
+use Rattle.rc_pikevm.proofs.EntranceLemmas.{carries_in}
 use Rattle.rc_pikevm.proofs.StartLemmas.{waiting_next}
 use Rattle.rc_pikevm.proofs.AloneLemmas.{quiet_start}
 use Rattle.rc_pikevm.proofs.pass.advance.Goals as goal
@@ -35,7 +36,8 @@ returns-in-Some-close-clause-carries g c best o x =
     (subst (λ ts. Carries (seen_from c.args.spot.now g.text) at c.step.new.growth.threads.items c.step.new.growth.entered.items ts best o) (sym next)
     (subst (λ l. Carries (seen_from c.args.spot.now g.text) at c.step.new.growth.threads.items c.step.new.growth.entered.items
     ((trace at l, (0, at)) ∷ rest) best o) slots
-    (c.entrance-place.ensures.carries (trace at c.empty.new.slots.items) c.step.new.growth.threads.items rest best o
+    (carries_in (seen_from c.args.spot.now g.text) at c.step.new.growth.threads.items c.step.new.growth.entered.items best o
+    (trace at c.empty.new.slots.items) rest c.way_in-place.ensures.way
     (c.in-Some-close.ensures.carries rest best o x))))
 
 pub returns-clause-carries : goal.returns-clause-carries
@@ -51,7 +53,8 @@ returns-clause-carries g c best o x =
     (subst (λ ts. Carries (seen_from c.args.spot.now g.text) at c.step.new.growth.threads.items c.step.new.growth.entered.items ts best o) (sym next)
     (subst (λ l. Carries (seen_from c.args.spot.now g.text) at c.step.new.growth.threads.items c.step.new.growth.entered.items
     ((trace at l, (0, at)) ∷ rest) best o) slots
-    (c.entrance-place.ensures.carries (trace at c.empty.new.slots.items) c.step.new.growth.threads.items rest best o
+    (carries_in (seen_from c.args.spot.now g.text) at c.step.new.growth.threads.items c.step.new.growth.entered.items best o
+    (trace at c.empty.new.slots.items) rest c.way_in-place.ensures.way
     (c.in_default-close.ensures.carries rest best o x))))
 
 pub returns-then-is_dead-clause-carries : goal.returns-then-is_dead-clause-carries

@@ -9,8 +9,8 @@ ghost-close g a = g.text
 abbrev pub ghost-set_out : goal.ghost-set_out
 ghost-set_out g a = g.text
 
-abbrev pub ghost-entrance : goal.ghost-entrance
-ghost-entrance g a = g.text
+abbrev pub ghost-way_in : goal.ghost-way_in
+ghost-way_in g a = g.text
 
 abbrev pub ghost-is_dead : goal.ghost-is_dead
 ghost-is_dead g a = g.text

@@ -4,6 +4,7 @@ use Rattle.rc_pikevm.specs.Near.{seen_from}
 use Rattle.rc_pikevm.specs.Sights.{Sight}
 use Rattle.rc_pikevm.specs.Trace.{Trace, trace}
 use Rattle.rc_pikevm.specs.Passing.{AllFrom, Carries, waiting_starts}
+use Rattle.rc_pikevm.proofs.EntranceLemmas.{carries_in}
 use Rattle.rc_pikevm.proofs.RootLemmas.{carries_root}
 use Rattle.rc_pikevm.proofs.StartLemmas.{waiting_next}
 use Rattle.rc_pikevm.proofs.pass.set_out.Goals as goal
@@ -26,7 +27,7 @@ returns-in-Some-clause-carries g c best o x =
     subst (λ ts. Carries s at [] [] ts best o) (sym next)
     (carries_root s c.args.root c.requires.1.1.1.1.1 (trace at (replicate width None)) at rest best o c.requires.0.near.within
     (subst (λ l. Carries s at [] [] ((trace at l, (c.args.root, at)) ∷ rest) best o) slots
-    (rw (c.requires.1.0.0, c.requires.1.0.1) at (c.entrance-place.ensures.carries (trace at c.empty.new.slots.items) c.args.growth.now.threads.items rest best o
+    (rw (c.requires.1.0.0, c.requires.1.0.1) at (carries_in s at c.args.growth.now.threads.items c.args.growth.now.entered.items best o (trace at c.empty.new.slots.items) rest c.way_in-place.ensures.way
     (c.in-Some.ensures.carries rest best o x)))))
 
 pub returns-clause-carries : goal.returns-clause-carries
@@ -41,5 +42,5 @@ returns-clause-carries g c best o x =
     subst (λ ts. Carries s at [] [] ts best o) (sym next)
     (carries_root s c.args.root c.requires.1.1.1.1.1 (trace at (replicate width None)) at rest best o c.requires.0.near.within
     (subst (λ l. Carries s at [] [] ((trace at l, (c.args.root, at)) ∷ rest) best o) slots
-    (rw (c.requires.1.0.0, c.requires.1.0.1) at (c.entrance-place.ensures.carries (trace at c.empty.new.slots.items) c.args.growth.now.threads.items rest best o
+    (rw (c.requires.1.0.0, c.requires.1.0.1) at (carries_in s at c.args.growth.now.threads.items c.args.growth.now.entered.items best o (trace at c.empty.new.slots.items) rest c.way_in-place.ensures.way
     (c.in_default.ensures.carries rest best o x)))))

@@ -3,6 +3,7 @@ use Rattle.rc_pikevm.specs.Sights.{Sight}
 use Rattle.rc_pikevm.specs.Near.{seen_from, size}
 use Rattle.rc_pikevm.specs.Threads.{thread_of}
 use Rattle.rc_pikevm.specs.Trace.{trace}
+use Rattle.rc_pikevm.proofs.EntranceLemmas.{carries_in}
 use Rattle.rc_pikevm.proofs.StepLemmas.{in_at, from_at, has_room, stepping_waits, stepping_closes, stepping_ends}
 use Rattle.rc_pikevm.proofs.pass.step.Goals as goal
 
@@ -24,8 +25,8 @@ threads-preserved-then-head-spot g c =
           c.get.ensures.item c.requires.1.0 c.threads.invariant.stepping c.push.new.self later room c.requires.1.1.1.1.1 c.push.ensures;
     }
 
-pub entrance-place-requires : goal.entrance-place-requires
-entrance-place-requires g c = (
+pub way_in-place-requires : goal.way_in-place-requires
+way_in-place-requires g c = (
   c.requires.0,
   (
     (in_at (size c.args.spot.now.course) c.args.spot.now.at (min c.args.spot.now.course.hi (c.args.spot.now.at + 3)) c.args.curr.now.items c.threads.index
@@ -46,7 +47,8 @@ returns-in-Some-clause-carries g c below best o x =
     c.threads.index (thread_of c.get.result.0 c.get.result.1.now) c.get.ensures.item c.requires.1.0 c.threads.invariant.stepping
     c.close.new.growth.threads.items c.close.new.growth.entered.items c.copy_row.new.slots.items c.close.new.growth.slots.items c.in-Some.number
     (omega (arith, c.if-head-spot.false)) (sym c.copy_row.ensures.items)
-    (λ below best o x. c.entrance-place.ensures.carries (trace c.get.result.0.start c.copy_row.new.slots.items) c.threads.growth.threads.items below best o
+    (λ below best o x. carries_in s c.args.spot.now.at c.threads.growth.threads.items c.threads.growth.entered.items best o
+    (trace c.get.result.0.start c.copy_row.new.slots.items) below c.way_in-place.ensures.way
     (c.in-Some.ensures.carries below best o x))
     below best o x
 
@@ -69,7 +71,8 @@ threads-preserved g c =
           c.threads.index (thread_of c.get.result.0 c.get.result.1.now) c.get.ensures.item c.requires.1.0 c.threads.invariant.stepping
           c.close.new.growth.threads c.close.new.growth.entered c.copy_row.new.slots.items
           (omega (arith, c.if-head-spot.false)) (sym c.copy_row.ensures.items)
-          (λ below best o x. c.entrance-place.ensures.carries (trace c.get.result.0.start c.copy_row.new.slots.items) c.threads.growth.threads.items below best o
+          (λ below best o x. carries_in s c.args.spot.now.at c.threads.growth.threads.items c.threads.growth.entered.items best o
+    (trace c.get.result.0.start c.copy_row.new.slots.items) below c.way_in-place.ensures.way
           (c.in_default.ensures.carries below best o x))
           c.in_default.ensures.grown c.in_default.ensures.some;
     }

@@ -11,5 +11,5 @@ invariant-threads g l = record {
 abbrev pub ghost-close : goal.ghost-close
 ghost-close g a = g.text
 
-abbrev pub ghost-entrance : goal.ghost-entrance
-ghost-entrance g a = g.text
+abbrev pub ghost-way_in : goal.ghost-way_in
+ghost-way_in g a = g.text
