@@ -7,13 +7,13 @@ use Rattle.rc_determinize.proofs.TextLemmas.{byte_behind}
 use Rattle.rc_determinize.specs.States.{State, best_at}
 use Rattle.rc_determinize.specs.Backward.{least_at}
 use Rattle.rc_dfa.specs.Machine.{Machine, Leads, IsAsked, is_dead}
-use Rattle.rc_dfa.specs.Runs.{MayRead, ahead_at, behind_at, RunsDown, RunEnd, met_last, stopped_at, EndsDown, SearchEndsDown}
+use Rattle.rc_dfa.specs.Runs.{IsByte, MayRead, ahead_at, behind_at, RunsDown, RunEnd, met_last, stopped_at, EndsDown, SearchEndsDown}
 use Rattle.rc_dense_dfa.specs.Cells.{met, skip, quit, row_of}
-use Rattle.rc_dense_dfa.specs.Tables.{Names, cell_at, class_at, column, mode_of, start_at, IsByte, IsTable}
+use Rattle.rc_dense_dfa.specs.Tables.{Names, cell_at, class_at, column, mode_of, start_at, IsTable}
 use Rattle.rc_dense_dfa.specs.Searches.{InRow, has_died, noted_by, met_by, told, Course, swapped, IsStandingDown, StandsDown, EndsDownSo}
 use Rattle.rc_dense_dfa.specs.declared.table.Table.{Table}
 use Rattle.rc_dense_dfa.specs.declared.run.Ended.TheVariants.{Met, Quit}
-use Rattle.rc_dense_dfa.proofs.SideLemmas.{byte_of_piece}
+use Rattle.rc_dfa.proofs.SideLemmas.{byte_of_piece}
 use Rattle.rc_dense_dfa.proofs.MarkLemmas.{named_state, died_or_not, is_read, noted_more, told_is, met_at_end, plain_row, plain_note, met_row, met_note, here_is, named_here}
 
 -- what was met here, on the way down

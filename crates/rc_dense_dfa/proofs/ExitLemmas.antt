@@ -11,7 +11,7 @@ use Rattle.rc_dense_dfa.specs.Searches.{Course, Stands, noted_by}
 use Rattle.rc_dense_dfa.specs.declared.exits.Exits.{Exits}
 use Rattle.rc_dense_dfa.specs.declared.exits.Exits.TheVariants.{Many}
 use Rattle.rc_dense_dfa.specs.declared.table.Table.{Table}
-use Rattle.rc_dense_dfa.proofs.SideLemmas.{byte_of_piece}
+use Rattle.rc_dfa.proofs.SideLemmas.{byte_of_piece}
 use Rattle.rc_dense_dfa.proofs.MarkLemmas.{row_number}
 use Rattle.rc_dense_dfa.proofs.ForwardLemmas.{stands_on}
 

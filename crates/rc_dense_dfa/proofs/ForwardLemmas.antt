@@ -7,13 +7,13 @@ use Rattle.rc_program.specs.Sought.{text_of}
 use Rattle.rc_determinize.proofs.TextLemmas.{byte_ahead}
 use Rattle.rc_determinize.specs.States.{State, best_at}
 use Rattle.rc_dfa.specs.Machine.{Machine, Leads, IsAsked, is_dead}
-use Rattle.rc_dfa.specs.Runs.{MayRead, ahead_at, behind_at, Runs, RunEnd, met_last, stopped_at, idle_at, EndsSo, SearchEnds}
+use Rattle.rc_dfa.specs.Runs.{IsByte, MayRead, ahead_at, behind_at, Runs, RunEnd, met_last, stopped_at, idle_at, EndsSo, SearchEnds}
 use Rattle.rc_dense_dfa.specs.Cells.{met, dead, skip, quit, row_of}
-use Rattle.rc_dense_dfa.specs.Tables.{Names, cell_at, class_at, column, mode_of, start_at, IsByte, IsTable}
+use Rattle.rc_dense_dfa.specs.Tables.{Names, cell_at, class_at, column, mode_of, start_at, IsTable}
 use Rattle.rc_dense_dfa.specs.Searches.{InRow, has_died, noted_by, met_by, told, Course, IsNoted, IsStanding, Stands, Ends}
 use Rattle.rc_dense_dfa.specs.declared.table.Table.{Table}
 use Rattle.rc_dense_dfa.specs.declared.run.Ended.TheVariants.{Met, Idle, Quit}
-use Rattle.rc_dense_dfa.proofs.SideLemmas.{byte_of_piece}
+use Rattle.rc_dfa.proofs.SideLemmas.{byte_of_piece}
 use Rattle.rc_dense_dfa.proofs.MarkLemmas.{named_state, died_or_not, idle_row, is_read, noted_more, told_is, met_at_end, plain_row, plain_note, skip_row, skip_note, met_row, met_note, here_is, named_here}
 
 none_of : (noted : Option (ℕ × ℕ)) → is_some noted ≡ false → noted ≡ None

@@ -12,7 +12,7 @@ use Rattle.rc_dense_dfa.specs.declared.leaps.Leap.{Leap}
 use Rattle.rc_dense_dfa.specs.declared.table.Table.{Table}
 use Rattle.rc_dense_dfa.proofs.ExitLemmas.{marked_stays}
 use Rattle.rc_dense_dfa.proofs.ForwardLemmas.{stands_on}
-use Rattle.rc_dense_dfa.proofs.SideLemmas.{byte_of_piece}
+use Rattle.rc_dfa.proofs.SideLemmas.{byte_of_piece}
 
 -- of none it is told at first
 pub none_stay : (mark : ℕ) (classes cells : List ℕ) (row other n : ℕ) → AreStays mark classes cells row other (replicate n false)

@@ -7,7 +7,6 @@ pub mod MarkLemmas
 pub mod ExitLemmas
 pub mod LeapLemmas
 pub mod SkipLemmas
-pub mod SideLemmas
 pub mod StartLemmas
 pub mod ModeLemmas
 pub mod FillLemmas

@@ -11,8 +11,9 @@ use Rattle.rc_text.specs.declared.types.Anchored.TheVariants.{No, Yes, Pattern}
 use Rattle.rc_determinize.specs.Sides.{IsReadable}
 use Rattle.rc_determinize.specs.States.{State}
 use Rattle.rc_dfa.specs.Machine.{Machine, Begins, Leads, IsAsked, IsClassing, AreOfOneClass, is_dead}
+use Rattle.rc_dfa.specs.Runs.{IsByte}
 use Rattle.rc_dense_dfa.specs.Cells.{quit, skip, row_of, IsNamed, IsMarkedAs, AreMarked}
-use Rattle.rc_dense_dfa.specs.Tables.{IsTable, marks, IsByte, Names, mode_of, class_at, cell_at, start_at, column, dead_state}
+use Rattle.rc_dense_dfa.specs.Tables.{IsTable, marks, Names, mode_of, class_at, cell_at, start_at, column, dead_state}
 use Rattle.rc_dense_dfa.specs.Rows.{IsCell, IsCellOf, IsStartOf, IsBeside, AreFilled, AreRows, AreStarts, AreEnds, AreTells, AreIdles, AreParts}
 use Rattle.rc_dense_dfa.specs.Makes.{IsMade, IsRefused, weight_by}
 use Rattle.rc_dense_dfa.specs.declared.error.TableError.{TableError}

@@ -5,6 +5,7 @@ use Rattle.rc_text.specs.declared.types.Anchored.TheVariants.{No, Yes, Pattern}
 use Rattle.rc_determinize.specs.Sides.{IsReadable}
 use Rattle.rc_determinize.specs.States.{State}
 use Rattle.rc_dfa.specs.Machine.{Machine, Leads, Begins, IsAsked, is_dead, is_idle}
+use Rattle.rc_dfa.specs.Runs.{IsByte}
 use Rattle.rc_dense_dfa.specs.Cells.{met, dead, skip, quit}
 use Rattle.rc_dense_dfa.specs.declared.table.Table.{Table}
 
@@ -44,10 +45,6 @@ abbrev pub mode_of : Anchored → ℕ
 mode_of No = 0
 mode_of Yes = 1
 mode_of (Pattern p) = p + 2
-
-abbrev pub IsByte : Option ℕ → Type 0
-IsByte None = Unit {0}
-IsByte (Some b) = b < 256
 
 -- The table of the machine, whose rows are those of these states, in this order.
 pub record IsTable (m : Machine) (states : List State) (d : Table) : Type 0 where

@@ -4,13 +4,13 @@ ghost use Rattle.rc_text.specs.Text.{Keeps, high, low, slice_end};
 ghost use Rattle.rc_program.specs.Sought.{text_of};
 ghost use Rattle.rc_determinize.specs.States.{State};
 ghost use Rattle.rc_dfa.specs.Machine.{IsAsked, Machine};
-ghost use Rattle.rc_dfa.specs.Runs.{SearchEndsDown, ahead_at};
-ghost use Rattle.rc_dense_dfa.specs.Tables.{IsByte, IsTable};
+ghost use Rattle.rc_dfa.specs.Runs.{IsByte, SearchEndsDown, ahead_at};
+ghost use Rattle.rc_dense_dfa.specs.Tables.{IsTable};
 ghost use Rattle.rc_dense_dfa.specs.Searches.{Course, EndsDownSo, InRow, IsLegDown, MayEnd, StandsDown, run_end};
 
 use crate::look::{cell_of, has_died, met_at_end, noted_by, row_of, swapped, told};
 use crate::run::{Ended, Leg, Stand};
-use crate::sides::{byte_ahead, byte_behind};
+use rc_dfa::sides::{byte_ahead, byte_behind};
 use crate::start::start;
 use crate::table::{MET, QUIT, SKIP, Table};
 use rc_text::cursor::Cursor;

@@ -4,8 +4,8 @@ ghost use Rattle.rc_text.specs.Text.{Keeps, high, low, slice_end};
 ghost use Rattle.rc_program.specs.Sought.{text_of};
 ghost use Rattle.rc_determinize.specs.States.{State};
 ghost use Rattle.rc_dfa.specs.Machine.{IsAsked, Machine};
-ghost use Rattle.rc_dfa.specs.Runs.{SearchEnds, behind_at};
-ghost use Rattle.rc_dense_dfa.specs.Tables.{IsByte, IsTable};
+ghost use Rattle.rc_dfa.specs.Runs.{IsByte, SearchEnds, behind_at};
+ghost use Rattle.rc_dense_dfa.specs.Tables.{IsTable};
 ghost use Rattle.rc_dense_dfa.specs.Searches.{Course, Ends, InRow, IsLeg, MayEnd, Stands, run_end};
 
 use crate::exits::first_exit;
@@ -14,7 +14,7 @@ use crate::look::{
     cell_of, exits_at, has_died, is_idle, leap_at, met_at_end, noted_by, row_of, told,
 };
 use crate::run::{Ended, Leg, Stand};
-use crate::sides::{byte_ahead, byte_behind};
+use rc_dfa::sides::{byte_ahead, byte_behind};
 use crate::start::start;
 use crate::table::{DEAD, MET, QUIT, SKIP, Table};
 use rc_text::cursor::Cursor;

@@ -13,6 +13,5 @@ mod maker;
 mod marks;
 mod names;
 pub mod run;
-mod sides;
 mod start;
 pub mod table;

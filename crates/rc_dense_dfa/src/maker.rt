@@ -4,7 +4,8 @@ ghost use Rattle.rc_determinize.specs.Places.{state_of};
 ghost use Rattle.rc_determinize.specs.States as states;
 ghost use Rattle.rc_dfa.specs.Machine.{Machine, IsAsked, Leads, Begins};
 ghost use Rattle.rc_dfa.specs.Automata.{machine_of, samples_of};
-ghost use Rattle.rc_dense_dfa.specs.Tables.{IsByte, mode_of};
+ghost use Rattle.rc_dfa.specs.Runs.{IsByte};
+ghost use Rattle.rc_dense_dfa.specs.Tables.{mode_of};
 ghost use Rattle.rc_dense_dfa.specs.Makes.{IsRefused};
 ghost use Rattle.rc_dense_dfa.specs.Rows.{IsMaker, Grows, IsCell, AreRows, AreStarts};
 

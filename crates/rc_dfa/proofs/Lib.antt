@@ -15,3 +15,4 @@ pub mod EntryLemmas
 pub mod KeyLemmas
 pub mod NumberLemmas
 pub mod ListLemmas
+pub mod SideLemmas

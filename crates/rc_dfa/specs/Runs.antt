@@ -14,6 +14,11 @@ ahead_at t i = byte_of (after_at t i)
 abbrev pub behind_at : Text → ℕ → Option ℕ
 behind_at t i = byte_of (before_at t i)
 
+-- what stands beside a position is a byte, if anything does
+abbrev pub IsByte : Option ℕ → Type 0
+IsByte None = Unit {0}
+IsByte (Some b) = b < 256
+
 abbrev pub MayRead : Machine → Option ℕ → Type 0
 MayRead m = IsReadable m.setting.needs
 

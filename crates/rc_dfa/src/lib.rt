@@ -8,4 +8,5 @@ pub mod halves;
 pub mod laws;
 mod matches;
 mod samples;
+pub mod sides;
 pub mod states;

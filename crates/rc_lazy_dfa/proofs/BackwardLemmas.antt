@@ -20,7 +20,7 @@ use Rattle.rc_lazy_dfa.specs.declared.half.Half.{Half}
 use Rattle.rc_lazy_dfa.specs.declared.run.Stand.{Stand}
 use Rattle.rc_lazy_dfa.specs.declared.error.Refusal.{Refusal}
 use Rattle.rc_lazy_dfa.proofs.RowLemmas.{row_inside}
-use Rattle.rc_lazy_dfa.proofs.SideLemmas.{byte_of_piece}
+use Rattle.rc_dfa.proofs.SideLemmas.{byte_of_piece}
 use Rattle.rc_lazy_dfa.proofs.NameLemmas.{is_read, died_or_not, row_going}
 use Rattle.rc_lazy_dfa.specs.SpendLaws.{spends_both, spends_within, may_within, may_later}
 use Rattle.rc_lazy_dfa.proofs.SpendLemmas.{refused_may}

@@ -15,7 +15,7 @@ use Rattle.rc_lazy_dfa.specs.declared.half.Half.{Half}
 use Rattle.rc_lazy_dfa.specs.declared.run.Stand.{Stand}
 use Rattle.rc_lazy_dfa.specs.declared.store.Store.{Store}
 use Rattle.rc_lazy_dfa.proofs.RowLemmas.{row_inside}
-use Rattle.rc_lazy_dfa.proofs.SideLemmas.{byte_of_piece}
+use Rattle.rc_dfa.proofs.SideLemmas.{byte_of_piece}
 use Rattle.rc_lazy_dfa.specs.SpendLaws.{spends_both, spends_within}
 use Rattle.rc_dfa.specs.declared.ended.Ended.TheVariants.{Idle}
 use Rattle.rc_lazy_dfa.proofs.SpendLemmas.{over_done}

@@ -2,7 +2,6 @@ pub mod RowLemmas
 pub mod WriteLemmas
 pub mod NameLemmas
 pub mod StepLemmas
-pub mod SideLemmas
 pub mod SpendLemmas
 pub mod ForwardLemmas
 pub mod BackwardLemmas

@@ -1,5 +1,5 @@
 -- A table of states in one direction.
-use Rattle.std.specs.Prelude.{◌≡◌, ℕ, ◌*◌, ◌<◌, [], length, Option, Some, None}
+use Rattle.std.specs.Prelude.{◌≡◌, ℕ, ◌*◌, ◌<◌, [], length}
 use Rattle.rc_lazy_dfa.specs.Stores.{Frame, Held}
 use Rattle.rc_lazy_dfa.specs.declared.store.Store.{Store}
 use Rattle.rc_lazy_dfa.specs.declared.half.Half.{Half}
@@ -20,7 +20,3 @@ pub record IsPlace (f : Frame) (s : Store) (row : ℕ) : Type 0 where
   pub id : ℕ
   pub there : id < length s.states
   pub row_is : row ≡ id * f.width
-
-abbrev pub IsByte : Option ℕ → Type 0
-IsByte None = Unit {0}
-IsByte (Some b) = b < 256

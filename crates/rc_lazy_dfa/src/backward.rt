@@ -3,18 +3,18 @@ ghost use Rattle.std.specs.Prelude.{◌≡◌, ◌+◌, ◌-◌, ◌<◌, ◌≤
 ghost use Rattle.rc_text.specs.Text.{Keeps, high, low, slice_end};
 ghost use Rattle.rc_dfa.specs.declared.automaton.Direction.TheVariants as direction;
 ghost use Rattle.rc_dfa.specs.Machine.{IsAsked};
-ghost use Rattle.rc_dfa.specs.Runs.{ahead_at};
+ghost use Rattle.rc_dfa.specs.Runs.{IsByte, ahead_at};
 ghost use Rattle.rc_lazy_dfa.specs.Stores.{Held, Spends, frame_of};
 ghost use Rattle.rc_dfa.specs.Automata.{machine_of};
 ghost use Rattle.rc_dfa.specs.Ended.{HasEndedDown, gave_up};
 ghost use Rattle.rc_program.specs.Sought.{text_of};
-ghost use Rattle.rc_lazy_dfa.specs.Halves.{IsHalf, IsByte};
+ghost use Rattle.rc_lazy_dfa.specs.Halves.{IsHalf};
 ghost use Rattle.rc_lazy_dfa.specs.Courses.{Course, IsAtDown, IsLegDown, IsOverDown, MayGiveUp, StandsDown, StandsNotedDown, text_in};
 
 use crate::cells::{MET, QUIT, UNKNOWN, has_died, row_of};
 use crate::half::Half;
 use crate::run::{Leg, Noted, Stand, found_down, met_by, told};
-use crate::sides::{byte_ahead, byte_behind};
+use rc_dfa::sides::{byte_ahead, byte_behind};
 use crate::store::Store;
 use rc_dfa::automaton::{Automaton, Direction};
 use rc_dfa::ended::Ended;

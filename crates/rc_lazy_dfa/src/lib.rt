@@ -9,5 +9,4 @@ mod forward;
 mod half;
 pub mod lazy;
 mod run;
-mod sides;
 mod store;

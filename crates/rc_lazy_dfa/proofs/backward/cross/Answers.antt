@@ -1,6 +1,6 @@
 use Rattle.std.proofs.Common.{rules, ◌≡◌, ◌+◌, ◌-◌, ◌∙◌, Some, length, slice_get, slice_range, slice_index_or, subst, arith}
 use Rattle.rc_lazy_dfa.specs.Courses.{IsAtDown}
-use Rattle.rc_lazy_dfa.proofs.SideLemmas.{byte_of_piece}
+use Rattle.rc_dfa.proofs.SideLemmas.{byte_of_piece}
 use Rattle.rc_lazy_dfa.proofs.BackwardLemmas.{at_moved}
 use Rattle.rc_lazy_dfa.proofs.backward.cross.Goals as goal
 use Rattle.rc_lazy_dfa.proofs.backward.cross.Goals.{After-serve}

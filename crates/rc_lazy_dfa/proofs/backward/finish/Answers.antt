@@ -1,6 +1,6 @@
 use Rattle.std.proofs.Common.{◌≡◌, ◌-◌, ◌∙◌, Some, refl, sym, subst, arith}
 use Rattle.std.specs.Prelude.{slice_get}
-use Rattle.rc_lazy_dfa.proofs.SideLemmas.{behind_kept}
+use Rattle.rc_dfa.proofs.SideLemmas.{behind_kept}
 use Rattle.rc_lazy_dfa.proofs.BackwardLemmas.{down_done, IsStepped, stepped, step_few, step_quits, end_is_read, step_bounded}
 use Rattle.rc_lazy_dfa.proofs.backward.finish.Goals as goal
 use Rattle.rc_lazy_dfa.proofs.backward.finish.Goals.{In-Ok}

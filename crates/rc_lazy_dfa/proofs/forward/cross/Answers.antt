@@ -1,5 +1,5 @@
 use Rattle.std.proofs.Common.{rules, ◌≡◌, ◌+◌, ◌∙◌, Some, slice_get, slice_index_or, sym, subst, arith}
-use Rattle.rc_lazy_dfa.proofs.SideLemmas.{byte_of_piece}
+use Rattle.rc_dfa.proofs.SideLemmas.{byte_of_piece}
 use Rattle.rc_lazy_dfa.specs.Courses.{IsAt}
 use Rattle.rc_lazy_dfa.proofs.ForwardLemmas.{at_moved, rests_here}
 use Rattle.rc_lazy_dfa.proofs.forward.cross.Goals as goal

@@ -2,7 +2,7 @@ use Rattle.std.proofs.Common.{◌≡◌, ◌∙◌, Some, refl, sym, subst, arit
 use Rattle.std.specs.Prelude.{slice_get}
 use Rattle.rc_dfa.specs.declared.automaton.Direction.TheVariants.{Forwards}
 use Rattle.rc_lazy_dfa.specs.Stores.{frame_of}
-use Rattle.rc_lazy_dfa.proofs.SideLemmas.{ahead_kept}
+use Rattle.rc_dfa.proofs.SideLemmas.{ahead_kept}
 use Rattle.rc_lazy_dfa.proofs.SpendLemmas.{over_done, says_by}
 use Rattle.rc_lazy_dfa.proofs.ForwardLemmas.{IsStepped, stepped, step_few, step_quits, end_is_read, step_bounded}
 use Rattle.rc_lazy_dfa.proofs.forward.finish.Goals as goal

@@ -1,6 +1,6 @@
 use Rattle.std.proofs.Common.{◌<◌, ◌∙◌}
-use Rattle.rc_dense_dfa.proofs.SideLemmas.{ahead_is}
-use Rattle.rc_dense_dfa.proofs.sides.byte_ahead.Goals as goal
+use Rattle.rc_dfa.proofs.SideLemmas.{ahead_is}
+use Rattle.rc_dfa.proofs.sides.byte_ahead.Goals as goal
 
 pub returns-then-at-get_slice_span-clause-value : goal.returns-then-at-get_slice_span-clause-value
 returns-then-at-get_slice_span-clause-value g c =

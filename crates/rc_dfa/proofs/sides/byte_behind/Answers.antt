@@ -1,6 +1,6 @@
 use Rattle.std.proofs.Common.{◌<◌, ◌∙◌}
-use Rattle.rc_lazy_dfa.proofs.SideLemmas.{behind_is}
-use Rattle.rc_lazy_dfa.proofs.sides.byte_behind.Goals as goal
+use Rattle.rc_dfa.proofs.SideLemmas.{behind_is}
+use Rattle.rc_dfa.proofs.sides.byte_behind.Goals as goal
 
 pub returns-then-get_slice_span-at-clause-value : goal.returns-then-get_slice_span-at-clause-value
 returns-then-get_slice_span-at-clause-value g c =

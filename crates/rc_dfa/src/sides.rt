@@ -2,15 +2,14 @@
 ghost use Rattle.std.specs.Prelude.{◌≡◌, ◌≤◌, IfSome, slice_get, ◌-◌, ◌+◌};
 ghost use Rattle.rc_text.specs.Text.{Keeps, slice_end};
 ghost use Rattle.rc_program.specs.Sought.{text_of};
-ghost use Rattle.rc_dfa.specs.Runs.{ahead_at, behind_at};
-ghost use Rattle.rc_dense_dfa.specs.Tables.{IsByte};
+ghost use Rattle.rc_dfa.specs.Runs.{IsByte, ahead_at, behind_at};
 
 use rc_text::cursor::Cursor;
 use rc_text::input::{Input, byte_at};
 
 /// The byte before the position, or None if the slice begins.
 #[inline(always)]
-pub(crate) fn byte_behind<C: Cursor>(input: &mut Input<C>, at: usize) -> Option<u8>
+pub fn byte_behind<C: Cursor>(input: &mut Input<C>, at: usize) -> Option<u8>
     requires low { input.old.slice.start ≤ at }
     requires high { at ≤ slice_end input.old }
     ensures keeps { Keeps input.old input.new }
@@ -26,7 +25,7 @@ pub(crate) fn byte_behind<C: Cursor>(input: &mut Input<C>, at: usize) -> Option<
 
 /// The byte at the position, or None if the slice or the content ends.
 #[inline(always)]
-pub(crate) fn byte_ahead<C: Cursor>(input: &mut Input<C>, at: usize) -> Option<u8>
+pub fn byte_ahead<C: Cursor>(input: &mut Input<C>, at: usize) -> Option<u8>
     requires { at ≤ slice_end input.old }
     ensures keeps { Keeps input.old input.new }
     ensures value { result ≡ ahead_at (text_of 0 input.old) at }
