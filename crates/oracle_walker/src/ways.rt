@@ -1,43 +1,19 @@
 //! Transitions: the ways out of a state at a position of an input.
 ghost use Rattle.std.specs.Prelude.{◌≡◌, ◌<◌, ◌≤◌, length, map, slice_get, slice_range};
 ghost use Rattle.rc_text.specs.Text.{Keeps, high, slice_end};
-ghost use Rattle.rc_pattern.specs.Meaning.{byte_range, char_range};
 ghost use Rattle.rc_program.specs.Text.{ahead, holds};
 ghost use Rattle.rc_program.specs.Scalars.{scalar_at};
 ghost use Rattle.rc_program.specs.Sought.{text_of};
-ghost use Rattle.rc_program.specs.Program.{in_ranges, pair_at, place_at, ways, ways_out};
+ghost use Rattle.rc_program.specs.Program.{pair_at, place_at, ways, ways_out};
 ghost use Rattle.rc_program.specs.Places.{place_of, places_of};
 
-use rc_pattern::hir::{ClassBytesRange, ClassUnicodeRange, Look};
+use rc_pattern::hir::Look;
 use rc_program::look::{holds, scalar_at};
 use rc_program::place::Place;
 use rc_program::program::Program;
+use rc_program::ranges::{has_byte, has_char};
 use rc_text::cursor::Cursor;
 use rc_text::input::{Input, around, byte_at};
-
-/// The byte is in one of the ranges.
-fn has_byte(ranges: &Vec<ClassBytesRange>, byte: u8) -> bool
-    ensures { result ≡ in_ranges (map byte_range ranges.now.items) byte }
-{
-    for range in ranges {
-        if range.start <= byte && byte <= range.end {
-            return true;
-        }
-    }
-    false
-}
-
-/// The character is in one of the ranges.
-fn has_char(ranges: &Vec<ClassUnicodeRange>, character: char) -> bool
-    ensures { result ≡ in_ranges (map char_range ranges.now.items) character }
-{
-    for range in ranges {
-        if range.start <= character && character <= range.end {
-            return true;
-        }
-    }
-    false
-}
 
 /// The byte at the position, below `hi`.
 fn next_byte<C: Cursor>(input: &mut Input<C>, hi: usize, position: usize) -> Option<u8>

@@ -1,7 +1,6 @@
 //! Epsilon closure: what a step does at one NFA state.
 ghost use Rattle.std.specs.Prelude.{◌≡◌, ◌<◌, ◌≤◌, ◌++◌, IfOk, length, map, reverse, None};
-ghost use Rattle.rc_pattern.specs.Meaning.{byte_range};
-ghost use Rattle.rc_program.specs.Program.{in_ranges, branch_ways, ways_out, place_at, is_match_place};
+ghost use Rattle.rc_program.specs.Program.{branch_ways, ways_out, place_at, is_match_place};
 ghost use Rattle.rc_program.specs.Laws.{targets};
 ghost use Rattle.rc_utf8.specs.Places.{way_of, place_of, places_of};
 ghost use Rattle.rc_utf8.specs.declared.place.ByteWay.{ByteWay};
@@ -12,7 +11,7 @@ ghost use Rattle.rc_determinize.specs.Machine.{stay_places, read_places, add_one
 
 use crate::sides::{Seen, holds_by};
 use crate::sparse_set::SparseSet;
-use rc_pattern::hir::ClassBytesRange;
+use rc_program::ranges::has_byte;
 use rc_utf8::place::{BytePlace, ByteWay};
 use std::alloc::AllocError;
 
@@ -24,19 +23,7 @@ pub fn place_at(places: &[BytePlace], index: usize) -> &BytePlace
     &places[index]
 }
 
-/// Whether one of the ranges has the byte.
-fn has_byte(ranges: &Vec<ClassBytesRange>, byte: u8) -> bool
-    ensures { result ≡ in_ranges (map byte_range ranges.now.items) byte }
-{
-    for range in ranges {
-        if range.start <= byte && byte <= range.end {
-            return true;
-        }
-    }
-    false
-}
-
-/// Adds the place, if the set doesn't have it.
+/// Adds the place, where the set doesn't have it.
 pub fn add(listed: &mut SparseSet, place: usize)
     requires { place < listed.old.capacity }
     ensures { listed.new ≡ record listed.old { items = add_one listed.old.items place } }

@@ -16,6 +16,7 @@ use rc_pattern::hir::{ClassBytesRange, ClassUnicodeRange, Look};
 use rc_program::look::scalar_at;
 use rc_program::place::Place;
 use rc_program::program::Program;
+use rc_program::ranges::{has_byte, has_char};
 
 /// How a thread goes on from a place that it enters.
 #[derive(Clone, Copy)]
@@ -204,33 +205,7 @@ fn takes_scalar(program: &Program, place: usize, ranges: &Vec<ClassUnicodeRange>
     goes
 }
 
-/// Whether one of the ranges has the byte.
-#[inline(always)]
-fn has_byte(ranges: &Vec<ClassBytesRange>, byte: u8) -> bool
-    ensures { result ≡ in_ranges (map byte_range ranges.now.items) byte }
-{
-    for range in ranges {
-        if range.start <= byte && byte <= range.end {
-            return true;
-        }
-    }
-    false
-}
-
-/// Whether one of the ranges has the character.
-#[inline(always)]
-fn has_char(ranges: &Vec<ClassUnicodeRange>, c: char) -> bool
-    ensures { result ≡ in_ranges (map char_range ranges.now.items) c }
-{
-    for range in ranges {
-        if range.start <= c && c <= range.end {
-            return true;
-        }
-    }
-    false
-}
-
-/// The first of the bytes, if one of the first `room` is there.
+/// The first of the bytes, where one of the first `room` stands there.
 #[inline(always)]
 fn next_byte(after: &[u8], room: usize) -> Option<u8>
     ensures { result ≡ slice_get (take room after.now) 0 }

@@ -1,8 +1,8 @@
 //! Programs (Thompson NFAs): their states, and the definitions of what a search over them returns.
 //!
-//! `program` is a program ready for searches, `place` has its states, and `heads` has the bytes
-//! over which a walk may go on from each of them. `look` tests assertions. `laws` has the laws,
-//! each as the contract of a function that does nothing.
+//! `laws` has the laws, each as the contract of a function with nothing to do. `look` tests where assertions hold. `place` has the
+//! places of a program as code has them, `heads` tells over which bytes walks may go on from them, `program` is a program that can be
+//! searched with, and `ranges` tells whether a class has a byte or a character.
 #![tactic(auto)]
 
 pub mod heads;
@@ -10,3 +10,4 @@ pub mod laws;
 pub mod look;
 pub mod place;
 pub mod program;
+pub mod ranges;
