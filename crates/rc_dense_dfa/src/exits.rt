@@ -8,6 +8,7 @@ use crate::look::row_of;
 use crate::table::DEAD;
 use memchr::{memchr, memchr2, memchr3};
 use rc_dfa::automaton::Direction;
+use rc_text::frequency::is_common;
 use std::alloc::{AllocError, Global};
 
 /// The bytes of which the cells of a row don't name that row itself, or tell of something found.
@@ -21,13 +22,7 @@ pub enum Exits {
     Many,
 }
 
-/// Whether the byte is common in most texts.
-fn is_common(byte: u8) -> bool {
-    matches!(byte, b' ' | b'\n' | b'0'..=b'9' | b'a'..=b'z')
-}
-
-/// The exits, and one more. A common byte is taken for many, since a search for it would end too
-/// soon to be worth it.
+/// The exits, and one more. A common byte is taken for many, since a search for it would end too soon to be worth it.
 fn with(exits: Exits, byte: u8) -> Exits
     ensures { (b : ℕ) → is_exit result b ≡ false → (is_exit exits b ≡ false) × (b ≢ byte) }
 {

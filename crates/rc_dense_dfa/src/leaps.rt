@@ -6,6 +6,7 @@ ghost use Rattle.rc_dense_dfa.specs.Exits.{AllStay, AreLeaps, AreStays, StaysAmo
 use crate::exits::{Exits, are_few};
 use crate::look::row_of;
 use crate::table::{DEAD, QUIT};
+use rc_text::frequency::{MOST_COMMON, per_thousand};
 use std::alloc::{AllocError, Global};
 
 /// This many leaps are known at most.
@@ -13,9 +14,6 @@ const MOST: usize = 4;
 
 /// Of a thousand bytes of most texts, this many lead away at most if a leap is known.
 const LEAVING: usize = 60;
-
-/// Bytes of most texts, the most common ones first.
-const LIKELY: &[u8] = b" etsranolicudfpmhbgwyvk\n0";
 
 /// Two rows among which a run stays over most bytes of most texts.
 #[derive(Clone, Copy)]
@@ -33,22 +31,7 @@ pub struct Leap {
     pub other_rests: bool,
 }
 
-/// How many of a thousand bytes of most texts are this one, about.
-fn share(byte: u8) -> usize {
-    match byte {
-        b' ' => 180,
-        b'e' | b't' => 70,
-        b'a' | b'i' | b'n' | b'o' | b'r' | b's' => 45,
-        b'\n' | b'c' | b'd' | b'h' | b'l' | b'm' | b'p' | b'u' => 25,
-        b'b' | b'f' | b'g' | b'k' | b'v' | b'w' | b'y' => 15,
-        b'(' | b')' | b',' | b'.' | b'_' => 10,
-        b'\t' | b'0'..=b'9' | b'x' => 5,
-        b'!'..=255 => 2,
-        _ => 1,
-    }
-}
-
-/// The row to which a byte leads, if it goes on from there and nothing is found.
+/// The row to which a byte leads, if it goes on from there and nothing is met.
 fn row_behind(classes: &[u8], cells: &[usize], row: usize, byte: usize) -> Option<usize>
     requires { row < 9223372036854775808 }
     ensures small { IfSome result (λ behind. behind < 9223372036854775808) }
@@ -107,7 +90,7 @@ fn leaving(classes: &[u8], cells: &[usize], row: usize, other: usize) -> usize
         // Letters come first, since they decide soonest.
         let byte = (number + 97) % 256;
         if !stays_among(classes, cells, row, other, byte) && !quits(classes, cells, row, byte) {
-            sum = sum.saturating_add(share(byte as u8));
+            sum = sum.saturating_add(per_thousand(byte as u8));
             if sum > LEAVING {
                 return sum;
             }
@@ -122,7 +105,7 @@ fn likely(classes: &[u8], cells: &[usize], row: usize) -> usize
     requires { row < 9223372036854775808 }
     ensures { result < 9223372036854775808 }
 {
-    for byte in LIKELY {
+    for byte in MOST_COMMON {
         if let Some(behind) = row_behind(classes, cells, row, *byte as usize)
             && behind != row
         {

@@ -11,14 +11,10 @@ use crate::required::required;
 use crate::stops::stops_of;
 use rc_needles::prefilter::{Prefilter, from_needles};
 use rc_pattern::hir::Hir;
+use rc_text::frequency::is_common;
 use std::alloc::{AllocError, Global};
 
-/// Whether the byte is common in most texts.
-fn is_common(byte: u8) -> bool {
-    matches!(byte, b' ' | b'\n' | b'0'..=b'9' | b'a'..=b'z')
-}
-
-/// Whether none of the needles is a single byte that is common in most texts.
+/// Whether none of the needles is a single byte that stands close together in most texts.
 fn are_rare(needles: &[Vec<u8>]) -> bool {
     for needle in needles {
         if needle.len() < 2 && needle.iter().all(|byte| is_common(*byte)) {

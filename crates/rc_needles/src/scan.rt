@@ -108,14 +108,14 @@ pub fn have_few_heads(table: &Table) -> bool {
 /// Whether the needle begins with a byte that is common in typical text.
 fn begins_common(needle: &[u8]) -> bool {
     match needle.first() {
-        Some(byte) => is_common(*byte),
+        Some(byte) => is_common_by_rank(*byte),
         None => false,
     }
 }
 
-/// Whether the byte is common in typical text. The library ranks most bytes past ASCII as common,
-/// which they are in few texts; here none is.
-fn is_common(byte: u8) -> bool {
+/// Whether the byte is common in typical text. The library ranks most bytes past ASCII as common, which
+/// they are in few texts; here none is.
+fn is_common_by_rank(byte: u8) -> bool {
     let ranks = DefaultFrequencyRank;
     byte < 128 && ranks.rank(byte) >= LEAST_COMMON
 }
