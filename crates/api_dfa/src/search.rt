@@ -4,7 +4,7 @@ ghost use Rattle.std.specs.Prelude.{◌≡◌, ◌≤◌, ◌∷◌, [], IfErr, 
 ghost use Rattle.rc_text.specs.Text.{Keeps, low, high};
 ghost use Rattle.rc_text.specs.declared.types.MatchKind.TheVariants.{LeftmostFirst};
 ghost use Rattle.rc_program.specs.Kinds.{IsAnswerBy, answer_by_from};
-ghost use Rattle.rc_program.specs.Matches.{begin_of, end_of, is_again, matches_left, next_match};
+ghost use Rattle.rc_program.specs.Matches.{begin_of, end_of, matches_left, next_match};
 ghost use Rattle.rc_program.specs.Sought.{search_for};
 ghost use Rattle.rc_pikevm_search.specs.Moved.{IsMoved};
 ghost use Rattle.rc_dfa_search.specs.Halves.{IsForwardHalf};
@@ -18,6 +18,7 @@ use crate::iterators::FindMatches;
 use crate::regex::Regex;
 use rc_dense_dfa::dense::NoCache;
 use rc_dfa_search::search as spans;
+use rc_program::matches::is_again;
 use rc_text::cursor::Cursor;
 use rc_text::input::Input;
 use rc_text::types::{HalfMatch, Match, MatchError};
@@ -177,15 +178,5 @@ fn look_on<C: Cursor>(
         }
         Ok(None) => Ok(None),
         Err(error) => Err(error),
-    }
-}
-
-/// Whether the match is empty and ends at `last`.
-fn is_again(last: Option<usize>, found: Match) -> bool
-    ensures { result ≡ is_again begin_of end_of last found }
-{
-    match last {
-        Some(last) => found.is_empty() && found.end() == last,
-        None => false,
     }
 }

@@ -3,7 +3,7 @@
 ghost use Rattle.std.specs.Prelude.{◌≡◌, ◌≤◌, IfSome};
 ghost use Rattle.rc_text.specs.Text.{Keeps, high, low};
 ghost use Rattle.rc_program.specs.Kinds.{answer_by, answer_by_from};
-ghost use Rattle.rc_program.specs.Matches.{begin_of, end_of, is_again, next_match};
+ghost use Rattle.rc_program.specs.Matches.{begin_of, end_of, next_match};
 ghost use Rattle.rc_captures.specs.Groups.{names_of};
 ghost use Rattle.rc_captures.specs.Names.{slot_len};
 ghost use Rattle.rc_pikevm_search.specs.Engine.{engine_search};
@@ -16,6 +16,7 @@ ghost use Rattle.api_meta.specs.Views.{regex_names};
 
 use crate::regex::Regex;
 use rc_captures::captures::Captures;
+use rc_program::matches::is_again;
 use rc_strategy::cache::Cache;
 use rc_text::cursor::Cursor;
 use rc_text::input::Input;
@@ -77,16 +78,6 @@ impl<'r> Model for GroupSeeker<'r> {
     ghost view = { λ s. record { seeker = s.seeker } };
 
     ghost invariant = { λ s. IsCacheIn s.seeker.regex (slot_len (names_of s.seeker.regex.info)) s.seeker.cache };
-}
-
-/// Whether the match is empty and ends at `last`.
-fn is_again(last: Option<usize>, found: Match) -> bool
-    ensures { result ≡ is_again begin_of end_of last found }
-{
-    match last {
-        Some(last) => found.is_empty() && found.end() == last,
-        None => false,
-    }
 }
 
 /// The match that a search finds, with its groups in the captures.

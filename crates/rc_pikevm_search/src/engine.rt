@@ -1,7 +1,6 @@
 //! Engine: a program with its strategy, and searches by the Pike VM.
 
 ghost use Rattle.std.specs.Prelude.{◌≡◌};
-ghost use Rattle.rc_program.specs.Matches.{begin_of, end_of, is_again};
 ghost use Rattle.rc_program.specs.Places.{places_of};
 ghost use Rattle.rc_pikevm_search.specs.Strategies.{MayGoBy, MayGoBy-is_fact};
 
@@ -9,6 +8,7 @@ use crate::strategy::{Strategy, guards_of, literals_of};
 use rc_needles::literal;
 use rc_pikevm::cache::Cache;
 use rc_pikevm::kinds::{find_by_kind, is_match_by_kind, search_slots_by_kind};
+use rc_program::matches::is_again;
 use rc_program::program::Program;
 use rc_text::cursor::Cursor;
 use rc_text::input::Input;
@@ -142,15 +142,5 @@ impl Engine {
         let _offset = input.chunk_offset();
         input.set_start(input.start() + 1);
         self.find(cache, input)
-    }
-}
-
-/// Whether the match is empty and ends at `last`.
-fn is_again(last: Option<usize>, found: Match) -> bool
-    ensures { result ≡ is_again begin_of end_of last found }
-{
-    match last {
-        Some(last) => found.is_empty() && found.end() == last,
-        None => false,
     }
 }

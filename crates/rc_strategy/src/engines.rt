@@ -1,7 +1,6 @@
 //! Engines: patterns with everything that may search for them, and the choice among these.
 ghost use Rattle.std.specs.Prelude.{◌≡◌, IfSome, option_map};
 ghost use Rattle.rc_text.specs.Found.{half_of};
-ghost use Rattle.rc_program.specs.Matches.{begin_of, end_of, is_again};
 ghost use Rattle.rc_program.specs.Places.{places_of};
 ghost use Rattle.rc_strategy.specs.Needed.{NeedsConfine};
 ghost use Rattle.rc_strategy.specs.Slots.{IsOfPatterns, NamesGroups};
@@ -30,6 +29,7 @@ use rc_literals::guard::{Guard, Needs};
 use rc_needles::prefilter::Prefilter;
 use rc_pikevm_search::engine::Engine;
 use rc_pikevm_search::strategy::guards_of;
+use rc_program::matches::is_again;
 use rc_text::cursor::Cursor;
 use rc_text::input::Input;
 use rc_text::types::{HalfMatch, Match, MatchError, MatchKind, PatternID, Span};
@@ -706,15 +706,5 @@ pub(crate) fn half_of(found: Option<Match>) -> Option<HalfMatch>
     match found {
         Some(found) => Some(HalfMatch::new(found.pattern(), found.end())),
         None => None,
-    }
-}
-
-/// Whether the match is empty and ends at `last`.
-fn is_again(last: Option<usize>, found: Match) -> bool
-    ensures { result ≡ is_again begin_of end_of last found }
-{
-    match last {
-        Some(last) => found.is_empty() && found.end() == last,
-        None => false,
     }
 }

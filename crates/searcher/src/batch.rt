@@ -4,7 +4,7 @@ ghost use Rattle.rc_pikevm_search.specs.Moved.{IsMoved};
 ghost use Rattle.api_meta.specs.Caches.{IsCacheFor};
 ghost use Rattle.api_meta.specs.Views.{regex_kind, regex_patterns, regex_settings, sought};
 ghost use Rattle.rc_program.specs.Kinds.{answer_by, answer_by_from, matches_by_kind};
-ghost use Rattle.rc_program.specs.Matches.{begin_of, end_of, is_again, next_match};
+ghost use Rattle.rc_program.specs.Matches.{begin_of, end_of, next_match};
 ghost use Rattle.rc_program.specs.Sought.{search_for};
 ghost use Rattle.rc_text.specs.Text.{Keeps, high, low};
 ghost use Rattle.searcher.specs.Places.{IsFilled};
@@ -12,6 +12,7 @@ ghost use Rattle.searcher.specs.Places.{IsFilled};
 use crate::answers::MatchAt;
 use api_meta::cache::Cache;
 use api_meta::regex::Regex;
+use rc_program::matches::is_again;
 use rc_text::cursor::Cursor;
 use rc_text::input::Input;
 use rc_text::types::Match;
@@ -43,18 +44,7 @@ pub(crate) fn search<C: Cursor>(
     regex.search_with(cache, input)
 }
 
-/// Whether the match is empty and ends where the one before ended.
-fn is_again(last: Option<usize>, found: Match) -> bool
-    ensures { result ≡ is_again begin_of end_of last found }
-{
-    match last {
-        Some(last) => found.is_empty() && found.end() == last,
-        None => false,
-    }
-}
-
-/// The same match, as the first of the list of the input's matches: that doesn't read the earliest
-/// flag. The span may start elsewhere then.
+/// The same match, as the first of the list of the input's matches: that doesn't read the earliest flag. The span may start elsewhere then.
 fn first<C: Cursor>(regex: &Regex, cache: &mut Cache, input: &mut Input<C>) -> Option<Match>
     requires made { IsCacheFor (regex_patterns regex.now) (regex_settings regex.now) cache.old }
     ensures cache { IsCacheFor (regex_patterns regex.now) (regex_settings regex.now) cache.new }
