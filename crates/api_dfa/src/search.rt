@@ -20,7 +20,7 @@ use rc_dense_dfa::dense::NoCache;
 use rc_dfa_search::search as spans;
 use rc_program::matches::is_again;
 use rc_text::cursor::Cursor;
-use rc_text::input::Input;
+use rc_text::input::{Input, advance_start};
 use rc_text::types::{HalfMatch, Match, MatchError};
 
 /// The match that a search of the input finds.
@@ -171,9 +171,7 @@ fn look_on<C: Cursor>(
             if !is_again(last, found) {
                 return Ok(Some(found));
             }
-            // The content is shorter than the greatest number.
-            let _offset = input.chunk_offset();
-            input.set_start(input.start() + 1);
+            advance_start(input);
             find_by(dfa, input, false)
         }
         Ok(None) => Ok(None),

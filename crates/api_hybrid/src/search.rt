@@ -21,7 +21,7 @@ use crate::regex::Regex;
 use rc_dfa_search::search as spans;
 use rc_program::matches::is_again;
 use rc_text::cursor::Cursor;
-use rc_text::input::Input;
+use rc_text::input::{Input, advance_start};
 use rc_text::types::{HalfMatch, Match, MatchError};
 
 /// The match that a search of the input finds, in a cache that was made for this regex. The cache
@@ -218,9 +218,7 @@ fn look_on<C: Cursor>(
             if !is_again(last, found) {
                 return Ok(Some(found));
             }
-            // The content is shorter than the greatest number.
-            let _offset = input.chunk_offset();
-            input.set_start(input.start() + 1);
+            advance_start(input);
             find_by(re, cache, input, false)
         }
         Ok(None) => Ok(None),

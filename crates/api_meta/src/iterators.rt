@@ -7,7 +7,7 @@ use crate::regex::Regex;
 use crate::seeker::{GroupSeeker, Seeker};
 use rc_captures::captures::Captures;
 use rc_text::cursor::Cursor;
-use rc_text::input::{Input, high};
+use rc_text::input::{Input, content_fits, high};
 use rc_text::types::{Match, Span};
 use std::alloc::AllocError;
 use std::iter::FusedIterator;
@@ -97,8 +97,7 @@ impl<'r, C: Cursor + Drop> FindMatches<'r, C> {
     pub fn count(self) -> usize
         ensures { result ≡ length (find_left self.entry) }
     {
-        // The content is shorter than the greatest number.
-        let _offset = self.input.chunk_offset();
+        content_fits(&self.input);
         Iterator::count(self)
     }
 }

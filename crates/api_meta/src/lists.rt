@@ -8,7 +8,7 @@ use crate::regex::Regex;
 use crate::seeker::Standing;
 use rc_captures::captures::Captures;
 use rc_text::cursor::Cursor;
-use rc_text::input::Input;
+use rc_text::input::{Input, content_fits};
 use rc_text::types::Match;
 use std::alloc::{AllocError, Global};
 use std::iter::FusedIterator;
@@ -80,8 +80,7 @@ impl Regex {
         ensures runs { FindRunsWith result }
         ensures stays { FindKeepsAlong result }
     {
-        // The content is shorter than the greatest number.
-        let _offset = input.chunk_offset();
+        content_fits(input);
         let standing = Standing {
             last: None,
             is_done: false,
@@ -124,8 +123,7 @@ impl Regex {
         ensures same_references { captures_with_lenders result ≡ (cache.entry.ghost_name, input.entry.ghost_name) }
         ensures stays { CapturesKeepAlong result }
     {
-        // The content is shorter than the greatest number.
-        let _offset = input.chunk_offset();
+        content_fits(input);
         let standing = Standing {
             last: None,
             is_done: false,

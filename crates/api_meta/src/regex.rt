@@ -29,7 +29,7 @@ use rc_settings::meta::Config;
 use rc_strategy::engines::Engines;
 use rc_strategy::{cache, early};
 use rc_text::cursor::Cursor;
-use rc_text::input::Input;
+use rc_text::input::{Input, content_fits};
 use rc_text::types::{HalfMatch, Match, PatternID};
 use std::alloc::{AllocError, Global};
 use std::mem::size_of;
@@ -483,8 +483,7 @@ impl Regex {
         ensures input { IfOk result (λ s. find_input s ≡ input) }
         ensures runs { IfOk result FindRuns }
     {
-        // The content is shorter than the greatest number.
-        let _offset = input.chunk_offset();
+        content_fits(&input);
         let cache = self.engines.create_cache(alloc, 0)?;
         let seeker = Seeker {
             regex: self,
@@ -517,8 +516,7 @@ impl Regex {
         ensures regex { IfOk result (λ s. captures_regex s ≡ self.now) }
         ensures input { IfOk result (λ s. captures_input s ≡ input) }
     {
-        // The content is shorter than the greatest number.
-        let _offset = input.chunk_offset();
+        content_fits(&input);
         let cache = self.engine_cache(alloc)?;
         let seeker = Seeker {
             regex: self,

@@ -19,7 +19,7 @@ use rc_captures::captures::Captures;
 use rc_program::matches::is_again;
 use rc_strategy::cache::Cache;
 use rc_text::cursor::Cursor;
-use rc_text::input::Input;
+use rc_text::input::{Input, advance_start};
 use rc_text::types::Match;
 use std::alloc::{AllocError, Global};
 use std::marker::Model;
@@ -129,9 +129,7 @@ fn next_groups<C: Cursor>(
     if !is_again(last, found) {
         return Some(found);
     }
-    // The content is shorter than the greatest number.
-    let _offset = input.chunk_offset();
-    input.set_start(input.start() + 1);
+    advance_start(input);
     find_groups(regex, cache, input, caps)
 }
 

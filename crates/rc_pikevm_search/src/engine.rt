@@ -11,7 +11,7 @@ use rc_pikevm::kinds::{find_by_kind, is_match_by_kind, search_slots_by_kind};
 use rc_program::matches::is_again;
 use rc_program::program::Program;
 use rc_text::cursor::Cursor;
-use rc_text::input::Input;
+use rc_text::input::{Input, advance_start};
 use rc_text::types::{Match, MatchKind, PatternID};
 use std::alloc::{AllocError, Global};
 
@@ -138,9 +138,7 @@ impl Engine {
         if !is_again(last, found) {
             return Some(found);
         }
-        // The content is shorter than the greatest number.
-        let _offset = input.chunk_offset();
-        input.set_start(input.start() + 1);
+        advance_start(input);
         self.find(cache, input)
     }
 }

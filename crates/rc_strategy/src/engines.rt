@@ -31,7 +31,7 @@ use rc_pikevm_search::engine::Engine;
 use rc_pikevm_search::strategy::guards_of;
 use rc_program::matches::is_again;
 use rc_text::cursor::Cursor;
-use rc_text::input::Input;
+use rc_text::input::{Input, advance_start};
 use rc_text::types::{HalfMatch, Match, MatchError, MatchKind, PatternID, Span};
 use std::alloc::{AllocError, Global};
 
@@ -672,9 +672,7 @@ impl Engines {
         if !is_again(last, found) {
             return Some(found);
         }
-        // The content is shorter than the greatest number.
-        let _offset = input.chunk_offset();
-        input.set_start(input.start() + 1);
+        advance_start(input);
         self.find(cache, input)
     }
 

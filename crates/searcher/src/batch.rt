@@ -14,7 +14,7 @@ use api_meta::cache::Cache;
 use api_meta::regex::Regex;
 use rc_program::matches::is_again;
 use rc_text::cursor::Cursor;
-use rc_text::input::Input;
+use rc_text::input::{Input, content_fits};
 use rc_text::types::Match;
 
 /// What a batch was filled with, and where the iteration is behind it.
@@ -72,8 +72,7 @@ fn next_match<C: Cursor>(
         ≡ next_match begin_of end_of (answer_by_from (regex_kind regex.now) (search_for (sought regex.now) input.old)) input.old.span.start last }
     ensures within { IfSome result (λ m. m.end ≤ high input.new) }
 {
-    // The content is shorter than the greatest number.
-    let _offset = input.chunk_offset();
+    content_fits(input);
     let start = input.start();
     let found = first(regex, cache, input)?;
     if !is_again(last, found) {

@@ -12,7 +12,7 @@ pub returns-else-not-is_again-clause-fault : goal.returns-else-not-is_again-clau
 returns-else-not-is_again-clause-fault g c =
     let re = c.args.re.now in
     let i = c.args.input.now in
-    let j = c.set_start.new.self in
+    let j = c.advance_start.new.input in
     let first = c.args.cache.now in
     let met = c.find_by.new.cache in
     let last = c.find_by-in-Ok-Some.new.cache in
@@ -25,7 +25,7 @@ returns-else-not-is_again-clause-fault g c =
 pub returns-else-not-is_again-clause-clears : goal.returns-else-not-is_again-clause-clears
 returns-else-not-is_again-clause-clears g c =
     let i = c.args.input.now in
-    let j = c.set_start.new.self in
+    let j = c.advance_start.new.input in
     let moved : IsMoved i j = search rules in
     let at : j.span.start ≡ i.span.start + 1 = search rules in
     clears_later c.args.re.now i j c.args.cache.now c.find_by.new.cache c.find_by-in-Ok-Some.new.cache moved at c.requires.made c.find_by.ensures.cache

@@ -7,7 +7,7 @@ pub count-requires-clause-fits : goal.count-requires-clause-fits
 count-requires-clause-fits g c =
     let s = c.args.self in
     let few = few_left s.seeker.regex s.input s.seeker.last s.seeker.is_done in
-    inl (omega (arith, few, c.chunk_offset-offset.ensures.shows.small))
+    inl (omega (arith, few, c.content_fits.ensures))
 
 pub returns : goal.returns
 returns g c = let (xs, all, same) = c.count.ensures.ran in same ∙ ap length (sym (find_drained xs c.args.self all))

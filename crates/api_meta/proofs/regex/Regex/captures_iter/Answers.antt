@@ -23,4 +23,4 @@ returns-clause-law_by g c =
     refl refl refl
 
 pub returns-clause-short : goal.returns-clause-short
-returns-clause-short g c = let few = few_left c.args.self.now c.args.input None false in omega (arith, few, c.chunk_offset-offset.ensures.shows.small)
+returns-clause-short g c = let few = few_left c.args.self.now c.args.input None false in omega (arith, few, c.content_fits.ensures)

@@ -25,7 +25,7 @@ returns-clause-law_by g c =
 
 pub returns-clause-short : goal.returns-clause-short
 returns-clause-short g c =
-    let few = few_left c.args.self.now c.args.input.now None false in omega (arith, few, c.chunk_offset-offset.ensures.shows.small)
+    let few = few_left c.args.self.now c.args.input.now None false in omega (arith, few, c.content_fits.ensures)
 
 pub returns-clause-runs : goal.returns-clause-runs
 returns-clause-runs g c = captures_alike _

@@ -17,7 +17,7 @@ pub returns-clause-within : goal.returns-clause-within
 returns-clause-within g c = list_within (regex_kind c.args.self.now) (search_for (sought c.args.self.now) c.args.input) c.args.input.span.start
 
 pub returns-clause-short : goal.returns-clause-short
-returns-clause-short g c = let few = few_left c.args.self.now c.args.input None false in omega (arith, few, c.chunk_offset-offset.ensures.shows.small)
+returns-clause-short g c = let few = few_left c.args.self.now c.args.input None false in omega (arith, few, c.content_fits.ensures)
 
 pub returns-clause-runs : goal.returns-clause-runs
 returns-clause-runs g c = find_runs
