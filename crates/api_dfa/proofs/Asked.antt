@@ -2,7 +2,7 @@
 use Rattle.std.proofs.Common.{◌≡◌, ℕ, Bool, true, false, List, length, refl, subst, sym, arith}
 use Rattle.std.proofs.Math.Logic.{∥∥₁_map}
 use Rattle.std.proofs.lemmas.List.{length-map}
-use Rattle.rc_determinize.specs.declared.kind.TableKind.{TableKind}
+use Rattle.rc_text.specs.declared.types.MatchKind.{MatchKind}
 use Rattle.rc_pattern.specs.Re.{Re}
 use Rattle.rc_program.specs.Program.{shown, without_groups}
 use Rattle.rc_program.specs.Sought.{Sought}
@@ -18,7 +18,7 @@ pub shown_long : (grouped : Bool) (hs : List Re) → length hs ≡ length (shown
 shown_long true hs = refl
 shown_long false hs = sym (length-map hs without_groups)
 
-halves_of : (q : Sought) (kind : TableKind) (tables : Dense) (earliest : Bool) → AreTables q kind tables →
+halves_of : (q : Sought) (kind : MatchKind) (tables : Dense) (earliest : Bool) → AreTables q kind tables →
     AreHalvesOf (AreHalves tables) (aim_for q kind earliest) (shown q.grouped q.patterns) q.terminator
 halves_of q kind tables earliest t = record {
   ahead = t.ahead;
@@ -30,7 +30,7 @@ halves_of q kind tables earliest t = record {
 }
 
 -- what is told of any patterns of which they are halves is told of those that are sought
-pub asked : {q : Sought} {kind : TableKind} {tables : Dense} {earliest : Bool} {a : Aim} (P : Aim → List Re → ℕ → Type 0) → a ≡ aim_for q kind earliest →
+pub asked : {q : Sought} {kind : MatchKind} {tables : Dense} {earliest : Bool} {a : Aim} (P : Aim → List Re → ℕ → Type 0) → a ≡ aim_for q kind earliest →
     ∥ AreTables q kind tables ∥₁ → ((hs : List Re) (terminator : ℕ) → AreHalvesOf (AreHalves tables) a hs terminator → P a hs terminator) →
     ∥ P (aim_for q kind earliest) (shown q.grouped q.patterns) q.terminator ∥₁
 asked {q} {kind} {tables} {earliest} P e made f =

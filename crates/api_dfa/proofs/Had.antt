@@ -7,8 +7,8 @@ use Rattle.std.proofs.Props.{props}
 use Rattle.std.proofs.lemmas.Bool.{cases_lt}
 use Rattle.rc_text.specs.Found.{Found, HalfFound}
 use Rattle.rc_text.specs.Text.{is_boundary}
-use Rattle.rc_determinize.specs.declared.kind.TableKind.{TableKind}
-use Rattle.rc_determinize.specs.declared.kind.TableKind.TheVariants.{All as all_matches, LeftmostFirst as leftmost_first, LeftmostLongest as leftmost_longest}
+use Rattle.rc_text.specs.declared.types.MatchKind.{MatchKind}
+use Rattle.rc_text.specs.declared.types.MatchKind.TheVariants.{All as all_matches, LeftmostFirst as leftmost_first, LeftmostLongest as leftmost_longest}
 use Rattle.rc_text.specs.declared.types.MatchError.{MatchError}
 use Rattle.rc_text.specs.declared.types.MatchError.TheVariants.{Quit, GaveUp}
 use Rattle.rc_pattern.specs.Re.{Re, empty, literal, byte_in, char_in, look, repeat, capture, cat, alt, none}
@@ -17,8 +17,7 @@ use Rattle.rc_pattern.specs.declared.hir.Look.{Look}
 use Rattle.rc_program.specs.Program.{shown, without_groups}
 use Rattle.rc_program.specs.Answer.{Search}
 use Rattle.rc_program.specs.Greatest.{IsSpelledIn}
-use Rattle.rc_program.specs.Kinds.{is_early}
-use Rattle.rc_determinize.specs.TableKinds.{IsAnswerBy, IsAnswerWhere, answer_by}
+use Rattle.rc_program.specs.Kinds.{is_early, IsAnswerBy, IsAnswerWhere, answer_by}
 use Rattle.rc_dfa_search.specs.Halves.{IsForwardHalf, IsToldWith}
 use Rattle.rc_dfa_search.specs.Reverse.{IsReverseHalf, IsSpelledToEnd, IsStartWhere, HasNoStart}
 use Rattle.rc_dfa_search.specs.Faults.{IsFault, MayQuit, SpeaksOfUnicode}
@@ -36,17 +35,17 @@ err_had P Q f (Err e) t = f e t
 
 -- MATCHES
 
-where_had : (early : Bool) (kind : TableKind) (s : Search) (o : Option Found) → ∥ IsAnswerWhere early kind s o ∥₁ → IsAnswerWhere early kind s o
+where_had : (early : Bool) (kind : MatchKind) (s : Search) (o : Option Found) → ∥ IsAnswerWhere early kind s o ∥₁ → IsAnswerWhere early kind s o
 where_had true kind s None t = ∥∥₁_elim t (hlevel props) (λ e. e)
 where_had true kind s (Some m) t = had (spelled_in_decided s m) t
 where_had false kind s o t = ∥∥₁_elim t (hlevel props) (λ e. e)
 
-pub answer_had : (kind : TableKind) (earliest : Bool) (s : Search) (o : Option Found) → ∥ IsAnswerBy kind earliest s o ∥₁ → IsAnswerBy kind earliest s o
+pub answer_had : (kind : MatchKind) (earliest : Bool) (s : Search) (o : Option Found) → ∥ IsAnswerBy kind earliest s o ∥₁ → IsAnswerBy kind earliest s o
 answer_had kind earliest s o t = where_had (is_early earliest s) kind s o t
 
 -- ENDS
 
-abbrev HalfWhere : Bool → TableKind → Search → HalfFound → Type 0
+abbrev HalfWhere : Bool → MatchKind → Search → HalfFound → Type 0
 HalfWhere early kind s h = (m : Found) × IsAnswerWhere early kind s (Some m) × (h.offset ≡ m.end) × IsToldWith kind s m h.pattern
 
 -- any that is spelled, of the pattern that is told
@@ -57,12 +56,12 @@ from_own s h m w e p = (
       (subst (λ k. IsSpelledIn s (record { pattern = m.pattern; start = m.start; end = k })) (sym e) w),
 )
 
-from_early : (kind : TableKind) (s : Search) (h : HalfFound) → HalfWhere true kind s h → SpelledFrom s h.pattern h.offset
+from_early : (kind : MatchKind) (s : Search) (h : HalfFound) → HalfWhere true kind s h → SpelledFrom s h.pattern h.offset
 from_early leftmost_first s h w = from_own s h w.0 w.1 w.2 w.3
 from_early leftmost_longest s h w = from_own s h w.0 w.1 w.2 w.3
 from_early all_matches s h w = (w.3.0, subst (λ e. IsSpelledIn s (record { pattern = h.pattern; start = w.3.0; end = e })) (sym w.2) w.3.1)
 
-to_early : (kind : TableKind) (s : Search) (h : HalfFound) → SpelledFrom s h.pattern h.offset → HalfWhere true kind s h
+to_early : (kind : MatchKind) (s : Search) (h : HalfFound) → SpelledFrom s h.pattern h.offset → HalfWhere true kind s h
 to_early leftmost_first s h w = (record { pattern = h.pattern; start = w.0; end = h.offset }, w.1, refl, refl)
 to_early leftmost_longest s h w = (record { pattern = h.pattern; start = w.0; end = h.offset }, w.1, refl, refl)
 to_early all_matches s h w = (record { pattern = h.pattern; start = w.0; end = h.offset }, w.1, refl, w)
@@ -70,12 +69,12 @@ to_early all_matches s h w = (record { pattern = h.pattern; start = w.0; end = h
 same_match : (o : Option Found) (m n : Found) → o ≡ Some n → Some m ≡ o → m ≡ n
 same_match o m n e f = cc
 
-told_had : (kind : TableKind) (s : Search) (m : Found) (p : ℕ) → ∥ IsToldWith kind s m p ∥₁ → IsToldWith kind s m p
+told_had : (kind : MatchKind) (s : Search) (m : Found) (p : ℕ) → ∥ IsToldWith kind s m p ∥₁ → IsToldWith kind s m p
 told_had leftmost_first s m p t = ∥∥₁_elim t (hlevel props) (λ e. e)
 told_had leftmost_longest s m p t = ∥∥₁_elim t (hlevel props) (λ e. e)
 told_had all_matches s m p t = had (spelled_from_decided s p m.end) t
 
-by_answer : (kind : TableKind) (s : Search) (h : HalfFound) (o : Option Found) → answer_by kind s ≡ o → ∥ HalfWhere false kind s h ∥₁ →
+by_answer : (kind : MatchKind) (s : Search) (h : HalfFound) (o : Option Found) → answer_by kind s ≡ o → ∥ HalfWhere false kind s h ∥₁ →
     HalfWhere false kind s h
 by_answer kind s h None e t = absurd (∥∥₁_elim t (λ x y. absurd x) (λ w. let f = w.1 in let never : None ≡ Some w.0 = sym e ∙ sym f in cc))
 by_answer kind s h (Some m) e t = (
@@ -85,11 +84,11 @@ by_answer kind s h (Some m) e t = (
   told_had kind s m h.pattern (∥∥₁_map t (λ w. subst (λ n. IsToldWith kind s n h.pattern) (same_match (answer_by kind s) w.0 m e w.1) w.3)),
 )
 
-half_where_had : (early : Bool) (kind : TableKind) (s : Search) (h : HalfFound) → ∥ HalfWhere early kind s h ∥₁ → HalfWhere early kind s h
+half_where_had : (early : Bool) (kind : MatchKind) (s : Search) (h : HalfFound) → ∥ HalfWhere early kind s h ∥₁ → HalfWhere early kind s h
 half_where_had true kind s h t = to_early kind s h (had (spelled_from_decided s h.pattern h.offset) (∥∥₁_map t (from_early kind s h)))
 half_where_had false kind s h t = by_answer kind s h (answer_by kind s) refl t
 
-pub end_had : (kind : TableKind) (earliest : Bool) (s : Search) (o : Option HalfFound) → ∥ IsForwardHalf kind earliest s o ∥₁ →
+pub end_had : (kind : MatchKind) (earliest : Bool) (s : Search) (o : Option HalfFound) → ∥ IsForwardHalf kind earliest s o ∥₁ →
     IsForwardHalf kind earliest s o
 end_had kind earliest s None t = answer_had kind earliest s None t
 end_had kind earliest s (Some h) t = half_where_had (is_early earliest s) kind s h t

@@ -1,6 +1,6 @@
 -- What the tables of an automaton of patterns are to what is sought.
 use Rattle.std.proofs.Common.{ℕ, ◌≤◌, ◌⊎◌, Bool, List, length, Option, Some, None, refl, arith}
-use Rattle.rc_determinize.specs.declared.kind.TableKind.{TableKind}
+use Rattle.rc_text.specs.declared.types.MatchKind.{MatchKind}
 use Rattle.rc_pattern.specs.Re.{Re}
 use Rattle.rc_program.specs.Laws.{heaviness}
 use Rattle.rc_program.specs.Program.{program, shown}
@@ -31,7 +31,7 @@ program_light limit grouped hs ok =
     let placed = ok.placed in
     omega (arith, weighs, lighter, placed)
 
-module _ (q : Sought) (kind : TableKind) (a : Automaton) (of : AreMachines (shown q.grouped q.patterns) q.terminator kind (machine_of a Forwards) (machine_of a Backwards)) where
+module _ (q : Sought) (kind : MatchKind) (a : Automaton) (of : AreMachines (shown q.grouped q.patterns) q.terminator kind (machine_of a Forwards) (machine_of a Backwards)) where
   sources : AreSources q kind (machine_of a Forwards) (machine_of a Backwards) (length (samples_of a))
   sources = record {
     machines = of;

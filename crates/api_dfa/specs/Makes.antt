@@ -1,6 +1,6 @@
 -- Why no tables are made.
 use Rattle.std.specs.Prelude.{◌≡◌, ℕ, Option, Some, None}
-use Rattle.rc_determinize.specs.declared.kind.TableKind.{TableKind}
+use Rattle.rc_text.specs.declared.types.MatchKind.{MatchKind}
 use Rattle.rc_program.specs.Sought.{Sought}
 use Rattle.rc_dense_dfa.specs.declared.error.TableError.{TableError}
 use Rattle.rc_dense_dfa.specs.declared.error.TableError.TheVariants as tables
@@ -15,7 +15,7 @@ refusal_of tables.TooBig None = Memory
 refusal_of tables.Memory limit = Memory
 
 -- memory was wanting, or the tables are too big for the limit
-abbrev pub IsTablesRefusal : Sought → TableKind → Option ℕ → BuildError → Type 0
+abbrev pub IsTablesRefusal : Sought → MatchKind → Option ℕ → BuildError → Type 0
 IsTablesRefusal q kind limit (DfaSizeLimit n) = (limit ≡ Some n) × IsTooBig q kind n
 IsTablesRefusal q kind limit Memory = Unit {0}
 IsTablesRefusal q kind limit (Syntax p e) = ⊥

@@ -2,7 +2,6 @@
 use Rattle.std.specs.Prelude.{◌≡◌, ℕ, List, Option, Some, None, unwrap_or}
 use Rattle.rc_pattern.specs.Re.{Re}
 use Rattle.rc_parser.specs.Settings.{Settings as SyntaxSettings}
-use Rattle.rc_determinize.specs.TableKinds.{table_kind_of}
 use Rattle.rc_settings.specs.SearchSettings.{match_kind_of}
 use Rattle.rc_settings.specs.StateSettings.{StateSettings, no_state_setting}
 use Rattle.rc_settings.specs.Thompson.{Settings, nfa_size_limit_of}
@@ -12,7 +11,7 @@ use Rattle.rc_build.specs.Fits.{sought_by}
 use Rattle.rc_build.specs.Refusals.{IsBuildable, IsRefusal}
 use Rattle.rc_build.specs.TextRefusals.{AllRead, IsTextRefusal}
 use Rattle.api_dfa.specs.Tables.{AreLight, IsTooBig}
-use Rattle.api_dfa.specs.Views.{dfa_of, sought, table_kind}
+use Rattle.api_dfa.specs.Views.{dfa_of, sought, dfa_kind}
 use Rattle.api_dfa.specs.declared.regex.Regex.{Regex}
 
 -- nothing is set
@@ -26,7 +25,7 @@ dfa_size_limit_of s = unwrap_or s.limit None
 -- the tables of the patterns are too big for the limit that is set
 abbrev pub AreTooBig : Settings → StateSettings (Option ℕ) → List Re → ℕ → Type 0
 AreTooBig program states hs n =
-    (dfa_size_limit_of states ≡ Some n) × IsTooBig (sought_by program hs) (table_kind_of (match_kind_of states.search)) n
+    (dfa_size_limit_of states ≡ Some n) × IsTooBig (sought_by program hs) (match_kind_of states.search) n
 
 -- The refusal is the first one that applies to the patterns. Want of memory may come at any time.
 abbrev pub IsDfaRefusal : Settings → StateSettings (Option ℕ) → List Re → BuildError → Type 0
@@ -41,4 +40,4 @@ IsDfaTextRefusal program states syntax texts e = IsTextRefusal (nfa_size_limit_o
 
 -- each direction of what was built is within the limit
 abbrev pub IsWithinLimit : StateSettings (Option ℕ) → Regex → Type 0
-IsWithinLimit states re = AreLight (sought (dfa_of re)) (table_kind (dfa_of re)) (dfa_size_limit_of states) (dfa_of re).tables
+IsWithinLimit states re = AreLight (sought (dfa_of re)) (dfa_kind (dfa_of re)) (dfa_size_limit_of states) (dfa_of re).tables

@@ -1,6 +1,6 @@
 -- What the tables of patterns are made from, and what they weigh.
 use Rattle.std.specs.Prelude.{◌≡◌, ℕ, ◌≤◌, ◌⊎◌, List, length, Option, Some}
-use Rattle.rc_determinize.specs.declared.kind.TableKind.{TableKind}
+use Rattle.rc_text.specs.declared.types.MatchKind.{MatchKind}
 use Rattle.rc_program.specs.Program.{shown}
 use Rattle.rc_program.specs.Sought.{Sought}
 use Rattle.rc_dfa.specs.Machine.{Machine, IsClassing}
@@ -11,7 +11,7 @@ use Rattle.rc_dense_dfa.specs.declared.error.TableError.TheVariants.{TooBig}
 use Rattle.rc_dfa_search.specs.Machines.{AreMachines}
 
 -- The tables are those of what is sought, for matches of the kind. `PatternID` has a number for each of the patterns.
-pub record AreTables (q : Sought) (kind : TableKind) (tables : Dense) : Type 0 where
+pub record AreTables (q : Sought) (kind : MatchKind) (tables : Dense) : Type 0 where
   pub ahead : Machine
   pub behind : Machine
   pub machines : AreMachines (shown q.grouped q.patterns) q.terminator kind ahead behind
@@ -19,7 +19,7 @@ pub record AreTables (q : Sought) (kind : TableKind) (tables : Dense) : Type 0 w
   pub few : length q.patterns ≤ 2147483647
 
 -- From what tables of it are made: the machines, and so many classes of bytes, of one of which none is told from another.
-pub record AreSources (q : Sought) (kind : TableKind) (ahead behind : Machine) (count : ℕ) : Type 0 where
+pub record AreSources (q : Sought) (kind : MatchKind) (ahead behind : Machine) (count : ℕ) : Type 0 where
   pub machines : AreMachines (shown q.grouped q.patterns) q.terminator kind ahead behind
   pub classes : List ℕ
   pub samples : List ℕ
@@ -28,7 +28,7 @@ pub record AreSources (q : Sought) (kind : TableKind) (ahead behind : Machine) (
   pub counted : count ≡ length samples
 
 -- The tables hold no state that can't be reached, and in each direction what holds the states weighs no more than the limit.
-pub record AreLight (q : Sought) (kind : TableKind) (limit : Option ℕ) (tables : Dense) : Type 0 where
+pub record AreLight (q : Sought) (kind : MatchKind) (limit : Option ℕ) (tables : Dense) : Type 0 where
   pub ahead : Machine
   pub behind : Machine
   pub count : ℕ
@@ -37,7 +37,7 @@ pub record AreLight (q : Sought) (kind : TableKind) (limit : Option ℕ) (tables
   pub reverse : IsMade behind count limit tables.reverse
 
 -- In one of the directions what holds some of the states that can be reached weighs more than the limit.
-pub record IsTooBig (q : Sought) (kind : TableKind) (limit : ℕ) : Type 0 where
+pub record IsTooBig (q : Sought) (kind : MatchKind) (limit : ℕ) : Type 0 where
   pub ahead : Machine
   pub behind : Machine
   pub count : ℕ

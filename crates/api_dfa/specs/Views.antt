@@ -1,8 +1,6 @@
 -- What is built and what builds, as contracts see them.
 use Rattle.std.specs.Prelude.{ℕ, List, Option, map}
 use Rattle.rc_text.specs.declared.types.MatchKind.{MatchKind}
-use Rattle.rc_determinize.specs.TableKinds.{kind_of, table_kind_of}
-use Rattle.rc_determinize.specs.declared.kind.TableKind.{TableKind}
 use Rattle.rc_pattern.specs.Re.{Re}
 use Rattle.rc_pattern.specs.Meaning.{meaning}
 use Rattle.rc_program.specs.Sought.{Sought}
@@ -25,13 +23,9 @@ dfa_program d = settings_of d.thompson
 abbrev pub dfa_settings : DFA → SearchSettings
 dfa_settings d = search_settings_of d.config
 
--- the kind of its tables
-abbrev pub table_kind : DFA → TableKind
-table_kind d = table_kind_of (match_kind_of (dfa_settings d))
-
 -- the kind of match that its tables find
 abbrev pub dfa_kind : DFA → MatchKind
-dfa_kind d = kind_of (table_kind d)
+dfa_kind d = match_kind_of (dfa_settings d)
 
 -- what it seeks
 abbrev pub sought : DFA → Sought

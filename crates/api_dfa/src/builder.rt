@@ -14,7 +14,6 @@ use crate::dfa::{DFA, tables_of};
 use crate::regex::Regex;
 use rc_build::build::{Built, build_all};
 use rc_build::texts::parse_all;
-use rc_determinize::kind::table_kind;
 use rc_pattern::hir::Hir;
 use rc_settings::error::BuildError;
 use rc_settings::{states, thompson};
@@ -150,7 +149,7 @@ impl Builder {
             &hirs,
             self.thompson,
             &engine.program.places,
-            table_kind(engine.kind),
+            engine.kind,
             self.config.get_byte_classes(),
             self.config.get_limit().unwrap_or(None),
         )?;

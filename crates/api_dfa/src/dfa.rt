@@ -6,7 +6,6 @@ ghost use Rattle.rc_program.specs.Laws.{heaviness};
 ghost use Rattle.rc_program.specs.Places.{places_of};
 ghost use Rattle.rc_program.specs.Program.{program, shown};
 ghost use Rattle.rc_program.specs.Sought.{Sought, passes_over as is_passing};
-ghost use Rattle.rc_determinize.specs.TableKinds.{table_kind_of};
 ghost use Rattle.rc_settings.specs.SearchSettings.{match_kind_of, search_settings_of};
 ghost use Rattle.rc_settings.specs.Thompson.{settings_of};
 ghost use Rattle.rc_build.specs.Fits.{sought_by};
@@ -15,7 +14,6 @@ ghost use Rattle.api_dfa.specs.Tables.{AreLight, AreTables};
 
 use rc_dense_dfa::dense::Dense;
 use rc_dense_dfa::error::TableError;
-use rc_determinize::kind::{TableKind, table_kind};
 use rc_dfa_search::build::automaton_of;
 use rc_dfa_search::search::Aim;
 use rc_pattern::hir::Hir;
@@ -23,6 +21,7 @@ use rc_program::place::Place;
 use rc_settings::error::BuildError;
 use rc_settings::pikevm::Config;
 use rc_settings::thompson;
+use rc_text::types::MatchKind;
 use std::alloc::Global;
 
 /// A list of patterns, built to tables of all the states that a search can reach, forwards and
@@ -38,13 +37,13 @@ pub struct DFA {
     pub(crate) tables: Dense,
     pub(crate) passes_over: bool,
     ghost passing: { passes_over ≡ is_passing (sought_by (settings_of thompson) (map meaning hirs.items)) },
-    ghost made: { ∥ AreTables (sought_by (settings_of thompson) (map meaning hirs.items)) (table_kind_of (match_kind_of (search_settings_of config))) tables ∥₁ },
+    ghost made: { ∥ AreTables (sought_by (settings_of thompson) (map meaning hirs.items)) (match_kind_of (search_settings_of config)) tables ∥₁ },
 }
 
 impl DFA {
     ghost use Rattle.std.specs.Prelude.{◌≡◌, length};
     ghost use Rattle.api_dfa.specs.Aims.{aim_for};
-    ghost use Rattle.api_dfa.specs.Views.{dfa_patterns, sought, table_kind};
+    ghost use Rattle.api_dfa.specs.Views.{dfa_patterns, sought, dfa_kind};
 
     /// How many patterns it was built of.
     pub fn pattern_len(&self) -> usize
@@ -55,10 +54,10 @@ impl DFA {
 
     /// What its searches seek, with the earliest flag on or off.
     pub(crate) fn aim(&self, earliest: bool) -> Aim
-        ensures { result ≡ aim_for (sought self.now) (table_kind self.now) earliest }
+        ensures { result ≡ aim_for (sought self.now) (dfa_kind self.now) earliest }
     {
         Aim {
-            kind: table_kind(self.config.get_match_kind()),
+            kind: self.config.get_match_kind(),
             patterns: self.pattern_len(),
             passes_over: self.passes_over,
             earliest,
@@ -73,7 +72,7 @@ pub(crate) fn tables_of(
     hirs: &[Hir],
     settings: thompson::Config,
     places: &[Place],
-    kind: TableKind,
+    kind: MatchKind,
     byte_classes: bool,
     limit: Option<usize>,
 ) -> Result<Dense, BuildError>

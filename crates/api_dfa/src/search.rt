@@ -11,7 +11,7 @@ ghost use Rattle.rc_dfa_search.specs.Halves.{IsForwardHalf};
 ghost use Rattle.rc_dfa_search.specs.Reverse.{IsReverseHalf};
 ghost use Rattle.api_dfa.specs.Faults.{IsFaultOf, IsNextFault};
 ghost use Rattle.api_dfa.specs.Left.{FindRuns, find_input, find_left, find_regex, matches_in};
-ghost use Rattle.api_dfa.specs.Views.{dfa_kind, dfa_of, sought, table_kind};
+ghost use Rattle.api_dfa.specs.Views.{dfa_kind, dfa_of, sought};
 
 use crate::dfa::DFA;
 use crate::iterators::FindMatches;
@@ -63,7 +63,7 @@ pub fn try_search_fwd<C: Cursor>(
     input: &mut Input<C>,
 ) -> Result<Option<HalfMatch>, MatchError>
     ensures keeps { Keeps input.old input.new }
-    ensures found { IfOk result (IsForwardHalf (table_kind dfa.now) input.old.earliest (search_for (sought dfa.now) input.old)) }
+    ensures found { IfOk result (IsForwardHalf (dfa_kind dfa.now) input.old.earliest (search_for (sought dfa.now) input.old)) }
     ensures within { IfOk result (λ o. IfSome o (λ h. (low input.old ≤ h.offset) × (h.offset ≤ high input.old))) }
     ensures fault { IfErr result (IsFaultOf (sought dfa.now) input.old) }
 {

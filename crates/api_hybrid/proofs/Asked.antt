@@ -1,7 +1,7 @@
 -- What the halves of a regex tell of what is sought.
 use Rattle.std.proofs.Common.{◌≡◌, ℕ, Bool, List, refl, subst, sym, arith}
 use Rattle.std.proofs.Math.Logic.{∥∥₁_map}
-use Rattle.rc_determinize.specs.declared.kind.TableKind.{TableKind}
+use Rattle.rc_text.specs.declared.types.MatchKind.{MatchKind}
 use Rattle.rc_pattern.specs.Re.{Re}
 use Rattle.rc_program.specs.Program.{shown}
 use Rattle.rc_program.specs.Sought.{Sought}
@@ -15,7 +15,7 @@ use Rattle.api_dfa.specs.Aims.{aim_for}
 use Rattle.api_dfa.proofs.Asked.{shown_long}
 use Rattle.api_hybrid.specs.Halves.{IsLazyFor}
 
-halves_of : (q : Sought) (kind : TableKind) (lazy : Lazy) (earliest : Bool) → IsLazyFor q kind lazy →
+halves_of : (q : Sought) (kind : MatchKind) (lazy : Lazy) (earliest : Bool) → IsLazyFor q kind lazy →
     AreHalvesOf (AreHalves lazy) (aim_for q kind earliest) (shown q.grouped q.patterns) q.terminator
 halves_of q kind lazy earliest t = record {
   ahead = machine_of lazy.automaton Forwards;
@@ -27,7 +27,7 @@ halves_of q kind lazy earliest t = record {
 }
 
 -- what is told of any patterns of which they are halves is told of those that are sought
-pub asked : {q : Sought} {kind : TableKind} {lazy : Lazy} {earliest : Bool} {a : Aim} (P : Aim → List Re → ℕ → Type 0) → a ≡ aim_for q kind earliest →
+pub asked : {q : Sought} {kind : MatchKind} {lazy : Lazy} {earliest : Bool} {a : Aim} (P : Aim → List Re → ℕ → Type 0) → a ≡ aim_for q kind earliest →
     ∥ IsLazyFor q kind lazy ∥₁ → ((hs : List Re) (terminator : ℕ) → AreHalvesOf (AreHalves lazy) a hs terminator → P a hs terminator) →
     ∥ P (aim_for q kind earliest) (shown q.grouped q.patterns) q.terminator ∥₁
 asked {q} {kind} {lazy} {earliest} P e made f =

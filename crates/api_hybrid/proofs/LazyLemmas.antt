@@ -1,6 +1,6 @@
 -- What searches by an automaton of patterns are to what is sought.
 use Rattle.std.proofs.Common.{◌≡◌, ℕ, ◌≤◌, sym, subst, refl, arith}
-use Rattle.rc_determinize.specs.declared.kind.TableKind.{TableKind}
+use Rattle.rc_text.specs.declared.types.MatchKind.{MatchKind}
 use Rattle.rc_program.specs.Laws.{heaviness}
 use Rattle.rc_program.specs.Program.{program, shown}
 use Rattle.rc_program.specs.Sought.{Sought}
@@ -18,7 +18,7 @@ use Rattle.rc_dfa_search.proofs.PatternLemmas.{few_by_weight}
 use Rattle.api_hybrid.specs.Halves.{IsLazyFor, IsLeast}
 use Rattle.api_hybrid.specs.Makes.{HasCapacity, IsLazyRefusal, refusal_of}
 
-module _ (q : Sought) (kind : TableKind) (a : Automaton) (of : AreMachines (shown q.grouped q.patterns) q.terminator kind (machine_of a Forwards) (machine_of a Backwards)) where
+module _ (q : Sought) (kind : MatchKind) (a : Automaton) (of : AreMachines (shown q.grouped q.patterns) q.terminator kind (machine_of a Forwards) (machine_of a Backwards)) where
   least_by : IsLeast q kind (least_of a)
   least_by = record {
     ahead = machine_of a Forwards;

@@ -1,6 +1,6 @@
 -- Why there are no searches within a capacity.
 use Rattle.std.specs.Prelude.{◌≡◌, ℕ, ◌<◌, ◌≤◌}
-use Rattle.rc_determinize.specs.declared.kind.TableKind.{TableKind}
+use Rattle.rc_text.specs.declared.types.MatchKind.{MatchKind}
 use Rattle.rc_program.specs.Sought.{Sought}
 use Rattle.rc_lazy_dfa.specs.Caches.{least_of}
 use Rattle.rc_lazy_dfa.specs.declared.lazy.Lazy.{Lazy}
@@ -16,11 +16,11 @@ refusal_of (lazy.TooSmall minimum given) = CacheTooSmall minimum given
 refusal_of lazy.Memory = Memory
 
 -- the capacity is below the least that serves; the refusal tells both
-abbrev pub IsTooSmall : Sought → TableKind → ℕ → ℕ → ℕ → Type 0
+abbrev pub IsTooSmall : Sought → MatchKind → ℕ → ℕ → ℕ → Type 0
 IsTooSmall q kind capacity minimum given = IsLeast q kind minimum × (given ≡ capacity) × (capacity < minimum)
 
 -- memory was wanting, or the capacity is too small
-abbrev pub IsLazyRefusal : Sought → TableKind → ℕ → BuildError → Type 0
+abbrev pub IsLazyRefusal : Sought → MatchKind → ℕ → BuildError → Type 0
 IsLazyRefusal q kind capacity (CacheTooSmall m n) = IsTooSmall q kind capacity m n
 IsLazyRefusal q kind capacity Memory = Unit {0}
 IsLazyRefusal q kind capacity (Syntax p e) = ⊥
@@ -30,7 +30,7 @@ IsLazyRefusal q kind capacity PlaceLimit = ⊥
 IsLazyRefusal q kind capacity (DfaSizeLimit n) = ⊥
 
 -- The states of each direction may weigh so many bytes, and that serves.
-pub record HasCapacity (q : Sought) (kind : TableKind) (capacity : ℕ) (l : Lazy) : Type 0 where
+pub record HasCapacity (q : Sought) (kind : MatchKind) (capacity : ℕ) (l : Lazy) : Type 0 where
   pub capacity_is : l.capacity ≡ capacity
   pub least : IsLeast q kind (least_of l.automaton)
   pub serves : least_of l.automaton ≤ capacity

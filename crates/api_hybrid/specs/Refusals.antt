@@ -2,7 +2,6 @@
 use Rattle.std.specs.Prelude.{ℕ, List, unwrap_or}
 use Rattle.rc_pattern.specs.Re.{Re}
 use Rattle.rc_parser.specs.Settings.{Settings as SyntaxSettings}
-use Rattle.rc_determinize.specs.TableKinds.{table_kind_of}
 use Rattle.rc_settings.specs.SearchSettings.{match_kind_of}
 use Rattle.rc_settings.specs.StateSettings.{StateSettings, no_state_setting}
 use Rattle.rc_settings.specs.Thompson.{Settings, nfa_size_limit_of}
@@ -12,7 +11,7 @@ use Rattle.rc_build.specs.Fits.{sought_by}
 use Rattle.rc_build.specs.Refusals.{IsBuildable, IsRefusal}
 use Rattle.rc_build.specs.TextRefusals.{AllRead, IsTextRefusal}
 use Rattle.api_hybrid.specs.Makes.{HasCapacity, IsTooSmall}
-use Rattle.api_hybrid.specs.Views.{sought, table_kind}
+use Rattle.api_hybrid.specs.Views.{sought, regex_kind}
 use Rattle.api_hybrid.specs.declared.regex.Regex.{Regex}
 
 -- nothing is set
@@ -26,7 +25,7 @@ cache_capacity_of s = unwrap_or s.limit 2097152
 -- The refusal is the first one that applies to the patterns. Want of memory may come at any time.
 abbrev pub IsHybridRefusal : Settings → StateSettings ℕ → List Re → BuildError → Type 0
 IsHybridRefusal program states hs (CacheTooSmall m n) =
-    IsBuildable (nfa_size_limit_of program) hs × IsTooSmall (sought_by program hs) (table_kind_of (match_kind_of states.search)) (cache_capacity_of states) m n
+    IsBuildable (nfa_size_limit_of program) hs × IsTooSmall (sought_by program hs) (match_kind_of states.search) (cache_capacity_of states) m n
 IsHybridRefusal program states hs e = IsRefusal (nfa_size_limit_of program) hs e
 
 -- The refusal is the first one that applies to the texts. Want of memory may come at any time.
@@ -37,4 +36,4 @@ IsHybridTextRefusal program states syntax texts e = IsTextRefusal (nfa_size_limi
 
 -- what was built has the capacity that is set, and that serves
 abbrev pub IsWithinCapacity : StateSettings ℕ → Regex → Type 0
-IsWithinCapacity states re = HasCapacity (sought re) (table_kind re) (cache_capacity_of states) re.lazy
+IsWithinCapacity states re = HasCapacity (sought re) (regex_kind re) (cache_capacity_of states) re.lazy

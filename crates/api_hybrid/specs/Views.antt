@@ -1,8 +1,6 @@
 -- What is built and what builds, as contracts see them.
 use Rattle.std.specs.Prelude.{ℕ, List, map}
 use Rattle.rc_text.specs.declared.types.MatchKind.{MatchKind}
-use Rattle.rc_determinize.specs.TableKinds.{kind_of, table_kind_of}
-use Rattle.rc_determinize.specs.declared.kind.TableKind.{TableKind}
 use Rattle.rc_pattern.specs.Re.{Re}
 use Rattle.rc_pattern.specs.Meaning.{meaning}
 use Rattle.rc_program.specs.Sought.{Sought}
@@ -25,13 +23,9 @@ regex_program re = settings_of re.thompson
 abbrev pub regex_settings : Regex → SearchSettings
 regex_settings re = search_settings_of re.config
 
--- the kind of its tables
-abbrev pub table_kind : Regex → TableKind
-table_kind re = table_kind_of (match_kind_of (regex_settings re))
-
 -- the kind of match that its searches find
 abbrev pub regex_kind : Regex → MatchKind
-regex_kind re = kind_of (table_kind re)
+regex_kind re = match_kind_of (regex_settings re)
 
 -- what it seeks
 abbrev pub sought : Regex → Sought

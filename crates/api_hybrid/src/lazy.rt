@@ -11,7 +11,6 @@ ghost use Rattle.rc_build.specs.Fits.{sought_by};
 ghost use Rattle.api_hybrid.specs.Makes.{HasCapacity, IsLazyRefusal, refusal_of};
 ghost use Rattle.api_hybrid.specs.Halves.{IsLazyFor};
 
-use rc_determinize::kind::TableKind;
 use rc_dfa_search::build::automaton_of;
 use rc_lazy_dfa::error::LazyError;
 use rc_lazy_dfa::lazy::Lazy;
@@ -19,6 +18,7 @@ use rc_pattern::hir::Hir;
 use rc_program::place::Place;
 use rc_settings::error::BuildError;
 use rc_settings::thompson;
+use rc_text::types::MatchKind;
 use std::alloc::Global;
 
 /// What searches for patterns are made of, by their program, for matches of this kind. The states
@@ -28,7 +28,7 @@ pub(crate) fn lazy_of(
     hirs: &[Hir],
     settings: thompson::Config,
     places: &[Place],
-    kind: TableKind,
+    kind: MatchKind,
     byte_classes: bool,
     capacity: usize,
 ) -> Result<Lazy, BuildError>

@@ -3,7 +3,6 @@
 ghost use Rattle.std.specs.Prelude.{◌≡◌, map};
 ghost use Rattle.rc_pattern.specs.Meaning.{meaning};
 ghost use Rattle.rc_program.specs.Sought.{passes_over as is_passing};
-ghost use Rattle.rc_determinize.specs.TableKinds.{table_kind_of};
 ghost use Rattle.rc_settings.specs.SearchSettings.{match_kind_of, search_settings_of};
 ghost use Rattle.rc_settings.specs.Thompson.{settings_of};
 ghost use Rattle.rc_build.specs.Fits.{sought_by};
@@ -11,7 +10,6 @@ ghost use Rattle.api_hybrid.specs.Halves.{IsLazyFor};
 
 use crate::builder::Builder;
 use crate::cache::Cache;
-use rc_determinize::kind::table_kind;
 use rc_dfa_search::search::Aim;
 use rc_lazy_dfa::lazy::Lazy;
 use rc_pattern::hir::Hir;
@@ -30,7 +28,7 @@ pub struct Regex {
     pub(crate) lazy: Lazy,
     pub(crate) passes_over: bool,
     ghost passing: { passes_over ≡ is_passing (sought_by (settings_of thompson) (map meaning hirs.items)) },
-    ghost made: { ∥ IsLazyFor (sought_by (settings_of thompson) (map meaning hirs.items)) (table_kind_of (match_kind_of (search_settings_of config))) lazy ∥₁ },
+    ghost made: { ∥ IsLazyFor (sought_by (settings_of thompson) (map meaning hirs.items)) (match_kind_of (search_settings_of config)) lazy ∥₁ },
 }
 
 impl Regex {
@@ -38,13 +36,12 @@ impl Regex {
     ghost use Rattle.rc_build.specs.Refusals.{IsBuildable};
     ghost use Rattle.rc_build.specs.TextRefusals.{AllRead, texts_of};
     ghost use Rattle.rc_parser.specs.Settings.{default_settings};
-    ghost use Rattle.rc_determinize.specs.TableKinds.{table_kind_of};
     ghost use Rattle.rc_settings.specs.SearchSettings.{none_set};
     ghost use Rattle.rc_settings.specs.Thompson.{unset};
     ghost use Rattle.api_dfa.specs.Aims.{aim_for};
     ghost use Rattle.api_hybrid.specs.Caches.{IsCacheFor, IsFresh};
     ghost use Rattle.api_hybrid.specs.Refusals.{IsHybridTextRefusal, IsWithinCapacity, no_capacity_set};
-    ghost use Rattle.api_hybrid.specs.Views.{builder_settings, builder_program, builder_syntax, least_of, regex_kind, regex_patterns, regex_program, regex_settings, sought, table_kind};
+    ghost use Rattle.api_hybrid.specs.Views.{builder_settings, builder_program, builder_syntax, least_of, regex_kind, regex_patterns, regex_program, regex_settings, sought};
 
     /// What is built of the pattern as which this text is read by the default settings. Nothing
     /// else is set, so the states of each direction may weigh 2,097,152 bytes. The `Err`s are those
@@ -117,10 +114,10 @@ impl Regex {
 
     /// What its searches seek, with the earliest flag on or off.
     pub(crate) fn aim(&self, earliest: bool) -> Aim
-        ensures { result ≡ aim_for (sought self.now) (table_kind self.now) earliest }
+        ensures { result ≡ aim_for (sought self.now) (regex_kind self.now) earliest }
     {
         Aim {
-            kind: table_kind(self.config.get_match_kind()),
+            kind: self.config.get_match_kind(),
             patterns: self.pattern_len(),
             passes_over: self.passes_over,
             earliest,

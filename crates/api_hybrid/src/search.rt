@@ -12,7 +12,7 @@ ghost use Rattle.rc_dfa_search.specs.Reverse.{IsReverseHalf};
 ghost use Rattle.api_hybrid.specs.Caches.{IsCacheFor};
 ghost use Rattle.api_hybrid.specs.Faults.{ClearsWhereShort, ClearsWhereShortNext, GrowsWhereRoomy, IsFaultOf, IsNextFault};
 ghost use Rattle.api_hybrid.specs.Left.{FindRuns, HasItsCache, find_cache, find_input, find_left, find_lender, find_regex, matches_in};
-ghost use Rattle.api_hybrid.specs.Views.{regex_kind, sought, table_kind};
+ghost use Rattle.api_hybrid.specs.Views.{regex_kind, sought};
 
 use crate::cache::Cache;
 use crate::finder::Finder;
@@ -86,7 +86,7 @@ pub fn try_search_fwd<C: Cursor>(
     requires made { IsCacheFor re.now cache.old }
     ensures cache { IsCacheFor re.now cache.new }
     ensures keeps { Keeps input.old input.new }
-    ensures found { IfOk result (IsForwardHalf (table_kind re.now) input.old.earliest (search_for (sought re.now) input.old)) }
+    ensures found { IfOk result (IsForwardHalf (regex_kind re.now) input.old.earliest (search_for (sought re.now) input.old)) }
     ensures within { IfOk result (λ o. IfSome o (λ h. (low input.old ≤ h.offset) × (h.offset ≤ high input.old))) }
     ensures fault { IfErr result (IsFaultOf re.now input.old cache.old cache.new) }
     ensures clears { ClearsWhereShort re.now input.old cache.old cache.new }

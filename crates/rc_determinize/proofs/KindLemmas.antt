@@ -8,8 +8,8 @@ use Rattle.rc_determinize.specs.Sides.{holds_by, told, AreAlike, out_seen}
 use Rattle.rc_determinize.specs.States.{Setting, State, IsNext, root_if, is_match}
 use Rattle.rc_determinize.specs.Steps.{HasWay}
 use Rattle.rc_determinize.proofs.SidesLemmas.{alike_out}
-use Rattle.rc_determinize.specs.declared.kind.TableKind.{TableKind}
-use Rattle.rc_determinize.specs.declared.kind.TableKind.TheVariants.{All as all_matches, LeftmostFirst as leftmost_first, LeftmostLongest as leftmost_longest}
+use Rattle.rc_text.specs.declared.types.MatchKind.{MatchKind}
+use Rattle.rc_text.specs.declared.types.MatchKind.TheVariants.{All as all_matches, LeftmostFirst as leftmost_first, LeftmostLongest as leftmost_longest}
 use Rattle.rc_determinize.specs.Steps.{IsRising}
 use Rattle.rc_determinize.specs.Sets.{ComesBy, IsLeastMatch, IsNextOfAll}
 use Rattle.rc_determinize.specs.Kinds.{IsNextBy, longest, bound_of, IsListOf, KindLaw}
@@ -42,7 +42,7 @@ alike_all g root b c s s2 a n =
       beside = n.beside ∙ a.told_same;
     }
 
-alike : (kind : TableKind) (g : Setting) (root b c : ℕ) (s t : State) → AreAlike g.places g.needs g.terminator b c →
+alike : (kind : MatchKind) (g : Setting) (root b c : ℕ) (s t : State) → AreAlike g.places g.needs g.terminator b c →
     IsNextBy kind g root s (Some b) t → IsNextBy kind g root s (Some c) t
 alike leftmost_first g root b c s t a n = alike_next g root b c s t a n
 alike all_matches g root b c s t a n = alike_all g root b c s t a n
@@ -64,7 +64,7 @@ read_in n q (stays k ∷ ws) h = ⊎_elim (λ e. absurd (stays_reads e)) (λ z. 
     stays_reads e = let f : 0 ≡ 1 = ap (λ w. kind_of w) e in omega (arith, f)
 read_in n q (reads m k ∷ ws) h = ⊎_elim (λ e. inl (ap (λ w. goal_of w) e)) (λ z. inr (read_in n q ws z)) h
 
-inside : (kind : TableKind) (g : Setting) (root : ℕ) (s t : State) (after : Option ℕ) → IsClosed g.places → root < length g.places →
+inside : (kind : MatchKind) (g : Setting) (root : ℕ) (s t : State) (after : Option ℕ) → IsClosed g.places → root < length g.places →
     IsNextBy kind g root s after t → IsListOf kind (length g.places) t.list
 inside leftmost_first g root s t after closed rooted n =
     let f = limit.next_fits (out_seen g.places g.needs g.terminator s.beside after) (is_match g.places) (length g.places)
@@ -79,12 +79,12 @@ inside all_matches g root s t after closed rooted n = (
 )
 inside leftmost_longest g root s t after closed rooted n = longest_step_law.inside g root s t after closed rooted n
 
-below : (kind : TableKind) (places : ℕ) (list : List ℕ) → IsListOf kind places list → AreBelow (bound_of kind places) list
+below : (kind : MatchKind) (places : ℕ) (list : List ℕ) → IsListOf kind places list → AreBelow (bound_of kind places) list
 below leftmost_first places list i = i.1
 below all_matches places list i = i.1
 below leftmost_longest places list i = longest_step_law.within places list i
 
-short : (kind : TableKind) (g : Setting) (root : ℕ) (s t : State) (after : Option ℕ) → IsClosed g.places → root < length g.places →
+short : (kind : MatchKind) (g : Setting) (root : ℕ) (s t : State) (after : Option ℕ) → IsClosed g.places → root < length g.places →
     IsNextBy kind g root s after t → length t.list ≤ longest kind (length g.places)
 short leftmost_first g root s t after closed rooted n =
     let f = inside leftmost_first g root s t after closed rooted n in limit.short (length g.places) t.list f.0 f.1
@@ -92,7 +92,7 @@ short all_matches g root s t after closed rooted n =
     let f = inside all_matches g root s t after closed rooted n in limit.short (length g.places) t.list f.0 f.1
 short leftmost_longest g root s t after closed rooted n = longest_step_law.short g root s t after closed rooted n
 
-forgets : (kind : TableKind) (g : Setting) (root : ℕ) (s t : State) (after stop : Option ℕ) →
+forgets : (kind : MatchKind) (g : Setting) (root : ℕ) (s t : State) (after stop : Option ℕ) →
     IsNextBy kind g root s after t → IsNextBy kind g root (record s { stop = stop }) after t
 forgets leftmost_first g root s t after stop n =
     record { next = n.next; is_step = n.is_step; goes_on = n.goes_on; joined = n.joined; beside = n.beside }
@@ -100,7 +100,7 @@ forgets all_matches g root s t after stop n =
     record { list = n.list; rising = n.rising; stop = n.stop; goes_on = n.goes_on; beside = n.beside }
 forgets leftmost_longest g root s t after stop n = longest_step_law.forgets g root s t after stop n
 
-tells : (kind : TableKind) (g : Setting) (root : ℕ) (s t : State) (after : Option ℕ) →
+tells : (kind : MatchKind) (g : Setting) (root : ℕ) (s t : State) (after : Option ℕ) →
     IsNextBy kind g root s after t → t.beside ≡ told g.needs g.terminator after
 tells leftmost_first g root s t after n = n.beside
 tells all_matches g root s t after n = n.beside

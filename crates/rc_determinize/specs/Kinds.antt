@@ -1,7 +1,7 @@
 -- The step of each kind of match. Tables, caches and loops speak of this one alone.
 use Rattle.std.specs.Prelude.{◌≡◌, ℕ, ◌+◌, ◌*◌, ◌<◌, ◌≤◌, List, length, Option, Some}
-use Rattle.rc_determinize.specs.declared.kind.TableKind.{TableKind}
-use Rattle.rc_determinize.specs.declared.kind.TableKind.TheVariants.{All as all_matches, LeftmostFirst as leftmost_first, LeftmostLongest as leftmost_longest}
+use Rattle.rc_text.specs.declared.types.MatchKind.{MatchKind}
+use Rattle.rc_text.specs.declared.types.MatchKind.TheVariants.{All as all_matches, LeftmostFirst as leftmost_first, LeftmostLongest as leftmost_longest}
 use Rattle.rc_program.specs.Laws.{IsClosed}
 use Rattle.rc_determinize.specs.Steps.{AreOnce, AreBelow}
 use Rattle.rc_determinize.specs.Sides.{AreAlike, told}
@@ -11,25 +11,25 @@ use Rattle.rc_determinize.specs.Longest.{IsNextOfLongest}
 use Rattle.rc_determinize.specs.LongestLaws.{IsMarkedList}
 
 -- The state to which this byte leads, or the end, where matches of this kind are sought.
-abbrev pub IsNextBy : TableKind → Setting → ℕ → State → Option ℕ → State → Type 0
+abbrev pub IsNextBy : MatchKind → Setting → ℕ → State → Option ℕ → State → Type 0
 IsNextBy leftmost_first = IsNext
 IsNextBy all_matches = IsNextOfAll
 IsNextBy leftmost_longest = IsNextOfLongest
 
 -- how long a list of this kind is at most, where the program has so many places
-abbrev pub longest : TableKind → ℕ → ℕ
+abbrev pub longest : MatchKind → ℕ → ℕ
 longest leftmost_first places = places
 longest all_matches places = places
 longest leftmost_longest places = 2 * places
 
 -- below which number the entries of a list are: those of this last kind are places and marks
-abbrev pub bound_of : TableKind → ℕ → ℕ
+abbrev pub bound_of : MatchKind → ℕ → ℕ
 bound_of leftmost_first places = places
 bound_of all_matches places = places
 bound_of leftmost_longest places = places + 1
 
 -- the list has places of the program, each once; of the last kind with marks between them
-abbrev pub IsListOf : TableKind → ℕ → List ℕ → Type 0
+abbrev pub IsListOf : MatchKind → ℕ → List ℕ → Type 0
 IsListOf leftmost_first places list = AreOnce list × AreBelow places list
 IsListOf all_matches places list = AreOnce list × AreBelow places list
 IsListOf leftmost_longest places list = IsMarkedList places list
@@ -37,16 +37,16 @@ IsListOf leftmost_longest places list = IsMarkedList places list
 -- what holds of the steps of each kind
 pub record KindLaw : Type 0 where
   -- one byte stands for each that is alike
-  pub alike : (kind : TableKind) (g : Setting) (root b c : ℕ) (s t : State) → AreAlike g.places g.needs g.terminator b c →
+  pub alike : (kind : MatchKind) (g : Setting) (root b c : ℕ) (s t : State) → AreAlike g.places g.needs g.terminator b c →
       IsNextBy kind g root s (Some b) t → IsNextBy kind g root s (Some c) t
   -- a state has places of the program, each once, so it is no longer than the program, or than twice the program where it has marks
-  pub inside : (kind : TableKind) (g : Setting) (root : ℕ) (s t : State) (after : Option ℕ) → IsClosed g.places → root < length g.places →
+  pub inside : (kind : MatchKind) (g : Setting) (root : ℕ) (s t : State) (after : Option ℕ) → IsClosed g.places → root < length g.places →
       IsNextBy kind g root s after t → IsListOf kind (length g.places) t.list
-  pub below : (kind : TableKind) (places : ℕ) (list : List ℕ) → IsListOf kind places list → AreBelow (bound_of kind places) list
-  pub short : (kind : TableKind) (g : Setting) (root : ℕ) (s t : State) (after : Option ℕ) → IsClosed g.places → root < length g.places →
+  pub below : (kind : MatchKind) (places : ℕ) (list : List ℕ) → IsListOf kind places list → AreBelow (bound_of kind places) list
+  pub short : (kind : MatchKind) (g : Setting) (root : ℕ) (s t : State) (after : Option ℕ) → IsClosed g.places → root < length g.places →
       IsNextBy kind g root s after t → length t.list ≤ longest kind (length g.places)
   -- what was met before plays no part
-  pub forgets : (kind : TableKind) (g : Setting) (root : ℕ) (s t : State) (after stop : Option ℕ) →
+  pub forgets : (kind : MatchKind) (g : Setting) (root : ℕ) (s t : State) (after stop : Option ℕ) →
       IsNextBy kind g root s after t → IsNextBy kind g root (record s { stop = stop }) after t
-  pub tells : (kind : TableKind) (g : Setting) (root : ℕ) (s t : State) (after : Option ℕ) →
+  pub tells : (kind : MatchKind) (g : Setting) (root : ℕ) (s t : State) (after : Option ℕ) →
       IsNextBy kind g root s after t → t.beside ≡ told g.needs g.terminator after

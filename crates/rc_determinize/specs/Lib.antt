@@ -8,7 +8,6 @@ pub mod Backward
 pub mod Laws
 pub mod Sets
 pub mod Places
-pub mod TableKinds
 pub mod Kinds
 pub mod Sparse
 pub mod Reversed

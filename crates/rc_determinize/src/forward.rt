@@ -11,13 +11,13 @@ ghost use Rattle.rc_determinize.specs.Sets.{ComesBy, IsNextOfAll};
 ghost use Rattle.rc_determinize.specs.Kinds.{IsNextBy, bound_of};
 ghost use Rattle.rc_determinize.specs.Machine.{IsGathered};
 
-use crate::kind::TableKind;
 use crate::longest::next_longest;
 use crate::open::{add_root, is_match, least_with, open, place_at};
 use crate::scratch::Scratch;
 use crate::sides::{Needs, Seen, told};
 use crate::sparse_set::SparseSet;
 use crate::state::State;
+use rc_text::types::MatchKind;
 use rc_utf8::place::BytePlace;
 use std::alloc::AllocError;
 
@@ -186,7 +186,7 @@ fn next_of_all(
 /// No memory is taken but what the lists of `scratch` and `to` grow by. An `Err` is want of it;
 /// then `to` is some state.
 pub fn next_by(
-    kind: TableKind,
+    kind: MatchKind,
     places: &[BytePlace],
     needs: Needs,
     terminator: u8,
@@ -204,13 +204,13 @@ pub fn next_by(
     ensures next { IfOk result (λ _. IsNextBy kind (setting_of places.now needs terminator) root (state_of from.now) after (state_of to.new)) }
 {
     match kind {
-        TableKind::LeftmostFirst => {
+        MatchKind::LeftmostFirst => {
             next_preferred(places, needs, terminator, root, scratch, from, after, to)
         }
-        TableKind::LeftmostLongest => {
+        MatchKind::LeftmostLongest => {
             next_longest(places, needs, terminator, root, scratch, from, after, to)
         }
-        TableKind::All => next_of_all(places, needs, terminator, root, scratch, from, after, to),
+        MatchKind::All => next_of_all(places, needs, terminator, root, scratch, from, after, to),
     }
 }
 

@@ -7,7 +7,6 @@
 pub mod backward;
 pub mod classes;
 pub mod forward;
-pub mod kind;
 pub mod laws;
 pub mod longest;
 mod open;

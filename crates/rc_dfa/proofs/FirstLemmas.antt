@@ -1,7 +1,7 @@
 -- Runs forwards, where the preferred match is sought.
 use Rattle.std.proofs.Common.{◌≡◌, ℕ, ◌≤◌, ◌⊎◌, Bool, true, false, true≢false, not, ◌&&◌, List, [], ◌∷◌, Option, None, is_none, inl, inr, sym, subst, ap, ◌∙◌, refl, arith}
 use Rattle.std.proofs.lemmas.Option.{none-some}
-use Rattle.rc_determinize.specs.declared.kind.TableKind.TheVariants.{LeftmostFirst as leftmost_first}
+use Rattle.rc_text.specs.declared.types.MatchKind.TheVariants.{LeftmostFirst as leftmost_first}
 use Rattle.rc_walks.specs.Walks.{Pair}
 use Rattle.rc_program.specs.Text.{Text}
 use Rattle.rc_program.specs.Program.{ways}

@@ -1,7 +1,7 @@
 -- Runs forwards, where the longest match of the least start is sought.
 use Rattle.std.proofs.Common.{◌≡◌, ℕ, ◌<◌, ◌≤◌, ◌⊎◌, Bool, true, false, true≢false, ◌&&◌, List, [], ◌∷◌, ◌++◌, length, Option, None, is_none, inl, inr, sym, subst, ap, ◌∙◌, refl, arith}
 use Rattle.std.proofs.lemmas.Option.{none-some, get_or_from_slice_get}
-use Rattle.rc_determinize.specs.declared.kind.TableKind.TheVariants.{LeftmostLongest as leftmost_longest}
+use Rattle.rc_text.specs.declared.types.MatchKind.TheVariants.{LeftmostLongest as leftmost_longest}
 use Rattle.rc_text.specs.declared.types.Anchored.{Anchored}
 use Rattle.rc_text.specs.declared.types.Anchored.TheVariants.{No, Yes, Pattern}
 use Rattle.rc_walks.specs.Walks.{Pair}

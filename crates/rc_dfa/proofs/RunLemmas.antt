@@ -1,7 +1,7 @@
 -- The laws of runs.
 use Rattle.std.proofs.Common.{◌≡◌, ℕ, ◌+◌, ◌<◌, ◌⊎◌, Bool, false, not, List, [], length, Option, Some, None, inl, inr, ⊎_elim, sym, subst, ap, ◌∙◌, refl, arith}
-use Rattle.rc_determinize.specs.declared.kind.TableKind.{TableKind}
-use Rattle.rc_determinize.specs.declared.kind.TableKind.TheVariants.{All as all_matches, LeftmostFirst as leftmost_first, LeftmostLongest as leftmost_longest}
+use Rattle.rc_text.specs.declared.types.MatchKind.{MatchKind}
+use Rattle.rc_text.specs.declared.types.MatchKind.TheVariants.{All as all_matches, LeftmostFirst as leftmost_first, LeftmostLongest as leftmost_longest}
 use Rattle.rc_text.specs.declared.types.Anchored.{Anchored}
 use Rattle.rc_walks.specs.Walks.{Pair, IsIn}
 use Rattle.rc_program.specs.Text.{Text}
@@ -28,14 +28,14 @@ use Rattle.rc_dfa.proofs.MetLemmas.{IsMetAt, end_met, runs_below, runs_low, come
 
 module _ (g : Setting) (entries : List ℕ) (ok : IsSetting g) (t : Text) (same : g.terminator ≡ t.terminator) (hi from : ℕ) (inside : IsInside t from hi)
     (anchored : Anchored) where
-  abbrev machine : TableKind → Machine
+  abbrev machine : MatchKind → Machine
   machine kind = record { setting = g; entries = entries; direction = forwards kind }
 
-  abbrev Begun : TableKind → State → Type 0
+  abbrev Begun : MatchKind → State → Type 0
   Begun kind s = IsRoot (machine kind) anchored (behind_at t from) from hi s
 
   -- walks may begin at a later position by the root 0 alone
-  rooted_so : (kind : TableKind) (s : State) → (b : Begun kind s) → (b.root ≡ 0) ⊎ (s.goes_on ≡ false)
+  rooted_so : (kind : MatchKind) (s : State) → (b : Begun kind s) → (b.root ≡ 0) ⊎ (s.goes_on ≡ false)
   rooted_so kind s b = ⊎_elim (λ z. inl z) (λ z. inr (let f = b.is_first in f.goes_on ∙ ap (λ x. not x) z)) b.rooted
 
   begins_at : (bound : ℕ) (s : State) → MayRead (machine leftmost_first) (behind_at t from) → (b : Begun leftmost_first s) →
@@ -59,7 +59,7 @@ module _ (g : Setting) (entries : List ℕ) (ok : IsSetting g) (t : Text) (same 
       (gather.ends g entries ok t same hi from b.root b.once inside s b.is_first may b.rooted earliest e r ends is k)
   last_run earliest e r (unread p q may) is k = absurd (stop_no_met is)
 
-  abbrev IsEnd : TableKind → Pair → Type 0
+  abbrev IsEnd : MatchKind → Pair → Type 0
   IsEnd kind n = Comes (ways g.places t hi) (starts_of (machine kind) anchored from hi) n × Stops g.places n
 
   first_met : (s : State) (n : Pair) → MayRead (machine leftmost_first) (behind_at t from) → Begun leftmost_first s →
@@ -117,7 +117,7 @@ module _ (g : Setting) (entries : List ℕ) (ok : IsSetting g) (t : Text) (same 
         c.1,
       )
 
-  met_run : (kind : TableKind) (earliest : Bool) (e : RunEnd) (n : Pair) → IsMachine (machine kind) → SearchEnds (machine kind) t hi from anchored earliest e → e ≡ met_last (Some n) → IsEnd kind n
+  met_run : (kind : MatchKind) (earliest : Bool) (e : RunEnd) (n : Pair) → IsMachine (machine kind) → SearchEnds (machine kind) t hi from anchored earliest e → e ≡ met_last (Some n) → IsEnd kind n
   met_run leftmost_first earliest e n k (ran s may begins ends) is =
       first_met s n may (some_root leftmost_first g entries anchored (behind_at t from) from hi s begins)
       (end_met (machine leftmost_first) t hi from s earliest e n ends is)
@@ -131,7 +131,7 @@ module _ (g : Setting) (entries : List ℕ) (ok : IsSetting g) (t : Text) (same 
       longest_met s n k may p.0 p.1 (end_met Longest t hi from s earliest e n ends is)
   met_run kind earliest e n k (unread p q may) is = absurd (stop_no_met is)
 
-  none_run : (kind : TableKind) (earliest : Bool) (e : RunEnd) → IsMachine (machine kind) → SearchEnds (machine kind) t hi from anchored earliest e → e ≡ met_last None → (n : Pair) →
+  none_run : (kind : MatchKind) (earliest : Bool) (e : RunEnd) → IsMachine (machine kind) → SearchEnds (machine kind) t hi from anchored earliest e → e ≡ met_last None → (n : Pair) →
       Comes (ways g.places t hi) (starts_of (machine kind) anchored from hi) n → ¬ Stops g.places n
   none_run leftmost_first earliest e k s is n c stop =
       gives_none g.places t hi ok.by_bytes (starts_of (machine leftmost_first) anchored from hi) (first_run earliest e None s is (inr refl)) n c stop

@@ -10,7 +10,7 @@ use Rattle.rc_determinize.proofs.LawLemmas.{in_starts, starts_in}
 use Rattle.rc_dfa.specs.Machine.{Machine, forwards, begins_by}
 use Rattle.rc_dfa.specs.Runs.{RunEnd, met_last, stopped_at, idle_at}
 use Rattle.rc_dfa.specs.Laws.{starts_of}
-use Rattle.rc_determinize.specs.declared.kind.TableKind.{TableKind}
+use Rattle.rc_text.specs.declared.types.MatchKind.{MatchKind}
 
 -- what was met, and where the search stopped
 abbrev pub met_of : RunEnd → Option Pair
@@ -40,7 +40,7 @@ pub record IsRoot (m : Machine) (anchored : Anchored) (beside : Option ℕ) (fro
   pub starts : starts_of m anchored from hi ≡ all_starts once root from hi
   pub rooted : (root ≡ 0) ⊎ (once ≡ true)
 
-pub some_root : (kind : TableKind) (g : Setting) (entries : List ℕ) (anchored : Anchored) (beside : Option ℕ) (from hi : ℕ) (first : State) →
+pub some_root : (kind : MatchKind) (g : Setting) (entries : List ℕ) (anchored : Anchored) (beside : Option ℕ) (from hi : ℕ) (first : State) →
     begins_by (forwards kind) g entries anchored beside first →
     IsRoot (record { setting = g; entries = entries; direction = forwards kind }) anchored beside from hi first
 some_root kind g entries No beside from hi first h = record { root = 0; once = false; is_first = h; starts = refl; rooted = inl refl }

@@ -7,8 +7,8 @@ use Rattle.rc_text.specs.declared.types.Anchored.TheVariants.{No, Yes, Pattern}
 use Rattle.rc_program.specs.Program.{Place, choice, place_at, is_match_place}
 use Rattle.rc_program.proofs.WayLemmas.{past_places}
 use Rattle.rc_determinize.specs.Steps.{HasPlace, AreOnce, AreBelow}
-use Rattle.rc_determinize.specs.declared.kind.TableKind.{TableKind}
-use Rattle.rc_determinize.specs.declared.kind.TableKind.TheVariants.{All as all_matches, LeftmostFirst as leftmost_first, LeftmostLongest as leftmost_longest}
+use Rattle.rc_text.specs.declared.types.MatchKind.{MatchKind}
+use Rattle.rc_text.specs.declared.types.MatchKind.TheVariants.{All as all_matches, LeftmostFirst as leftmost_first, LeftmostLongest as leftmost_longest}
 use Rattle.rc_determinize.specs.Kinds.{longest, IsListOf}
 use Rattle.rc_determinize.specs.States.{Setting, State}
 use Rattle.rc_determinize.proofs.LimitLemmas.{short}
@@ -39,18 +39,18 @@ alone n root list lt e = subst (λ l. AreBelow n l) (sym e) (λ q h. ⊎_elim (�
 once_alone : (root : ℕ) (list : List ℕ) → list ≡ root ∷ [] → AreOnce list
 once_alone root list e = subst (λ l. AreOnce l) (sym e) ((λ h. h), tt)
 
-root_list : (kind : TableKind) (n root : ℕ) (list : List ℕ) → root < n → list ≡ root ∷ [] → IsListOf kind n list
+root_list : (kind : MatchKind) (n root : ℕ) (list : List ℕ) → root < n → list ≡ root ∷ [] → IsListOf kind n list
 root_list leftmost_first n root list lt e = (once_alone root list e, alone n root list lt e)
 root_list all_matches n root list lt e = (once_alone root list e, alone n root list lt e)
 root_list leftmost_longest n root list lt e =
     record { groups = (root ∷ []) ∷ []; is_parted = e; once = ((λ h. h), tt); below = alone n root (root ∷ []) lt refl }
 
-root_short : (kind : TableKind) (n root : ℕ) (list : List ℕ) → root < n → list ≡ root ∷ [] → length list ≤ longest kind n
+root_short : (kind : MatchKind) (n root : ℕ) (list : List ℕ) → root < n → list ≡ root ∷ [] → length list ≤ longest kind n
 root_short leftmost_first n root list lt e = let l : length list ≡ 1 = ap (λ z. length z) e in omega (arith, l, lt)
 root_short all_matches n root list lt e = let l : length list ≡ 1 = ap (λ z. length z) e in omega (arith, l, lt)
 root_short leftmost_longest n root list lt e = let l : length list ≡ 1 = ap (λ z. length z) e in omega (arith, l, lt)
 
-one_root : (kind : TableKind) (g : Setting) (entries : List ℕ) (root : ℕ) (s : State) → root < length g.places → s.list ≡ root ∷ [] →
+one_root : (kind : MatchKind) (g : Setting) (entries : List ℕ) (root : ℕ) (s : State) → root < length g.places → s.list ≡ root ∷ [] →
     IsWithin (record { setting = g; entries = entries; direction = forwards kind }) s
 one_root kind g entries root s lt e =
     let l = root_list kind (length g.places) root s.list lt e in

@@ -1,6 +1,6 @@
 -- What an automaton is.
 use Rattle.std.specs.Prelude.{◌≡◌, ℕ, Bool, List}
-use Rattle.rc_determinize.specs.declared.kind.TableKind.{TableKind}
+use Rattle.rc_text.specs.declared.types.MatchKind.{MatchKind}
 use Rattle.rc_program.specs.Program.{Place}
 use Rattle.rc_determinize.specs.declared.sides.Needs.{Needs}
 use Rattle.rc_determinize.specs.Places.{setting_of}
@@ -11,7 +11,7 @@ use Rattle.rc_dfa.specs.declared.automaton.Automaton.{Automaton}
 use Rattle.rc_dfa.specs.Machine.{Direction, forwards, backwards, Machine}
 use Rattle.rc_dfa.specs.Samples.{AreClassesBy}
 
-abbrev pub direction_of : TableKind → code.Direction → Direction
+abbrev pub direction_of : MatchKind → code.Direction → Direction
 direction_of kind code_variants.Forwards = forwards kind
 direction_of kind code_variants.Backwards = backwards
 
@@ -27,7 +27,7 @@ abbrev pub samples_of : Automaton → List ℕ
 samples_of a = a.samples.items
 
 -- It is that of these places.
-pub record IsMadeOf (places : List Place) (entries : List ℕ) (terminator : ℕ) (kind : TableKind) (byte_classes : Bool) (a : Automaton) : Type 0 where
+pub record IsMadeOf (places : List Place) (entries : List ℕ) (terminator : ℕ) (kind : MatchKind) (byte_classes : Bool) (a : Automaton) : Type 0 where
   -- what the program's assertions ask for
   pub needs : Needs
   pub are_needs : AreNeeds needs places

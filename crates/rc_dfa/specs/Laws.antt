@@ -1,8 +1,8 @@
 -- The laws of machines and of their runs.
 use Rattle.std.specs.Prelude.{◌≡◌, ℕ, ◌+◌, ◌<◌, ◌≤◌, Bool, true, false, List, [], ◌∷◌, length, Option, Some, None, IsTrue, slice_get, slice_index}
 use Rattle.std.specs.Option.{option_map}
-use Rattle.rc_determinize.specs.declared.kind.TableKind.{TableKind}
-use Rattle.rc_determinize.specs.declared.kind.TableKind.TheVariants.{All as all_matches, LeftmostFirst as leftmost_first, LeftmostLongest as leftmost_longest}
+use Rattle.rc_text.specs.declared.types.MatchKind.{MatchKind}
+use Rattle.rc_text.specs.declared.types.MatchKind.TheVariants.{All as all_matches, LeftmostFirst as leftmost_first, LeftmostLongest as leftmost_longest}
 use Rattle.rc_text.specs.declared.types.Anchored.{Anchored}
 use Rattle.rc_text.specs.declared.types.Anchored.TheVariants.{No, Yes, Pattern}
 use Rattle.rc_text.specs.Plain.{only_pattern}
@@ -76,11 +76,11 @@ pub record RunLaw : Type 0 where
       m.setting.terminator ≡ t.terminator → IsInside t from hi → SearchEnds m t hi from anchored false (met_last r) →
       GivesLongest (ways m.setting.places t hi) (Stops m.setting.places) (starts_of m anchored from hi) r
   -- forwards, whether or not the first match that is met is enough: what is met is the end of a walk
-  pub met : (kind : TableKind) (m : Machine) (t : Text) (hi from : ℕ) (anchored : Anchored) (earliest : Bool) (n : Pair) → IsMachine m →
+  pub met : (kind : MatchKind) (m : Machine) (t : Text) (hi from : ℕ) (anchored : Anchored) (earliest : Bool) (n : Pair) → IsMachine m →
       m.direction ≡ forwards kind → m.setting.terminator ≡ t.terminator → IsInside t from hi → SearchEnds m t hi from anchored earliest (met_last (Some n)) →
       Comes (ways m.setting.places t hi) (starts_of m anchored from hi) n × Stops m.setting.places n
   -- and where nothing is met, no walk ends
-  pub none : (kind : TableKind) (m : Machine) (t : Text) (hi from : ℕ) (anchored : Anchored) (earliest : Bool) → IsMachine m →
+  pub none : (kind : MatchKind) (m : Machine) (t : Text) (hi from : ℕ) (anchored : Anchored) (earliest : Bool) → IsMachine m →
       m.direction ≡ forwards kind → m.setting.terminator ≡ t.terminator → IsInside t from hi → SearchEnds m t hi from anchored earliest (met_last None) →
       (n : Pair) → Comes (ways m.setting.places t hi) (starts_of m anchored from hi) n → ¬ Stops m.setting.places n
   -- backwards: the least position from which an entry leads to a match place at `end`

@@ -1,6 +1,6 @@
 -- What states are made of: a byte program, the direction in which it is searched, and the kind of match that is sought.
 use Rattle.std.specs.Prelude.{◌≡◌, ◌↔◌, ℕ, ◌<◌, Bool, true, false, not, ◌&&◌, List, [], ◌∷◌, length, Option, Some, None, nat_eq, slice_get}
-use Rattle.rc_determinize.specs.declared.kind.TableKind.{TableKind}
+use Rattle.rc_text.specs.declared.types.MatchKind.{MatchKind}
 use Rattle.rc_text.specs.declared.types.Anchored.{Anchored}
 use Rattle.rc_text.specs.declared.types.Anchored.TheVariants.{No, Yes, Pattern}
 use Rattle.rc_program.specs.Laws.{IsClosed}
@@ -13,7 +13,7 @@ use Rattle.rc_determinize.specs.Backward.{IsPrior, IsLast}
 
 -- In which direction the bytes are read, and forwards, which kind of match is sought.
 pub data Direction : Type 0 where
-  forwards : TableKind → Direction
+  forwards : MatchKind → Direction
   backwards : Direction
 
 -- A byte program, which is entered at place 0, the entry of each of its patterns, in their order, and the direction.

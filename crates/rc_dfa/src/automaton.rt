@@ -15,11 +15,10 @@ use crate::samples::samples_of;
 use rc_determinize::backward::{Reversed, last, prior};
 use rc_determinize::classes::{classes, single_classes};
 use rc_determinize::forward::{first, next_by};
-use rc_determinize::kind::TableKind;
 use rc_determinize::scratch::Scratch;
 use rc_determinize::sides::{Needs, needs_of};
 use rc_determinize::state::State;
-use rc_text::types::Anchored;
+use rc_text::types::{Anchored, MatchKind};
 use rc_utf8::place::BytePlace;
 use std::alloc::{AllocError, Global};
 
@@ -41,7 +40,7 @@ pub struct Automaton {
     entries: Vec<usize>,
     needs: Needs,
     terminator: u8,
-    kind: TableKind,
+    kind: MatchKind,
     classes: Vec<u8>,
     samples: Vec<u8>,
     ghost closed: { IsClosed (places_of places.items) },
@@ -93,7 +92,7 @@ impl Automaton {
         places: Vec<BytePlace>,
         entries: Vec<usize>,
         terminator: u8,
-        kind: TableKind,
+        kind: MatchKind,
         byte_classes: bool,
     ) -> Result<Automaton, AllocError>
         requires closed { IsClosed (places_of places.items) }
@@ -131,7 +130,7 @@ impl Automaton {
     {
         let places = &self.places;
         match (direction, self.kind) {
-            (Direction::Forwards, TableKind::LeftmostLongest) => 2 * places.len(),
+            (Direction::Forwards, MatchKind::LeftmostLongest) => 2 * places.len(),
             _ => places.len(),
         }
     }

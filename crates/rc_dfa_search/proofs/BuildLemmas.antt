@@ -1,7 +1,7 @@
 -- What an automaton is made of.
 use Rattle.std.proofs.Common.{◌≡◌, ℕ, ◌<◌, ◌≤◌, List, length, sym, subst, ap, arith, Bool}
 use Rattle.std.proofs.lemmas.List.{length-map}
-use Rattle.rc_determinize.specs.declared.kind.TableKind.{TableKind}
+use Rattle.rc_text.specs.declared.types.MatchKind.{MatchKind}
 use Rattle.rc_pattern.specs.Re.{Re}
 use Rattle.rc_program.specs.Program.{Place, program}
 use Rattle.rc_program.specs.Laws.{IsClosed}
@@ -37,7 +37,7 @@ made_entered hs places entries e f =
     subst (AreBelow (length places)) (sym f)
     (λ q h. let o = entry_of 0 hs q h in let below = entry_below hs o.0 in let same = o.2 in let long = made_long hs places e in omega (arith, long, below, same))
 
-pub made : (hs : List Re) (terminator : ℕ) (kind : TableKind) (byte_classes : Bool) (places : List Place) (entries : List ℕ) (a : Automaton) →
+pub made : (hs : List Re) (terminator : ℕ) (kind : MatchKind) (byte_classes : Bool) (places : List Place) (entries : List ℕ) (a : Automaton) →
     places ≡ bytes_of (program hs) → entries ≡ entries_of hs → IsMadeOf places entries terminator kind byte_classes a →
     AreMachines hs terminator kind (machine_of a Forwards) (machine_of a Backwards)
 made hs terminator kind byte_classes places entries a e f m =
@@ -45,7 +45,7 @@ made hs terminator kind byte_classes places entries a e f m =
     (subst (λ ps. IsMadeOf ps entries terminator kind byte_classes a) e m) in
     record { needs = own.needs; are_needs = own.are_needs; ahead = own.machine Forwards; back = own.machine Backwards }
 
-pub made_classes : (hs : List Re) (terminator : ℕ) (kind : TableKind) (byte_classes : Bool) (places : List Place) (entries : List ℕ) (a : Automaton) →
+pub made_classes : (hs : List Re) (terminator : ℕ) (kind : MatchKind) (byte_classes : Bool) (places : List Place) (entries : List ℕ) (a : Automaton) →
     places ≡ bytes_of (program hs) → IsMadeOf places entries terminator kind byte_classes a → AreClassesOf byte_classes hs terminator (classes_of a)
 made_classes hs terminator kind byte_classes places entries a e m =
     let own = subst (λ ps. IsMadeOf ps entries terminator kind byte_classes a) e m in

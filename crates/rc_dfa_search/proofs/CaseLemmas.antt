@@ -4,7 +4,7 @@ use Rattle.std.specs.Prelude.{slice_index}
 use Rattle.std.proofs.lemmas.Bool.{cases_lt}
 use Rattle.std.proofs.lemmas.Option.{none-some, get_or_from_slice_get}
 use Rattle.std.proofs.lemmas.List.Elements.{All-get_or}
-use Rattle.rc_determinize.specs.declared.kind.TableKind.{TableKind}
+use Rattle.rc_text.specs.declared.types.MatchKind.{MatchKind}
 use Rattle.rc_text.specs.declared.types.Anchored.{Anchored}
 use Rattle.rc_text.specs.declared.types.Anchored.TheVariants.{No, Yes, Pattern}
 use Rattle.rc_text.specs.Plain.{only_pattern, is_anchored as anchors}
@@ -81,52 +81,52 @@ is_machine hs needs terminator d are =
       entered = λ q h. let e = entry_of 0 hs q h in let below = entry_below hs e.0 in let same = e.2 in omega (arith, longer, below, same);
     }
 
-pub ahead_machine : {hs : List Re} {kind : TableKind} {m n : Machine} {anchored : Anchored} {s : Search} → IsCase hs kind m n anchored s → IsMachine m
+pub ahead_machine : {hs : List Re} {kind : MatchKind} {m n : Machine} {anchored : Anchored} {s : Search} → IsCase hs kind m n anchored s → IsMachine m
 ahead_machine {hs} {kind} {s = s} c =
     let ms = c.machines in subst (λ x. IsMachine x) (sym ms.ahead) (is_machine hs ms.needs s.text.terminator (forwards kind) ms.are_needs)
 
-pub back_machine : {hs : List Re} {kind : TableKind} {m n : Machine} {anchored : Anchored} {s : Search} → IsCase hs kind m n anchored s → IsMachine n
+pub back_machine : {hs : List Re} {kind : MatchKind} {m n : Machine} {anchored : Anchored} {s : Search} → IsCase hs kind m n anchored s → IsMachine n
 back_machine {hs} {s = s} c =
     let ms = c.machines in subst (λ x. IsMachine x) (sym ms.back) (is_machine hs ms.needs s.text.terminator backwards ms.are_needs)
 
-pub ahead_direction : {hs : List Re} {kind : TableKind} {m n : Machine} {anchored : Anchored} {s : Search} → IsCase hs kind m n anchored s →
+pub ahead_direction : {hs : List Re} {kind : MatchKind} {m n : Machine} {anchored : Anchored} {s : Search} → IsCase hs kind m n anchored s →
     m.direction ≡ forwards kind
 ahead_direction c = let ms = c.machines in ap (λ (x : Machine). x.direction) ms.ahead
 
-pub back_direction : {hs : List Re} {kind : TableKind} {m n : Machine} {anchored : Anchored} {s : Search} → IsCase hs kind m n anchored s →
+pub back_direction : {hs : List Re} {kind : MatchKind} {m n : Machine} {anchored : Anchored} {s : Search} → IsCase hs kind m n anchored s →
     n.direction ≡ backwards
 back_direction c = let ms = c.machines in ap (λ (x : Machine). x.direction) ms.back
 
-pub same_setting : {hs : List Re} {kind : TableKind} {m n : Machine} {anchored : Anchored} {s : Search} → IsCase hs kind m n anchored s →
+pub same_setting : {hs : List Re} {kind : MatchKind} {m n : Machine} {anchored : Anchored} {s : Search} → IsCase hs kind m n anchored s →
     m.setting ≡ n.setting
 same_setting c = let ms = c.machines in ap (λ (x : Machine). x.setting) ms.ahead ∙ sym (ap (λ (x : Machine). x.setting) ms.back)
 
-pub ahead_entries : {hs : List Re} {kind : TableKind} {m n : Machine} {anchored : Anchored} {s : Search} → IsCase hs kind m n anchored s →
+pub ahead_entries : {hs : List Re} {kind : MatchKind} {m n : Machine} {anchored : Anchored} {s : Search} → IsCase hs kind m n anchored s →
     m.entries ≡ entries_of hs
 ahead_entries c = let ms = c.machines in ap (λ (x : Machine). x.entries) ms.ahead
 
-pub back_entries : {hs : List Re} {kind : TableKind} {m n : Machine} {anchored : Anchored} {s : Search} → IsCase hs kind m n anchored s →
+pub back_entries : {hs : List Re} {kind : MatchKind} {m n : Machine} {anchored : Anchored} {s : Search} → IsCase hs kind m n anchored s →
     n.entries ≡ entries_of hs
 back_entries c = let ms = c.machines in ap (λ (x : Machine). x.entries) ms.back
 
 -- the places of the setting are the byte program
-pub ahead_places : {hs : List Re} {kind : TableKind} {m n : Machine} {anchored : Anchored} {s : Search} → IsCase hs kind m n anchored s →
+pub ahead_places : {hs : List Re} {kind : MatchKind} {m n : Machine} {anchored : Anchored} {s : Search} → IsCase hs kind m n anchored s →
     m.setting.places ≡ bytes_of s.places
 ahead_places c = let ms = c.machines in ap (λ (x : Machine). x.setting.places) ms.ahead ∙ sym (ap bytes_of c.places)
 
-pub back_places : {hs : List Re} {kind : TableKind} {m n : Machine} {anchored : Anchored} {s : Search} → IsCase hs kind m n anchored s →
+pub back_places : {hs : List Re} {kind : MatchKind} {m n : Machine} {anchored : Anchored} {s : Search} → IsCase hs kind m n anchored s →
     n.setting.places ≡ bytes_of s.places
 back_places c = let ms = c.machines in ap (λ (x : Machine). x.setting.places) ms.back ∙ sym (ap bytes_of c.places)
 
-pub ahead_terminator : {hs : List Re} {kind : TableKind} {m n : Machine} {anchored : Anchored} {s : Search} → IsCase hs kind m n anchored s →
+pub ahead_terminator : {hs : List Re} {kind : MatchKind} {m n : Machine} {anchored : Anchored} {s : Search} → IsCase hs kind m n anchored s →
     m.setting.terminator ≡ s.text.terminator
 ahead_terminator c = let ms = c.machines in ap (λ (x : Machine). x.setting.terminator) ms.ahead
 
-pub back_terminator : {hs : List Re} {kind : TableKind} {m n : Machine} {anchored : Anchored} {s : Search} → IsCase hs kind m n anchored s →
+pub back_terminator : {hs : List Re} {kind : MatchKind} {m n : Machine} {anchored : Anchored} {s : Search} → IsCase hs kind m n anchored s →
     n.setting.terminator ≡ s.text.terminator
 back_terminator c = let ms = c.machines in ap (λ (x : Machine). x.setting.terminator) ms.back
 
-pub case_closed : {hs : List Re} {kind : TableKind} {m n : Machine} {anchored : Anchored} {s : Search} → IsCase hs kind m n anchored s → IsClosed s.places
+pub case_closed : {hs : List Re} {kind : MatchKind} {m n : Machine} {anchored : Anchored} {s : Search} → IsCase hs kind m n anchored s → IsClosed s.places
 case_closed {hs} c = subst (λ ps. IsClosed ps) (sym c.places) (program_is_closed hs)
 
 -- ANCHORINGS
@@ -147,21 +147,21 @@ starts_so m No from hi e = refl
 starts_so m Yes from hi e = refl
 starts_so m (Pattern p) from hi e = absurd (none-some p (sym e))
 
-pub anchored_is : {hs : List Re} {kind : TableKind} {m n : Machine} {anchored : Anchored} {s : Search} → IsCase hs kind m n anchored s →
+pub anchored_is : {hs : List Re} {kind : MatchKind} {m n : Machine} {anchored : Anchored} {s : Search} → IsCase hs kind m n anchored s →
     is_anchored s.anchoring ≡ anchors anchored
 anchored_is {anchored = anchored} c = ap is_anchored c.anchoring ∙ is_anchored_so anchored
 
-pub only_is : {hs : List Re} {kind : TableKind} {m n : Machine} {anchored : Anchored} {s : Search} → IsCase hs kind m n anchored s →
+pub only_is : {hs : List Re} {kind : MatchKind} {m n : Machine} {anchored : Anchored} {s : Search} → IsCase hs kind m n anchored s →
     only s.anchoring ≡ only_pattern anchored
 only_is {anchored = anchored} c = ap only c.anchoring ∙ only_so anchored
 
 -- where no pattern is asked for
-pub starts_are : {hs : List Re} {kind : TableKind} {m n : Machine} {anchored : Anchored} {s : Search} → IsCase hs kind m n anchored s →
+pub starts_are : {hs : List Re} {kind : MatchKind} {m n : Machine} {anchored : Anchored} {s : Search} → IsCase hs kind m n anchored s →
     only_pattern anchored ≡ None → (from hi : ℕ) → starts_of m anchored from hi ≡ all_starts (is_anchored s.anchoring) 0 from hi
 starts_are {m = m} {anchored = anchored} c e from hi =
     starts_so m anchored from hi e ∙ ap (λ a. all_starts (is_anchored a) 0 from hi) (sym c.anchoring)
 
-pub ahead_setting : {hs : List Re} {kind : TableKind} {m n : Machine} {anchored : Anchored} {s : Search} → IsCase hs kind m n anchored s →
+pub ahead_setting : {hs : List Re} {kind : MatchKind} {m n : Machine} {anchored : Anchored} {s : Search} → IsCase hs kind m n anchored s →
     only_pattern anchored ≡ None → IsSettingOf (by_bytes s) m.setting
 ahead_setting c e = record {
   setting = let k = ahead_machine c in k.setting;
@@ -170,7 +170,7 @@ ahead_setting c e = record {
   all = only_is c ∙ e;
 }
 
-pub back_setting : {hs : List Re} {kind : TableKind} {m n : Machine} {anchored : Anchored} {s : Search} → IsCase hs kind m n anchored s →
+pub back_setting : {hs : List Re} {kind : MatchKind} {m n : Machine} {anchored : Anchored} {s : Search} → IsCase hs kind m n anchored s →
     only_pattern anchored ≡ None → IsSettingOf (by_bytes s) n.setting
 back_setting c e = record {
   setting = let k = back_machine c in k.setting;

@@ -2,7 +2,7 @@
 use Rattle.std.proofs.Common.{◌≡◌, ℕ, ◌+◌, ◌<◌, ◌≤◌, ◌⊎◌, Bool, true, false, List, [], ◌∷◌, length, Option, Some, None, ⊎_elim, sym, subst, ap, ◌∙◌, refl, arith}
 use Rattle.std.specs.Prelude.{slice_index}
 use Rattle.rc_text.specs.Found.{Found}
-use Rattle.rc_determinize.specs.declared.kind.TableKind.TheVariants.{LeftmostFirst as leftmost_first}
+use Rattle.rc_text.specs.declared.types.MatchKind.TheVariants.{LeftmostFirst as leftmost_first}
 use Rattle.rc_text.specs.declared.types.Anchored.TheVariants.{Pattern}
 use Rattle.rc_pattern.specs.Re.{Re}
 use Rattle.rc_walks.specs.Walks.{Pair, IsWalk, HasNoWalk, EndsAt}

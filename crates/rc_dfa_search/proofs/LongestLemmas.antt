@@ -4,7 +4,7 @@ use Rattle.std.specs.Prelude.{slice_index}
 use Rattle.std.proofs.lemmas.Bool.{cases_eq}
 use Rattle.rc_text.specs.Found.{Found}
 use Rattle.rc_text.specs.Text.{is_boundary}
-use Rattle.rc_determinize.specs.declared.kind.TableKind.TheVariants.{LeftmostLongest as leftmost_longest}
+use Rattle.rc_text.specs.declared.types.MatchKind.TheVariants.{LeftmostLongest as leftmost_longest}
 use Rattle.rc_text.specs.declared.types.Anchored.TheVariants.{Pattern}
 use Rattle.rc_pattern.specs.Re.{Re}
 use Rattle.rc_walks.specs.Walks.{Pair, IsWalk, HasNoWalk}

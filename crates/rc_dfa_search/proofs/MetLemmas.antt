@@ -3,7 +3,7 @@ use Rattle.std.proofs.Common.{◌≡◌, ℕ, ◌+◌, ◌-◌, ◌<◌, ◌≤�
 use Rattle.std.specs.Prelude.{slice_index}
 use Rattle.std.proofs.lemmas.Bool.{cases_eq}
 use Rattle.rc_text.specs.Found.{Found}
-use Rattle.rc_determinize.specs.declared.kind.TableKind.{TableKind}
+use Rattle.rc_text.specs.declared.types.MatchKind.{MatchKind}
 use Rattle.rc_text.specs.declared.types.Anchored.{Anchored}
 use Rattle.rc_text.specs.declared.types.Anchored.TheVariants.{No, Yes, Pattern}
 use Rattle.rc_text.specs.Plain.{only_pattern, is_anchored as anchors}
@@ -130,7 +130,7 @@ module _ (hs : List Re) (m : Machine) (t : Text) (lo hi : ℕ) (ordered : lo ≤
 
 -- SPANS
 
-module _ (hs : List Re) (kind : TableKind) (m n : Machine) (anchored : Anchored) (s : Search) (c : IsCase hs kind m n anchored s) where
+module _ (hs : List Re) (kind : MatchKind) (m n : Machine) (anchored : Anchored) (s : Search) (c : IsCase hs kind m n anchored s) where
   places_of : m.setting.places ≡ bytes_of (program hs)
   places_of = let k = c.machines in ap (λ (x : Machine). x.setting.places) k.ahead
 
@@ -240,7 +240,7 @@ module _ (hs : List Re) (kind : TableKind) (m n : Machine) (anchored : Anchored)
       none_met hs kind m n anchored s c x e start.1 (l x start.0 (spelled_onward s (pattern_met m q) x e span)) (pattern_met m q) span
 
 -- a span of the one pattern that is asked for is one from its entry
-pub leads_entry : (hs : List Re) (kind : TableKind) (m n : Machine) (p : ℕ) (s : Search) → IsCase hs kind m n (Pattern p) s → (f : Found) → IsSpelledIn s f →
+pub leads_entry : (hs : List Re) (kind : MatchKind) (m n : Machine) (p : ℕ) (s : Search) → IsCase hs kind m n (Pattern p) s → (f : Found) → IsSpelledIn s f →
     LeadsTo m.setting.places s.text s.hi (Some f.pattern) f.end (slice_index m.entries p, s.lo)
 leads_entry hs kind m n p s c f spelled =
     let l = leaves hs m s.text s.lo s.hi c.ordered (ahead_entries c) (Pattern p) f.pattern f.end (spelled_enters hs kind m n (Pattern p) s c f spelled) in

@@ -7,11 +7,11 @@ use Rattle.rc_text.specs.Text.{Searched, Keeps, low, high, is_boundary}
 use Rattle.rc_text.specs.declared.types.Anchored.{Anchored}
 use Rattle.rc_text.specs.declared.types.Anchored.TheVariants.{No}
 use Rattle.rc_text.specs.declared.types.MatchError.{MatchError}
-use Rattle.rc_determinize.specs.declared.kind.TableKind.{TableKind}
-use Rattle.rc_determinize.specs.declared.kind.TableKind.TheVariants.{All as all_matches, LeftmostFirst as leftmost_first, LeftmostLongest as leftmost_longest}
+use Rattle.rc_text.specs.declared.types.MatchKind.{MatchKind}
+use Rattle.rc_text.specs.declared.types.MatchKind.TheVariants.{All as all_matches, LeftmostFirst as leftmost_first, LeftmostLongest as leftmost_longest}
 use Rattle.rc_pattern.specs.Re.{Re}
 use Rattle.rc_program.specs.Answer.{Search, HasNoWalkFrom}
-use Rattle.rc_determinize.specs.TableKinds.{answer_by, IsAnswerBy}
+use Rattle.rc_program.specs.Kinds.{answer_by, IsAnswerBy}
 use Rattle.rc_program.specs.Sought.{text_of}
 use Rattle.rc_utf8.specs.Laws.{by_bytes}
 use Rattle.rc_determinize.specs.Laws.{may_end_at}
@@ -245,7 +245,7 @@ is_answer aim anchored s (Ok o) goes h = subst (λ e. IsAnswerBy aim.kind e s o)
 is_answer aim anchored s (Err e) goes h = tt
 
 -- its end
-half_is : (kind : TableKind) → IsLeftmost kind → (s : Search) (a : Option Found) → a ≡ answer_by kind s → IsForwardHalf kind false s (option_map half_of a)
+half_is : (kind : MatchKind) → IsLeftmost kind → (s : Search) (a : Option Found) → a ≡ answer_by kind s → IsForwardHalf kind false s (option_map half_of a)
 half_is kind left s None e = e
 half_is all_matches left s (Some m) e = absurd left
 half_is leftmost_first left s (Some m) e = (m, e, refl, refl)

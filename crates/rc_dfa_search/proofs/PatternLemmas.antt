@@ -3,14 +3,14 @@ use Rattle.std.proofs.Common.{◌≡◌, ℕ, ◌+◌, ◌*◌, ◌<◌, ◌≤�
 use Rattle.rc_text.specs.Found.{Found, HalfFound}
 use Rattle.rc_text.specs.Text.{high, low}
 use Rattle.rc_text.specs.declared.types.Anchored.{Anchored}
-use Rattle.rc_determinize.specs.declared.kind.TableKind.{TableKind}
-use Rattle.rc_determinize.specs.declared.kind.TableKind.TheVariants.{All as all_matches, LeftmostFirst as leftmost_first, LeftmostLongest as leftmost_longest}
+use Rattle.rc_text.specs.declared.types.MatchKind.{MatchKind}
+use Rattle.rc_text.specs.declared.types.MatchKind.TheVariants.{All as all_matches, LeftmostFirst as leftmost_first, LeftmostLongest as leftmost_longest}
 use Rattle.rc_pattern.specs.Re.{Re}
 use Rattle.rc_pattern.specs.WellFormed.{group_count}
 use Rattle.rc_program.specs.Program.{accept, choice_of_patterns, place_at, program}
 use Rattle.rc_program.specs.Answer.{Search, last_of}
 use Rattle.rc_program.specs.Greatest.{IsSpelledIn}
-use Rattle.rc_determinize.specs.TableKinds.{IsAnswerWhere}
+use Rattle.rc_program.specs.Kinds.{IsAnswerWhere}
 use Rattle.rc_program.specs.Laws.{heaviness}
 use Rattle.rc_program.proofs.AnswerLemmas.{answer_pattern}
 use Rattle.rc_program.proofs.GreatestLemmas.{greatest_some}
@@ -51,7 +51,7 @@ spelled_in_below : (hs : List Re) (s : Search) (m : Found) → s.places ≡ prog
 spelled_in_below hs s m places h =
     accept_below hs (last_of h.walk).0 m.pattern (subst (λ ps. place_at ps (last_of h.walk).0 ≡ accept m.pattern) places h.pattern)
 
-pub answer_below : (hs : List Re) (early : Bool) (kind : TableKind) (s : Search) (m : Found) → s.places ≡ program hs → IsAnswerWhere early kind s (Some m) →
+pub answer_below : (hs : List Re) (early : Bool) (kind : MatchKind) (s : Search) (m : Found) → s.places ≡ program hs → IsAnswerWhere early kind s (Some m) →
     m.pattern < length hs
 answer_below hs true kind s m places h = spelled_in_below hs s m places h
 answer_below hs false leftmost_first s m places h = answer_pattern hs s m places (sym h)
@@ -63,7 +63,7 @@ start_below hs true s h places w = spelled_below hs s h.pattern h.offset s.hi pl
 start_below hs false s h places w = let t = w.is_spelled in spelled_below hs s h.pattern h.offset s.hi places t.is_spelled
 
 -- whatever is met from one position on
-met_below : (hs : List Re) (kind : TableKind) (m n : Machine) (anchored : Anchored) (s : Search) (from : ℕ) (earliest : Bool) (q e : ℕ) → IsCase hs kind m n anchored s →
+met_below : (hs : List Re) (kind : MatchKind) (m n : Machine) (anchored : Anchored) (s : Search) (from : ℕ) (earliest : Bool) (q e : ℕ) → IsCase hs kind m n anchored s →
     s.lo ≤ from → from ≤ s.hi → SearchEnds m s.text s.hi from anchored earliest (met_last (Some (q, e))) → pattern_met m q < length hs
 met_below hs kind m n anchored s from earliest q e c low high h =
     let later : Search = record s { lo = from } in
@@ -79,7 +79,7 @@ met_below hs kind m n anchored s from earliest q e c low high h =
     let w = met_law.ends hs kind m n anchored later earliest q e case h in
     spelled_in_below hs later (met_from m q w.0 e) c.places w.1
 
-pub end_below : (hs : List Re) (kind : TableKind) (early : Bool) (m n : Machine) (anchored : Anchored) (s : Search) (end : End) →
+pub end_below : (hs : List Re) (kind : MatchKind) (early : Bool) (m n : Machine) (anchored : Anchored) (s : Search) (end : End) →
     IsEnd hs kind early m n anchored s end → end.pattern < length hs
 end_below hs kind early m n anchored s end h =
     let st = h.stands in
@@ -90,7 +90,7 @@ end_below hs kind early m n anchored s end h =
 abbrev pub IsNumbered : List Re → Option Met → Type 0
 IsNumbered hs o = IfSome o (λ (met : Met). met.pattern < length hs)
 
-pub numbered_met : (hs : List Re) (kind : TableKind) (m n : Machine) (anchored : Anchored) (s : Search) (from : ℕ) (early : Bool) (o : Option Met) →
+pub numbered_met : (hs : List Re) (kind : MatchKind) (m n : Machine) (anchored : Anchored) (s : Search) (from : ℕ) (early : Bool) (o : Option Met) →
     IsCase hs kind m n anchored s → s.lo ≤ from → from ≤ s.hi → HasMet m s.text s.hi from anchored early o → IsNumbered hs o
 numbered_met hs kind m n anchored s from early None c low high h = tt
 numbered_met hs kind m n anchored s from early (Some met) c low high h =

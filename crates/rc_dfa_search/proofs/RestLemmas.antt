@@ -3,8 +3,8 @@ use Rattle.std.proofs.Common.{◌≡◌, ℕ, zero, suc, ◌+◌, ◌-◌, ◌*�
 use Rattle.std.specs.Option.{option_map, option_or}
 use Rattle.std.proofs.lemmas.Bool.{eqb-true}
 use Rattle.std.proofs.lemmas.Option.{none-some}
-use Rattle.rc_determinize.specs.declared.kind.TableKind.{TableKind}
-use Rattle.rc_determinize.specs.declared.kind.TableKind.TheVariants.{All as all_matches, LeftmostFirst as leftmost_first, LeftmostLongest as leftmost_longest}
+use Rattle.rc_text.specs.declared.types.MatchKind.{MatchKind}
+use Rattle.rc_text.specs.declared.types.MatchKind.TheVariants.{All as all_matches, LeftmostFirst as leftmost_first, LeftmostLongest as leftmost_longest}
 use Rattle.rc_text.specs.declared.types.Anchored.{Anchored}
 use Rattle.rc_text.specs.declared.types.Anchored.TheVariants.{No}
 use Rattle.rc_pattern.specs.Re.{Re}
@@ -175,7 +175,7 @@ module _ (g : Setting) (entries : List ℕ) (k : IsMachine (record { setting = g
 -- STARTS WITHOUT A WALK
 
 module _ (W : Pair → List Pair) (E : Pair → Type 0) where
-  drop_start : (kind : TableKind) → IsLeftmost kind → (n : Pair) (f : List Pair) (r : Option Pair) → HasNoWalk W E [] (n ∷ []) → GivesBy kind W E f r →
+  drop_start : (kind : MatchKind) → IsLeftmost kind → (n : Pair) (f : List Pair) (r : Option Pair) → HasNoWalk W E [] (n ∷ []) → GivesBy kind W E f r →
       GivesBy kind W E (n ∷ f) r
   drop_start all_matches left n f r none g = absurd left
   drop_start leftmost_first left n f None none g = λ v walk. g v (drop_way W E n none walk)
@@ -187,12 +187,12 @@ module _ (W : Pair → List Pair) (E : Pair → Type 0) where
   no_starts (stops k here fresh ends) = here
   no_starts (goes k here fresh more) = here
 
-  none_given : (kind : TableKind) → IsLeftmost kind → GivesBy kind W E [] None
+  none_given : (kind : MatchKind) → IsLeftmost kind → GivesBy kind W E [] None
   none_given all_matches left = absurd left
   none_given leftmost_first left = λ v walk. no_starts walk
   none_given leftmost_longest left = λ v walk. no_starts walk
 
-module _ (kind : TableKind) (left : IsLeftmost kind) (W : Pair → List Pair) (E : Pair → Type 0) where
+module _ (kind : MatchKind) (left : IsLeftmost kind) (W : Pair → List Pair) (E : Pair → Type 0) where
   drop_starts : (x count more : ℕ) (r : Option Pair) → ((z : ℕ) → x ≤ z → z < x + count → HasNoWalk W E [] ((0, z) ∷ [])) →
       GivesBy kind W E (starts 0 (x + count) more) r → GivesBy kind W E (starts 0 x (count + more)) r
   drop_starts x zero more r none g =
@@ -245,11 +245,11 @@ no_walk_over s closed some x le none =
 -- LAWS
 
 -- in this direction
-turned : (m : Machine) (kind : TableKind) (e : m.direction ≡ forwards kind) (P : Machine → Type 0) → P m → P (record m { direction = forwards kind })
+turned : (m : Machine) (kind : MatchKind) (e : m.direction ≡ forwards kind) (P : Machine → Type 0) → P m → P (record m { direction = forwards kind })
 turned m kind e P h = subst (λ d. P (record m { direction = d })) e h
 
 -- what the starts give from where a run rests
-rests_too : (kind : TableKind) → IsLeftmost kind → (m : Machine) → IsMachine m → m.direction ≡ forwards kind → (t : Text) → m.setting.terminator ≡ t.terminator →
+rests_too : (kind : MatchKind) → IsLeftmost kind → (m : Machine) → IsMachine m → m.direction ≡ forwards kind → (t : Text) → m.setting.terminator ≡ t.terminator →
     (hi from : ℕ) → IsInside t from hi → (earliest : Bool) (i : ℕ) → SearchEnds m t hi from No earliest (idle_at i) → (r : Option Pair) →
     GivesBy kind (ways m.setting.places t hi) (Stops m.setting.places) (all_starts false 0 i hi) r →
     GivesBy kind (ways m.setting.places t hi) (Stops m.setting.places) (all_starts false 0 from hi) r
@@ -261,7 +261,7 @@ rests_too leftmost_longest left m k d t same hi from inside earliest i h r g =
     rests_longest m.setting m.entries (turned m leftmost_longest d IsMachine k) t same hi from inside earliest (idle_at i) i
     (turned m leftmost_longest d (λ x. SearchEnds x t hi from No earliest (idle_at i)) h) refl r g
 
-module _ (hs : List Re) (kind : TableKind) (left : IsLeftmost kind) (m n : Machine) (s : Search) (c : IsCase hs kind m n No s) where
+module _ (hs : List Re) (kind : MatchKind) (left : IsLeftmost kind) (m n : Machine) (s : Search) (c : IsCase hs kind m n No s) where
   abbrev W : Pair → List Pair
   W = ways m.setting.places s.text s.hi
 
@@ -302,7 +302,7 @@ rest_law = record {
   nowhere = λ hs kind m n s i left c low none. nowhere_so hs kind left m n s c i low none;
 }
 
-module _ (hs : List Re) (kind : TableKind) (left : IsLeftmost kind) (m n : Machine) (s : Search) (from : ℕ) (c : IsCase hs kind m n No s) where
+module _ (hs : List Re) (kind : MatchKind) (left : IsLeftmost kind) (m n : Machine) (s : Search) (from : ℕ) (c : IsCase hs kind m n No s) where
   given : (r : Option Pair) → StartsGive kind m s from r → leftmost.Given hs m n No s from kind r
   given r g = subst (λ o. GivesBy kind (ways m.setting.places s.text s.hi) (Stops m.setting.places) o r) (starts_are c refl from s.hi) g
 

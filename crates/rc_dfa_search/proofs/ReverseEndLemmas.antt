@@ -13,9 +13,9 @@ use Rattle.rc_program.proofs.WayLemmas.{same_pair}
 use Rattle.rc_program.proofs.AnswerLemmas.{answer_law, is_bounded, last_pair, match_place_is, walk_ends}
 use Rattle.rc_program.proofs.GreatestLemmas.{no_span_no_answer}
 use Rattle.rc_program.proofs.ReachLemmas.{longest_law}
-use Rattle.rc_determinize.specs.declared.kind.TableKind.{TableKind}
-use Rattle.rc_determinize.specs.declared.kind.TableKind.TheVariants.{All as all_matches, LeftmostFirst as leftmost_first, LeftmostLongest as leftmost_longest}
-use Rattle.rc_determinize.specs.TableKinds.{answer_by}
+use Rattle.rc_text.specs.declared.types.MatchKind.{MatchKind}
+use Rattle.rc_text.specs.declared.types.MatchKind.TheVariants.{All as all_matches, LeftmostFirst as leftmost_first, LeftmostLongest as leftmost_longest}
+use Rattle.rc_program.specs.Kinds.{answer_by}
 use Rattle.rc_determinize.specs.Spans.{IsSpelled}
 use Rattle.rc_dfa_search.specs.Laws.{ReverseEndLaw}
 use Rattle.rc_dfa_search.specs.Leftmost.{IsLeftmost}
@@ -153,7 +153,7 @@ module _ (s : Search) (last : EndsAtBound s) where
         r.2,
       )
 
-leftmost : (hs : List Re) (kind : TableKind) (s : Search) (o : Option Found) → IsLeftmost kind → s.places ≡ program hs → s.anchoring ≡ anywhere → EndsAtBound s →
+leftmost : (hs : List Re) (kind : MatchKind) (s : Search) (o : Option Found) → IsLeftmost kind → s.places ≡ program hs → s.anchoring ≡ anywhere → EndsAtBound s →
     IsMatchToEnd false s o → o ≡ answer_by kind s
 leftmost hs all_matches s o left is free last h = absurd left
 leftmost hs leftmost_first s o left is free last h = preferred hs s is free last o h

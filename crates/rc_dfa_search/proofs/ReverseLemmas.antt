@@ -1,7 +1,7 @@
 -- What a search backwards from the upper bound tells.
 use Rattle.std.proofs.Common.{◌≡◌, ◌↔◌, ℕ, zero, suc, ◌<◌, ◌≤◌, Bool, false, List, [], ◌∷◌, length, get_or, Option, Some, None, inl, inr, ⊎_elim, sym, subst, ap₂, arith}
 use Rattle.std.proofs.lemmas.Bool.{cases_lt}
-use Rattle.rc_determinize.specs.declared.kind.TableKind.{TableKind}
+use Rattle.rc_text.specs.declared.types.MatchKind.{MatchKind}
 use Rattle.rc_text.specs.declared.types.Anchored.{Anchored}
 use Rattle.rc_text.specs.Plain.{only_pattern}
 use Rattle.rc_pattern.specs.Re.{Re}
@@ -38,7 +38,7 @@ no_root Holds [] h j lt = absurd (omega (arith, lt))
 no_root Holds (r ∷ rs) h zero lt = h.0
 no_root Holds (r ∷ rs) h (suc j) lt = no_root Holds rs h.1 j (omega (arith, lt))
 
-module _ (hs : List Re) (kind : TableKind) (m n : Machine) (anchored : Anchored) (s : Search) (c : IsCase hs kind m n anchored s) where
+module _ (hs : List Re) (kind : MatchKind) (m n : Machine) (anchored : Anchored) (s : Search) (c : IsCase hs kind m n anchored s) where
   abbrev pub MetFrom : ℕ → ℕ → ℕ → Type 0
   MetFrom end x root = ReachesMatch (only_pattern anchored) n.setting s.text s.hi end x root
 

@@ -3,7 +3,7 @@ use Rattle.std.proofs.Common.{◌≡◌, ◌∙◌, ℕ, zero, suc, ◌+◌, ◌
 use Rattle.std.proofs.lemmas.Bool.{cases_lt}
 use Rattle.std.proofs.lemmas.List.{ext_get_or}
 use Rattle.rc_pattern.specs.Re.{Re}
-use Rattle.rc_determinize.specs.declared.kind.TableKind.{TableKind}
+use Rattle.rc_text.specs.declared.types.MatchKind.{MatchKind}
 use Rattle.rc_program.specs.Program.{Place, program}
 use Rattle.rc_utf8.specs.Bytes.{bytes_of}
 use Rattle.rc_determinize.specs.declared.sides.Needs.{Needs}
@@ -82,7 +82,7 @@ pub record AreSameMachines (a b c d : Machine) : Type 0 where
   pub ahead : a ≡ c
   pub back : b ≡ d
 
-pub same_machines : (hs : List Re) (terminator : ℕ) (kind : TableKind) (a b c d : Machine) → AreMachines hs terminator kind a b → AreMachines hs terminator kind c d →
+pub same_machines : (hs : List Re) (terminator : ℕ) (kind : MatchKind) (a b c d : Machine) → AreMachines hs terminator kind a b → AreMachines hs terminator kind c d →
     AreSameMachines a b c d
 same_machines hs terminator kind a b c d h k =
     let same = same_needs (bytes_of (program hs)) h.needs k.needs h.are_needs k.are_needs in record {

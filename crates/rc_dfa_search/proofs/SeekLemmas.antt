@@ -4,8 +4,8 @@ use Rattle.std.proofs.lemmas.Bool.{eqb-true}
 use Rattle.rc_text.specs.Found.{Found}
 use Rattle.rc_text.specs.Text.{Searched, Keeps, high, is_boundary}
 use Rattle.rc_text.specs.Plain.{is_anchored as anchors}
-use Rattle.rc_determinize.specs.declared.kind.TableKind.{TableKind}
-use Rattle.rc_determinize.specs.declared.kind.TableKind.TheVariants.{All as all_matches, LeftmostFirst as leftmost_first, LeftmostLongest as leftmost_longest}
+use Rattle.rc_text.specs.declared.types.MatchKind.{MatchKind}
+use Rattle.rc_text.specs.declared.types.MatchKind.TheVariants.{All as all_matches, LeftmostFirst as leftmost_first, LeftmostLongest as leftmost_longest}
 use Rattle.rc_text.specs.declared.types.Anchored.{Anchored}
 use Rattle.rc_text.specs.declared.types.Anchored.TheVariants.{No, Yes, Pattern}
 use Rattle.rc_pattern.specs.Re.{Re}
@@ -14,7 +14,7 @@ use Rattle.rc_program.specs.Text.{Text}
 use Rattle.rc_program.specs.Program.{Place, accept, place_at, ways, is_match_place, program}
 use Rattle.rc_program.specs.Answer.{Search, ends, last_of, next_of, only}
 use Rattle.rc_program.specs.Greatest.{IsSpelledIn, HasNoSpan}
-use Rattle.rc_determinize.specs.TableKinds.{answer_by, IsAnswerWhere}
+use Rattle.rc_program.specs.Kinds.{answer_by, IsAnswerWhere}
 use Rattle.rc_program.specs.Sought.{anchoring_of, text_of}
 use Rattle.rc_program.proofs.PlaceLemmas.{accept_below}
 use Rattle.rc_program.proofs.AnswerLemmas.{answer_law, last_of_more, walk_ends, walk_within}
@@ -40,11 +40,11 @@ use Rattle.rc_dfa_search.proofs.MetLemmas.{met_law}
 
 -- WHERE NOTHING IS FOUND
 
-pub no_answer : (kind : TableKind) (early : Bool) (s : Search) → answer_by kind s ≡ None → IsAnswerWhere early kind s None
+pub no_answer : (kind : MatchKind) (early : Bool) (s : Search) → answer_by kind s ≡ None → IsAnswerWhere early kind s None
 no_answer kind true s e = e
 no_answer kind false s e = sym e
 
-no_match : (kind : TableKind) (s : Search) → HasNoSpan s → answer_by kind s ≡ None
+no_match : (kind : MatchKind) (s : Search) → HasNoSpan s → answer_by kind s ≡ None
 no_match all_matches s none = (greatest_none s).1 none
 no_match leftmost_first s none = (answer_law.answer_none s).1 (no_span_no_answer s none)
 no_match leftmost_longest s none = no_span_no_longest s none
@@ -83,7 +83,7 @@ void_walk : (hs : List Re) (patterns : ℕ) (anchored : Anchored) (s : Search) (
 void_walk hs patterns anchored s p x e places anchoring counted void low high h =
     ⊎_elim (λ l. omega (arith, l, low, high)) (λ n. n (subst (λ k. Asks k anchored) (sym counted) (walk_asked hs anchored s p x e places anchoring h))) void
 
-pub void_answer : (hs : List Re) (patterns : ℕ) (kind : TableKind) (early : Bool) (anchored : Anchored) (s : Search) → s.places ≡ program hs →
+pub void_answer : (hs : List Re) (patterns : ℕ) (kind : MatchKind) (early : Bool) (anchored : Anchored) (s : Search) → s.places ≡ program hs →
     s.anchoring ≡ anchoring_of anchored → patterns ≡ length hs → IsVoid patterns anchored s → IsAnswerWhere early kind s None
 void_answer hs patterns kind early anchored s places anchoring counted void =
     no_answer kind early s (no_match kind s (λ m h.
@@ -110,7 +110,7 @@ void_start hs patterns anchored s places anchoring counted void x p low h =
 
 -- FORWARDS
 
-pub stands_first : (hs : List Re) (kind : TableKind) (early : Bool) (m n : Machine) (anchored : Anchored) (s : Search) → IsCase hs kind m n anchored s →
+pub stands_first : (hs : List Re) (kind : MatchKind) (early : Bool) (m n : Machine) (anchored : Anchored) (s : Search) → IsCase hs kind m n anchored s →
     Stands hs kind early m n anchored s s.lo
 stands_first hs kind early m n anchored s c = record {
   case = c;
@@ -123,12 +123,12 @@ pub from_low : (m : Machine) (s : Search) (from : ℕ) (anchored : Anchored) (ea
     SearchEnds m s.text s.hi from anchored early (met_last o) → SearchEnds m s.text s.hi s.lo anchored early (met_last o)
 from_low m s from anchored early o e h = subst (λ x. SearchEnds m s.text s.hi x anchored early (met_last o)) e h
 
-none_early : (hs : List Re) (kind : TableKind) (m n : Machine) (anchored : Anchored) (s : Search) (from : ℕ) →
+none_early : (hs : List Re) (kind : MatchKind) (m n : Machine) (anchored : Anchored) (s : Search) (from : ℕ) →
     Stands hs kind true m n anchored s from → HasMet m s.text s.hi from anchored true None → IsAnswerWhere true kind s None
 none_early hs kind m n anchored s from st h =
     no_match kind s (met_law.none hs kind m n anchored s true st.case (from_low m s from anchored true None (st.alone (inr refl)) h)).0
 
-pub none_met : (hs : List Re) (kind : TableKind) (early : Bool) (m n : Machine) (anchored : Anchored) (s : Search) (from : ℕ) →
+pub none_met : (hs : List Re) (kind : MatchKind) (early : Bool) (m n : Machine) (anchored : Anchored) (s : Search) (from : ℕ) →
     Stands hs kind early m n anchored s from → HasMet m s.text s.hi from anchored early None → IsAnswerWhere early kind s None
 none_met hs leftmost_first false m n anchored s from st h = sym (leftmost_law.none hs leftmost_first m n anchored s from tt st.case st.raised h)
 none_met hs leftmost_longest false m n anchored s from st h = sym (leftmost_law.none hs leftmost_longest m n anchored s from tt st.case st.raised h)
@@ -138,7 +138,7 @@ none_met hs all_matches early m n anchored s from st h =
     no_answer all_matches early s
     (met_law.none hs all_matches m n anchored s early st.case (from_low m s from anchored early None (st.alone (inl refl)) h)).2
 
-pub end_met : (hs : List Re) (kind : TableKind) (early : Bool) (m n : Machine) (anchored : Anchored) (s : Search) (from : ℕ) (met : Met) →
+pub end_met : (hs : List Re) (kind : MatchKind) (early : Bool) (m n : Machine) (anchored : Anchored) (s : Search) (from : ℕ) (met : Met) →
     Stands hs kind early m n anchored s from → HasMet m s.text s.hi from anchored early (Some met) →
     may_end kind s.passes_over s.text.content met.at ≡ true → IsEnd hs kind early m n anchored s (record { from = from; pattern = met.pattern; at = met.at })
 end_met hs kind early m n anchored s from met st h ok = record {
@@ -149,13 +149,13 @@ end_met hs kind early m n anchored s from met st h ok = record {
   allowed = ok;
 }
 
-not_alone : (kind : TableKind) → IsLeftmost kind → (kind ≡ all_matches) ⊎ (false ≡ true) → ⊥
+not_alone : (kind : MatchKind) → IsLeftmost kind → (kind ≡ all_matches) ⊎ (false ≡ true) → ⊥
 not_alone all_matches left e = absurd left
 not_alone leftmost_first left e = ⊎_elim (λ e. cc) (λ e. cc) e
 not_alone leftmost_longest left e = ⊎_elim (λ e. cc) (λ e. cc) e
 
 -- an end that is passed over
-raised_on : (hs : List Re) (kind : TableKind) → IsLeftmost kind → (m n : Machine) (anchored : Anchored) (s : Search) (from : ℕ) (met : Met) →
+raised_on : (hs : List Re) (kind : MatchKind) → IsLeftmost kind → (m n : Machine) (anchored : Anchored) (s : Search) (from : ℕ) (met : Met) →
     Stands hs kind false m n anchored s from → HasMet m s.text s.hi from anchored false (Some met) → may_end_at s met.at ≡ false →
     (from < s.hi → anchors anchored ≡ false → Stands hs kind false m n anchored s (from + 1))
     × ((anchors anchored ≡ true) ⊎ (s.hi ≤ from) → IsAnswerWhere false kind s None)
@@ -171,7 +171,7 @@ raised_on hs kind left m n anchored s from met st h passed =
       ⊎_elim (λ is. sym (r.1 (inr is))) (λ le. sym (r.1 (inl le))),
     )
 
-pub raised : (hs : List Re) (kind : TableKind) (early : Bool) (m n : Machine) (anchored : Anchored) (s : Search) (from : ℕ) (met : Met) →
+pub raised : (hs : List Re) (kind : MatchKind) (early : Bool) (m n : Machine) (anchored : Anchored) (s : Search) (from : ℕ) (met : Met) →
     Stands hs kind early m n anchored s from → HasMet m s.text s.hi from anchored early (Some met) →
     may_end kind s.passes_over s.text.content met.at ≡ false → (early ≡ true → s.passes_over ≡ false) →
     (from < s.hi → anchors anchored ≡ false → Stands hs kind early m n anchored s (from + 1))
@@ -184,7 +184,7 @@ raised hs leftmost_longest true m n anchored s from met st h passed none =
 raised hs leftmost_first false m n anchored s from met st h passed none = raised_on hs leftmost_first tt m n anchored s from met st h passed
 raised hs leftmost_longest false m n anchored s from met st h passed none = raised_on hs leftmost_longest tt m n anchored s from met st h passed
 
-met_within : (hs : List Re) (kind : TableKind) (early : Bool) (m n : Machine) (anchored : Anchored) (s : Search) (end : End) →
+met_within : (hs : List Re) (kind : MatchKind) (early : Bool) (m n : Machine) (anchored : Anchored) (s : Search) (end : End) →
     IsEnd hs kind early m n anchored s end → (kind ≡ all_matches) ⊎ (early ≡ true) → (end.from ≤ end.at) × (end.at ≤ s.hi)
 met_within hs kind early m n anchored s end h alone =
     let st = h.stands in
@@ -194,7 +194,7 @@ met_within hs kind early m n anchored s end h alone =
     let a = w.0 in let b = w.1 in (omega (arith, a, b, at_low), w.2)
 
 -- where the end lies
-pub end_within : (hs : List Re) (kind : TableKind) (early : Bool) (m n : Machine) (anchored : Anchored) (s : Search) (end : End) →
+pub end_within : (hs : List Re) (kind : MatchKind) (early : Bool) (m n : Machine) (anchored : Anchored) (s : Search) (end : End) →
     IsEnd hs kind early m n anchored s end → (end.from ≤ end.at) × (end.at ≤ s.hi)
 end_within hs leftmost_first false m n anchored s end h =
     let st = h.stands in

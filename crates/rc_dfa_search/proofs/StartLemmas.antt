@@ -3,7 +3,7 @@ use Rattle.std.proofs.Common.{◌≡◌, ℕ, ◌+◌, ◌-◌, ◌≤◌, Bool,
 use Rattle.std.proofs.Math.Nat.{mul-le-mul_right}
 use Rattle.rc_text.specs.Found.{HalfFound}
 use Rattle.rc_text.specs.Text.{Searched, Keeps, high, low}
-use Rattle.rc_determinize.specs.declared.kind.TableKind.{TableKind}
+use Rattle.rc_text.specs.declared.types.MatchKind.{MatchKind}
 use Rattle.rc_text.specs.declared.types.Anchored.{Anchored}
 use Rattle.rc_pattern.specs.Re.{Re}
 use Rattle.rc_program.specs.Answer.{Search}
@@ -21,7 +21,7 @@ use Rattle.rc_dfa_search.proofs.ReverseLemmas.{reverse_law}
 clamped : (lo hi x : ℕ) → lo ≤ x → x ≤ hi → x ≡ min (max x lo) hi
 clamped lo hi x low high = omega arith
 
-start_met : (hs : List Re) (kind : TableKind) (early : Bool) (m n : Machine) (anchored : Anchored) (s : Search) (met : Met) → IsCase hs kind m n anchored s →
+start_met : (hs : List Re) (kind : MatchKind) (early : Bool) (m n : Machine) (anchored : Anchored) (s : Search) (met : Met) → IsCase hs kind m n anchored s →
     HasMetDown n s.text s.lo s.hi anchored early (Some met) → IsStartWhere early s (record { pattern = met.pattern; offset = min (max met.at s.lo) s.hi })
 start_met hs kind true m n anchored s met c h =
     let e = reverse_law.met hs kind m n anchored s true met.at met.pattern c h in

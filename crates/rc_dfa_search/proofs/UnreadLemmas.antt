@@ -6,7 +6,7 @@ use Rattle.rc_pattern.specs.declared.hir.Look.{Look}
 use Rattle.rc_pattern.specs.Properties.{look_number, has_look}
 use Rattle.rc_pattern.specs.Re.{Re, Range, empty, literal, byte_in, char_in, look, repeat, capture, cat, alt, none}
 use Rattle.rc_pattern.specs.WellFormed.{group_count}
-use Rattle.rc_determinize.specs.declared.kind.TableKind.{TableKind}
+use Rattle.rc_text.specs.declared.types.MatchKind.{MatchKind}
 use Rattle.rc_text.specs.declared.types.Anchored.{Anchored}
 use Rattle.rc_program.specs.Program.{Place, choice, byte, branch, scalar, guard, slot, accept, place_at, Part, one, pass, then_part, either, optional, plus, body_or_out, copies, up_to, at_least, repeated, bytes_in_order, literal_part, part, pattern_part, choice_of_patterns, program}
 use Rattle.rc_program.specs.Answer.{Search}
@@ -186,7 +186,7 @@ needs_unicode hs needs are is =
     (all_silent (SpeaksOfUnicode hs) (bytes_of (program hs))
     (bytes_of_each (SpeaksOfUnicode hs) (program hs) (choice_each (SpeaksOfUnicode hs) 0 (2 * length hs) hs (λ t. t) 0 0 0)))
 
-pub speaks_of_unicode : (hs : List Re) (kind : TableKind) (m n : Machine) (anchored : Anchored) (s : Search) → IsCase hs kind m n anchored s →
+pub speaks_of_unicode : (hs : List Re) (kind : MatchKind) (m n : Machine) (anchored : Anchored) (s : Search) → IsCase hs kind m n anchored s →
     m.setting.needs.unicode ≡ true → SpeaksOfUnicode hs
 speaks_of_unicode hs kind m n anchored s c is =
     let k = c.machines in

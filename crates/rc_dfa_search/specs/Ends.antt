@@ -6,8 +6,8 @@ use Rattle.rc_text.specs.Found as spans
 use Rattle.rc_text.specs.Text.{Searched, low, high, is_boundary}
 use Rattle.rc_text.specs.declared.types.Anchored.{Anchored}
 use Rattle.rc_text.specs.declared.types.Anchored.TheVariants.{Pattern}
-use Rattle.rc_determinize.specs.declared.kind.TableKind.{TableKind}
-use Rattle.rc_determinize.specs.declared.kind.TableKind.TheVariants.{All as all_matches, LeftmostFirst as leftmost_first, LeftmostLongest as leftmost_longest}
+use Rattle.rc_text.specs.declared.types.MatchKind.{MatchKind}
+use Rattle.rc_text.specs.declared.types.MatchKind.TheVariants.{All as all_matches, LeftmostFirst as leftmost_first, LeftmostLongest as leftmost_longest}
 use Rattle.rc_text.specs.declared.types.MatchError as error
 use Rattle.rc_text.specs.declared.types.MatchError.TheVariants as errors
 use Rattle.rc_program.specs.Text.{Text}
@@ -44,20 +44,20 @@ abbrev pub HasMetDown : Machine → Text → ℕ → ℕ → Anchored → Bool �
 HasMetDown m t lo end anchored earliest met = HasEndedDown m t lo end anchored earliest (Found met)
 
 -- a match of the kind may end here, where matches off a boundary are passed over
-abbrev pub may_end : TableKind → Bool → List ℕ → ℕ → Bool
+abbrev pub may_end : MatchKind → Bool → List ℕ → ℕ → Bool
 may_end all_matches passes_over content at = true
 may_end leftmost_first passes_over content at = not passes_over || is_boundary content at
 may_end leftmost_longest passes_over content at = not passes_over || is_boundary content at
 
 -- The search stands here: what begins before was passed over; and where nothing is passed over, it stands where it begins.
-pub record Stands (hs : List Re) (kind : TableKind) (early : Bool) (m n : Machine) (anchored : Anchored) (s : Search) (from : ℕ) : Type 0 where
+pub record Stands (hs : List Re) (kind : MatchKind) (early : Bool) (m n : Machine) (anchored : Anchored) (s : Search) (from : ℕ) : Type 0 where
   pub case : IsCase hs kind m n anchored s
   pub bounded : (s.lo ≤ from) × (from ≤ s.hi)
   pub raised : IsRaisedBy kind (by_bytes s) from
   pub alone : (kind ≡ all_matches) ⊎ (early ≡ true) → from ≡ s.lo
 
 -- Forwards from where the search stands this end was met, where a match of the search may end.
-pub record IsEnd (hs : List Re) (kind : TableKind) (early : Bool) (m n : Machine) (anchored : Anchored) (s : Search) (end : End) : Type 0 where
+pub record IsEnd (hs : List Re) (kind : MatchKind) (early : Bool) (m n : Machine) (anchored : Anchored) (s : Search) (end : End) : Type 0 where
   pub stands : Stands hs kind early m n anchored s end.from
   pub place : ℕ
   pub pattern : pattern_met m place ≡ end.pattern
@@ -65,19 +65,19 @@ pub record IsEnd (hs : List Re) (kind : TableKind) (early : Bool) (m n : Machine
   pub allowed : may_end kind s.passes_over s.text.content end.at ≡ true
 
 -- a match begins where the run forwards did that met its end
-abbrev pub begins_there : TableKind → Bool → Bool → Bool
+abbrev pub begins_there : MatchKind → Bool → Bool → Bool
 begins_there all_matches early anchored = early && anchored
 begins_there leftmost_first early anchored = anchored
 begins_there leftmost_longest early anchored = anchored
 
 -- the pattern that was met with the end is the match's
-abbrev pub keeps_pattern : TableKind → Bool → Bool
+abbrev pub keeps_pattern : MatchKind → Bool → Bool
 keeps_pattern all_matches early = false
 keeps_pattern leftmost_first early = not early
 keeps_pattern leftmost_longest early = not early
 
 -- the start and the pattern of the match with this end, by what a run backwards met
-abbrev pub start_by : TableKind → Bool → End → Met → Met
+abbrev pub start_by : MatchKind → Bool → End → Met → Met
 start_by kind early end met = record {
   pattern = (if keeps_pattern kind early then end.pattern else met.pattern);
   at = min (max met.at end.from) end.at;

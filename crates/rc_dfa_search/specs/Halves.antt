@@ -1,19 +1,19 @@
 -- The half of a match that a search forwards tells: its end.
 use Rattle.std.specs.Prelude.{◌≡◌, ℕ, Bool, Option, Some, None}
 use Rattle.rc_text.specs.Found.{Found, HalfFound}
-use Rattle.rc_determinize.specs.declared.kind.TableKind.{TableKind}
-use Rattle.rc_determinize.specs.declared.kind.TableKind.TheVariants.{All as all_matches, LeftmostFirst as leftmost_first, LeftmostLongest as leftmost_longest}
+use Rattle.rc_text.specs.declared.types.MatchKind.{MatchKind}
+use Rattle.rc_text.specs.declared.types.MatchKind.TheVariants.{All as all_matches, LeftmostFirst as leftmost_first, LeftmostLongest as leftmost_longest}
 use Rattle.rc_program.specs.Answer.{Search}
 use Rattle.rc_program.specs.Greatest.{IsSpelledIn}
-use Rattle.rc_determinize.specs.TableKinds.{IsAnswerBy}
+use Rattle.rc_program.specs.Kinds.{IsAnswerBy}
 
 -- which pattern is told with the end of the match: its own; where each match counts, one of those that end there
-abbrev pub IsToldWith : TableKind → Search → Found → ℕ → Type 0
+abbrev pub IsToldWith : MatchKind → Search → Found → ℕ → Type 0
 IsToldWith leftmost_first s m p = p ≡ m.pattern
 IsToldWith leftmost_longest s m p = p ≡ m.pattern
 IsToldWith all_matches s m p = (x : ℕ) × IsSpelledIn s (record { pattern = p; start = x; end = m.end })
 
 -- the end of a match that the search may answer, or nothing where it may answer nothing
-abbrev pub IsForwardHalf : TableKind → Bool → Search → Option HalfFound → Type 0
+abbrev pub IsForwardHalf : MatchKind → Bool → Search → Option HalfFound → Type 0
 IsForwardHalf kind earliest s None = IsAnswerBy kind earliest s None
 IsForwardHalf kind earliest s (Some h) = (m : Found) × IsAnswerBy kind earliest s (Some m) × (h.offset ≡ m.end) × IsToldWith kind s m h.pattern

@@ -2,8 +2,8 @@
 use Rattle.std.specs.Prelude.{◌≡◌, ℕ, ◌+◌, ◌<◌, ◌≤◌, ◌⊎◌, Bool, true, false, List, Option, Some, None}
 use Rattle.rc_pattern.specs.Re.{Re}
 use Rattle.rc_text.specs.Found.{Found}
-use Rattle.rc_determinize.specs.declared.kind.TableKind.{TableKind}
-use Rattle.rc_determinize.specs.declared.kind.TableKind.TheVariants.{All as all_matches}
+use Rattle.rc_text.specs.declared.types.MatchKind.{MatchKind}
+use Rattle.rc_text.specs.declared.types.MatchKind.TheVariants.{All as all_matches}
 use Rattle.rc_text.specs.declared.types.Anchored.{Anchored}
 use Rattle.rc_text.specs.declared.types.Anchored.TheVariants.{No}
 use Rattle.rc_text.specs.Plain.{is_anchored as anchors}
@@ -13,7 +13,7 @@ use Rattle.rc_program.specs.Greatest.{IsSpelledIn, HasNoSpan, greatest}
 use Rattle.rc_utf8.specs.Laws.{by_bytes}
 use Rattle.rc_determinize.specs.States.{IsInside}
 use Rattle.rc_determinize.specs.Laws.{may_end_at}
-use Rattle.rc_determinize.specs.TableKinds.{answer_by}
+use Rattle.rc_program.specs.Kinds.{answer_by}
 use Rattle.rc_dfa.specs.Machine.{Machine}
 use Rattle.rc_dfa.specs.Runs.{met_last, stopped_at, SearchEnds, SearchEndsDown}
 use Rattle.rc_dfa_search.specs.Leftmost.{IsLeftmost, IsRaisedBy}
@@ -31,27 +31,27 @@ met_from m q x e = record { pattern = pattern_met m q; start = x; end = e }
 
 -- The match of the least start: the preferred one, or the longest. `from` is where the search stands, once what begins before was passed over.
 pub record LeftmostLaw : Type 0 where
-  pub begins : (hs : List Re) (kind : TableKind) (m n : Machine) (anchored : Anchored) (s : Search) → IsCase hs kind m n anchored s → IsRaisedBy kind (by_bytes s) s.lo
+  pub begins : (hs : List Re) (kind : MatchKind) (m n : Machine) (anchored : Anchored) (s : Search) → IsCase hs kind m n anchored s → IsRaisedBy kind (by_bytes s) s.lo
   -- the end that is met is the answer's, and so is the pattern
-  pub ends : (hs : List Re) (kind : TableKind) (m n : Machine) (anchored : Anchored) (s : Search) (from q e : ℕ) → IsLeftmost kind → IsCase hs kind m n anchored s → IsRaisedBy kind (by_bytes s) from →
+  pub ends : (hs : List Re) (kind : MatchKind) (m n : Machine) (anchored : Anchored) (s : Search) (from q e : ℕ) → IsLeftmost kind → IsCase hs kind m n anchored s → IsRaisedBy kind (by_bytes s) from →
       SearchEnds m s.text s.hi from anchored false (met_last (Some (q, e))) → may_end_at s e ≡ true →
       (x : ℕ) × (from ≤ x) × (x ≤ e) × (e ≤ s.hi) × (answer_by kind s ≡ Some (met_from m q x e))
   -- anchored, the start is known
-  pub at_start : (hs : List Re) (kind : TableKind) (m n : Machine) (anchored : Anchored) (s : Search) (from q e : ℕ) → IsLeftmost kind → IsCase hs kind m n anchored s → IsRaisedBy kind (by_bytes s) from →
+  pub at_start : (hs : List Re) (kind : MatchKind) (m n : Machine) (anchored : Anchored) (s : Search) (from q e : ℕ) → IsLeftmost kind → IsCase hs kind m n anchored s → IsRaisedBy kind (by_bytes s) from →
       SearchEnds m s.text s.hi from anchored false (met_last (Some (q, e))) → may_end_at s e ≡ true → anchors anchored ≡ true →
       (s.lo ≤ e) × (e ≤ s.hi) × (answer_by kind s ≡ Some (met_from m q s.lo e))
   -- else it is the least from which an entry leads to that end
-  pub starts : (hs : List Re) (kind : TableKind) (m n : Machine) (s : Search) (from q e x k : ℕ) → IsLeftmost kind → IsCase hs kind m n No s → IsRaisedBy kind (by_bytes s) from →
+  pub starts : (hs : List Re) (kind : MatchKind) (m n : Machine) (s : Search) (from q e x k : ℕ) → IsLeftmost kind → IsCase hs kind m n No s → IsRaisedBy kind (by_bytes s) from →
       SearchEnds m s.text s.hi from No false (met_last (Some (q, e))) → may_end_at s e ≡ true →
       SearchEndsDown n s.text from e No false (met_last (Some (x, k))) →
       (from ≤ x) × (x ≤ e) × (e ≤ s.hi) × (answer_by kind s ≡ Some (met_from m q x e))
-  pub some_start : (hs : List Re) (kind : TableKind) (m n : Machine) (s : Search) (from q e : ℕ) → IsLeftmost kind → IsCase hs kind m n No s → IsRaisedBy kind (by_bytes s) from →
+  pub some_start : (hs : List Re) (kind : MatchKind) (m n : Machine) (s : Search) (from q e : ℕ) → IsLeftmost kind → IsCase hs kind m n No s → IsRaisedBy kind (by_bytes s) from →
       SearchEnds m s.text s.hi from No false (met_last (Some (q, e))) → may_end_at s e ≡ true → ¬ SearchEndsDown n s.text from e No false (met_last None)
   -- an end that is passed over
-  pub raises : (hs : List Re) (kind : TableKind) (m n : Machine) (anchored : Anchored) (s : Search) (from q e : ℕ) → IsLeftmost kind → IsCase hs kind m n anchored s → IsRaisedBy kind (by_bytes s) from →
+  pub raises : (hs : List Re) (kind : MatchKind) (m n : Machine) (anchored : Anchored) (s : Search) (from q e : ℕ) → IsLeftmost kind → IsCase hs kind m n anchored s → IsRaisedBy kind (by_bytes s) from →
       SearchEnds m s.text s.hi from anchored false (met_last (Some (q, e))) → may_end_at s e ≡ false →
       (from < s.hi → anchors anchored ≡ false → IsRaisedBy kind (by_bytes s) (from + 1)) × ((s.hi ≤ from) ⊎ (anchors anchored ≡ true) → answer_by kind s ≡ None)
-  pub none : (hs : List Re) (kind : TableKind) (m n : Machine) (anchored : Anchored) (s : Search) (from : ℕ) → IsLeftmost kind → IsCase hs kind m n anchored s → IsRaisedBy kind (by_bytes s) from →
+  pub none : (hs : List Re) (kind : MatchKind) (m n : Machine) (anchored : Anchored) (s : Search) (from : ℕ) → IsLeftmost kind → IsCase hs kind m n anchored s → IsRaisedBy kind (by_bytes s) from →
       SearchEnds m s.text s.hi from anchored false (met_last None) → answer_by kind s ≡ None
 
 -- The greatest span.
@@ -66,37 +66,37 @@ pub record LastLaw : Type 0 where
 -- Whatever the kind, and whether or not the first that is met is enough.
 pub record MetLaw : Type 0 where
   -- what is met is the end of a walk of that pattern
-  pub ends : (hs : List Re) (kind : TableKind) (m n : Machine) (anchored : Anchored) (s : Search) (earliest : Bool) (q e : ℕ) → IsCase hs kind m n anchored s →
+  pub ends : (hs : List Re) (kind : MatchKind) (m n : Machine) (anchored : Anchored) (s : Search) (earliest : Bool) (q e : ℕ) → IsCase hs kind m n anchored s →
       SearchEnds m s.text s.hi s.lo anchored earliest (met_last (Some (q, e))) →
       (x : ℕ) × IsSpelledIn s (met_from m q x e) × (anchors anchored ≡ true → x ≡ s.lo)
   -- from where an entry is met a walk of its pattern leads there
-  pub starts : (hs : List Re) (kind : TableKind) (m n : Machine) (anchored : Anchored) (s : Search) (earliest early : Bool) (q e x k : ℕ) → IsCase hs kind m n anchored s →
+  pub starts : (hs : List Re) (kind : MatchKind) (m n : Machine) (anchored : Anchored) (s : Search) (earliest early : Bool) (q e x k : ℕ) → IsCase hs kind m n anchored s →
       anchors anchored ≡ false → SearchEnds m s.text s.hi s.lo anchored earliest (met_last (Some (q, e))) →
       SearchEndsDown n s.text s.lo e anchored early (met_last (Some (x, k))) → IsSpelledIn s (record { pattern = k; start = x; end = e })
-  pub some_start : (hs : List Re) (kind : TableKind) (m n : Machine) (anchored : Anchored) (s : Search) (earliest early : Bool) (q e : ℕ) → IsCase hs kind m n anchored s →
+  pub some_start : (hs : List Re) (kind : MatchKind) (m n : Machine) (anchored : Anchored) (s : Search) (earliest early : Bool) (q e : ℕ) → IsCase hs kind m n anchored s →
       SearchEnds m s.text s.hi s.lo anchored earliest (met_last (Some (q, e))) → ¬ SearchEndsDown n s.text s.lo e anchored early (met_last None)
   -- where nothing is met, nothing is spelled
-  pub none : (hs : List Re) (kind : TableKind) (m n : Machine) (anchored : Anchored) (s : Search) (earliest : Bool) → IsCase hs kind m n anchored s →
+  pub none : (hs : List Re) (kind : MatchKind) (m n : Machine) (anchored : Anchored) (s : Search) (earliest : Bool) → IsCase hs kind m n anchored s →
       SearchEnds m s.text s.hi s.lo anchored earliest (met_last None) → HasNoSpan s × (answer s ≡ None) × (greatest s ≡ None)
 
 -- Backwards from the upper bound.
 pub record ReverseLaw : Type 0 where
-  pub least : (hs : List Re) (kind : TableKind) (m n : Machine) (anchored : Anchored) (s : Search) (x k : ℕ) → IsCase hs kind m n anchored s →
+  pub least : (hs : List Re) (kind : MatchKind) (m n : Machine) (anchored : Anchored) (s : Search) (x k : ℕ) → IsCase hs kind m n anchored s →
       SearchEndsDown n s.text s.lo s.hi anchored false (met_last (Some (x, k))) → IsLeastStart s (record { pattern = k; offset = x })
-  pub met : (hs : List Re) (kind : TableKind) (m n : Machine) (anchored : Anchored) (s : Search) (earliest : Bool) (x k : ℕ) → IsCase hs kind m n anchored s →
+  pub met : (hs : List Re) (kind : MatchKind) (m n : Machine) (anchored : Anchored) (s : Search) (earliest : Bool) (x k : ℕ) → IsCase hs kind m n anchored s →
       SearchEndsDown n s.text s.lo s.hi anchored earliest (met_last (Some (x, k))) → IsSpelledToEnd s (record { pattern = k; offset = x })
-  pub none : (hs : List Re) (kind : TableKind) (m n : Machine) (anchored : Anchored) (s : Search) (earliest : Bool) → IsCase hs kind m n anchored s →
+  pub none : (hs : List Re) (kind : MatchKind) (m n : Machine) (anchored : Anchored) (s : Search) (earliest : Bool) → IsCase hs kind m n anchored s →
       SearchEndsDown n s.text s.lo s.hi anchored earliest (met_last None) → HasNoStart s
 
 -- Where each span ends at the upper bound, and the search isn't anchored, the match from the least start is the preferred one, and the longest.
 pub record ReverseEndLaw : Type 0 where
-  pub leftmost : (hs : List Re) (kind : TableKind) (s : Search) (o : Option Found) → IsLeftmost kind → s.places ≡ program hs → s.anchoring ≡ anywhere → EndsAtBound s →
+  pub leftmost : (hs : List Re) (kind : MatchKind) (s : Search) (o : Option Found) → IsLeftmost kind → s.places ≡ program hs → s.anchoring ≡ anywhere → EndsAtBound s →
       IsMatchToEnd false s o → o ≡ answer_by kind s
 
 -- Where bytes aren't read.
 pub record UnreadLaw : Type 0 where
   -- an assertion of the patterns speaks of Unicode's words, if the program's do
-  pub unicode : (hs : List Re) (kind : TableKind) (m n : Machine) (anchored : Anchored) (s : Search) → IsCase hs kind m n anchored s →
+  pub unicode : (hs : List Re) (kind : MatchKind) (m n : Machine) (anchored : Anchored) (s : Search) → IsCase hs kind m n anchored s →
       m.setting.needs.unicode ≡ true → SpeaksOfUnicode hs
   -- what was read forwards up to an end is read backwards
   pub read : (m n : Machine) (s : Search) (from q e p : ℕ) (anchored back : Anchored) (earliest early : Bool) → n.setting ≡ m.setting → IsInside s.text s.lo s.hi →

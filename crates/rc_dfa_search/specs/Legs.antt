@@ -3,7 +3,7 @@
 use Rattle.std.specs.Prelude.{◌≡◌, ℕ, ◌≤◌, false, Option, Some, None, Result, Ok, Err, min, max}
 use Rattle.rc_text.specs.declared.types.Anchored.{Anchored}
 use Rattle.rc_text.specs.declared.types.Anchored.TheVariants.{No}
-use Rattle.rc_determinize.specs.declared.kind.TableKind.{TableKind}
+use Rattle.rc_text.specs.declared.types.MatchKind.{MatchKind}
 use Rattle.rc_program.specs.Text.{Text}
 use Rattle.rc_program.specs.Answer.{Search}
 use Rattle.rc_dfa.specs.Machine.{Machine}
@@ -46,6 +46,6 @@ ComesOn from hi (Ended met) = Unit {0}
 ComesOn from hi (Rested i) = (from ≤ i) × (i ≤ hi)
 
 -- what was met is what all starts of the search give
-abbrev pub IsGiven : TableKind → Machine → Search → Option Met → Type 0
+abbrev pub IsGiven : MatchKind → Machine → Search → Option Met → Type 0
 IsGiven kind m s None = StartsGive kind m s s.lo None
 IsGiven kind m s (Some met) = (q : ℕ) × (pattern_met m q ≡ met.pattern) × StartsGive kind m s s.lo (Some (q, met.at))

@@ -1,6 +1,6 @@
 -- The machines of patterns.
 use Rattle.std.specs.Prelude.{◌≡◌, ℕ, ◌+◌, ◌≤◌, List, [], ◌∷◌}
-use Rattle.rc_determinize.specs.declared.kind.TableKind.{TableKind}
+use Rattle.rc_text.specs.declared.types.MatchKind.{MatchKind}
 use Rattle.rc_text.specs.declared.types.Anchored.{Anchored}
 use Rattle.rc_pattern.specs.Re.{Re}
 use Rattle.rc_program.specs.Program.{part, program}
@@ -29,14 +29,14 @@ machine_by hs needs terminator direction = record {
 }
 
 -- The machines of some patterns: their byte program forwards, for matches of the kind, and backwards.
-pub record AreMachines (hs : List Re) (terminator : ℕ) (kind : TableKind) (m n : Machine) : Type 0 where
+pub record AreMachines (hs : List Re) (terminator : ℕ) (kind : MatchKind) (m n : Machine) : Type 0 where
   pub needs : Needs
   pub are_needs : AreNeeds needs (bytes_of (program hs))
   pub ahead : m ≡ machine_by hs needs terminator (forwards kind)
   pub back : n ≡ machine_by hs needs terminator backwards
 
 -- The search s, anchored so, is one for these patterns that the machines may run: it has a position, and the pattern asked for, if any, is one of them.
-pub record IsCase (hs : List Re) (kind : TableKind) (m n : Machine) (anchored : Anchored) (s : Search) : Type 0 where
+pub record IsCase (hs : List Re) (kind : MatchKind) (m n : Machine) (anchored : Anchored) (s : Search) : Type 0 where
   pub machines : AreMachines hs s.text.terminator kind m n
   pub places : s.places ≡ program hs
   pub anchoring : s.anchoring ≡ anchoring_of anchored

@@ -9,9 +9,9 @@ ghost use Rattle.rc_dfa.specs.declared.automaton.Direction.TheVariants.{Backward
 ghost use Rattle.rc_dfa_search.specs.Classes.{AreClassesOf};
 ghost use Rattle.rc_dfa_search.specs.Machines.{AreMachines, entries_of};
 
-use rc_determinize::kind::TableKind;
 use rc_dfa::automaton::Automaton;
 use rc_program::place::Place;
+use rc_text::types::MatchKind;
 use rc_utf8::program::byte_program;
 use std::alloc::{AllocError, Global};
 
@@ -43,7 +43,7 @@ pub fn automaton_of(
     program: &[Place],
     patterns: usize,
     terminator: u8,
-    kind: TableKind,
+    kind: MatchKind,
     byte_classes: bool,
 ) -> Result<Automaton, AllocError>
     ghost hs: { List Re }

@@ -6,7 +6,7 @@ ghost use Rattle.rc_text.specs.Found.{half_of};
 ghost use Rattle.rc_text.specs.Text.{Keeps, low, high};
 ghost use Rattle.rc_text.specs.declared.types.Anchored.TheVariants.{No};
 ghost use Rattle.rc_pattern.specs.Re.{Re};
-ghost use Rattle.rc_determinize.specs.TableKinds.{answer_by, IsAnswerBy};
+ghost use Rattle.rc_program.specs.Kinds.{answer_by, IsAnswerBy};
 ghost use Rattle.rc_program.specs.Program.{program};
 ghost use Rattle.rc_program.specs.Sought.{text_of};
 ghost use Rattle.rc_literals.specs.Guard.{IsGuard};
@@ -18,13 +18,12 @@ ghost use Rattle.rc_dfa_search.specs.Halves.{IsForwardHalf};
 ghost use Rattle.rc_dfa_search.specs.Legs.{ComesOn, GoesByNeedles, HasRun, IsGiven, leg_of};
 
 use crate::search::{Aim, Bounds, bounds_of, find, find_end, id_of, run_backwards, run_forwards};
-use rc_determinize::kind::TableKind;
 use rc_dfa::ended::{Ended, Met};
 use rc_dfa::halves::Halves;
 use rc_literals::guard::{Guard, next_start};
 use rc_text::cursor::Cursor;
 use rc_text::input::Input;
-use rc_text::types::{Anchored, HalfMatch, Match, MatchError, Span};
+use rc_text::types::{Anchored, HalfMatch, Match, MatchError, MatchKind, Span};
 
 /// How far a run forwards came.
 #[derive(Clone, Copy)]
@@ -42,7 +41,7 @@ pub fn goes_by_needles(aim: Aim, anchored: Anchored) -> bool
     ensures { IsTrue result ↔ GoesByNeedles aim anchored }
 {
     match (aim.kind, anchored) {
-        (TableKind::LeftmostFirst | TableKind::LeftmostLongest, Anchored::No) => {
+        (MatchKind::LeftmostFirst | MatchKind::LeftmostLongest, Anchored::No) => {
             !aim.earliest && !aim.passes_over
         }
         _ => false,

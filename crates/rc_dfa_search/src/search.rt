@@ -6,7 +6,7 @@ ghost use Rattle.rc_text.specs.Plain.{is_anchored};
 ghost use Rattle.rc_text.specs.Text.{Keeps, is_boundary, low, high};
 ghost use Rattle.rc_pattern.specs.Re.{Re};
 ghost use Rattle.rc_program.specs.Answer.{Search};
-ghost use Rattle.rc_determinize.specs.TableKinds.{IsAnswerBy};
+ghost use Rattle.rc_program.specs.Kinds.{IsAnswerBy};
 ghost use Rattle.rc_program.specs.Sought.{text_of};
 ghost use Rattle.rc_dfa.specs.Machine.{Machine};
 ghost use Rattle.rc_dfa_search.specs.Aims.{AreHalvesOf, is_early, search_for, cost};
@@ -15,18 +15,17 @@ ghost use Rattle.rc_dfa_search.specs.Faults.{IsFault};
 ghost use Rattle.rc_dfa_search.specs.Halves.{IsForwardHalf};
 ghost use Rattle.rc_dfa_search.specs.Reverse.{IsMatchToEnd, IsReverseHalf};
 
-use rc_determinize::kind::TableKind;
 use rc_dfa::ended::{Ended, Met};
 use rc_dfa::halves::Halves;
 use rc_text::cursor::Cursor;
 use rc_text::input::{Input, high, is_boundary_at, low};
-use rc_text::types::{Anchored, HalfMatch, Match, MatchError, PatternID, Span};
+use rc_text::types::{Anchored, HalfMatch, Match, MatchError, MatchKind, PatternID, Span};
 
 /// What two halves of a search seek.
 #[derive(Clone, Copy)]
 pub struct Aim {
     /// Which match is the answer.
-    pub kind: TableKind,
+    pub kind: MatchKind,
     /// How many patterns there are.
     pub patterns: usize,
     /// Whether matches that end off a boundary of characters are passed over. If each match counts,
@@ -175,8 +174,8 @@ fn may_end<C: Cursor>(input: &mut Input<C>, aim: Aim, at: usize) -> bool
     ensures value { result ≡ may_end aim.kind aim.passes_over input.old.content at }
 {
     match aim.kind {
-        TableKind::All => true,
-        TableKind::LeftmostFirst | TableKind::LeftmostLongest => is_allowed(input, aim, at),
+        MatchKind::All => true,
+        MatchKind::LeftmostFirst | MatchKind::LeftmostLongest => is_allowed(input, aim, at),
     }
 }
 
@@ -230,8 +229,8 @@ fn begins_there(aim: Aim, anchored: Anchored) -> bool
     ensures { result ≡ begins_there aim.kind (is_early aim) (is_anchored anchored) }
 {
     match aim.kind {
-        TableKind::All => is_early(aim) && anchored.is_anchored(),
-        TableKind::LeftmostFirst | TableKind::LeftmostLongest => anchored.is_anchored(),
+        MatchKind::All => is_early(aim) && anchored.is_anchored(),
+        MatchKind::LeftmostFirst | MatchKind::LeftmostLongest => anchored.is_anchored(),
     }
 }
 
@@ -241,8 +240,8 @@ fn keeps_pattern(aim: Aim) -> bool
     ensures { result ≡ keeps_pattern aim.kind (is_early aim) }
 {
     match aim.kind {
-        TableKind::All => false,
-        TableKind::LeftmostFirst | TableKind::LeftmostLongest => !is_early(aim),
+        MatchKind::All => false,
+        MatchKind::LeftmostFirst | MatchKind::LeftmostLongest => !is_early(aim),
     }
 }
 

@@ -3,8 +3,8 @@ use Rattle.std.proofs.Common.{◌≡◌, ℕ, ◌+◌, ◌*◌, ◌≤◌, List,
 use Rattle.std.proofs.lemmas.Bool.{cases_lt}
 use Rattle.std.proofs.lemmas.List.{length-replicate, get_or-replicate, get_or_past}
 use Rattle.std.proofs.lemmas.Option.{none-some, slice_get_within}
-use Rattle.rc_determinize.specs.declared.kind.TableKind.{TableKind}
-use Rattle.rc_determinize.specs.declared.kind.TableKind.TheVariants.{All as all_matches, LeftmostFirst as leftmost_first, LeftmostLongest as leftmost_longest}
+use Rattle.rc_text.specs.declared.types.MatchKind.{MatchKind}
+use Rattle.rc_text.specs.declared.types.MatchKind.TheVariants.{All as all_matches, LeftmostFirst as leftmost_first, LeftmostLongest as leftmost_longest}
 use Rattle.rc_determinize.specs.Kinds.{longest}
 use Rattle.rc_dfa.specs.declared.automaton.Automaton.{Automaton}
 use Rattle.rc_dfa.specs.declared.automaton.Direction.TheVariants.{Backwards, Forwards}
@@ -59,7 +59,7 @@ blank_held f s k b roomy fits =
       fits = fits;
     }
 
-no_shorter : (kind : TableKind) (places : ℕ) → places ≤ longest kind places
+no_shorter : (kind : MatchKind) (places : ℕ) → places ≤ longest kind places
 no_shorter leftmost_first places = omega arith
 no_shorter all_matches places = omega arith
 no_shorter leftmost_longest places = omega arith

@@ -15,7 +15,6 @@ use Rattle.rc_lazy_dfa.specs.Stores.{Frame, frame_of}
 use Rattle.rc_lazy_dfa.specs.declared.lazy.Lazy.{Lazy}
 use Rattle.rc_lazy_dfa.specs.declared.lazy.Cache as made
 use Rattle.rc_dfa_search.proofs.SameLemmas.{same_classes_of, same_count, same_machines}
-use Rattle.rc_determinize.specs.TableKinds.{table_kind_of}
 use Rattle.rc_strategy.specs.Caches.{IsCacheBy, IsCacheIn, IsCacheOfBoth, IsSameCacheIn, KeepsStates}
 use Rattle.rc_strategy.specs.Plans.{IsLazyFor, LazyPlan, ServesLazy}
 use Rattle.rc_strategy.specs.declared.cache.Cache.{Cache}
@@ -47,7 +46,7 @@ module _ (plan : LazyPlan) (l k : Lazy) (h : IsLazyFor plan l) (j : IsLazyFor pl
   same_by : AreSame l k
   same_by =
       let same =
-      same_machines plan.patterns plan.terminator (table_kind_of plan.kind) (machine_of l.automaton Forwards) (machine_of l.automaton Backwards) (machine_of k.automaton Forwards)
+      same_machines plan.patterns plan.terminator plan.kind (machine_of l.automaton Forwards) (machine_of l.automaton Backwards) (machine_of k.automaton Forwards)
       (machine_of k.automaton Backwards) h.machines j.machines in
       (same_frame Forwards same.ahead, same_frame Backwards same.back, h.capacity_is ∙ sym j.capacity_is)
 

@@ -25,9 +25,9 @@ use Rattle.rc_needles.specs.Tables.{AreSome, BeginsWithByte, numbered}
 use Rattle.rc_needles.proofs.RelationLemmas.{get_some, within_true}
 use Rattle.rc_needles.proofs.StandLemmas.{begins_with}
 use Rattle.rc_determinize.specs.Laws.{may_end_at}
-use Rattle.rc_determinize.specs.TableKinds.{IsAnswerBy, answer_by}
-use Rattle.rc_determinize.specs.declared.kind.TableKind.{TableKind}
-use Rattle.rc_determinize.specs.declared.kind.TableKind.TheVariants.{All as all_matches, LeftmostFirst as leftmost_first, LeftmostLongest as leftmost_longest}
+use Rattle.rc_program.specs.Kinds.{IsAnswerBy, answer_by}
+use Rattle.rc_text.specs.declared.types.MatchKind.{MatchKind}
+use Rattle.rc_text.specs.declared.types.MatchKind.TheVariants.{All as all_matches, LeftmostFirst as leftmost_first, LeftmostLongest as leftmost_longest}
 use Rattle.rc_dfa.specs.Machine.{Machine, IsAsked}
 use Rattle.rc_dfa.specs.Ended.{HasEnded}
 use Rattle.rc_dfa.specs.declared.ended.Ended.{Ended}
@@ -137,7 +137,7 @@ module _ (places : List Place) (text : Text) (lo hi : ℕ) where
           ))
 
   -- by the kind
-  pub none_anywhere : (kind : TableKind) → IsLeftmost kind → ((x : ℕ) → lo ≤ x → x ≤ hi → HasNoWalkFrom (Any lo) x) → None ≡ answer_by kind (Any lo)
+  pub none_anywhere : (kind : MatchKind) → IsLeftmost kind → ((x : ℕ) → lo ≤ x → x ≤ hi → HasNoWalkFrom (Any lo) x) → None ≡ answer_by kind (Any lo)
   none_anywhere all_matches l = absurd l
   none_anywhere leftmost_first l =
       none_of (IsFirstFrom (Any lo)) answer (λ x. first_told (Any x)) (λ x. answer_law.answer_none (Any x)) (λ x. first_told (Here x))
@@ -146,7 +146,7 @@ module _ (places : List Place) (text : Text) (lo hi : ℕ) where
       (λ x. longest_law.answer_some (Here x))
 
   module _ (from : ℕ) (above : lo ≤ from) (none : (x : ℕ) → lo ≤ x → x < from → HasNoWalkFrom (Any lo) x) where
-    pub here_first : (kind : TableKind) → IsLeftmost kind → (m : Found) → Some m ≡ answer_by kind (Here from) → Some m ≡ answer_by kind (Any lo)
+    pub here_first : (kind : MatchKind) → IsLeftmost kind → (m : Found) → Some m ≡ answer_by kind (Here from) → Some m ≡ answer_by kind (Any lo)
     here_first all_matches l = absurd l
     here_first leftmost_first l =
         here_of (IsFirstFrom (Any lo)) answer (λ x. first_told (Any x)) (λ x. answer_law.answer_none (Any x)) (λ x. first_told (Here x)) from above none
@@ -154,7 +154,7 @@ module _ (places : List Place) (text : Text) (lo hi : ℕ) where
         here_of (IsLongestFrom (Any lo)) longest (λ x. longest_law.answer_some (Any x)) (λ x. longest_law.answer_none (Any x))
         (λ x. longest_law.answer_some (Here x)) from above none
 
-    pub later_first : (kind : TableKind) → IsLeftmost kind → (o : Option Found) → o ≡ answer_by kind (Any from) → o ≡ answer_by kind (Any lo)
+    pub later_first : (kind : MatchKind) → IsLeftmost kind → (o : Option Found) → o ≡ answer_by kind (Any from) → o ≡ answer_by kind (Any lo)
     later_first all_matches l = absurd l
     later_first leftmost_first l =
         later_of (IsFirstFrom (Any lo)) answer (λ x. first_told (Any x)) (λ x. answer_law.answer_none (Any x)) (λ x. first_told (Here x)) from above none
@@ -178,12 +178,12 @@ as_any aim hs terminator s goes =
 -- ONE RUN
 
 -- what was met is the end of the match that begins at the position
-abbrev pub IsMetHere : TableKind → Search → ℕ → Option Met → Type 0
+abbrev pub IsMetHere : MatchKind → Search → ℕ → Option Met → Type 0
 IsMetHere kind s from None = None ≡ answer_by kind (starting_at from s)
 IsMetHere kind s from (Some met) = (from ≤ met.at) × (met.at ≤ s.hi)
     × ((let f : Found = record { pattern = met.pattern; start = from; end = met.at } in Some f) ≡ answer_by kind (starting_at from s))
 
-pub met_so : (kind : TableKind) (s : Search) (from : ℕ) (met : Met) (pattern end : ℕ) → IsMetHere kind s from (Some met) → pattern ≡ met.pattern →
+pub met_so : (kind : MatchKind) (s : Search) (from : ℕ) (met : Met) (pattern end : ℕ) → IsMetHere kind s from (Some met) → pattern ≡ met.pattern →
     end ≡ min (max met.at from) s.hi →
     (let f : Found = record { pattern = pattern; start = from; end = end } in Some f) ≡ answer_by kind (starting_at from s)
 met_so kind s from met pattern end h same is =

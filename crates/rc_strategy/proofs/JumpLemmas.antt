@@ -17,8 +17,8 @@ use Rattle.rc_program.proofs.AnswerLemmas.{answer_law, match_place_is, walk_ends
 use Rattle.rc_program.proofs.GreatestLemmas.{no_answer_no_span}
 use Rattle.rc_program.proofs.KindLemmas.{kinds_law, missing_by}
 use Rattle.rc_determinize.specs.States.{State}
-use Rattle.rc_determinize.specs.TableKinds.{IsAnswerBy, answer_by, kind_of}
-use Rattle.rc_determinize.specs.declared.kind.TableKind.{TableKind}
+use Rattle.rc_program.specs.Kinds.{IsAnswerBy, answer_by}
+use Rattle.rc_text.specs.declared.types.MatchKind.{MatchKind}
 use Rattle.rc_dfa.specs.Machine.{Machine, IsAsked}
 use Rattle.rc_dfa.specs.Runs.{RunEnd, met_last, stopped_at, idle_at, EndsSo, at_bound, dead, early, quit, rests, SearchEnds, ran, unread}
 use Rattle.rc_dfa.specs.Ended.{HasEnded}
@@ -58,7 +58,7 @@ late : (m : Machine) (t : Text) (hi from : ℕ) (e : RunEnd) → last_met e ≡ 
 late m t hi from e none (ran first may begins so) = ran first may begins (late_so m t hi from first e none so)
 late m t hi from e none (unread p at may) = unread p at may
 
-module _ (hs : List Re) (kind : TableKind) (left : IsLeftmost kind) (m n : Machine) (s : Search) (case : IsCase hs kind m n No s) (from : ℕ) (above : s.lo ≤ from) where
+module _ (hs : List Re) (kind : MatchKind) (left : IsLeftmost kind) (m n : Machine) (s : Search) (case : IsCase hs kind m n No s) (from : ℕ) (above : s.lo ≤ from) where
   idle_tells : (i : ℕ) → SearchEnds m s.text s.hi from No true (idle_at i) → Tells kind m s from (idle_leg i from s.hi)
   idle_tells i h = go (nat_lt from i && nat_le i s.hi)
     where
@@ -155,7 +155,7 @@ module _ (AreOf : Machine → Machine → Type 0) (aim : Aim) (hs : List Re) (te
   late_goes = record { kind = goes.kind; late = refl; all = goes.all; free = goes.free }
 
   nothing_may : answer_by aim.kind S ≡ None → IsAnswerBy aim.kind aim.earliest S None
-  nothing_may e = (missing_by (kind_of aim.kind) aim.earliest S).1 e
+  nothing_may e = (missing_by aim.kind aim.earliest S).1 e
 
   -- a search without a position
   pub void_may : high s < low s → IsAnswerBy aim.kind aim.earliest S None
@@ -173,11 +173,11 @@ module _ (AreOf : Machine → Machine → Type 0) (aim : Aim) (hs : List Re) (te
 
       answers_on : (o : Option Found) → IsAnswerBy aim.kind aim.earliest (record S { lo = from }) o → IsAnswerBy aim.kind aim.earliest S o
       answers_on (Some m) h =
-          spelled_may (kind_of aim.kind) aim.earliest S m (ap₂ (λ a b. a && not b) goes.early goes.all)
-          (spelled_before S (ap anchoring_of goes.free) from (omega (arith, above, is_lo)) m (kinds_law.spelled (kind_of aim.kind) aim.earliest (record S { lo = from }) m h))
+          spelled_may aim.kind aim.earliest S m (ap₂ (λ a b. a && not b) goes.early goes.all)
+          (spelled_before S (ap anchoring_of goes.free) from (omega (arith, above, is_lo)) m (kinds_law.spelled aim.kind aim.earliest (record S { lo = from }) m h))
       answers_on None h =
           let none = no_answer_no_span (record S { lo = from }) goes.all
-          ((answer_law.answer_none (record S { lo = from })).0 ((kinds_law.missing (kind_of aim.kind) aim.earliest (record S { lo = from }) goes.all).0 h)) in
+          ((answer_law.answer_none (record S { lo = from })).0 ((kinds_law.missing aim.kind aim.earliest (record S { lo = from }) goes.all).0 h)) in
           none_may (given None (rest_law.nowhere hs aim.kind of.ahead of.back S from goes.kind case (omega (arith, below, is_hi))
           (λ z a b. no_walk_on S (ap anchoring_of goes.free) from (omega (arith, above, is_lo)) none z a (omega (arith, b)))))
 

@@ -22,9 +22,6 @@ use Rattle.rc_lazy_dfa.specs.declared.lazy.Lazy.{Lazy}
 use Rattle.rc_dfa_search.specs.Classes.{AreClassesOf}
 use Rattle.rc_dfa_search.specs.Machines.{AreMachines}
 use Rattle.rc_dfa_search.proofs.PatternLemmas.{few_by_weight}
-use Rattle.rc_text.specs.declared.types.MatchKind.{MatchKind}
-use Rattle.rc_text.specs.declared.types.MatchKind.TheVariants.{All as all_matches, LeftmostFirst as leftmost_first, LeftmostLongest as leftmost_longest}
-use Rattle.rc_determinize.specs.TableKinds.{kind_of, table_kind_of}
 use Rattle.rc_pikevm_search.specs.declared.engine.Engine.{Engine}
 use Rattle.rc_strategy.specs.Limits.{AreOff, AreTooHeavy, NoneServe}
 use Rattle.rc_strategy.specs.Makes.{AreMade}
@@ -32,19 +29,12 @@ use Rattle.rc_strategy.specs.Plans.{IsLazyFor, IsShortFor, plan_of}
 use Rattle.rc_strategy.specs.Tables.{AreHalvesFor, MayBeTablesFor}
 use Rattle.rc_strategy.specs.declared.engines.Limits.{Limits}
 
--- the states that serve a kind of match find it
-same_kind : (kind : MatchKind) → kind_of (table_kind_of kind) ≡ kind
-same_kind all_matches = refl
-same_kind leftmost_first = refl
-same_kind leftmost_longest = refl
-
-module _ (e : Engine) (hs : List Re) (a : Automaton) (of : AreMachines hs e.program.terminator (table_kind_of e.kind) (machine_of a Forwards) (machine_of a Backwards)) where
+module _ (e : Engine) (hs : List Re) (a : Automaton) (of : AreMachines hs e.program.terminator e.kind (machine_of a Forwards) (machine_of a Backwards)) where
   -- halves of searches by it are halves for the engine's program
   halves_by : {AreOf : Machine → Machine → Type 0} (patterns : ℕ) → places_of e.program.places.items ≡ program hs → patterns ≡ length hs →
       heaviness (places_of e.program.places.items) ≤ 2147483646 → AreOf (machine_of a Forwards) (machine_of a Backwards) → AreHalvesFor e patterns AreOf
   halves_by patterns same counted light halves = record {
     hs = hs;
-    tabled = same_kind e.kind;
     program = same;
     halves = record {
       ahead = machine_of a Forwards;
@@ -70,7 +60,7 @@ module _ (e : Engine) (hs : List Re) (a : Automaton) (of : AreMachines hs e.prog
     -- they are made by the plan
     pub planned_by : (l : Lazy) → IsLazyOf a limits.capacity l → IsLazyFor (plan_of e hs limits) l
     planned_by l h = record {
-      machines = subst (λ b. AreMachines hs e.program.terminator (table_kind_of e.kind) (machine_of b Forwards) (machine_of b Backwards)) (sym h.automaton_is) of;
+      machines = subst (λ b. AreMachines hs e.program.terminator e.kind (machine_of b Forwards) (machine_of b Backwards)) (sym h.automaton_is) of;
       classes = subst (λ b. AreClassesOf limits.byte_classes hs e.program.terminator (classes_of b)) (sym h.automaton_is) classed;
       capacity_is = h.capacity_is;
     }
@@ -160,7 +150,7 @@ module _ (e : Engine) (patterns : ℕ) (hs : List Re) (limits : Limits) where
     }
 
     -- none do, so that those come whose states are made as they are met
-    pub lazy_so : (a : Automaton) → AreMachines hs e.program.terminator (table_kind_of e.kind) (machine_of a Forwards) (machine_of a Backwards) →
+    pub lazy_so : (a : Automaton) → AreMachines hs e.program.terminator e.kind (machine_of a Forwards) (machine_of a Backwards) →
         AreClassesOf limits.byte_classes hs e.program.terminator (classes_of a) → places_of e.program.places.items ≡ program hs → patterns ≡ length hs →
         heaviness (places_of e.program.places.items) ≤ 2147483646 → is_some dense ≡ false → (met : Option Lazy) → IfSome met (IsLazyOf a limits.capacity) →
         (limits.hybrid ≡ false → met ≡ None) → (met ≡ None → (limits.hybrid ≡ false) ⊎ (limits.capacity < least_of a)) → AreMade e patterns hs limits dense met

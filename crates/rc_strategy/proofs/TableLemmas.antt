@@ -12,11 +12,7 @@ use Rattle.rc_text.specs.declared.types.MatchError.{MatchError}
 use Rattle.rc_text.specs.declared.types.MatchKind.{MatchKind}
 use Rattle.rc_text.specs.declared.types.MatchKind.TheVariants.{All as all_matches, LeftmostFirst as leftmost_first, LeftmostLongest as leftmost_longest}
 use Rattle.rc_program.specs.Answer.{Search}
-use Rattle.rc_program.specs.Kinds as kinds
-use Rattle.rc_program.specs.Kinds.{is_early}
-use Rattle.rc_determinize.specs.TableKinds.{IsAnswerBy, IsAnswerWhere, answer_by, kind_of, table_kind_of}
-use Rattle.rc_determinize.specs.declared.kind.TableKind.{TableKind}
-use Rattle.rc_determinize.specs.declared.kind.TableKind.TheVariants as table
+use Rattle.rc_program.specs.Kinds.{is_early, IsAnswerBy, IsAnswerWhere, answer_by}
 use Rattle.rc_program.proofs.GreatestLemmas.{greatest_law}
 use Rattle.rc_program.proofs.KindLemmas.{missing_by}
 use Rattle.rc_program.proofs.ReachLemmas.{longest_law}
@@ -42,16 +38,16 @@ use Rattle.rc_strategy.proofs.SpanLemmas.{ends_at_bound}
 use Rattle.rc_strategy.proofs.ToEndLemmas.{greatest_to_end}
 
 -- the half that a search forwards tells is that of the match of the least start
-half_told : (kind : TableKind) → IsLeftmost kind → (s : Search) (o : Option HalfFound) → IsForwardHalf kind false s o → o ≡ option_map half_of (answer_by kind s)
+half_told : (kind : MatchKind) → IsLeftmost kind → (s : Search) (o : Option HalfFound) → IsForwardHalf kind false s o → o ≡ option_map half_of (answer_by kind s)
 half_told kind left s None h = ap (option_map half_of) h
-half_told table.All left s (Some h) w = absurd left
-half_told table.LeftmostFirst left s (Some h) w =
+half_told all_matches left s (Some h) w = absurd left
+half_told leftmost_first left s (Some h) w =
     ap₂ (λ (p x : ℕ). let f : HalfFound = record { pattern = p; offset = x } in Some f) w.3 w.2 ∙ ap (option_map half_of) w.1
-half_told table.LeftmostLongest left s (Some h) w =
+half_told leftmost_longest left s (Some h) w =
     ap₂ (λ (p x : ℕ). let f : HalfFound = record { pattern = p; offset = x } in Some f) w.3 w.2 ∙ ap (option_map half_of) w.1
 
 -- where not each match counts, that is what tables find
-leftmost_kind : (kind : MatchKind) → is_leftmost kind ≡ true → IsLeftmost (table_kind_of kind)
+leftmost_kind : (kind : MatchKind) → is_leftmost kind ≡ true → IsLeftmost kind
 leftmost_kind all_matches h = absurd (true≢false (sym h))
 leftmost_kind leftmost_first h = tt
 leftmost_kind leftmost_longest h = tt
@@ -61,23 +57,23 @@ not_so true e = absurd (true≢false (sym e))
 not_so false e = refl
 
 -- what may be answered isn't missing
-some_missing : (kind : TableKind) (s : Search) (m : Found) (b : Bool) → is_early true s ≡ b → IsAnswerWhere b kind s (Some m) → answer_by kind s ≡ None → ⊥
+some_missing : (kind : MatchKind) (s : Search) (m : Found) (b : Bool) → is_early true s ≡ b → IsAnswerWhere b kind s (Some m) → answer_by kind s ≡ None → ⊥
 some_missing kind s m false is h e = none-some m (sym (h ∙ e))
-some_missing table.All s m true is h e = (greatest_law.none s).0 e m h
-some_missing table.LeftmostLongest s m true is h e = (greatest_law.none s).0 ((greatest_law.same_none s (not_so s.passes_over is)).1 ((longest_law.same_none s (not_so s.passes_over is)).0 e)) m h
-some_missing table.LeftmostFirst s m true is h e = (greatest_law.none s).0 ((greatest_law.same_none s (not_so s.passes_over is)).1 e) m h
+some_missing all_matches s m true is h e = (greatest_law.none s).0 e m h
+some_missing leftmost_longest s m true is h e = (greatest_law.none s).0 ((greatest_law.same_none s (not_so s.passes_over is)).1 ((longest_law.same_none s (not_so s.passes_over is)).0 e)) m h
+some_missing leftmost_first s m true is h e = (greatest_law.none s).0 ((greatest_law.same_none s (not_so s.passes_over is)).1 e) m h
 
 -- where any match is enough, an end is told exactly where there is a match
-half_there : (kind : TableKind) (s : Search) (o : Option HalfFound) → IsForwardHalf kind true s o → is_some o ≡ is_some (answer_by kind s)
-half_there kind s None h = sym (ap is_some ((missing_by (kind_of kind) true s).0 h))
+half_there : (kind : MatchKind) (s : Search) (o : Option HalfFound) → IsForwardHalf kind true s o → is_some o ≡ is_some (answer_by kind s)
+half_there kind s None h = sym (ap is_some ((missing_by kind true s).0 h))
 half_there kind s (Some h) w = go (answer_by kind s) refl
   where
     go : (o : Option Found) → answer_by kind s ≡ o → true ≡ is_some o
     go None e = absurd (some_missing kind s w.0 (is_early true s) refl w.1 e)
     go (Some m) e = refl
 
-found_there : (kind : TableKind) (s : Search) (o : Option Found) → IsAnswerBy kind true s o → is_some o ≡ is_some (answer_by kind s)
-found_there kind s None h = sym (ap is_some ((missing_by (kind_of kind) true s).0 h))
+found_there : (kind : MatchKind) (s : Search) (o : Option Found) → IsAnswerBy kind true s o → is_some o ≡ is_some (answer_by kind s)
+found_there kind s None h = sym (ap is_some ((missing_by kind true s).0 h))
 found_there kind s (Some m) h = go (answer_by kind s) refl
   where
     go : (o : Option Found) → answer_by kind s ≡ o → true ≡ is_some o
@@ -88,101 +84,98 @@ module _ (e : Engine) (patterns : ℕ) {AreOf : Machine → Machine → Type 0} 
   -- what is told of any patterns of which they are halves is told of the engine's
   told : {R : Type 0} → IsProp R → (P : Aim → List Re → Type 0) →
       ((hs : List Re) → places_of e.program.places.items ≡ program hs → AreHalvesOf AreOf a hs e.program.terminator → P a hs) →
-      ((hs : List Re) → kind_of (table_kind_of e.kind) ≡ e.kind → places_of e.program.places.items ≡ program hs → P (aim_of e patterns) hs → R) → R
+      ((hs : List Re) → places_of e.program.places.items ≡ program hs → P (aim_of e patterns) hs → R) → R
   told {R} fact P tells so =
       ∥∥₁_elim own fact
-      (λ (f : AreHalvesFor e patterns AreOf). so f.hs f.tabled f.program
+      (λ (f : AreHalvesFor e patterns AreOf). so f.hs f.program
       (subst (λ x. AreHalvesOf AreOf x f.hs e.program.terminator → P x f.hs) is (tells f.hs f.program) f.halves))
 
-  same_answer : (hs : List Re) → kind_of (table_kind_of e.kind) ≡ e.kind → places_of e.program.places.items ≡ program hs →
-      kinds.answer_by (kind_of (table_kind_of e.kind)) (search_for (aim_of e patterns) hs e.program.terminator s) ≡ kinds.answer_by e.kind (engine_search e s)
-  same_answer hs tabled same =
-      ap (λ k. kinds.answer_by k (search_for (aim_of e patterns) hs e.program.terminator s)) tabled
-      ∙ ap (λ places. kinds.answer_by e.kind (search_over places e.program.terminator e.program.passes_over s)) (sym same)
+  same_answer : (hs : List Re) → places_of e.program.places.items ≡ program hs →
+      answer_by e.kind (search_for (aim_of e patterns) hs e.program.terminator s) ≡ answer_by e.kind (engine_search e s)
+  same_answer hs same = ap (λ places. answer_by e.kind (search_over places e.program.terminator e.program.passes_over s)) (sym same)
 
   -- a search by them tells the match of the engine's kind
   pub tables_tell : (r : Result (Option Found) MatchError) →
       ((hs : List Re) → places_of e.program.places.items ≡ program hs → AreHalvesOf AreOf a hs e.program.terminator →
       IfOk r (IsAnswerBy a.kind a.earliest (search_for a hs e.program.terminator s))) →
-      IfOk r (λ found. found ≡ kinds.answer_by e.kind (engine_search e s))
+      IfOk r (λ found. found ≡ answer_by e.kind (engine_search e s))
   tables_tell (Err x) tells = tt
   tables_tell (Ok found) tells =
-      told (hlevel props) (λ x hs. IsAnswerBy x.kind x.earliest (search_for x hs e.program.terminator s) found) tells (λ hs tabled same h. h ∙ same_answer hs tabled same)
+      told (hlevel props) (λ x hs. IsAnswerBy x.kind x.earliest (search_for x hs e.program.terminator s) found) tells (λ hs same h. h ∙ same_answer hs same)
 
   -- and a search forwards its end, where it is that of the least start
   pub tables_tell_end : is_leftmost e.kind ≡ true → (r : Result (Option HalfFound) MatchError) →
       ((hs : List Re) → places_of e.program.places.items ≡ program hs → AreHalvesOf AreOf a hs e.program.terminator →
       IfOk r (IsForwardHalf a.kind a.earliest (search_for a hs e.program.terminator s))) →
-      IfOk r (λ found. found ≡ option_map half_of (kinds.answer_by e.kind (engine_search e s)))
+      IfOk r (λ found. found ≡ option_map half_of (answer_by e.kind (engine_search e s)))
   tables_tell_end kind (Err x) tells = tt
   tables_tell_end kind (Ok found) tells =
       told (hlevel props) (λ x hs. IsForwardHalf x.kind x.earliest (search_for x hs e.program.terminator s) found) tells
-      (λ hs tabled same h.
-      half_told (table_kind_of e.kind) (leftmost_kind e.kind kind) (search_for (aim_of e patterns) hs e.program.terminator s) found h ∙ ap (option_map half_of) (same_answer hs tabled same))
+      (λ hs same h.
+      half_told e.kind (leftmost_kind e.kind kind) (search_for (aim_of e patterns) hs e.program.terminator s) found h ∙ ap (option_map half_of) (same_answer hs same))
 
   -- one forwards that stops early tells whether there is a match
   pub tables_tell_any : (o : Option HalfFound) →
       ((hs : List Re) → places_of e.program.places.items ≡ program hs → AreHalvesOf AreOf (record a { earliest = true }) hs e.program.terminator →
       IsForwardHalf a.kind true (search_for a hs e.program.terminator s) o) →
-      is_some o ≡ is_some (kinds.answer_by e.kind (engine_search e s))
+      is_some o ≡ is_some (answer_by e.kind (engine_search e s))
   tables_tell_any o tells =
       told (hlevel props) (λ x hs. IsForwardHalf x.kind true (search_for x hs e.program.terminator s) o)
       (λ hs same h. tells hs same (record { ahead = h.ahead; back = h.back; are_of = h.are_of; machines = h.machines; counted = h.counted; few = h.few }))
-      (λ hs tabled same h. half_there (table_kind_of e.kind) (search_for (aim_of e patterns) hs e.program.terminator s) o h ∙ ap is_some (same_answer hs tabled same))
+      (λ hs same h. half_there e.kind (search_for (aim_of e patterns) hs e.program.terminator s) o h ∙ ap is_some (same_answer hs same))
 
   -- and so does a match that is told early
   pub tables_tell_any_by : (o : Option Found) →
       ((hs : List Re) → places_of e.program.places.items ≡ program hs → AreHalvesOf AreOf (record a { earliest = true }) hs e.program.terminator →
       IsAnswerBy a.kind true (search_for a hs e.program.terminator s) o) →
-      is_some o ≡ is_some (kinds.answer_by e.kind (engine_search e s))
+      is_some o ≡ is_some (answer_by e.kind (engine_search e s))
   tables_tell_any_by o tells =
       told (hlevel props) (λ x hs. IsAnswerBy x.kind true (search_for x hs e.program.terminator s) o)
       (λ hs same h. tells hs same (record { ahead = h.ahead; back = h.back; are_of = h.are_of; machines = h.machines; counted = h.counted; few = h.few }))
-      (λ hs tabled same h. found_there (table_kind_of e.kind) (search_for (aim_of e patterns) hs e.program.terminator s) o h ∙ ap is_some (same_answer hs tabled same))
+      (λ hs same h. found_there e.kind (search_for (aim_of e patterns) hs e.program.terminator s) o h ∙ ap is_some (same_answer hs same))
 
   -- under the earliest flag a search tells what may be answered
   pub tables_tell_by : (earliest : Bool) (r : Result (Option Found) MatchError) →
       ((hs : List Re) → places_of e.program.places.items ≡ program hs → AreHalvesOf AreOf (record a { earliest = earliest }) hs e.program.terminator →
       IfOk r (IsAnswerBy a.kind earliest (search_for a hs e.program.terminator s))) →
-      IfOk r (kinds.IsAnswerBy e.kind earliest (engine_search e s))
+      IfOk r (IsAnswerBy e.kind earliest (engine_search e s))
   tables_tell_by earliest (Err x) tells = tt
   tables_tell_by earliest (Ok found) tells =
       let early = is_early earliest (engine_search e s) in
       answers_so early e.kind (engine_search e s) found
       (told (settled_prop early e.kind (engine_search e s) found) (λ x hs. IsAnswerBy x.kind earliest (search_for x hs e.program.terminator s) found)
       (λ hs same h. tells hs same (record { ahead = h.ahead; back = h.back; are_of = h.are_of; machines = h.machines; counted = h.counted; few = h.few }))
-      (λ hs tabled same h. settled_by early e.kind (engine_search e s) found
-      (subst (λ places. kinds.IsAnswerBy e.kind earliest (search_over places e.program.terminator e.program.passes_over s) found) (sym same)
-      (subst (λ k. kinds.IsAnswerBy k earliest (search_for (aim_of e patterns) hs e.program.terminator s) found) tabled h))))
+      (λ hs same h. settled_by early e.kind (engine_search e s) found
+      (subst (λ places. IsAnswerBy e.kind earliest (search_over places e.program.terminator e.program.passes_over s) found) (sym same) h)))
 
   -- and one from where the search ends, where each match ends there
   pub tables_tell_from_end : (k : Spans) → BoundsWalks k (places_of e.program.places.items) → SeeksFromEnd e.kind k s → (r : Result (Option Found) MatchError) →
       ((hs : List Re) → places_of e.program.places.items ≡ program hs → AreHalvesOf AreOf a hs e.program.terminator →
       IfOk r (IsMatchToEnd a.earliest (search_for a hs e.program.terminator s))) →
-      IfOk r (λ found. found ≡ kinds.answer_by e.kind (engine_search e s))
+      IfOk r (λ found. found ≡ answer_by e.kind (engine_search e s))
   tables_tell_from_end k bound from_end (Err x) tells = tt
   tables_tell_from_end k bound from_end (Ok found) tells =
       told (hlevel props) (λ x hs. IsMatchToEnd x.earliest (search_for x hs e.program.terminator s) found) tells
-      (λ hs tabled same h.
+      (λ hs same h.
       let last = ends_at_bound k (program hs) e.program.terminator e.program.passes_over s (subst (BoundsWalks k) same bound) from_end.2.0 in
-      reverse_end_law.leftmost hs (table_kind_of e.kind) (search_for (aim_of e patterns) hs e.program.terminator s) found (leftmost_kind e.kind from_end.0)
+      reverse_end_law.leftmost hs e.kind (search_for (aim_of e patterns) hs e.program.terminator s) found (leftmost_kind e.kind from_end.0)
       refl (ap anchoring_of from_end.1) last h
-      ∙ same_answer hs tabled same)
+      ∙ same_answer hs same)
 
   -- the greatest too, whether or not matches are passed over
   pub tables_tell_greatest_from_end : (k : Spans) → BoundsWalks k (places_of e.program.places.items) → SeeksGreatestFromEnd e.kind k s → (r : Result (Option Found) MatchError) →
       ((hs : List Re) → places_of e.program.places.items ≡ program hs → AreHalvesOf AreOf (record a { passes_over = false }) hs e.program.terminator →
       IfOk r (IsMatchToEnd a.earliest (search_over (program hs) e.program.terminator false s))) →
-      IfOk r (λ found. found ≡ kinds.answer_by e.kind (engine_search e s))
+      IfOk r (λ found. found ≡ answer_by e.kind (engine_search e s))
   tables_tell_greatest_from_end k bound from_end (Err x) tells = tt
   tables_tell_greatest_from_end k bound from_end (Ok found) tells =
       told (hlevel props) (λ x hs. IsMatchToEnd x.earliest (search_over (program hs) e.program.terminator false s) found)
       (λ hs same h. tells hs same (record { ahead = h.ahead; back = h.back; are_of = h.are_of; machines = h.machines; counted = h.counted; few = h.few }))
-      (λ hs tabled same h.
+      (λ hs same h.
       let last = ends_at_bound k (program hs) e.program.terminator false s (subst (BoundsWalks k) same bound) from_end.2.0 in
       greatest_to_end (search_over (program hs) e.program.terminator false s) (ap anchoring_of from_end.1) last refl found h
       ∙ greatest_law.regardless (search_for (aim_of e patterns) hs e.program.terminator s) false
-      ∙ ap (λ x. answer_by x (search_for (aim_of e patterns) hs e.program.terminator s)) (sym (ap table_kind_of from_end.0)) ∙ same_answer hs tabled same)
+      ∙ ap (λ x. answer_by x (search_for (aim_of e patterns) hs e.program.terminator s)) (sym from_end.0) ∙ same_answer hs same)
 
 -- the places of so many patterns name slots of groups alone
 pub names_groups : (e : Engine) (patterns : ℕ) (hs : List Re) → places_of e.program.places.items ≡ program hs → patterns ≡ length hs →

@@ -3,7 +3,7 @@
 use Rattle.std.specs.Prelude.{◌≡◌, ℕ, ◌<◌, ◌≤◌, ◌&&◌, true, false, nat_lt, nat_le, Option, Some, None, Result, Ok, Err, if◌then◌else◌}
 use Rattle.rc_text.specs.declared.types.Anchored.{Anchored}
 use Rattle.rc_text.specs.declared.types.Anchored.TheVariants.{No}
-use Rattle.rc_determinize.specs.declared.kind.TableKind.{TableKind}
+use Rattle.rc_text.specs.declared.types.MatchKind.{MatchKind}
 use Rattle.rc_text.specs.declared.types.MatchError as error
 use Rattle.rc_text.specs.declared.types.MatchError.TheVariants as errors
 use Rattle.rc_program.specs.Answer.{Search}
@@ -39,7 +39,7 @@ leg_of (endings.Quit b p) from hi = Err (errors.Quit b p)
 leg_of (endings.GaveUp p memory) from hi = Err (errors.GaveUp p memory)
 
 -- what that means for the starts from there on
-abbrev pub Tells : TableKind → Machine → Search → ℕ → Leg → Type 0
+abbrev pub Tells : MatchKind → Machine → Search → ℕ → Leg → Type 0
 Tells kind m s from Nowhere = StartsGive kind m s from None
 Tells kind m s from Here = Unit {0}
 Tells kind m s from (Later i) = GivesToo kind m s i from

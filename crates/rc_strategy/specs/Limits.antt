@@ -4,7 +4,6 @@ use Rattle.std.specs.Prelude.{◌≡◌, ◌⊎◌, ℕ, ◌<◌, false, List, l
 use Rattle.rc_pattern.specs.Re.{Re}
 use Rattle.rc_program.specs.Program.{program}
 use Rattle.rc_utf8.specs.Bytes.{bytes_of}
-use Rattle.rc_determinize.specs.TableKinds.{table_kind_of}
 use Rattle.rc_dfa.specs.Machine.{Machine, IsClassing}
 use Rattle.rc_dense_dfa.specs.Makes.{IsRefused}
 use Rattle.rc_dense_dfa.specs.declared.dense.Dense.{Dense}
@@ -31,7 +30,7 @@ AreBarred e hs limits =
 pub record AreTooHeavy (e : Engine) (hs : List Re) (limits : Limits) : Type 0 where
   pub ahead : Machine
   pub behind : Machine
-  pub machines : AreMachines hs e.program.terminator (table_kind_of e.kind) ahead behind
+  pub machines : AreMachines hs e.program.terminator e.kind ahead behind
   pub classes : List ℕ
   pub samples : List ℕ
   pub classed_ahead : IsClassing ahead classes samples

@@ -1,7 +1,6 @@
 -- What tables are made from whose states are made as they are met.
 use Rattle.std.specs.Prelude.{◌≡◌, ℕ, ◌+◌, ◌<◌, Bool, List, length}
 use Rattle.rc_pattern.specs.Re.{Re}
-use Rattle.rc_determinize.specs.TableKinds.{table_kind_of}
 use Rattle.rc_text.specs.declared.types.MatchKind.{MatchKind}
 use Rattle.rc_dfa.specs.declared.automaton.Direction.TheVariants.{Backwards, Forwards}
 use Rattle.rc_dfa.specs.Automata.{machine_of, classes_of}
@@ -37,7 +36,7 @@ plan_of e hs limits = record {
 
 -- The tables were made by the plan.
 pub record IsLazyFor (plan : LazyPlan) (l : Lazy) : Type 0 where
-  pub machines : AreMachines plan.patterns plan.terminator (table_kind_of plan.kind) (machine_of l.automaton Forwards) (machine_of l.automaton Backwards)
+  pub machines : AreMachines plan.patterns plan.terminator plan.kind (machine_of l.automaton Forwards) (machine_of l.automaton Backwards)
   pub classes : AreClassesOf plan.byte_classes plan.patterns plan.terminator (classes_of l.automaton)
   pub capacity_is : l.capacity ≡ plan.capacity
 
@@ -49,7 +48,7 @@ ServesLazy plan c = (l : Lazy) → ∥ IsLazyFor plan l ∥₁ → IsCacheOf l c
 pub record IsShortFor (plan : LazyPlan) : Type 0 where
   pub ahead : Machine
   pub behind : Machine
-  pub machines : AreMachines plan.patterns plan.terminator (table_kind_of plan.kind) ahead behind
+  pub machines : AreMachines plan.patterns plan.terminator plan.kind ahead behind
   pub classes : List ℕ
   pub are_classes : AreClassesOf plan.byte_classes plan.patterns plan.terminator classes
   pub samples : List ℕ

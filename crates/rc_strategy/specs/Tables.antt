@@ -4,7 +4,6 @@ use Rattle.std.specs.Prelude.{◌≡◌, ℕ, ◌+◌, ◌*◌, Bool, true, fals
 use Rattle.rc_pattern.specs.Re.{Re}
 use Rattle.rc_program.specs.Places.{places_of}
 use Rattle.rc_program.specs.Program.{program}
-use Rattle.rc_determinize.specs.TableKinds.{kind_of, table_kind_of}
 use Rattle.rc_dfa.specs.Machine.{Machine}
 use Rattle.rc_dense_dfa.specs.Halves.{AreHalves, bytes_of}
 use Rattle.rc_dense_dfa.specs.declared.dense.Dense.{Dense}
@@ -17,7 +16,7 @@ use Rattle.rc_pikevm_search.specs.declared.engine.Engine.{Engine}
 -- what a search by tables seeks: the match of the engine's kind
 abbrev pub aim_of : Engine → ℕ → Aim
 aim_of engine patterns = record {
-  kind = table_kind_of engine.kind;
+  kind = engine.kind;
   patterns = patterns;
   passes_over = engine.program.passes_over;
   earliest = false;
@@ -26,7 +25,6 @@ aim_of engine patterns = record {
 -- They are halves of searches for so many patterns, whose program is the engine's, and find matches of its kind.
 pub record AreHalvesFor (engine : Engine) (patterns : ℕ) (AreOf : Machine → Machine → Type 0) : Type 0 where
   pub hs : List Re
-  pub tabled : kind_of (table_kind_of engine.kind) ≡ engine.kind
   pub program : places_of engine.program.places.items ≡ program hs
   pub halves : AreHalvesOf AreOf (aim_of engine patterns) hs engine.program.terminator
 

@@ -18,7 +18,6 @@ use crate::tables::{are_fast, tables_of};
 use rc_captures::captures;
 use rc_captures::captures::Captures;
 use rc_dense_dfa::dense::{Dense, NoCache};
-use rc_determinize::kind::table_kind;
 use rc_dfa::halves::Halves;
 use rc_dfa_search::guarded::{find_end_guarded, find_guarded};
 use rc_dfa_search::search;
@@ -183,7 +182,7 @@ impl Engines {
         ensures { result ≡ aim_of self.now.engine self.now.patterns }
     {
         Aim {
-            kind: table_kind(self.engine.kind),
+            kind: self.engine.kind,
             patterns: self.patterns,
             passes_over: self.engine.program.passes_over,
             earliest: false,

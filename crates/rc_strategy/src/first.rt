@@ -9,11 +9,10 @@ ghost use Rattle.rc_program.specs.Sought.{search_over};
 ghost use Rattle.rc_needles.specs.Guards.{Guards};
 ghost use Rattle.rc_needles.specs.Prefilters.{needles_of};
 ghost use Rattle.rc_needles.specs.Tables.{BeginsWithByte, numbered};
-ghost use Rattle.rc_determinize.specs.TableKinds.{IsAnswerBy, answer_by};
+ghost use Rattle.rc_program.specs.Kinds.{IsAnswerBy, answer_by};
 ghost use Rattle.rc_dfa_search.specs.Aims.{AreHalvesOf, search_for};
 ghost use Rattle.rc_strategy.specs.Firsts.{AsksFirst, starting_at};
 
-use rc_determinize::kind::TableKind;
 use rc_dfa::halves::Halves;
 use rc_dfa_search::guarded::find_guarded;
 use rc_dfa_search::search::{Aim, find, id_of, told};
@@ -21,7 +20,7 @@ use rc_literals::guard::{Guard, next_start};
 use rc_needles::prefilter::Prefilter;
 use rc_text::cursor::Cursor;
 use rc_text::input::{Input, high, low, piece_from};
-use rc_text::types::{Anchored, Match, MatchError, Span};
+use rc_text::types::{Anchored, Match, MatchError, MatchKind, Span};
 
 /// This many bytes are looked at one by one, before the next needle is sought.
 const NEAR: usize = 16;
@@ -34,7 +33,7 @@ fn asks_first(aim: Aim, anchored: Anchored) -> bool
     ensures { IsTrue result ↔ AsksFirst aim anchored }
 {
     match (aim.kind, anchored) {
-        (TableKind::LeftmostFirst | TableKind::LeftmostLongest, Anchored::No) => {
+        (MatchKind::LeftmostFirst | MatchKind::LeftmostLongest, Anchored::No) => {
             !aim.earliest && !aim.passes_over
         }
         _ => false,

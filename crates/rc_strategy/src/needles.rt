@@ -6,21 +6,20 @@ ghost use Rattle.rc_text.specs.declared.types.Anchored.TheVariants.{No};
 ghost use Rattle.rc_pattern.specs.Re.{Re};
 ghost use Rattle.rc_program.specs.Program.{program};
 ghost use Rattle.rc_literals.specs.Guard.{IsGuard};
-ghost use Rattle.rc_determinize.specs.TableKinds.{IsAnswerBy};
+ghost use Rattle.rc_program.specs.Kinds.{IsAnswerBy};
 ghost use Rattle.rc_dfa_search.specs.Aims.{AreHalvesOf, search_for};
 ghost use Rattle.rc_dfa_search.specs.Legs.{GoesByNeedles};
 ghost use Rattle.rc_dfa_search.specs.Rests.{GivesToo, StartsGive};
 ghost use Rattle.rc_strategy.specs.Jumps.{ComesOn, GoesEarly, Tells, idle_leg, leg_of, met_leg};
 
 use crate::first::find_later;
-use rc_determinize::kind::TableKind;
 use rc_dfa::ended::{Ended, Met};
 use rc_dfa::halves::Halves;
 use rc_dfa_search::search::{Aim, find};
 use rc_literals::guard::{Guard, next_start};
 use rc_text::cursor::Cursor;
 use rc_text::input::{Input, high, low};
-use rc_text::types::{Anchored, Match, MatchError};
+use rc_text::types::{Anchored, Match, MatchError, MatchKind};
 
 /// What a run from a needle tells of where a match is to be sought.
 #[derive(Clone, Copy)]
@@ -137,7 +136,7 @@ fn goes_early(aim: Aim, anchored: Anchored) -> bool
     ensures { IsTrue result ↔ GoesEarly aim anchored }
 {
     match (aim.kind, anchored) {
-        (TableKind::LeftmostFirst | TableKind::LeftmostLongest, Anchored::No) => {
+        (MatchKind::LeftmostFirst | MatchKind::LeftmostLongest, Anchored::No) => {
             aim.earliest && !aim.passes_over
         }
         _ => false,

@@ -11,12 +11,10 @@ ghost use Rattle.rc_dfa_search.specs.Machines.{AreMachines};
 ghost use Rattle.rc_strategy.specs.Limits.{AreOff, AreTooHeavy};
 ghost use Rattle.rc_strategy.specs.Makes.{AreMade};
 ghost use Rattle.rc_strategy.specs.Tables.{MayBeTablesFor};
-ghost use Rattle.rc_determinize.specs.TableKinds.{table_kind_of};
 
 use crate::engines::Limits;
 use rc_dense_dfa::dense::Dense;
 use rc_dense_dfa::error::TableError;
-use rc_determinize::kind::table_kind;
 use rc_dfa::automaton::Automaton;
 use rc_dfa_search::build::automaton_of;
 use rc_lazy_dfa::error::LazyError;
@@ -77,7 +75,7 @@ fn dense_of(
     limits: Limits,
 ) -> Result<Option<Dense>, AllocError>
     ghost hs: { List Re }
-    requires machines { AreMachines hs engine.now.program.terminator (table_kind_of engine.now.kind) (machine_of automaton.now Forwards) (machine_of automaton.now Backwards) }
+    requires machines { AreMachines hs engine.now.program.terminator engine.now.kind (machine_of automaton.now Forwards) (machine_of automaton.now Backwards) }
     requires program { places_of engine.now.program.places.items ≡ program hs }
     requires patterns { patterns ≡ length hs }
     requires light { heaviness (places_of engine.now.program.places.items) ≤ 2147483646 }
@@ -148,7 +146,7 @@ pub(crate) fn tables_of(
         &engine.program.places,
         patterns,
         engine.program.terminator,
-        table_kind(engine.kind),
+        engine.kind,
         limits.byte_classes,
     )?;
     let dense = dense_of(alloc, engine, needed, &automaton, patterns, limits)?;

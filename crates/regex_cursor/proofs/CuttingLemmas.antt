@@ -6,9 +6,7 @@ use Rattle.rc_text.specs.Found.{Found, HalfFound, half_of}
 use Rattle.rc_text.specs.Text.{Searched, Keeps, is_boundary}
 use Rattle.rc_text.specs.declared.types.MatchKind.{MatchKind}
 use Rattle.rc_text.specs.declared.types.MatchError.{MatchError}
-use Rattle.rc_determinize.specs.declared.kind.TableKind.{TableKind}
-use Rattle.rc_determinize.specs.declared.kind.TableKind.TheVariants.{All as all_matches, LeftmostFirst as leftmost_first, LeftmostLongest as leftmost_longest}
-use Rattle.rc_determinize.specs.TableKinds.{kind_of}
+use Rattle.rc_text.specs.declared.types.MatchKind.TheVariants.{All as all_matches, LeftmostFirst as leftmost_first, LeftmostLongest as leftmost_longest}
 use Rattle.rc_program.specs.Program.{program, shown}
 use Rattle.rc_program.specs.Answer.{Search}
 use Rattle.rc_program.specs.Greatest.{IsSpelledIn}
@@ -87,16 +85,16 @@ module _ (q : Sought) (s t : Searched) (k : Keeps s t) where
   -- THE END
 
   -- the pattern that is told with the end is the match's
-  own_pattern : (kind : TableKind) (m : Found) (p : ℕ) → IsLeftmost kind → IsToldWith kind S m p → p ≡ m.pattern
+  own_pattern : (kind : MatchKind) (m : Found) (p : ℕ) → IsLeftmost kind → IsToldWith kind S m p → p ≡ m.pattern
   own_pattern leftmost_first m p l h = h
   own_pattern leftmost_longest m p l h = h
   own_pattern all_matches m p l h = absurd l
 
-  module _ (kind : TableKind) (leftmost : IsLeftmost kind) where
-    end_is : (o : Option HalfFound) → is_early s.earliest S ≡ false → IsForwardHalf kind s.earliest S o → o ≡ option_map half_of (answer_by (kind_of kind) S)
-    end_is None off h = ap (option_map half_of) (subst (λ e. IsAnswerWhere e (kind_of kind) S None) off h)
+  module _ (kind : MatchKind) (leftmost : IsLeftmost kind) where
+    end_is : (o : Option HalfFound) → is_early s.earliest S ≡ false → IsForwardHalf kind s.earliest S o → o ≡ option_map half_of (answer_by kind S)
+    end_is None off h = ap (option_map half_of) (subst (λ e. IsAnswerWhere e kind S None) off h)
     end_is (Some half) off h =
-        let is = subst (λ e. IsAnswerWhere e (kind_of kind) S (Some h.0)) off h.1 in
+        let is = subst (λ e. IsAnswerWhere e kind S (Some h.0)) off h.1 in
         let own = own_pattern kind h.0 half.pattern leftmost h.3 in
         ap₂ (λ (p x : ℕ). let f : HalfFound = record { pattern = p; offset = x } in Some f) own h.2 ∙ ap (option_map half_of) is
 

@@ -4,7 +4,6 @@ use Rattle.rc_text.specs.Found.{Found, HalfFound}
 use Rattle.rc_text.specs.Text.{Searched, Keeps}
 use Rattle.rc_text.specs.declared.types.MatchKind.{MatchKind}
 use Rattle.rc_text.specs.declared.types.MatchError.{MatchError}
-use Rattle.rc_determinize.specs.declared.kind.TableKind.{TableKind}
 use Rattle.rc_program.specs.Kinds.{is_early, IsAnswerBy}
 use Rattle.rc_program.specs.Sought.{Sought, search_for}
 use Rattle.rc_dfa_search.specs.Halves.{IsForwardHalf}
@@ -27,7 +26,7 @@ pub record EnginesLaw : Type 0 where
       IfOk a (IsAnswerBy kind s.earliest (search_for q s)) → IfOk b (IsAnswerBy kind t.earliest (search_for q t)) →
       IfOk a (λ m. IfOk b (λ n. is_some m ≡ is_some n))
   -- the end of the preferred match or of the longest, by a search forwards
-  pub ends : (q : Sought) (kind : TableKind) (s t : Searched) (a b : Result (Option HalfFound) MatchError) → IsLeftmost kind → Keeps s t →
+  pub ends : (q : Sought) (kind : MatchKind) (s t : Searched) (a b : Result (Option HalfFound) MatchError) → IsLeftmost kind → Keeps s t →
       is_early s.earliest (search_for q s) ≡ false →
       IfOk a (IsForwardHalf kind s.earliest (search_for q s)) → IfOk b (IsForwardHalf kind t.earliest (search_for q t)) → AreAlike a b
   -- the start of what leads to the upper bound, by a search backwards

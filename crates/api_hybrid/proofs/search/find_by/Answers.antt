@@ -1,13 +1,13 @@
 use Rattle.std.proofs.Common.{◌+◌, ◌-◌, ◌*◌, IfErr, IfOk}
 use Rattle.rc_text.specs.Text.{high, low}
-use Rattle.rc_determinize.specs.TableKinds.{IsAnswerBy}
+use Rattle.rc_program.specs.Kinds.{IsAnswerBy}
 use Rattle.rc_program.specs.Program.{shown}
 use Rattle.rc_program.specs.Sought.{search_for as search_of}
 use Rattle.rc_dfa_search.specs.Aims.{search_for}
 use Rattle.rc_dfa_search.specs.Faults.{IsFault}
 use Rattle.rc_lazy_dfa.specs.Caches.{MayGiveUpEither}
 use Rattle.api_hybrid.specs.Faults.{IsFaultOf}
-use Rattle.api_hybrid.specs.Views.{sought, table_kind}
+use Rattle.api_hybrid.specs.Views.{sought, regex_kind}
 use Rattle.api_hybrid.proofs.Asked.{asked}
 use Rattle.api_hybrid.proofs.Had.{clears_had, fault_had, growth_had}
 use Rattle.api_dfa.proofs.Had.{answer_had, err_had, ok_had}
@@ -17,7 +17,7 @@ pub returns-clause-found : goal.returns-clause-found
 returns-clause-found g c =
     let re = c.args.re.now in
     let i = c.args.input.now in
-    ok_had (IsAnswerBy (table_kind re) c.args.earliest (search_of (sought re) i)) (answer_had (table_kind re) c.args.earliest (search_of (sought re) i)) c.find.result
+    ok_had (IsAnswerBy (regex_kind re) c.args.earliest (search_of (sought re) i)) (answer_had (regex_kind re) c.args.earliest (search_of (sought re) i)) c.find.result
     (asked (λ a hs t. IfOk c.find.result (IsAnswerBy a.kind a.earliest (search_for a hs t i))) c.aim-aim.ensures re.made c.find.ensures.found)
 
 pub returns-clause-fault : goal.returns-clause-fault

@@ -7,7 +7,7 @@ use Rattle.rc_dfa_search.specs.Faults.{IsFault}
 use Rattle.rc_dfa_search.specs.Halves.{IsForwardHalf}
 use Rattle.rc_lazy_dfa.specs.Caches.{MayGiveUpEither}
 use Rattle.api_hybrid.specs.Faults.{IsFaultOf}
-use Rattle.api_hybrid.specs.Views.{sought, table_kind}
+use Rattle.api_hybrid.specs.Views.{sought, regex_kind}
 use Rattle.api_hybrid.proofs.Asked.{asked}
 use Rattle.api_hybrid.proofs.Had.{clears_had, fault_had}
 use Rattle.api_dfa.proofs.Had.{end_had, err_had, ok_had}
@@ -18,8 +18,8 @@ returns-clause-found g c =
     let re = c.args.re.now in
     let i = c.args.input.now in
     let e = c.get_earliest.result in
-    subst (λ x. IfOk c.find_end.result (IsForwardHalf (table_kind re) x (search_of (sought re) i))) c.get_earliest.ensures
-    (ok_had (IsForwardHalf (table_kind re) e (search_of (sought re) i)) (end_had (table_kind re) e (search_of (sought re) i)) c.find_end.result
+    subst (λ x. IfOk c.find_end.result (IsForwardHalf (regex_kind re) x (search_of (sought re) i))) c.get_earliest.ensures
+    (ok_had (IsForwardHalf (regex_kind re) e (search_of (sought re) i)) (end_had (regex_kind re) e (search_of (sought re) i)) c.find_end.result
     (asked (λ a hs t. IfOk c.find_end.result (IsForwardHalf a.kind a.earliest (search_for a hs t i))) c.aim-aim.ensures re.made c.find_end.ensures.found))
 
 pub returns-clause-fault : goal.returns-clause-fault

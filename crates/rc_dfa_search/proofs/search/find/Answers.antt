@@ -3,7 +3,7 @@ use Rattle.std.specs.Option.{option_map}
 use Rattle.rc_text.specs.Found.{Found}
 use Rattle.rc_text.specs.Text.{high, low}
 use Rattle.rc_pattern.specs.Re.{Re}
-use Rattle.rc_determinize.specs.TableKinds.{IsAnswerWhere}
+use Rattle.rc_program.specs.Kinds.{IsAnswerWhere}
 use Rattle.rc_dfa.specs.declared.ended.Met.{Met}
 use Rattle.rc_dfa_search.specs.Aims.{AreHalvesOf, is_early, search_for, cost}
 use Rattle.rc_dfa_search.specs.Ends.{IsEnd, cost_forwards, match_by}

@@ -2,7 +2,7 @@ use Rattle.std.proofs.Common.{◌≡◌, ℕ, ◌+◌, ◌-◌, sym, ap, subst, 
 use Rattle.rc_text.specs.Text.{high, low}
 use Rattle.rc_text.specs.Plain.{is_anchored as anchors}
 use Rattle.rc_pattern.specs.Re.{Re}
-use Rattle.rc_determinize.specs.TableKinds.{IsAnswerWhere}
+use Rattle.rc_program.specs.Kinds.{IsAnswerWhere}
 use Rattle.rc_program.specs.Sought.{text_of}
 use Rattle.rc_dfa.specs.declared.ended.Met.{Met}
 use Rattle.rc_dfa_search.specs.Aims.{AreHalvesOf, is_early, search_for}

@@ -4,7 +4,7 @@ use Rattle.rc_text.specs.Text.{low}
 use Rattle.rc_pattern.specs.Re.{Re}
 use Rattle.rc_program.specs.Program.{program}
 use Rattle.rc_program.specs.Answer.{HasNoWalkFrom}
-use Rattle.rc_determinize.specs.TableKinds.{answer_by}
+use Rattle.rc_program.specs.Kinds.{answer_by}
 use Rattle.rc_needles.specs.Guards.{Guards}
 use Rattle.rc_needles.specs.Prefilters.{needles_of}
 use Rattle.rc_dfa_search.specs.Aims.{search_for}

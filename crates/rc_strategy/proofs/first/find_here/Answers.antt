@@ -3,7 +3,7 @@ use Rattle.rc_text.specs.Found.{Found}
 use Rattle.rc_pattern.specs.Re.{Re}
 use Rattle.rc_dfa_search.specs.declared.search.Aim.{Aim}
 use Rattle.rc_dfa_search.specs.Aims.{AreHalvesOf, search_for}
-use Rattle.rc_determinize.specs.TableKinds.{answer_by}
+use Rattle.rc_program.specs.Kinds.{answer_by}
 use Rattle.rc_strategy.specs.Firsts.{AsksFirst, starting_at}
 use Rattle.rc_strategy.proofs.FirstLemmas.{IsMetHere, here_told, met_so}
 use Rattle.rc_strategy.proofs.first.find_here.Given.{Over}

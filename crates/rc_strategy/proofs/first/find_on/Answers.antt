@@ -3,7 +3,7 @@ use Rattle.rc_text.specs.Text.{Searched, KeepsText, low}
 use Rattle.rc_text.specs.declared.types.Span.{Span}
 use Rattle.rc_pattern.specs.Re.{Re}
 use Rattle.rc_program.specs.Answer.{Search}
-use Rattle.rc_determinize.specs.TableKinds.{IsAnswerBy}
+use Rattle.rc_program.specs.Kinds.{IsAnswerBy}
 use Rattle.rc_dfa_search.specs.declared.search.Aim.{Aim}
 use Rattle.rc_dfa_search.specs.Aims.{search_for}
 use Rattle.rc_strategy.proofs.first.find_on.Goals as goal

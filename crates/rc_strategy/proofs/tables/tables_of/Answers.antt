@@ -12,6 +12,6 @@ returns g c =
     lazy_so c.args.engine.now c.args.patterns g.hs c.args.limits c.in_ok-dense.dense
     (not_answered _ c.literals_of.result c.is_some.ensures c.if-is_some.false c.literals_of.ensures.value)
     c.in_ok-dense.ensures.fit c.in_ok-dense.ensures.off c.in_ok-dense.ensures.none
-    c.in_ok-automaton.automaton (rw c.table_kind.ensures at c.in_ok-automaton.ensures.machines)
+    c.in_ok-automaton.automaton c.in_ok-automaton.ensures.machines
     c.in_ok-automaton.ensures.classes c.requires.0 c.requires.1.0 c.requires.1.1 (sym c.is_some-2.ensures ∙ c.if-is_some-2.false) c.lazy_of-lazy.result c.lazy_of-lazy.ensures.made c.lazy_of-lazy.ensures.off
     c.lazy_of-lazy.ensures.none

@@ -3,7 +3,6 @@ use Rattle.rc_pattern.specs.Meaning.{meaning}
 use Rattle.rc_program.specs.Laws.{heaviness}
 use Rattle.rc_program.specs.Places.{places_of}
 use Rattle.rc_program.specs.Program.{program, shown}
-use Rattle.rc_determinize.specs.TableKinds.{table_kind_of}
 use Rattle.rc_settings.specs.Thompson.{nfa_size_limit_of, settings_of, which_captures_of}
 use Rattle.rc_settings.specs.Which.{is_grouped}
 use Rattle.rc_settings.specs.SearchSettings.{match_kind_of}
@@ -33,8 +32,8 @@ invariant_of-result c =
     let lazy = c.in_ok-lazy.lazy in
     let same : map meaning c.deref.result.now ≡ map meaning c.in_ok-built.built.hirs.items = ap (λ xs. map meaning xs) c.deref.ensures.value in
     let kind = b.fits.kinded ∙ c.get_match_kind.ensures ∙ sym (ap match_kind_of c.in_ok-config.ensures) in
-    let tables = c.table_kind.ensures ∙ ap table_kind_of kind in record {
+    record {
       passing = b.fits.passing;
-      made = ∣ subst (λ k. IsLazyFor (sought_by s (map meaning c.in_ok-built.built.hirs.items)) k lazy) tables
-          (subst (λ hs. IsLazyFor (sought_by s hs) c.table_kind.result lazy) same c.in_ok-lazy.ensures.made) ∣₁;
+      made = ∣ subst (λ k. IsLazyFor (sought_by s (map meaning c.in_ok-built.built.hirs.items)) k lazy) kind
+          (subst (λ hs. IsLazyFor (sought_by s hs) c.in_ok-built.built.engine.kind lazy) same c.in_ok-lazy.ensures.made) ∣₁;
     }
