@@ -39,8 +39,8 @@ fn cell_at(
     requires within { course.bound ≤ start }
     requires some { 0 < left }
     requires left { left ≤ length piece.now }
-    ensures row { result < 2305843009213693952 → InRow table.now result }
-    ensures stands { result < 2305843009213693952 → StandsDown table.now course (start + (left - 1)) (record { row = result; noted = stand.noted }) }
+    ensures row { result < SKIP → InRow table.now result }
+    ensures stands { result < SKIP → StandsDown table.now course (start + (left - 1)) (record { row = result; noted = stand.noted }) }
 {
     cells[stand.row + classes[piece[left - 1] as usize] as usize]
 }
@@ -136,7 +136,7 @@ fn run(table: &Table, piece: &[u8], start: usize, stand: Stand, limit: usize) ->
     requires piece { piece.now ≡ slice_range course.seen.content start (start + length piece.now) }
     requires within { course.bound ≤ start }
     requires fits { start + length piece.now ≤ usize.MAX }
-    requires limit { limit ≤ 2305843009213693952 }
+    requires limit { limit ≤ SKIP }
     ensures left { result.0 ≤ length piece.now }
     ensures row { InRow table.now result.1.row }
     ensures stands { StandsDown table.now course (start + result.0) result.1 }

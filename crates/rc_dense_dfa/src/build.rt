@@ -4,6 +4,7 @@ ghost use Rattle.rc_determinize.specs.Places.{state_of};
 ghost use Rattle.rc_determinize.specs.States as states;
 ghost use Rattle.rc_dfa.specs.Machine.{Machine, IsMachine, is_idle};
 ghost use Rattle.rc_dfa.specs.Automata.{machine_of, samples_of};
+ghost use Rattle.rc_dense_dfa.specs.Cells.{met};
 ghost use Rattle.rc_dense_dfa.specs.Tables.{code_of, mode_of, dead_state};
 ghost use Rattle.rc_dense_dfa.specs.Makes.{IsMade, IsRefused};
 ghost use Rattle.rc_dense_dfa.specs.Rows.{IsMaker, Grows, AreEnds, AreRows, AreStarts, IsEndOf, AreTells, AreIdles, AreParts};
@@ -180,7 +181,7 @@ fn maker_of(
     ghost m: { Machine }
     requires machine { IsMachine m }
     requires scratch { scratch ≡ length m.setting.places }
-    requires wide { (0 < width) × (width < 9223372036854775808) }
+    requires wide { (0 < width) × (width < met) }
     requires starts { starts ≡ (length m.entries + 2) * (width + 1) }
     ensures maker { IfOk result (IsMaker m) }
     ensures width { IfOk result (λ k. k.names.width ≡ width) }

@@ -1,6 +1,6 @@
 //! Acceleration: the few bytes that lead out of a state.
 ghost use Rattle.std.specs.Prelude.{◌≡◌, ◌≢◌, ◌*◌, ◌<◌, ◌≤◌, ℕ, IfOk, IsTrue, false, length, slice_index_or};
-ghost use Rattle.rc_dense_dfa.specs.Cells.{dead};
+ghost use Rattle.rc_dense_dfa.specs.Cells.{dead, met, skip};
 ghost use Rattle.rc_dense_dfa.specs.Exits.{AreExitsOf, Stays, is_exit};
 ghost use Rattle.rc_dense_dfa.specs.declared.exits.Exits.TheVariants as few;
 
@@ -47,7 +47,7 @@ pub(crate) fn are_few(exits: Exits) -> bool {
 
 /// Whether the byte leads from the row to the row itself, and nothing is found.
 fn stays(classes: &[u8], cells: &[usize], row: usize, byte: usize) -> bool
-    requires { row < 9223372036854775808 }
+    requires { row < met }
     ensures { IsTrue result → Stays dead classes.now cells.now row byte }
 {
     let Some(class) = classes.get(byte) else {
@@ -61,7 +61,7 @@ fn stays(classes: &[u8], cells: &[usize], row: usize, byte: usize) -> bool
 
 /// The exits of a row.
 fn exits_from(classes: &[u8], cells: &[usize], row: usize) -> Exits
-    requires { row < 9223372036854775808 }
+    requires { row < met }
     ensures { AreExitsOf dead classes.now cells.now row result }
 {
     let mut exits = Exits::Zero;
@@ -81,8 +81,8 @@ pub(crate) fn exits_of(
     width: usize,
     direction: Direction,
 ) -> Result<Vec<Exits>, AllocError>
-    requires wide { (0 < width) × (width < 9223372036854775808) }
-    requires small { length cells.now < 2305843009213693952 }
+    requires wide { (0 < width) × (width < met) }
+    requires small { length cells.now < skip }
     ensures { IfOk result (λ exits. (k : ℕ) → AreExitsOf dead classes.now cells.now (k * width) (slice_index_or exits.items k few.Many)) }
 {
     let mut exits = Vec::new(alloc);

@@ -51,8 +51,8 @@ fn cell_at(
     requires piece { piece.now ≡ slice_range course.seen.content start (start + length piece.now) }
     requires within { start + length piece.now ≤ course.bound }
     requires index { index < length piece.now }
-    ensures row { result < 2305843009213693952 → InRow table.now result }
-    ensures stands { result < 2305843009213693952 → Stands table.now course (start + (index + 1)) (record { row = result; noted = stand.noted }) }
+    ensures row { result < SKIP → InRow table.now result }
+    ensures stands { result < SKIP → Stands table.now course (start + (index + 1)) (record { row = result; noted = stand.noted }) }
 {
     cells[stand.row + classes[piece[index] as usize] as usize]
 }
@@ -196,7 +196,7 @@ fn run(
     requires piece { piece.now ≡ slice_range course.seen.content start (start + length piece.now) }
     requires within { start + length piece.now ≤ course.bound }
     requires fits { start + length piece.now ≤ usize.MAX }
-    requires limit { limit ≤ 2305843009213693952 }
+    requires limit { limit ≤ SKIP }
     requires from { from ≤ length piece.now }
     ensures read { result.0 ≤ length piece.now }
     ensures row { InRow table.now result.1.row }

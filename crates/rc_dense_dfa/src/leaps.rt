@@ -1,6 +1,6 @@
 //! Acceleration: states in which a search stays over most bytes.
 ghost use Rattle.std.specs.Prelude.{◌≡◌, ◌<◌, ◌≤◌, ◌+◌, IfOk, IfSome, IsTrue, false, length, slice_index_or};
-ghost use Rattle.rc_dense_dfa.specs.Cells.{dead, row_of};
+ghost use Rattle.rc_dense_dfa.specs.Cells.{dead, met, row_of, skip};
 ghost use Rattle.rc_dense_dfa.specs.Exits.{AllStay, AreLeaps, AreStays, StaysAmong, cell_by};
 
 use crate::exits::{Exits, are_few};
@@ -33,8 +33,8 @@ pub struct Leap {
 
 /// The row to which a byte leads, if it goes on from there and nothing is met.
 fn row_behind(classes: &[u8], cells: &[usize], row: usize, byte: usize) -> Option<usize>
-    requires { row < 9223372036854775808 }
-    ensures small { IfSome result (λ behind. behind < 9223372036854775808) }
+    requires { row < met }
+    ensures small { IfSome result (λ behind. behind < met) }
     ensures below { IfSome result (λ _. cell_by classes.now cells.now row byte < dead) }
     ensures value { IfSome result (λ behind. behind ≡ row_of (cell_by classes.now cells.now row byte)) }
 {
@@ -52,8 +52,8 @@ fn row_behind(classes: &[u8], cells: &[usize], row: usize, byte: usize) -> Optio
 
 /// Whether the byte leads from both rows to the same one of the two, and nothing is found.
 fn stays_among(classes: &[u8], cells: &[usize], row: usize, other: usize, byte: usize) -> bool
-    requires row { row < 9223372036854775808 }
-    requires other { other < 9223372036854775808 }
+    requires row { row < met }
+    requires other { other < met }
     ensures { IsTrue result → StaysAmong dead classes.now cells.now row other byte }
 {
     let Some(behind) = row_behind(classes, cells, row, byte) else {
@@ -68,7 +68,7 @@ fn stays_among(classes: &[u8], cells: &[usize], row: usize, other: usize, byte: 
 /// Whether the byte isn't read in the row: a search ends there, so it is no matter how it comes
 /// there.
 fn quits(classes: &[u8], cells: &[usize], row: usize, byte: usize) -> bool
-    requires { row < 9223372036854775808 }
+    requires { row < met }
 {
     let Some(class) = classes.get(byte) else {
         return false;
@@ -82,8 +82,8 @@ fn quits(classes: &[u8], cells: &[usize], row: usize, byte: usize) -> bool
 /// How many of a thousand bytes of most texts lead away from the two rows, about. If it is more
 /// than `LEAVING`, it may be more still.
 fn leaving(classes: &[u8], cells: &[usize], row: usize, other: usize) -> usize
-    requires row { row < 9223372036854775808 }
-    requires other { other < 9223372036854775808 }
+    requires row { row < met }
+    requires other { other < met }
 {
     let mut sum = 0usize;
     for number in 0..256usize {
@@ -102,8 +102,8 @@ fn leaving(classes: &[u8], cells: &[usize], row: usize, other: usize) -> usize
 /// Another row, to which the most common byte leads that leads away from the row; or the row
 /// itself.
 fn likely(classes: &[u8], cells: &[usize], row: usize) -> usize
-    requires { row < 9223372036854775808 }
-    ensures { result < 9223372036854775808 }
+    requires { row < met }
+    ensures { result < met }
 {
     for byte in MOST_COMMON {
         if let Some(behind) = row_behind(classes, cells, row, *byte as usize)
@@ -117,8 +117,8 @@ fn likely(classes: &[u8], cells: &[usize], row: usize) -> usize
 
 /// What is known of two rows.
 fn among(classes: &[u8], cells: &[usize], row: usize, other: usize) -> Leap
-    requires row { row < 9223372036854775808 }
-    requires other { other < 9223372036854775808 }
+    requires row { row < met }
+    requires other { other < met }
     ensures { AreStays dead classes.now cells.now result.row result.other result.stays }
 {
     let mut stays = [false; 256];
@@ -138,7 +138,7 @@ fn among(classes: &[u8], cells: &[usize], row: usize, other: usize) -> Leap
 
 /// What is known of a row, if few bytes of most texts lead away from it, or from it and another.
 fn leap_of(classes: &[u8], cells: &[usize], row: usize) -> Option<Leap>
-    requires { row < 9223372036854775808 }
+    requires { row < met }
     ensures { IfSome result (λ leap. AreStays dead classes.now cells.now leap.row leap.other leap.stays) }
 {
     let alone = leaving(classes, cells, row, row);
@@ -166,7 +166,7 @@ fn is_in(leaps: &[Leap], row: usize) -> bool {
 /// What is known of a row with these exits, unless they are few, or something is known of it
 /// already.
 fn wanted(classes: &[u8], cells: &[usize], exits: Exits, leaps: &[Leap], row: usize) -> Option<Leap>
-    requires { row < 9223372036854775808 }
+    requires { row < met }
     ensures { IfSome result (λ leap. AreStays dead classes.now cells.now leap.row leap.other leap.stays) }
 {
     if are_few(exits) || is_in(leaps, row) {
@@ -204,8 +204,8 @@ pub(crate) fn leaps_of(
     idles: &[bool],
     width: usize,
 ) -> Result<Vec<Leap>, AllocError>
-    requires wide { (0 < width) × (width < 9223372036854775808) }
-    requires small { length cells.now < 2305843009213693952 }
+    requires wide { (0 < width) × (width < met) }
+    requires small { length cells.now < skip }
     ensures { IfOk result (λ leaps. AreLeaps dead classes.now cells.now leaps.items) }
 {
     let mut leaps = Vec::new(alloc);

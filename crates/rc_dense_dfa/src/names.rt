@@ -128,7 +128,7 @@ impl Names {
     ) -> Result<Names, TableError>
         ghost m: { Machine }
         requires machine { IsMachine m }
-        requires wide { (0 < width) × (width < 9223372036854775808) }
+        requires wide { (0 < width) × (width < MET) }
         requires starts { starts ≡ (length m.entries + 2) * (width + 1) }
         ensures named { IfOk result (AreNamed m) }
         ensures width { IfOk result (λ n. n.width ≡ width) }

@@ -1,6 +1,6 @@
 //! Transition table: a row for each state, a cell for each byte class.
 ghost use Rattle.std.specs.Prelude.{◌≡◌, ◌<◌, ◌*◌, ℕ, length, slice_index_or, All};
-ghost use Rattle.rc_dense_dfa.specs.Cells.{IsNamed, met};
+ghost use Rattle.rc_dense_dfa.specs.Cells.{IsNamed, met, skip};
 ghost use Rattle.rc_dense_dfa.specs.Exits.{AreExitsOf, AreLeaps};
 ghost use Rattle.rc_dense_dfa.specs.declared.exits.Exits.TheVariants.{Many};
 
@@ -41,18 +41,17 @@ pub struct Table {
     ghost inside: { All (IsNamed width (length cells.items)) cells.items × All (IsNamed width (length cells.items)) starts.items },
     ghost passed: { (k : ℕ) → AreExitsOf met classes.items cells.items (k * width) (slice_index_or exits.items k Many) },
     ghost leaped: { AreLeaps met classes.items cells.items leaps.items },
-    ghost small: { length cells.items < 2305843009213693952 },
+    ghost small: { length cells.items < skip },
 }
 
-/// Added to the name of a row if something was found on the way to it.
-pub const MET: usize = 9_223_372_036_854_775_808;
+/// Added to the name of a row where something was met on the way to it.
+pub const MET: usize = 1 << 63;
 
 /// Added to the name of a row from which nothing goes on.
-pub const DEAD: usize = 4_611_686_018_427_387_904;
+pub const DEAD: usize = 1 << 62;
 
-/// Added to the name of a row at which a search may have more to do than to read on. It is a hint:
-/// a search that heeds it not is slower alone.
-pub const SKIP: usize = 2_305_843_009_213_693_952;
+/// Added to the name of a row at which a search may have more to do than to read on. It is a hint: a search that heeds it not is slower alone.
+pub const SKIP: usize = 1 << 61;
 
-/// In place of a row, where a byte is that isn't read.
-pub const QUIT: usize = 18_446_744_073_709_551_615;
+/// In place of a row, where a byte stands that isn't read.
+pub const QUIT: usize = usize::MAX;

@@ -45,8 +45,8 @@ fn cell_at(
     requires within { course.bound ≤ start }
     requires some { 0 < left }
     requires left { left ≤ length piece.now }
-    ensures row { result < 2305843009213693952 → result + course.frame.width ≤ length store.now.cells.items }
-    ensures stands { result < 2305843009213693952 → StandsNotedDown course store.now (start + (left - 1)) result here.noted here.before }
+    ensures row { result < UNKNOWN → result + course.frame.width ≤ length store.now.cells.items }
+    ensures stands { result < UNKNOWN → StandsNotedDown course store.now (start + (left - 1)) result here.noted here.before }
 {
     cells[here.row + classes[piece[left - 1] as usize] as usize]
 }
@@ -172,7 +172,7 @@ fn run(
     requires piece { piece.now ≡ slice_range course.seen.content start (start + length piece.now) }
     requires within { course.bound ≤ start }
     requires fits { start + length piece.now ≤ usize.MAX }
-    requires limit { limit ≤ 2305843009213693952 }
+    requires limit { limit ≤ UNKNOWN }
     ensures left { result.0 ≤ length piece.now }
     ensures stands { StandsDown course store.now (start + result.0) result.1 }
 {

@@ -9,17 +9,16 @@ use rc_determinize::state::State;
 use rc_text::types::Anchored;
 
 /// It isn't known where the byte leads.
-pub(crate) const UNKNOWN: usize = 2_305_843_009_213_693_952;
+pub(crate) const UNKNOWN: usize = 1 << 61;
 
-/// Nothing goes on. Added to the name of a row if something was found on the way to it; alone if
-/// nothing was.
-pub(crate) const DEAD: usize = 4_611_686_018_427_387_904;
+/// Nothing goes on. Added to the name of a row where something was met on the way to it; alone where nothing was.
+pub(crate) const DEAD: usize = 1 << 62;
 
-/// Added to the name of a row if something was found on the way to it.
-pub(crate) const MET: usize = 9_223_372_036_854_775_808;
+/// Added to the name of a row where something was met on the way to it.
+pub(crate) const MET: usize = 1 << 63;
 
 /// The byte isn't read.
-pub(crate) const QUIT: usize = 18_446_744_073_709_551_615;
+pub(crate) const QUIT: usize = usize::MAX;
 
 /// The row that a cell names.
 #[inline(always)]

@@ -70,8 +70,8 @@ fn cell_at(
     requires piece { piece.now ≡ slice_range course.seen.content start (start + length piece.now) }
     requires within { start + length piece.now ≤ course.bound }
     requires index { index < length piece.now }
-    ensures row { result < 2305843009213693952 → result + course.frame.width ≤ length store.now.cells.items }
-    ensures stands { result < 2305843009213693952 → StandsNoted course store.now (start + (index + 1)) result here.noted here.before }
+    ensures row { result < UNKNOWN → result + course.frame.width ≤ length store.now.cells.items }
+    ensures stands { result < UNKNOWN → StandsNoted course store.now (start + (index + 1)) result here.noted here.before }
 {
     cells[here.row + classes[piece[index] as usize] as usize]
 }
@@ -197,7 +197,7 @@ fn run(
     requires piece { piece.now ≡ slice_range course.seen.content start (start + length piece.now) }
     requires within { start + length piece.now ≤ course.bound }
     requires fits { start + length piece.now ≤ usize.MAX }
-    requires limit { limit ≤ 2305843009213693952 }
+    requires limit { limit ≤ UNKNOWN }
     ensures read { result.0 ≤ length piece.now }
     ensures stands { StandsAt course store.now (start + result.0) result.1 }
 {
