@@ -1,6 +1,7 @@
 //! DFA searches: one match, its end, its start, and iteration. They take no memory.
 
 ghost use Rattle.std.specs.Prelude.{◌≡◌, ◌≤◌, ◌∷◌, [], IfErr, IfOk, IfSome, MatchOption, None, Option, Some, Result};
+ghost use Rattle.rc_text.specs.Bounds.{IsWithinBounds};
 ghost use Rattle.rc_text.specs.Text.{Keeps, low, high};
 ghost use Rattle.rc_text.specs.declared.types.MatchKind.TheVariants.{LeftmostFirst};
 ghost use Rattle.rc_program.specs.Kinds.{IsAnswerBy, answer_by_from};
@@ -36,7 +37,7 @@ use rc_text::types::{HalfMatch, Match, MatchError};
 pub fn find<C: Cursor>(re: &Regex, input: &mut Input<C>) -> Result<Option<Match>, MatchError>
     ensures keeps { Keeps input.old input.new }
     ensures found { IfOk result (IsAnswerBy (dfa_kind (dfa_of re.now)) input.old.earliest (search_for (sought (dfa_of re.now)) input.old)) }
-    ensures within { IfOk result (λ o. IfSome o (λ m. (low input.old ≤ m.start) × (m.start ≤ m.end) × (m.end ≤ high input.old))) }
+    ensures within { IfOk result (λ o. IfSome o (IsWithinBounds input.old)) }
     ensures fault { IfErr result (IsFaultOf (sought (dfa_of re.now)) input.old) }
 {
     let earliest = input.get_earliest();
@@ -47,7 +48,7 @@ pub fn find<C: Cursor>(re: &Regex, input: &mut Input<C>) -> Result<Option<Match>
 pub fn try_search<C: Cursor>(re: &Regex, input: &mut Input<C>) -> Result<Option<Match>, MatchError>
     ensures keeps { Keeps input.old input.new }
     ensures found { IfOk result (IsAnswerBy (dfa_kind (dfa_of re.now)) input.old.earliest (search_for (sought (dfa_of re.now)) input.old)) }
-    ensures within { IfOk result (λ o. IfSome o (λ m. (low input.old ≤ m.start) × (m.start ≤ m.end) × (m.end ≤ high input.old))) }
+    ensures within { IfOk result (λ o. IfSome o (IsWithinBounds input.old)) }
     ensures fault { IfErr result (IsFaultOf (sought (dfa_of re.now)) input.old) }
 {
     find(re, input)
@@ -122,7 +123,7 @@ fn find_by<C: Cursor>(
 ) -> Result<Option<Match>, MatchError>
     ensures keeps { Keeps input.old input.new }
     ensures found { IfOk result (IsAnswerBy (dfa_kind dfa.now) earliest (search_for (sought dfa.now) input.old)) }
-    ensures within { IfOk result (λ o. IfSome o (λ m. (low input.old ≤ m.start) × (m.start ≤ m.end) × (m.end ≤ high input.old))) }
+    ensures within { IfOk result (λ o. IfSome o (IsWithinBounds input.old)) }
     ensures fault { IfErr result (IsFaultOf (sought dfa.now) input.old) }
 {
     let aim = dfa.aim(earliest);

@@ -1,6 +1,7 @@
 //! Lazy DFA searches in a cache: one match, its end, its start, and iteration.
 
 ghost use Rattle.std.specs.Prelude.{◌≡◌, ◌≤◌, ◌∷◌, [], IfErr, IfOk, IfSome, MatchOption, None, Option, Some, Result};
+ghost use Rattle.rc_text.specs.Bounds.{IsWithinBounds};
 ghost use Rattle.rc_text.specs.Text.{Keeps, low, high};
 ghost use Rattle.rc_text.specs.declared.types.MatchKind.TheVariants.{LeftmostFirst};
 ghost use Rattle.rc_program.specs.Kinds.{IsAnswerBy, answer_by_from};
@@ -48,7 +49,7 @@ pub fn find<C: Cursor>(
     ensures cache { IsCacheFor re.now cache.new }
     ensures keeps { Keeps input.old input.new }
     ensures found { IfOk result (IsAnswerBy (regex_kind re.now) input.old.earliest (search_for (sought re.now) input.old)) }
-    ensures within { IfOk result (λ o. IfSome o (λ m. (low input.old ≤ m.start) × (m.start ≤ m.end) × (m.end ≤ high input.old))) }
+    ensures within { IfOk result (λ o. IfSome o (IsWithinBounds input.old)) }
     ensures fault { IfErr result (IsFaultOf re.now input.old cache.old cache.new) }
     ensures clears { ClearsWhereShort re.now input.old cache.old cache.new }
 {
@@ -66,7 +67,7 @@ pub fn try_search<C: Cursor>(
     ensures cache { IsCacheFor re.now cache.new }
     ensures keeps { Keeps input.old input.new }
     ensures found { IfOk result (IsAnswerBy (regex_kind re.now) input.old.earliest (search_for (sought re.now) input.old)) }
-    ensures within { IfOk result (λ o. IfSome o (λ m. (low input.old ≤ m.start) × (m.start ≤ m.end) × (m.end ≤ high input.old))) }
+    ensures within { IfOk result (λ o. IfSome o (IsWithinBounds input.old)) }
     ensures fault { IfErr result (IsFaultOf re.now input.old cache.old cache.new) }
     ensures clears { ClearsWhereShort re.now input.old cache.old cache.new }
 {
@@ -160,7 +161,7 @@ fn find_by<C: Cursor>(
     ensures cache { IsCacheFor re.now cache.new }
     ensures keeps { Keeps input.old input.new }
     ensures found { IfOk result (IsAnswerBy (regex_kind re.now) earliest (search_for (sought re.now) input.old)) }
-    ensures within { IfOk result (λ o. IfSome o (λ m. (low input.old ≤ m.start) × (m.start ≤ m.end) × (m.end ≤ high input.old))) }
+    ensures within { IfOk result (λ o. IfSome o (IsWithinBounds input.old)) }
     ensures fault { IfErr result (IsFaultOf re.now input.old cache.old cache.new) }
     ensures clears { ClearsWhereShort re.now input.old cache.old cache.new }
     ensures grows { GrowsWhereRoomy re.now input.old cache.old cache.new }

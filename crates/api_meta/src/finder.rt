@@ -50,6 +50,7 @@ impl<'r> Finder<'r> {
     ghost use Rattle.rc_program.specs.Sought.{search_for};
     ghost use Rattle.rc_settings.specs.Settings.{match_kind_of};
     ghost use Rattle.rc_text.specs.Found.{half_of};
+    ghost use Rattle.rc_text.specs.Bounds.{IsWithinBounds};
     ghost use Rattle.rc_text.specs.Text.{Keeps, high, low};
     ghost use Rattle.rc_text.specs.declared.types.MatchKind.TheVariants.{LeftmostFirst};
 
@@ -79,7 +80,7 @@ impl<'r> Finder<'r> {
         ensures found_by { is_early input.old.earliest (search_for (sought self.old) input.old) ≡ false
             → result ≡ answer_by (regex_kind self.old) (search_for (sought self.old) input.old) }
         ensures may { IsAnswerBy (regex_kind self.old) input.old.earliest (search_for (sought self.old) input.old) result }
-        ensures within { IfSome result (λ m. (low input.old ≤ m.start) × (m.start ≤ m.end) × (m.end ≤ high input.old)) }
+        ensures within { IfSome result (IsWithinBounds input.old) }
     {
         self.regex.search_with(&mut self.cache, input)
     }

@@ -43,7 +43,7 @@ pub struct CapturesMatchesWith<'r, 'c, 'i, C: Cursor> {
 }
 
 impl Regex {
-    ghost use Rattle.std.specs.Prelude.{◌≡◌, ◌≢◌, ◌≤◌, ◌<◌, ◌^◌, All, None, length};
+    ghost use Rattle.std.specs.Prelude.{◌≡◌, ◌≢◌, ◌<◌, ◌^◌, All, None, length};
     ghost use Rattle.rc_pikevm_search.specs.Walks.{walks_left};
     ghost use Rattle.api_meta.specs.Caches.{IsCacheFor};
     ghost use Rattle.api_meta.specs.Left.{CapturesLaw, MatchedLaw, captures_walks};
@@ -53,7 +53,7 @@ impl Regex {
     ghost use Rattle.rc_program.specs.Matches.{matches_left};
     ghost use Rattle.rc_program.specs.Sought.{search_for};
     ghost use Rattle.rc_settings.specs.Settings.{match_kind_of};
-    ghost use Rattle.rc_text.specs.Text.{low, high};
+    ghost use Rattle.rc_text.specs.Bounds.{IsWithinBounds};
     ghost use Rattle.rc_text.specs.declared.types.MatchKind.TheVariants.{All as greatest_matches, LeftmostFirst};
 
     /// The matches of `find_iter`, in a cache that was made for this regex. Neither this call nor
@@ -71,7 +71,7 @@ impl Regex {
             → find_with_left result ≡ matches_left (search_for (sought self.now) input.old) input.old.span.start None }
         ensures left_by { find_with_left result
             ≡ matches_by_kind (regex_kind self.now) (search_for (sought self.now) input.old) input.old.span.start None }
-        ensures within { All (λ m. (low input.old ≤ m.start) × (m.start ≤ m.end) × (m.end ≤ high input.old)) (find_with_left result) }
+        ensures within { All (IsWithinBounds input.old) (find_with_left result) }
         ensures short { length (find_with_left result) < 2 ^ 64 }
         ensures regex { find_with_regex result ≡ self.now }
         ensures input { find_with_input result ≡ input.old }

@@ -60,6 +60,7 @@ impl Regex {
     ghost use Rattle.rc_text.specs.Found.{Found, half_of};
     ghost use Rattle.rc_program.specs.Laws.{all_groups};
     ghost use Rattle.api_meta.specs.Counts.{static_captures_len};
+    ghost use Rattle.rc_text.specs.Bounds.{IsWithinBounds};
     ghost use Rattle.rc_text.specs.Text.{Keeps, low, high};
     ghost use Rattle.rc_text.specs.declared.types.MatchKind.TheVariants.{All as greatest_matches, LeftmostFirst};
     ghost use Rattle.rc_program.specs.Answer.{answer, groups};
@@ -146,7 +147,7 @@ impl Regex {
         ensures found_by { is_early input.earliest (search_for (sought self.now) input) ≡ false
             → IfOk result (λ m. m ≡ answer_by (regex_kind self.now) (search_for (sought self.now) input)) }
         ensures may { IfOk result (IsAnswerBy (regex_kind self.now) input.earliest (search_for (sought self.now) input)) }
-        ensures within { IfOk result (λ o. IfSome o (λ m. (low input ≤ m.start) × (m.start ≤ m.end) × (m.end ≤ high input))) }
+        ensures within { IfOk result (λ o. IfSome o (IsWithinBounds input)) }
     {
         early::search_once(&self.engines, alloc, &mut input)
     }
@@ -160,7 +161,7 @@ impl Regex {
         ensures found_by { is_early input.earliest (search_for (sought self.now) input) ≡ false
             → IfOk result (λ m. m ≡ answer_by (regex_kind self.now) (search_for (sought self.now) input)) }
         ensures may { IfOk result (IsAnswerBy (regex_kind self.now) input.earliest (search_for (sought self.now) input)) }
-        ensures within { IfOk result (λ o. IfSome o (λ m. (low input ≤ m.start) × (m.start ≤ m.end) × (m.end ≤ high input))) }
+        ensures within { IfOk result (λ o. IfSome o (IsWithinBounds input)) }
     {
         let found = self.find(alloc, input)?;
         Ok(found)
@@ -178,7 +179,7 @@ impl Regex {
         ensures found_by { is_early input.old.earliest (search_for (sought self.now) input.old) ≡ false
             → result ≡ answer_by (regex_kind self.now) (search_for (sought self.now) input.old) }
         ensures may { IsAnswerBy (regex_kind self.now) input.old.earliest (search_for (sought self.now) input.old) result }
-        ensures within { IfSome result (λ m. (low input.old ≤ m.start) × (m.start ≤ m.end) × (m.end ≤ high input.old)) }
+        ensures within { IfSome result (IsWithinBounds input.old) }
     {
         early::search(&self.engines, &mut cache.inner, input)
     }
@@ -364,7 +365,7 @@ impl Regex {
             → IfOk result (HoldsPreferred (sought self.now) input) }
         ensures told_by { IfOk result (TellsBy (regex_kind self.now) (search_for (sought self.now) input)) }
         ensures matched_by { IfOk result (λ c. match_of c ≡ answer_by (regex_kind self.now) (search_for (sought self.now) input)) }
-        ensures within { IfOk result (λ c. IfSome (match_of c) (λ m. (low input ≤ m.start) × (m.start ≤ m.end) × (m.end ≤ high input))) }
+        ensures within { IfOk result (λ c. IfSome (match_of c) (IsWithinBounds input)) }
     {
         let mut caps = self.create_captures(alloc)?;
         self.search_captures(alloc, input, &mut caps)?;
@@ -386,7 +387,7 @@ impl Regex {
         ensures told_by { OnOk result (TellsBy (regex_kind self.now) (search_for (sought self.now) input) caps.new) }
         ensures matched_by { OnOk result (match_of caps.new ≡ answer_by (regex_kind self.now) (search_for (sought self.now) input)) }
         ensures within { OnOk result (IfSome (match_of caps.new)
-            (λ m. (low input ≤ m.start) × (m.start ≤ m.end) × (m.end ≤ high input))) }
+            (IsWithinBounds input)) }
     {
         captures::clear(caps);
         let mut cache = self.create_cache(alloc)?;
@@ -416,7 +417,7 @@ impl Regex {
         ensures told_by { TellsBy (regex_kind self.now) (search_for (sought self.now) input.old) caps.new }
         ensures matched_by { match_of caps.new ≡ answer_by (regex_kind self.now) (search_for (sought self.now) input.old) }
         ensures within { IfSome (match_of caps.new)
-            (λ m. (low input.old ≤ m.start) × (m.start ≤ m.end) × (m.end ≤ high input.old)) }
+            (IsWithinBounds input.old) }
     {
         self.engines.find_captures(&mut cache.inner, input, caps);
     }
@@ -477,7 +478,7 @@ impl Regex {
         ensures left { match_kind_of (regex_settings self.now) ≡ LeftmostFirst
             → IfOk result (λ s. find_left s ≡ matches_left (search_for (sought self.now) input) input.span.start None) }
         ensures left_by { IfOk result (λ s. find_left s ≡ matches_by_kind (regex_kind self.now) (search_for (sought self.now) input) input.span.start None) }
-        ensures within { IfOk result (λ s. All (λ m. (low input ≤ m.start) × (m.start ≤ m.end) × (m.end ≤ high input)) (find_left s)) }
+        ensures within { IfOk result (λ s. All (IsWithinBounds input) (find_left s)) }
         ensures short { IfOk result (λ s. length (find_left s) < 2 ^ 64) }
         ensures regex { IfOk result (λ s. find_regex s ≡ self.now) }
         ensures input { IfOk result (λ s. find_input s ≡ input) }

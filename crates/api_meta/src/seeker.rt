@@ -1,7 +1,8 @@
 //! Iteration state: if the next match of a list is searched for, in a borrowed input.
 
-ghost use Rattle.std.specs.Prelude.{◌≡◌, ◌≤◌, IfSome};
-ghost use Rattle.rc_text.specs.Text.{Keeps, high, low};
+ghost use Rattle.std.specs.Prelude.{◌≡◌, IfSome};
+ghost use Rattle.rc_text.specs.Bounds.{IsWithinBounds};
+ghost use Rattle.rc_text.specs.Text.{Keeps};
 ghost use Rattle.rc_program.specs.Kinds.{answer_by, answer_by_from};
 ghost use Rattle.rc_program.specs.Matches.{begin_of, end_of, next_match};
 ghost use Rattle.rc_captures.specs.Groups.{names_of};
@@ -95,7 +96,7 @@ fn find_groups<C: Cursor>(
     ensures whole { KeepsAll (regex_names regex.now) caps.new }
     ensures told { TellsBy regex.now.engines.engine.kind (engine_search regex.now.engines.engine input.old) caps.new }
     ensures found { result ≡ answer_by regex.now.engines.engine.kind (engine_search regex.now.engines.engine input.old) }
-    ensures within { IfSome result (λ m. (low input.old ≤ m.start) × (m.start ≤ m.end) × (m.end ≤ high input.old)) }
+    ensures within { IfSome result (IsWithinBounds input.old) }
 {
     regex.engines.find_captures(cache, input, caps);
     caps.get_match()
@@ -123,7 +124,7 @@ fn next_groups<C: Cursor>(
         ≡ next_start regex.now.engines.engine.kind (engine_search regex.now.engines.engine input.old) input.old.span.start last }
     ensures told { TellsBy regex.now.engines.engine.kind (engine_search regex.now.engines.engine input.new) caps.new }
     ensures there { result ≡ answer_by regex.now.engines.engine.kind (engine_search regex.now.engines.engine input.new) }
-    ensures within { IfSome result (λ m. (low input.new ≤ m.start) × (m.start ≤ m.end) × (m.end ≤ high input.new)) }
+    ensures within { IfSome result (IsWithinBounds input.new) }
 {
     let found = find_groups(regex, cache, input, caps)?;
     if !is_again(last, found) {

@@ -3,6 +3,7 @@ ghost use Rattle.std.specs.Prelude.{◌≡◌, ◌⊎◌, ◌↔◌, ◌+◌, �
 ghost use Rattle.std.specs.Option.{option_map};
 ghost use Rattle.rc_text.specs.Found.{Found};
 ghost use Rattle.rc_text.specs.Plain.{is_anchored};
+ghost use Rattle.rc_text.specs.Bounds.{IsWithinBounds};
 ghost use Rattle.rc_text.specs.Text.{Keeps, is_boundary, low, high};
 ghost use Rattle.rc_pattern.specs.Re.{Re};
 ghost use Rattle.rc_program.specs.Answer.{Search};
@@ -333,7 +334,7 @@ pub fn find<H: Halves, C: Cursor>(
     ensures keeps { Keeps input.old input.new }
     ensures found { (hs : List Re) (terminator : ℕ) → AreHalvesOf (H.AreOf halves.now) aim hs terminator
         → IfOk result (IsAnswerBy aim.kind aim.earliest (search_for aim hs terminator input.old)) }
-    ensures within { IfOk result (λ found. IfSome found (λ m. (low input.old ≤ m.start) × (m.start ≤ m.end) × (m.end ≤ high input.old))) }
+    ensures within { IfOk result (λ found. IfSome found (IsWithinBounds input.old)) }
     ensures fault { (hs : List Re) (terminator : ℕ) → AreHalvesOf (H.AreOf halves.now) aim hs terminator
         → IfErr result (IsFault hs (search_for aim hs terminator input.old) (H.GivesUp halves.now cache.old cache.new (cost input.old))) }
     ensures spends { H.Spends halves.now cache.old cache.new (cost input.old) }
@@ -426,7 +427,7 @@ pub fn find_to_end<H: Halves, C: Cursor>(
     ensures keeps { Keeps input.old input.new }
     ensures found { (hs : List Re) (terminator : ℕ) → AreHalvesOf (H.AreOf halves.now) aim hs terminator
         → IfOk result (IsMatchToEnd aim.earliest (search_for aim hs terminator input.old)) }
-    ensures within { IfOk result (λ found. IfSome found (λ m. (low input.old ≤ m.start) × (m.start ≤ m.end) × (m.end ≤ high input.old))) }
+    ensures within { IfOk result (λ found. IfSome found (IsWithinBounds input.old)) }
     ensures fault { (hs : List Re) (terminator : ℕ) → AreHalvesOf (H.AreOf halves.now) aim hs terminator
         → IfErr result (IsFault hs (search_for aim hs terminator input.old) (H.GivesUp halves.now cache.old cache.new (cost input.old))) }
     ensures spends { H.Spends halves.now cache.old cache.new (cost input.old) }

@@ -2,6 +2,7 @@
 //! least start, then the least pattern.
 ghost use Rattle.std.specs.Prelude.{◌≡◌, ℕ, ◌+◌, ◌-◌, ◌*◌, ◌<◌, ◌≤◌, ◌⊎◌, ⊤, ◌^◌, List, [], ◌++◌, length, map, min, Option, MatchOption, option_map};
 ghost use Rattle.rc_text.specs.Found.{Found};
+ghost use Rattle.rc_text.specs.Bounds.{IsWithinBounds};
 ghost use Rattle.rc_text.specs.Text.{Searched, Keeps, low, high};
 ghost use Rattle.rc_program.specs.Greatest.{greatest};
 ghost use Rattle.rc_program.specs.Programs.{search_of};
@@ -197,7 +198,7 @@ pub fn find_greatest<C: Cursor>(
     requires made { IsCacheFor (length program.now.places.items) 0 cache.old }
     ensures keeps { Keeps input.old input.new }
     ensures found { result ≡ greatest (search_of program.now input.old) }
-    ensures within { MatchOption result ⊤ (λ m. (low input.old ≤ m.start) × (m.start ≤ m.end) × (m.end ≤ high input.old)) }
+    ensures within { MatchOption result ⊤ (IsWithinBounds input.old) }
     ensures cache { cache.new ≡ record cache.old { insertions = cache.new.insertions } }
     ensures none { high input.old < low input.old → cache.new.insertions ≡ 0 }
     ensures few { cache.new.insertions ≤ length program.now.places.items * (high input.old - low input.old + 2) }

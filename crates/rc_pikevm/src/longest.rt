@@ -3,6 +3,7 @@
 ghost use Rattle.std.specs.Prelude.{◌≡◌, ℕ, ◌+◌, ◌-◌, ◌*◌, ◌<◌, ◌≤◌, ⊤, length, Option, Some, MatchOption, IfNone};
 ghost use Rattle.std.specs.Option.{option_map};
 ghost use Rattle.rc_text.specs.Found.{Found};
+ghost use Rattle.rc_text.specs.Bounds.{IsWithinBounds};
 ghost use Rattle.rc_text.specs.Text.{Keeps, low, high};
 ghost use Rattle.rc_program.specs.Longest.{longest, longest_groups};
 ghost use Rattle.rc_program.specs.Programs.{search_of};
@@ -152,7 +153,7 @@ pub fn find_longest<C: Cursor>(
     requires made { IsCacheFor (length program.now.places.items) 0 cache.old }
     ensures keeps { Keeps input.old input.new }
     ensures found { result ≡ longest (search_of program.now input.old) }
-    ensures bounds { MatchOption result ⊤ (λ m. (low input.old ≤ m.start) × (m.start ≤ m.end) × (m.end ≤ high input.old)) }
+    ensures bounds { MatchOption result ⊤ (IsWithinBounds input.old) }
     ensures cache { cache.new ≡ record cache.old { insertions = cache.new.insertions } }
     ensures none { high input.old < low input.old → cache.new.insertions ≡ 0 }
     ensures few { cache.new.insertions ≤ length program.now.places.items * (high input.old - low input.old + 2) }

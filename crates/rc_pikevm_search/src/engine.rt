@@ -25,13 +25,14 @@ pub struct Engine {
 }
 
 impl Engine {
-    ghost use Rattle.std.specs.Prelude.{◌≡◌, ◌≤◌, is_some, IfOk, IfSome, MatchOption, Option, Some, None, length};
+    ghost use Rattle.std.specs.Prelude.{◌≡◌, is_some, IfOk, IfSome, MatchOption, Option, Some, None, length};
     ghost use Rattle.std.specs.Option.{option_map};
     ghost use Rattle.rc_text.specs.Found.{Found};
     ghost use Rattle.rc_pikevm_search.specs.Walks.{next_start};
     ghost use Rattle.rc_pikevm.specs.KindSlots.{slots_by};
     ghost use Rattle.rc_program.specs.Kinds.{answer_by, answer_by_from};
-    ghost use Rattle.rc_text.specs.Text.{Keeps, low, high};
+    ghost use Rattle.rc_text.specs.Bounds.{IsWithinBounds};
+    ghost use Rattle.rc_text.specs.Text.{Keeps};
     ghost use Rattle.rc_program.specs.Matches.{begin_of, end_of, next_match};
     ghost use Rattle.rc_pikevm_search.specs.Engine.{engine_search, Counts, IsEngineCache, IsSameCache};
     ghost use Rattle.rc_pikevm_search.specs.Moved.{IsMoved};
@@ -50,7 +51,7 @@ impl Engine {
         requires made { IsEngineCache self.now 0 cache.old }
         ensures keeps { Keeps input.old input.new }
         ensures found { result ≡ answer_by self.now.kind (engine_search self.now input.old) }
-        ensures within { IfSome result (λ m. (low input.old ≤ m.start) × (m.start ≤ m.end) × (m.end ≤ high input.old)) }
+        ensures within { IfSome result (IsWithinBounds input.old) }
         ensures cache { IsSameCache cache.old cache.new }
         ensures counts { Counts self.now input.new result cache.old cache.new }
     {
@@ -130,7 +131,7 @@ impl Engine {
         ensures start { input.new.span.start
             ≡ next_start self.now.kind (engine_search self.now input.old) input.old.span.start last }
         ensures there { result ≡ answer_by self.now.kind (engine_search self.now input.new) }
-        ensures within { IfSome result (λ m. (low input.new ≤ m.start) × (m.start ≤ m.end) × (m.end ≤ high input.new)) }
+        ensures within { IfSome result (IsWithinBounds input.new) }
         ensures cache { IsSameCache cache.old cache.new }
         ensures counts { Counts self.now input.new result cache.old cache.new }
     {

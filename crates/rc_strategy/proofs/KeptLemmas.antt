@@ -1,12 +1,13 @@
 -- What is told of an input whose text and bounds are those of another.
 use Rattle.std.proofs.Common.{◌≡◌, ◌≤◌, Option, Some, None, IfSome, sym, subst, arith}
 use Rattle.std.specs.Option.{option_map}
+use Rattle.rc_text.specs.Bounds.{IsWithinBounds}
 use Rattle.rc_text.specs.Found.{Found, HalfFound, half_of}
 use Rattle.rc_text.specs.Text.{Searched, Keeps, high, low}
 use Rattle.rc_dfa_search.proofs.ToldLemmas.{kept_high, kept_low}
 
 abbrev Lies : Searched → Option Found → Type 0
-Lies s o = IfSome o (λ m. (low s ≤ m.start) × (m.start ≤ m.end) × (m.end ≤ high s))
+Lies s o = IfSome o (IsWithinBounds s)
 
 abbrev HalfLies : Searched → Option HalfFound → Type 0
 HalfLies s o = IfSome o (λ half. (low s ≤ half.offset) × (half.offset ≤ high s))

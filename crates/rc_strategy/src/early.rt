@@ -1,6 +1,7 @@
 //! Earliest searches: any match will do, and a search reads no further than to the first position
 //! at which one ends. If matches may be rejected, the flag is read as off.
 ghost use Rattle.std.specs.Prelude.{◌≡◌, ◌≤◌, true, IfOk, IfSome};
+ghost use Rattle.rc_text.specs.Bounds.{IsWithinBounds};
 ghost use Rattle.rc_text.specs.Text.{Keeps, low, high};
 ghost use Rattle.rc_program.specs.Greatest.{IsSpelledIn};
 ghost use Rattle.rc_program.specs.Kinds.{IsAnswerBy, is_early};
@@ -47,7 +48,7 @@ fn find_up_to<C: Cursor>(
     requires within { (low input.old ≤ end) × (end ≤ high input.old) }
     ensures keeps { Keeps input.old input.new }
     ensures spelled { IfSome result (IsSpelledIn (engine_search engine.now input.old)) }
-    ensures within { IfSome result (λ m. (low input.old ≤ m.start) × (m.start ≤ m.end) × (m.end ≤ high input.old)) }
+    ensures within { IfSome result (IsWithinBounds input.old) }
     ensures cache { IsSameCache cache.old cache.new }
 {
     let span = input.get_span();
@@ -68,7 +69,7 @@ fn find_by_pass<C: Cursor>(
     requires early { is_early input.old.earliest (engine_search engine.now input.old) ≡ true }
     ensures keeps { Keeps input.old input.new }
     ensures may { IsAnswerBy engine.now.kind input.old.earliest (engine_search engine.now input.old) result }
-    ensures within { IfSome result (λ m. (low input.old ≤ m.start) × (m.start ≤ m.end) × (m.end ≤ high input.old)) }
+    ensures within { IfSome result (IsWithinBounds input.old) }
     ensures cache { IsSameCache cache.old cache.new }
 {
     if literals_of(&engine.strategy, engine.kind).is_some() {
@@ -99,7 +100,7 @@ fn find_along<H: Halves, C: Cursor>(
     ensures cache { H.IsCache halves.now cache.new }
     ensures keeps { Keeps input.old input.new }
     ensures may { IfOk result (IsAnswerBy engines.now.engine.kind input.old.earliest (engine_search engines.now.engine input.old)) }
-    ensures within { IfOk result (λ found. IfSome found (λ m. (low input.old ≤ m.start) × (m.start ≤ m.end) × (m.end ≤ high input.old))) }
+    ensures within { IfOk result (λ found. IfSome found (IsWithinBounds input.old)) }
 {
     let aim = Aim {
         earliest: input.get_earliest(),
@@ -124,7 +125,7 @@ fn find_by_tables<H: Halves, C: Cursor>(
     ensures cache { H.IsCache halves.now cache.new }
     ensures keeps { Keeps input.old input.new }
     ensures may { IfOk result (IsAnswerBy engines.now.engine.kind input.old.earliest (engine_search engines.now.engine input.old)) }
-    ensures within { IfOk result (λ found. IfSome found (λ m. (low input.old ≤ m.start) × (m.start ≤ m.end) × (m.end ≤ high input.old))) }
+    ensures within { IfOk result (λ found. IfSome found (IsWithinBounds input.old)) }
 {
     match engines.route(input) {
         Route::FromEnd => engines.find_from_end(halves, cache, input),
@@ -145,7 +146,7 @@ fn find_in<C: Cursor>(
     requires made { IsCacheOfBoth engines.now.lazy cache.old }
     ensures keeps { Keeps input.old input.new }
     ensures may { IfSome result (IsAnswerBy engines.now.engine.kind input.old.earliest (engine_search engines.now.engine input.old)) }
-    ensures within { IfSome result (λ found. IfSome found (λ m. (low input.old ≤ m.start) × (m.start ≤ m.end) × (m.end ≤ high input.old))) }
+    ensures within { IfSome result (λ found. IfSome found (IsWithinBounds input.old)) }
     ensures cache { KeepsStates engines.now.lazy cache.old cache.new }
 {
     match engines.way(cache.is_some()) {
@@ -173,7 +174,7 @@ pub fn search<C: Cursor>(
     requires made { IsCacheIn engines.now 0 cache.old }
     ensures keeps { Keeps input.old input.new }
     ensures may { IsAnswerBy engines.now.engine.kind input.old.earliest (engine_search engines.now.engine input.old) result }
-    ensures within { IfSome result (λ m. (low input.old ≤ m.start) × (m.start ≤ m.end) × (m.end ≤ high input.old)) }
+    ensures within { IfSome result (IsWithinBounds input.old) }
     ensures cache { IsSameCacheIn engines.now cache.old cache.new }
 {
     if !is_early(&engines.engine, input) {
@@ -215,7 +216,7 @@ pub fn search_once<C: Cursor>(
 ) -> Result<Option<Match>, AllocError>
     ensures keeps { Keeps input.old input.new }
     ensures may { IfOk result (IsAnswerBy engines.now.engine.kind input.old.earliest (engine_search engines.now.engine input.old)) }
-    ensures within { IfOk result (λ found. IfSome found (λ m. (low input.old ≤ m.start) × (m.start ≤ m.end) × (m.end ≤ high input.old))) }
+    ensures within { IfOk result (λ found. IfSome found (IsWithinBounds input.old)) }
 {
     if !is_early(&engines.engine, input) {
         return engines.find_once(alloc, input);

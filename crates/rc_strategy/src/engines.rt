@@ -94,6 +94,7 @@ impl Engines {
     ghost use Rattle.rc_program.specs.Laws.{heaviness};
     ghost use Rattle.rc_program.specs.Places.{places_of};
     ghost use Rattle.rc_program.specs.Program.{program};
+    ghost use Rattle.rc_text.specs.Bounds.{IsWithinBounds};
     ghost use Rattle.rc_text.specs.Text.{Keeps, low, high};
     ghost use Rattle.rc_program.specs.Matches.{begin_of, end_of, next_match};
     ghost use Rattle.rc_pikevm_search.specs.Engine.{engine_search};
@@ -203,7 +204,7 @@ impl Engines {
         ensures cache { H.IsCache halves.now cache.new }
         ensures keeps { Keeps input.old input.new }
         ensures found { IfOk result (λ found. found ≡ answer_by self.now.engine.kind (engine_search self.now.engine input.old)) }
-        ensures within { IfOk result (λ found. IfSome found (λ m. (low input.old ≤ m.start) × (m.start ≤ m.end) × (m.end ≤ high input.old))) }
+        ensures within { IfOk result (λ found. IfSome found (IsWithinBounds input.old)) }
     {
         search::find_to_end(halves, cache, input, self.aim())
     }
@@ -222,7 +223,7 @@ impl Engines {
         ensures cache { H.IsCache halves.now cache.new }
         ensures keeps { Keeps input.old input.new }
         ensures found { IfOk result (λ found. found ≡ answer_by self.now.engine.kind (engine_search self.now.engine input.old)) }
-        ensures within { IfOk result (λ found. IfSome found (λ m. (low input.old ≤ m.start) × (m.start ≤ m.end) × (m.end ≤ high input.old))) }
+        ensures within { IfOk result (λ found. IfSome found (IsWithinBounds input.old)) }
     {
         match self.route(input) {
             Route::FromEnd => self.find_from_end(halves, cache, input),
@@ -250,7 +251,7 @@ impl Engines {
         ensures cache { H.IsCache halves.now cache.new }
         ensures keeps { Keeps input.old input.new }
         ensures found { IfOk result (λ found. found ≡ answer_by self.now.engine.kind (engine_search self.now.engine input.old)) }
-        ensures within { IfOk result (λ found. IfSome found (λ m. (low input.old ≤ m.start) × (m.start ≤ m.end) × (m.end ≤ high input.old))) }
+        ensures within { IfOk result (λ found. IfSome found (IsWithinBounds input.old)) }
     {
         if let Some(guard) = guard {
             return self.find_by_needles(halves, cache, input, guard);
@@ -278,7 +279,7 @@ impl Engines {
         ensures cache { H.IsCache halves.now cache.new }
         ensures keeps { Keeps input.old input.new }
         ensures found { IfOk result (λ found. found ≡ answer_by self.now.engine.kind (engine_search self.now.engine input.old)) }
-        ensures within { IfOk result (λ found. IfSome found (λ m. (low input.old ≤ m.start) × (m.start ≤ m.end) × (m.end ≤ high input.old))) }
+        ensures within { IfOk result (λ found. IfSome found (IsWithinBounds input.old)) }
     {
         let aim = self.aim();
         match guard {
@@ -304,7 +305,7 @@ impl Engines {
         ensures cache { H.IsCache halves.now cache.new }
         ensures keeps { Keeps input.old input.new }
         ensures found { IfOk result (λ found. found ≡ answer_by self.now.engine.kind (engine_search self.now.engine input.old)) }
-        ensures within { IfOk result (λ found. IfSome found (λ m. (low input.old ≤ m.start) × (m.start ≤ m.end) × (m.end ≤ high input.old))) }
+        ensures within { IfOk result (λ found. IfSome found (IsWithinBounds input.old)) }
     {
         let aim = self.aim();
         let found = find_first(halves, cache, input, aim, needles, false);
@@ -358,7 +359,7 @@ impl Engines {
         ensures cache { H.IsCache halves.now cache.new }
         ensures keeps { Keeps input.old input.new }
         ensures found { IfOk result (λ found. found ≡ answer_by self.now.engine.kind (engine_search self.now.engine input.old)) }
-        ensures within { IfOk result (λ found. IfSome found (λ m. (low input.old ≤ m.start) × (m.start ≤ m.end) × (m.end ≤ high input.old))) }
+        ensures within { IfOk result (λ found. IfSome found (IsWithinBounds input.old)) }
     {
         let Some(half) = self.find_first_end(halves, cache, input, guard)? else {
             return Ok(None);
@@ -507,7 +508,7 @@ impl Engines {
         requires made { IsCacheOfBoth self.now.lazy cache.old }
         ensures keeps { Keeps input.old input.new }
         ensures found { IfSome result (λ found. found ≡ answer_by self.now.engine.kind (engine_search self.now.engine input.old)) }
-        ensures within { IfSome result (λ found. IfSome found (λ m. (low input.old ≤ m.start) × (m.start ≤ m.end) × (m.end ≤ high input.old))) }
+        ensures within { IfSome result (λ found. IfSome found (IsWithinBounds input.old)) }
         ensures cache { KeepsStates self.now.lazy cache.old cache.new }
     {
         match self.way(cache.is_some()) {
@@ -572,7 +573,7 @@ impl Engines {
         requires made { IsCacheIn self.now 0 cache.old }
         ensures keeps { Keeps input.old input.new }
         ensures found { result ≡ answer_by self.now.engine.kind (engine_search self.now.engine input.old) }
-        ensures within { IfSome result (λ m. (low input.old ≤ m.start) × (m.start ≤ m.end) × (m.end ≤ high input.old)) }
+        ensures within { IfSome result (IsWithinBounds input.old) }
         ensures cache { IsSameCacheIn self.now cache.old cache.new }
     {
         if self.spans.leave_none(input) {
@@ -664,7 +665,7 @@ impl Engines {
         ensures start { input.new.span.start
             ≡ next_start self.now.engine.kind (engine_search self.now.engine input.old) input.old.span.start last }
         ensures there { result ≡ answer_by self.now.engine.kind (engine_search self.now.engine input.new) }
-        ensures within { IfSome result (λ m. (low input.new ≤ m.start) × (m.start ≤ m.end) × (m.end ≤ high input.new)) }
+        ensures within { IfSome result (IsWithinBounds input.new) }
         ensures cache { IsSameCacheIn self.now cache.old cache.new }
     {
         let found = self.find(cache, input)?;

@@ -1,6 +1,7 @@
 //! Anchored probe: a search first asks whether a match begins at the first candidate. Positions are
 //! in bytes of the whole content.
 ghost use Rattle.std.specs.Prelude.{◌≡◌, ◌↔◌, ◌<◌, ◌≤◌, ℕ, Bool, List, MatchOption, IfOk, IfSome, IsTrue, length, slice_index};
+ghost use Rattle.rc_text.specs.Bounds.{IsWithinBounds};
 ghost use Rattle.rc_text.specs.Text.{Keeps, low, high};
 ghost use Rattle.rc_pattern.specs.Re.{Re};
 ghost use Rattle.rc_program.specs.Program.{Place, program};
@@ -174,7 +175,7 @@ pub(crate) fn find_later<H: Halves, C: Cursor>(
     ensures keeps { Keeps input.old input.new }
     ensures found { (hs : List Re) (terminator : ℕ) → AreHalvesOf (H.AreOf halves.now) aim hs terminator
         → IfOk result (IsAnswerBy aim.kind aim.earliest (record (search_for aim hs terminator input.old) { lo = from })) }
-    ensures within { IfOk result (λ found. IfSome found (λ m. (low input.old ≤ m.start) × (m.start ≤ m.end) × (m.end ≤ high input.old))) }
+    ensures within { IfOk result (λ found. IfSome found (IsWithinBounds input.old)) }
 {
     let span = input.get_span();
     input.set_start(from);
@@ -202,7 +203,7 @@ fn find_on<H: Halves, C: Cursor>(
     ensures keeps { Keeps input.old input.new }
     ensures found { (hs : List Re) (terminator : ℕ) → AreHalvesOf (H.AreOf halves.now) aim hs terminator → Guards (program hs) terminator (needles_of needles.now)
         → IfOk result (IsAnswerBy aim.kind aim.earliest (record (search_for aim hs terminator input.old) { lo = from })) }
-    ensures within { IfOk result (λ found. IfSome found (λ m. (low input.old ≤ m.start) × (m.start ≤ m.end) × (m.end ≤ high input.old))) }
+    ensures within { IfOk result (λ found. IfSome found (IsWithinBounds input.old)) }
 {
     if !are_fast {
         return find_later(halves, cache, input, aim, from);
@@ -231,7 +232,7 @@ fn find_by_first<H: Halves, C: Cursor>(
     ensures keeps { Keeps input.old input.new }
     ensures found { (hs : List Re) (terminator : ℕ) → AreHalvesOf (H.AreOf halves.now) aim hs terminator → Guards (program hs) terminator (needles_of needles.now)
         → IfOk result (λ found. found ≡ answer_by aim.kind (search_for aim hs terminator input.old)) }
-    ensures within { IfOk result (λ found. IfSome found (λ m. (low input.old ≤ m.start) × (m.start ≤ m.end) × (m.end ≤ high input.old))) }
+    ensures within { IfOk result (λ found. IfSome found (IsWithinBounds input.old)) }
 {
     let hi = high(input);
     let lo = low(input);
@@ -265,7 +266,7 @@ pub(crate) fn find_first<H: Halves, C: Cursor>(
     ensures keeps { Keeps input.old input.new }
     ensures found { (hs : List Re) (terminator : ℕ) → AreHalvesOf (H.AreOf halves.now) aim hs terminator → Guards (program hs) terminator (needles_of needles.now)
         → IfOk result (IsAnswerBy aim.kind aim.earliest (search_for aim hs terminator input.old)) }
-    ensures within { IfOk result (λ found. IfSome found (λ m. (low input.old ≤ m.start) × (m.start ≤ m.end) × (m.end ≤ high input.old))) }
+    ensures within { IfOk result (λ found. IfSome found (IsWithinBounds input.old)) }
 {
     if asks_first(aim, input.get_anchored()) {
         return find_by_first(halves, cache, input, aim, needles, are_fast);

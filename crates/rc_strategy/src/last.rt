@@ -1,6 +1,7 @@
-//! Reverse search from the end, for `MatchKind::All`.
-ghost use Rattle.std.specs.Prelude.{◌≡◌, ◌≤◌, IfOk, IfSome};
-ghost use Rattle.rc_text.specs.Text.{Keeps, low, high};
+//! The greatest match, sought from where the search ends.
+ghost use Rattle.std.specs.Prelude.{◌≡◌, IfOk, IfSome};
+ghost use Rattle.rc_text.specs.Bounds.{IsWithinBounds};
+ghost use Rattle.rc_text.specs.Text.{Keeps};
 ghost use Rattle.rc_program.specs.Kinds.{answer_by};
 ghost use Rattle.rc_pikevm_search.specs.Engine.{engine_search};
 ghost use Rattle.rc_strategy.specs.Spans.{SeeksGreatestFromEnd};
@@ -27,7 +28,7 @@ pub(crate) fn find_greatest_from_end<H: Halves, C: Cursor>(
     ensures cache { H.IsCache halves.now cache.new }
     ensures keeps { Keeps input.old input.new }
     ensures found { IfOk result (λ found. found ≡ answer_by engines.now.engine.kind (engine_search engines.now.engine input.old)) }
-    ensures within { IfOk result (λ found. IfSome found (λ m. (low input.old ≤ m.start) × (m.start ≤ m.end) × (m.end ≤ high input.old))) }
+    ensures within { IfOk result (λ found. IfSome found (IsWithinBounds input.old)) }
 {
     let aim = Aim {
         passes_over: false,

@@ -1,6 +1,7 @@
 //! Prefiltered match tests: any match will do, and the search goes from one literal to the next.
 //! Positions are in bytes of the whole content.
 ghost use Rattle.std.specs.Prelude.{◌≡◌, ◌↔◌, ◌≤◌, ℕ, List, IsTrue, IfOk, IfNone, IfSome};
+ghost use Rattle.rc_text.specs.Bounds.{IsWithinBounds};
 ghost use Rattle.rc_text.specs.Text.{Keeps, low, high};
 ghost use Rattle.rc_text.specs.declared.types.Anchored.TheVariants.{No};
 ghost use Rattle.rc_pattern.specs.Re.{Re};
@@ -157,7 +158,7 @@ fn find_by_needles<H: Halves, C: Cursor>(
     ensures keeps { Keeps input.old input.new }
     ensures found { (hs : List Re) (terminator : ℕ) → AreHalvesOf (H.AreOf halves.now) aim hs terminator → IsGuard (program hs) terminator guard.entry
         → IfOk result (IsAnswerBy aim.kind aim.earliest (search_for aim hs terminator input.old)) }
-    ensures within { IfOk result (λ found. IfSome found (λ m. (low input.old ≤ m.start) × (m.start ≤ m.end) × (m.end ≤ high input.old))) }
+    ensures within { IfOk result (λ found. IfSome found (IsWithinBounds input.old)) }
 {
     let hi = high(input);
     let lo = low(input);
@@ -186,7 +187,7 @@ pub(crate) fn find_early_guarded<H: Halves, C: Cursor>(
     ensures keeps { Keeps input.old input.new }
     ensures found { (hs : List Re) (terminator : ℕ) → AreHalvesOf (H.AreOf halves.now) aim hs terminator → IsGuard (program hs) terminator guard.entry
         → IfOk result (IsAnswerBy aim.kind aim.earliest (search_for aim hs terminator input.old)) }
-    ensures within { IfOk result (λ found. IfSome found (λ m. (low input.old ≤ m.start) × (m.start ≤ m.end) × (m.end ≤ high input.old))) }
+    ensures within { IfOk result (λ found. IfSome found (IsWithinBounds input.old)) }
 {
     if goes_early(aim, input.get_anchored()) {
         return find_by_needles(halves, cache, input, aim, guard);

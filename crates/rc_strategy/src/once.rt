@@ -16,6 +16,7 @@ impl Engines {
     ghost use Rattle.std.specs.Prelude.{◌≡◌, ◌≤◌, is_some, IfOk, IfSome};
     ghost use Rattle.std.specs.Option.{option_map};
     ghost use Rattle.rc_text.specs.Found.{half_of};
+    ghost use Rattle.rc_text.specs.Bounds.{IsWithinBounds};
     ghost use Rattle.rc_text.specs.Text.{Keeps, low, high};
     ghost use Rattle.rc_program.specs.Kinds.{answer_by};
     ghost use Rattle.rc_pikevm_search.specs.Engine.{engine_search};
@@ -53,7 +54,7 @@ impl Engines {
     ) -> Result<Option<Match>, AllocError>
         ensures keeps { Keeps input.old input.new }
         ensures found { IfOk result (λ found. found ≡ answer_by self.now.engine.kind (engine_search self.now.engine input.old)) }
-        ensures within { IfOk result (λ found. IfSome found (λ m. (low input.old ≤ m.start) × (m.start ≤ m.end) × (m.end ≤ high input.old))) }
+        ensures within { IfOk result (λ found. IfSome found (IsWithinBounds input.old)) }
     {
         if self.spans.leave_none(input) {
             return Ok(None);

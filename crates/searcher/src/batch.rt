@@ -6,7 +6,8 @@ ghost use Rattle.api_meta.specs.Views.{regex_kind, regex_patterns, regex_setting
 ghost use Rattle.rc_program.specs.Kinds.{answer_by, answer_by_from, matches_by_kind};
 ghost use Rattle.rc_program.specs.Matches.{begin_of, end_of, next_match};
 ghost use Rattle.rc_program.specs.Sought.{search_for};
-ghost use Rattle.rc_text.specs.Text.{Keeps, high, low};
+ghost use Rattle.rc_text.specs.Bounds.{IsWithinBounds};
+ghost use Rattle.rc_text.specs.Text.{Keeps, high};
 ghost use Rattle.searcher.specs.Places.{IsFilled};
 
 use crate::answers::MatchAt;
@@ -39,7 +40,7 @@ pub(crate) fn search<C: Cursor>(
     ensures cache { IsCacheFor (regex_patterns regex.now) (regex_settings regex.now) cache.new }
     ensures keeps { Keeps input.old input.new }
     ensures found { result ≡ answer_by (regex_kind regex.now) (search_for (sought regex.now) input.old) }
-    ensures within { IfSome result (λ m. (low input.old ≤ m.start) × (m.start ≤ m.end) × (m.end ≤ high input.old)) }
+    ensures within { IfSome result (IsWithinBounds input.old) }
 {
     regex.search_with(cache, input)
 }
@@ -50,7 +51,7 @@ fn first<C: Cursor>(regex: &Regex, cache: &mut Cache, input: &mut Input<C>) -> O
     ensures cache { IsCacheFor (regex_patterns regex.now) (regex_settings regex.now) cache.new }
     ensures moves { IsMoved input.old input.new }
     ensures found { result ≡ answer_by (regex_kind regex.now) (search_for (sought regex.now) input.old) }
-    ensures within { IfSome result (λ m. (low input.old ≤ m.start) × (m.start ≤ m.end) × (m.end ≤ high input.old)) }
+    ensures within { IfSome result (IsWithinBounds input.old) }
 {
     let mut matches = regex.find_iter_with(cache, input);
     matches.next()

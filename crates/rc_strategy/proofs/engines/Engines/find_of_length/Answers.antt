@@ -1,5 +1,6 @@
 use Rattle.std.proofs.Common.{◌≡◌, ◌∙◌, ◌-◌, ◌≤◌, Some, IfSome, ap, subst, sym}
 use Rattle.rc_text.specs.Found.{Found, HalfFound}
+use Rattle.rc_text.specs.Bounds.{IsWithinBounds}
 use Rattle.rc_text.specs.Text.{high, low}
 use Rattle.rc_pikevm_search.specs.Engine.{engine_search}
 use Rattle.rc_program.specs.Kinds.{answer_by}
@@ -30,5 +31,5 @@ pub returns-clause-within : goal.returns-clause-within
 returns-clause-within g c =
     let t = told g c in
     let half = subst (λ o. IfSome o (λ (h : HalfFound). (low c.args.input.now ≤ h.offset) × (h.offset ≤ high c.args.input.now))) c.in-Some.is c.in_ok-half.ensures.within in
-    subst (λ (m : Found). (low c.args.input.now ≤ m.start) × (m.start ≤ m.end) × (m.end ≤ high c.args.input.now)) (sym (made g c))
+    subst (IsWithinBounds c.args.input.now) (sym (made g c))
     (t.1, t.2, half.1)
