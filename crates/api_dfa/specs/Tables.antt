@@ -1,5 +1,6 @@
 -- What the tables of patterns are made from, and what they weigh.
 use Rattle.std.specs.Prelude.{◌≡◌, ℕ, ◌≤◌, ◌⊎◌, List, length, Option, Some}
+use Rattle.rc_text.specs.Limits.{most_patterns}
 use Rattle.rc_text.specs.declared.types.MatchKind.{MatchKind}
 use Rattle.rc_program.specs.Program.{shown}
 use Rattle.rc_program.specs.Sought.{Sought}
@@ -16,7 +17,7 @@ pub record AreTables (q : Sought) (kind : MatchKind) (tables : Dense) : Type 0 w
   pub behind : Machine
   pub machines : AreMachines (shown q.grouped q.patterns) q.terminator kind ahead behind
   pub halves : AreHalves tables ahead behind
-  pub few : length q.patterns ≤ 2147483647
+  pub few : length q.patterns ≤ most_patterns
 
 -- From what tables of it are made: the machines, and so many classes of bytes, of one of which none is told from another.
 pub record AreSources (q : Sought) (kind : MatchKind) (ahead behind : Machine) (count : ℕ) : Type 0 where

@@ -1,6 +1,7 @@
 //! DFA builder: settings, and patterns built under them.
 
 ghost use Rattle.std.specs.Prelude.{◌≡◌, ◌≤◌, ◌∷◌, [], IfOk, IfErr, length, map};
+ghost use Rattle.rc_text.specs.Limits.{most_patterns};
 ghost use Rattle.rc_pattern.specs.Meaning.{meaning};
 ghost use Rattle.rc_build.specs.Refusals.{IsBuildable};
 ghost use Rattle.rc_build.specs.TextRefusals.{AllRead, texts_of};
@@ -100,7 +101,7 @@ impl Builder {
     /// pattern is read, and a byte of it; then those of `build_many_from_hir`. All texts are read
     /// before any pattern is built. The builder stays as it was.
     pub fn build_many(&self, alloc: Global, patterns: &[&str]) -> Result<Regex, BuildError>
-        requires { length patterns.now ≤ 2147483647 }
+        requires { length patterns.now ≤ most_patterns }
         ensures read { IfOk result (λ re. AllRead (builder_syntax self.now) (texts_of patterns.now) (dfa_patterns (dfa_of re))) }
         ensures settings { IfOk result (λ re. dfa_settings (dfa_of re) ≡ (builder_settings self.now).search) }
         ensures program { IfOk result (λ re. dfa_program (dfa_of re) ≡ builder_program self.now) }
@@ -121,7 +122,7 @@ impl Builder {
     /// them. `Memory` comes if memory was refused, or if no memory could hold the tables. The
     /// builder stays as it was.
     pub fn build_many_from_hir(&self, alloc: Global, hirs: &[Hir]) -> Result<Regex, BuildError>
-        requires { length hirs.now ≤ 2147483647 }
+        requires { length hirs.now ≤ most_patterns }
         ensures patterns { IfOk result (λ re. dfa_patterns (dfa_of re) ≡ map meaning hirs.now) }
         ensures settings { IfOk result (λ re. dfa_settings (dfa_of re) ≡ (builder_settings self.now).search) }
         ensures program { IfOk result (λ re. dfa_program (dfa_of re) ≡ builder_program self.now) }

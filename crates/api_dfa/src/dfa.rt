@@ -1,6 +1,7 @@
 //! DFA: the fully built automata of a list of patterns, forwards and backwards.
 
 ghost use Rattle.std.specs.Prelude.{◌≡◌, ◌≤◌, IfErr, IfOk, map};
+ghost use Rattle.rc_pattern.specs.Limits.{greatest_weight};
 ghost use Rattle.rc_pattern.specs.Meaning.{meaning};
 ghost use Rattle.rc_program.specs.Laws.{heaviness};
 ghost use Rattle.rc_program.specs.Places.{places_of};
@@ -79,7 +80,7 @@ pub(crate) fn tables_of(
     ghost q: { Sought }
     requires sought { q ≡ sought_by (settings_of settings) (map meaning hirs.now) }
     requires places { places_of places.now ≡ program (shown q.grouped q.patterns) }
-    requires light { heaviness (places_of places.now) ≤ 2147483646 }
+    requires light { heaviness (places_of places.now) ≤ greatest_weight }
     ensures made { IfOk result (AreTables q kind) }
     ensures light { IfOk result (AreLight q kind limit) }
     ensures refused { IfErr result (IsTablesRefusal q kind limit) }

@@ -14,6 +14,7 @@ pub struct Regex {
 
 impl Regex {
     ghost use Rattle.std.specs.Prelude.{◌≡◌, ◌≤◌, ◌∷◌, [], IfErr, IfOk, length, None};
+    ghost use Rattle.rc_text.specs.Limits.{most_patterns};
     ghost use Rattle.rc_build.specs.Refusals.{IsBuildable};
     ghost use Rattle.rc_build.specs.TextRefusals.{AllRead, texts_of};
     ghost use Rattle.rc_parser.specs.Settings.{default_settings};
@@ -43,7 +44,7 @@ impl Regex {
     /// well-formed; `PlaceLimit`, if the weight of the patterns is above 2,147,483,646. `Memory`
     /// comes if memory was refused, or if no memory could hold the tables.
     pub fn new_many(alloc: Global, patterns: &[&str]) -> Result<Regex, BuildError>
-        requires { length patterns.now ≤ 2147483647 }
+        requires { length patterns.now ≤ most_patterns }
         ensures read { IfOk result (λ re. AllRead default_settings (texts_of patterns.now) (dfa_patterns (dfa_of re))) }
         ensures settings { IfOk result (λ re. dfa_settings (dfa_of re) ≡ none_set) }
         ensures program { IfOk result (λ re. dfa_program (dfa_of re) ≡ unset) }

@@ -1,5 +1,6 @@
 -- What searches for patterns are made of.
 use Rattle.std.specs.Prelude.{◌≡◌, ℕ, ◌+◌, ◌≤◌, List, length}
+use Rattle.rc_text.specs.Limits.{most_patterns}
 use Rattle.rc_text.specs.declared.types.MatchKind.{MatchKind}
 use Rattle.rc_program.specs.Program.{shown}
 use Rattle.rc_program.specs.Sought.{Sought}
@@ -13,7 +14,7 @@ use Rattle.rc_dfa_search.specs.Machines.{AreMachines}
 -- They are searches for what is sought, for matches of the kind. `PatternID` has a number for each of the patterns.
 pub record IsLazyFor (q : Sought) (kind : MatchKind) (lazy : Lazy) : Type 0 where
   pub machines : AreMachines (shown q.grouped q.patterns) q.terminator kind (machine_of lazy.automaton Forwards) (machine_of lazy.automaton Backwards)
-  pub few : length q.patterns ≤ 2147483647
+  pub few : length q.patterns ≤ most_patterns
 
 -- The least capacity for searches of what is sought, in bytes for each direction, where of so many classes of bytes none is told from another.
 -- It is by the longest list that states of the kind have forwards: backwards no more is needed.

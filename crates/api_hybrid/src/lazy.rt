@@ -1,6 +1,7 @@
 //! Lazy DFA of a list of patterns: the byte program and the limits that searches need.
 
 ghost use Rattle.std.specs.Prelude.{◌≡◌, ◌≤◌, IfErr, IfOk, map};
+ghost use Rattle.rc_pattern.specs.Limits.{greatest_weight};
 ghost use Rattle.rc_pattern.specs.Meaning.{meaning};
 ghost use Rattle.rc_program.specs.Laws.{heaviness};
 ghost use Rattle.rc_program.specs.Places.{places_of};
@@ -35,7 +36,7 @@ pub(crate) fn lazy_of(
     ghost q: { Sought }
     requires sought { q ≡ sought_by (settings_of settings) (map meaning hirs.now) }
     requires places { places_of places.now ≡ program (shown q.grouped q.patterns) }
-    requires light { heaviness (places_of places.now) ≤ 2147483646 }
+    requires light { heaviness (places_of places.now) ≤ greatest_weight }
     ensures made { IfOk result (IsLazyFor q kind) }
     ensures roomy { IfOk result (HasCapacity q kind capacity) }
     ensures refused { IfErr result (IsLazyRefusal q kind capacity) }

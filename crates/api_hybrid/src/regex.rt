@@ -33,6 +33,7 @@ pub struct Regex {
 
 impl Regex {
     ghost use Rattle.std.specs.Prelude.{◌≡◌, ◌≤◌, ◌∷◌, [], IfErr, IfOk, length, None};
+    ghost use Rattle.rc_text.specs.Limits.{most_patterns};
     ghost use Rattle.rc_build.specs.Refusals.{IsBuildable};
     ghost use Rattle.rc_build.specs.TextRefusals.{AllRead, texts_of};
     ghost use Rattle.rc_parser.specs.Settings.{default_settings};
@@ -67,7 +68,7 @@ impl Regex {
     /// `CacheTooSmall`, if the least capacity that serves is more than 2,097,152. `Memory` comes if
     /// memory was refused, or if the least capacity overflows.
     pub fn new_many(alloc: Global, patterns: &[&str]) -> Result<Regex, BuildError>
-        requires { length patterns.now ≤ 2147483647 }
+        requires { length patterns.now ≤ most_patterns }
         ensures read { IfOk result (λ re. AllRead default_settings (texts_of patterns.now) (regex_patterns re)) }
         ensures settings { IfOk result (λ re. regex_settings re ≡ none_set) }
         ensures program { IfOk result (λ re. regex_program re ≡ unset) }

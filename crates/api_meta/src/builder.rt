@@ -1,6 +1,8 @@
 //! Regex builder: settings, and regexes built under them.
 
 ghost use Rattle.std.specs.Prelude.{◌≡◌, ◌≤◌, ◌/◌, ◌∷◌, [], All, option_map, IfOk, IfErr, IfSome, List, length, map};
+ghost use Rattle.rc_pattern.specs.Limits.{greatest_weight};
+ghost use Rattle.rc_text.specs.Limits.{most_patterns};
 ghost use Rattle.rc_pattern.specs.Re.{Re};
 ghost use Rattle.rc_pattern.specs.Meaning.{meaning};
 ghost use Rattle.rc_pattern.specs.WellFormed.{HasBounds};
@@ -89,7 +91,7 @@ impl Builder {
     /// pattern is read, and a byte of it; then those of `build_many_from_hir`. All texts are read
     /// before any pattern is built. The builder stays as it was.
     pub fn build_many(&self, alloc: Global, patterns: &[&str]) -> Result<Regex, BuildError>
-        requires { length patterns.now ≤ 2147483647 }
+        requires { length patterns.now ≤ most_patterns }
         ensures read { IfOk result (λ r. AllRead (builder_syntax self.now) (texts_of patterns.now) (regex_patterns r)) }
         ensures settings { IfOk result (λ r. regex_settings r ≡ builder_settings self.now) }
         ensures buildable { IfOk result (λ r. IsBuildable (nfa_size_limit_of (builder_settings self.now)) (regex_patterns r)) }
@@ -116,7 +118,7 @@ impl Builder {
     /// size; `PlaceLimit`, if the weight is above 2,147,483,646. `Memory` comes if memory was
     /// refused. The builder stays as it was.
     pub fn build_many_from_hir(&self, alloc: Global, hirs: &[Hir]) -> Result<Regex, BuildError>
-        requires { length hirs.now ≤ 2147483647 }
+        requires { length hirs.now ≤ most_patterns }
         ensures patterns { IfOk result (λ r. regex_patterns r ≡ map meaning hirs.now) }
         ensures settings { IfOk result (λ r. regex_settings r ≡ builder_settings self.now) }
         ensures buildable { IfOk result (λ _. IsBuildable (nfa_size_limit_of (builder_settings self.now)) (map meaning hirs.now)) }
@@ -128,7 +130,7 @@ impl Builder {
 
 /// The regex of these patterns under these settings.
 pub(crate) fn build(alloc: Global, config: &Config, hirs: &[Hir]) -> Result<Regex, BuildError>
-    requires { length hirs.now ≤ 2147483647 }
+    requires { length hirs.now ≤ most_patterns }
     ensures patterns { IfOk result (λ r. regex_patterns r ≡ map meaning hirs.now) }
     ensures settings { IfOk result (λ r. regex_settings r ≡ settings_of config.now) }
     ensures buildable { IfOk result (λ _. IsBuildable (nfa_size_limit_of (settings_of config.now)) (map meaning hirs.now)) }
@@ -163,7 +165,7 @@ fn engines_of(
     ghost shown_hirs: { List Re }
     requires shown { shown_hirs ≡ shown (is_grouped (which_captures_of (program_settings (settings_of config.now)))) (map meaning hirs.now) }
     requires program { places_of engine.program.places.items ≡ program shown_hirs }
-    requires light { heaviness (places_of engine.program.places.items) ≤ 2147483646 }
+    requires light { heaviness (places_of engine.program.places.items) ≤ greatest_weight }
     requires bounded { All HasBounds shown_hirs }
     requires terminator { engine.program.terminator ≡ line_terminator_of (settings_of config.now) }
     requires kind { engine.kind ≡ match_kind_of (settings_of config.now) }

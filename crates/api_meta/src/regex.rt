@@ -6,7 +6,7 @@ ghost use Rattle.rc_pattern.specs.Weight.{list_weight};
 ghost use Rattle.rc_pattern.specs.WellFormed.{IsWellFormed};
 ghost use Rattle.rc_program.specs.Laws.{all_groups};
 ghost use Rattle.rc_build.specs.Fits.{Fits};
-ghost use Rattle.rc_build.specs.Refusals.{greatest_weight};
+ghost use Rattle.rc_pattern.specs.Limits.{greatest_weight};
 ghost use Rattle.rc_pikevm_search.specs.Choices.{guarding};
 ghost use Rattle.rc_strategy.specs.Plans.{IsLazyFor};
 ghost use Rattle.api_meta.specs.Plans.{plan_by};
@@ -50,6 +50,7 @@ pub struct Regex {
 
 impl Regex {
     ghost use Rattle.std.specs.Prelude.{◌≡◌, ◌≢◌, is_some, ◌≤◌, ◌<◌, ◌+◌, ◌^◌, ◌↔◌, ◌∷◌, [], All, IfErr, IfOk, IfSome, OnOk, OnErr, IsSome, IsTrue, MatchOption, Some, None, false, length, map, option_map};
+    ghost use Rattle.rc_text.specs.Limits.{most_patterns};
     ghost use Rattle.rc_captures.specs.Captures.{IsCapturesFor, captures_pattern, captures_slots, match_of};
     ghost use Rattle.rc_captures.specs.Groups.{names_of};
     ghost use Rattle.rc_captures.specs.Names.{slot_len};
@@ -97,7 +98,7 @@ impl Regex {
     /// well-formed; `SizeLimit`, if 32 times the weight of the patterns is above 10,485,760;
     /// `PlaceLimit`, if the weight is above 2,147,483,646. `Memory` comes if memory was refused.
     pub fn new_many(alloc: Global, patterns: &[&str]) -> Result<Regex, BuildError>
-        requires { length patterns.now ≤ 2147483647 }
+        requires { length patterns.now ≤ most_patterns }
         ensures read { IfOk result (λ r. AllRead default_settings (texts_of patterns.now) (regex_patterns r)) }
         ensures settings { IfOk result (λ r. regex_settings r ≡ unset) }
         ensures buildable { IfOk result (λ r. IsBuildable (nfa_size_limit_of unset) (regex_patterns r)) }

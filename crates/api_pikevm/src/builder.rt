@@ -1,6 +1,7 @@
 //! Pike VM builder: settings, and patterns built under them.
 
 ghost use Rattle.std.specs.Prelude.{◌≡◌, ◌≤◌, ◌∷◌, [], IfOk, IfErr, length, map};
+ghost use Rattle.rc_text.specs.Limits.{most_patterns};
 ghost use Rattle.rc_pattern.specs.Meaning.{meaning};
 ghost use Rattle.rc_build.specs.Refusals.{IsBuildable, IsRefusal};
 ghost use Rattle.rc_build.specs.TextRefusals.{AllRead, IsTextRefusal, texts_of};
@@ -93,7 +94,7 @@ impl Builder {
     /// pattern is read, and a byte of it; then those of `build_many_from_hir`. All texts are read
     /// before any pattern is built. The builder stays as it was.
     pub fn build_many(&self, alloc: Global, patterns: &[&str]) -> Result<PikeVM, BuildError>
-        requires { length patterns.now ≤ 2147483647 }
+        requires { length patterns.now ≤ most_patterns }
         ensures read { IfOk result (λ vm. AllRead (builder_syntax self.now) (texts_of patterns.now) (vm_patterns vm)) }
         ensures settings { IfOk result (λ vm. vm_settings vm ≡ builder_settings self.now) }
         ensures program { IfOk result (λ vm. vm_program vm ≡ builder_program self.now) }
@@ -111,7 +112,7 @@ impl Builder {
     /// size; `PlaceLimit`, if the weight is above 2,147,483,646. `Memory` comes if memory was
     /// refused. The builder stays as it was.
     pub fn build_many_from_hir(&self, alloc: Global, hirs: &[Hir]) -> Result<PikeVM, BuildError>
-        requires { length hirs.now ≤ 2147483647 }
+        requires { length hirs.now ≤ most_patterns }
         ensures patterns { IfOk result (λ vm. vm_patterns vm ≡ map meaning hirs.now) }
         ensures settings { IfOk result (λ vm. vm_settings vm ≡ builder_settings self.now) }
         ensures program { IfOk result (λ vm. vm_program vm ≡ builder_program self.now) }

@@ -31,6 +31,7 @@ pub struct PikeVM {
 
 impl PikeVM {
     ghost use Rattle.std.specs.Prelude.{◌≡◌, ◌≤◌, ◌∷◌, [], IfErr, IfOk, length, None};
+    ghost use Rattle.rc_text.specs.Limits.{most_patterns};
     ghost use Rattle.rc_pattern.specs.Weight.{list_weight};
     ghost use Rattle.rc_captures.specs.Captures.{IsCapturesFor, captures_pattern};
     ghost use Rattle.rc_captures.specs.Groups.{names_of};
@@ -65,7 +66,7 @@ impl PikeVM {
     /// well-formed; `PlaceLimit`, if the weight of the patterns is above 2,147,483,646. `Memory`
     /// comes if memory was refused.
     pub fn new_many(alloc: Global, patterns: &[&str]) -> Result<PikeVM, BuildError>
-        requires { length patterns.now ≤ 2147483647 }
+        requires { length patterns.now ≤ most_patterns }
         ensures read { IfOk result (λ vm. AllRead default_settings (texts_of patterns.now) (vm_patterns vm)) }
         ensures settings { IfOk result (λ vm. vm_settings vm ≡ none_set) }
         ensures program { IfOk result (λ vm. vm_program vm ≡ unset) }

@@ -12,7 +12,7 @@ use Rattle.rc_pikevm_search.specs.declared.engine.Engine.{Engine}
 use Rattle.rc_settings.specs.Which.{is_grouped}
 use Rattle.rc_settings.specs.Thompson.{Settings, utf8_of, which_captures_of, line_terminator_of}
 use Rattle.rc_build.specs.Names.{names_shown}
-use Rattle.rc_build.specs.Refusals.{greatest_weight}
+use Rattle.rc_pattern.specs.Limits.{greatest_weight}
 
 -- what is sought by patterns under settings
 abbrev pub sought_by : Settings → List Re → Sought

@@ -1,5 +1,6 @@
 -- Which refusals of a build apply to a list of patterns under a limit on their size.
 use Rattle.std.specs.Prelude.{◌≡◌, ℕ, ◌*◌, ◌<◌, ◌≤◌, All, List, take, Option, Some, None, slice_get}
+use Rattle.rc_pattern.specs.Limits.{greatest_weight}
 use Rattle.rc_pattern.specs.Re.{Re}
 use Rattle.rc_pattern.specs.Weight.{list_weight}
 use Rattle.rc_pattern.specs.WellFormed.{IsWellFormed}
@@ -14,10 +15,6 @@ size_of hs = 32 * list_weight hs
 abbrev pub IsWithin : Option ℕ → ℕ → Type 0
 IsWithin None size = Unit {0}
 IsWithin (Some limit) size = size ≤ limit
-
--- the greatest weight of patterns that have a program
-abbrev pub greatest_weight : ℕ
-greatest_weight = 2147483646
 
 -- p is the least number of a pattern that isn't well-formed
 pub record IsFirstIllFormed (hs : List Re) (p : ℕ) : Type 0 where

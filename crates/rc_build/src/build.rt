@@ -1,6 +1,7 @@
 //! Build: patterns compiled and given an engine, with their groups.
 
 ghost use Rattle.std.specs.Prelude.{◌≡◌, ◌≤◌, IfErr, IfOk, None, false, length, map, option_map};
+ghost use Rattle.rc_text.specs.Limits.{most_patterns};
 ghost use Rattle.rc_pattern.specs.Meaning.{meaning};
 ghost use Rattle.rc_program.specs.Heads.{AreHeads, flags_in};
 ghost use Rattle.rc_program.specs.Places.{places_of};
@@ -56,7 +57,7 @@ pub fn build_all(
     prefilter: Option<&Prefilter>,
     is_auto: bool,
 ) -> Result<Built, BuildError>
-    requires { length hirs.now ≤ 2147483647 }
+    requires { length hirs.now ≤ most_patterns }
     ensures patterns { IfOk result (λ b. map meaning b.hirs.items ≡ map meaning hirs.now) }
     ensures buildable { IfOk result (λ _. IsBuildable (nfa_size_limit_of (settings_of settings)) (map meaning hirs.now)) }
     ensures fits { IfOk result (λ b. Fits (settings_of settings) kind (map meaning b.hirs.items) b.engine b.info) }

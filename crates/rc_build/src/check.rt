@@ -1,5 +1,6 @@
 //! Checks before a build: well-formedness, weight and limits.
 ghost use Rattle.std.specs.Prelude.{◌≡◌, ◌≤◌, ◌<◌, ◌^◌, min, length, map, All, IfErr, IfOk};
+ghost use Rattle.rc_text.specs.Limits.{most_patterns};
 ghost use Rattle.rc_pattern.specs.Meaning.{meaning};
 ghost use Rattle.rc_pattern.specs.Weight.{list_weight};
 ghost use Rattle.rc_pattern.specs.WellFormed.{IsWellFormed};
@@ -22,7 +23,7 @@ const GREATEST_WEIGHT: u128 = 2_147_483_646;
 /// is above 2,147,483,646. `Memory` may come at any time. The patterns may be of any depth and any
 /// weight.
 pub fn check(alloc: Global, hirs: &[Hir], limit: Option<usize>) -> Result<(), BuildError>
-    requires { length hirs.now ≤ 2147483647 }
+    requires { length hirs.now ≤ most_patterns }
     ensures buildable { IfOk result (λ _. IsBuildable limit (map meaning hirs.now)) }
     ensures refused { IfErr result (λ e. IsRefusal limit (map meaning hirs.now) e) }
 {
@@ -32,7 +33,7 @@ pub fn check(alloc: Global, hirs: &[Hir], limit: Option<usize>) -> Result<(), Bu
 
 /// Whether each pattern is well-formed.
 fn check_forms(alloc: Global, hirs: &[Hir], limit: Option<usize>) -> Result<(), BuildError>
-    requires { length hirs.now ≤ 2147483647 }
+    requires { length hirs.now ≤ most_patterns }
     ensures well_formed { IfOk result (λ _. All IsWellFormed (map meaning hirs.now)) }
     ensures refused { IfErr result (λ e. IsRefusal limit (map meaning hirs.now) e) }
 {

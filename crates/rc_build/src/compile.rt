@@ -1,5 +1,6 @@
 //! Compilation of checked patterns: their program and their groups.
 ghost use Rattle.std.specs.Prelude.{◌≡◌, ◌≤◌, [], length, map, IfErr, IfOk};
+ghost use Rattle.rc_text.specs.Limits.{most_patterns};
 ghost use Rattle.rc_pattern.specs.Meaning.{meaning};
 ghost use Rattle.rc_pattern.specs.WellFormed.{group_names};
 ghost use Rattle.rc_captures.specs.Groups.{names_of};
@@ -40,7 +41,7 @@ pub fn compile_all(
     limit: Option<usize>,
     which: WhichCaptures,
 ) -> Result<Compiled, BuildError>
-    requires { length hirs.now ≤ 2147483647 }
+    requires { length hirs.now ≤ most_patterns }
     ensures buildable { IfOk result (λ _. IsBuildable limit (map meaning hirs.now)) }
     ensures places { IfOk result (λ c. places_of c.places.items
         ≡ program (shown (is_grouped which) (map meaning hirs.now))) }

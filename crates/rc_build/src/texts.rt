@@ -1,5 +1,6 @@
 //! Parsing of pattern texts before a build.
 ghost use Rattle.std.specs.Prelude.{◌≡◌, ◌≤◌, ◌<◌, ℕ, length, map, IfErr, IfOk};
+ghost use Rattle.rc_text.specs.Limits.{most_patterns};
 ghost use Rattle.rc_pattern.specs.Meaning.{meaning};
 ghost use Rattle.rc_parser.specs.Settings.{settings_of};
 ghost use Rattle.rc_build.specs.TextRefusals.{AllRead, IsReadingRefusal, texts_of};
@@ -17,7 +18,7 @@ use std::alloc::Global;
 /// An `Err` is `Syntax`, with the least text from which no pattern is read, or `Memory`, if memory
 /// was refused.
 pub fn parse_all(alloc: Global, texts: &[&str], config: &Config) -> Result<Vec<Hir>, BuildError>
-    requires { length texts.now ≤ 2147483647 }
+    requires { length texts.now ≤ most_patterns }
     ensures read { IfOk result (λ hirs. AllRead (settings_of config.now) (texts_of texts.now) (map meaning hirs.items)) }
     ensures refused { IfErr result (λ e. IsReadingRefusal (settings_of config.now) (texts_of texts.now) e) }
 {

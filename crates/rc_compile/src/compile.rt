@@ -1,6 +1,7 @@
 //! Thompson construction: from patterns to a program.
 
 ghost use Rattle.std.specs.Prelude.{◌≡◌, ◌+◌, ◌-◌, ◌<◌, ◌≤◌, ◌^◌, [], ◌∷◌, ◌++◌, All, IfOk, map, min, vec_len};
+ghost use Rattle.rc_pattern.specs.Limits.{greatest_weight};
 ghost use Rattle.rc_pattern.specs.Meaning.{meaning};
 ghost use Rattle.rc_pattern.specs.Weight.{list_weight};
 ghost use Rattle.rc_pattern.specs.WellFormed.{IsWellFormed, group_count};
@@ -55,7 +56,7 @@ fn emit_pattern(
 /// out of memory.
 pub fn compile(alloc: Global, hirs: &[Hir], groups: bool) -> Result<Vec<Place>, AllocError>
     requires well_formed { All IsWellFormed (map meaning hirs.now) }
-    requires light { list_weight (map meaning hirs.now) ≤ 2147483646 }
+    requires light { list_weight (map meaning hirs.now) ≤ greatest_weight }
     ensures { IfOk result (λ places. places_of places.items ≡ program (shown groups (map meaning hirs.now))) }
 {
     let mut places = Vec::new(alloc);

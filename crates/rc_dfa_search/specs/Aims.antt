@@ -1,6 +1,7 @@
 -- Only proofs use this file.
 -- What two halves of a search seek.
 use Rattle.std.specs.Prelude.{◌≡◌, ℕ, ◌+◌, ◌-◌, ◌*◌, ◌≤◌, Bool, not, ◌&&◌, List, length}
+use Rattle.rc_text.specs.Limits.{most_patterns}
 use Rattle.rc_pattern.specs.Re.{Re}
 use Rattle.rc_text.specs.Text.{Searched, low, high}
 use Rattle.rc_program.specs.Program.{program}
@@ -25,7 +26,7 @@ pub record AreHalvesOf (AreOf : Machine → Machine → Type 0) (aim : Aim) (hs 
   pub are_of : AreOf ahead back
   pub machines : AreMachines hs terminator aim.kind ahead back
   pub counted : aim.patterns ≡ length hs
-  pub few : length hs ≤ 2147483647
+  pub few : length hs ≤ most_patterns
 
 -- how much a search may spend
 abbrev pub cost : Searched → ℕ

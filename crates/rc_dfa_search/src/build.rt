@@ -1,5 +1,6 @@
 //! Automaton construction: from a program to its determinizer.
 ghost use Rattle.std.specs.Prelude.{◌≡◌, ◌≤◌, List, length, IfOk};
+ghost use Rattle.rc_pattern.specs.Limits.{greatest_weight};
 ghost use Rattle.rc_pattern.specs.Re.{Re};
 ghost use Rattle.rc_program.specs.Laws.{heaviness};
 ghost use Rattle.rc_program.specs.Places.{places_of};
@@ -49,7 +50,7 @@ pub fn automaton_of(
     ghost hs: { List Re }
     requires program { places_of program.now ≡ program_by hs }
     requires patterns { patterns ≡ length hs }
-    requires light { heaviness (places_of program.now) ≤ 2147483646 }
+    requires light { heaviness (places_of program.now) ≤ greatest_weight }
     ensures machines { IfOk result (λ automaton. AreMachines hs terminator kind (machine_of automaton Forwards) (machine_of automaton Backwards)) }
     ensures classes { IfOk result (λ automaton. AreClassesOf byte_classes hs terminator (classes_of automaton)) }
 {

@@ -8,3 +8,4 @@ pub mod Dots
 pub mod Groups
 pub mod LookSets
 pub mod PropertiesOf
+pub mod Limits

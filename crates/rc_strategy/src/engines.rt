@@ -80,6 +80,7 @@ pub struct Engines {
 
 impl Engines {
     ghost use Rattle.std.specs.Prelude.{◌≡◌, ◌⊎◌, ◌≤◌, true, IfOk, IfSome, MatchOption, Option, Some, None, List, length, is_some};
+    ghost use Rattle.rc_pattern.specs.Limits.{greatest_weight};
     ghost use Rattle.std.specs.Option.{option_map};
     ghost use Rattle.rc_text.specs.Found.{Found, half_of};
     ghost use Rattle.rc_pattern.specs.Re.{Re};
@@ -129,7 +130,7 @@ impl Engines {
         requires needs { NeedsConfine needs (places_of engine.program.places.items) engine.program.terminator }
         requires program { places_of engine.program.places.items ≡ program hs }
         requires patterns { patterns ≡ length hs }
-        requires light { heaviness (places_of engine.program.places.items) ≤ 2147483646 }
+        requires light { heaviness (places_of engine.program.places.items) ≤ greatest_weight }
         ensures engine { IfOk result (λ engines. engines.engine ≡ engine) }
         ensures barred { AreBarred engine hs limits → IfOk result (λ engines. engines.tables ≡ None) }
         ensures none { IfOk result (λ engines. engines.tables ≡ None → AreBarred engine hs limits ⊎ AreTooHeavy engine hs limits) }

@@ -1,5 +1,6 @@
 //! DFA construction: which DFAs are built for the patterns.
 ghost use Rattle.std.specs.Prelude.{◌≡◌, ◌⊎◌, ◌↔◌, ◌<◌, ◌≤◌, ⊤, ℕ, Bool, IfOk, IfSome, IsSomeAnd, IsTrue, List, MatchOption, None, true, false, length};
+ghost use Rattle.rc_pattern.specs.Limits.{greatest_weight};
 ghost use Rattle.rc_pattern.specs.Re.{Re};
 ghost use Rattle.rc_program.specs.Laws.{heaviness};
 ghost use Rattle.rc_program.specs.Places.{places_of};
@@ -78,7 +79,7 @@ fn dense_of(
     requires machines { AreMachines hs engine.now.program.terminator engine.now.kind (machine_of automaton.now Forwards) (machine_of automaton.now Backwards) }
     requires program { places_of engine.now.program.places.items ≡ program hs }
     requires patterns { patterns ≡ length hs }
-    requires light { heaviness (places_of engine.now.program.places.items) ≤ 2147483646 }
+    requires light { heaviness (places_of engine.now.program.places.items) ≤ greatest_weight }
     ensures fit { IfOk result (MayBeTablesFor engine.now patterns) }
     ensures off { AreOff hs limits → IfOk result (λ tables. tables ≡ None) }
     ensures none { IfOk result (λ tables. tables ≡ None → AreOff hs limits ⊎ AreTooHeavy engine.now hs limits) }
@@ -126,7 +127,7 @@ pub(crate) fn tables_of(
     ghost hs: { List Re }
     requires program { places_of engine.now.program.places.items ≡ program hs }
     requires patterns { patterns ≡ length hs }
-    requires light { heaviness (places_of engine.now.program.places.items) ≤ 2147483646 }
+    requires light { heaviness (places_of engine.now.program.places.items) ≤ greatest_weight }
     ensures { IfOk result (λ tables. AreMade engine.now patterns hs limits tables.dense tables.lazy) }
 {
     if literals_of(&engine.strategy, engine.kind).is_some() {

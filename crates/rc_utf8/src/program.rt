@@ -1,6 +1,7 @@
 //! UTF-8 lowering: from a program to its byte program.
 
 ghost use Rattle.std.specs.Prelude.{◌≡◌, ◌+◌, ◌*◌, ◌<◌, ◌≤◌, ◌^◌, [], ◌∷◌, ◌++◌, IfOk, length, map, vec_len};
+ghost use Rattle.rc_pattern.specs.Limits.{greatest_weight};
 ghost use Rattle.rc_pattern.specs.Meaning.{char_range};
 ghost use Rattle.rc_program.specs.Program.{scalar};
 ghost use Rattle.rc_program.specs.Laws.{heaviness, place_weight};
@@ -83,7 +84,7 @@ fn add_place(
 /// place of scalars. So a program of patterns that may be built is light enough. An `Err` means out
 /// of memory, and nothing else.
 pub fn byte_program(alloc: Global, program: &[Place]) -> Result<Vec<BytePlace>, AllocError>
-    requires light { heaviness (sources_of program.now) ≤ 2147483646 }
+    requires light { heaviness (sources_of program.now) ≤ greatest_weight }
     ensures { IfOk result (λ places. places_of places.items ≡ bytes_of (sources_of program.now)) }
 {
     let mut places = Vec::new(alloc);

@@ -1,6 +1,7 @@
 -- What a searcher is made of, and what it answers.
 use Rattle.std.specs.Prelude.{◌≡◌, ℕ, ◌<◌, List, length, Option, Some, None}
 use Rattle.std.specs.Borrow.{Bor}
+use Rattle.rc_text.specs.Limits.{most_patterns}
 use Rattle.rc_text.specs.Found.{Found}
 use Rattle.rc_text.specs.declared.types.MatchKind.{MatchKind}
 use Rattle.rc_program.specs.Answer.{Search}
@@ -46,7 +47,7 @@ pub record IsBuilt (settings : Settings) (patterns : List (Bor (List ℕ))) (s :
 -- The refusal applies to the texts. Want of memory may come at any time.
 abbrev pub IsRefused : Settings → List (Bor (List ℕ)) → Refusal → Type 0
 IsRefused settings patterns NoKind = kind_of settings.kind ≡ None
-IsRefused settings patterns TooMany = 2147483647 < length patterns
+IsRefused settings patterns TooMany = most_patterns < length patterns
 IsRefused settings patterns (NotUtf8 p) = IsBroken patterns p
 IsRefused settings patterns (Build e) = IsTextRefusal (Some 10485760) (syntax_settings settings) (texts_of patterns) e
 IsRefused settings patterns Memory = Unit {0}

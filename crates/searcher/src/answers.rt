@@ -1,6 +1,7 @@
 //! Search results as plain numbers, and why there is none.
 
 ghost use Rattle.std.specs.Prelude.{◌≤◌, Some, length};
+ghost use Rattle.rc_text.specs.Limits.{most_patterns};
 ghost use Rattle.rc_pattern_set.specs.Sets.{Has};
 ghost use Rattle.searcher.specs.Places.{AreMarksOf, IsMark};
 
@@ -106,7 +107,7 @@ impl GroupAt {
 
 /// Writes for each number whether it is a member of the set: 1, or 0.
 pub(crate) fn write_marks(set: &PatternSet, marks: &mut [u8])
-    requires { length set.now ≤ 2147483647 }
+    requires { length set.now ≤ most_patterns }
     ensures { AreMarksOf set.now marks.new }
 {
     for i in 0..marks.len() {
@@ -116,7 +117,7 @@ pub(crate) fn write_marks(set: &PatternSet, marks: &mut [u8])
 
 /// Whether the number is a member of the set: 1, or 0.
 fn mark_of(set: &PatternSet, number: usize) -> u8
-    requires { length set.now ≤ 2147483647 }
+    requires { length set.now ≤ most_patterns }
     ensures { IsMark (Has set.now number) (Some result) }
 {
     if number < set.capacity() && set.contains(PatternID::must(number)) {

@@ -1,5 +1,6 @@
 //! Searcher: a regex with its cache, the groups of a match, and the state of an iteration.
 ghost use Rattle.std.specs.Prelude.{◌≡◌, ◌≤◌, IfErr, IfOk, None, length};
+ghost use Rattle.rc_text.specs.Limits.{most_patterns};
 ghost use Rattle.rc_build.specs.TextRefusals.{AllRead, IsTextRefusal, texts_of};
 ghost use Rattle.api_meta.specs.Views.{regex_patterns, regex_settings};
 ghost use Rattle.rc_text.specs.Joined.{joined};
@@ -280,7 +281,7 @@ fn build(
     settings: &Settings,
     kind: MatchKind,
 ) -> Result<Regex, BuildError>
-    requires { length texts.now ≤ 2147483647 }
+    requires { length texts.now ≤ most_patterns }
     ensures read { IfOk result (λ r. AllRead (syntax_settings settings.now) (texts_of texts.now) (regex_patterns r)) }
     ensures set { IfOk result (λ r. regex_settings r ≡ search_settings settings.now kind) }
     ensures refused { IfErr result (λ e. IsTextRefusal (Some 10485760) (syntax_settings settings.now) (texts_of texts.now) e) }
@@ -294,7 +295,7 @@ fn build(
 
 /// The searcher of a regex.
 fn with_cache(alloc: Global, regex: Regex) -> Result<Searcher, AllocError>
-    requires { length (regex_patterns regex) ≤ 2147483647 }
+    requires { length (regex_patterns regex) ≤ most_patterns }
     ensures regex { IfOk result (λ s. s.regex ≡ regex) }
     ensures from { IfOk result (λ s. s.from ≡ 0) }
     ensures last { IfOk result (λ s. s.last ≡ None) }

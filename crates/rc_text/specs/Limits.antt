@@ -1,0 +1,6 @@
+-- What is bounded by the size of a number.
+use Rattle.std.specs.Prelude.{ℕ}
+
+-- how many patterns are searched for at most, so that each has a number
+abbrev pub most_patterns : ℕ
+most_patterns = 2147483647
