@@ -14,7 +14,7 @@ use Rattle.rc_program.specs.Laws.{IsClosed, targets}
 use Rattle.rc_program.specs.Program.{Place, choice, slot, place_at, ways_out, pair_at, is_match_place}
 use Rattle.rc_program.specs.Text.{holds, ahead}
 use Rattle.rc_program.specs.Answer.{only}
-use Rattle.rc_pikevm.specs.Sights.{Sight, is_there, ends, next_of, HasNoWalkFrom}
+use Rattle.rc_pikevm.specs.Sights.{Sight, ends, next_of, HasNoWalkFrom}
 use Rattle.rc_pikevm.specs.Moves.{IsMove}
 use Rattle.rc_pikevm.specs.Threads.{Thread, ThreadList, thread_of}
 use Rattle.rc_pikevm.specs.Entrances.{IsOnWay}
@@ -90,7 +90,7 @@ module _ (s : Sight) (at : ℕ) where
     pub dead_saves : (p k q : ℕ) → IsMove s (p, at) (Save k q) → IsDead s passed (q, at) → IsDead s passed (p, at)
     dead_saves p k q m d =
         dead_over p ((q, at) ∷ []) (ap (λ r. map (pair_at at) (ways_out (λ l. holds s.text l at) (ahead s.text s.hi at) r)) m)
-        (ap (λ b. b && is_there s.until at) (ap (is_match_place (only s.anchoring)) m ∙ slot_on (only s.anchoring) k q)) d
+        (ap (is_match_place (only s.anchoring)) m ∙ slot_on (only s.anchoring) k q) d
 
     pub dead_forks : (p a b : ℕ) → IsMove s (p, at) (Fork a b) → IsDead s passed (a, at) → IsDead s passed (b, at) → IsDead s passed (p, at)
     dead_forks p a b m d e = dead_over p ((a, at) ∷ (b, at) ∷ []) m.0 m.1.on (λ v x. e v (drop_way (next_of s) Ends (a, at) d x))
@@ -108,7 +108,7 @@ module _ (s : Sight) (at : ℕ) where
         ap (λ r. map (pair_at at) (ways_out (λ l. holds s.text l at) (ahead s.text s.hi at) r)) is,
         record {
           silent = λ h. ap (λ q. note_at q h at) is;
-          on = ap (λ k. k && is_there s.until at) (ap (is_match_place (only s.anchoring)) is ∙ choice_on (only s.anchoring) (a ∷ b ∷ []));
+          on = ap (is_match_place (only s.anchoring)) is ∙ choice_on (only s.anchoring) (a ∷ b ∷ []);
         },
       )
 
@@ -213,7 +213,7 @@ opens s at p a b is dead =
       inl is,
       stops_shut s at b (
         ap (λ r. map (pair_at at) (ways_out (λ l. holds s.text l at) (ahead s.text s.hi at) r)) dead,
-        ap (λ k. k && is_there s.until at) (ap (is_match_place (only s.anchoring)) dead ∙ choice_on (only s.anchoring) []),
+        ap (is_match_place (only s.anchoring)) dead ∙ choice_on (only s.anchoring) [],
       ),
     )
 

@@ -8,7 +8,7 @@ use Rattle.rc_walks.proofs.TryLemmas.{Finds, walk_by_finds}
 use Rattle.rc_text.specs.Found.{Found}
 use Rattle.rc_program.specs.Program.{place_at}
 use Rattle.rc_program.specs.Answer as whole
-use Rattle.rc_program.specs.Answer.{Search, Chosen, only, last_of, answer, found as found_of}
+use Rattle.rc_program.specs.Answer.{Search, only, last_of, answer, found as found_of}
 use Rattle.rc_pikevm.specs.Sights.{Sight, sight_of, ends, next_of}
 use Rattle.rc_program.specs.Greatest.{IsSpelledIn, greatest}
 use Rattle.rc_program.proofs.GreatestLemmas.{greatest_none, spelled_within, answer_spelled, no_answer_no_span}
@@ -18,7 +18,7 @@ use Rattle.rc_pikevm.specs.Threads.{Thread, ThreadList}
 use Rattle.rc_pikevm.specs.Trace.{Trace, note, done}
 use Rattle.rc_pikevm.specs.Passing.{pending, AllIn, GivesTrace, Tells, IsPassing, best_of}
 use Rattle.rc_pikevm.specs.declared.pass.Ending.{Ending}
-use Rattle.rc_pikevm.proofs.SightLemmas.{last_pair, is_bounded, first_whole, none_whole}
+use Rattle.rc_pikevm.proofs.SightLemmas.{last_pair, is_bounded}
 
 module _ (s : Sight) where
   abbrev Ends : Pair → Type 0
@@ -83,13 +83,13 @@ module _ (s : Search) where
   is_greatest None e m h = absurd ((greatest_none s).0 e m h)
   is_greatest (Some n) e m h = refl
 
-  pub tells_greatest : (last : ℕ) (best : Option Ending) → last ≡ last_start_of s → Tells (sight_of None s) s.lo last best → is_some best ≡ is_some (greatest s)
+  pub tells_greatest : (last : ℕ) (best : Option Ending) → last ≡ last_start_of s → Tells (sight_of s) s.lo last best → is_some best ≡ is_some (greatest s)
   tells_greatest last None e t =
       sym (ap is_some ((greatest_none s).1 (λ m h.
       let below : m.start < last_start_of s + 1 = start_to_last s m.start h.is_start in
-      none_whole s m.start (t m.start h.is_start.0 (omega (arith, below, e))) h.walk h.is_walk)))
+      t m.start h.is_start.0 (omega (arith, below, e)) h.walk h.is_walk)))
   tells_greatest last (Some r) e t =
-      sym (is_greatest (greatest s) refl (found_of s (record { start = t.0; walk = t.1 })) (spelled_there t.0 t.1 t.2 (omega (arith, t.3, e)) (first_whole s t.0 t.1 t.4)))
+      sym (is_greatest (greatest s) refl (found_of s (record { start = t.0; walk = t.1 })) (spelled_there t.0 t.1 t.2 (omega (arith, t.3, e)) t.4))
 
   pub outside_greatest : s.hi < s.lo → false ≡ is_some (greatest s)
   outside_greatest h =

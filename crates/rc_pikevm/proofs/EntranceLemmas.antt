@@ -7,7 +7,7 @@ use Rattle.std.specs.Prelude.{All}
 use Rattle.rc_program.specs.Laws.{IsClosed, targets}
 use Rattle.rc_program.specs.Text.{holds, ahead}
 use Rattle.rc_program.specs.Answer.{only}
-use Rattle.rc_pikevm.specs.Sights.{Sight, is_there, ends, next_of}
+use Rattle.rc_pikevm.specs.Sights.{Sight, ends, next_of}
 use Rattle.rc_pikevm.specs.Sparse.{Has}
 use Rattle.rc_pikevm.specs.Threads.{Thread}
 use Rattle.rc_pikevm.specs.Trace.{Trace, note_at}
@@ -31,7 +31,7 @@ module _ (s : Sight) (at : ℕ) where
   pub no_end : (p : ℕ) (ns : List ℕ) → place_at s.places p ≡ choice ns → ¬ IsTrue (ends s (p, at))
   no_end p ns is e =
       let f : ends s (p, at) ≡ false =
-      ap (λ b. b && is_there s.until at) (ap (is_match_place (only s.anchoring)) is ∙ choice_on (only s.anchoring) ns) in
+      (ap (is_match_place (only s.anchoring)) is ∙ choice_on (only s.anchoring) ns) in
       true≢false (sym e ∙ f)
 
   pub ways_by : (p : ℕ) (q : Place) → place_at s.places p ≡ q →

@@ -21,7 +21,6 @@ use Rattle.rc_pikevm.specs.declared.spot.Course.{Course}
 use Rattle.rc_pikevm.specs.declared.spot.Spot.{Spot}
 use Rattle.rc_pikevm.specs.declared.window.Window.{Window}
 use Rattle.rc_pikevm.proofs.NearLemmas.{is_near}
-use Rattle.rc_pikevm.proofs.SightLemmas.{at_match}
 
 first_take : (n : ℕ) (xs : List ℕ) → 0 < n → 0 < length xs → slice_get (take n xs) 0 ≡ Some (slice_index xs 0)
 first_take zero xs some more = absurd (omega (arith, some))
@@ -33,7 +32,7 @@ pub byte_dead : (s : Sight) (p at b : ℕ) → slice_get (ahead s.text s.hi at) 
     IsDead s passed (p, at)
 byte_dead s p at b stands none passed =
     heads_law s.places s.text s.hi p at b (ends s) passed
-    (λ n e. (pattern_at (place_at s.places n.0), match_place_is (only s.anchoring) (place_at s.places n.0) (at_match s n e))) stands none
+    (λ n e. (pattern_at (place_at s.places n.0), match_place_is (only s.anchoring) (place_at s.places n.0) e)) stands none
 
 -- the same of the byte that a spot shows
 pub shown_dead : (spot : Spot) (text : Searched) (p : ℕ) → IsHere spot text → spot.at < spot.course.hi → 0 < length spot.after.now →

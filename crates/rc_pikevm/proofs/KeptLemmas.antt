@@ -16,7 +16,7 @@ pub kept_search : (p : Program) (a b : Searched) → Keeps a b → search_of p b
 kept_search p a b k = rw (k.content, k.span, k.slice, k.anchored) refl
 
 pub kept_seen_by : (c : Course) (a b : Searched) → Keeps a b → seen_by c b ≡ seen_by c a
-kept_seen_by c a b k = ap (sight_of c.until) (kept_seen c.program.now a b k)
+kept_seen_by c a b k = ap sight_of (kept_seen c.program.now a b k)
 
 pub kept_back : (a b : Searched) → Keeps a b → Keeps b a
 kept_back a b k = record {

@@ -1,5 +1,5 @@
 -- From passes for the longest walk to the answer of a search.
-use Rattle.std.proofs.Common.{◌≡◌, ℕ, ◌+◌, ◌*◌, ◌<◌, ◌≤◌, List, [], ◌∷◌, length, inl, inr, ⊎_elim, sym, subst, ap, refl, arith, false, true, IsTrue, Option, Some, None, option_map, is_some, slice_set, slice_index_or}
+use Rattle.std.proofs.Common.{◌≡◌, ℕ, ◌+◌, ◌*◌, ◌<◌, ◌≤◌, List, ◌∷◌, length, inl, inr, ⊎_elim, sym, subst, ap, refl, arith, false, true, Option, Some, None, option_map, is_some, slice_set, slice_index_or}
 use Rattle.std.proofs.lemmas.Bool.{cases_lt}
 use Rattle.std.proofs.lemmas.Option.{none-some, same_Some}
 use Rattle.rc_text.specs.Found.{Found}
@@ -8,30 +8,19 @@ use Rattle.rc_walks.specs.Threads.{noted}
 use Rattle.rc_program.specs.Program.{place_at}
 use Rattle.rc_program.specs.Answer.{Search, HasNoWalkFrom, last_of, last_visit, is_allowed, Chosen, found, pattern_at}
 use Rattle.rc_program.specs.Greatest.{IsSpelledIn, greatest}
-use Rattle.rc_program.specs.Longest.{IsLongestWalk, IsLongestFrom, IsPassedOf, longest_chosen, longest, longest_groups}
+use Rattle.rc_program.specs.Longest.{IsLongestFrom, IsPassedOf, longest_chosen, longest, longest_groups}
 use Rattle.rc_program.proofs.AnswerLemmas.{last_start_of, start_within_last, start_to_last}
 use Rattle.rc_program.proofs.GreatestLemmas.{greatest_law, spelled_within}
 use Rattle.rc_program.proofs.ReachLemmas.{longest_law}
 use Rattle.rc_pikevm.specs.Sights.{sight_of}
-use Rattle.rc_pikevm.specs.Sights as sights
 use Rattle.rc_pikevm.specs.Trace.{note, sets_out, done}
 use Rattle.rc_pikevm.specs.Passing.{best_of}
 use Rattle.rc_pikevm.specs.Races.{GivesLongest}
 use Rattle.rc_pikevm.specs.Found.{IsChosen}
 use Rattle.rc_pikevm.specs.declared.pass.Ending.{Ending}
-use Rattle.rc_pikevm.proofs.SightLemmas.{walk_whole, walk_seen, none_whole}
 use Rattle.rc_pikevm.proofs.SearchLemmas.{told_by, found_is, slots_are}
 
 module _ (s : Search) where
-  -- the longest walk that a pass sees is that of the search
-  longest_whole : (x : ℕ) (w : List Pair) →
-      IsLongestWalk (sights.next_of (sight_of None s)) (λ n. IsTrue (sights.ends (sight_of None s) n)) [] ((0, x) ∷ []) w → IsLongestFrom s x w
-  longest_whole x w h = record {
-    is_walk = walk_whole s None h.is_walk;
-    is_most = λ v b. h.is_most v (walk_seen s b);
-    is_least = λ v b same. h.is_least v (walk_seen s b) same;
-  }
-
   -- below x no start gives an answer
   abbrev pub PassedBelow : ℕ → Type 0
   PassedBelow x = (y : ℕ) → s.lo ≤ y → y < x → IsPassedOf s (IsLongestFrom s) y
@@ -51,9 +40,9 @@ module _ (s : Search) where
       pub visits : (k : ℕ) → k < width → slice_index_or slots k None ≡ last_visit s.places k w
 
     -- no start has a walk
-    pub none_outlasts : (slots : List (Option ℕ)) → GivesLongest (sight_of None s) width from last (best_of None slots) →
+    pub none_outlasts : (slots : List (Option ℕ)) → GivesLongest (sight_of s) width from last (best_of None slots) →
         (y : ℕ) → from ≤ y → y ≤ last → HasNoWalkFrom s y
-    none_outlasts slots g = ⊎_elim (λ n. λ y a b. none_whole s y (n.1 y a b)) (λ m. absurd (none-some _ m.6)) g
+    none_outlasts slots g = ⊎_elim (λ n. n.1) (λ m. absurd (none-some _ m.6)) g
 
     outlasting : (e : Ending) (slots : List (Option ℕ)) (x : ℕ) (w : List Pair) → from ≤ x → x ≤ last → IsLongestFrom s x w →
         ((y : ℕ) → from ≤ y → y < x → HasNoWalkFrom s y) → done e.pattern e.start e.end slots ≡ noted (note s.places) (sets_out width x).0 w →
@@ -72,11 +61,11 @@ module _ (s : Search) where
         }
 
     -- the least start that has a walk, and its longest walk
-    pub some_outlasts : (e : Ending) (slots : List (Option ℕ)) → GivesLongest (sight_of None s) width from last (best_of (Some e) slots) →
+    pub some_outlasts : (e : Ending) (slots : List (Option ℕ)) → GivesLongest (sight_of s) width from last (best_of (Some e) slots) →
         (w : List Pair) × IsOutlasting e slots w
     some_outlasts e slots g =
         ⊎_elim (λ n. absurd (none-some _ (sym n.0)))
-        (λ m. (m.1, outlasting e slots m.0 m.1 m.2 m.3 (longest_whole m.0 m.1 m.4) (λ y a b. none_whole s y (m.5 y a b)) (same_Some _ _ m.6))) g
+        (λ m. (m.1, outlasting e slots m.0 m.1 m.2 m.3 m.4 m.5 (same_Some _ _ m.6))) g
 
     module _ (passed : PassedBelow from) (last_is : last ≡ last_start_of s) where
       -- the found walk is passed over

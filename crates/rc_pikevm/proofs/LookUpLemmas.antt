@@ -5,7 +5,7 @@ use Rattle.rc_program.specs.Program.{choice, scalar, place_at, ways_out, pair_at
 use Rattle.rc_program.specs.Scalars.{scalar_at}
 use Rattle.rc_program.specs.Text.{holds, ahead}
 use Rattle.rc_program.specs.Answer.{only}
-use Rattle.rc_pikevm.specs.Sights.{Sight, is_there, next_of}
+use Rattle.rc_pikevm.specs.Sights.{Sight, next_of}
 use Rattle.rc_program.proofs.WayLemmas.{scalar_at_short}
 use Rattle.rc_program.specs.Places.{place_of, places_of}
 use Rattle.rc_program.specs.declared.place.Place as code
@@ -39,7 +39,7 @@ scalar_move s p at c count n rs is here inside =
           ∙ ap (λ b. map (pair_at at) (if b then reads count n ∷ [] else [])) inside,
       record {
         silent = λ h. ap (λ q. note_at q h at) is;
-        on = ap (λ b. b && is_there s.until at) (ap (is_match_place (only s.anchoring)) is ∙ no_end (only s.anchoring) rs n);
+        on = ap (is_match_place (only s.anchoring)) is ∙ no_end (only s.anchoring) rs n;
       },
       omega (arith, r),
       omega (arith, r),
@@ -51,7 +51,7 @@ pub choice_moves : (s : Sight) (p at : ℕ) (ns : List ℕ) → place_at s.place
     (next_of s (p, at) ≡ map (pair_at at) (map stays ns)) × IsPlain s (p, at)
 choice_moves s p at ns is = (
   ways_by s at p (choice ns) is,
-  record { silent = λ h. ap (λ q. note_at q h at) is; on = ap (λ b. b && is_there s.until at) (ap (is_match_place (only s.anchoring)) is ∙ choice_on (only s.anchoring) ns) },
+  record { silent = λ h. ap (λ q. note_at q h at) is; on = (ap (is_match_place (only s.anchoring)) is ∙ choice_on (only s.anchoring) ns) },
 )
 
 -- no walk ends by reading

@@ -8,7 +8,7 @@ use Rattle.rc_walks.proofs.ThreadLemmas.{fewer_passed, keeps_off}
 use Rattle.rc_program.specs.Program.{accept, place_at, ways_out, pair_at, is_match_place}
 use Rattle.rc_program.specs.Text.{holds, ahead}
 use Rattle.rc_program.specs.Answer.{only}
-use Rattle.rc_pikevm.specs.Sights.{Sight, is_there, ends, next_of}
+use Rattle.rc_pikevm.specs.Sights.{Sight, ends, next_of}
 use Rattle.rc_pikevm.specs.Entered.{Goes, IsSkipped, IsEntered, IsVisited}
 use Rattle.rc_pikevm.specs.Alone.{IsDead}
 use Rattle.rc_pikevm.specs.Marking.{SomeLeads, Owed, going, explored}
@@ -114,7 +114,7 @@ module _ (s : Sight) (p at : ℕ) (marks : List Bool) where
           ↔ Owed s at rest (items ++ q ∷ []) (explored at (fs ++ frames) ++ below) marks p) (sym e)
           (ways_on ((n, at) ∷ []) (explored at frames ++ below)
           (ap (λ q. map (pair_at at) (ways_out (λ l. holds s.text l at) (ahead s.text s.hi at) q)) m)
-          (ap (λ b. b && is_there s.until at) (ap (is_match_place (only s.anchoring)) m ∙ slot_on (only s.anchoring) k n))))
+          (ap (is_match_place (only s.anchoring)) m ∙ slot_on (only s.anchoring) k n)))
 
 -- the patterns to which walks lead are the same, where other pairs were passed
 leads_by : (s : Sight) (p : ℕ) (v u : List Pair) →

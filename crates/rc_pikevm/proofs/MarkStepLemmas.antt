@@ -1,5 +1,5 @@
 -- The threads of one position, and all positions, of a pass that marks patterns.
-use Rattle.std.proofs.Common.{◌≡◌, ◌↔◌, ℕ, zero, suc, ◌+◌, ◌-◌, ◌*◌, ◌<◌, ◌≤◌, ◌⊎◌, Bool, true, List, [], ◌∷◌, ◌++◌, length, map, drop, min, inl, inr, ⊎_elim, sym, subst, ap, ◌∙◌, refl, arith, Some, None, if◌then◌else◌, nat_le, slice_get, add-one, IsTrue}
+use Rattle.std.proofs.Common.{◌≡◌, ◌↔◌, ℕ, zero, suc, ◌+◌, ◌-◌, ◌*◌, ◌<◌, ◌≤◌, ◌⊎◌, Bool, true, List, [], ◌∷◌, ◌++◌, length, map, drop, min, inl, inr, ⊎_elim, sym, subst, ap, ◌∙◌, refl, arith, Some, if◌then◌else◌, nat_le, slice_get, add-one, IsTrue}
 use Rattle.std.proofs.Math.Nat.{mul-le-mul_right}
 use Rattle.std.proofs.lemmas.Bool.{cases_lt, le-leb}
 use Rattle.std.proofs.lemmas.List.{length_push}
@@ -21,7 +21,6 @@ use Rattle.rc_pikevm.specs.Threads.{Thread, ThreadList}
 use Rattle.rc_pikevm.proofs.GrownLemmas.{count_push, count_all, in_push, from_push}
 use Rattle.rc_pikevm.proofs.MarkLemmas.{AllLater}
 use Rattle.rc_pikevm.proofs.MarkMoveLemmas.{same_then, later_waits, low_in}
-use Rattle.rc_pikevm.proofs.SightLemmas.{walk_whole, walk_seen}
 use Rattle.rc_pikevm.proofs.StepLemmas.{drop_get, in_at, from_at}
 
 pub entries_later : (s : Sight) (p at x count : ℕ) → at < x → AllLater s p at (entries x count)
@@ -214,22 +213,22 @@ all_then first middle last set0 set more a b p l u = ⊎_elim (λ x. more p (a p
 
 module _ (s : Search) where
   -- what a start from x on leads to, the search spells
-  led_span : (x count p : ℕ) → ((y : ℕ) → x ≤ y → y < x + count → IsStart s y) → SomeLeads (sight_of None s) [] (entries x count) p → HasSpan s p
+  led_span : (x count p : ℕ) → ((y : ℕ) → x ≤ y → y < x + count → IsStart s y) → SomeLeads (sight_of s) [] (entries x count) p → HasSpan s p
   led_span x zero p all h = absurd h
   led_span x (suc count) p all h =
       ⊎_elim
       (λ a. let m : Found = record { pattern = p; start = x; end = (last_of a.walk).1 } in
-      (m, refl, record { is_start = all x (omega arith) (omega arith); walk = a.walk; is_walk = walk_whole s None a.is_walk; pattern = a.pattern; position = refl }))
+      (m, refl, record { is_start = all x (omega arith) (omega arith); walk = a.walk; is_walk = a.is_walk; pattern = a.pattern; position = refl }))
       (λ b. led_span (x + 1) count p (λ y l u. all y (omega (arith, l)) (omega (arith, u))) b) h
 
-  span_led : (x count : ℕ) (m : Found) → IsSpelledIn s m → x ≤ m.start → m.start < x + count → SomeLeads (sight_of None s) [] (entries x count) m.pattern
+  span_led : (x count : ℕ) (m : Found) → IsSpelledIn s m → x ≤ m.start → m.start < x + count → SomeLeads (sight_of s) [] (entries x count) m.pattern
   span_led x zero m h low high = absurd (omega (arith, low, high))
   span_led x (suc count) m h low high =
       ⊎_elim
       (λ l. inr (span_led (x + 1) count m h (omega (arith, l)) (omega (arith, high))))
       (λ ge. let e : m.start ≡ x = omega (arith, low, ge) in inl (record {
         walk = h.walk;
-        is_walk = walk_seen s (subst (λ y. IsWalk (next_of s) (λ n. IsTrue (ends s n)) [] ((0, y) ∷ []) h.walk) e h.is_walk);
+        is_walk = (subst (λ y. IsWalk (next_of s) (λ n. IsTrue (ends s n)) [] ((0, y) ∷ []) h.walk) e h.is_walk);
         pattern = h.pattern;
       }))
       (cases_lt x m.start)
@@ -245,7 +244,7 @@ module _ (s : Search) where
   }
 
   -- the pass over all starts adds what is spelled
-  pub marks_add : (last first end patterns : ℕ) (set0 set : List Bool) → last ≡ last_start_of s → s.lo ≤ s.hi → MarksFrom (sight_of None s) s.lo last first end set0 set →
+  pub marks_add : (last first end patterns : ℕ) (set0 set : List Bool) → last ≡ last_start_of s → s.lo ≤ s.hi → MarksFrom (sight_of s) s.lo last first end set0 set →
       ((p : ℕ) → p < patterns → p < length set0 → IsTrue (is_match_place (only s.anchoring) (accept p)) → (first ≤ p) × (p < end)) →
       AreOfFirst patterns s.places → AddsSpelled s set0 set
   marks_add last first end patterns set0 set is low marks wanted first_ones = record {

@@ -8,7 +8,7 @@ use Rattle.rc_walks.proofs.ThreadLemmas.{of_none, of_rest, skips_pends, enters_p
 use Rattle.rc_program.specs.Program.{slot, accept, place_at, ways_out, pair_at, is_match_place}
 use Rattle.rc_program.specs.Text.{holds, ahead}
 use Rattle.rc_program.specs.Answer.{only}
-use Rattle.rc_pikevm.specs.Sights.{Sight, is_there, ends, next_of}
+use Rattle.rc_pikevm.specs.Sights.{Sight, ends, next_of}
 use Rattle.rc_program.proofs.WayLemmas.{same_pair, ways_onward}
 use Rattle.rc_pikevm.proofs.SightLemmas.{last_pair}
 use Rattle.rc_pikevm.specs.Sparse.{Has}
@@ -134,7 +134,7 @@ module _ (s : Sight) where
           (waited at rest (items ++ p ∷ []) best o (record { place = n; at = to; start = start; slots = slots }) (waits start at frames slots ++ below) m.2 x)
       moved (Save k n) frames below m other x =
           entered_on p (trace start slots) (waits start at frames slots ++ below) fresh
-          (ap (λ b. b && is_there s.until at) (ap (is_match_place (only s.anchoring)) m ∙ slot_on (only s.anchoring) k n))
+          (ap (is_match_place (only s.anchoring)) m ∙ slot_on (only s.anchoring) k n)
           (subst (λ q. Carries s at rest (items ++ p ∷ [])
           (threads (note_at q (trace start slots) at) (map (pair_at at) (ways_out (λ l. holds s.text l at) (ahead s.text s.hi at) q))
           ++ (waits start at frames slots ++ below)) best o) (sym m)

@@ -8,7 +8,7 @@ use Rattle.rc_program.specs.Text.{holds, ahead}
 use Rattle.rc_program.specs.Answer.{only}
 use Rattle.rc_program.proofs.LongestLemmas.{none_to}
 use Rattle.rc_program.proofs.WayLemmas.{same_pair}
-use Rattle.rc_pikevm.specs.Sights.{Sight, is_there, ends, next_of}
+use Rattle.rc_pikevm.specs.Sights.{Sight, ends, next_of}
 use Rattle.rc_pikevm.specs.Sparse.{Has}
 use Rattle.rc_pikevm.specs.Threads.{Thread}
 use Rattle.rc_pikevm.specs.Trace.{Trace, note, note_at, trace, done}
@@ -189,7 +189,7 @@ module _ (s : Sight) (all : List (Trace × Pair)) (at : ℕ) where
         (subst (λ q. After rest (threads (note_at q (trace start slots) at) (map (pair_at at) (ways_out (λ l. holds s.text l at) (ahead s.text s.hi at) q))
         ++ (waits start at frames slots ++ below))) m
         (entered_on rest items best found p (trace start slots) (waits start at frames slots ++ below) fresh
-        (ap (λ b. b && is_there s.until at) (ap (is_match_place (only s.anchoring)) m ∙ slot_on (only s.anchoring) k n)) sought x)))
+        (ap (is_match_place (only s.anchoring)) m ∙ slot_on (only s.anchoring) k n) sought x)))
 
 -- the place is entered, and no move is made
 raced_leaves : (s : Sight) (all : List (Trace × Pair)) (at : ℕ) (rest : List Thread) (items : List ℕ) (best : Option Ending) (found : List (Option ℕ))

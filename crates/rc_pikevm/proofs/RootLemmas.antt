@@ -11,7 +11,6 @@ use Rattle.rc_walks.proofs.CutLemmas.{first_is_one}
 use Rattle.rc_walks.proofs.ThreadLemmas.{of_none, of_one}
 use Rattle.rc_walks.proofs.TryLemmas.{Finds}
 use Rattle.rc_program.specs.Program.{Place}
-use Rattle.rc_program.specs.Answer as whole
 use Rattle.rc_program.specs.Answer.{Search}
 use Rattle.rc_program.specs.Laws.{IsChoice}
 use Rattle.rc_pikevm.specs.Sights.{Sight, sight_of, ends, next_of, IsFirstFrom}
@@ -20,7 +19,6 @@ use Rattle.rc_pikevm.specs.Threads.{Thread}
 use Rattle.rc_pikevm.specs.Passing.{AllFrom, Carries}
 use Rattle.rc_pikevm.specs.Roots.{StandsFor, StandsIn}
 use Rattle.rc_pikevm.proofs.EarlyLemmas.{tried, tried_finds}
-use Rattle.rc_pikevm.proofs.SightLemmas.{walk_seen, walk_whole}
 use Rattle.rc_text.specs.Text.{Searched, Keeps}
 use Rattle.rc_program.specs.Programs.{search_of}
 use Rattle.rc_program.specs.declared.program.Program.{Program}
@@ -34,23 +32,9 @@ stands_itself s x = (λ v f. ∣ ([], All-nil (IsChoice s.places), f) ∣₁, λ
 pub itself_in : (s : Search) → StandsIn s 0
 itself_in s x = (λ v f. ∣ ([], All-nil (IsChoice s.places), f) ∣₁, λ none. none)
 
-module _ (s : Search) where
-  first_seen : (x : ℕ) (w : List Pair) → whole.IsFirstFrom s x w → IsFirstFrom (sight_of None s) x w
-  first_seen x w h = record { is_walk = walk_seen s h.is_walk; is_least = λ v b. h.is_least v (walk_whole s None b) }
-
-  -- a pass by all places of a search sees it too
-  pub stands_seen : (root : ℕ) → StandsIn s root → StandsFor (sight_of None s) root
-  stands_seen root stands x = (
-    λ v f. ∥∥₁_elim
-        ((stands x).0 v (record { is_walk = walk_whole s None f.is_walk; is_least = λ w b. f.is_least w (walk_seen s b) }))
-        (hlevel props)
-        (λ r. ∣ (r.0, r.1, first_seen x (r.0 ++ v) r.2) ∣₁),
-    λ none v b. (stands x).1 (λ w a. none w (walk_seen s a)) v (walk_whole s None b),
-  )
-
--- and so does one of an input that shows the same
-pub stands_kept : (p : Program) (a b : Searched) (root : ℕ) → Keeps a b → StandsIn (search_of p a) root → StandsFor (sight_of None (seen p b)) root
-stands_kept p a b root keeps stands = subst (λ s. StandsFor (sight_of None s) root) (sym (kept_seen p a b keeps)) (stands_seen (search_of p a) root stands)
+-- a pass by an input that shows the same sees it too
+pub stands_kept : (p : Program) (a b : Searched) (root : ℕ) → Keeps a b → StandsIn (search_of p a) root → StandsFor (sight_of (seen p b)) root
+stands_kept p a b root keeps stands = subst (λ s. StandsFor (sight_of s) root) (sym (kept_seen p a b keeps)) stands
 
 -- nothing is noted at choices
 noted_choice : (places : List Place) (h : Trace) (n : Pair) → IsChoice places n → note places h n ≡ h

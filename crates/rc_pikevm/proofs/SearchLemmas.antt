@@ -16,7 +16,6 @@ use Rattle.rc_pikevm.specs.Passing.{GivesTrace, best_of}
 use Rattle.rc_pikevm.specs.Found.{IsChosen}
 use Rattle.rc_pikevm.specs.declared.pass.Ending.{Ending}
 use Rattle.rc_pikevm.specs.Sights.{sight_of}
-use Rattle.rc_pikevm.proofs.SightLemmas.{first_whole, none_whole}
 use Rattle.rc_pikevm.proofs.NotedLemmas.{noted_start, noted_visit, noted_end}
 
 -- what a pass that found a walk has shown of it
@@ -31,8 +30,8 @@ pub record IsBest (s : Search) (width from last : ℕ) (e : Ending) (slots : Lis
 
 module _ (s : Search) (width from last : ℕ) where
   -- no start has a walk
-  pub none_gives : (slots : List (Option ℕ)) → GivesTrace (sight_of None s) width from last (best_of None slots) → (y : ℕ) → from ≤ y → y ≤ last → HasNoWalkFrom s y
-  none_gives slots g = ⊎_elim (λ n. λ y a b. none_whole s y (n.1 y a b)) (λ m. absurd (none-some _ m.6)) g
+  pub none_gives : (slots : List (Option ℕ)) → GivesTrace (sight_of s) width from last (best_of None slots) → (y : ℕ) → from ≤ y → y ≤ last → HasNoWalkFrom s y
+  none_gives slots g = ⊎_elim (λ n. n.1) (λ m. absurd (none-some _ m.6)) g
 
   -- what is told of a walk along which that was noted
   pub record IsTold (x : ℕ) (e : Ending) (slots : List (Option ℕ)) (w : List Pair) : Type 0 where
@@ -71,11 +70,11 @@ module _ (s : Search) (width from last : ℕ) where
       }
 
   -- the least start that has a walk, and its first walk
-  pub some_gives : (e : Ending) (slots : List (Option ℕ)) → GivesTrace (sight_of None s) width from last (best_of (Some e) slots) →
+  pub some_gives : (e : Ending) (slots : List (Option ℕ)) → GivesTrace (sight_of s) width from last (best_of (Some e) slots) →
       (w : List Pair) × IsBest s width from last e slots w
   some_gives e slots g =
       ⊎_elim (λ n. absurd (none-some _ (sym n.0)))
-      (λ m. (m.1, best_gives e slots m.0 m.1 m.2 m.3 (first_whole s m.0 m.1 m.4) (λ y a b. none_whole s y (m.5 y a b)) (same_Some _ _ m.6))) g
+      (λ m. (m.1, best_gives e slots m.0 m.1 m.2 m.3 m.4 m.5 (same_Some _ _ m.6))) g
 
 -- the last start, as the code finds it
 pub last_found : (s : Search) (last lo hi : ℕ) (anchoring : Anchoring) → last ≡ (if is_anchored anchoring then lo else hi) → lo ≡ s.lo → hi ≡ s.hi →

@@ -7,7 +7,7 @@ use Rattle.rc_walks.specs.Walks.{Pair}
 use Rattle.rc_program.specs.Program.{accept, place_at, ways_out, pair_at, is_match_place}
 use Rattle.rc_program.specs.Text.{holds, ahead}
 use Rattle.rc_program.specs.Answer.{only}
-use Rattle.rc_pikevm.specs.Sights.{Sight, is_there, ends, next_of}
+use Rattle.rc_pikevm.specs.Sights.{Sight, ends, next_of}
 use Rattle.rc_pikevm.specs.Sparse.{Has}
 use Rattle.rc_pikevm.specs.Threads.{Thread}
 use Rattle.rc_pikevm.specs.Moves.{IsMove}
@@ -138,6 +138,6 @@ module _ (s : Sight) where
           let e : frames_of [] (Save k n) ≡ Explore n ∷ [] = rw (le-ltb k 0 (omega arith)) refl in
           ways_on ((n, at) ∷ []) (runners_of start at frames ++ below)
           (ap (λ q. map (pair_at at) (ways_out (λ l. holds s.text l at) (ahead s.text s.hi at) q)) m)
-          (ap (λ b. b && is_there s.until at) (ap (is_match_place (only s.anchoring)) m ∙ slot_on (only s.anchoring) k n)) (begin_more start at frames below low)
+          (ap (is_match_place (only s.anchoring)) m ∙ slot_on (only s.anchoring) k n) (begin_more start at frames below low)
           (subst (λ fs. Seeks s at rest (items ++ p ∷ []) (runners_of start at (fs ++ frames) ++ below) best o) e
           (subst (λ r. Seeks s at r (items ++ p ∷ []) (runners_of start at (frames_of [] (Save k n) ++ frames) ++ below) best o) (append-nil rest) x))

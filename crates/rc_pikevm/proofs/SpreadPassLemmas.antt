@@ -16,7 +16,6 @@ use Rattle.rc_pikevm.specs.Passing.{AllIn, AllFrom, IsLined, IsCounted}
 use Rattle.rc_pikevm.specs.Spread.{running, SomeSpells, IsTop, Seeks, Offers, span_of, setting_out, starting, IsOrdered, IsCovering}
 use Rattle.rc_pikevm.specs.declared.pass.Ending.{Ending}
 use Rattle.rc_pikevm.proofs.SpreadLemmas.{top_back, no_greater_self}
-use Rattle.rc_pikevm.proofs.SightLemmas.{walk_whole, walk_seen}
 use Rattle.rc_pikevm.proofs.SpreadStepLemmas.{starting_over}
 
 pub counted_more : (a b : ℕ) (best : Option Ending) → a ≤ b → IsCounted a best → IsCounted b best
@@ -102,20 +101,20 @@ module _ (s : Sight) (n hi from last : ℕ) where
 
 module _ (s : Search) where
   -- what a start from x on spells, the search spells
-  spelled_by : (x count : ℕ) (m : Found) → ((y : ℕ) → x ≤ y → y < x + count → IsStart s y) → SomeSpells (sight_of None s) [] (setting_out x count) m → IsSpelledIn s m
+  spelled_by : (x count : ℕ) (m : Found) → ((y : ℕ) → x ≤ y → y < x + count → IsStart s y) → SomeSpells (sight_of s) [] (setting_out x count) m → IsSpelledIn s m
   spelled_by x zero m all h = absurd h
   spelled_by x (suc count) m all h =
       ⊎_elim
       (λ a. record {
         is_start = subst (IsStart s) (sym a.start) (all x (omega arith) (omega arith));
         walk = a.walk;
-        is_walk = subst (λ y. IsWalk (next_of s) (λ n. IsTrue (ends s n)) [] ((0, y) ∷ []) a.walk) (sym a.start) (walk_whole s None a.is_walk);
+        is_walk = subst (λ y. IsWalk (next_of s) (λ n. IsTrue (ends s n)) [] ((0, y) ∷ []) a.walk) (sym a.start) a.is_walk;
         pattern = a.pattern;
         position = a.position;
       })
       (λ b. spelled_by (x + 1) count m (λ y l u. all y (omega (arith, l)) (omega (arith, u))) b) h
 
-  spells_from : (x count : ℕ) (m : Found) → IsSpelledIn s m → x ≤ m.start → m.start < x + count → SomeSpells (sight_of None s) [] (setting_out x count) m
+  spells_from : (x count : ℕ) (m : Found) → IsSpelledIn s m → x ≤ m.start → m.start < x + count → SomeSpells (sight_of s) [] (setting_out x count) m
   spells_from x zero m h low high = absurd (omega (arith, low, high))
   spells_from x (suc count) m h low high =
       ⊎_elim
@@ -123,7 +122,7 @@ module _ (s : Search) where
       (λ ge. let e : m.start ≡ x = omega (arith, low, ge) in inl (record {
         start = e;
         walk = h.walk;
-        is_walk = walk_seen s (subst (λ y. IsWalk (next_of s) (λ n. IsTrue (ends s n)) [] ((0, y) ∷ []) h.walk) e h.is_walk);
+        is_walk = (subst (λ y. IsWalk (next_of s) (λ n. IsTrue (ends s n)) [] ((0, y) ∷ []) h.walk) e h.is_walk);
         pattern = h.pattern;
         position = h.position;
       }))
@@ -134,10 +133,10 @@ module _ (s : Search) where
   top_greatest (Some m) top = sym ((greatest_some s m).1 (record { is_spelled = top.0; is_most = top.1 }))
 
   -- the pass over all starts gives the greatest
-  pub covered_greatest : (last : ℕ) (o : Option Found) → last ≡ last_start_of s → s.lo ≤ s.hi → IsTop (SomeSpells (sight_of None s) [] (starting s.lo last)) o →
+  pub covered_greatest : (last : ℕ) (o : Option Found) → last ≡ last_start_of s → s.lo ≤ s.hi → IsTop (SomeSpells (sight_of s) [] (starting s.lo last)) o →
       o ≡ greatest s
   covered_greatest last o is low top =
-      top_greatest o (top_back (IsSpelledIn s) (SomeSpells (sight_of None s) [] (starting s.lo last)) o
+      top_greatest o (top_back (IsSpelledIn s) (SomeSpells (sight_of s) [] (starting s.lo last)) o
       (record {
         fewer = λ m h. spelled_by s.lo (last + 1 - s.lo) m (λ y l u. start_within_last s y l (omega (arith, u, is, l))) h;
         enough = λ m h. let t = start_to_last s m.start h.is_start in

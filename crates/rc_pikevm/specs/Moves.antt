@@ -20,7 +20,7 @@ seen p input = search_over (places_of p.places.items) p.terminator false input
 
 -- what a pass by the course sees of an input
 abbrev pub seen_by : Course → Searched → Sight
-seen_by course input = sight_of course.until (seen course.program.now input)
+seen_by course input = sight_of (seen course.program.now input)
 
 -- the bound and the allowed pattern are those of the input
 pub record IsSetting (course : Course) (input : Searched) : Type 0 where

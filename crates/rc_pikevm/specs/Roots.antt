@@ -2,10 +2,9 @@
 -- Places that stand for place 0, where walks are entered.
 use Rattle.std.specs.Prelude.{ℕ, All, List, [], ◌∷◌, ◌++◌, IsTrue}
 use Rattle.rc_walks.specs.Walks.{Pair, IsFirstWalk, HasNoWalk}
-use Rattle.rc_program.specs.Answer as whole
 use Rattle.rc_program.specs.Answer.{Search}
 use Rattle.rc_program.specs.Laws.{IsChoice}
-use Rattle.rc_pikevm.specs.Sights.{Sight, ends, next_of, IsFirstFrom, HasNoWalkFrom}
+use Rattle.rc_pikevm.specs.Sights.{Sight, sight_of, ends, next_of, IsFirstFrom, HasNoWalkFrom}
 
 -- The first walk from place 0 is, after choices alone, the one from `root`; and there is none where there is none from `root`.
 abbrev pub StandsFor : Sight → ℕ → Type 0
@@ -16,7 +15,4 @@ StandsFor s root = (x : ℕ) →
 
 -- so it is in a search
 abbrev pub StandsIn : Search → ℕ → Type 0
-StandsIn s root = (x : ℕ) →
-    ((v : List Pair) → IsFirstWalk (whole.next_of s) (λ n. IsTrue (whole.ends s n)) [] ((root, x) ∷ []) v →
-    ∥ ((u : List Pair) × All (IsChoice s.places) u × whole.IsFirstFrom s x (u ++ v)) ∥₁)
-    × (HasNoWalk (whole.next_of s) (λ n. IsTrue (whole.ends s n)) [] ((root, x) ∷ []) → whole.HasNoWalkFrom s x)
+StandsIn s = StandsFor (sight_of s)

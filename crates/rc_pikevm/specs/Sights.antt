@@ -1,6 +1,6 @@
 -- Only proofs use this file.
--- What a pass sees of a search: all but the starts and what is passed over, and where alone a walk may end.
-use Rattle.std.specs.Prelude.{ℕ, Bool, true, ◌&&◌, List, [], ◌∷◌, Option, Some, None, IsTrue, nat_eq}
+-- What a pass sees of a search: all but the starts and what is passed over.
+use Rattle.std.specs.Prelude.{ℕ, Bool, List, [], ◌∷◌, IsTrue}
 use Rattle.rc_walks.specs.Walks.{Pair, IsFirstWalk, HasNoWalk}
 use Rattle.rc_program.specs.Text.{Text}
 use Rattle.rc_program.specs.Program.{Place, place_at, ways, is_match_place}
@@ -11,19 +11,13 @@ pub record Sight : Type 0 where
   pub text : Text
   pub hi : ℕ
   pub anchoring : Anchoring
-  -- where it is Some, a walk may end at this position alone
-  pub until : Option ℕ
 
-abbrev pub sight_of : Option ℕ → Search → Sight
-sight_of until s = record { places = s.places; text = s.text; hi = s.hi; anchoring = s.anchoring; until = until }
-
-abbrev pub is_there : Option ℕ → ℕ → Bool
-is_there None i = true
-is_there (Some e) i = nat_eq i e
+abbrev pub sight_of : Search → Sight
+sight_of s = record { places = s.places; text = s.text; hi = s.hi; anchoring = s.anchoring }
 
 -- a walk may end here
 abbrev pub ends : Sight → Pair → Bool
-ends s n = is_match_place (only s.anchoring) (place_at s.places n.0) && is_there s.until n.1
+ends s n = is_match_place (only s.anchoring) (place_at s.places n.0)
 
 abbrev pub next_of : Sight → Pair → List Pair
 next_of s = ways s.places s.text s.hi

@@ -179,7 +179,6 @@ fn choose<C: Cursor>(
         hi,
         pattern,
         last,
-        until: None,
     };
     reach_end(input, course, lo, scratch)
 }

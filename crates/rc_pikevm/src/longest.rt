@@ -56,7 +56,6 @@ fn outlast<C: Cursor>(
         hi,
         pattern,
         last,
-        until: None,
     };
     let mut from = lo;
     'starts: while from <= last {

@@ -7,7 +7,6 @@ ghost use Rattle.rc_program.specs.Places.{places_of};
 ghost use Rattle.rc_program.specs.Program.{in_ranges, is_match_place, place_at, accept, byte as byte_place, guard, scalar};
 ghost use Rattle.rc_program.specs.Scalars.{scalar_at};
 ghost use Rattle.rc_pikevm.specs.Moves.{IsMove, IsMoveAt, moving, reading};
-ghost use Rattle.rc_pikevm.specs.Sights.{is_there as there};
 ghost use Rattle.rc_pikevm.specs.declared.moves.Move.TheVariants.{Matches, Stays};
 
 use crate::sides::holds;
@@ -149,7 +148,7 @@ pub fn may_end(spot: &Spot, number: usize) -> bool
     requires here { IsHere spot.now text }
     ensures { (p : ℕ) → IsMoveAt (seen_from spot.now text) (p, spot.now.at) (accept number) (moving (Matches number) result) }
 {
-    is_allowed(spot.course.pattern, number) && is_there(spot.course.until, spot.at)
+    is_allowed(spot.course.pattern, number)
 }
 
 /// Whether walks of the pattern count.
@@ -163,18 +162,7 @@ fn is_allowed(pattern: Option<usize>, number: usize) -> bool
     }
 }
 
-/// Whether walks that end at the position count.
-#[inline(always)]
-fn is_there(until: Option<usize>, at: usize) -> bool
-    ensures { result ≡ there until at }
-{
-    match until {
-        None => true,
-        Some(end) => at == end,
-    }
-}
-
-/// Whether one of the ranges has the byte, by the place's flags if it has any.
+/// Whether one of the ranges has the byte, by the place's flags where it has any.
 #[inline(always)]
 fn takes_byte(program: &Program, place: usize, ranges: &Vec<ClassBytesRange>, byte: u8) -> bool
     requires { place < length program.now.places.items }

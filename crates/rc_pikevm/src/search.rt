@@ -98,7 +98,6 @@ fn choose<C: Cursor>(
         hi,
         pattern,
         last,
-        until: None,
     };
     let mut from = lo;
     'starts: while from <= last {
@@ -273,7 +272,6 @@ pub(crate) fn meets<C: Cursor>(
         hi,
         pattern,
         last,
-        until: None,
     };
     pass(input, course, prefilter, lo, true, scratch)
 }

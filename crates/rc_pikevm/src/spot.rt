@@ -14,8 +14,6 @@ pub struct Course<'a> {
     pub pattern: Option<usize>,
     /// The last start, in bytes: at most `hi`.
     pub last: usize,
-    /// If it is Some, walks that end at this position alone count, in bytes.
-    pub until: Option<usize>,
     ghost small: { hi + 1 < 2 ^ 64 },
     ghost ordered: { last ≤ hi },
 }

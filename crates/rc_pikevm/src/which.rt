@@ -271,7 +271,6 @@ fn choose<C: Cursor>(
         hi,
         pattern,
         last,
-        until: None,
     };
     let (first, end) = wanted(pattern, patterns, set);
     pass(input, course, lo, first, end, set, scratch);

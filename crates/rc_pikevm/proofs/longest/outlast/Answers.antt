@@ -33,10 +33,10 @@ last_there g c =
     (omega (arith, c.if-lo-hi.false, c.bounds-lo.ensures.low, c.bounds-lo.ensures.high))
 
 gives : (g : Over) (c : After-race g) →
-    GivesLongest (sight_of None (seen c.args.program.now c.args.input.now)) c.starts.scratch.next.threads.width c.starts.from c.starts_of-pattern.result.1
+    GivesLongest (sight_of (seen c.args.program.now c.args.input.now)) c.starts.scratch.next.threads.width c.starts.from c.starts_of-pattern.result.1
     (best_of c.race.result c.race.new.scratch.found.items)
 gives g c =
-    subst (λ s. GivesLongest (sight_of None s) c.starts.scratch.next.threads.width c.starts.from c.starts_of-pattern.result.1 (best_of c.race.result c.race.new.scratch.found.items))
+    subst (λ s. GivesLongest (sight_of s) c.starts.scratch.next.threads.width c.starts.from c.starts_of-pattern.result.1 (best_of c.race.result c.race.new.scratch.found.items))
     (kept_seen c.args.program.now c.args.input.now c.starts.input c.starts.invariant.keeps) c.race.ensures.gives
 
 pub returns-then-lo-hi-clause-chosen : goal.returns-then-lo-hi-clause-chosen
@@ -50,14 +50,14 @@ returns-in_default-clause-chosen g c =
     walks_none s c.starts.scratch.next.threads.width c.starts.from c.starts_of-pattern.result.1 c.starts.invariant.passed
     (last_there g (goal.at.returns-in_default-clause-chosen g c).After-race)
     (none_outlasts s c.starts.scratch.next.threads.width c.starts.from c.starts_of-pattern.result.1 c.race.new.scratch.found.items
-    (subst (λ r. GivesLongest (sight_of None s) c.starts.scratch.next.threads.width c.starts.from c.starts_of-pattern.result.1 (best_of r c.race.new.scratch.found.items)) c.in_default.is
+    (subst (λ r. GivesLongest (sight_of s) c.starts.scratch.next.threads.width c.starts.from c.starts_of-pattern.result.1 (best_of r c.race.new.scratch.found.items)) c.in_default.is
     (gives g (goal.at.returns-in_default-clause-chosen g c).After-race)))
 
 pub returns-then-not-program-clause-chosen : goal.returns-then-not-program-clause-chosen
 returns-then-not-program-clause-chosen g c =
     let s : Search = search_of c.args.program.now c.args.input.now in
     let b = some_outlasts s c.starts.scratch.next.threads.width c.starts.from c.starts_of-pattern.result.1 c.in-Some.end c.race.new.scratch.found.items
-    (subst (λ r. GivesLongest (sight_of None s) c.starts.scratch.next.threads.width c.starts.from c.starts_of-pattern.result.1 (best_of r c.race.new.scratch.found.items)) c.in-Some.is
+    (subst (λ r. GivesLongest (sight_of s) c.starts.scratch.next.threads.width c.starts.from c.starts_of-pattern.result.1 (best_of r c.race.new.scratch.found.items)) c.in-Some.is
     (gives g (goal.at.returns-then-not-program-clause-chosen g c).After-race)) in
     outlasting_chosen s c.starts.scratch.next.threads.width c.starts.from c.starts_of-pattern.result.1 c.starts.invariant.passed
     (last_there g (goal.at.returns-then-not-program-clause-chosen g c).After-race) c.in-Some.end c.race.new.scratch.found.items b.0
@@ -68,7 +68,7 @@ pub returns-then-is_boundary_at-clause-chosen : goal.returns-then-is_boundary_at
 returns-then-is_boundary_at-clause-chosen g c =
     let s : Search = search_of c.args.program.now c.args.input.now in
     let b = some_outlasts s c.starts.scratch.next.threads.width c.starts.from c.starts_of-pattern.result.1 c.in-Some.end c.race.new.scratch.found.items
-    (subst (λ r. GivesLongest (sight_of None s) c.starts.scratch.next.threads.width c.starts.from c.starts_of-pattern.result.1 (best_of r c.race.new.scratch.found.items)) c.in-Some.is
+    (subst (λ r. GivesLongest (sight_of s) c.starts.scratch.next.threads.width c.starts.from c.starts_of-pattern.result.1 (best_of r c.race.new.scratch.found.items)) c.in-Some.is
     (gives g (goal.at.returns-then-is_boundary_at-clause-chosen g c).After-race)) in
     let content = c.in-Some.ensures.keeps.content ∙ c.starts.invariant.keeps.content in
     outlasting_chosen s c.starts.scratch.next.threads.width c.starts.from c.starts_of-pattern.result.1 c.starts.invariant.passed
@@ -81,7 +81,7 @@ pub overflow_add-from : goal.overflow_add-from
 overflow_add-from g c =
     let s : Search = search_of c.args.program.now c.args.input.now in
     let b = some_outlasts s c.starts.scratch.next.threads.width c.starts.from c.starts_of-pattern.result.1 c.in-Some.end c.race.new.scratch.found.items
-    (subst (λ r. GivesLongest (sight_of None s) c.starts.scratch.next.threads.width c.starts.from c.starts_of-pattern.result.1 (best_of r c.race.new.scratch.found.items)) c.in-Some.is
+    (subst (λ r. GivesLongest (sight_of s) c.starts.scratch.next.threads.width c.starts.from c.starts_of-pattern.result.1 (best_of r c.race.new.scratch.found.items)) c.in-Some.is
     (gives g (goal.at.overflow_add-from g c).After-race)) in
     omega (arith, b.1.high, c.starts.invariant.low.1, c.bounds-lo.ensures.small)
 
@@ -89,7 +89,7 @@ pub starts-smaller : goal.starts-smaller
 starts-smaller g c =
     let s : Search = search_of c.args.program.now c.args.input.now in
     let b = some_outlasts s c.starts.scratch.next.threads.width c.starts.from c.starts_of-pattern.result.1 c.in-Some.end c.race.new.scratch.found.items
-    (subst (λ r. GivesLongest (sight_of None s) c.starts.scratch.next.threads.width c.starts.from c.starts_of-pattern.result.1 (best_of r c.race.new.scratch.found.items)) c.in-Some.is
+    (subst (λ r. GivesLongest (sight_of s) c.starts.scratch.next.threads.width c.starts.from c.starts_of-pattern.result.1 (best_of r c.race.new.scratch.found.items)) c.in-Some.is
     (gives g (goal.at.starts-smaller g c).After-race)) in
     omega (arith, b.1.low, b.1.high, c.starts-test.true)
 
@@ -97,7 +97,7 @@ pub starts-preserved : goal.starts-preserved
 starts-preserved g c =
     let s : Search = search_of c.args.program.now c.args.input.now in
     let b = some_outlasts s c.starts.scratch.next.threads.width c.starts.from c.starts_of-pattern.result.1 c.in-Some.end c.race.new.scratch.found.items
-    (subst (λ r. GivesLongest (sight_of None s) c.starts.scratch.next.threads.width c.starts.from c.starts_of-pattern.result.1 (best_of r c.race.new.scratch.found.items)) c.in-Some.is
+    (subst (λ r. GivesLongest (sight_of s) c.starts.scratch.next.threads.width c.starts.from c.starts_of-pattern.result.1 (best_of r c.race.new.scratch.found.items)) c.in-Some.is
     (gives g (goal.at.starts-preserved g c).After-race)) in
     let content = c.in-Some.ensures.keeps.content ∙ c.starts.invariant.keeps.content in
     record {

@@ -3,8 +3,6 @@ use Rattle.rc_text.specs.Text.{high}
 use Rattle.rc_needles.specs.Needles.{find_needle}
 use Rattle.rc_needles.specs.Prefilters.{needles_of}
 use Rattle.rc_needles.proofs.StartLemmas.{needle_law}
-use Rattle.rc_pikevm.specs.Moves.{seen}
-use Rattle.rc_pikevm.proofs.SightLemmas.{none_until}
 use Rattle.rc_pikevm.proofs.pass.next_position.Goals as goal
 
 pub returns-in_default-find_from-clause-next : goal.returns-in_default-find_from-clause-next
@@ -16,8 +14,7 @@ returns-in_default-find_from-clause-next g c h =
     ap (find_needle needles content c.args.at) (sym c.requires.inside.1) ∙ sym c.find_from.ensures.value ∙ c.in_default-find_from.is in
     let none = (needle_law.not_found needles content c.args.at (high c.args.input.now)).0 e in (
       c.if-not-idle.false,
-      λ y low most. none_until (seen c.args.course.program.now c.args.input.now) c.args.course.until y
-          (guarded false c.args.input.now y (omega (arith, most, c.requires.inside.1)) (none y low)),
+      λ y low most. guarded false c.args.input.now y (omega (arith, most, c.requires.inside.1)) (none y low),
     )
 
 pub returns-clause-next : goal.returns-clause-next
@@ -34,7 +31,7 @@ returns-clause-next g c h =
       omega (arith, within.1, within.2),
       inr (
         c.if-not-idle.false,
-        λ y low before. none_until (seen c.args.course.program.now c.args.input.now) c.args.course.until y
-            (guarded false c.args.input.now y (omega (arith, before, within.1, within.2, c.requires.inside.1)) (first.none_before y low before)),
+        λ y low before.
+            guarded false c.args.input.now y (omega (arith, before, within.1, within.2, c.requires.inside.1)) (first.none_before y low before),
       ),
     )

@@ -18,7 +18,7 @@ use Rattle.rc_pikevm.proofs.search.choose.Goals.{After-starts, After-pass_from}
 
 pub pass_from-requires : goal.pass_from-requires
 pass_from-requires g c =
-    let stands : StandsFor (sight_of None (seen c.args.program.now c.starts.input)) c.args.root =
+    let stands : StandsFor (sight_of (seen c.args.program.now c.starts.input)) c.args.root =
     stands_kept c.args.program.now c.args.input.now c.starts.input c.args.root c.starts.invariant.keeps c.requires.stands in
     search rules
 
@@ -39,10 +39,10 @@ last_there g c =
     (omega (arith, c.if-lo-hi.false, c.bounds-lo.ensures.low, c.bounds-lo.ensures.high))
 
 gives : (g : Over) (c : After-pass_from g) →
-    GivesTrace (sight_of None (seen c.args.program.now c.args.input.now)) c.starts.scratch.next.threads.width c.starts.from c.starts_of-pattern.result.1
+    GivesTrace (sight_of (seen c.args.program.now c.args.input.now)) c.starts.scratch.next.threads.width c.starts.from c.starts_of-pattern.result.1
     (best_of c.pass_from.result c.pass_from.new.scratch.found.items)
 gives g c =
-    subst (λ s. GivesTrace (sight_of None s) c.starts.scratch.next.threads.width c.starts.from c.starts_of-pattern.result.1 (best_of c.pass_from.result c.pass_from.new.scratch.found.items))
+    subst (λ s. GivesTrace (sight_of s) c.starts.scratch.next.threads.width c.starts.from c.starts_of-pattern.result.1 (best_of c.pass_from.result c.pass_from.new.scratch.found.items))
     (kept_seen c.args.program.now c.args.input.now c.starts.input c.starts.invariant.keeps) (c.pass_from.ensures.gives refl)
 
 pub returns-then-lo-hi-clause-chosen : goal.returns-then-lo-hi-clause-chosen
@@ -56,14 +56,14 @@ returns-in_default-clause-chosen g c =
     none_chosen s c.starts.scratch.next.threads.width c.starts.from c.starts_of-pattern.result.1 c.starts.invariant.passed
     (last_there g (goal.at.returns-in_default-clause-chosen g c).After-pass_from)
     (none_gives s c.starts.scratch.next.threads.width c.starts.from c.starts_of-pattern.result.1 c.pass_from.new.scratch.found.items
-    (subst (λ r. GivesTrace (sight_of None s) c.starts.scratch.next.threads.width c.starts.from c.starts_of-pattern.result.1 (best_of r c.pass_from.new.scratch.found.items)) c.in_default.is
+    (subst (λ r. GivesTrace (sight_of s) c.starts.scratch.next.threads.width c.starts.from c.starts_of-pattern.result.1 (best_of r c.pass_from.new.scratch.found.items)) c.in_default.is
     (gives g (goal.at.returns-in_default-clause-chosen g c).After-pass_from)))
 
 pub returns-then-not-program-clause-chosen : goal.returns-then-not-program-clause-chosen
 returns-then-not-program-clause-chosen g c =
     let s : Search = search_of c.args.program.now c.args.input.now in
     let b = some_gives s c.starts.scratch.next.threads.width c.starts.from c.starts_of-pattern.result.1 c.in-Some.end c.pass_from.new.scratch.found.items
-    (subst (λ r. GivesTrace (sight_of None s) c.starts.scratch.next.threads.width c.starts.from c.starts_of-pattern.result.1 (best_of r c.pass_from.new.scratch.found.items)) c.in-Some.is
+    (subst (λ r. GivesTrace (sight_of s) c.starts.scratch.next.threads.width c.starts.from c.starts_of-pattern.result.1 (best_of r c.pass_from.new.scratch.found.items)) c.in-Some.is
     (gives g (goal.at.returns-then-not-program-clause-chosen g c).After-pass_from)) in
     best_chosen s c.starts.scratch.next.threads.width c.starts.from c.starts_of-pattern.result.1 c.starts.invariant.passed
     (last_there g (goal.at.returns-then-not-program-clause-chosen g c).After-pass_from) c.in-Some.end c.pass_from.new.scratch.found.items b.0
@@ -74,7 +74,7 @@ pub returns-then-is_boundary_at-clause-chosen : goal.returns-then-is_boundary_at
 returns-then-is_boundary_at-clause-chosen g c =
     let s : Search = search_of c.args.program.now c.args.input.now in
     let b = some_gives s c.starts.scratch.next.threads.width c.starts.from c.starts_of-pattern.result.1 c.in-Some.end c.pass_from.new.scratch.found.items
-    (subst (λ r. GivesTrace (sight_of None s) c.starts.scratch.next.threads.width c.starts.from c.starts_of-pattern.result.1 (best_of r c.pass_from.new.scratch.found.items)) c.in-Some.is
+    (subst (λ r. GivesTrace (sight_of s) c.starts.scratch.next.threads.width c.starts.from c.starts_of-pattern.result.1 (best_of r c.pass_from.new.scratch.found.items)) c.in-Some.is
     (gives g (goal.at.returns-then-is_boundary_at-clause-chosen g c).After-pass_from)) in
     let content = c.in-Some.ensures.keeps.content ∙ c.starts.invariant.keeps.content in
     best_chosen s c.starts.scratch.next.threads.width c.starts.from c.starts_of-pattern.result.1 c.starts.invariant.passed
@@ -87,7 +87,7 @@ pub overflow_add-from : goal.overflow_add-from
 overflow_add-from g c =
     let s : Search = search_of c.args.program.now c.args.input.now in
     let b = some_gives s c.starts.scratch.next.threads.width c.starts.from c.starts_of-pattern.result.1 c.in-Some.end c.pass_from.new.scratch.found.items
-    (subst (λ r. GivesTrace (sight_of None s) c.starts.scratch.next.threads.width c.starts.from c.starts_of-pattern.result.1 (best_of r c.pass_from.new.scratch.found.items)) c.in-Some.is
+    (subst (λ r. GivesTrace (sight_of s) c.starts.scratch.next.threads.width c.starts.from c.starts_of-pattern.result.1 (best_of r c.pass_from.new.scratch.found.items)) c.in-Some.is
     (gives g (goal.at.overflow_add-from g c).After-pass_from)) in
     omega (arith, b.1.high, c.starts.invariant.low.1, c.bounds-lo.ensures.small)
 
@@ -95,7 +95,7 @@ pub starts-smaller : goal.starts-smaller
 starts-smaller g c =
     let s : Search = search_of c.args.program.now c.args.input.now in
     let b = some_gives s c.starts.scratch.next.threads.width c.starts.from c.starts_of-pattern.result.1 c.in-Some.end c.pass_from.new.scratch.found.items
-    (subst (λ r. GivesTrace (sight_of None s) c.starts.scratch.next.threads.width c.starts.from c.starts_of-pattern.result.1 (best_of r c.pass_from.new.scratch.found.items)) c.in-Some.is
+    (subst (λ r. GivesTrace (sight_of s) c.starts.scratch.next.threads.width c.starts.from c.starts_of-pattern.result.1 (best_of r c.pass_from.new.scratch.found.items)) c.in-Some.is
     (gives g (goal.at.starts-smaller g c).After-pass_from)) in
     omega (arith, b.1.low, b.1.high, c.starts-test.true)
 
@@ -103,7 +103,7 @@ pub starts-preserved : goal.starts-preserved
 starts-preserved g c =
     let s : Search = search_of c.args.program.now c.args.input.now in
     let b = some_gives s c.starts.scratch.next.threads.width c.starts.from c.starts_of-pattern.result.1 c.in-Some.end c.pass_from.new.scratch.found.items
-    (subst (λ r. GivesTrace (sight_of None s) c.starts.scratch.next.threads.width c.starts.from c.starts_of-pattern.result.1 (best_of r c.pass_from.new.scratch.found.items)) c.in-Some.is
+    (subst (λ r. GivesTrace (sight_of s) c.starts.scratch.next.threads.width c.starts.from c.starts_of-pattern.result.1 (best_of r c.pass_from.new.scratch.found.items)) c.in-Some.is
     (gives g (goal.at.starts-preserved g c).After-pass_from)) in
     let content = c.in-Some.ensures.keeps.content ∙ c.starts.invariant.keeps.content in
     record {
