@@ -1,4 +1,4 @@
-//! Thompson construction: compiles a list of patterns to a program (an NFA).
+//! NFA compiler: from a list of patterns to its program.
 #![tactic(auto)]
 
 pub mod compile;

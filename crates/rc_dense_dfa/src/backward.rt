@@ -1,4 +1,4 @@
-//! Reverse DFA search over a table.
+//! Reverse search: runs a DFA backwards over a text, from the end of a match to its start.
 ghost use Rattle.std.specs.Prelude.{◌≡◌, ◌+◌, ◌-◌, ◌<◌, ◌≤◌, false, IfSome, List, ℕ, length, slice_range, slice_get};
 ghost use Rattle.rc_text.specs.Text.{Keeps, high, low, slice_end};
 ghost use Rattle.rc_program.specs.Sought.{text_of};

@@ -1,4 +1,4 @@
-//! DFA construction: a table with a row for each state that can be reached.
+//! DFA construction: determinizes until no new state comes up, and builds the table.
 ghost use Rattle.std.specs.Prelude.{◌≡◌, ◌+◌, ◌*◌, ◌<◌, ◌≤◌, length, IfOk, IfErr, IfSome, Some, ℕ, slice_get, []};
 ghost use Rattle.rc_determinize.specs.Places.{state_of};
 ghost use Rattle.rc_determinize.specs.States as states;

@@ -1,4 +1,4 @@
-//! Full DFA: a transition table in each direction, and searches by them.
+//! DFA: a table for each direction, and the searches by them.
 ghost use Rattle.std.specs.Prelude.{◌≡◌, ◌⊎◌, ◌+◌, ◌*◌, ℕ, None, min, length, IfOk, IfErr};
 ghost use Rattle.rc_dfa.specs.declared.automaton.Direction.TheVariants.{Forwards, Backwards};
 ghost use Rattle.rc_dfa.specs.Automata.{machine_of, samples_of};

@@ -1,4 +1,4 @@
-//! DFA construction errors.
+//! Build errors: why there is no DFA.
 
 use std::alloc::{AllocError, AllocFailed};
 

@@ -1,4 +1,4 @@
-//! Acceleration: the few bytes that lead out of a state.
+//! Acceleration: if few bytes lead out of a row, `memchr` finds the next one.
 ghost use Rattle.std.specs.Prelude.{◌≡◌, ◌≢◌, ◌*◌, ◌<◌, ◌≤◌, ℕ, IfOk, IsTrue, false, length, slice_index_or};
 ghost use Rattle.rc_dense_dfa.specs.Cells.{dead, met, skip};
 ghost use Rattle.rc_dense_dfa.specs.Exits.{AreExitsOf, Stays, is_exit};

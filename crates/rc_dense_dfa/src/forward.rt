@@ -1,4 +1,4 @@
-//! Forward DFA search over a table.
+//! Forward search: runs a DFA over a text, to the end of a match.
 ghost use Rattle.std.specs.Prelude.{◌≡◌, ◌+◌, ◌-◌, ◌<◌, ◌≤◌, IfSome, List, ℕ, length, slice_range, slice_get};
 ghost use Rattle.rc_text.specs.Text.{Keeps, high, low, slice_end};
 ghost use Rattle.rc_program.specs.Sought.{text_of};

@@ -1,4 +1,5 @@
-//! Acceleration: states in which a search stays over most bytes.
+//! Acceleration: if most bytes of most texts stay among two rows, a table of flags finds the next
+//! byte that may leave them.
 ghost use Rattle.std.specs.Prelude.{◌≡◌, ◌<◌, ◌≤◌, ◌+◌, IfOk, IfSome, IsTrue, false, length, slice_index_or};
 ghost use Rattle.rc_dense_dfa.specs.Cells.{dead, met, row_of, skip};
 ghost use Rattle.rc_dense_dfa.specs.Exits.{AllStay, AreLeaps, AreStays, StaysAmong, cell_by};

@@ -1,4 +1,4 @@
-//! Table cells: what a marked cell says of the state that it leads to.
+//! Transitions: what the cells of a table say.
 ghost use Rattle.std.specs.Prelude.{◌≡◌, ◌+◌, ◌/◌, ◌<◌, ◌≤◌, ◌^◌, ◌⊎◌, IfSome, false, length, slice_index_or};
 ghost use Rattle.rc_dense_dfa.specs.Cells.{IsNamed, met, row_of};
 ghost use Rattle.rc_dense_dfa.specs.Exits.{AreStays};

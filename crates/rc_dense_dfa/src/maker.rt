@@ -1,4 +1,4 @@
-//! DFA construction steps: one state and one transition at a time.
+//! DFA construction: the cells of rows and of start states, by steps of the determinizer.
 ghost use Rattle.std.specs.Prelude.{◌≡◌, ◌+◌, ◌<◌, length, IfOk, IfErr, Some, slice_get};
 ghost use Rattle.rc_determinize.specs.Places.{state_of};
 ghost use Rattle.rc_determinize.specs.States as states;

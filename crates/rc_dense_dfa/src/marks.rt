@@ -1,4 +1,5 @@
-//! Acceleration marks: cells that lead to a state with few exits.
+//! Special states: puts the mark `SKIP` on cells that lead to rows where a search may have more to
+//! do than to read on.
 ghost use Rattle.std.specs.Prelude.{◌<◌};
 ghost use Rattle.rc_dense_dfa.specs.Cells.{AreMarked, IsMarkedAs};
 

@@ -1,4 +1,5 @@
-//! State identifiers: rows are named by the index of their first cell.
+//! State IDs: states are numbered as they come up, and named by the index of their row's first
+//! cell.
 ghost use Rattle.std.specs.Prelude.{◌≡◌, ◌+◌, ◌*◌, ◌<◌, ◌≤◌, length, IfOk, IfErr, MatchOption, Some, ℕ, IfSome, slice_get, []};
 ghost use Rattle.rc_determinize.specs.Places.{state_of};
 ghost use Rattle.rc_dfa.specs.Machine.{Machine, IsMachine};

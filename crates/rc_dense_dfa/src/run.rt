@@ -1,4 +1,4 @@
-//! Search results: how a search by a table ends.
+//! Search results: how a search by a table ends, and what a run keeps between two bytes.
 
 /// How a search by a table ended. Positions are in bytes of the whole content.
 #[derive(Clone, Copy)]

@@ -1,4 +1,4 @@
-//! Start states: where a search by a table begins.
+//! Start states: the row in which a search begins.
 ghost use Rattle.std.specs.Prelude.{◌≡◌, ◌+◌, ◌*◌, ◌<◌, ◌≤◌, ◌^◌, length, slice_index_or};
 ghost use Rattle.rc_dense_dfa.specs.Cells.{IsNamed};
 ghost use Rattle.rc_dense_dfa.specs.Tables.{column, mode_of, start_at};

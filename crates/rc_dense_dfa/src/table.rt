@@ -1,4 +1,4 @@
-//! Transition table: a row for each state, a cell for each byte class.
+//! Transition table: the states of a DFA in one direction.
 ghost use Rattle.std.specs.Prelude.{◌≡◌, ◌<◌, ◌*◌, ℕ, length, slice_index_or, All};
 ghost use Rattle.rc_dense_dfa.specs.Cells.{IsNamed, met, skip};
 ghost use Rattle.rc_dense_dfa.specs.Exits.{AreExitsOf, AreLeaps};

@@ -1,4 +1,5 @@
-//! Reverse transition: the step from a state over one byte, backwards.
+//! Reverse determinization: the step from a state over one byte, against the direction of the
+//! edges.
 ghost use Rattle.std.specs.Prelude.{ℕ, ◌≡◌, ◌↔◌, ◌<◌, ◌≤◌, ◌++◌, [], ◌∷◌, IfOk, List, length, map, Some, None, nat_eq, if◌then◌else◌};
 ghost use Rattle.rc_program.specs.Laws.{IsClosed, targets};
 ghost use Rattle.rc_program.specs.Program.{Place};

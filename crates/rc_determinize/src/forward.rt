@@ -1,4 +1,14 @@
-//! Forward transition: the step from a state over one byte, forwards.
+//! Determinization: the step from a state over one byte, forwards.
+//!
+//! Take `a+b` over `xaab.`. Place 0 is a choice of 1 or 6, place 2 of 1 or 3. Place 1 reads `a`,
+//! place 3 reads `b`, place 4 goes on to 5, the match, and 6 is a dead end.
+//!
+//!     from    byte  closure, in order              to
+//!     [0]     x     0, 1, 6: nothing reads `x`     [0]
+//!     [0]     a     0, 1 reads it to 2, 6          [2, 0]
+//!     [2, 0]  a     2, 1 reads it to 2, 3, 0, 6    [2, 0]
+//!     [2, 0]  b     2, 1, 3 reads it to 4, 0, 6    [4, 0]
+//!     [4, 0]  .     4, 5: a match, one byte late   [], with `stop` 5
 ghost use Rattle.std.specs.Prelude.{ℕ, List, ◌≡◌, ◌<◌, ◌≤◌, ◌++◌, [], ◌∷◌, IfOk, length, reverse, Some, None, ◌&&◌, is_none};
 ghost use Rattle.rc_program.specs.Laws.{IsClosed};
 ghost use Rattle.rc_program.specs.Program.{Place, place_at};

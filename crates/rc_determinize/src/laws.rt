@@ -1,4 +1,4 @@
-//! Laws of states and steps. Each function does nothing: its contract is the law.
+//! Laws of determinization. The functions do nothing: their contracts are the laws.
 ghost use Rattle.rc_determinize.specs.Laws.{ForwardLaw, BackwardLaw, SpanLaw, GatherLaw};
 ghost use Rattle.rc_determinize.specs.Classes.{ClassLaw};
 ghost use Rattle.rc_determinize.specs.Spans.{GreatestSpanLaw};

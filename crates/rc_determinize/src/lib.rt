@@ -1,7 +1,5 @@
-//! Determinization: subset construction over a byte program. A state is an ordered list of NFA
-//! states, and a step leads from one to the next over one byte, forwards or backwards.
-//!
-//! No text and no table is used here; `rc_dense_dfa` and `rc_lazy_dfa` hold the states.
+//! Determinization: the subset construction over bytes, one step at a time, forwards and backwards.
+//! A state lists the places under way, and no step sees a text.
 #![tactic(auto)]
 
 pub mod backward;

@@ -1,5 +1,5 @@
-//! Leftmost-longest transition: the step over one byte if the longest match of the least start is
-//! sought.
+//! Determinization for leftmost-longest: the step from a state over one byte. A state's list has
+//! marks between the walks of different starts.
 ghost use Rattle.std.specs.Prelude.{ℕ, List, ◌≡◌, ◌≢◌, ◌<◌, ◌≤◌, ◌+◌, ◌∷◌, [], IfOk, length, reverse, drop, Some, None, slice_range};
 ghost use Rattle.rc_program.specs.Laws.{IsClosed};
 ghost use Rattle.rc_utf8.specs.Places.{places_of};

@@ -1,4 +1,4 @@
-//! Epsilon closure: what a step does at one NFA state.
+//! Epsilon closure: how a step expands one place.
 ghost use Rattle.std.specs.Prelude.{◌≡◌, ◌<◌, ◌≤◌, ◌++◌, IfOk, length, map, reverse, None};
 ghost use Rattle.rc_program.specs.Program.{branch_ways, ways_out, place_at, is_match_place};
 ghost use Rattle.rc_program.specs.Laws.{targets};

@@ -1,4 +1,4 @@
-//! Scratch space of a step.
+//! Scratch memory: the stack and the sets of a step, allocated once.
 ghost use Rattle.std.specs.Coded.{coded_ℕ};
 ghost use Rattle.std.specs.Prelude.{ℕ, ◌≡◌, IfOk};
 

@@ -1,4 +1,4 @@
-//! Look-around: what a step knows of the two sides of a position.
+//! Look-around: what a step knows of the bytes on the two sides of a position.
 ghost use Rattle.std.specs.Prelude.{◌≡◌, IsTrue};
 ghost use Rattle.rc_program.specs.Looks.{is_word_byte};
 ghost use Rattle.rc_utf8.specs.Places.{place_of, places_of};

@@ -1,4 +1,4 @@
-//! Sparse sets: sets of numbers that keep the order of insertion, and are cleared in constant time.
+//! Sparse sets: sets of numbers that keep the order of insertion and are cleared in constant time.
 ghost use Rattle.std.specs.Prelude.{◌≡◌, ◌↔◌, ℕ, ◌<◌, ◌≤◌, [], ◌∷◌, ◌++◌, length, vec_len, vec_capacity, IfOk, slice_get, Some, slice_index, drop};
 ghost use Rattle.std.specs.Bool.{MatchBool};
 ghost use Rattle.rc_determinize.specs.Sparse.{Members, members_code, IsIndexed, IsSet};

@@ -1,4 +1,4 @@
-//! DFA states: ordered lists of NFA states, with what is known of the byte before.
+//! DFA states: ordered lists of places, with what is known of the byte that was read last.
 
 use crate::sides::Seen;
 

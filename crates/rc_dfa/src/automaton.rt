@@ -1,5 +1,4 @@
-//! Determinizer: a byte program that is ready to be determinized state by state, in both
-//! directions.
+//! Determinizer: a byte program with its byte classes and its steps, in both directions.
 ghost use Rattle.std.specs.Prelude.{◌≡◌, ◌<◌, length, IfOk};
 ghost use Rattle.rc_program.specs.Laws.{IsClosed};
 ghost use Rattle.rc_utf8.specs.Places.{places_of};

@@ -1,6 +1,6 @@
-//! Search results: how a DFA search ends. Positions are in bytes of the whole content.
+//! Search results: how a DFA search ended. Positions are in bytes of the whole content.
 
-/// What a search by states found.
+/// What a search by states met.
 #[derive(Clone, Copy)]
 pub struct Met {
     /// The number of the pattern.

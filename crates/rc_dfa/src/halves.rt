@@ -1,4 +1,4 @@
-//! DFA searches in both directions, as a trait: the full DFA and the lazy DFA implement it.
+//! Forward and reverse search: the trait of the DFA and the lazy DFA.
 ghost use Rattle.std.specs.Prelude.{◌≡◌, ◌+◌, ◌-◌, ◌≤◌, ℕ, Bool, Some};
 ghost use Rattle.rc_text.specs.Text.{Keeps, high, low, slice_end};
 ghost use Rattle.rc_program.specs.Sought.{text_of};

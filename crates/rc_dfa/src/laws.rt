@@ -1,4 +1,4 @@
-//! Laws of automata and of their runs. Each function does nothing: its contract is the law.
+//! Laws of determinizers and of their runs. The functions do nothing: their contracts are the laws.
 ghost use Rattle.rc_dfa.specs.Laws.{MachineLaw, RunLaw};
 
 /// The states of a machine hold places of its program, each once.

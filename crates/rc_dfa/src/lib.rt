@@ -1,5 +1,5 @@
-//! DFA basics: the determinizer that both DFAs are built of, the trait of their searches, and the
-//! laws of their runs.
+//! DFA basics: the determinizer that both DFAs run, the set of their states, and the trait of their
+//! searches.
 #![tactic(auto)]
 
 pub mod automaton;

@@ -1,4 +1,4 @@
-//! Match states of one pattern.
+//! Match places: those of one pattern, where a reverse search for it begins.
 ghost use Rattle.std.specs.Prelude.{◌≡◌, IfOk, Some};
 ghost use Rattle.rc_program.specs.Program.{is_match_place};
 ghost use Rattle.rc_program.specs.Answer.{pattern_at};

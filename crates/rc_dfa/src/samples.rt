@@ -1,4 +1,4 @@
-//! Byte class representatives: one byte of each class.
+//! Byte classes: one byte of each class, which stands for all of them.
 ghost use Rattle.std.specs.Prelude.{◌≡◌, length, IfOk};
 ghost use Rattle.rc_dfa.specs.Samples.{IsCounted, AreSamples};
 

@@ -1,4 +1,4 @@
-//! State store: interned states, each with a number.
+//! State interning: DFA states, each stored once and numbered.
 ghost use Rattle.std.specs.Prelude.{◌≡◌, ◌+◌, ◌*◌, ◌<◌, ◌≤◌, ◌++◌, ◌∷◌, [], length, slice_get, IfOk, IfErr, Some};
 ghost use Rattle.rc_determinize.specs.Places.{state_of};
 ghost use Rattle.rc_dfa.specs.Keys.{with_bit, facts_of, key_of, IsAbsent, IsFound};

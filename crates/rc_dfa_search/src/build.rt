@@ -1,4 +1,4 @@
-//! Automaton construction: from a program to its determinizer.
+//! Determinizers: from the program of some patterns to their automaton.
 ghost use Rattle.std.specs.Prelude.{◌≡◌, ◌≤◌, List, length, IfOk};
 ghost use Rattle.rc_pattern.specs.Limits.{greatest_weight};
 ghost use Rattle.rc_pattern.specs.Re.{Re};

@@ -1,5 +1,5 @@
-//! DFA searches with a prefilter: the search goes from one literal to the next. Positions are in
-//! bytes of the whole content.
+//! Prefilters: DFA searches that go from literal to literal, if each match begins with one or
+//! contains one. Positions are in bytes of the whole content.
 ghost use Rattle.std.specs.Prelude.{◌≡◌, ◌↔◌, ◌+◌, ◌-◌, ◌*◌, ◌<◌, ◌≤◌, ℕ, false, true, List, length, IsTrue, IfOk, IfErr, IfSome};
 ghost use Rattle.std.specs.Option.{option_map};
 ghost use Rattle.rc_text.specs.Found.{half_of};

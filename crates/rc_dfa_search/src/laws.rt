@@ -1,4 +1,4 @@
-//! Laws of two-way searches. Each function does nothing: its contract is the law.
+//! Laws of DFA searches. Each function does nothing: its contract is the law.
 ghost use Rattle.rc_dfa_search.specs.Laws.{LastLaw, LeftmostLaw, MetLaw, ReverseEndLaw, ReverseLaw, UnreadLaw};
 ghost use Rattle.rc_dfa_search.specs.Rests.{GivenLaw, RestLaw};
 

@@ -1,4 +1,4 @@
-//! Two-way DFA search: forwards to the end of a match, then backwards to its start.
+//! DFA search: a forward and a reverse search together give a match's span and pattern.
 #![tactic(auto)]
 
 pub mod build;

@@ -1,4 +1,5 @@
-//! Two-way DFA search over any DFA. Positions are in bytes of the whole content.
+//! DFA search: forwards to the end of a match, then in reverse to its start, by either DFA.
+//! Positions are in bytes of the whole content.
 ghost use Rattle.std.specs.Prelude.{◌≡◌, ◌⊎◌, ◌↔◌, ◌+◌, ◌-◌, ◌*◌, ◌<◌, ◌≤◌, ◌&&◌, ◌||◌, ℕ, true, not, min, max, List, Option, IsTrue, IfOk, IfErr, IfSome, IfNone};
 ghost use Rattle.std.specs.Option.{option_map};
 ghost use Rattle.rc_text.specs.Found.{Found};

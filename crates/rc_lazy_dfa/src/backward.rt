@@ -1,4 +1,4 @@
-//! Reverse lazy DFA search.
+//! Reverse search: runs the lazy DFA backwards over a text, from the end of a match to its start.
 ghost use Rattle.std.specs.Prelude.{◌≡◌, ◌+◌, ◌-◌, ◌<◌, ◌≤◌, Bool, false, Some, IfSome, length, slice_range, slice_get};
 ghost use Rattle.rc_text.specs.Text.{Keeps, high, low, slice_end};
 ghost use Rattle.rc_dfa.specs.declared.automaton.Direction.TheVariants as direction;

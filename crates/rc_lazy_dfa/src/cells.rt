@@ -1,5 +1,6 @@
-//! Lazy table cells, as numbers. A cell names the state that a byte leads to by the index of the
-//! first cell of its row. It is less than `UNKNOWN` if that state needs no closer look.
+//! Transitions: cells as numbers. A cell names the row to which a byte leads, by the index of that
+//! row's first cell. A cell below `UNKNOWN` has no mark, so a run follows it without a further
+//! look.
 ghost use Rattle.std.specs.Prelude.{◌≡◌, ◌≤◌, ◌<◌, length};
 ghost use Rattle.rc_determinize.specs.Places.{state_of};
 ghost use Rattle.rc_lazy_dfa.specs.Cells.{row_of, has_died, marks, column_of};

@@ -1,4 +1,4 @@
-//! Lazy DFA errors: why none is built, and why a search gives up.
+//! Errors: why there is no lazy DFA, and why a search gives up.
 ghost use Rattle.std.specs.Prelude.{◌≡◌};
 ghost use Rattle.rc_lazy_dfa.specs.Errors.{is_memory};
 

@@ -1,4 +1,4 @@
-//! Forward lazy DFA search.
+//! Forward search: runs the lazy DFA over a text, to the end of a match.
 ghost use Rattle.std.specs.Prelude.{◌≡◌, ◌+◌, ◌-◌, ◌<◌, ◌≤◌, Bool, true, false, Some, IfSome, IsTrue, is_some, length, slice_range, slice_get};
 ghost use Rattle.rc_text.specs.Text.{Keeps, high, low, slice_end};
 ghost use Rattle.rc_dfa.specs.declared.automaton.Direction.TheVariants as direction;

@@ -1,4 +1,4 @@
-//! One direction of a lazy DFA: its table, and what builds its next state.
+//! Lazy determinization: the states of one direction, and the steps that add to them.
 ghost use Rattle.std.specs.Prelude.{◌≡◌, ◌<◌, ◌≤◌, length, IfOk, IfErr, MatchOption, []};
 ghost use Rattle.rc_determinize.specs.Places.{state_of};
 ghost use Rattle.rc_determinize.specs.States as states;

@@ -1,4 +1,4 @@
-//! Lazy DFA: the automaton, its cache, and its searches.
+//! Lazy DFA: the engine, and the cache of its states.
 ghost use Rattle.std.specs.Prelude.{◌≡◌, ◌≤◌, ◌<◌, ◌↔◌, IsTrue, MatchOption};
 ghost use Rattle.rc_dfa.specs.declared.automaton.Direction.TheVariants as direction;
 ghost use Rattle.rc_dfa.specs.Automata.{machine_of};

@@ -1,4 +1,4 @@
-//! Search state of a lazy DFA: the current state, and the last match.
+//! Search results: what a run keeps between two bytes, and what it reports.
 ghost use Rattle.std.specs.Prelude.{◌≡◌, ℕ, Option};
 ghost use Rattle.rc_determinize.specs.States.{State, best_at};
 ghost use Rattle.rc_lazy_dfa.specs.Stores.{Frame, Held, IsRow, Names};

@@ -1,4 +1,5 @@
-//! Lazy transition table: it grows by a row for each new state, up to its capacity.
+//! Cache: the states of one direction with their rows. If a state doesn't fit into the capacity,
+//! all others are dropped.
 ghost use Rattle.std.specs.Prelude.{◌≡◌, ◌+◌, ◌*◌, ◌<◌, ◌≤◌, length, IfOk, IfErr, IsTrue, Some, true, false, ℕ, Option, IfSome, slice_get};
 ghost use Rattle.rc_determinize.specs.Places.{state_of};
 ghost use Rattle.rc_determinize.specs.States as states;

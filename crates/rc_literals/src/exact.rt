@@ -1,4 +1,4 @@
-//! Exact literals: patterns that are a list of literals.
+//! Exact literals: patterns that are a literal, or an alternation of literals.
 ghost use Rattle.std.specs.Prelude.{◌≡◌, IfOk, map, option_map};
 ghost use Rattle.rc_pattern.specs.Re.{literal};
 ghost use Rattle.rc_pattern.specs.Meaning.{alt_all, meaning};

@@ -1,4 +1,4 @@
-//! Prefilter steps: if a search goes on, given the literals that every match has.
+//! Prefilters: where a search goes on, from literal to literal.
 ghost use Rattle.std.specs.Prelude.{◌≡◌, ◌-◌, ◌<◌, ◌≤◌, ℕ, Bool, IfSome, IsTrue, List, MatchOption, false, length, option_map, slice_index};
 ghost use Rattle.rc_text.specs.Text.{Keeps, high};
 ghost use Rattle.rc_program.specs.Program.{Place};

@@ -1,4 +1,4 @@
-//! Laws that tie the definitions. Each function does nothing: its contract is the law.
+//! Laws of literal extraction. Each function does nothing: its contract is the law.
 ghost use Rattle.rc_literals.specs.Laws.{NeedLaw};
 ghost use Rattle.rc_literals.specs.Literals.{LiteralLaw};
 ghost use Rattle.rc_literals.specs.Prefixes.{CoverLaw};

@@ -1,5 +1,5 @@
-//! Literal extraction: the literals that are a pattern, with which each match begins, or of which
-//! each match has one, and the bytes that no match has.
+//! Literal extraction: exact, prefix and required literals of patterns, and the bytes that no match
+//! contains.
 #![tactic(auto)]
 
 pub mod exact;

@@ -1,4 +1,4 @@
-//! Required literals of patterns, if a search for them pays.
+//! Required literals: those of which each match contains one, if a search for them pays.
 ghost use Rattle.std.specs.Prelude.{◌≡◌, IfOk, IfSome, map};
 ghost use Rattle.rc_pattern.specs.Meaning.{meaning};
 ghost use Rattle.rc_program.specs.Text.{Text};

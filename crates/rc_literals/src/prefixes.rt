@@ -1,4 +1,4 @@
-//! Prefix literals: literals with which each match begins.
+//! Prefix literals: each text that one of the patterns spells begins with one of them.
 ghost use Rattle.std.specs.Prelude.{◌≡◌, ◌+◌, ℕ, ◌∷◌, ◌++◌, [], List, Some, None, true, false, IfOk, IfSome, IfNone, MatchOption, drop, map, option_map, slice_get, unwrap_or};
 ghost use Rattle.std.specs.Bool.{Decides};
 ghost use Rattle.rc_pattern.specs.Meaning.{alt_all, byte_range, cat_all, char_range, class_meaning, meaning};

@@ -1,4 +1,4 @@
-//! Required literals: literals of which each match contains one.
+//! Required literals: each text that one of the patterns spells contains one of them.
 ghost use Rattle.std.specs.Prelude.{◌≡◌, ℕ, List, ◌∷◌, Some, IfOk, IfSome, MatchOption, map, option_map};
 ghost use Rattle.rc_pattern.specs.Meaning.{alt_all, cat_all, meaning};
 ghost use Rattle.rc_program.specs.Text.{Text};

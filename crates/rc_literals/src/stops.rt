@@ -1,4 +1,4 @@
-//! Stop bytes: the bytes that no match contains.
+//! Alphabet: the bytes that no pattern reads, so that no match contains them.
 ghost use Rattle.std.specs.Prelude.{◌≡◌, ◌&&◌, ◌<◌, ◌≤◌, ℕ, List, length, map, nat_le, nat_lt, not};
 ghost use Rattle.rc_pattern.specs.Meaning.{alt_all, byte_range, char_range, class_meaning, meaning};
 ghost use Rattle.rc_pattern.specs.Re.{byte_in, char_in};

@@ -1,4 +1,4 @@
-//! Candidates: where a needle may be found, in a piece of a chunk and in the content.
+//! Candidates: where a needle may stand, in a piece of a chunk and in the content.
 ghost use Rattle.std.specs.Prelude.{◌≡◌, ◌+◌, ◌<◌, ◌≤◌, ℕ, IfSome, IsTrue, List, None, length, slice_index};
 ghost use Rattle.rc_text.specs.Text.{Keeps};
 ghost use Rattle.rc_needles.specs.Needles.{needle_at};

@@ -1,6 +1,6 @@
-//! Hits: if a needle was found.
+//! Hits: where a needle was found.
 
-/// A needle that is in a content.
+/// A needle that stands in a content.
 #[derive(Clone, Copy, Debug, PartialEq, Eq)]
 pub struct Hit {
     /// Where it begins, in bytes of the content.

@@ -1,4 +1,4 @@
-//! Law that ties the definitions. The function does nothing: its contract is the law.
+//! Law of literal search. The function does nothing: its contract is the law.
 ghost use Rattle.rc_needles.specs.Needles.{NeedleLaw};
 
 /// The needle that is found, as contracts name it, is the first needle at the least start at which

@@ -1,9 +1,8 @@
-//! Searches for literals (needles), wherever the content is cut: `memmem`, pairs of bytes, a Teddy
-//! and a trie.
+//! Literal search: finds needles wherever chunks are cut, by memmem, packed pairs, Teddy or a trie.
 //!
-//! A needle is found on the uncut bytes: inside a chunk the searches of `memchr` find where one may
-//! be, and across a border bytes are compared in place, the cursor moving forward and back. No
-//! search takes memory, and none copies a byte of the content.
+//! Inside a chunk, `memchr`'s searches find candidates. Across a border, bytes are compared in
+//! place, and the cursor moves forward and back. No search allocates or copies a byte of the
+//! content.
 #![tactic(auto)]
 
 mod candidates;

@@ -1,4 +1,4 @@
-//! Literal search: the first position of a needle in a content.
+//! Literal search: the first needle at the least start, across the borders of chunks.
 ghost use Rattle.std.specs.Prelude.{◌≡◌, ◌+◌, ◌<◌, ◌≤◌, ℕ, IfSome, IsTrue, List, Some, bytes_eq, false, length, slice_get, slice_range, true};
 ghost use Rattle.rc_text.specs.Text.{Keeps, high, low};
 ghost use Rattle.rc_needles.specs.Needles.{find_needle, needle_at, prefix_needle, stands_within};

@@ -1,4 +1,4 @@
-//! Multi-needle search in a piece of a chunk, by a trie.
+//! Trie search: the first of many needles in one piece of a chunk.
 ghost use Rattle.std.specs.Prelude.{◌≡◌, ◌<◌, ◌≤◌, ℕ, Some, length};
 ghost use Rattle.rc_needles.specs.Tables.{Agrees, IsRuledOut, needles_in, numbered};
 ghost use Rattle.rc_needles.specs.Tries.{AreCarriedBy, IsFirstIn};

@@ -1,4 +1,5 @@
-//! Three-byte filter: a bit set that tells which three bytes may begin a needle.
+//! Bloom filter: a table of bits for the first three bytes of needles, so that one lookup rules out
+//! most indices.
 ghost use Rattle.std.specs.Prelude.{◌≡◌, ◌+◌, ◌*◌, ◌%◌, ◌<◌, ◌≤◌, ℕ, IfOk, IsTrue, length, true};
 ghost use Rattle.rc_needles.specs.Openings.{AreOpened, ArePassed, AreWhole, IsOpened, opens, word_of};
 ghost use Rattle.rc_needles.specs.Tables.{needles_in};

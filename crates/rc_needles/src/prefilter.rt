@@ -1,4 +1,4 @@
-//! Prefilters: lists of needles that a content can be searched for.
+//! Prefilters: lists of needles, made ready for searches.
 ghost use Rattle.std.specs.Prelude.{◌≡◌, IfOk, MatchOption, length, map};
 ghost use Rattle.rc_needles.specs.Needles.{longest};
 ghost use Rattle.rc_needles.specs.Tables.{IsUsable, needles_in};

@@ -1,4 +1,4 @@
-//! Piece scanners: the search that serves a list of needles, within a piece of a chunk.
+//! Choice of algorithm: how pieces of chunks are searched for some needles.
 ghost use Rattle.std.specs.Prelude.{◌≡◌, ◌+◌, ◌<◌, ◌≤◌, IfOk, length, slice_index};
 ghost use Rattle.memchr.specs.Find.{IsFirst};
 ghost use Rattle.rc_needles.specs.Tables.{AreSome, needles_in};

@@ -1,4 +1,14 @@
-//! Teddy: a vector search for many needles, 32 places at a time.
+//! Teddy: a vector search for the first three bytes of up to 64 needles, at 32 indices at a time.
+//! Here it is called a sieve.
+//!
+//! Take `catch` in bucket A and `dogma` in bucket B. Two tables of 16 entries, for the low and the
+//! high four bits of a byte, say which buckets take it; both must. As a third byte, `d` (64) isn't
+//! taken: it has the low bits of `t` (74) in A, and the high bits of `g` (67) in B.
+//!
+//!     text        t  h  e  ␣  d  o  g  m  a
+//!     first byte  .  .  .  .  B  .  .  .  .
+//!     second, +1  .  .  .  .  B  .  .  A
+//!     third, +2   .  .  .  .  B  .  .           so only `dogma` can begin, and only at 4
 ghost use Rattle.std.specs.Prelude.{◌≡◌, ◌+◌, ◌++◌, ◌*◌, ◌/◌, ◌<◌, ◌≤◌, ◌^◌, ℕ, IfSome, IsTrue, List, length, slice_index};
 ghost use Rattle.std.specs.Int.{bit_at};
 ghost use Rattle.rc_needles.specs.Sieves.{AreLanes, AreMarked, AreSifted, HaveBegun, IsSifted, buckets};

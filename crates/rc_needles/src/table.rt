@@ -1,4 +1,4 @@
-//! First-byte table: needles grouped by their first byte.
+//! First-byte table: needles chained by their first byte.
 ghost use Rattle.std.specs.Prelude.{◌≡◌, ◌<◌, ◌≤◌, IfOk, length, slice_index};
 ghost use Rattle.rc_needles.specs.Tables.{AreHeads, AreNexts, AreSome, needles_in};
 ghost use Rattle.rc_needles.specs.Tries.{AreCarriedBy, AreCarriedBy-is_fact};

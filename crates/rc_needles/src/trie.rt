@@ -1,4 +1,5 @@
-//! Trie: needles as paths of nodes, so that one look at a place serves all of them.
+//! Trie: needles as paths of nodes in one array, so that a lookup at an index doesn't compare all
+//! of them.
 ghost use Rattle.std.specs.Prelude.{◌≡◌, ◌+◌, ◌<◌, ◌≤◌, ℕ, IfOk, IfSome, IsTrue, List, length, slice_index};
 ghost use Rattle.rc_needles.specs.Openings.{ArePassed};
 ghost use Rattle.rc_needles.specs.Tables.{Agrees, needles_in};

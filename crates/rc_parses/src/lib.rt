@@ -1,5 +1,5 @@
-//! Parses of a text by patterns, and what they say of search answers. Each function does nothing:
-//! its contract is a law.
+//! Parse trees: parses of a text by patterns, and what they say of the answers of searches. Each
+//! function does nothing: its contract is a law.
 #![tactic(auto)]
 
 ghost use Rattle.rc_parses.specs.Laws.{OrderLaw, PreferenceLaw, SamenessLaw};

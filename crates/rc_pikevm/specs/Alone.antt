@@ -12,16 +12,17 @@ use Rattle.rc_pikevm.specs.declared.pass.Ending.{Ending}
 use Rattle.rc_pikevm.specs.declared.moves.Move.{Move}
 use Rattle.rc_pikevm.specs.declared.moves.Move.TheVariants.{Matches, Reads}
 
--- no walk leads on from the pair that keeps off those passed
+-- No walk leads on from the pair that avoids the pairs passed.
 abbrev pub IsDead : Sight → List Pair → Pair → Type 0
 IsDead s passed n = HasNoWalk (next_of s) (λ m. IsTrue (ends s m)) passed (n ∷ [])
 
--- the place that was tried at the position, if any was
+-- The pair of the place that was tried at the position, if any was.
 abbrev pub tried_at : ℕ → Option ℕ → List Pair
 tried_at at None = []
 tried_at at (Some p) = (p, at) ∷ []
 
--- What a thread gives that goes on at q, one gives that goes on at p; and in a pass for the longest walk one at p may go on at q.
+-- What a thread at q gives, a thread at p gives too; in a pass for the longest walk, a thread at p
+-- may go on at q instead.
 pub record LeadsTo (s : Sight) (at p q : ℕ) : Type 0 where
   pub carries : (h : Trace) (resting : List Thread) (below : List (Trace × Pair)) (best o : Option Trace) →
       Carries s at resting [] ((h, (q, at)) ∷ below) best o → Carries s at resting [] ((h, (p, at)) ∷ below) best o
@@ -32,24 +33,25 @@ pub record LeadsTo (s : Sight) (at p q : ℕ) : Type 0 where
 abbrev pub IsChosen : Sight → ℕ → ℕ → ℕ → ℕ → ℕ → Type 0
 IsChosen s at p a b q = ((q ≡ a) × IsDead s ((p, at) ∷ []) (b, at)) ⊎ ((q ≡ b) × IsDead s ((p, at) ∷ []) (a, at))
 
--- A thread at p may as well go on at q, one of the n places, and makes the move there.
+-- A thread at p may go on at q instead, one of the n places, and makes its move there.
 pub record IsOnward (s : Sight) (n at p q : ℕ) (move : Move) : Type 0 where
   pub leads : LeadsTo s at p q
   pub none : IsDead s [] (q, at) → IsDead s [] (p, at)
   pub inside : q < n
   pub makes : IsMove s (q, at) move
 
--- A thread at p goes on at the first of two of the n places, where it reads one byte, and after that at the second.
+-- A thread at p goes on at the first of two of the n places, where it reads one byte, and then at
+-- the second.
 pub record ReadsOne (s : Sight) (n at p : ℕ) (r : ℕ × ℕ) : Type 0 where
   pub leads : LeadsTo s at p r.0
   pub move : IsMove s (r.0, at) (Reads r.1 (at + 1))
   pub inside : r.1 < n
 
--- A walk of pattern k ends of a thread that goes on at p.
+-- A thread at p has a walk of pattern k that ends.
 abbrev pub EndsBy : Sight → ℕ → ℕ → ℕ → Type 0
 EndsBy s at p k = (q : ℕ) × LeadsTo s at p q × IsMove s (q, at) (Matches k)
 
--- The walk of pattern p ends of the only one of the threads.
+-- The only thread has a walk of pattern p that ends.
 pub record EndsAlone (s : Sight) (at : ℕ) (threads : List Thread) (p : ℕ) : Type 0 where
   pub thread : Thread
   pub only : threads ≡ thread ∷ []
@@ -58,8 +60,8 @@ pub record EndsAlone (s : Sight) (at : ℕ) (threads : List Thread) (p : ℕ) : 
   pub leads : LeadsTo s at thread.place place
   pub move : IsMove s (place, at) (Matches p)
 
--- Of a walk that began at `start` and goes on at `at` no other one can stand in the way: it began before, and the best so far began no
--- earlier, and ended before.
+-- No other walk can precede one that began at `start` and goes on at `at`: it began before `at`,
+-- and the best walk so far began no earlier, and ended before `at`.
 abbrev pub IsAhead : Option Ending → ℕ → ℕ → Type 0
 IsAhead None start at = start < at
 IsAhead (Some r) start at = (start ≤ r.start) × (r.start < at) × (r.end < at)

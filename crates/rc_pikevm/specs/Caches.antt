@@ -1,13 +1,13 @@
--- What callers see of a cache.
+-- Caches: what callers see of one.
 use Rattle.std.specs.Prelude.{◌≡◌, ℕ, ◌≤◌, refl}
 use Rattle.std.specs.Coded.{Coded, code_by, coded×, coded_ℕ}
 
 pub record Made : Type 0 where
-  -- for programs of so many places,
+  -- How many places programs have for which it is made.
   pub places : ℕ
-  -- and searches with at most so many slots
+  -- How many slots searches have at most for which it is made.
   pub slots : ℕ
-  -- how many places the last pass of the last search entered
+  -- How many places the last pass of the last search entered.
   pub insertions : ℕ
 
 abbrev pub made_code : Coded Made
@@ -15,6 +15,6 @@ made_code =
     code_by (ℕ × (ℕ × ℕ)) (coded× coded_ℕ (coded× coded_ℕ coded_ℕ)) (λ m. (m.places, (m.slots, m.insertions)))
     (λ p. record { places = p.0; slots = p.1.0; insertions = p.1.1 }) (λ _. refl)
 
--- the cache was made for programs of so many places, and searches with so many slots or fewer
+-- The cache is made for programs of so many places, and for searches with so many slots or more.
 abbrev pub IsCacheFor : ℕ → ℕ → Made → Type 0
 IsCacheFor places slots cache = (cache.places ≡ places) × (slots ≤ cache.slots)

@@ -1,5 +1,5 @@
 -- Only proofs use this file.
--- What entering a place does.
+-- Epsilon closure: what entering a place does.
 use Rattle.std.specs.Prelude.{◌≡◌, ℕ, ◌⊎◌, List, [], ◌∷◌, ◌++◌, reverse, Option, None}
 use Rattle.rc_walks.specs.Walks.{Pair}
 use Rattle.rc_pikevm.specs.Sights.{Sight}
@@ -19,11 +19,11 @@ pub record IsSkipped (place : ℕ) (g0 g : Growth) : Type 0 where
   pub frames : g.stack.items ≡ g0.stack.items
   pub slots : g.slots.items ≡ g0.slots.items
 
--- the move is the one that the pair has; or none is made, where no walk leads on from there
+-- The move is the one that the pair has; or it is none, and no walk leads on from there.
 abbrev pub Goes : Sight → Pair → Move → Type 0
 Goes s n move = IsMove s n move ⊎ ((move ≡ Stops) × ((passed : List Pair) → IsDead s passed n))
 
--- The place is entered by a thread that began at `start`, and the move is made.
+-- A thread that began at `start` enters the place, and the move is made.
 pub record IsEntered (s : Sight) (at place start : ℕ) (move : Move) (g0 g : Growth) : Type 0 where
   pub fresh : ¬ Has g0.entered.items place
   pub goes : Goes s (place, at) move
@@ -39,14 +39,15 @@ pub record IsMade (at start : ℕ) (move : Move) (g0 g : Growth) : Type 0 where
   pub frames : reverse g.stack.items ≡ frames_of g0.slots.items move ++ reverse g0.stack.items
   pub slots : g.slots.items ≡ slots_after at g0.slots.items move
 
--- The move is made at the place, by which walks of the pattern end that is told, if one is.
+-- The move is made at the place; `told` is the pattern whose walk it ends, if it ends one.
 pub record IsActed (s : Sight) (at place start : ℕ) (told : Option ℕ) (g0 g : Growth) : Type 0 where
   pub move : Move
   pub goes : Goes s (place, at) move
   pub made : IsMade at start move g0 g
   pub ended : told ≡ ended_by move
 
--- A place was entered before, or is entered; the pattern is told of which a walk ends there, if one does.
+-- A place was entered before, or is entered; `told` is the pattern whose walk ends there, if one
+-- does.
 abbrev pub IsVisited : Sight → ℕ → ℕ → ℕ → Option ℕ → Growth → Growth → Type 0
 IsVisited s at place start told g0 g =
     (IsSkipped place g0 g × (told ≡ None)) ⊎ ((move : Move) × IsEntered s at place start move g0 g × (told ≡ ended_by move))

@@ -1,5 +1,5 @@
 -- Only proofs use this file.
--- What a pass keeps that tells which patterns have a match.
+-- Overlapping search: what a pass keeps to find which patterns have a match.
 use Rattle.std.specs.Prelude.{◌≡◌, ◌↔◌, ℕ, zero, suc, ◌+◌, ◌-◌, ◌*◌, ◌<◌, ◌≤◌, ◌⊎◌, Bool, List, [], ◌∷◌, ◌++◌, length, map, IsTrue}
 use Rattle.rc_pattern_set.specs.Sets.{Has}
 use Rattle.rc_walks.specs.Walks.{Pair, IsWalk}
@@ -12,50 +12,51 @@ use Rattle.rc_pikevm.specs.Passing.{pairs, AllFrom, HasRoom, IsGrown, IsLined, A
 use Rattle.rc_pikevm.specs.declared.growth.Frame.{Frame}
 use Rattle.rc_pikevm.specs.declared.growth.Frame.TheVariants.{Explore, Restore}
 
--- the pair that a thread enters next
+-- The pair that a thread enters next.
 abbrev pub going : Thread → Pair
 going t = (t.place, t.at)
 
--- A walk that keeps off the pairs passed leads from the pair to a match of the pattern.
+-- A walk that avoids the pairs passed leads from the pair to a match of the pattern.
 pub record LeadsToPattern (s : Sight) (passed : List Pair) (n : Pair) (p : ℕ) : Type 0 where
   pub walk : List Pair
   pub is_walk : IsWalk (next_of s) (λ k. IsTrue (ends s k)) passed (n ∷ []) walk
   pub pattern : place_at s.places (last_of walk).0 ≡ accept p
 
--- one of the pairs leads to a match of the pattern
+-- One of the pairs leads to a match of the pattern.
 abbrev pub SomeLeads : Sight → List Pair → List Pair → ℕ → Type 0
 SomeLeads s passed [] p = ⊥
 SomeLeads s passed (n ∷ ns) p = LeadsToPattern s passed n p ⊎ SomeLeads s passed ns p
 
--- the pairs that wait on the stack, the uppermost frame first
+-- The pairs on the stack, the top frame first.
 abbrev pub explored : ℕ → List Frame → List Pair
 explored at [] = []
 explored at (Explore p ∷ rest) = (p, at) ∷ explored at rest
 explored at (Restore k old ∷ rest) = explored at rest
 
--- under way at a position: the resting threads, or the pairs that wait, lead to a match of the pattern, or it is a member already
+-- At a position: the threads of later positions, or the pairs on the stack, lead to a match of the
+-- pattern, or the pattern is a member already.
 abbrev pub Owed : Sight → ℕ → List Thread → List ℕ → List Pair → List Bool → ℕ → Type 0
 Owed s at resting entered waiting set p =
     SomeLeads s [] (map going resting) p ⊎ (SomeLeads s (pairs at entered) waiting p ⊎ Has set p)
 
--- both hold of the same patterns below n
+-- Both hold of the same patterns below n.
 abbrev pub AreSame : ℕ → (ℕ → Type 0) → (ℕ → Type 0) → Type 0
 AreSame n A B = (p : ℕ) → p < n → A p ↔ B p
 
--- the pairs of `count` starts from x on
+-- The pairs of `count` starts from x on.
 abbrev pub entries : ℕ → ℕ → List Pair
 entries x zero = []
 entries x (suc count) = (0, x) ∷ entries (x + 1) count
 
--- those of the starts from `at` to `last`
+-- The pairs of the starts from `at` to `last`.
 abbrev pub entering : ℕ → ℕ → List Pair
 entering at last = entries at (last + 1 - at)
 
--- each member of the one is one of the other
+-- Each member of the first is a member of the second.
 abbrev pub KeepsMarks : List Bool → List Bool → Type 0
 KeepsMarks set0 set = (p : ℕ) → Has set0 p → Has set p
 
--- what the closure of a thread adds
+-- What the closure of a thread adds.
 pub record IsMarked (s : Sight) (n hi start at root : ℕ) (threads0 : ThreadList) (entered0 : Members) (set0 : List Bool)
     (threads : ThreadList) (entered : Members) (set : List Bool) (frames : List Frame) : Type 0 where
   pub same : (below : List Pair) → AreSame (length set0) (Owed s at threads0.items entered0.items ((root, at) ∷ below) set0)
@@ -80,7 +81,7 @@ pub record IsMarkingOn (s : Sight) (n hi at : ℕ) (all left : List Thread) (thr
   pub counts : (q : ℕ) → count_from q threads.items + count_from q left ≤ count_from q all + length entered.items
   pub begun : (x : ℕ) → AllFrom x all → AllFrom x threads.items
 
--- the pass from the start `from` has come to the position `at`
+-- The pass from the start `from` has come to the position `at`.
 pub record IsMarkingFrom (s : Sight) (n hi from last at insertions : ℕ) (curr : ThreadList) (set0 set : List Bool) : Type 0 where
   pub same : AreSame (length set0) (Owed s from [] [] (entering from last) set0) (Owed s at [] [] (map going curr.items ++ entering at last) set)
   pub long : length set ≡ length set0
@@ -90,12 +91,12 @@ pub record IsMarkingFrom (s : Sight) (n hi from last at insertions : ℕ) (curr 
   pub reached : from ≤ at
   pub within : at ≤ hi + 1
 
--- each pattern from `first` on, up to and without `last`, is a member
+-- Each pattern from `first` up to `last`, excluded, is a member.
 abbrev pub HasAll : ℕ → ℕ → List Bool → Type 0
 HasAll first last set = (p : ℕ) → first ≤ p → p < last → Has set p
 
--- What a pass over the starts from `from` to `last` tells: nothing that they don't lead to, and all that they do, or else each pattern
--- from `first` on, up to and without `end`.
+-- What a pass over the starts from `from` to `last` marks: only patterns to which these lead, and
+-- all of them, unless each pattern from `first` up to `end`, excluded, is marked.
 pub record MarksFrom (s : Sight) (from last first end : ℕ) (set0 set : List Bool) : Type 0 where
   pub long : length set ≡ length set0
   pub more : KeepsMarks set0 set

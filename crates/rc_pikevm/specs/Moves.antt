@@ -1,5 +1,5 @@
 -- Only proofs use this file.
--- How a thread goes on from a place that it enters.
+-- Transitions: how a thread goes on from a place that it enters.
 use Rattle.std.specs.Prelude.{◌≡◌, ℕ, ◌+◌, ◌<◌, ◌≤◌, [], ◌∷◌, Bool, true, false, IsTrue, Option, Some, None}
 use Rattle.rc_text.specs.Text.{Searched, high}
 use Rattle.rc_walks.specs.Walks.{Pair}
@@ -14,25 +14,25 @@ use Rattle.rc_pikevm.specs.declared.spot.Course.{Course}
 use Rattle.rc_pikevm.specs.declared.moves.Move.{Move}
 use Rattle.rc_pikevm.specs.declared.moves.Move.TheVariants.{Fork, Save, Matches, Stays, Reads, Stops}
 
--- the search of which a pass sees all but the starts and what is passed over
+-- A search as a pass sees it: without its starts, and without what is passed over.
 abbrev pub seen : Program → Searched → Search
 seen p input = search_over (places_of p.places.items) p.terminator false input
 
--- what a pass by the course sees of an input
+-- What a pass by the course sees of an input.
 abbrev pub seen_by : Course → Searched → Sight
 seen_by course input = sight_of (seen course.program.now input)
 
--- the bound and the allowed pattern are those of the input
+-- The bound and the allowed pattern are those of the input.
 pub record IsSetting (course : Course) (input : Searched) : Type 0 where
   pub bound : course.hi ≡ high input
   pub allowed : course.pattern ≡ only (anchoring_of input.anchored)
 
--- nothing is noted there, and no walk ends
+-- Nothing is noted there, and no walk ends.
 pub record IsPlain (s : Sight) (n : Pair) : Type 0 where
   pub silent : (h : Trace) → note s.places h n ≡ h
   pub on : ends s n ≡ false
 
--- the move is the one that the pair has
+-- The move is the one that the pair has.
 abbrev pub IsMove : Sight → Pair → Move → Type 0
 IsMove s n (Fork a b) = (next_of s n ≡ (a, n.1) ∷ (b, n.1) ∷ []) × IsPlain s n
 IsMove s n (Save k m) = place_at s.places n.0 ≡ slot k m
@@ -41,21 +41,21 @@ IsMove s n (Stays m) = (next_of s n ≡ (m, n.1) ∷ []) × IsPlain s n
 IsMove s n (Reads m to) = (next_of s n ≡ (m, to) ∷ []) × IsPlain s n × (n.1 < to) × (to ≤ n.1 + 4) × (to ≤ s.hi)
 IsMove s n Stops = (next_of s n ≡ []) × (ends s n ≡ false)
 
--- where the place of the pair is this one, the move is that one
+-- If the pair's place is this one, the move is that one.
 abbrev pub IsMoveAt : Sight → Pair → Place → Move → Type 0
 IsMoveAt s n place move = place_at s.places n.0 ≡ place → IsMove s n move
 
--- the move, where the test lets it be made
+-- The move if the test allows it.
 abbrev pub moving : Move → Bool → Move
 moving move true = move
 moving move false = Stops
 
--- on to the place and to the position, where one is told
+-- On to the place and the position, if there is one.
 abbrev pub reading : ℕ → Option ℕ → Move
 reading n None = Stops
 reading n (Some to) = Reads n to
 
--- the pattern of a walk that ends by the move
+-- The pattern of a walk that ends by the move.
 abbrev pub ended_by : Move → Option ℕ
 ended_by (Matches p) = Some p
 ended_by move = None

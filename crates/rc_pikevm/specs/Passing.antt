@@ -1,5 +1,5 @@
 -- Only proofs use this file.
--- What one ordered pass over a text keeps.
+-- The Pike VM: what one pass over a text keeps.
 use Rattle.std.specs.Prelude.{◌≡◌, ℕ, ◌+◌, ◌-◌, ◌<◌, ◌≤◌, ◌⊎◌, Bool, List, [], ◌∷◌, ◌++◌, length, map, reverse, Option, Some, None, IsTrue, slice_set, slice_index_or, if◌then◌else◌, is_none, option_map, nat_lt, nat_le, min, ◌*◌, MatchOption}
 use Rattle.rc_walks.specs.Walks.{Pair}
 use Rattle.rc_walks.specs.Threads.{Pends, noted}
@@ -13,32 +13,32 @@ use Rattle.rc_pikevm.specs.declared.growth.Frame.{Frame}
 use Rattle.rc_pikevm.specs.declared.growth.Frame.TheVariants.{Explore, Restore}
 use Rattle.rc_pikevm.specs.declared.pass.Ending.{Ending}
 
--- a thread, by what it noted and where it goes on
+-- A thread, as what it noted and the pair at which it goes on.
 abbrev pub pending : Thread → Trace × Pair
 pending t = (trace t.start t.slots, (t.place, t.at))
 
--- the pairs entered, the last first
+-- The pairs entered, the last first.
 abbrev pub pairs : ℕ → List ℕ → List Pair
 pairs at items = map (λ p. (p, at)) (reverse items)
 
--- the threads that wait on the stack, the uppermost frame first
+-- The threads on the stack, the top frame first.
 abbrev pub waits : ℕ → ℕ → List Frame → List (Option ℕ) → List (Trace × Pair)
 waits start at [] slots = []
 waits start at (Explore p ∷ rest) slots = (trace start slots, (p, at)) ∷ waits start at rest slots
 waits start at (Restore k old ∷ rest) slots = waits start at rest (slice_set slots k old)
 
--- each place on the stack is one of the program, and each slot one of the thread's
+-- Each place on the stack is one of the program, and each slot one of the thread's.
 abbrev pub AllInside : ℕ → ℕ → List Frame → Type 0
 AllInside n width [] = Unit {0}
 AllInside n width (Explore p ∷ rest) = (p < n) × AllInside n width rest
 AllInside n width (Restore k old ∷ rest) = (k < width) × AllInside n width rest
 
--- What a move adds: the thread that waits for a later position,
+-- What a move adds: the thread of a later position,
 abbrev pub resting_of : ℕ → List (Option ℕ) → Move → List Thread
 resting_of start slots (Reads m to) = record { place = m; at = to; start = start; slots = slots } ∷ []
 resting_of start slots move = []
 
--- the frames, the uppermost first,
+-- the frames, the top one first,
 abbrev pub frames_of : List (Option ℕ) → Move → List Frame
 frames_of slots (Fork a b) = Explore a ∷ Explore b ∷ []
 frames_of slots (Save k m) = if nat_lt k (length slots) then Explore m ∷ Restore k (slice_index_or slots k None) ∷ [] else Explore m ∷ []
@@ -50,7 +50,7 @@ abbrev pub slots_after : ℕ → List (Option ℕ) → Move → List (Option ℕ
 slots_after at slots (Save k m) = slice_set slots k (Some at)
 slots_after at slots move = slots
 
--- each place that the move names is one of the program
+-- Each place that the move names is one of the program.
 abbrev pub IsMoveInside : ℕ → Move → Type 0
 IsMoveInside n (Fork a b) = (a < n) × (b < n)
 IsMoveInside n (Save k m) = m < n
@@ -59,45 +59,46 @@ IsMoveInside n (Stays m) = m < n
 IsMoveInside n (Reads m to) = m < n
 IsMoveInside n Stops = Unit {0}
 
--- what pends at a position: the threads that wait for later ones, the places entered, and the threads still to come, in order
+-- What is under way at a position: the threads of later positions, the places entered, and the
+-- threads still to come, in order.
 abbrev pub Carries : Sight → ℕ → List Thread → List ℕ → List (Trace × Pair) → Option Trace → Option Trace → Type 0
 Carries s at resting entered waiting best o =
     Pends (next_of s) (λ n. IsTrue (ends s n)) Trace (note s.places) (map pending resting) (pairs at entered) waiting best o
 
--- the threads go on at one of the n places, at positions from lo to hi
+-- The threads go on at one of the n places, at positions from lo to hi.
 abbrev pub AllIn : ℕ → ℕ → ℕ → List Thread → Type 0
 AllIn n lo hi [] = Unit {0}
 AllIn n lo hi (t ∷ ts) = ((t.place < n) × (lo ≤ t.at) × (t.at ≤ hi)) × AllIn n lo hi ts
 
--- the threads' walks began at x or later
+-- The threads' walks began at x or later.
 abbrev pub AllFrom : ℕ → List Thread → Type 0
 AllFrom x [] = Unit {0}
 AllFrom x (t ∷ ts) = (x ≤ t.start) × AllFrom x ts
 
--- how many threads go on at q or later
+-- How many threads go on at q or later.
 abbrev pub count_from : ℕ → List Thread → ℕ
 count_from q [] = 0
 count_from q (t ∷ ts) = (if nat_le q t.at then 1 else 0) + count_from q ts
 
--- There is room, and all that is there belongs to the n places; no thread goes on past hi.
+-- There is room, and all places are among the n; no thread goes on past hi.
 pub record HasRoom (n hi at : ℕ) (threads : ThreadList) (entered : Members) : Type 0 where
   pub capacity : entered.capacity ≡ n
   pub few : length entered.items ≤ n
   pub room : length threads.items + n ≤ threads.room + length entered.items
   pub inside : AllIn n (at + 1) (min hi (at + 4)) threads.items
 
--- what the closure of a thread that began at `start` adds at the position `at`
+-- What the closure of a thread that began at `start` adds at the position `at`.
 pub record IsGrown (n hi start at : ℕ) (threads0 : ThreadList) (entered0 : Members) (threads : ThreadList) (entered : Members) : Type 0 where
   pub sound : HasRoom n hi at threads entered
   pub same_room : threads.room ≡ threads0.room
   pub same_most : threads.most ≡ threads0.most
   pub same_width : threads.width ≡ threads0.width
   pub more : length entered0.items ≤ length entered.items
-  -- each new thread comes from a place that was entered
+  -- Each new thread comes from a place that was entered.
   pub counts : (q : ℕ) → count_from q threads.items + length entered0.items ≤ count_from q threads0.items + length entered.items
   pub begun : (x : ℕ) → x ≤ start → AllFrom x threads0.items → AllFrom x threads.items
 
--- a closure under way: what it gives is what the threads give that waited when it began
+-- A closure under way: it gives what the threads give that waited when it began.
 pub record IsClosing (s : Sight) (n hi start at : ℕ) (waiting0 : List (Trace × Pair)) (threads0 : ThreadList) (entered0 : Members)
     (threads : ThreadList) (entered : Members) (frames : List Frame) (slots : List (Option ℕ)) : Type 0 where
   pub carries : (below : List (Trace × Pair)) (best o : Option Trace) →
@@ -119,11 +120,12 @@ pub record IsStepping (s : Sight) (n hi at : ℕ) (all left : List Thread) (thre
   pub begun : (x : ℕ) → AllFrom x all → AllFrom x threads.items
   pub some : (length all ≤ length left) ⊎ (0 < length threads.items + length entered.items)
 
--- the starts from `at` to `last`, while none has given a match
+-- The starts from `at` to `last`, as long as none has given a match.
 abbrev pub waiting_starts : Bool → ℕ → ℕ → ℕ → List (Trace × Pair)
 waiting_starts is_open width at last = if is_open then starts width at (last + 1 - at) else []
 
--- What is noted along the first walk of the least start in from..=last that has one; None where there is no such start.
+-- What is noted along the first walk of the least start in from..=last that has one; None if there
+-- is no such start.
 abbrev pub GivesTrace : Sight → ℕ → ℕ → ℕ → Option Trace → Type 0
 GivesTrace s width from last o =
     ((o ≡ None) × ((y : ℕ) → from ≤ y → y ≤ last → HasNoWalkFrom s y))
@@ -135,16 +137,17 @@ abbrev pub Tells : Sight → ℕ → ℕ → Option Ending → Type 0
 Tells s from last None = (y : ℕ) → from ≤ y → y ≤ last → HasNoWalkFrom s y
 Tells s from last (Some r) = (x : ℕ) × (w : List Pair) × (from ≤ x) × (x ≤ last) × IsFirstFrom s x w
 
--- what was noted along the best walk so far
+-- What was noted along the best walk so far.
 abbrev pub best_of : Option Ending → List (Option ℕ) → Option Trace
 best_of best found = option_map (λ (r : Ending). done r.pattern r.start r.end found) best
 
--- what pends before the position `at`
+-- What is under way before the position `at`.
 abbrev pub Pending : Sight → ℕ → ℕ → ℕ → List Thread → Option Ending → List (Option ℕ) → Option Trace → Type 0
 Pending s width last at curr best found o =
     Carries s at [] [] (map pending curr ++ waiting_starts (is_none best) width at last) (best_of best found) o
 
--- The threads wait for `at` or later, few enough for the next list, and each position since its walk began was counted.
+-- The threads wait for `at` or later, and are few enough for the next list. Each position since a
+-- thread's walk began was counted.
 pub record IsLined (n hi width at insertions : ℕ) (curr : ThreadList) : Type 0 where
   pub inside : AllIn n at (min hi (at + 3)) curr.items
   pub width_is : curr.width ≡ width
@@ -152,11 +155,11 @@ pub record IsLined (n hi width at insertions : ℕ) (curr : ThreadList) : Type 0
   pub counts : (k : ℕ) → k ≤ 3 → count_from (at + k) curr.items + k * n ≤ 4 * n
   pub begun : AllFrom (at - insertions) curr.items
 
--- each position of the walk was counted
+-- Each position of the walk was counted.
 abbrev pub IsCounted : ℕ → Option Ending → Type 0
 IsCounted insertions best = MatchOption best (Unit {0}) (λ (r : Ending). r.end + 1 ≤ insertions + r.start)
 
--- the pass from the start `from` has come to the position `at`
+-- The pass from the start `from` has come to the position `at`.
 pub record IsPassing (s : Sight) (n hi width from last at insertions : ℕ) (curr : ThreadList) (best : Option Ending) (found : List (Option ℕ)) : Type 0 where
   pub carries : (o : Option Trace) → Pending s width last at curr.items best found o → GivesTrace s width from last o
   pub lined : IsLined n hi width at insertions curr

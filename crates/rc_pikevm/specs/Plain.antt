@@ -1,5 +1,5 @@
 -- Only proofs use this file.
--- On which sides of a position no byte past ASCII stands.
+-- Look-around: sides of a position on which no byte past ASCII is.
 use Rattle.std.specs.Prelude.{◌≡◌, ◌<◌, Some}
 use Rattle.rc_program.specs.Looks.{Side, nothing, stands}
 

@@ -15,14 +15,14 @@ pub record Sight : Type 0 where
 abbrev pub sight_of : Search → Sight
 sight_of s = record { places = s.places; text = s.text; hi = s.hi; anchoring = s.anchoring }
 
--- a walk may end here
+-- A walk may end here.
 abbrev pub ends : Sight → Pair → Bool
 ends s n = is_match_place (only s.anchoring) (place_at s.places n.0)
 
 abbrev pub next_of : Sight → Pair → List Pair
 next_of s = ways s.places s.text s.hi
 
--- w is the first of the walks from x that may end so
+-- w is the first of the walks from x.
 abbrev pub IsFirstFrom : Sight → ℕ → List Pair → Type 0
 IsFirstFrom s x w = IsFirstWalk (next_of s) (λ n. IsTrue (ends s n)) [] ((0, x) ∷ []) w
 

@@ -1,5 +1,5 @@
 -- Only proofs use this file.
--- What a pass for the greatest span keeps.
+-- The Pike VM for `MatchKind::All`: what a pass for the greatest span keeps.
 use Rattle.std.specs.Prelude.{◌≡◌, ℕ, zero, suc, ◌+◌, ◌-◌, ◌*◌, ◌<◌, ◌≤◌, ◌⊎◌, List, [], ◌∷◌, ◌++◌, length, map, Option, Some, None, IsTrue, option_map}
 use Rattle.rc_text.specs.Found.{Found}
 use Rattle.rc_walks.specs.Walks.{Pair, IsWalk}
@@ -14,14 +14,14 @@ use Rattle.rc_pikevm.specs.declared.growth.Frame.{Frame}
 use Rattle.rc_pikevm.specs.declared.growth.Frame.TheVariants.{Explore, Restore}
 use Rattle.rc_pikevm.specs.declared.pass.Ending.{Ending}
 
--- where a thread's walk began, and the pair that it enters next
+-- Where a thread's walk began, and the pair that it enters next.
 abbrev pub Runner : Type 0
 Runner = ℕ × Pair
 
 abbrev pub running : Thread → Runner
 running t = (t.start, (t.place, t.at))
 
--- A walk that keeps off the pairs passed leads from the runner to the end of the match.
+-- A walk that avoids the pairs passed leads from the runner to the end of the match.
 pub record LeadsToMatch (s : Sight) (passed : List Pair) (r : Runner) (m : Found) : Type 0 where
   pub start : m.start ≡ r.0
   pub walk : List Pair
@@ -29,21 +29,22 @@ pub record LeadsToMatch (s : Sight) (passed : List Pair) (r : Runner) (m : Found
   pub pattern : place_at s.places (last_of walk).0 ≡ accept m.pattern
   pub position : (last_of walk).1 ≡ m.end
 
--- one of the runners spells the match
+-- One of the runners spells the match.
 abbrev pub SomeSpells : Sight → List Pair → List Runner → Found → Type 0
 SomeSpells s passed [] m = ⊥
 SomeSpells s passed (r ∷ rs) m = LeadsToMatch s passed r m ⊎ SomeSpells s passed rs m
 
--- the match of a walk that has ended
+-- The match of a walk that has ended.
 abbrev pub span_of : Ending → Found
 span_of e = record { pattern = e.pattern; start = e.start; end = e.end }
 
--- under way at a position: what the resting threads, those that wait, and the best walk so far spell
+-- At a position: what the threads of later positions, the runners on the stack, and the best walk
+-- so far spell.
 abbrev pub Offers : Sight → ℕ → List Thread → List ℕ → List Runner → Option Ending → Found → Type 0
 Offers s at resting entered waiting best m =
     SomeSpells s [] (map running resting) m ⊎ (SomeSpells s (pairs at entered) waiting m ⊎ (option_map span_of best ≡ Some m))
 
--- the greatest of the matches that there are; None where there is none
+-- The greatest of the matches that there are; None if there is none.
 abbrev pub IsTop : (Found → Type 0) → Option Found → Type 0
 IsTop Has None = (m : Found) → ¬ Has m
 IsTop Has (Some m) = Has m × ((n : Found) → Has n → IsNoGreater n m)
@@ -51,52 +52,52 @@ IsTop Has (Some m) = Has m × ((n : Found) → Has n → IsNoGreater n m)
 abbrev pub Seeks : Sight → ℕ → List Thread → List ℕ → List Runner → Option Ending → Option Found → Type 0
 Seeks s at resting entered waiting best o = IsTop (Offers s at resting entered waiting best) o
 
--- the runners that wait on the stack, the uppermost frame first
+-- The runners on the stack, the top frame first.
 abbrev pub runners_of : ℕ → ℕ → List Frame → List Runner
 runners_of start at [] = []
 runners_of start at (Explore p ∷ rest) = (start, (p, at)) ∷ runners_of start at rest
 runners_of start at (Restore k old ∷ rest) = runners_of start at rest
 
--- the runners set out at x or later
+-- The runners set out at x or later.
 abbrev pub BeginFrom : ℕ → List Runner → Type 0
 BeginFrom x [] = Unit {0}
 BeginFrom x (r ∷ rs) = (x ≤ r.0) × BeginFrom x rs
 
--- the threads' walks began at x or before
+-- The threads' walks began at x or before.
 abbrev pub AllBefore : ℕ → List Thread → Type 0
 AllBefore x [] = Unit {0}
 AllBefore x (t ∷ ts) = (t.start ≤ x) × AllBefore x ts
 
--- each walk began where the one before it did, or later
+-- Each walk began where the one before it did, or later.
 abbrev pub IsRising : List Thread → Type 0
 IsRising [] = Unit {0}
 IsRising (t ∷ ts) = AllFrom t.start ts × IsRising ts
 
--- the starts rise, and none is past x
+-- The starts rise, and none is past x.
 pub record IsOrdered (x : ℕ) (ts : List Thread) : Type 0 where
   pub rising : IsRising ts
   pub before : AllBefore x ts
 
--- Of the best walk so far and a new one the greater.
+-- The greater of the best walk so far and a new one.
 pub record IsGreater (best : Option Ending) (new result : Ending) : Type 0 where
   pub one : (result ≡ new) ⊎ (best ≡ Some result)
   pub new_is : IsNoGreater (span_of new) (span_of result)
   pub best_is : (b : Ending) → best ≡ Some b → IsNoGreater (span_of b) (span_of result)
 
--- a walk that ends at `at` and began at `start` was counted, if the ones before were
+-- A walk that began at `start` and ends at `at` was counted, if the ones before were.
 abbrev pub StaysCounted : ℕ → ℕ → Option Ending → Option Ending → Type 0
 StaysCounted start at best0 best = (k : ℕ) → at + 1 ≤ k + start → IsCounted k best0 → IsCounted k best
 
--- the runners of `count` starts from x on
+-- The runners of `count` starts from x on.
 abbrev pub setting_out : ℕ → ℕ → List Runner
 setting_out x zero = []
 setting_out x (suc count) = (x, (0, x)) ∷ setting_out (x + 1) count
 
--- those of the starts from `at` to `last`
+-- The runners of the starts from `at` to `last`.
 abbrev pub starting : ℕ → ℕ → List Runner
 starting at last = setting_out at (last + 1 - at)
 
--- what the closure of a thread adds
+-- What the closure of a thread adds.
 pub record IsSpread (s : Sight) (n hi start at root : ℕ) (threads0 : ThreadList) (entered0 : Members) (best0 : Option Ending)
     (threads : ThreadList) (entered : Members) (best : Option Ending) (frames : List Frame) : Type 0 where
   pub seeks : (below : List Runner) (o : Option Found) → BeginFrom start below →
@@ -120,7 +121,7 @@ pub record IsSpreading (s : Sight) (n hi at : ℕ) (all left : List Thread) (thr
   pub counts : (q : ℕ) → count_from q threads.items + count_from q left ≤ count_from q all + length entered.items
   pub begun : (x : ℕ) → AllFrom x all → AllFrom x threads.items
   pub some : (length all ≤ length left) ⊎ (0 < length threads.items + length entered.items)
-  -- the starts so far are at most this one, and those to come at least
+  -- The starts so far are at most this one, and those to come at least.
   pub reached : ℕ
   pub within : reached ≤ at
   pub ordered : IsOrdered reached threads.items
@@ -129,7 +130,7 @@ pub record IsSpreading (s : Sight) (n hi at : ℕ) (all left : List Thread) (thr
   pub left_before : AllBefore at left
   pub counted : (k : ℕ) → AllFrom (at + 1 - k) all → IsCounted k best0 → IsCounted k best
 
--- the pass from the start `from` has come to the position `at`
+-- The pass from the start `from` has come to the position `at`.
 pub record IsCovering (s : Sight) (n hi from last at insertions : ℕ) (curr : ThreadList) (best : Option Ending) : Type 0 where
   pub seeks : (o : Option Found) → Seeks s at [] [] (map running curr.items ++ starting at last) best o →
       Seeks s from [] [] (starting from last) None o

@@ -1,24 +1,24 @@
 -- Only proofs use this file.
--- Threads in order of preference.
+-- Thread lists: threads in order of preference.
 use Rattle.std.specs.Prelude.{ℕ, List, [], ◌∷◌, take, drop, refl, Option}
 use Rattle.std.specs.Coded.{Coded, code_by, coded×, coded_ℕ, coded_list, coded_option}
 use Rattle.rc_pikevm.specs.declared.threads.Head.{Head}
 
 pub record Thread : Type 0 where
-  -- the place that it enters next, and at which position
+  -- The place that it enters next, and at which position.
   pub place : ℕ
   pub at : ℕ
-  -- where its walk began
+  -- Where its walk began.
   pub start : ℕ
   pub slots : List (Option ℕ)
 
 pub record ThreadList : Type 0 where
   pub items : List Thread
-  -- how many threads fit
+  -- How many threads fit.
   pub room : ℕ
-  -- how many slots a thread may have
+  -- How many slots a thread may have.
   pub most : ℕ
-  -- how many slots each thread has
+  -- How many slots each thread has.
   pub width : ℕ
 
 abbrev pub thread_code : Coded Thread
@@ -33,11 +33,11 @@ thread_list_code =
     (λ l. (l.items, (l.room, (l.most, l.width))))
     (λ p. record { items = p.0; room = p.1.0; most = p.1.1.0; width = p.1.1.1 }) (λ _. refl)
 
--- the thread of a head and its slots
+-- The thread of a head and its slots.
 abbrev pub thread_of : Head → List (Option ℕ) → Thread
 thread_of head slots = record { place = head.place; at = head.at; start = head.start; slots = slots }
 
--- a thread for each head, with the next `width` cells as its slots
+-- A thread for each head, with the next `width` cells as its slots.
 abbrev pub threads_of : ℕ → List Head → List (Option ℕ) → List Thread
 threads_of width [] cells = []
 threads_of width (head ∷ heads) cells = thread_of head (take width cells) ∷ threads_of width heads (drop width cells)

@@ -1,5 +1,5 @@
 -- Only proofs use this file.
--- What is noted along a walk.
+-- Capture slots: what is noted along a walk.
 use Rattle.std.specs.Prelude.{ℕ, zero, suc, ◌+◌, List, [], ◌∷◌, Option, Some, None, slice_set, replicate}
 use Rattle.rc_walks.specs.Walks.{Pair}
 use Rattle.rc_program.specs.Program.{Place, slot, accept, place_at}
@@ -18,19 +18,19 @@ note_at _ h i = h
 abbrev pub note : List Place → Trace → Pair → Trace
 note places h n = note_at (place_at places n.0) h n.1
 
--- what was noted by a thread that hasn't ended
+-- What was noted by a thread that hasn't ended.
 abbrev pub trace : ℕ → List (Option ℕ) → Trace
 trace start slots = record { start = start; slots = slots; ended = None }
 
--- what is known once a walk of the pattern has ended
+-- What is known once a walk of the pattern has ended.
 abbrev pub done : ℕ → ℕ → ℕ → List (Option ℕ) → Trace
 done pattern start stop slots = record { start = start; slots = slots; ended = Some (pattern, stop) }
 
--- a thread that sets out at x, with `width` slots
+-- A thread that sets out at x, with `width` slots.
 abbrev pub sets_out : ℕ → ℕ → Trace × Pair
 sets_out width x = (trace x (replicate width None), (0, x))
 
--- the threads of `count` starts from x on
+-- The threads of `count` starts from x on.
 abbrev pub starts : ℕ → ℕ → ℕ → List (Trace × Pair)
 starts width x zero = []
 starts width x (suc count) = sets_out width x ∷ starts width (x + 1) count

@@ -1,4 +1,5 @@
-//! Lone-thread fast path: a single thread, or none, is simulated without a list of threads.
+//! Single threads: if one thread is alone, it goes on without thread lists. Starts from which no
+//! walk leads on are skipped in the same way.
 ghost use Rattle.std.specs.Prelude.{◌≡◌, ◌+◌, ◌<◌, ◌≤◌, ◌⊎◌, ◌^◌, [], ◌∷◌, IsTrue, IfSome, List, Option, MatchOption, ⊤, true, false, ℕ, length};
 ghost use Rattle.rc_text.specs.Text.{Searched};
 ghost use Rattle.rc_walks.specs.Walks.{Pair};
@@ -30,7 +31,7 @@ use rc_program::place::Place;
 /// How many places are followed at most.
 const MOST: usize = 6;
 
-/// Whether it is the place that was tried.
+/// Whether the place is the one that was tried.
 #[inline(always)]
 fn is_tried(tried: Option<usize>, place: usize) -> bool
     ensures { IsTrue result → tried ≡ Some place }
@@ -41,8 +42,8 @@ fn is_tried(tried: Option<usize>, place: usize) -> bool
     }
 }
 
-/// Whether no walk leads on from the place, if that is known by a few places. Walks over the place
-/// that was tried don't count.
+/// Whether no walk leads on from the place, as far as at most `MOST` places show. Walks through the
+/// place that was tried don't count. Returns false if these places don't decide it.
 #[inline(never)]
 fn leads_nowhere(spot: &Spot, from: usize, tried: Option<usize>) -> bool
     ghost text: { Searched }
@@ -85,7 +86,7 @@ fn leads_nowhere(spot: &Spot, from: usize, tried: Option<usize>) -> bool
     false
 }
 
-/// The place behind this one, if this one fills a slot; otherwise the place itself.
+/// Returns the place behind this one if this one fills a slot, else the place itself.
 #[inline(always)]
 fn past_slot(spot: &Spot, place: usize) -> usize
     requires place_in { place < size spot.now.course }
@@ -98,7 +99,8 @@ fn past_slot(spot: &Spot, place: usize) -> usize
     }
 }
 
-/// Whether no walk leads on from the place, if that is quickly decided.
+/// Whether no walk leads on from the place, or from behind it if it fills a slot, as far as
+/// `is_shut` sees.
 #[inline(always)]
 fn is_closed(spot: &Spot, place: usize) -> bool
     ghost text: { Searched }
@@ -109,8 +111,8 @@ fn is_closed(spot: &Spot, place: usize) -> bool
     is_shut(spot, past_slot(spot, place))
 }
 
-/// The one of two ways on from the place by which alone walks lead on, if that is known by a few
-/// places.
+/// Returns the one of two ways on from the place by which alone walks lead on. Returns None if a
+/// few places don't decide that.
 #[inline(always)]
 fn only_way(spot: &Spot, place: usize, first: usize, second: usize) -> Option<usize>
     ghost text: { Searched }
@@ -138,8 +140,9 @@ fn only_way(spot: &Spot, place: usize, first: usize, second: usize) -> Option<us
     None
 }
 
-/// A place at which a thread may go on in place of this one, since it has one way alone to go as
-/// far as there, and how it goes on from there.
+/// Follows the places from which a thread has only one way on. Returns the last of them, at which
+/// the thread may go on instead, and its transition. Returns None if there are two ways on, or more
+/// than `MOST` places.
 #[inline(always)]
 fn onward(spot: &Spot, from: usize) -> Option<(usize, Move)>
     ghost text: { Searched }
@@ -163,7 +166,7 @@ fn onward(spot: &Spot, from: usize) -> Option<(usize, Move)>
     None
 }
 
-/// The first way on from the place, if the second is a dead end; otherwise the place itself.
+/// Returns the first branch of a choice if its second is a dead end, else the place itself.
 pub(crate) fn opening(course: Course, place: usize) -> usize
     ghost text: { Searched }
     requires place_in { place < size course }
@@ -179,8 +182,9 @@ pub(crate) fn opening(course: Course, place: usize) -> usize
     }
 }
 
-/// Whether a walk may lead on from the start at the spot, if `is_open`. Walks over the place that
-/// was tried don't count. The place `way` is the opening of place 0.
+/// Whether a walk may lead on from the start at the spot. Returns false unless `is_open`, and if
+/// the spot is past the last start. Walks through the place that was tried don't count. The place
+/// `way` is the opening of place 0.
 #[inline(always)]
 fn may_set_out(spot: &Spot, is_open: bool, way: usize, tried: usize) -> bool
     ghost text: { Searched }
@@ -205,9 +209,9 @@ fn may_set_out(spot: &Spot, is_open: bool, way: usize, tried: usize) -> bool
     !leads_nowhere(spot, way, Some(tried))
 }
 
-/// Lets a lone thread go on through the window, as long as it reads single bytes and no other sets
-/// out, if `is_open`. Beside the thread is the pattern of which its walk ends, if one is seen to
-/// end. The place `way` is the opening of place 0.
+/// Advances a lone thread through the window as long as it reads single bytes. If `is_open`, it
+/// stops where another thread may set out. Returns the thread, and the pattern of its match if it
+/// came to one. The place `way` is the opening of place 0.
 pub(crate) fn run(
     course: Course,
     window: &Window,
@@ -272,10 +276,10 @@ pub(crate) fn run(
     (Head { place, at, start }, None)
 }
 
-/// The position from which a pass goes on that has come to `at`, with no thread under way: no walk
-/// leads on from the starts before it. Beside it is the place at which a thread goes on that sets
-/// out there and reads one byte, if that is seen. The place `root` stands for place 0, and `way` is
-/// its opening.
+/// Skips starts from `at` on from which no walk leads on, while no thread is under way. Returns the
+/// position in bytes from which the pass goes on. If a thread that sets out there is seen to read
+/// one byte, the place at which it goes on is returned too. The place `root` stands for place 0,
+/// and `way` is its opening.
 pub(crate) fn seek(
     course: Course,
     window: &Window,
@@ -335,8 +339,9 @@ pub(crate) fn seek(
     (here, None)
 }
 
-/// Lets a lone thread that waits for `at` go on through the window. The answer is the position to
-/// which the pass has come, and the best walk that has ended so far, with its slots in `found`.
+/// Advances a lone thread that waits for `at` through the window. Returns the position in bytes
+/// that the pass has reached. If the thread came to a match, that is now the best, with its slots
+/// in `found`.
 fn go_alone(
     course: Course,
     window: &Window,
@@ -379,7 +384,7 @@ fn go_alone(
     head.at + 1
 }
 
-/// Lets the only thread go on elsewhere, this many positions later.
+/// Moves the only thread elsewhere, `count` positions further.
 #[inline(always)]
 pub(crate) fn move_alone(head: Head, count: usize, scratch: &mut Scratch)
     requires small { scratch.old.insertions + count < 2 ^ 128 }
@@ -394,8 +399,9 @@ pub(crate) fn move_alone(head: Head, count: usize, scratch: &mut Scratch)
     scratch.curr.move_first(head);
 }
 
-/// The position to which a pass goes on that has come to `at`, and whether a lone thread may go on
-/// there: starts from which no walk leads on were left out, if `skips`, and a thread set out.
+/// Prepares a pass that has come to `at` for a lone thread. If there is neither a thread nor a
+/// match and `skips` is set, it skips starts from which no walk leads on, and may set out a thread.
+/// Returns the position in bytes, and whether a lone thread may go on there.
 fn begin(
     course: Course,
     window: &Window,
@@ -441,9 +447,9 @@ fn begin(
     (here + 1, true)
 }
 
-/// The position from which all threads have to go on together, of a pass that has come to `at`, and
-/// the best walk that has ended so far, with its slots in `found`: up to there, starts from which
-/// no walk leads on were left out, if `skips`, and a lone thread went on.
+/// Runs the fast path of a pass that has come to `at`: skips starts if `skips`, and advances a lone
+/// thread. Returns the position in bytes from which all threads go on together. If the lone thread
+/// came to a match, that is now the best, with its slots in `found`.
 #[inline(never)]
 fn wander(
     course: Course,
@@ -481,8 +487,8 @@ fn wander(
     go_alone(course, window, best, here, scratch)
 }
 
-/// Whether starts may be left out, if there is no thread, or the only one may go on alone, if
-/// `is_on`.
+/// Whether the fast path may serve: starts may be skipped without any thread if `skips`, and the
+/// only thread may go on alone if `is_on`.
 #[inline(always)]
 pub(crate) fn is_worth(is_on: bool, skips: bool, threads: usize) -> bool {
     match threads {
@@ -492,8 +498,9 @@ pub(crate) fn is_worth(is_on: bool, skips: bool, threads: usize) -> bool {
     }
 }
 
-/// As `wander`, if there is no thread, or one and `is_on`; otherwise the position and the best walk
-/// are those given.
+/// Runs the fast path if there is no thread and `skips`, or one thread and `is_on`. Returns the
+/// position in bytes from which all threads go on together; that is `at` if the fast path doesn't
+/// serve.
 #[inline(always)]
 pub fn glide(
     course: Course,

@@ -1,4 +1,4 @@
-//! Pike VM cache: the scratch memory of searches.
+//! Cache: all memory of a Pike VM search, allocated once.
 
 use crate::growth::Frame;
 use crate::scratch::Scratch;
@@ -7,7 +7,7 @@ use std::alloc::{AllocError, Global};
 use std::marker::Model;
 use std::mem::size_of;
 
-/// What a search works in: all memory that it needs, made once.
+/// All memory that a search needs, allocated once.
 #[derive(Drop)]
 pub struct Cache {
     pub(crate) scratch: Scratch,
@@ -32,8 +32,8 @@ impl Cache {
     ghost use Rattle.std.specs.Prelude.{◌≡◌, IfOk};
     ghost use Rattle.rc_pikevm.specs.Caches.{IsCacheFor};
 
-    /// A cache for programs of `places` places, and searches with at most `slots` slots. It makes
-    /// every growth that these searches need.
+    /// A cache for programs of `places` places, and for searches with at most `slots` slots. It
+    /// allocates all that these searches need.
     pub fn new(alloc: Global, places: usize, slots: usize) -> Result<Cache, AllocError>
         ensures { IfOk result (λ c. c ≡ record { places = places; slots = slots; insertions = 0 }) }
     {
@@ -44,15 +44,16 @@ impl Cache {
         })
     }
 
-    /// How many places the last pass of the last search entered, over all positions; 0 if that
-    /// search made no pass.
+    /// Returns how many places the last pass of the last search entered, over all positions.
+    /// Returns 0 if that search made no pass.
     pub fn insertions(&self) -> u128
         ensures { result ≡ self.now.insertions }
     {
         self.scratch.insertions
     }
 
-    /// About how many bytes the cache has taken for its lists.
+    /// Returns about how many bytes the cache has allocated for its lists, or the greatest `usize`
+    /// if that is more.
     pub fn memory_usage(&self) -> usize {
         let heads = self.places.saturating_mul(8 * size_of::<Head>());
         let cells = self.places.saturating_mul(8).saturating_add(2);

@@ -1,4 +1,5 @@
-//! Epsilon closure: all states that a thread reaches at one position without reading a byte.
+//! Epsilon closure: all places that a thread reaches at one position without reading, in order of
+//! preference. It ends at the first match, since all that comes later is less preferred.
 ghost use Rattle.std.specs.Prelude.{◌≡◌, ◌≢◌, ℕ, ◌+◌, ◌*◌, ◌<◌, ◌≤◌, List, [], ◌∷◌, ◌++◌, length, reverse, vec_len, vec_capacity, Option, None, Some, MatchOption, slice_set, slice_index_or};
 ghost use Rattle.rc_walks.specs.Walks.{Pair};
 ghost use Rattle.rc_text.specs.Text.{Searched};
@@ -16,7 +17,7 @@ use crate::spot::Spot;
 use crate::threads::Head;
 use rc_program::place::Place;
 
-/// Writes the position to the slot, and pushes the frame that undoes the write.
+/// Writes the position to the slot, and pushes the frame that undoes that.
 #[inline(always)]
 fn save(slot: usize, at: usize, growth: &mut Growth)
     requires within { slot < length growth.old.slots.items }
@@ -34,7 +35,7 @@ fn save(slot: usize, at: usize, growth: &mut Growth)
     growth.slots[slot] = Some(at);
 }
 
-/// Puts the places on the stack, the first uppermost.
+/// Pushes both places, so that the first is on top.
 #[inline(always)]
 fn fork(first: usize, second: usize, growth: &mut Growth)
     requires deep { vec_len growth.old.stack + 2 ≤ vec_capacity growth.old.stack }
@@ -45,7 +46,7 @@ fn fork(first: usize, second: usize, growth: &mut Growth)
     growth.stack.push_reserved(Frame::Explore(first));
 }
 
-/// Puts the place on the stack.
+/// Pushes the place.
 #[inline(always)]
 fn stay(place: usize, growth: &mut Growth)
     requires deep { vec_len growth.old.stack + 1 ≤ vec_capacity growth.old.stack }
@@ -55,7 +56,7 @@ fn stay(place: usize, growth: &mut Growth)
     growth.stack.push_reserved(Frame::Explore(place));
 }
 
-/// Writes the position to the slot, if the thread has it, and puts the place on the stack.
+/// Writes the position to the slot if the thread has that slot, and pushes the place.
 #[inline(always)]
 fn note(slot: usize, place: usize, at: usize, growth: &mut Growth)
     requires deep { vec_len growth.old.stack + 2 ≤ vec_capacity growth.old.stack }
@@ -70,8 +71,7 @@ fn note(slot: usize, place: usize, at: usize, growth: &mut Growth)
     }
 }
 
-/// Puts a thread behind the others that goes on at the place, if the position is known at which it
-/// does.
+/// If a position is given, appends a thread that goes on there at the place.
 #[inline(always)]
 fn read(place: usize, to: Option<usize>, start: usize, growth: &mut Growth)
     requires room { length growth.old.threads.items < growth.old.threads.room }
@@ -86,9 +86,9 @@ fn read(place: usize, to: Option<usize>, start: usize, growth: &mut Growth)
         .push(Head { place, at, start }, &growth.slots);
 }
 
-/// Makes the move of a place: the places to which it leads go on the stack, the first uppermost,
-/// and a thread that reads goes behind the threads. None is made at a choice, a slot or an
-/// assertion from which the next byte lets no walk go on. Returns the pattern if a walk ends there.
+/// Makes the transition of a place. Places reached without reading go onto the stack, the preferred
+/// one on top; a place that reads appends a thread. A choice, a slot or an assertion from which the
+/// next byte lets no walk go on does nothing. Returns the pattern if a walk ends at the place.
 #[inline(always)]
 fn act(spot: &Spot, place: usize, start: usize, growth: &mut Growth) -> Option<usize>
     ghost text: { Searched }
@@ -150,8 +150,8 @@ fn act(spot: &Spot, place: usize, start: usize, growth: &mut Growth) -> Option<u
     }
 }
 
-/// Enters a place, unless it was entered at this position already, and makes its move. Returns the
-/// pattern if a walk ends there.
+/// Enters a place, unless it was entered at this position before, and makes its transition. Returns
+/// the pattern if a walk ends there.
 #[inline(always)]
 pub fn enter(spot: &Spot, place: usize, start: usize, growth: &mut Growth) -> Option<usize>
     ghost text: { Searched }
@@ -175,7 +175,8 @@ pub fn enter(spot: &Spot, place: usize, start: usize, growth: &mut Growth) -> Op
     act(spot, place, start, growth)
 }
 
-/// Goes on from the frames of the stack, the uppermost first. The rest is as in `close`.
+/// Pops frames and goes on from them until none is left or a walk ends. Returns the pattern of that
+/// walk, whose slots are then in `slots`.
 #[inline(never)]
 fn drain(spot: &Spot, start: usize, growth: &mut Growth) -> Option<usize>
     ghost text: { Searched }
@@ -208,11 +209,11 @@ fn drain(spot: &Spot, start: usize, growth: &mut Growth) -> Option<usize>
     None
 }
 
-/// Follows all ways from `root` that read nothing, in order, and puts a thread behind the others
-/// for each that reads.
+/// Follows all ways from `root` that read nothing, in order of preference, and appends a thread for
+/// each place that reads.
 ///
-/// Returns the pattern if a walk ends on the way: the slots are those of that walk then, and the
-/// ways that were still to come are dropped.
+/// Returns the pattern if a walk ends on the way. Then `slots` are that walk's, and the ways still
+/// to come are dropped.
 #[inline(always)]
 pub fn close(spot: &Spot, root: usize, start: usize, growth: &mut Growth) -> Option<usize>
     ghost text: { Searched }

@@ -1,4 +1,4 @@
-//! Earliest match: where the first match ends.
+//! Earliest match: the first position at which a match ends.
 ghost use Rattle.std.specs.Prelude.{◌≡◌, is_some, ◌≤◌, ⊤, length, MatchOption, IfSome};
 ghost use Rattle.rc_text.specs.Text.{Keeps, low, high};
 ghost use Rattle.rc_program.specs.Greatest.{greatest};
@@ -15,12 +15,11 @@ use rc_program::program::Program;
 use rc_text::cursor::Cursor;
 use rc_text::input::{Input, high, low};
 
-/// A position between the bounds of the input's search, in bytes, up to which the pass had to read
-/// to see that some walk begins at one of its starts; None if none does. That is the first position
-/// at which a walk ends, wherever that is. The earliest flag is not read. With a prefilter, the
-/// pass goes from needle to needle if no walk is under way.
+/// Returns the first position at which a walk from one of the search's starts ends, in bytes of the
+/// content, or None if no walk does. The pass ends there. The earliest flag is not read. With a
+/// prefilter, the pass goes from needle to needle while no thread is under way.
 ///
-/// The cache has to be made for programs of as many places; it stays so. No memory is taken.
+/// The cache must be made for programs of as many places, and stays so. Nothing is allocated.
 pub fn first_end<C: Cursor>(
     cache: &mut Cache,
     input: &mut Input<C>,

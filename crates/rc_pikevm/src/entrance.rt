@@ -10,16 +10,17 @@ use crate::sparse_set::SparseSet;
 use crate::spot::Spot;
 use rc_program::place::Place;
 
-/// How many choices a thread is led over at most before it enters.
+/// How many choices a thread skips at most before it enters.
 const MOST: usize = 4;
 
-/// Whether it is quickly looked up if a thread goes on from the place.
+/// Whether the place's own transition is quickly looked up.
 #[inline(always)]
 fn is_quick(place: &Place) -> bool {
     matches!(place, Place::Dead | Place::Byte(_, _) | Place::Guard(_, _))
 }
 
-/// Whether no walk leads on from the place, if that is quickly decided.
+/// Whether no walk leads on from the place, as far as a quick look shows. Returns false if it shows
+/// nothing.
 #[inline(always)]
 pub fn is_shut(spot: &Spot, place: usize) -> bool
     ghost text: { Searched }
@@ -36,8 +37,8 @@ pub fn is_shut(spot: &Spot, place: usize) -> bool
     }
 }
 
-/// The one of two ways on from the place by which alone walks lead on, if the other one is seen to
-/// be shut; otherwise the place itself.
+/// Returns one branch of a choice if a quick look shows that no walk leads on from the other, else
+/// the place itself.
 #[inline(always)]
 fn way_on(spot: &Spot, place: usize) -> usize
     ghost text: { Searched }
@@ -60,8 +61,8 @@ fn way_on(spot: &Spot, place: usize) -> usize
     }
 }
 
-/// The place at which a thread enters that is to enter at `root`: that place, or one to which a few
-/// choices lead, of each of which one way is shut, and which weren't entered yet.
+/// Returns the place at which a thread enters instead of `root`. It skips up to `MOST` choices of
+/// which one branch is shut, as long as these weren't entered yet.
 #[inline(always)]
 pub(crate) fn way_in(spot: &Spot, root: usize, entered: &SparseSet) -> usize
     ghost text: { Searched }

@@ -1,5 +1,5 @@
-//! Pike VM search for `MatchKind::All`: of all matches the one with the greatest end, then the
-//! least start, then the least pattern.
+//! The Pike VM for `MatchKind::All`: of all spans that walks spell, the one with the greatest end,
+//! then the least start, then the least pattern.
 ghost use Rattle.std.specs.Prelude.{◌≡◌, ℕ, ◌+◌, ◌-◌, ◌*◌, ◌<◌, ◌≤◌, ◌⊎◌, ⊤, ◌^◌, List, [], ◌++◌, length, map, min, Option, MatchOption, option_map};
 ghost use Rattle.rc_text.specs.Found.{Found};
 ghost use Rattle.rc_text.specs.Bounds.{IsWithinBounds};
@@ -27,8 +27,8 @@ use rc_text::cursor::Cursor;
 use rc_text::input::Input;
 use rc_text::types::{Match, PatternID, Span};
 
-/// Lets the threads of `curr` that go on at the spot do so, in order; those that go on later are
-/// put into the growth. `best` is the greatest of the walks that have ended so far.
+/// Advances the threads of `curr` at the spot, in order. Threads that wait for a later position are
+/// appended to `growth` as they are. `best` is the greatest match so far.
 fn step(spot: &Spot, curr: &Threads, best: &mut Option<Ending>, growth: &mut Growth)
     ghost text: { Searched }
     requires here { IsHere spot.now text }
@@ -60,8 +60,8 @@ fn step(spot: &Spot, curr: &Threads, best: &mut Option<Ending>, growth: &mut Gro
     }
 }
 
-/// Lets the threads of `curr` go on at the spot, and after them, if the spot is no later than the
-/// last start, a new thread set out there. The rest is as in `step`.
+/// Advances the threads of `curr` at the spot, and then a new thread that sets out there, unless
+/// the spot is past the last start. `best` is the greatest match so far.
 fn advance(spot: &Spot, curr: &Threads, best: &mut Option<Ending>, growth: &mut Growth)
     ghost text: { Searched }
     requires here { IsHere spot.now text }
@@ -92,7 +92,7 @@ fn advance(spot: &Spot, curr: &Threads, best: &mut Option<Ending>, growth: &mut 
     }
 }
 
-/// One position of a pass: lets the threads go on, and counts the places entered.
+/// Handles one position of a pass: advances the threads, and counts the places entered.
 fn turn(spot: &Spot, best: &mut Option<Ending>, scratch: &mut Scratch)
     ghost text: { Searched }
     requires here { IsHere spot.now text }
@@ -117,10 +117,10 @@ fn turn(spot: &Spot, best: &mut Option<Ending>, scratch: &mut Scratch)
     scratch.finish();
 }
 
-/// One pass over the positions from `from` on: the greatest of the spans that walks from the starts
-/// there spell.
+/// Runs one pass over the positions from `from` on. Returns the greatest match of the starts there,
+/// or None if none of them has a match.
 ///
-/// A place is entered once at a position, and `insertions` says how many were.
+/// A place is entered once at a position, and `insertions` counts how many are.
 pub(crate) fn reach_end<C: Cursor>(
     input: &mut Input<C>,
     course: Course,
@@ -153,7 +153,7 @@ pub(crate) fn reach_end<C: Cursor>(
     best
 }
 
-/// The walk of the greatest span that a search of the input spells.
+/// Returns the greatest match within the bounds of the search, or None if there is none.
 fn choose<C: Cursor>(
     input: &mut Input<C>,
     program: &Program,
@@ -183,11 +183,11 @@ fn choose<C: Cursor>(
     reach_end(input, course, lo, scratch)
 }
 
-/// The greatest match of a search of the input: of all matches the one with the greatest end, then
-/// the least start, then the least pattern number. Neither the earliest flag is read, nor are
-/// matches passed over that end off a boundary.
+/// Returns the greatest match of a search: the one with the greatest end, then the least start,
+/// then the least pattern number. Neither the earliest flag is read, nor are matches passed over
+/// that end off a boundary.
 ///
-/// The cache has to be made for programs of as many places; it stays so. No memory is taken, and
+/// The cache must be made for programs of as many places, and stays so. Nothing is allocated, and
 /// the time is linear in the bytes between the search's bounds.
 pub fn find_greatest<C: Cursor>(
     cache: &mut Cache,

@@ -1,34 +1,35 @@
-//! Thread lists that grow at one position.
+//! The next thread list: what a pass builds at one position, with the set of places that it entered
+//! and the stack of the epsilon closure.
 ghost use Rattle.std.specs.Prelude.{◌≡◌, ◌+◌, ◌*◌, ◌≤◌, length, vec_capacity};
 
 use crate::sparse_set::SparseSet;
 use crate::threads::Threads;
 
-/// What a closure comes back to when the way that it follows ends.
+/// A frame of the closure's stack: what it does once the way that it follows ends.
 #[derive(Clone, Copy)]
 pub enum Frame {
     /// Go on from this place.
     Explore(usize),
-    /// Give the slot its old value back.
+    /// Restore the slot's old value.
     Restore(usize, Option<usize>),
 }
 
-/// What grows while a pass is at one position.
+/// What a pass builds at one position.
 #[derive(Drop)]
 pub struct Growth {
-    /// The threads that go on later.
+    /// The threads of later positions.
     pub threads: Threads,
-    /// The places that were entered.
+    /// The places that were entered here.
     pub entered: SparseSet,
-    /// What the closure under way comes back to.
+    /// The stack of the closure.
     pub stack: Vec<Frame>,
-    /// The slots of the thread under way.
+    /// The slots of the thread that the closure is for.
     pub slots: Vec<Option<usize>>,
     ghost fits: { (threads.room ≡ 4 * entered.capacity) × (entered.capacity + 1 ≤ vec_capacity stack) },
     ghost wide: { (length slots.items ≡ threads.width) × (threads.width ≤ threads.most) × (threads.most ≤ vec_capacity slots) },
 }
 
-/// Empties the row and fills it with `width` slots.
+/// Fills the row with `width` empty slots, in place of what it held.
 pub fn make_row(row: &mut Vec<Option<usize>>, width: usize)
     requires { width ≤ vec_capacity row.old }
     ensures len { length row.new.items ≡ width }
@@ -40,7 +41,7 @@ pub fn make_row(row: &mut Vec<Option<usize>>, width: usize)
     }
 }
 
-/// Puts the row into the slots, of which there are as many.
+/// Copies the row into the slots, of which there are as many.
 #[inline(always)]
 pub fn copy_row(slots: &mut Vec<Option<usize>>, row: &[Option<usize>])
     requires { length row.now ≡ length slots.old.items }
@@ -56,7 +57,8 @@ pub fn copy_row(slots: &mut Vec<Option<usize>>, row: &[Option<usize>])
 impl Growth {
     ghost use Rattle.std.specs.Prelude.{[]};
 
-    /// Forgets the threads. The next ones, and the one under way, have `width` slots each.
+    /// Drops all threads. The next ones, and the one that the closure is for, have `width` slots
+    /// each.
     pub fn widen(&mut self, width: usize)
         requires { width ≤ self.old.threads.most }
         ensures threads { self.new.threads ≡ record self.old.threads { items = []; width = width } }
@@ -66,7 +68,7 @@ impl Growth {
         self.threads.clear(width);
     }
 
-    /// Forgets the threads, and the places that were entered.
+    /// Drops all threads, and clears the set of places that were entered.
     pub fn clear(&mut self)
         ensures threads { self.new.threads ≡ record self.old.threads { items = [] } }
         ensures entered { self.new.entered ≡ record self.old.entered { items = [] } }

@@ -1,4 +1,5 @@
-//! Dead states: states from which no walk goes on over the next byte, whatever the assertions say.
+//! First-byte sets: rule out places and starts from which the next byte lets no walk go on,
+//! whatever assertions say.
 ghost use Rattle.std.specs.Prelude.{◌≡◌, ◌≢◌, ◌<◌, ◌≤◌, IsTrue, List, false, ℕ, length, slice_index, slice_index_or};
 ghost use Rattle.rc_text.specs.Text.{Searched};
 ghost use Rattle.rc_walks.specs.Walks.{Pair};
@@ -14,7 +15,8 @@ use crate::window::Window;
 use rc_program::place::Place;
 use rc_program::program::Program;
 
-/// Whether no walk leads on from the place, if that is known by the next byte.
+/// Whether the next byte lets no walk lead on from the place. Returns false if there is no next
+/// byte within the bounds, or if the place has no first-byte set.
 #[inline(always)]
 pub(crate) fn is_dead(spot: &Spot, place: usize) -> bool
     ghost text: { Searched }
@@ -31,7 +33,7 @@ pub(crate) fn is_dead(spot: &Spot, place: usize) -> bool
     }
 }
 
-/// How many of the bytes are before the first one of which the flag is set.
+/// Returns how many bytes come before the first one whose flag is set.
 fn unset_before(bytes: &[u8], flags: &[bool]) -> usize
     requires { length flags.now ≡ 256 }
     ensures within { result ≤ length bytes.now }
@@ -46,7 +48,7 @@ fn unset_before(bytes: &[u8], flags: &[bool]) -> usize
     bytes.len()
 }
 
-/// How many of the bytes are before the first one that is this byte.
+/// Returns how many bytes come before the first one that is `byte`.
 fn others_before(bytes: &[u8], byte: u8) -> usize
     ensures within { result ≤ length bytes.now }
     ensures others { (k : ℕ) → k < result → slice_index bytes.now k ≢ byte }
@@ -59,8 +61,8 @@ fn others_before(bytes: &[u8], byte: u8) -> usize
     bytes.len()
 }
 
-/// How many of the bytes are before the first one over which a walk may go on from the place, if
-/// that is quickly decided; otherwise none.
+/// Returns how many bytes come before the first one over which a walk may go on from the place.
+/// Returns 0 if the place has no first-byte set and doesn't read a single byte.
 #[inline(always)]
 fn barred_before(program: &Program, place: usize, bytes: &[u8]) -> usize
     requires place_in { place < length program.now.places.items }
@@ -76,8 +78,8 @@ fn barred_before(program: &Program, place: usize, bytes: &[u8]) -> usize
     }
 }
 
-/// The first position from `at` on, up to `end`, at which a walk may lead on from the place, as the
-/// bytes tell that are there.
+/// Returns the first position from `at` on, but at most `end`, at which the next byte lets a walk
+/// lead on from the place. Positions are in bytes.
 #[inline(always)]
 pub(crate) fn pass_over(
     course: Course,

@@ -1,4 +1,5 @@
-//! Pike VM searches by the kind of match.
+//! Match kinds: Pike VM searches for the leftmost-first, the leftmost-longest or the greatest
+//! match.
 ghost use Rattle.std.specs.Prelude.{◌≡◌, is_some, ◌+◌, ◌-◌, ◌*◌, ◌<◌, ◌≤◌, ⊤, length, Option, None, Some, MatchOption, Bool};
 ghost use Rattle.std.specs.Option.{option_map};
 ghost use Rattle.rc_text.specs.Found.{Found};
@@ -23,11 +24,11 @@ use rc_text::cursor::Cursor;
 use rc_text::input::Input;
 use rc_text::types::{Match, MatchKind, PatternID};
 
-/// The match of the kind that a search of the input finds. The earliest flag is not read.
-/// The program says whether matches that end off a boundary are passed over; a search for the
-/// greatest match passes none over, and doesn't go by the prefilter.
+/// Returns the match of the given kind. The earliest flag is not read. The program says whether
+/// matches that end off a boundary are passed over. A search for the greatest match passes none
+/// over, and doesn't use the prefilter.
 ///
-/// The cache has to be made for programs of as many places; it stays so. No memory is taken.
+/// The cache must be made for programs of as many places, and stays so. Nothing is allocated.
 pub fn find_by_kind<C: Cursor>(
     cache: &mut Cache,
     input: &mut Input<C>,
@@ -52,12 +53,11 @@ pub fn find_by_kind<C: Cursor>(
     }
 }
 
-/// Whether a search of the input finds a match of the kind. The earliest flag is not read: unless
-/// matches are passed over, nothing is read beyond the first position at which one ends. The
-/// program says whether matches that end off a boundary are passed over; if each match counts, none
-/// is.
+/// Whether a search finds a match of the given kind. The earliest flag is not read. Unless matches
+/// are passed over, the pass ends at the first position at which a match does. The program says
+/// whether matches that end off a boundary are passed over; with `MatchKind::All` none is.
 ///
-/// The cache has to be made for programs of as many places; it stays so. No memory is taken.
+/// The cache must be made for programs of as many places, and stays so. Nothing is allocated.
 pub fn is_match_by_kind<C: Cursor>(
     cache: &mut Cache,
     input: &mut Input<C>,
@@ -90,7 +90,7 @@ pub fn is_match_by_kind<C: Cursor>(
     }
 }
 
-/// Puts the whole match into its two slots, as far as these are there, and None into the others.
+/// Writes the whole match to its two slots, as far as these exist, and None to all others.
 fn put_span(found: Match, slots: &mut [Option<usize>])
     ensures { slots.new ≡ span_slots (length slots.old) found }
 {
@@ -104,9 +104,8 @@ fn put_span(found: Match, slots: &mut [Option<usize>])
     }
 }
 
-/// The pattern of the greatest match that a search of the input finds, with its slots: the two of
-/// the whole match, as far as they are passed in, and None in all others. Without a match the slots
-/// stay.
+/// Returns the greatest match of a search, and writes its slots: the two of the whole match, as far
+/// as these are handed in, and None to all others. Without a match the slots stay as they are.
 fn search_span<C: Cursor>(
     cache: &mut Cache,
     input: &mut Input<C>,
@@ -127,14 +126,14 @@ fn search_span<C: Cursor>(
     Some(found)
 }
 
-/// The pattern of the match of the kind that a search of the input finds, with the first of its
-/// slots, as many as are passed in. Without a match the slots stay. The earliest flag is not read.
-/// The program says whether matches that end off a boundary are passed over; a search for the
-/// greatest match passes none over, and of its slots the two of the whole match alone are set, the
-/// others None.
+/// Returns the pattern of the match of the given kind, and writes the first of its slots, as many
+/// as are handed in. Without a match the slots stay as they are. The earliest flag is not read. The
+/// program says whether matches that end off a boundary are passed over. A search for the greatest
+/// match passes none over. Of its slots only the two of the whole match are set; all others are
+/// None.
 ///
-/// The cache has to be made for programs of as many places, and searches with as many slots or
-/// more; it stays so. No memory is taken.
+/// The cache must be made for programs of as many places, and for searches with as many slots or
+/// more. It stays so. Nothing is allocated.
 pub fn search_slots_by_kind<C: Cursor>(
     cache: &mut Cache,
     input: &mut Input<C>,

@@ -1,5 +1,5 @@
-//! The Pike VM: simulates all threads of a program at once, in order of preference, and enters each
-//! state once at a position.
+//! The Pike VM: runs all threads over a text at once, in order of preference. Each place is entered
+//! once at a position, so for a fixed program a pass is linear in the bytes.
 #![tactic(auto)]
 
 mod alone;

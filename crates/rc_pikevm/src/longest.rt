@@ -1,5 +1,5 @@
-//! Pike VM search for leftmost-longest matches: one pass for each start, until a match isn't
-//! rejected.
+//! Leftmost-longest search: one pass of the Pike VM finds the longest match of the least start. If
+//! that match is passed over, another pass begins behind its start.
 ghost use Rattle.std.specs.Prelude.{◌≡◌, ℕ, ◌+◌, ◌-◌, ◌*◌, ◌<◌, ◌≤◌, ⊤, length, Option, Some, MatchOption, IfNone};
 ghost use Rattle.std.specs.Option.{option_map};
 ghost use Rattle.rc_text.specs.Found.{Found};
@@ -27,9 +27,8 @@ use rc_text::cursor::Cursor;
 use rc_text::input::{Input, is_boundary_at};
 use rc_text::types::{Match, PatternID, Span};
 
-/// The longest walk of the least start that a search of the input finds, with its slots in `found`:
-/// the pass over the starts is made again from the next start, as long as what it found is passed
-/// over.
+/// Returns the longest walk of the least start, with its slots in `found`, or None if there is
+/// none. As long as that match is passed over, another pass begins at the start behind it.
 fn outlast<C: Cursor>(
     input: &mut Input<C>,
     program: &Program,
@@ -73,7 +72,8 @@ fn outlast<C: Cursor>(
     None
 }
 
-/// As `outlast`, in a cache. Without a match the slots stay.
+/// Returns the longest walk of the least start, and writes its slots. Without a match the slots
+/// stay as they are.
 fn choose_longest<C: Cursor>(
     cache: &mut Cache,
     input: &mut Input<C>,
@@ -99,13 +99,13 @@ fn choose_longest<C: Cursor>(
     Some(ending)
 }
 
-/// The pattern of the longest match of the least start that a search of the input finds, with the
-/// first of its slots, as many as are passed in: those of the preferred walk of that length.
-/// Without a match the slots stay. The earliest flag is not read. The program says whether matches
-/// that end off a boundary are passed over.
+/// Returns the pattern of the longest match of the least start, and writes the first of its slots,
+/// as many as are handed in. They are those of the preferred walk of that length. Without a match
+/// the slots stay as they are. The earliest flag is not read. The program says whether matches that
+/// end off a boundary are passed over.
 ///
-/// The cache has to be made for programs of as many places, and searches with as many slots or
-/// more; it stays so. No memory is taken.
+/// The cache must be made for programs of as many places, and for searches with as many slots or
+/// more. It stays so. Nothing is allocated.
 pub fn search_longest_slots<C: Cursor>(
     cache: &mut Cache,
     input: &mut Input<C>,
@@ -137,11 +137,10 @@ pub fn search_longest_slots<C: Cursor>(
     Some(pattern)
 }
 
-/// The longest match of the least start that a search of the input finds. The earliest flag is not
-/// read. The program says whether matches that end off a boundary are passed over: then the next
-/// start is tried.
+/// Returns the longest match of the least start. The earliest flag is not read. The program says
+/// whether matches that end off a boundary are passed over: then the next start is tried.
 ///
-/// The cache has to be made for programs of as many places; it stays so. No memory is taken.
+/// The cache must be made for programs of as many places, and stays so. Nothing is allocated.
 pub fn find_longest<C: Cursor>(
     cache: &mut Cache,
     input: &mut Input<C>,

@@ -1,4 +1,4 @@
-//! Transitions: how a thread goes on from a state.
+//! Transitions: how a thread goes on from a place at one position.
 ghost use Rattle.std.specs.Prelude.{◌≡◌, ◌<◌, ◌≤◌, ℕ, [], ◌∷◌, length, slice_get, take, map};
 ghost use Rattle.rc_pattern.specs.Meaning.{byte_range, char_range};
 ghost use Rattle.rc_text.specs.Text.{Searched};
@@ -17,24 +17,24 @@ use rc_program::place::Place;
 use rc_program::program::Program;
 use rc_program::ranges::{has_byte, has_char};
 
-/// How a thread goes on from a place that it enters.
+/// A transition: how a thread goes on from a place that it enters.
 #[derive(Clone, Copy)]
 pub enum Move {
     /// At either of two places, the first preferred.
     Fork(usize, usize),
-    /// At a place, with the position in a slot: the slot, and the place.
+    /// At a place, once the position is written to a slot: the slot, and the place.
     Save(usize, usize),
     /// Not at all: a walk of this pattern ends.
     Matches(usize),
     /// At a place.
     Stays(usize),
-    /// At a place, once the position is a later one: the place, and the position in bytes.
+    /// At a place and a later position: the place, and the position in bytes.
     Reads(usize, usize),
     /// Not at all.
     Stops,
 }
 
-/// How a thread goes on from a place that it enters at the spot.
+/// Returns the transition of a place that a thread enters at the spot.
 #[inline(always)]
 pub fn look_up(spot: &Spot, place: usize) -> Move
     ghost text: { Searched }
@@ -65,7 +65,8 @@ pub fn look_up(spot: &Spot, place: usize) -> Move
     }
 }
 
-/// How a thread goes on that reads on to the place and the position, if one is known.
+/// The transition of a place that reads: to the place and the position, or none if there is no
+/// position.
 #[inline(always)]
 fn reading(place: usize, to: Option<usize>) -> Move
     ensures { result ≡ reading place to }
@@ -76,7 +77,7 @@ fn reading(place: usize, to: Option<usize>) -> Move
     Move::Reads(place, at)
 }
 
-/// The position after the next byte, if it is this one.
+/// Returns the position behind the next byte if that byte is `byte`.
 #[inline(always)]
 pub fn after_byte(spot: &Spot, byte: u8) -> Option<usize>
     ghost text: { Searched }
@@ -92,7 +93,7 @@ pub fn after_byte(spot: &Spot, byte: u8) -> Option<usize>
     Some(spot.at + 1)
 }
 
-/// The position after the next byte, if one of the ranges has it, which are the place's.
+/// Returns the position behind the next byte if one of the place's ranges contains it.
 #[inline(always)]
 pub fn after_one_of(spot: &Spot, place: usize, ranges: &Vec<ClassBytesRange>) -> Option<usize>
     ghost text: { Searched }
@@ -109,7 +110,7 @@ pub fn after_one_of(spot: &Spot, place: usize, ranges: &Vec<ClassBytesRange>) ->
     Some(spot.at + 1)
 }
 
-/// The position after the next scalar, if one of the ranges has it, which are the place's.
+/// Returns the position behind the next scalar if one of the place's ranges contains it.
 #[inline(always)]
 pub fn after_scalar(spot: &Spot, place: usize, ranges: &Vec<ClassUnicodeRange>) -> Option<usize>
     ghost text: { Searched }
@@ -141,7 +142,7 @@ pub fn is_open(spot: &Spot, look: Look) -> bool
     )
 }
 
-/// Whether a walk of the pattern counts that ends at the spot.
+/// Whether a match of the pattern may end at the spot.
 #[inline(always)]
 pub fn may_end(spot: &Spot, number: usize) -> bool
     ghost text: { Searched }
@@ -162,7 +163,8 @@ fn is_allowed(pattern: Option<usize>, number: usize) -> bool
     }
 }
 
-/// Whether one of the ranges has the byte, by the place's flags where it has any.
+/// Whether one of the place's ranges contains the byte. If the place has a first-byte set, that is
+/// asked instead of the ranges.
 #[inline(always)]
 fn takes_byte(program: &Program, place: usize, ranges: &Vec<ClassBytesRange>, byte: u8) -> bool
     requires { place < length program.now.places.items }
@@ -175,8 +177,8 @@ fn takes_byte(program: &Program, place: usize, ranges: &Vec<ClassBytesRange>, by
     goes
 }
 
-/// Whether one of the ranges has the character, by the place's flags if it is one of ASCII and the
-/// place has any.
+/// Whether one of the place's ranges contains the character. For an ASCII character, the place's
+/// first-byte set is asked instead if it has one.
 #[inline(always)]
 fn takes_scalar(program: &Program, place: usize, ranges: &Vec<ClassUnicodeRange>, c: char) -> bool
     requires { place < length program.now.places.items }
@@ -193,7 +195,7 @@ fn takes_scalar(program: &Program, place: usize, ranges: &Vec<ClassUnicodeRange>
     goes
 }
 
-/// The first of the bytes, where one of the first `room` stands there.
+/// Whether one of the ranges contains the byte.
 #[inline(always)]
 fn next_byte(after: &[u8], room: usize) -> Option<u8>
     ensures { result ≡ slice_get (take room after.now) 0 }
@@ -204,7 +206,7 @@ fn next_byte(after: &[u8], room: usize) -> Option<u8>
     Some(after[0])
 }
 
-/// The scalar that begins the first `room` of the bytes, and how many it takes.
+/// Returns the scalar with which the first `room` bytes begin, and its length in bytes.
 #[inline(always)]
 fn next_scalar(after: &[u8], room: usize) -> Option<(char, usize)>
     ensures { result ≡ scalar_at (take room after.now) }
@@ -217,7 +219,8 @@ fn next_scalar(after: &[u8], room: usize) -> Option<(char, usize)>
     long_scalar(after, room)
 }
 
-/// As `next_scalar`, whatever byte comes first.
+/// Returns the scalar with which the first `room` bytes begin, and its length in bytes, whatever
+/// its first byte is.
 #[inline(never)]
 fn long_scalar(after: &[u8], room: usize) -> Option<(char, usize)>
     ensures { result ≡ scalar_at (take room after.now) }

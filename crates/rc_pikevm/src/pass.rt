@@ -1,4 +1,14 @@
-//! Pike VM pass: one simulation over a text, for the leftmost-first match.
+//! The Pike VM: one pass over a text, for the leftmost-first match.
+//!
+//! Take `a|ab` over `xab`. Place 0 is a choice of 1 or 8, place 1 of 2 or 3, place 3 of 4 or 6.
+//! Places 2 and 4 read `a`, place 5 reads `b`, place 7 is the match, 6 and 8 are dead ends.
+//!
+//!     at  next  threads, in order          what happens
+//!      0   x    none                       no walk begins with `x`, so no thread sets out
+//!      1   a    none                       one sets out at 0; its closure reaches 2 and 4
+//!      2   b    (7, start 1) (5, start 1)  the first matches 1..2, so the second is dropped
+//!
+//! No thread is left, so the pass returns 1..2.
 ghost use Rattle.std.specs.Prelude.{◌≡◌, ℕ, ◌+◌, ◌-◌, ◌*◌, ◌<◌, ◌≤◌, ◌⊎◌, ⊤, List, [], ◌∷◌, ◌++◌, length, map, min, Option, None, Some, MatchOption, Bool, true, false, replicate, ◌^◌, IsTrue, is_none, vec_capacity};
 ghost use Rattle.rc_walks.specs.Walks.{Pair};
 ghost use Rattle.rc_text.specs.Text.{Searched, Keeps, low, high};
@@ -30,7 +40,7 @@ use rc_needles::prefilter::Prefilter;
 use rc_text::cursor::Cursor;
 use rc_text::input::Input;
 
-/// How often in a row a lone thread, or a lone start, may be seen not to be simple.
+/// How many times in a row the fast path may fail before it is no longer tried.
 pub(crate) const PATIENCE: u32 = 4;
 
 /// A walk that has ended.
@@ -44,11 +54,11 @@ pub struct Ending {
     pub end: usize,
 }
 
-/// Lets the threads of `curr` that go on at the spot do so, in order; those that go on later are
-/// put into the growth.
+/// Advances the threads of `curr` at the spot, in order. Threads that wait for a later position are
+/// appended to `growth` as they are.
 ///
-/// Returns the pattern and the start of the first thread of which a walk ends: the slots are those
-/// of that walk then, and the threads behind it are dropped.
+/// Returns the pattern and the start of the first thread that comes to a match. Then `growth.slots`
+/// are that walk's, and all threads behind it are dropped.
 fn step(spot: &Spot, curr: &Threads, growth: &mut Growth) -> Option<(usize, usize)>
     ghost text: { Searched }
     requires here { IsHere spot.now text }
@@ -87,9 +97,9 @@ fn step(spot: &Spot, curr: &Threads, growth: &mut Growth) -> Option<(usize, usiz
     None
 }
 
-/// Lets a thread set out at the spot, if `is_open` and the spot is no later than the last start,
-/// and none is under way. It enters at the place `root`, which stands for place 0. The rest is as
-/// in `step`.
+/// Sets out a new thread at the spot if `is_open` and the spot isn't past the last start, while no
+/// other is under way. It enters at the place `root`, which stands for place 0. Returns the pattern
+/// and the start if it comes to a match, with its slots in `growth.slots`.
 fn set_out(spot: &Spot, root: usize, is_open: bool, growth: &mut Growth) -> Option<(usize, usize)>
     ghost text: { Searched }
     requires here { IsHere spot.now text }
@@ -123,9 +133,10 @@ fn set_out(spot: &Spot, root: usize, is_open: bool, growth: &mut Growth) -> Opti
     None
 }
 
-/// Lets the threads of `curr` go on at the spot, and after them, if `is_open` and the spot is no
-/// later than the last start, a new thread set out there; if it is the only one, it enters at the
-/// place `root`, which stands for place 0. The rest is as in `step`.
+/// Advances the threads of `curr` at the spot. Then, if `is_open` and the spot isn't past the last
+/// start, a new thread sets out. If it is the only one, it enters at the place `root`, which stands
+/// for place 0. Returns the pattern and the start of the first thread that comes to a match. Then
+/// `growth.slots` are that walk's, and all threads behind it are dropped.
 fn advance(
     spot: &Spot,
     root: usize,
@@ -178,7 +189,7 @@ fn advance(
     None
 }
 
-/// Forgets what is in the slots.
+/// Empties all slots.
 pub(crate) fn empty(slots: &mut Vec<Option<usize>>)
     ensures slots { slots.new.items ≡ replicate (length slots.old.items) None }
     ensures capacity { vec_capacity slots.new ≡ vec_capacity slots.old }
@@ -186,8 +197,8 @@ pub(crate) fn empty(slots: &mut Vec<Option<usize>>)
     slots.fill(None);
 }
 
-/// One position of a pass: lets the threads go on, counts the places entered, and returns the best
-/// walk that has ended so far, with its slots in `found`.
+/// Handles one position of a pass: advances the threads, and counts the places entered. Returns the
+/// best walk that has ended so far, with its slots in `found`.
 fn turn(spot: &Spot, root: usize, best: Option<Ending>, scratch: &mut Scratch) -> Option<Ending>
     ghost text: { Searched }
     requires here { IsHere spot.now text }
@@ -223,7 +234,8 @@ fn turn(spot: &Spot, root: usize, best: Option<Ending>, scratch: &mut Scratch) -
     best
 }
 
-/// Ends the walk of the only thread, one of the pattern, at the position. The rest is as in `turn`.
+/// Ends the walk of the only thread at the position, as a match of the pattern. Returns that match,
+/// with its slots in `found`.
 #[inline(always)]
 pub fn end_walk(course: Course, at: usize, number: usize, scratch: &mut Scratch) -> Ending
     ghost text: { Searched }
@@ -260,8 +272,8 @@ pub fn end_walk(course: Course, at: usize, number: usize, scratch: &mut Scratch)
     }
 }
 
-/// Lets a thread set out at the position that reads one byte there and goes on at `next`, if none
-/// is under way. The rest is as in `turn`.
+/// Sets out a thread at the position, while no other is under way. It reads one byte there, and
+/// goes on at the place `next`.
 #[inline(always)]
 pub fn set_out_alone(course: Course, at: usize, root: usize, next: usize, scratch: &mut Scratch)
     ghost text: { Searched }
@@ -298,8 +310,8 @@ pub fn set_out_alone(course: Course, at: usize, root: usize, next: usize, scratc
     scratch.insertions += 1;
 }
 
-/// How often what is simple is tried after it was in vain: if it is often in vain, it isn't tried
-/// to the end of the pass.
+/// Returns how many more times the fast path is tried. Success resets the count, and a failure with
+/// at most one thread lowers it.
 pub(crate) fn patience_left(patience: u32, has_moved: bool, threads: usize) -> u32 {
     if has_moved {
         return PATIENCE;
@@ -310,7 +322,7 @@ pub(crate) fn patience_left(patience: u32, has_moved: bool, threads: usize) -> u
     patience.saturating_sub(1)
 }
 
-/// Whether after the position `at` no thread is left to go on, and none to set out.
+/// Whether a pass is done after the position `at`: no thread is left, and none will set out.
 pub fn is_done(curr: &Threads, best: Option<Ending>, at: usize, last: usize) -> bool
     ensures { IsTrue result → (length curr.now.items ≡ 0) × ((is_none best ≡ false) ⊎ (last ≤ at)) }
 {
@@ -323,23 +335,23 @@ pub fn is_done(curr: &Threads, best: Option<Ending>, at: usize, last: usize) -> 
     at >= last
 }
 
-/// Whether no thread is left to go on, and a walk has ended.
+/// Whether no thread is left and a match was found.
 fn is_over(curr: &Threads, best: Option<Ending>) -> bool
     ensures { IsTrue result → (length curr.now.items ≡ 0) × (is_none best ≡ false) }
 {
     curr.len() == 0 && best.is_some()
 }
 
-/// Whether no thread is left to go on, and no walk has ended.
+/// Whether no thread is left and no match was found.
 pub(crate) fn is_idle(curr: &Threads, best: Option<Ending>) -> bool
     ensures { IsTrue result → (length curr.now.items ≡ 0) × (is_none best ≡ true) }
 {
     curr.len() == 0 && best.is_none()
 }
 
-/// Where a pass goes on that has come to `at`: there, or, if it is idle and `last` is not yet
-/// reached, at the next position where a needle occurs. None if it is idle and no needle occurs
-/// from `at` on.
+/// Returns the position from which a pass goes on that has come to `at`. If it is idle, has a
+/// prefilter and isn't yet at `last`, that is the start of the next needle, or None if none is
+/// left. Else it is `at`.
 pub(crate) fn next_position<C: Cursor>(
     input: &mut Input<C>,
     course: Course,
@@ -368,13 +380,12 @@ pub(crate) fn next_position<C: Cursor>(
     Some(hit.start)
 }
 
-/// One pass over the positions from `from` on: of the starts from there on the least that has a
-/// walk, and its first walk, with its slots in `found`. Without a match, `found` is left as it was.
+/// Runs one pass over the positions from `from` on. Returns the first walk of the least start that
+/// has one, with its slots in `found`. Without a match, `found` stays as it is.
 ///
-/// A place is entered once at a position, and `insertions` says how many were. With a prefilter,
-/// starts at which no needle occurs are left out, as far as no thread is alive there. With
-/// `earliest` it is only told whether some start has a walk: the pass ends at the first position at
-/// which one ends.
+/// A place is entered once at a position, and `insertions` counts how many are. With a prefilter,
+/// starts at which no needle stands are skipped while no thread is under way. With `earliest`, the
+/// pass ends at the first position at which some walk ends, and returns that walk.
 #[tactic(auto, using(crate::proofs::RootLemmas::stands_itself))]
 pub fn pass<C: Cursor>(
     input: &mut Input<C>,
@@ -402,8 +413,8 @@ pub fn pass<C: Cursor>(
     pass_from(input, course, 0, prefilter, from, earliest, scratch)
 }
 
-/// As `pass`, if a thread that sets out while no other is under way enters at the place `root`,
-/// which stands for place 0.
+/// Runs one pass over the positions from `from` on, as described at `pass`. A thread that sets out
+/// while no other is under way enters at the place `root`, which stands for place 0.
 pub(crate) fn pass_from<C: Cursor>(
     input: &mut Input<C>,
     course: Course,

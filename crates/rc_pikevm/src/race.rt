@@ -1,4 +1,5 @@
-//! Leftmost-longest pass: one simulation over a text, for the longest match of the least start.
+//! The Pike VM for leftmost-longest: one pass over a text for the longest walk of the least start.
+//! A match drops the threads of later starts, and no other.
 ghost use Rattle.std.specs.Prelude.{◌≡◌, ℕ, ◌+◌, ◌-◌, ◌*◌, ◌<◌, ◌≤◌, ◌⊎◌, ⊤, ◌^◌, List, [], ◌++◌, length, map, min, Option, MatchOption, IsTrue};
 ghost use Rattle.rc_walks.specs.Walks.{Pair};
 ghost use Rattle.rc_text.specs.Text.{Searched, Keeps, low};
@@ -26,8 +27,9 @@ use rc_needles::prefilter::Prefilter;
 use rc_text::cursor::Cursor;
 use rc_text::input::Input;
 
-/// Lets the threads of `curr` that go on at the spot do so, in order; those that go on later are
-/// put into the growth. Threads of later starts than the best walk's are left out.
+/// Advances the threads of `curr` at the spot, in order. Threads that wait for a later position are
+/// appended to `growth` as they are. Threads of later starts than the best walk's are dropped.
+/// `best` is the longest match of the least start so far, and `found` are its slots.
 fn step(
     spot: &Spot,
     curr: &Threads,
@@ -68,8 +70,9 @@ fn step(
     }
 }
 
-/// Lets the threads of `curr` go on at the spot, and after them, if the spot is no later than the
-/// last start and no walk has ended, a new thread set out there. The rest is as in `step`.
+/// Advances the threads of `curr` at the spot. Then a new thread sets out there, unless the spot is
+/// past the last start or a match was found at an earlier start. `best` is the longest match of the
+/// least start so far, and `found` are its slots.
 fn advance(
     spot: &Spot,
     curr: &Threads,
@@ -113,7 +116,7 @@ fn advance(
     run(spot, place, spot.at, best, found, growth);
 }
 
-/// One position of a pass: lets the threads go on, and counts the places entered.
+/// Handles one position of a pass: advances the threads, and counts the places entered.
 fn turn(spot: &Spot, best: &mut Option<Ending>, scratch: &mut Scratch)
     ghost text: { Searched }
     requires here { IsHere spot.now text }
@@ -146,7 +149,7 @@ fn turn(spot: &Spot, best: &mut Option<Ending>, scratch: &mut Scratch)
     scratch.finish();
 }
 
-/// Whether after the position `at` no thread is left to go on, and none to set out.
+/// Whether a pass is over after the position `at`: no thread is left, and none will set out.
 fn is_over(curr: &Threads, best: Option<Ending>, at: usize, last: usize) -> bool
     ensures { IsTrue result → (length curr.now.items ≡ 0) × ((last ≤ at) ⊎ IsCutOff best (at + 1)) }
 {
@@ -156,19 +159,18 @@ fn is_over(curr: &Threads, best: Option<Ending>, at: usize, last: usize) -> bool
     at >= last || !is_sought(best, at + 1)
 }
 
-/// Whether at the position no thread is left to go on, and no start is sought.
+/// Whether no thread is left, and a start at the position couldn't give the answer.
 fn is_spent(curr: &Threads, best: Option<Ending>, at: usize) -> bool
     ensures { IsTrue result → (length curr.now.items ≡ 0) × IsCutOff best at }
 {
     curr.len() == 0 && !is_sought(best, at)
 }
 
-/// One pass over the positions from `from` on: of the starts from there on the least that has a
-/// walk, and its longest walk, with its slots in `found`. Without a match, `found` is left as it
-/// was.
+/// Runs one pass over the positions from `from` on. Returns the longest walk of the least start
+/// that has one, with its slots in `found`. Without a match, `found` stays as it is.
 ///
-/// A place is entered once at a position, and `insertions` says how many were. With a prefilter,
-/// starts at which no needle occurs are left out, as far as no thread is alive there.
+/// A place is entered once at a position, and `insertions` counts how many are. With a prefilter,
+/// starts at which no needle stands are skipped while no thread is under way.
 pub fn race<C: Cursor>(
     input: &mut Input<C>,
     course: Course,

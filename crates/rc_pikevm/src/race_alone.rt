@@ -1,4 +1,5 @@
-//! Lone-thread fast path of the leftmost-longest pass.
+//! Single threads for leftmost-longest: if one thread is alone, it goes on without thread lists.
+//! Starts from which no walk leads on are skipped in the same way.
 ghost use Rattle.std.specs.Prelude.{◌≡◌, ◌+◌, ◌<◌, ◌≤◌, ◌^◌, ℕ, IsTrue, length};
 ghost use Rattle.rc_text.specs.Text.{Searched};
 ghost use Rattle.rc_pikevm.specs.Alone.{IsAhead};
@@ -16,8 +17,8 @@ use crate::spot::Course;
 use crate::threads::Head;
 use crate::window::Window;
 
-/// Whether the thread goes on at the position, and the best walk that has ended so far doesn't
-/// stand in its way.
+/// Whether the thread goes on at the position, and the best match so far neither cuts it off nor
+/// ends there or later.
 #[inline(always)]
 fn is_ahead(head: Head, best: Option<Ending>, at: usize) -> bool
     ensures { IsTrue result → (head.at ≡ at) × IsAhead best head.start at }
@@ -31,9 +32,9 @@ fn is_ahead(head: Head, best: Option<Ending>, at: usize) -> bool
     head.start <= old.start && old.start < at && old.end < at
 }
 
-/// Lets a lone thread that waits for `at` go on through the window. The answer is the position to
-/// which the pass has come, and the best walk that has ended so far, with its slots in `found`. The
-/// place `way` is the opening of place 0.
+/// Advances a lone thread that waits for `at` through the window. Returns the position in bytes
+/// that the pass has reached. If the thread came to a match, that is now the best, with its slots
+/// in `found`. The place `way` is the opening of place 0.
 fn go_alone(
     course: Course,
     window: &Window,
@@ -78,9 +79,10 @@ fn go_alone(
     head.at + 1
 }
 
-/// The position to which a pass goes on that has come to `at`, and whether a lone thread may go on
-/// there: starts from which no walk leads on were left out, if `skips`, and a thread set out. The
-/// place `way` is the opening of place 0.
+/// Prepares a pass that has come to `at` for a lone thread. If there is neither a thread nor a
+/// match and `skips` is set, it skips starts from which no walk leads on, and may set out a thread.
+/// Returns the position in bytes, and whether a lone thread may go on there. The place `way` is the
+/// opening of place 0.
 fn begin(
     course: Course,
     window: &Window,
@@ -125,9 +127,9 @@ fn begin(
     (here + 1, true)
 }
 
-/// The position from which all threads have to go on together, of a pass that has come to `at`, and
-/// the best walk that has ended so far, with its slots in `found`: up to there, starts from which
-/// no walk leads on were left out, if `skips`, and a lone thread went on.
+/// Runs the fast path of a pass that has come to `at`: skips starts if `skips`, and advances a lone
+/// thread. Returns the position in bytes from which all threads go on together. If the lone thread
+/// came to a match, that is now the best, with its slots in `found`.
 #[inline(never)]
 fn wander(
     course: Course,
@@ -163,8 +165,9 @@ fn wander(
     go_alone(course, window, way, best, here, scratch)
 }
 
-/// As `wander`, if there is no thread, or one and `is_on`; otherwise the position and the best walk
-/// are those given.
+/// Runs the fast path if there is no thread and `skips`, or one thread and `is_on`. Returns the
+/// position in bytes from which all threads go on together; that is `at` if the fast path doesn't
+/// serve.
 #[inline(always)]
 pub fn glide(
     course: Course,

@@ -1,4 +1,4 @@
-//! Epsilon closure of the leftmost-longest pass: a match cuts only threads with a later start.
+//! Epsilon closure for leftmost-longest: a match cuts off the walks of later starts, and no other.
 ghost use Rattle.std.specs.Prelude.{◌≡◌, ℕ, ◌+◌, ◌*◌, ◌<◌, ◌≤◌, List, ◌∷◌, ◌++◌, length, reverse, vec_len, Option, MatchBool};
 ghost use Rattle.rc_walks.specs.Walks.{Pair};
 ghost use Rattle.rc_text.specs.Text.{Searched};
@@ -13,7 +13,7 @@ use crate::growth::{Frame, Growth};
 use crate::pass::Ending;
 use crate::spot::Spot;
 
-/// Whether a walk from the start may still be the longest of the least start.
+/// Whether a walk from this start may still be the longest of the least start.
 #[inline(always)]
 pub fn is_sought(best: Option<Ending>, start: usize) -> bool
     ensures { MatchBool result (IsSought best start) (IsCutOff best start) }
@@ -24,8 +24,8 @@ pub fn is_sought(best: Option<Ending>, start: usize) -> bool
     start <= old.start
 }
 
-/// A walk has ended: it becomes the best, and its slots are `found`, unless one ended at that
-/// position before.
+/// Records a walk that has ended: it becomes the best, and its slots are copied to `found`, unless
+/// the best so far ended there or later.
 #[inline(always)]
 fn record(
     new: Ending,
@@ -45,8 +45,8 @@ fn record(
     found.copy_from_slice(slots);
 }
 
-/// Enters a place, unless it was entered at this position already. If a walk ends there, it is
-/// recorded.
+/// Enters a place, unless it was entered at this position before, and makes its transition. If a
+/// walk ends there, it is recorded.
 #[inline(always)]
 fn visit(
     spot: &Spot,
@@ -90,7 +90,8 @@ fn visit(
     }
 }
 
-/// Goes on from the frames of the stack, the uppermost first. The rest is as in `run`.
+/// Pops frames and goes on from them until none is left. `best` is the longest match of the least
+/// start so far, and `found` are its slots.
 #[inline(never)]
 fn drain(
     spot: &Spot,
@@ -124,9 +125,9 @@ fn drain(
     }
 }
 
-/// Follows all ways from `root` that read nothing, in order, and puts a thread behind the others
-/// for each that reads. `best` is the longest walk of the least start among those that have ended
-/// so far, and `found` are its slots.
+/// Follows all ways from `root` that read nothing, in order of preference, and appends a thread for
+/// each place that reads. `best` is the longest match of the least start so far, and `found` are
+/// its slots.
 #[inline(always)]
 pub fn run(
     spot: &Spot,

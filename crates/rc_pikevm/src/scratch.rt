@@ -1,4 +1,5 @@
-//! Scratch space of passes.
+//! Thread lists: those of the position and of the next one, with all other memory of a pass,
+//! allocated once.
 ghost use Rattle.std.specs.Prelude.{◌≡◌, ◌<◌, ◌≤◌, ℕ, length, vec_capacity};
 ghost use Rattle.rc_pikevm.specs.Passing.{AllIn};
 
@@ -7,14 +8,14 @@ use crate::sparse_set::SparseSet;
 use crate::threads::Threads;
 use std::alloc::{AllocError, Global};
 
-/// What passes work in: all memory that they need, made once.
+/// All memory that passes need, allocated once.
 #[derive(Drop)]
 pub struct Scratch {
     /// The threads of the position.
     pub curr: Threads,
-    /// What grows there: the threads of the next one.
+    /// What is built there, with the threads of the next position.
     pub next: Growth,
-    /// The slots of the walk that was found.
+    /// The slots of the match that was found.
     pub found: Vec<Option<usize>>,
     /// How many places were entered, over all positions.
     pub insertions: u128,
@@ -22,8 +23,8 @@ pub struct Scratch {
     ghost wide: { (length found.items ≡ next.threads.width) × (next.threads.most ≤ vec_capacity found) },
 }
 
-/// If no place was entered and yet threads wait, puts the first one's place into the set: a
-/// position that threads pass within a scalar counts too.
+/// If no place was entered and yet threads wait, inserts the first one's place. So a position that
+/// threads only wait at, within a scalar, counts too.
 fn touch(entered: &mut SparseSet, threads: &Threads)
     requires inside { (lo hi : ℕ) × AllIn entered.old.capacity lo hi threads.now.items }
     requires few { length entered.old.items ≤ entered.old.capacity }
@@ -43,7 +44,7 @@ impl Scratch {
     ghost use Rattle.rc_pikevm.specs.Passing.{AllIn};
     ghost use Rattle.rc_pikevm.specs.Scratches.{IsSame};
 
-    /// Room for programs of `places` places, and searches with at most `slots` slots.
+    /// Allocates for programs of `places` places, and for searches with at most `slots` slots.
     pub fn new(alloc: Global, places: usize, slots: usize) -> Result<Scratch, AllocError>
         ensures places { IfOk result (λ s. s.next.entered.capacity ≡ places) }
         ensures slots { IfOk result (λ s. s.next.threads.most ≡ slots) }
@@ -69,7 +70,7 @@ impl Scratch {
         })
     }
 
-    /// Gives each thread of the searches to come `width` slots.
+    /// Gives each thread of the next searches `width` slots, and drops all threads.
     pub fn widen(&mut self, width: usize)
         requires { width ≤ self.old.next.threads.most }
         ensures width { self.new.next.threads.width ≡ width }
@@ -82,7 +83,7 @@ impl Scratch {
     }
 
     /// Ends a position: counts the places that were entered there, and makes the next position's
-    /// threads those of the position.
+    /// threads the current ones.
     pub fn finish(&mut self)
         requires inside { (lo hi : ℕ) × AllIn self.old.next.entered.capacity lo hi self.old.next.threads.items }
         requires few { length self.old.next.entered.items ≤ self.old.next.entered.capacity }

@@ -1,4 +1,5 @@
-//! Pike VM searches for leftmost-first matches.
+//! Leftmost-first search: from an input's bounds to a match and its slots, by passes of the Pike
+//! VM.
 ghost use Rattle.std.specs.Prelude.{◌≡◌, is_some, ℕ, ◌+◌, ◌-◌, ◌*◌, ◌<◌, ◌≤◌, ◌^◌, List, length, vec_len, vec_capacity, Option, None, Some, MatchOption, if◌then◌else◌, slice_set, IfNone, ⊤};
 ghost use Rattle.std.specs.Option.{option_map};
 ghost use Rattle.rc_text.specs.Found.{Found};
@@ -27,7 +28,7 @@ use rc_text::cursor::Cursor;
 use rc_text::input::{Input, high, is_boundary_at, low, move_to};
 use rc_text::types::{Anchored, Match, PatternID, Span};
 
-/// Where a search begins and ends, in bytes; it is where it begins then.
+/// Returns the bounds of a search in bytes, and moves the cursor to where the search begins.
 pub(crate) fn bounds<C: Cursor>(input: &mut Input<C>) -> (usize, usize)
     ensures keeps { Keeps input.old input.new }
     ensures low { result.0 ≡ low input.old }
@@ -40,7 +41,8 @@ pub(crate) fn bounds<C: Cursor>(input: &mut Input<C>) -> (usize, usize)
     (lo, hi)
 }
 
-/// The pattern of which walks alone count, and the last start, of a search from `lo` to `hi`.
+/// Returns the only pattern whose walks count, if there is one, and the last start, in bytes. The
+/// search goes from `lo` to `hi`.
 pub(crate) fn starts_of(anchored: Anchored, lo: usize, hi: usize) -> (Option<usize>, usize)
     ensures pattern { result.0 ≡ only (anchoring_of anchored) }
     ensures last { result.1 ≡ (if is_anchored (anchoring_of anchored) then lo else hi) }
@@ -52,7 +54,7 @@ pub(crate) fn starts_of(anchored: Anchored, lo: usize, hi: usize) -> (Option<usi
     }
 }
 
-/// Puts the whole match into its two slots, as far as these are there.
+/// Writes the whole match to its two slots, as far as these exist.
 pub(crate) fn put_match(end: Ending, slots: &mut [Option<usize>])
     requires { end.pattern ≤ 2147483646 }
     ensures { slots.new ≡ slice_set (slice_set slots.old (2 * end.pattern) (Some end.start)) (2 * end.pattern + 1) (Some end.end) }
@@ -66,9 +68,9 @@ pub(crate) fn put_match(end: Ending, slots: &mut [Option<usize>])
     }
 }
 
-/// The walk that a search of the input chooses, with its slots in `found`: the pass over the starts
-/// is made again from the next start, as long as what it found is passed over. Walks enter at the
-/// place `root`, which stands for place 0.
+/// Returns the walk that a search chooses, with its slots in `found`, or None if there is none. As
+/// long as that match is passed over, another pass begins at the start behind it. Walks enter at
+/// the place `root`, which stands for place 0.
 fn choose<C: Cursor>(
     input: &mut Input<C>,
     program: &Program,
@@ -115,7 +117,8 @@ fn choose<C: Cursor>(
     None
 }
 
-/// As `choose`, in a cache. Without a match the slots stay.
+/// Returns the walk that a search chooses, and writes its slots. Without a match the slots stay as
+/// they are. Walks enter at the place `root`, which stands for place 0.
 fn choose_in<C: Cursor>(
     cache: &mut Cache,
     input: &mut Input<C>,
@@ -144,13 +147,13 @@ fn choose_in<C: Cursor>(
     None
 }
 
-/// The pattern that a search of the input finds, with the first of its slots, as many as are passed
-/// in. Without a match the slots stay. The earliest flag is not read. The program says whether
-/// matches that end off a boundary are passed over. With a prefilter, the search goes from needle
-/// to needle if no walk is under way.
+/// Returns the pattern of the leftmost-first match, and writes the first of its slots, as many as
+/// are handed in. Without a match the slots stay as they are. The earliest flag is not read. The
+/// program says whether matches that end off a boundary are passed over. With a prefilter, the
+/// search goes from needle to needle while no thread is under way.
 ///
-/// The cache has to be made for programs of as many places, and searches with as many slots or
-/// more; it stays so. No memory is taken.
+/// The cache must be made for programs of as many places, and for searches with as many slots or
+/// more. It stays so. Nothing is allocated.
 pub fn search_slots<C: Cursor>(
     cache: &mut Cache,
     input: &mut Input<C>,
@@ -175,9 +178,10 @@ pub fn search_slots<C: Cursor>(
     search_slots_from(cache, input, program, 0, prefilter, slots)
 }
 
-/// As `search_slots`, if walks may enter at the place `root` as well as at place 0, since the first
-/// walk from the one is, after choices, the first from the other. So a search for one pattern alone
-/// enters at that pattern's own place, and no thread sets out for another.
+/// Returns the pattern of the leftmost-first match, and writes its slots, as `search_slots` does. A
+/// thread may enter at the place `root` instead of place 0: the first walk from `root` is, after
+/// choices, the first from place 0. So a search for one pattern enters at that pattern's own place,
+/// and no thread sets out for another pattern.
 pub fn search_slots_from<C: Cursor>(
     cache: &mut Cache,
     input: &mut Input<C>,
@@ -212,11 +216,11 @@ pub fn search_slots_from<C: Cursor>(
     Some(pattern)
 }
 
-/// The match that a search of the input finds. The earliest flag is not read. `passes_over` says
-/// whether matches that end off a boundary are passed over. With a prefilter, the search goes from
-/// needle to needle if no walk is under way.
+/// Returns the leftmost-first match. The earliest flag is not read. The program says whether
+/// matches that end off a boundary are passed over. With a prefilter, the search goes from needle
+/// to needle while no thread is under way.
 ///
-/// The cache has to be made for programs of as many places; it stays so. No memory is taken.
+/// The cache must be made for programs of as many places, and stays so. Nothing is allocated.
 pub fn find<C: Cursor>(
     cache: &mut Cache,
     input: &mut Input<C>,
@@ -246,8 +250,8 @@ pub fn find<C: Cursor>(
     Some(Match::new(pattern, span))
 }
 
-/// The first walk of the starts of a search that was seen to end, if any does. Nothing is read
-/// beyond the first position at which one ends.
+/// Returns the first walk that is seen to end, whatever its start, or None if none does. The pass
+/// ends where that walk does.
 pub(crate) fn meets<C: Cursor>(
     input: &mut Input<C>,
     program: &Program,
@@ -276,11 +280,11 @@ pub(crate) fn meets<C: Cursor>(
     pass(input, course, prefilter, lo, true, scratch)
 }
 
-/// Whether some walk begins at one of the starts of a search of the input, wherever it ends. The
-/// earliest flag is not read: nothing is read beyond the first position at which a walk ends. With
-/// a prefilter, the search goes from needle to needle if no walk is under way.
+/// Whether any walk begins at one of the search's starts, wherever it ends. The pass ends at the
+/// first position at which a walk does. The earliest flag is not read. With a prefilter, the search
+/// goes from needle to needle while no thread is under way.
 ///
-/// The cache has to be made for programs of as many places; it stays so. No memory is taken.
+/// The cache must be made for programs of as many places, and stays so. Nothing is allocated.
 pub fn meets_any<C: Cursor>(
     cache: &mut Cache,
     input: &mut Input<C>,

@@ -1,4 +1,5 @@
-//! Look-around fast path: assertions decided by ASCII bytes if they are on both sides.
+//! Look-around: whether an assertion holds at a position. Between two ASCII bytes no character is
+//! decoded.
 ghost use Rattle.std.specs.Prelude.{◌≡◌, IsTrue, false};
 ghost use Rattle.rc_program.specs.Looks.{side_before, side_after, is_word_byte, is_ascii_word, is_unicode_word, is_broken, holds_between};
 ghost use Rattle.rc_pikevm.specs.Plain.{IsPlain};
@@ -6,7 +7,7 @@ ghost use Rattle.rc_pikevm.specs.Plain.{IsPlain};
 use rc_pattern::hir::Look;
 use rc_program::look;
 
-/// For each byte whether it is a letter, a digit or `_` of ASCII.
+/// For each byte, whether it is an ASCII letter, an ASCII digit or `_`.
 #[rattlefmt::skip]
 static WORDS: [bool; 256] = [
     false, false, false, false, false, false, false, false, false, false, false, false, false, false, false, false,
@@ -27,8 +28,8 @@ static WORDS: [bool; 256] = [
     false, false, false, false, false, false, false, false, false, false, false, false, false, false, false, false,
 ];
 
-/// Whether the assertion holds at a position, as `rc_program::look::holds` says it. Between bytes
-/// of ASCII no character is decoded.
+/// Whether the assertion holds at a position, by the bytes before and after it, as
+/// `rc_program::look::holds` defines it. Between ASCII bytes no character is decoded.
 #[inline(always)]
 pub fn holds(look: Look, terminator: u8, before: &[u8], after: &[u8]) -> bool
     ensures { result ≡ holds_between terminator (side_before before.now) (side_after after.now) look }
@@ -42,7 +43,7 @@ pub fn holds(look: Look, terminator: u8, before: &[u8], after: &[u8]) -> bool
     look::holds(look, terminator, before, after)
 }
 
-/// The same between bytes of ASCII.
+/// Whether the assertion holds between ASCII bytes.
 #[inline(always)]
 fn holds_in_ascii(look: Look, terminator: u8, before: &[u8], after: &[u8]) -> bool
     requires before { IsPlain (side_before before.now) }
@@ -65,7 +66,7 @@ fn holds_in_ascii(look: Look, terminator: u8, before: &[u8], after: &[u8]) -> bo
     }
 }
 
-/// Whether nothing past ASCII ends the bytes.
+/// Whether the bytes end with an ASCII byte, or there are none.
 #[inline(always)]
 fn is_ascii_before(before: &[u8]) -> bool
     ensures { IsTrue result → IsPlain (side_before before.now) }
@@ -73,7 +74,7 @@ fn is_ascii_before(before: &[u8]) -> bool
     before.is_empty() || before[before.len() - 1] < 128
 }
 
-/// Whether nothing past ASCII begins the bytes.
+/// Whether the bytes begin with an ASCII byte, or there are none.
 #[inline(always)]
 fn is_ascii_after(after: &[u8]) -> bool
     ensures { IsTrue result → IsPlain (side_after after.now) }
@@ -81,7 +82,7 @@ fn is_ascii_after(after: &[u8]) -> bool
     after.is_empty() || after[0] < 128
 }
 
-/// Whether a word character ends the bytes.
+/// Whether the bytes end with a word character. They end with an ASCII byte, or there are none.
 #[inline(always)]
 fn ends_word(before: &[u8]) -> bool
     requires { IsPlain (side_before before.now) }
@@ -91,7 +92,7 @@ fn ends_word(before: &[u8]) -> bool
     is_word_before(before)
 }
 
-/// Whether a word character begins the bytes.
+/// Whether the bytes begin with a word character. They begin with an ASCII byte, or there are none.
 #[inline(always)]
 fn begins_word(after: &[u8]) -> bool
     requires { IsPlain (side_after after.now) }
@@ -101,6 +102,7 @@ fn begins_word(after: &[u8]) -> bool
     is_word_after(after)
 }
 
+/// Whether the last byte is an ASCII letter, an ASCII digit or `_`.
 #[inline(always)]
 fn is_word_before(before: &[u8]) -> bool
     ensures { result ≡ is_ascii_word (side_before before.now) }
@@ -108,6 +110,7 @@ fn is_word_before(before: &[u8]) -> bool
     !before.is_empty() && is_word_byte(before[before.len() - 1])
 }
 
+/// Whether the first byte is an ASCII letter, an ASCII digit or `_`.
 #[inline(always)]
 fn is_word_after(after: &[u8]) -> bool
     ensures { result ≡ is_ascii_word (side_after after.now) }
@@ -115,6 +118,7 @@ fn is_word_after(after: &[u8]) -> bool
     !after.is_empty() && is_word_byte(after[0])
 }
 
+/// Whether the byte is an ASCII letter, an ASCII digit or `_`.
 #[inline(always)]
 fn is_word_byte(byte: u8) -> bool
     ensures { result ≡ is_word_byte byte }

@@ -1,4 +1,4 @@
-//! Sparse sets: sets of numbers that keep the order of insertion, and are cleared in constant time.
+//! Sparse sets: sets of numbers that keep the order of insertion and are cleared in constant time.
 ghost use Rattle.std.specs.Prelude.{◌≡◌, ◌<◌, ◌≤◌, [], ◌∷◌, ◌++◌, length, vec_len, vec_capacity, IfOk, slice_get, Some, slice_index};
 ghost use Rattle.std.specs.Bool.{MatchBool};
 ghost use Rattle.rc_pikevm.specs.Sparse.{Members, members_code, Has, IsIndexed, IsSet};
@@ -9,9 +9,9 @@ use std::marker::Model;
 /// A set of numbers below its capacity.
 #[derive(Drop)]
 pub struct SparseSet {
-    /// The members, in the order in which they were inserted.
+    /// The members, in the order of insertion.
     dense: Vec<usize>,
-    /// At a member, where it is in `dense`.
+    /// For each member, its index in `dense`.
     sparse: Vec<usize>,
 }
 
@@ -35,6 +35,7 @@ impl SparseSet {
         Ok(SparseSet { dense, sparse })
     }
 
+    /// Returns how many members there are.
     pub fn len(&self) -> usize
         ensures value { result ≡ length self.now.items }
         ensures set { IsSet self.now.capacity self.now.items }
@@ -42,7 +43,7 @@ impl SparseSet {
         self.dense.len()
     }
 
-    /// The member that was inserted as number `place`, counted from 0.
+    /// Returns the member that was inserted as number `place`, counted from 0.
     pub fn get(&self, place: usize) -> usize
         requires { place < length self.now.items }
         ensures { slice_get self.now.items place ≡ Some result }
@@ -50,12 +51,14 @@ impl SparseSet {
         self.dense[place]
     }
 
+    /// Removes all members, in constant time.
     pub fn clear(&mut self)
         ensures { self.new ≡ record self.old { items = [] } }
     {
         self.dense.clear();
     }
 
+    /// Whether the number is a member.
     pub fn contains(&self, number: usize) -> bool
         requires { number < self.now.capacity }
         ensures { MatchBool result (Has self.now.items number) (¬ Has self.now.items number) }
@@ -64,7 +67,7 @@ impl SparseSet {
         index < self.dense.len() && self.dense[index] == number
     }
 
-    /// Returns whether the number was new.
+    /// Inserts the number, and returns whether it is new.
     pub fn insert(&mut self, number: usize) -> bool
         requires { number < self.old.capacity }
         ensures member { MatchBool result (¬ Has self.old.items number) (Has self.old.items number) }

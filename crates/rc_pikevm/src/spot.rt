@@ -1,16 +1,16 @@
-//! Pass parameters, and what a pass knows at one position.
+//! Search parameters: what stays fixed during a pass, and what the pass sees at one position.
 ghost use Rattle.std.specs.Prelude.{◌+◌, ◌<◌, ◌≤◌, ◌^◌};
 
 use rc_program::program::Program;
 
-/// What stands still while a pass goes over a text.
+/// What stays fixed during a pass.
 #[derive(Clone, Copy)]
 pub struct Course<'a> {
     /// The program.
     pub program: &'a Program,
-    /// No walk goes past it, in bytes.
+    /// The upper bound of the search, in bytes: no walk goes past it.
     pub hi: usize,
-    /// If it is Some, walks of this pattern alone count.
+    /// If it is Some, only walks of this pattern count.
     pub pattern: Option<usize>,
     /// The last start, in bytes: at most `hi`.
     pub last: usize,
@@ -18,15 +18,15 @@ pub struct Course<'a> {
     ghost ordered: { last ≤ hi },
 }
 
-/// A position that a pass is at, and what it sees there.
+/// A position of a pass, and the bytes around it.
 #[derive(Clone, Copy)]
 pub struct Spot<'a> {
-    /// What the pass goes by.
+    /// What stays fixed during the pass.
     pub course: Course<'a>,
     /// The position, in bytes.
     pub at: usize,
-    /// The bytes before it: four at least, or all that the slice has.
+    /// The bytes before it: at least four, or all that the slice has.
     pub before: &'a [u8],
-    /// The bytes after it, as many.
+    /// The bytes after it: at least four, or all that the slice has.
     pub after: &'a [u8],
 }

@@ -1,4 +1,4 @@
-//! Epsilon closure of passes in which a match cuts no thread.
+//! Epsilon closure for `MatchKind::All`: a match cuts off no other walk.
 ghost use Rattle.std.specs.Prelude.{◌≡◌, ℕ, ◌+◌, ◌*◌, ◌<◌, ◌≤◌, List, ◌∷◌, ◌++◌, length, reverse, vec_len, Option, MatchBool};
 ghost use Rattle.rc_text.specs.Found.{Found};
 ghost use Rattle.rc_text.specs.Text.{Searched};
@@ -12,8 +12,8 @@ use crate::growth::{Frame, Growth};
 use crate::pass::Ending;
 use crate::spot::Spot;
 
-/// Whether the new walk's span is greater: by its end, then by the lesser start, then by the lesser
-/// pattern.
+/// Whether the new walk is greater than the old one: by a greater end, then a lesser start, then a
+/// lesser pattern.
 fn is_greater(old: Ending, new: Ending) -> bool
     ensures { MatchBool result (IsNoGreater (span_of old) (span_of new)) (IsNoGreater (span_of new) (span_of old)) }
 {
@@ -26,7 +26,7 @@ fn is_greater(old: Ending, new: Ending) -> bool
     new.pattern < old.pattern
 }
 
-/// Of the best walk so far and a new one the greater.
+/// Returns the greater of the best walk so far and a new one.
 fn greater(best: Option<Ending>, new: Ending) -> Ending
     ensures { IsGreater best new result }
 {
@@ -39,8 +39,8 @@ fn greater(best: Option<Ending>, new: Ending) -> Ending
     old
 }
 
-/// Enters a place, unless it was entered at this position already. If a walk ends there, it is held
-/// against the best so far.
+/// Enters a place, unless it was entered at this position before, and makes its transition. If a
+/// walk ends there, `best` becomes the greater of the two.
 fn visit(spot: &Spot, place: usize, start: usize, best: &mut Option<Ending>, growth: &mut Growth)
     ghost text: { Searched }
     requires here { IsHere spot.now text }
@@ -75,8 +75,8 @@ fn visit(spot: &Spot, place: usize, start: usize, best: &mut Option<Ending>, gro
     }
 }
 
-/// Follows all ways from `root` that read nothing, in order, and puts a thread behind the others
-/// for each that reads. `best` is the greatest of the walks that have ended so far.
+/// Follows all ways from `root` that read nothing, in order, and appends a thread for each place
+/// that reads. `best` is the greatest walk that has ended so far.
 pub fn spread(
     spot: &Spot,
     root: usize,

@@ -1,4 +1,5 @@
-//! Thread lists, in flat vectors that are allocated once.
+//! Thread lists: threads in order of preference, with their slots, in flat vectors that are
+//! allocated once.
 ghost use Rattle.std.specs.Prelude.{◌≡◌, ◌+◌, ◌≤◌, ◌++◌, length, vec_len, vec_capacity};
 
 use std::alloc::{AllocError, Global};
@@ -10,7 +11,7 @@ use std::mem;
 pub struct Head {
     /// The place that it enters next.
     pub place: usize,
-    /// The position at which it enters there, in bytes.
+    /// The position at which it enters that place, in bytes.
     pub at: usize,
     /// If its walk began, in bytes.
     pub start: usize,
@@ -50,7 +51,7 @@ impl Threads {
     ghost use Rattle.std.specs.Prelude.{◌≡◌, ◌<◌, ◌≤◌, [], ◌∷◌, ◌++◌, length, IfOk, Some, slice_get};
     ghost use Rattle.rc_pikevm.specs.Threads.{Thread, thread_of};
 
-    /// Room for `room` threads of at most `most` slots each.
+    /// Allocates for `room` threads of at most `most` slots each.
     pub fn new(alloc: Global, room: usize, most: usize) -> Result<Threads, AllocError>
         ensures { IfOk result (λ t. t ≡ record { items = []; room = room; most = most; width = 0 }) }
     {
@@ -68,7 +69,7 @@ impl Threads {
         })
     }
 
-    /// Forgets the threads. The next ones have `width` slots each.
+    /// Drops all threads. The next ones have `width` slots each.
     pub fn clear(&mut self, width: usize)
         requires { width ≤ self.old.most }
         ensures { self.new ≡ record self.old { items = []; width = width } }
@@ -78,14 +79,14 @@ impl Threads {
         self.width = width;
     }
 
-    /// The number of threads.
+    /// Returns the number of threads.
     pub fn len(&self) -> usize
         ensures value { result ≡ length self.now.items }
     {
         self.heads.len()
     }
 
-    /// The thread number `index`, counted from 0, with its slots.
+    /// Returns the thread at an index, and its slots.
     pub fn get(&self, index: usize) -> (Head, &[Option<usize>])
         requires { index < length self.now.items }
         ensures item { slice_get self.now.items index ≡ Some (thread_of result.0 result.1.now) }
@@ -96,7 +97,7 @@ impl Threads {
         (head, &self.rows[from..from + self.width])
     }
 
-    /// Lets the only thread go on elsewhere.
+    /// Replaces the only thread's head, and keeps its slots.
     pub fn move_first(&mut self, head: Head)
         requires { length self.old.items ≡ 1 }
         ensures { (t : Thread) → self.old.items ≡ t ∷ [] → self.new ≡ record self.old { items = thread_of head t.slots ∷ [] } }
@@ -104,8 +105,8 @@ impl Threads {
         self.heads[0] = head;
     }
 
-    /// Exchanges the threads for those of the other list, which has as much room, and as many slots
-    /// for each.
+    /// Swaps the threads with those of the other list, which has as much room and as many slots a
+    /// thread.
     #[inline(always)]
     pub fn exchange(&mut self, other: &mut Threads)
         requires room { self.old.room ≡ other.old.room }
@@ -118,7 +119,7 @@ impl Threads {
         mem::swap(&mut self.rows, &mut other.rows);
     }
 
-    /// Puts a thread behind the others.
+    /// Appends a thread.
     pub fn push(&mut self, head: Head, slots: &[Option<usize>])
         requires room { length self.old.items < self.old.room }
         requires width { length slots.now ≡ self.old.width }
@@ -129,7 +130,7 @@ impl Threads {
     }
 }
 
-/// Appends the row, for which there is room.
+/// Appends the row to the cells, for which there is room.
 fn append(cells: &mut Vec<Option<usize>>, row: &[Option<usize>])
     requires { vec_len cells.old + length row.now ≤ vec_capacity cells.old }
     ensures items { cells.new.items ≡ cells.old.items ++ row.now }

@@ -1,5 +1,5 @@
-//! Overlapping pattern search: which patterns have a match. Threads go on after a match, and each
-//! pattern whose match state is entered is recorded.
+//! Overlapping search: which patterns have a match, by one pass of the Pike VM. A match drops no
+//! thread, and marks its pattern in a set.
 ghost use Rattle.std.specs.Prelude.{◌≡◌, ◌↔◌, ℕ, ◌+◌, ◌-◌, ◌*◌, ◌<◌, ◌≤◌, ◌⊎◌, ◌^◌, IsTrue, List, [], ◌∷◌, ◌++◌, length, map, min, reverse, slice_set, true, vec_len};
 ghost use Rattle.rc_text.specs.Text.{Searched, Keeps, low, high};
 ghost use Rattle.rc_pattern_set.specs.Sets.{Has};
@@ -30,7 +30,7 @@ use rc_text::cursor::Cursor;
 use rc_text::input::Input;
 use rc_text::types::PatternID;
 
-/// Puts the pattern of this number into the set.
+/// Inserts the pattern of this number into the set.
 fn mark(set: &mut PatternSet, number: usize)
     requires { number ≤ 2147483646 }
     ensures { set.new ≡ slice_set set.old number true }
@@ -40,8 +40,8 @@ fn mark(set: &mut PatternSet, number: usize)
     }
 }
 
-/// Enters a place, unless it was entered at this position already. If a walk ends there, its
-/// pattern is marked.
+/// Enters a place, unless it was entered at this position before, and makes its transition. If a
+/// walk ends there, its pattern is marked.
 fn visit(spot: &Spot, place: usize, start: usize, set: &mut PatternSet, growth: &mut Growth)
     ghost text: { Searched }
     requires here { IsHere spot.now text }
@@ -70,8 +70,8 @@ fn visit(spot: &Spot, place: usize, start: usize, set: &mut PatternSet, growth: 
     }
 }
 
-/// Follows all ways from `root` that read nothing, puts a thread behind the others for each that
-/// reads, and marks the pattern of each walk that ends.
+/// Follows all ways from `root` that read nothing, appends a thread for each place that reads, and
+/// marks the pattern of each walk that ends.
 fn spread(spot: &Spot, root: usize, start: usize, set: &mut PatternSet, growth: &mut Growth)
     ghost text: { Searched }
     requires here { IsHere spot.now text }
@@ -96,8 +96,8 @@ fn spread(spot: &Spot, root: usize, start: usize, set: &mut PatternSet, growth: 
     }
 }
 
-/// Lets the threads of `curr` that go on at the spot do so; those that go on later are put into the
-/// growth. The pattern of each walk that ends is marked.
+/// Advances the threads of `curr` at the spot. Threads that wait for a later position are appended
+/// to `growth` as they are. The pattern of each walk that ends is marked.
 fn step(spot: &Spot, curr: &Threads, set: &mut PatternSet, growth: &mut Growth)
     ghost text: { Searched }
     requires here { IsHere spot.now text }
@@ -127,8 +127,8 @@ fn step(spot: &Spot, curr: &Threads, set: &mut PatternSet, growth: &mut Growth)
     }
 }
 
-/// Lets the threads of `curr` go on at the spot, and after them, if the spot is no later than the
-/// last start, a new thread set out there. The rest is as in `step`.
+/// Advances the threads of `curr` at the spot, and then a new thread that sets out there, unless
+/// the spot is past the last start. The pattern of each walk that ends is marked.
 fn advance(spot: &Spot, curr: &Threads, set: &mut PatternSet, growth: &mut Growth)
     ghost text: { Searched }
     requires here { IsHere spot.now text }
@@ -155,7 +155,7 @@ fn advance(spot: &Spot, curr: &Threads, set: &mut PatternSet, growth: &mut Growt
     }
 }
 
-/// One position of a pass: lets the threads go on, and counts the places entered.
+/// Handles one position of a pass: advances the threads, and counts the places entered.
 fn turn(spot: &Spot, set: &mut PatternSet, scratch: &mut Scratch)
     ghost text: { Searched }
     requires here { IsHere spot.now text }
@@ -178,8 +178,8 @@ fn turn(spot: &Spot, set: &mut PatternSet, scratch: &mut Scratch)
     scratch.finish();
 }
 
-/// The least number from `first` on that is no member, or `last` if that is less. Those below
-/// `first` are not looked at.
+/// Looks from `first` up to `last`, excluded, and returns the least number that isn't in the set,
+/// or the greater of the two if each is.
 fn first_absent(set: &PatternSet, first: usize, last: usize) -> usize
     ensures from { first ≤ result }
     ensures members { HasAll first result set.now }
@@ -195,8 +195,8 @@ fn first_absent(set: &PatternSet, first: usize, last: usize) -> usize
     first.max(last)
 }
 
-/// From which number on, up to and without which, the patterns are of which walks count and that
-/// the set can hold.
+/// Returns the range of pattern numbers, end excluded, whose walks count and which the set can
+/// hold.
 fn wanted(pattern: Option<usize>, patterns: usize, set: &PatternSet) -> (usize, usize)
     ensures { (p : ℕ) → p < patterns → p < length set.now → IsTrue (is_match_place pattern (accept p)) → (result.0 ≤ p) × (p < result.1) }
 {
@@ -207,8 +207,8 @@ fn wanted(pattern: Option<usize>, patterns: usize, set: &PatternSet) -> (usize, 
     }
 }
 
-/// One pass over the positions from `from` on: marks the patterns that walks from the starts there
-/// spell. It ends if each pattern from `first` on, up to and without `end`, is marked.
+/// Runs one pass over the positions from `from` on, and marks each pattern that walks from the
+/// starts there spell. It ends early once each pattern from `first` to `end`, excluded, is marked.
 fn pass<C: Cursor>(
     input: &mut Input<C>,
     course: Course,
@@ -245,7 +245,7 @@ fn pass<C: Cursor>(
     }
 }
 
-/// Marks the patterns that walks of a search of the input spell.
+/// Marks each pattern that walks of a search spell.
 fn choose<C: Cursor>(
     input: &mut Input<C>,
     program: &Program,
@@ -276,14 +276,14 @@ fn choose<C: Cursor>(
     pass(input, course, lo, first, end, set, scratch);
 }
 
-/// Puts into the set each pattern below its capacity of which a walk is spelled within the bounds
-/// of a search of the input, wherever others end. What the set has stays. Neither the earliest flag
-/// is read, nor are matches passed over that end off a boundary. The walks of the program are of
-/// the first `patterns` patterns.
+/// Inserts each pattern that has a match within the bounds of the search, wherever other matches
+/// end, if the set's capacity allows its number. The set keeps what it has. Neither the earliest
+/// flag is read, nor are matches passed over that end off a boundary. The program is that of the
+/// first `patterns` patterns.
 ///
-/// The cache has to be made for programs of as many places; it stays so. No memory is taken, and
-/// the time is linear in the bytes between the search's bounds. Nothing is read beyond the position
-/// at which the last pattern is found that the set can hold.
+/// The cache must be made for programs of as many places, and stays so. Nothing is allocated, and
+/// the time is linear in the bytes between the search's bounds. The pass ends once each pattern is
+/// found that the set can hold.
 pub fn which_patterns<C: Cursor>(
     cache: &mut Cache,
     input: &mut Input<C>,

@@ -1,4 +1,5 @@
-//! Window: the bytes of a text around the current position.
+//! Look-around window: a copy of the 64 bytes around a pass's position, so that assertions and
+//! characters are read without moving the cursor.
 ghost use Rattle.std.specs.Prelude.{◌≡◌, ◌+◌, ◌-◌, ◌≤◌, ◌<◌, length, take, slice_range, min, ◌++◌, ℕ};
 ghost use Rattle.rc_text.specs.Text.{Searched, Keeps, slice_end};
 ghost use Rattle.rc_pikevm.specs.Moves.{IsSetting};
@@ -9,19 +10,19 @@ use crate::spot::{Course, Spot};
 use rc_text::cursor::Cursor;
 use rc_text::input::{Input, piece_from};
 
-/// The bytes of a text around the positions that a pass is at: the first `len` of `bytes`, of which
-/// the first is the text's byte `start`.
+/// A copy of the text around a pass's position: the first `len` of `bytes`, which begin at the
+/// text's byte `start`.
 #[derive(Clone, Copy)]
 pub struct Window {
     /// The bytes.
     pub bytes: [u8; 64],
-    /// Where the first is, in bytes.
+    /// Where the first of them is in the text, in bytes.
     pub start: usize,
     /// How many there are, at most 64.
     pub len: usize,
 }
 
-/// The slice's bytes from four before `at` on, as many as fit.
+/// Returns the slice's bytes from four before `at` on, at most 64.
 pub fn open<C: Cursor>(input: &mut Input<C>, at: usize) -> Window
     requires inside { (input.old.slice.start ≤ at) × (at ≤ slice_end input.old) }
     ensures keeps { Keeps input.old input.new }
@@ -45,7 +46,7 @@ pub fn open<C: Cursor>(input: &mut Input<C>, at: usize) -> Window
     Window { bytes, start, len }
 }
 
-/// Writes a piece after the first `len` bytes.
+/// Writes a piece behind the first `len` bytes.
 fn append(bytes: &mut [u8; 64], len: usize, piece: &[u8])
     requires { len + length piece.now ≤ 64 }
     ensures { take (len + length piece.now) bytes.new ≡ take len bytes.old ++ piece.now }
@@ -53,7 +54,7 @@ fn append(bytes: &mut [u8; 64], len: usize, piece: &[u8])
     bytes[len..len + piece.len()].copy_from_slice(piece);
 }
 
-/// Opens the window anew, if it ends within four bytes after `at` and the slice goes on.
+/// Opens the window anew if it ends within four bytes after `at` and the slice goes on.
 pub fn reach<C: Cursor>(window: &mut Window, input: &mut Input<C>, at: usize)
     requires inside { (input.old.slice.start ≤ at) × (at ≤ slice_end input.old) }
     requires window { IsWindow input.old window.old }
@@ -68,7 +69,8 @@ pub fn reach<C: Cursor>(window: &mut Window, input: &mut Input<C>, at: usize)
     }
 }
 
-/// A position up to which the window shows four bytes after each, or all that the slice has.
+/// Returns a position, in bytes: for each position up to it, the window has the four bytes after
+/// it, or all that the slice has.
 #[inline(always)]
 pub fn limit(window: &Window) -> usize
     ghost text: { Searched }
@@ -81,7 +83,8 @@ pub fn limit(window: &Window) -> usize
     window.start.saturating_add(window.len)
 }
 
-/// What a pass sees at the byte `at`, through a window that shows four bytes on both sides of it.
+/// Returns what a pass sees at the byte `at`. The window must show the four bytes on both sides of
+/// it, as far as the slice has them.
 pub fn spot_at<'a>(course: Course<'a>, window: &'a Window, at: usize) -> Spot<'a>
     ghost text: { Searched }
     requires setting { IsSetting course text }

@@ -1,4 +1,4 @@
-//! Strategy choice: which literals serve the patterns.
+//! Prefilters: by which literals the searches for some patterns go.
 ghost use Rattle.std.specs.Prelude.{◌≡◌, All, Bool, IfOk, IfSome, None, Some, false, if◌then◌else◌, map, option_map};
 ghost use Rattle.rc_pattern.specs.Meaning.{meaning};
 ghost use Rattle.rc_pattern.specs.WellFormed.{HasBounds};

@@ -1,4 +1,4 @@
-//! Engine: a program with its strategy, and searches by the Pike VM.
+//! The Pike VM as an engine: a program with its match kind and its literals.
 
 ghost use Rattle.std.specs.Prelude.{◌≡◌};
 ghost use Rattle.rc_program.specs.Places.{places_of};

@@ -1,4 +1,4 @@
-//! Laws that tie the definitions. Each function does nothing: its contract is the law.
+//! Laws: the list of matches, and its groups. Each function does nothing: its contract is the law.
 ghost use Rattle.rc_pikevm_search.specs.Lists.{LeftLaw};
 ghost use Rattle.rc_pikevm_search.specs.Walks.{WalksLaw};
 

@@ -1,5 +1,5 @@
-//! Pike VM search with a literal strategy: one match, its groups, and the next match of an
-//! iteration.
+//! The Pike VM with its literals: searches for one match, with its groups, and for the next match
+//! of a list.
 #![tactic(auto)]
 
 pub mod choice;

@@ -1,4 +1,4 @@
-//! Literal strategies: exact literals, a prefilter, or neither.
+//! Prefilters: the literals of a program, and how they bind a search.
 ghost use Rattle.std.specs.Prelude.{MatchOption, ◌≡◌, ℕ, Bool, List, ⊤, false, None, option_map};
 ghost use Rattle.rc_text.specs.declared.types.MatchKind.TheVariants.{LeftmostFirst};
 ghost use Rattle.rc_program.specs.Program.{Place as PlaceOf};

@@ -1,4 +1,4 @@
-//! First-byte sets: over which bytes a walk may go on from each state of a program.
+//! First-byte sets: over which bytes walks may go on from each place of a program.
 
 ghost use Rattle.std.specs.Prelude.{◌≡◌, ℕ, ◌<◌, ◌≤◌, ◌&&◌, [], ◌∷◌, IfOk, OnOk, map, length, nat_le, true};
 ghost use Rattle.rc_pattern.specs.Meaning.{byte_range, char_range};

@@ -1,4 +1,4 @@
-//! Laws that tie the definitions. Each function does nothing: its contract is the law.
+//! Laws of programs and of searches. Each function does nothing: its contract is the law.
 ghost use Rattle.rc_program.specs.Answer.{AnswerLaw};
 ghost use Rattle.rc_program.specs.Greatest.{GreatestLaw};
 ghost use Rattle.rc_program.specs.Heads.{HeadsLaw};

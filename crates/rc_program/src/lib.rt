@@ -1,8 +1,9 @@
-//! Programs (Thompson NFAs): their states, and the definitions of what a search over them returns.
+//! Thompson NFA: a program, and what a search over it answers. Here are the definitions that
+//! contracts cite, and the laws that tie them.
 //!
-//! `laws` has the laws, each as the contract of a function with nothing to do. `look` tests where assertions hold. `place` has the
-//! places of a program as code has them, `heads` tells over which bytes walks may go on from them, and `ranges` whether a class has a byte
-//! or a character. `program` is a program that can be searched with, and `matches` tells which matches a list passes over.
+//! Module `place` has the NFA's states, and `program` an NFA that is ready to be searched with.
+//! `look` tests assertions, and `heads` computes first-byte sets. `laws` has the laws, each as the
+//! contract of a function that does nothing.
 #![tactic(auto)]
 
 pub mod heads;

@@ -1,4 +1,4 @@
-//! Look-around assertions, decided by the bytes on the two sides of a position.
+//! Look-around: whether an assertion holds, by the bytes on the two sides of a position.
 ghost use Rattle.std.specs.Prelude.{◌≡◌, ◌<◌, ◌&&◌, not, is_none, unwrap_or, false};
 ghost use Rattle.rc_program.specs.Scalars.{continues, in_bytes, of_two, of_three, of_four, scalar_at, scalar_of_last, scalar_before};
 ghost use Rattle.rc_program.specs.Looks.{side_before, side_after, has_byte, is_word_byte, joins_words, is_word_scalar, is_ascii_word, is_unicode_word, is_broken, differ, holds_between};

@@ -1,4 +1,4 @@
-//! NFA states of a program. The definitions call them places.
+//! NFA states: the places of a program.
 
 use rc_pattern::hir::{ClassBytesRange, ClassUnicodeRange, Look};
 

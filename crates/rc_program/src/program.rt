@@ -1,4 +1,4 @@
-//! Program: an NFA that is ready for searches.
+//! Thompson NFA: a program that is ready to be searched with.
 
 ghost use Rattle.std.specs.Prelude.{ℕ, ◌<◌, MatchBool, MatchOption, length, ⊤};
 ghost use Rattle.rc_program.specs.Heads.{AreHeads, MayGoOn, TellsHeads, flags_in};

@@ -1,4 +1,4 @@
-//! Cache: the scratch memory of searches.
+//! Cache: the memory of a search, for the Pike VM and for the lazy DFA.
 
 use rc_lazy_dfa::lazy;
 use rc_pikevm::cache;

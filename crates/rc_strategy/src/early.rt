@@ -1,5 +1,5 @@
-//! Earliest searches: any match will do, and a search reads no further than to the first position
-//! at which one ends. If matches may be rejected, the flag is read as off.
+//! Earliest match: searches under the earliest flag. Any match is enough then, and nothing is read
+//! beyond the first position at which one ends. If matches are passed over, the flag counts as off.
 ghost use Rattle.std.specs.Prelude.{◌≡◌, ◌≤◌, true, IfOk, IfSome};
 ghost use Rattle.rc_text.specs.Bounds.{IsWithinBounds};
 ghost use Rattle.rc_text.specs.Text.{Keeps, low, high};

@@ -1,4 +1,4 @@
-//! Engines: patterns with everything that may search for them, and the choice among these.
+//! Meta strategy: the engines of some patterns, and the searches that choose among them.
 ghost use Rattle.std.specs.Prelude.{◌≡◌, IfSome, option_map};
 ghost use Rattle.rc_text.specs.Found.{half_of};
 ghost use Rattle.rc_program.specs.Places.{places_of};

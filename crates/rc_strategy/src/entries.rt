@@ -1,4 +1,4 @@
-//! Pattern entries: the state at which a program is entered for one of its patterns alone.
+//! Start states: the place at which a program is entered for one of its patterns alone.
 ghost use Rattle.std.specs.Prelude.{◌≡◌, ◌∷◌, ◌<◌, [], List, Some, length, ℕ};
 ghost use Rattle.rc_pattern.specs.Re.{Re};
 ghost use Rattle.rc_program.specs.Places.{places_of};

@@ -1,5 +1,5 @@
-//! Anchored probe: a search first asks whether a match begins at the first candidate. Positions are
-//! in bytes of the whole content.
+//! Prefilters: DFA searches that first try an anchored run where the first match may begin.
+//! Positions are in bytes of the whole content.
 ghost use Rattle.std.specs.Prelude.{◌≡◌, ◌↔◌, ◌<◌, ◌≤◌, ℕ, Bool, List, MatchOption, IfOk, IfSome, IsTrue, length, slice_index};
 ghost use Rattle.rc_text.specs.Bounds.{IsWithinBounds};
 ghost use Rattle.rc_text.specs.Text.{Keeps, low, high};

@@ -1,4 +1,5 @@
-//! Law of narrowing. The function does nothing: its contract is the law.
+//! Law of narrowing: a search of a match's span gives the match's groups. The function does
+//! nothing: its contract is the law.
 ghost use Rattle.rc_strategy.specs.Narrow.{NarrowLaw};
 
 /// Over the span of the match that a search finds, a search for the match's pattern alone finds the

@@ -1,4 +1,4 @@
-//! Meta strategy: chooses among the literal search, the full DFA, the lazy DFA and the Pike VM.
+//! Meta strategy: picks what searches: literals alone, a DFA, a lazy DFA or the Pike VM.
 #![tactic(auto)]
 
 pub mod cache;

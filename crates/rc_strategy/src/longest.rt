@@ -1,4 +1,4 @@
-//! Groups of a leftmost-longest match whose span is known.
+//! Capture groups: the slots of the longest match, once its span is known.
 ghost use Rattle.std.specs.Prelude.{◌≡◌, Some, length};
 ghost use Rattle.rc_text.specs.Text.{Keeps};
 ghost use Rattle.rc_text.specs.declared.types.MatchKind.TheVariants.{LeftmostLongest};

@@ -1,5 +1,5 @@
-//! Prefiltered match tests: any match will do, and the search goes from one literal to the next.
-//! Positions are in bytes of the whole content.
+//! Prefilters: DFA searches for any match that go from literal to literal. Positions are in bytes
+//! of the whole content.
 ghost use Rattle.std.specs.Prelude.{◌≡◌, ◌↔◌, ◌≤◌, ℕ, List, IsTrue, IfOk, IfNone, IfSome};
 ghost use Rattle.rc_text.specs.Bounds.{IsWithinBounds};
 ghost use Rattle.rc_text.specs.Text.{Keeps, low, high};

@@ -1,4 +1,4 @@
-//! Searches without a cache: each makes what it needs.
+//! Cache per search: searches that make the cache that they need, and drop it.
 
 use crate::engines::{Engines, half_of};
 use crate::route::Way;

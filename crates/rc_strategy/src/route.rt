@@ -1,4 +1,4 @@
-//! Plan of a search: which DFA it uses, if any, and how.
+//! Meta strategy: which engine serves a search, and in which direction a DFA searches first.
 
 use crate::engines::Engines;
 use rc_dense_dfa::dense::Dense;

@@ -1,4 +1,4 @@
-//! Slots of a match whose span is known.
+//! Capture groups: the slots of a match whose span is known.
 ghost use Rattle.std.specs.Prelude.{◌≡◌, Some, length};
 ghost use Rattle.rc_text.specs.Text.{Keeps};
 ghost use Rattle.rc_program.specs.Answer.{answer, groups};

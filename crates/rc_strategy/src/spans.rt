@@ -1,4 +1,4 @@
-//! Match bounds: what is known of the length and the place of matches before any search.
+//! Match lengths and anchors: what is known of all matches before any search.
 ghost use Rattle.std.specs.Prelude.{◌≡◌, max};
 ghost use Rattle.rc_pattern.specs.Properties.{both};
 

@@ -1,4 +1,4 @@
-//! DFA construction: which DFAs are built for the patterns.
+//! DFA choice: builds the DFA or the lazy DFA of some patterns, as the limits allow.
 ghost use Rattle.std.specs.Prelude.{◌≡◌, ◌⊎◌, ◌↔◌, ◌<◌, ◌≤◌, ⊤, ℕ, Bool, IfOk, IfSome, IsSomeAnd, IsTrue, List, MatchOption, None, true, false, length};
 ghost use Rattle.rc_pattern.specs.Limits.{greatest_weight};
 ghost use Rattle.rc_pattern.specs.Re.{Re};

@@ -1,5 +1,5 @@
-//! Which patterns have a match: a DFA or the literals tell where the Pike VM begins. Positions are
-//! in bytes of the whole content.
+//! Overlapping search: which patterns have a match. If a DFA or literals alone can tell where the
+//! first match begins, the Pike VM begins there. Positions are in bytes of the whole content.
 ghost use Rattle.std.specs.Prelude.{◌<◌, ℕ, IsTrue, Some, length};
 ghost use Rattle.rc_text.specs.Text.{Keeps};
 ghost use Rattle.rc_pattern_set.specs.Sets.{Has};

@@ -1,4 +1,5 @@
-//! Law that ties a byte program to its program. The function does nothing: its contract is the law.
+//! Law of byte programs: they have the walks of their programs. The function does nothing: its
+//! contract is the law.
 ghost use Rattle.rc_utf8.specs.Laws.{ByteProgramLaw};
 
 /// A search over the byte program answers what the search over the program does, with the same

@@ -1,5 +1,5 @@
-//! UTF-8 lowering: from a program over characters to a byte program, in which each transition reads
-//! at most one byte and whose walks are those of the program.
+//! UTF-8 automata: from a program over characters to a program over bytes with the same walks. Each
+//! edge of the byte program reads one byte at most.
 #![tactic(auto)]
 
 pub mod laws;

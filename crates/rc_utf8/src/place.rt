@@ -1,4 +1,4 @@
-//! NFA states of a byte program.
+//! NFA states over bytes: the places of a byte program.
 
 use rc_pattern::hir::{ClassBytesRange, Look};
 

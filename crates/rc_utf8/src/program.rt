@@ -1,4 +1,4 @@
-//! UTF-8 lowering: from a program to its byte program.
+//! UTF-8 automata: from a program to its byte program.
 
 ghost use Rattle.std.specs.Prelude.{◌≡◌, ◌+◌, ◌*◌, ◌<◌, ◌≤◌, ◌^◌, [], ◌∷◌, ◌++◌, IfOk, length, map, vec_len};
 ghost use Rattle.rc_pattern.specs.Limits.{greatest_weight};

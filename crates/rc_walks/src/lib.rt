@@ -1,7 +1,8 @@
-//! Walks over a graph whose edges out of each pair of a state and a position are ordered.
+//! NFA paths: walks over a graph whose ways out of each pair (place, position) are in order of
+//! preference.
 //!
-//! The crate contains definitions and lemmas alone. It knows no pattern, no text and no engine, so
-//! what is proved here serves all of them.
+//! The crate has definitions and lemmas alone. It knows no pattern, no text and no engine, so its
+//! lemmas serve them all.
 #![tactic(auto)]
 
 ghost use Rattle.rc_walks.specs.Walks.{FirstWalkLaw};

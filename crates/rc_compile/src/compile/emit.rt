@@ -1,4 +1,4 @@
-//! Emitting states: the part of a pattern, appended to the states before it.
+//! Thompson's construction: appends the places of a pattern to those before it.
 
 ghost use Rattle.std.specs.Prelude.{◌≡◌, ◌+◌, ◌<◌, ◌^◌, [], ◌∷◌, ◌++◌, IfOk, map, vec_len};
 ghost use Rattle.rc_pattern.specs.Meaning.{meaning, cat_all, alt_all, class_meaning, capture_meaning, repetition_meaning};

@@ -1,4 +1,4 @@
-//! Sizes: how many states the part of a pattern has.
+//! Compiled size: how many places a pattern takes.
 
 ghost use Rattle.std.specs.Prelude.{◌≡◌, ◌<◌, ◌^◌, map};
 ghost use Rattle.rc_pattern.specs.Meaning.{meaning, cat_all, alt_all, repetition_meaning};

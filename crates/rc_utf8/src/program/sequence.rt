@@ -1,4 +1,4 @@
-//! UTF-8 sequences: sequences of byte ranges that encode the characters of a class.
+//! UTF-8 sequences: the ranges of bytes that encode the scalars of a class.
 
 ghost use Rattle.std.specs.Prelude.{◌≡◌, [], ◌∷◌, ◌++◌, ◌<◌, ◌-◌, ◌+◌, IfOk, length, map, max, min, nat_le, nat_lt, ◌&&◌};
 ghost use Rattle.rc_pattern.specs.Meaning.{byte_range, char_range};

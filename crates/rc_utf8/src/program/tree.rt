@@ -1,4 +1,5 @@
-//! UTF-8 trie: the states of a class, with shared prefixes and shared continuation bytes.
+//! UTF-8 automata: the places of one class. They are a tree over its sequences, with shared places
+//! for continuation bytes.
 
 ghost use Rattle.std.specs.Prelude.{◌≡◌, ◌+◌, ◌-◌, ◌<◌, ◌≤◌, ◌^◌, [], ◌∷◌, ◌++◌, IfOk, drop, length, take, vec_len};
 ghost use Rattle.std.specs.List.{AllByRecursion};
