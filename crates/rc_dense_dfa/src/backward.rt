@@ -10,9 +10,9 @@ ghost use Rattle.rc_dense_dfa.specs.Searches.{Course, EndsDownSo, InRow, IsLegDo
 
 use crate::look::{cell_of, has_died, met_at_end, noted_by, row_of, swapped, told};
 use crate::run::{Ended, Leg, Stand};
-use rc_dfa::sides::{byte_ahead, byte_behind};
 use crate::start::start;
 use crate::table::{MET, QUIT, SKIP, Table};
+use rc_dfa::sides::{byte_ahead, byte_behind};
 use rc_text::cursor::Cursor;
 use rc_text::input::{Input, piece_before};
 use rc_text::types::Anchored;

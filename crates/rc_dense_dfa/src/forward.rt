@@ -14,9 +14,9 @@ use crate::look::{
     cell_of, exits_at, has_died, is_idle, leap_at, met_at_end, noted_by, row_of, told,
 };
 use crate::run::{Ended, Leg, Stand};
-use rc_dfa::sides::{byte_ahead, byte_behind};
 use crate::start::start;
 use crate::table::{DEAD, MET, QUIT, SKIP, Table};
+use rc_dfa::sides::{byte_ahead, byte_behind};
 use rc_text::cursor::Cursor;
 use rc_text::input::{Input, high, piece_from};
 use rc_text::types::Anchored;

@@ -15,10 +15,10 @@ ghost use Rattle.rc_lazy_dfa.specs.Courses.{Course, IsAt, IsLeg, IsOver, MayGive
 use crate::cells::{MET, QUIT, UNKNOWN, has_died, row_of};
 use crate::half::Half;
 use crate::run::{Leg, Noted, Stand, found, met_by, told};
-use rc_dfa::sides::{byte_ahead, byte_behind};
 use crate::store::Store;
 use rc_dfa::automaton::{Automaton, Direction};
 use rc_dfa::ended::Ended;
+use rc_dfa::sides::{byte_ahead, byte_behind};
 use rc_text::cursor::Cursor;
 use rc_text::input::{Input, high, piece_from};
 use rc_text::types::Anchored;

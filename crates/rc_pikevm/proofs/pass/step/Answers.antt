@@ -72,7 +72,7 @@ threads-preserved g c =
           c.close.new.growth.threads c.close.new.growth.entered c.copy_row.new.slots.items
           (omega (arith, c.if-head-spot.false)) (sym c.copy_row.ensures.items)
           (λ below best o x. carries_in s c.args.spot.now.at c.threads.growth.threads.items c.threads.growth.entered.items best o
-    (trace c.get.result.0.start c.copy_row.new.slots.items) below c.way_in-place.ensures.way
+          (trace c.get.result.0.start c.copy_row.new.slots.items) below c.way_in-place.ensures.way
           (c.in_default.ensures.carries below best o x))
           c.in_default.ensures.grown c.in_default.ensures.some;
     }
