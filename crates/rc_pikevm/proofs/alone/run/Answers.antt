@@ -54,7 +54,7 @@ returns-in-Matches-clause-ended g c =
       (
         tried,
         rw (c.spot_at-spot.ensures.course, c.spot_at-spot.ensures.at) at c.in-Some.ensures.leads,
-        rw (c.spot_at-spot.ensures.course, c.spot_at-spot.ensures.at) at m,
+        rw c.spot_at-spot.ensures.course at m,
       ),
       omega (arith, c.positions-test.true, c.min-end.ensures),
       c.limit.ensures (at + 1) (omega (arith, c.positions-test.true, c.min-end.ensures)),

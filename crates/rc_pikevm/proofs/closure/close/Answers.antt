@@ -30,6 +30,14 @@ returns-then-is_empty-clause-carries g c below best o x =
     (subst (λ frames. Carries (seen_from c.args.spot.now g.text) c.args.spot.now.at c.enter.new.growth.threads.items c.enter.new.growth.entered.items
     (waits c.args.start c.args.spot.now.at (reverse frames) c.enter.new.growth.slots.items ++ below) best o) (sym none) x))
 
+pub returns-clause-carries : goal.returns-clause-carries
+returns-clause-carries g c below best o x =
+    subst (λ frames. Carries (seen_from c.args.spot.now g.text) c.args.spot.now.at c.args.growth.now.threads.items c.args.growth.now.entered.items
+    ((trace c.args.start c.args.growth.now.slots.items, (c.args.root, c.args.spot.now.at)) ∷ (waits c.args.start c.args.spot.now.at (reverse frames) c.args.growth.now.slots.items ++ below)) best o)
+    c.clear.ensures.items
+    (visited_carries (seen_from c.args.spot.now g.text) c.args.spot.now.at c.args.root c.args.start
+    _ c.enter.new.growth best o below None c.in_default.ensures.visited (c.drain.ensures.carries below best o x))
+
 pub returns-clause-grown : goal.returns-clause-grown
 returns-clause-grown g c =
     grown_then (size c.args.spot.now.course) c.args.spot.now.course.hi c.args.start c.args.spot.now.at c.args.growth.now.threads c.enter.new.growth.threads
