@@ -1,4 +1,4 @@
-//! The lines with a match.
+//! The lines with a match, and a group by its name.
 
 use regex_cursor::Input;
 use regex_cursor::cursor::ChunkCursor;
@@ -23,4 +23,17 @@ pub fn lines_with_a_match(
 /// Whether the line has a match.
 fn has_match(finder: &mut Finder<'_>, input: &mut Input<ChunkCursor<'_>>, line: Span) -> bool {
     finder.is_match(input.slice(line.start, line.start + line.len()))
+}
+
+/// Where the group of this name stands in the first match.
+pub fn group_named(
+    alloc: Global,
+    finder: &mut Finder<'_>,
+    text: ChunkCursor<'_>,
+    name: &str,
+) -> Result<Option<Span>, AllocError> {
+    let groups = finder.captures(alloc, &mut Input::new(text))?;
+    let span = groups.get_group_by_name(name);
+    drop(groups);
+    Ok(span)
 }

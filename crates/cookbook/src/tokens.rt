@@ -22,29 +22,9 @@ pub fn words(alloc: Global, kinds: &Regex, text: ChunkCursor<'_>) -> Result<Vec<
         .collect(alloc)
 }
 
-/// Gives the tokens of a text, one after another.
-#[derive(Drop)]
-pub struct Lexer<'r, 't> {
-    finder: Finder<'r>,
-    input: Input<ChunkCursor<'t>>,
-}
-
-impl<'r, 't> Lexer<'r, 't> {
-    /// Before the first token.
-    pub fn new(
-        alloc: Global,
-        kinds: &'r Regex,
-        text: ChunkCursor<'t>,
-    ) -> Result<Lexer<'r, 't>, AllocError> {
-        let finder = Finder::new(alloc, kinds)?;
-        let input = Input::new(text).with_anchored(Anchored::Yes);
-        Ok(Lexer { finder, input })
-    }
-
-    /// The next token.
-    pub fn next_token(&mut self) -> Option<Match> {
-        let token = self.finder.find(&mut self.input)?;
-        self.input.set_start(token.end());
-        Some(token)
-    }
+/// The token where the input starts, which then starts behind it. The input is anchored.
+pub fn next_token(finder: &mut Finder<'_>, input: &mut Input<ChunkCursor<'_>>) -> Option<Match> {
+    let token = finder.find(input)?;
+    input.set_start(token.end());
+    Some(token)
 }

@@ -1,4 +1,4 @@
-//! Next, previous, on screen.
+//! Next, previous, in a selection, on screen.
 
 use regex_cursor::Input;
 use regex_cursor::cursor::ChunkCursor;
@@ -9,6 +9,16 @@ use std::alloc::{AllocError, Global};
 /// The match that a search from the caret on finds.
 pub fn next_match(finder: &mut Finder<'_>, text: ChunkCursor<'_>, caret: usize) -> Option<Match> {
     finder.find(&mut Input::new(text).range(caret, usize::MAX))
+}
+
+/// The match that a search within the selection finds.
+pub fn match_in_selection(
+    finder: &mut Finder<'_>,
+    text: ChunkCursor<'_>,
+    selection: Span,
+) -> Option<Match> {
+    let end = selection.start + selection.len();
+    finder.find(&mut Input::new(text).range(selection.start, end))
 }
 
 /// The last match that begins before the caret.
