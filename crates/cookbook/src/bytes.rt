@@ -1,22 +1,9 @@
-//! The bytes of a match, out of chunks, and chunks that are owned.
+//! The bytes of a match, out of chunks.
 
-use regex_cursor::Input;
-use regex_cursor::cursor::{Cursor, SliceCursor, SpanPieces};
-use regex_cursor::engines::meta::Regex;
+use regex_cursor::cursor::{Cursor, SpanPieces};
 use regex_cursor::run::{RunError, Sink, put_span};
 use regex_cursor::types::{Match, Span};
 use std::alloc::{AllocError, Global};
-
-/// The first match in pages that are owned.
-pub fn first_in_pages(
-    alloc: Global,
-    regex: &Regex,
-    pages: &[Vec<u8>],
-) -> Result<Option<Match>, RunError> {
-    let input = Input::new(SliceCursor::new(pages)?);
-    let found = regex.find(alloc, input)?;
-    Ok(found)
-}
 
 /// The bytes of a span.
 pub fn bytes_of<C: Cursor + Drop>(

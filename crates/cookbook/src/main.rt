@@ -9,12 +9,13 @@ mod finding;
 mod kept;
 mod lent;
 mod lines;
+mod parts;
 mod places;
 mod replacing;
 mod rules;
 mod tokens;
 
-use crate::bytes::{bytes_of, first_in_pages, put_match};
+use crate::bytes::{bytes_of, put_match};
 use crate::cases::in_any_case;
 use crate::escaping::escaped;
 use crate::faults::fault_of;
@@ -22,6 +23,7 @@ use crate::finding::{match_in_selection, matches_on_screen, next_match, previous
 use crate::kept::first_matches;
 use crate::lent::count_in_both;
 use crate::lines::{group_named, lines_with_a_match};
+use crate::parts::{Part, first_in_pieces};
 use crate::places::line_of;
 use crate::replacing::replaced;
 use crate::rules::rules_met;
@@ -107,13 +109,24 @@ fn keep(rt: &HostRuntime, regex: &Regex, finder: &mut Finder<'_>) -> Result<(), 
     )
 }
 
-/// A match in pages that are owned, and its bytes out of the chunks.
+/// A match in a piece table.
+fn find_in_parts(rt: &HostRuntime, regex: &Regex) -> Result<Option<Match>, RunError> {
+    let typed: &[u8] = b"let tal = 4";
+    let Some(front) = Part::new(typed, 0, 4) else {
+        return Ok(None);
+    };
+    let Some(middle) = Part::new(b"to", 0, 2) else {
+        return Ok(None);
+    };
+    let Some(back) = Part::new(typed, 4, typed.len()) else {
+        return Ok(None);
+    };
+    first_in_pieces(rt.alloc(), regex, &[front, middle, back])
+}
+
+/// A match in pieces, and its bytes out of the chunks.
 fn read(rt: &HostRuntime, regex: &Regex, mut text: ChunkCursor<'_>) -> Result<(), RunError> {
-    let pages = [
-        b"let tot".to_vec(rt.alloc())?,
-        b"al = 42;\n".to_vec(rt.alloc())?,
-    ];
-    let Some(found) = first_in_pages(rt.alloc(), regex, &pages)? else {
+    let Some(found) = find_in_parts(rt, regex)? else {
         return Ok(());
     };
     let bytes = bytes_of(rt.alloc(), text, found.span())?;
