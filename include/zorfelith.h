@@ -68,7 +68,11 @@ enum {
     ZF_LEFTMOST_LONGEST = 2 /* the longest match of the least start, and of these the preferred one */
 };
 
-/* How patterns are read, and which match is sought. Each field but `kind` is off at 0, and on at each other number. All 0: the defaults. */
+/* How patterns are read, and which match is sought. Each field but `kind` is off at 0, and on at each other number. All 0: the defaults.
+ *
+ * With `split_characters` off, if some pattern may be empty, each match that ends inside a character is passed over, whether it is empty or
+ * not: `a*` in "aa" followed by the byte 80 finds 3..3 alone. A place is inside a character if the byte there is from 80 to BF. Under ZF_ALL
+ * nothing is passed over. */
 struct zf_settings {
     uint8_t case_insensitive;     /* letters match in either case: the flag i */
     uint8_t multi_line;           /* ^ and $ match at each line: the flag m */
@@ -77,7 +81,7 @@ struct zf_settings {
     uint8_t swap_greed;           /* repetitions are lazy, and greedy with ?: the flag U */
     uint8_t bytes;                /* classes, dots and words are of bytes, not of characters: without the flag u */
     uint8_t any_bytes;            /* patterns may match what isn't UTF-8 */
-    uint8_t split_characters;     /* empty matches may split a character */
+    uint8_t split_characters;     /* matches may end inside a character, also if some pattern may be empty */
     uint8_t kind;                 /* ZF_LEFTMOST_FIRST, ZF_ALL or ZF_LEFTMOST_LONGEST; each other number is ZF_NO_KIND */
 };
 
@@ -134,7 +138,7 @@ uint32_t zf_find_groups(struct zf_handle *handle, const struct zf_bytes *chunks,
 
 /* Which patterns have a match in the text from `start` to `end`, or to the text's end where that comes first: marks[p] is 1 where pattern p has
  * one, and else 0, also where there is no pattern p. A pattern has a match where it spells some span there, whatever the kind is, also where
- * another pattern is preferred there, and where searches pass over the span, since it is empty and splits a character. With ZF_DONE each of
+ * another pattern is preferred there, and where searches pass over the span, since it ends inside a character. With ZF_DONE each of
  * the `mark_count` places is written. ZF_DONE; or ZF_EMPTY, ZF_TOO_LONG, ZF_OUTSIDE. The iteration stays as it was. */
 uint32_t zf_which_patterns(struct zf_handle *handle, const struct zf_bytes *chunks, size_t chunk_count, size_t start, size_t end,
                            uint8_t *marks, size_t mark_count);
