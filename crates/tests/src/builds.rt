@@ -1,142 +1,243 @@
-//! Which patterns are built, and which are refused: limits past what memory holds, patterns that no text is read as, and very deep ones.
+//! Each call that builds an engine, and what no engine is built from.
 
-use crate::calls::{end_of, matches};
+use crate::trees::{deep_tree, group, nested, two_of_a_name};
 use rc_build::check::check;
-use rc_parser::Config;
-use rc_pattern::hir::{Capture, Hir, Repetition};
-use rc_settings::error::BuildError;
-use rc_text::types::PatternID;
-use regex_cursor::engines::meta::Regex;
+use rc_pattern::hir::Hir;
+use regex_cursor::Input;
+use regex_cursor::engines::meta::BuildError;
 use regex_cursor::engines::pikevm::PikeVM;
-use regex_cursor::syntax::{Oversize, explain_size};
+use regex_cursor::engines::{dfa, hybrid, meta, pikevm};
+use regex_cursor::types::{Match, PatternID};
 use std::alloc::{AllocError, Global};
+use std::slice::from_ref;
 use std::test::Fail;
 
-/// The limit that builds have where none is set.
-const DEFAULT: usize = 10_485_760;
+/// Two patterns, of which the second alone matches in the text.
+const PATTERNS: [&str; 2] = ["cd", "ab"];
 
-/// The letter `a`, and so many times within a repetition of `min` to `max` turns.
-fn nested(alloc: Global, depth: usize, min: u32, max: u32) -> Result<Hir, AllocError> {
-    let mut hir = Hir::literal(alloc, b"a")?;
-    for _ in 0..depth {
-        hir = Hir::repetition(Repetition {
-            min,
-            max: Some(max),
-            greedy: true,
-            sub: Box::new(alloc, hir)?,
-        });
+/// What is searched. Each engine finds a match that ends at its end.
+const TEXT: &[u8] = b"xab";
+
+/// Which call builds an engine.
+#[derive(Clone, Copy)]
+enum Call {
+    New,
+    NewMany,
+    Build,
+    BuildMany,
+    BuildFromHir,
+    BuildManyFromHir,
+}
+
+const CALLS: [Call; 6] = [
+    Call::New,
+    Call::NewMany,
+    Call::Build,
+    Call::BuildMany,
+    Call::BuildFromHir,
+    Call::BuildManyFromHir,
+];
+
+/// Where a match ends.
+fn end_of(found: Option<Match>) -> Option<usize> {
+    Some(found?.end())
+}
+
+/// The regex that the call builds, of the tree if it takes one.
+fn regex(alloc: Global, call: Call, tree: &Hir) -> Result<meta::Regex, BuildError> {
+    match call {
+        Call::New => meta::Regex::new(alloc, PATTERNS[1]),
+        Call::NewMany => meta::Regex::new_many(alloc, &PATTERNS),
+        Call::Build => meta::Builder::build(&meta::Regex::builder(), alloc, PATTERNS[1]),
+        Call::BuildMany => meta::Builder::build_many(&meta::Regex::builder(), alloc, &PATTERNS),
+        Call::BuildFromHir => meta::Builder::build_from_hir(&meta::Regex::builder(), alloc, tree),
+        Call::BuildManyFromHir => {
+            meta::Builder::build_many_from_hir(&meta::Regex::builder(), alloc, from_ref(tree))
+        }
     }
-    Ok(hir)
 }
 
-/// The group of that number around `a`, named `n`.
-fn group(alloc: Global, index: usize) -> Result<Hir, AllocError> {
-    Ok(Hir::capture(Capture {
-        index,
-        name: Some(String::from_str(alloc, "n")?),
-        sub: Box::new(alloc, Hir::literal(alloc, b"a")?)?,
-    }))
-}
-
-/// `a{n}` alone weighs 3n + 7. What is refused here for its places is refused before any memory is taken for them.
-#[test]
-fn limits_on_the_size(rt: HostRuntime) -> Result<(), Fail> {
-    let alloc = rt.alloc();
-    let heavy = Err(BuildError::PlaceLimit);
-    for (text, limit, want) in [
-        ("(?:a{1000}){1000}", None, Ok(())),
-        ("a{715827879}", None, Ok(())),
-        ("a{715827879}", Some(32 * 2_147_483_644), Ok(())),
-        ("a{715827880}", None, heavy),
-        ("a{715827880}", Some(32 * 2_147_483_647), heavy),
-    ] {
-        let hir = rc_parser::parse(alloc, text, &Config::new())?;
-        assert!(rt; check(alloc, &[hir], limit) == want, "{text}");
-    }
-    let heaviest = [nested(alloc, 1000, u32::MAX, u32::MAX)?];
-    for limit in [DEFAULT, usize::MAX] {
-        let refusal = BuildError::SizeLimit { limit };
-        assert!(rt; check(alloc, &heaviest, Some(limit)) == Err(refusal));
-    }
-    assert!(rt; check(alloc, &heaviest, None) == heavy);
-    Ok(())
-}
-
-/// `a{46}` alone weighs 145, which is 4640 bytes.
-#[test]
-fn sizes_beside_a_limit(rt: HostRuntime) -> Result<(), Fail> {
-    let alloc = rt.alloc();
-    let hirs = [rc_parser::parse(alloc, "a{46}", &Config::new())?];
-    assert!(rt; explain_size(alloc, &hirs, None)?.is_none());
-    assert!(rt; explain_size(alloc, &hirs, Some(4640))?.is_none());
-    let (weight, limit) = (145, 4639);
-    let oversize = Oversize { weight, limit };
-    assert!(rt; explain_size(alloc, &hirs, Some(limit))? == Some(oversize));
-    let line = format!(in alloc; "{oversize}")?;
-    let want =
-        "the patterns take 4640 bytes, 32 for each of their weight of 145, more than the limit of 4639";
-    assert!(rt; line.as_str() == want);
-    Ok(())
-}
-
-/// Behind a letter: a group numbered 2 alone, two groups of one name, bounds that are turned round, and one level too many.
-#[test]
-fn ill_formed_patterns(rt: HostRuntime) -> Result<(), Fail> {
-    let alloc = rt.alloc();
-    let pattern = PatternID::new(1).ok_or("no number")?;
-    let refusal = BuildError::IllFormed { pattern };
-    let two = two_of_a_name(alloc)?;
-    assert!(rt; is_refused_behind_a_letter(alloc, two, refusal)?);
-    let late = group(alloc, 2)?;
-    assert!(rt; is_refused_behind_a_letter(alloc, late, refusal)?);
-    for (depth, min, max) in [(1, 3, 2), (1024, 1, 1)] {
-        let hir = nested(alloc, depth, min, max)?;
-        assert!(rt; is_refused_behind_a_letter(alloc, hir, refusal)?, "{depth}");
-    }
-    Ok(())
-}
-
-/// Two groups of one name, one behind the other.
-fn two_of_a_name(alloc: Global) -> Result<Hir, AllocError> {
-    let groups = vec![in alloc; group(alloc, 1)?, group(alloc, 2)?]?;
-    Hir::concat(alloc, groups)
-}
-
-/// Whether the pattern is refused behind a letter, by a check and by a build.
-fn is_refused_behind_a_letter(
+/// Where the match of a regex in the text ends, and that of its copy.
+fn ends_by_regex(
     alloc: Global,
-    hir: Hir,
-    refusal: BuildError,
-) -> Result<bool, AllocError> {
-    let hirs = [Hir::literal(alloc, b"a")?, hir];
-    let checked = check(alloc, &hirs, Some(0));
-    let built = Regex::builder().build_many_from_hir(alloc, &hirs);
-    drop(hirs);
-    Ok(checked == Err(refusal) && built.err() == Some(refusal))
+    built: Result<meta::Regex, BuildError>,
+) -> Result<(Option<usize>, Option<usize>), BuildError> {
+    let regex = built?;
+    let found = meta::Regex::find(&regex, alloc, Input::new(TEXT));
+    let copy = meta::Regex::try_clone(&regex, alloc);
+    drop(regex);
+    let again = end_by_copy(alloc, copy);
+    Ok((end_of(found?), again?))
+}
+
+/// Where the match of a copy of a regex in the text ends.
+fn end_by_copy(
+    alloc: Global,
+    copy: Result<meta::Regex, AllocError>,
+) -> Result<Option<usize>, AllocError> {
+    let regex = copy?;
+    let found = meta::Regex::search(&regex, alloc, Input::new(TEXT));
+    drop(regex);
+    Ok(end_of(found?))
 }
 
 #[test]
-fn a_regex_nested_to_the_limit(rt: HostRuntime) -> Result<(), Fail> {
+fn regexes(rt: HostRuntime) -> Result<(), Fail> {
     let alloc = rt.alloc();
-    let hir = nested(alloc, 1023, 1, 1)?;
-    let built = Regex::builder().build_from_hir(alloc, &hir);
-    drop(hir);
-    let regex = built?;
-    let end = end_of(alloc, &regex, b"a");
-    drop(regex);
-    assert!(rt; end? == Some(1));
+    for call in CALLS {
+        let tree = deep_tree(alloc)?;
+        let built = regex(alloc, call, &tree);
+        drop(tree);
+        assert!(rt; ends_by_regex(alloc, built)? == (Some(3), Some(3)));
+    }
     Ok(())
 }
 
-#[test]
-fn a_vm_nested_to_the_limit(rt: HostRuntime) -> Result<(), Fail> {
-    let alloc = rt.alloc();
-    let hir = nested(alloc, 1023, 1, 1)?;
-    let built = PikeVM::builder().build_many_from_hir(alloc, std::slice::from_ref(&hir));
-    drop(hir);
+/// The `PikeVM` that the call builds.
+fn vm(alloc: Global, call: Call, tree: &Hir) -> Result<PikeVM, BuildError> {
+    match call {
+        Call::New => PikeVM::new(alloc, PATTERNS[1]),
+        Call::NewMany => PikeVM::new_many(alloc, &PATTERNS),
+        Call::Build => pikevm::Builder::build(&PikeVM::builder(), alloc, PATTERNS[1]),
+        Call::BuildMany => pikevm::Builder::build_many(&PikeVM::builder(), alloc, &PATTERNS),
+        Call::BuildFromHir | Call::BuildManyFromHir => {
+            pikevm::Builder::build_many_from_hir(&PikeVM::builder(), alloc, from_ref(tree))
+        }
+    }
+}
+
+/// Where the match of a `PikeVM` in the text ends.
+fn end_by_vm(
+    alloc: Global,
+    built: Result<PikeVM, BuildError>,
+) -> Result<Option<usize>, BuildError> {
     let vm = built?;
-    let matches = matches(alloc, &vm, b"a");
+    let end = end_in_captures(alloc, &vm);
     drop(vm);
-    assert!(rt; matches?);
+    Ok(end?)
+}
+
+/// Where the match in the captures of a `PikeVM` ends, after a search of the text in a cache that was reset.
+fn end_in_captures(alloc: Global, vm: &PikeVM) -> Result<Option<usize>, AllocError> {
+    let mut cache = pikevm::Cache::new(alloc, vm)?;
+    let reset = pikevm::Cache::reset(&mut cache, vm);
+    let mut captures = PikeVM::create_captures(vm, alloc)?;
+    pikevm::search(vm, &mut cache, &mut Input::new(TEXT), &mut captures);
+    let found = captures.get_match();
+    drop(captures);
+    drop(cache);
+    reset?;
+    Ok(end_of(found))
+}
+
+#[test]
+fn vms(rt: HostRuntime) -> Result<(), Fail> {
+    let alloc = rt.alloc();
+    for call in CALLS {
+        let tree = deep_tree(alloc)?;
+        let built = vm(alloc, call, &tree);
+        drop(tree);
+        assert!(rt; end_by_vm(alloc, built)? == Some(3));
+    }
+    Ok(())
+}
+
+/// The DFA that the call builds.
+fn tables(alloc: Global, call: Call, tree: &Hir) -> Result<dfa::Regex, BuildError> {
+    match call {
+        Call::New => dfa::Regex::new(alloc, PATTERNS[1]),
+        Call::NewMany => dfa::Regex::new_many(alloc, &PATTERNS),
+        Call::Build => dfa::Builder::build(&dfa::Regex::builder(), alloc, PATTERNS[1]),
+        Call::BuildMany => dfa::Builder::build_many(&dfa::Regex::builder(), alloc, &PATTERNS),
+        Call::BuildFromHir | Call::BuildManyFromHir => {
+            dfa::Builder::build_many_from_hir(&dfa::Regex::builder(), alloc, from_ref(tree))
+        }
+    }
+}
+
+/// Where the match of a DFA in the text ends.
+fn end_by_tables(built: Result<dfa::Regex, BuildError>) -> Result<Option<usize>, BuildError> {
+    let tables = built?;
+    let found = dfa::try_search(&tables, &mut Input::new(TEXT));
+    drop(tables);
+    Ok(end_of(found.unwrap_or(None)))
+}
+
+#[test]
+fn dfas(rt: HostRuntime) -> Result<(), Fail> {
+    let alloc = rt.alloc();
+    for call in CALLS {
+        let tree = deep_tree(alloc)?;
+        let built = tables(alloc, call, &tree);
+        drop(tree);
+        assert!(rt; end_by_tables(built)? == Some(3));
+    }
+    Ok(())
+}
+
+/// The hybrid that the call builds.
+fn states(alloc: Global, call: Call, tree: &Hir) -> Result<hybrid::Regex, BuildError> {
+    match call {
+        Call::New => hybrid::Regex::new(alloc, PATTERNS[1]),
+        Call::NewMany => hybrid::Regex::new_many(alloc, &PATTERNS),
+        Call::Build => hybrid::Builder::build(&hybrid::Regex::builder(), alloc, PATTERNS[1]),
+        Call::BuildMany => hybrid::Builder::build_many(&hybrid::Regex::builder(), alloc, &PATTERNS),
+        Call::BuildFromHir | Call::BuildManyFromHir => {
+            hybrid::Builder::build_many_from_hir(&hybrid::Regex::builder(), alloc, from_ref(tree))
+        }
+    }
+}
+
+/// Where the match of a hybrid in the text ends.
+fn end_by_states(
+    alloc: Global,
+    built: Result<hybrid::Regex, BuildError>,
+) -> Result<Option<usize>, BuildError> {
+    let states = built?;
+    let end = end_in_cache(alloc, &states);
+    drop(states);
+    Ok(end?)
+}
+
+/// Where the match of a hybrid in the text ends, in a cache of its own.
+fn end_in_cache(alloc: Global, states: &hybrid::Regex) -> Result<Option<usize>, AllocError> {
+    let mut cache = hybrid::Cache::new(alloc, states)?;
+    let found = hybrid::try_search(states, &mut cache, &mut Input::new(TEXT));
+    drop(cache);
+    Ok(end_of(found.unwrap_or(None)))
+}
+
+#[test]
+fn hybrids(rt: HostRuntime) -> Result<(), Fail> {
+    let alloc = rt.alloc();
+    for call in CALLS {
+        let tree = deep_tree(alloc)?;
+        let built = states(alloc, call, &tree);
+        drop(tree);
+        assert!(rt; end_by_states(alloc, built)? == Some(3));
+    }
+    Ok(())
+}
+
+/// Whether the tree is refused behind a letter, as ill-formed.
+fn is_ill_formed(alloc: Global, tree: Result<Hir, AllocError>) -> Result<bool, AllocError> {
+    let pattern = PatternID::new(1);
+    let trees = [Hir::literal(alloc, b"a")?, tree?];
+    let checked = check(alloc, &trees, Some(0));
+    drop(trees);
+    Ok(match checked {
+        Err(BuildError::IllFormed { pattern: told }) => Some(told) == pattern,
+        _ => false,
+    })
+}
+
+/// A group numbered 2 alone, two groups of one name, bounds that are turned round, and one level too many.
+#[test]
+fn ill_formed_trees(rt: HostRuntime) -> Result<(), Fail> {
+    let alloc = rt.alloc();
+    assert!(rt; is_ill_formed(alloc, group(alloc, 2))?);
+    assert!(rt; is_ill_formed(alloc, two_of_a_name(alloc))?);
+    assert!(rt; is_ill_formed(alloc, nested(alloc, 1, 3, 2))?);
+    assert!(rt; is_ill_formed(alloc, nested(alloc, 1024, 1, 1))?);
     Ok(())
 }

@@ -1,6 +1,6 @@
 //! What is said of texts that are no patterns.
 
-use regex_cursor::syntax::{Config, Explained, explain};
+use regex_cursor::syntax::{Config, Error, Explained, explain, parse};
 use std::alloc::Global;
 use std::fmt::Write;
 use std::process::Abort;
@@ -167,11 +167,11 @@ fn faults_are_explained(rt: HostRuntime) -> Result<(), Fail> {
         ),
         (
             plain.nest_limit(0),
-            "ab→patterns nest too deeply 0..2\na*→patterns nest too deeply 0..2\nx[a]→patterns nest too deeply 0..4",
+            "a→none\nab→patterns nest too deeply 0..2\na*→patterns nest too deeply 0..2\nx[a]→patterns nest too deeply 0..4",
         ),
         (
             plain.nest_limit(1),
-            "(ab)→patterns nest too deeply 0..4\nab|c→patterns nest too deeply 0..4\nx(?:a*)→patterns nest too deeply 1..7",
+            "ab→none\n[a]→none\n(ab)→patterns nest too deeply 0..4\nab|c→patterns nest too deeply 0..4\nx(?:a*)→patterns nest too deeply 1..7",
         ),
     ] {
         are_explained(&rt, rt.alloc(), &config, rows)?;
@@ -188,4 +188,19 @@ fn faults_are_explained(rt: HostRuntime) -> Result<(), Fail> {
         "a\n\t(b\nc",
         "unclosed group in line 2:\n    \t(b\n    \t^",
     )
+}
+
+/// Where a text is found not to be a pattern: at a byte, or at its end.
+fn place_of(alloc: Global, text: &str) -> Option<usize> {
+    match parse(alloc, text, &Config::new()) {
+        Ok(_) | Err(Error::Memory) => None,
+        Err(Error::Syntax { at }) => Some(at),
+    }
+}
+
+#[test]
+fn places_of_faults(rt: HostRuntime) {
+    for (text, at) in [("é)", 2), ("(a", 2), ("*", 0)] {
+        assert!(rt; place_of(rt.alloc(), text) == Some(at), "{text}");
+    }
 }

@@ -4,13 +4,9 @@
 #[cfg(test)]
 mod builds;
 #[cfg(test)]
-mod calls;
+mod chunks;
 #[cfg(test)]
 mod faults;
-#[cfg(test)]
-mod grammar;
-#[cfg(test)]
-mod lent;
 #[cfg(test)]
 mod moves;
 #[cfg(test)]
@@ -18,14 +14,16 @@ mod paged;
 #[cfg(test)]
 mod programs;
 #[cfg(test)]
-mod refusals;
-#[cfg(test)]
 mod replaces;
 #[cfg(test)]
 mod searchers;
 #[cfg(test)]
-mod shown;
+mod searches;
 #[cfg(test)]
-mod which;
+mod states;
+#[cfg(test)]
+mod trees;
+#[cfg(test)]
+mod values;
 #[cfg(test)]
 mod words;

@@ -1,197 +1,152 @@
 //! How far searches go: how often they ask a cursor for another chunk.
-ghost use Rattle.std.specs.Prelude.{◌≡◌, ◌+◌, ◌<◌, ◌≤◌, ◌^◌, length};
 
-use rc_text::cursor::Cursor;
-use rc_text::input::Input;
-use regex_cursor::engines::meta::{BuildError, Regex};
+use regex_cursor::cursor::ChunkCursor;
+use regex_cursor::engines::meta::Regex;
+use regex_cursor::types::Match;
+use regex_cursor::{Cursor, Input};
 use std::alloc::{AllocError, Global};
 use std::test::Fail;
 
-/// The greatest length of a chunk, in bytes.
-const CHUNK_LEN: usize = 64;
+/// What the chunks of a long text hold, all but the first or the last.
+const CHUNK: &[u8] = &[b'x'; 64];
 
-/// How many times `x` stands in the long texts.
-const LONG: usize = 16_777_216;
+/// How many such chunks there are: 16 MiB.
+const LONG: usize = 262_144;
 
-/// A text in chunks of at most 64 bytes, and how often another chunk was asked for.
+/// How many bytes these have.
+const END: usize = 16_777_216;
+
+/// A cursor over a list of chunks, and how often it was asked for another one.
 #[derive(Drop)]
-struct Counted {
-    text: Vec<u8>,
-    start: usize,
-    end: usize,
+struct Counted<'a> {
+    chunks: ChunkCursor<'a>,
     moves: u64,
-    ghost small: { length text.items + 1 < 2 ^ 64 },
-    ghost ordered: { start ≤ end },
-    ghost within: { end ≤ length text.items },
-    ghost some: { start ≡ end → length text.items ≡ 0 },
 }
 
-impl Counted {
-    /// A cursor at the first chunk.
-    fn first(text: Vec<u8>) -> Counted
-        requires { length text.items + 1 < 2 ^ 64 }
-    {
-        let end = text.len().min(CHUNK_LEN);
-        Counted {
-            text,
-            start: 0,
-            end,
-            moves: 0,
-        }
-    }
+impl Cursor for Counted<'_> {
+    ghost content = { λ s. ⟦<ChunkCursor<'static> as Cursor>⟧.content s.chunks };
 
-    /// A cursor at the last chunk.
-    fn last(text: Vec<u8>) -> Counted
-        requires { length text.items + 1 < 2 ^ 64 }
-    {
-        let end = text.len();
-        let start = end.saturating_sub(CHUNK_LEN);
-        Counted {
-            text,
-            start,
-            end,
-            moves: 0,
-        }
-    }
-}
+    ghost chunk = { λ s. ⟦<ChunkCursor<'static> as Cursor>⟧.chunk s.chunks };
 
-impl Cursor for Counted {
-    ghost use Rattle.std.specs.Prelude.{◌-◌, length, take, drop, Some};
+    ghost offset = { λ s. ⟦<ChunkCursor<'static> as Cursor>⟧.offset s.chunks };
 
-    ghost content = { λ s. s.text.items };
-
-    ghost chunk = { λ s. take (s.end - s.start) (drop s.start s.text.items) };
-
-    ghost offset = { λ s. s.start };
-
-    ghost total = { λ s. Some (length s.text.items) };
+    ghost total = { λ s. ⟦<ChunkCursor<'static> as Cursor>⟧.total s.chunks };
 
     fn chunk(&self) -> &[u8] {
-        &self.text[self.start..self.end]
+        self.chunks.chunk()
     }
 
     fn advance(&mut self) -> bool {
         self.moves = self.moves.saturating_add(1);
-        let left = self.text.len() - self.end;
-        if left == 0 {
-            return false;
-        }
-        self.start = self.end;
-        self.end += left.min(CHUNK_LEN);
-        true
+        self.chunks.advance()
     }
 
     fn backtrack(&mut self) -> bool {
         self.moves = self.moves.saturating_add(1);
-        if self.start == 0 {
-            return false;
-        }
-        self.end = self.start;
-        self.start = self.start.saturating_sub(CHUNK_LEN);
-        true
+        self.chunks.backtrack()
     }
 
     fn total_bytes(&self) -> Option<usize> {
-        Some(self.text.len())
+        self.chunks.total_bytes()
     }
 
     fn offset(&self) -> usize {
-        self.start
+        self.chunks.offset()
     }
 }
 
-/// Whether the pattern has a match in the text from `start` on, and how often that search asked for another chunk.
+/// `first`, then so many chunks of `x`, then `last`.
+fn long_text<'a>(
+    alloc: Global,
+    first: &'a [u8],
+    count: usize,
+    last: &'a [u8],
+) -> Result<Vec<&'a [u8]>, AllocError> {
+    let mut chunks = vec![in alloc; CHUNK; count]?;
+    chunks.insert(0, first)?;
+    chunks.push(last)?;
+    Ok(chunks)
+}
+
+/// Whether there is a match in the text from `start` on, where it lies, and how often a search asked for another chunk at most.
 fn told(
     alloc: Global,
-    pattern: &str,
+    regex: &Regex,
     cursor: &mut Counted,
     start: usize,
-) -> Result<(bool, u64), BuildError> {
-    let regex = Regex::new(alloc, pattern)?;
-    let end = cursor.text.len();
-    let before = cursor.moves;
-    let input = Input::new(&mut *cursor).range(start.min(end), end);
-    let is_match = regex.is_match(alloc, input);
-    drop(regex);
-    Ok((is_match?, cursor.moves.saturating_sub(before)))
+) -> Result<(bool, Option<Match>, u64), AllocError> {
+    let first = cursor.moves;
+    let input = Input::new(&mut *cursor).range(start, usize::MAX);
+    let is_match = regex.is_match(alloc, input)?;
+    let second = cursor.moves;
+    let input = Input::new(&mut *cursor).range(start, usize::MAX);
+    let found = regex.find(alloc, input)?;
+    let last = cursor.moves;
+    let moves = second
+        .saturating_sub(first)
+        .max(last.saturating_sub(second));
+    Ok((is_match, found, moves))
 }
 
-/// Where the match of the pattern in the whole text starts and ends, and how often that search asked for another chunk.
-fn found(
+/// The same of a pattern, in chunks over which a cursor begins at this place.
+fn told_of(
     alloc: Global,
     pattern: &str,
-    cursor: &mut Counted,
-) -> Result<(Option<(usize, usize)>, u64), BuildError> {
+    chunks: &[&[u8]],
+    at: usize,
+    start: usize,
+) -> Result<(bool, Option<Match>, u64), Fail> {
+    let chunks = ChunkCursor::at(chunks, at)?;
+    let mut cursor = Counted { chunks, moves: 0 };
     let regex = Regex::new(alloc, pattern)?;
-    let end = cursor.text.len();
-    let before = cursor.moves;
-    let input = Input::new(&mut *cursor).range(0, end);
-    let found = regex.find(alloc, input);
+    let told = told(alloc, &regex, &mut cursor, start);
     drop(regex);
-    let span = found?.map(|it| (it.start(), it.end()));
-    Ok((span, cursor.moves.saturating_sub(before)))
+    Ok(told?)
 }
 
-/// `first`, then so many times `x`, then `last`.
-fn long_text(
-    alloc: Global,
-    first: &[u8],
-    count: usize,
-    last: &[u8],
-) -> Result<Vec<u8>, AllocError> {
-    let mut text = Vec::new(alloc);
-    text.extend_from_slice(first)?;
-    text.extend_from_slice(&vec![in alloc; b'x'; count]?)?;
-    text.extend_from_slice(last)?;
-    Ok(text)
-}
+/// A pattern, the first chunk, the number of long ones, and the last; where the cursor begins, and the span; where the match lies, and how
+/// often another chunk is asked for at least, and at most.
+type Row = (
+    &'static str,
+    (&'static [u8], usize, &'static [u8]),
+    (usize, usize),
+    Option<(usize, usize)>,
+    (u64, u64),
+);
 
-/// A search that has to read all of 1,025 chunks asks for each of them.
+/// A search that has to read all of 1,025 chunks asks for each of them. A pattern whose matches end where the text does is sought from
+/// there. That there is a match is known where the first one ends. Where the bounds leave no match, nothing is read.
 #[test]
-fn moves_are_counted(rt: HostRuntime) -> Result<(), Fail> {
-    let alloc = rt.alloc();
-    let mut cursor = Counted::first(long_text(alloc, b"", 65536, b"foo")?);
-    let (is_match, moves) = told(alloc, "foo", &mut cursor, 0)?;
-    assert!(rt; is_match && moves >= 1024, "{moves} moves");
-    Ok(())
-}
-
-/// A pattern whose matches end where the text does is sought from there, in a text of 16 MiB.
-#[test]
-fn ends_are_sought_from_the_end(rt: HostRuntime) -> Result<(), Fail> {
-    let alloc = rt.alloc();
-    let mut cursor = Counted::last(long_text(alloc, b"", LONG, b"foo")?);
-    let (is_match, moves) = told(alloc, "foo$", &mut cursor, 0)?;
-    assert!(rt; is_match && moves < 4, "{moves} moves");
-    let (found, moves) = found(alloc, "foo$", &mut cursor)?;
-    assert!(rt;
-        found == Some((LONG, LONG + 3)) && moves < 4,
-        "{moves} moves"
-    );
-    Ok(())
-}
-
-/// Whether there is a match is known where the first one ends.
-#[test]
-fn a_match_stops_where_it_is_known(rt: HostRuntime) -> Result<(), Fail> {
-    let alloc = rt.alloc();
-    let mut cursor = Counted::first(long_text(alloc, b"a", LONG, b"")?);
-    for pattern in ["a", "a+", "[a-c]"] {
-        let (is_match, moves) = told(alloc, pattern, &mut cursor, 0)?;
-        assert!(rt; is_match && moves < 2, "{moves} moves of {pattern}");
-    }
-    Ok(())
-}
-
-/// Where the bounds leave no match, nothing is read.
-#[test]
-fn bounds_that_leave_no_match(rt: HostRuntime) -> Result<(), Fail> {
-    let alloc = rt.alloc();
-    let text = long_text(alloc, b"", LONG, b"foo")?;
-    let mut cursor = Counted::last(text);
-    for start in [1, LONG] {
-        let (is_match, moves) = told(alloc, "^foo$", &mut cursor, start)?;
-        assert!(rt; !is_match && moves < 2, "{moves} moves from {start}");
+fn moves_of_searches(rt: HostRuntime) -> Result<(), Fail> {
+    let ended: (&[u8], usize, &[u8]) = (b"", LONG, b"foo");
+    let begun: (&[u8], usize, &[u8]) = (b"a", LONG, b"");
+    let rows: [Row; 7] = [
+        (
+            "foo",
+            (b"", 1024, b"foo"),
+            (0, 0),
+            Some((65536, 65539)),
+            (1024, 4096),
+        ),
+        ("foo$", ended, (END, 0), Some((END, END + 3)), (0, 8)),
+        ("a", begun, (0, 0), Some((0, 1)), (0, 1)),
+        ("a+", begun, (0, 0), Some((0, 1)), (0, 1)),
+        ("[a-c]", begun, (0, 0), Some((0, 1)), (0, 1)),
+        ("^foo$", ended, (END, 1), None, (0, 1)),
+        ("^foo$", ended, (END, END), None, (0, 1)),
+    ];
+    for (pattern, (first, count, last), (at, start), wanted, (least, most)) in rows {
+        let chunks = long_text(rt.alloc(), first, count, last)?;
+        let (is_match, found, moves) = told_of(rt.alloc(), pattern, &chunks, at, start)?;
+        let bounds = found.map(|found| (found.start(), found.end()));
+        assert!(rt;
+            bounds == wanted && is_match == wanted.is_some(),
+            "{pattern}"
+        );
+        assert!(rt;
+            least <= moves && moves <= most,
+            "{moves} moves of {pattern}"
+        );
     }
     Ok(())
 }
