@@ -25,11 +25,10 @@ use rc_settings::thompson;
 use rc_text::types::MatchKind;
 use std::alloc::Global;
 
-/// A list of patterns, built to tables of all the states that a search can reach, forwards and
-/// backwards.
+/// A DFA of a list of patterns, forwards and backwards.
 ///
-/// It holds the tables of both directions, so it may be searched by in either: it is the same value
-/// that `Regex::forward` and `Regex::reverse` lend.
+/// It holds the tables of both directions, so either search may use it: `Regex::forward` and
+/// `Regex::reverse` return the same value.
 #[derive(Drop)]
 pub struct DFA {
     pub(crate) hirs: Vec<Hir>,
@@ -46,14 +45,14 @@ impl DFA {
     ghost use Rattle.api_dfa.specs.Aims.{aim_for};
     ghost use Rattle.api_dfa.specs.Views.{dfa_patterns, sought, dfa_kind};
 
-    /// How many patterns it was built of.
+    /// The number of patterns that it was built of.
     pub fn pattern_len(&self) -> usize
         ensures { result ≡ length (dfa_patterns self.now) }
     {
         self.hirs.len()
     }
 
-    /// What its searches seek, with the earliest flag on or off.
+    /// The kind of match that its searches find, with the earliest flag on or off.
     pub(crate) fn aim(&self, earliest: bool) -> Aim
         ensures { result ≡ aim_for (sought self.now) (dfa_kind self.now) earliest }
     {
@@ -66,8 +65,8 @@ impl DFA {
     }
 }
 
-/// The tables of patterns by their program, for matches of this kind. What holds the states of each
-/// direction may weigh `limit` bytes.
+/// The DFA of patterns by their program, for matches of this kind. The states of each direction may
+/// take `limit` bytes.
 pub(crate) fn tables_of(
     alloc: Global,
     hirs: &[Hir],
@@ -94,7 +93,7 @@ pub(crate) fn tables_of(
     }
 }
 
-/// Why no tables were made within the limit.
+/// The error of a build whose states don't fit.
 fn refusal_of(error: TableError, limit: Option<usize>) -> BuildError
     ensures { result ≡ refusal_of error limit }
 {

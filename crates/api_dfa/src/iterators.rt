@@ -7,11 +7,12 @@ use rc_text::input::Input;
 use rc_text::types::{Match, MatchError};
 use std::iter::FusedIterator;
 
-/// The matches in an input, from left to right. Each is searched for when `next` is called, and
+/// An iterator over the matches in an input, from left to right. Each call of `next` searches, and
 /// takes no memory.
 ///
-/// A call keeps the `Regex`, and the input but for where its span starts. An error of a search is
-/// an item. After an error, and after the last match, it gives none, whatever its input becomes.
+/// A call keeps the `Regex`, and the input except for the start of its span. An error of a search
+/// is an item. After an error, and after the last match, it returns `None`, whatever the input
+/// becomes.
 #[derive(Drop)]
 pub struct FindMatches<'r, C: Cursor> {
     pub(crate) regex: &'r Regex,
@@ -28,14 +29,15 @@ impl<'r, C: Cursor> FindMatches<'r, C> {
     ghost use Rattle.api_dfa.specs.contracts.iterators.FindMatches.{the_row};
     ghost use Rattle.api_dfa.specs.Left.{find_input, find_regex, with_input};
 
-    /// What it searches by.
+    /// The regex that searches.
     pub fn regex(&self) -> &'r Regex
         ensures { result.now ≡ find_regex self.now }
     {
         self.regex
     }
 
-    /// The input. The next search is over what it then is; the iterator is otherwise as before.
+    /// The input. You may change it: the next search goes on in the changed input, and the iterator
+    /// is otherwise as before.
     pub fn input(&mut self) -> &mut Input<C>
         ensures* kept { sem 𝓛 (Lends
             (the_row (record { mir = named 0; lft = [] }) C.row C.Cursor)

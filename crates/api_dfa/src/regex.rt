@@ -5,8 +5,8 @@ use crate::dfa::DFA;
 use rc_settings::error::BuildError;
 use std::alloc::Global;
 
-/// A list of patterns, built for searches by tables of all the states that can be reached: forwards
-/// to where a match ends, and backwards to where it begins.
+/// A list of patterns, built for searches by a DFA: forwards to the end of a match, and backwards
+/// to its start.
 #[derive(Drop)]
 pub struct Regex {
     pub(crate) dfa: DFA,
@@ -24,8 +24,8 @@ impl Regex {
     ghost use Rattle.api_dfa.specs.Refusals.{IsDfaTextRefusal, no_limit_set};
     ghost use Rattle.api_dfa.specs.Views.{builder_settings, builder_program, builder_syntax, dfa_of, dfa_patterns, dfa_program, dfa_settings};
 
-    /// What is built of the pattern as which this text is read by the default settings. Nothing
-    /// else is set, so no limit is on the tables. The `Err`s are those of `new_many`.
+    /// Builds a `Regex` from the text of one pattern, with the default settings: no limit is on the
+    /// tables. The errors are those of `new_many`.
     pub fn new(alloc: Global, pattern: &str) -> Result<Regex, BuildError>
         ensures read { IfOk result (λ re. AllRead default_settings (pattern.now ∷ []) (dfa_patterns (dfa_of re))) }
         ensures settings { IfOk result (λ re. dfa_settings (dfa_of re) ≡ none_set) }
@@ -36,13 +36,13 @@ impl Regex {
         Regex::builder().build(alloc, pattern)
     }
 
-    /// What is built of the patterns as which these texts are read by the default settings, at most
-    /// 2,147,483,647. Nothing else is set, so no limit is on the tables.
+    /// Builds a `Regex` from the texts of several patterns, at most 2,147,483,647, with the default
+    /// settings: no limit is on the tables.
     ///
-    /// An `Err` is the first of these that applies: `Syntax`, with the least text from which no
-    /// pattern is read, and a byte of it; `IllFormed`, with the least pattern that isn't
-    /// well-formed; `PlaceLimit`, if the weight of the patterns is above 2,147,483,646. `Memory`
-    /// comes if memory was refused, or if no memory could hold the tables.
+    /// The error is the first of these that applies: `Syntax`, with the first text that doesn't
+    /// parse and a byte of it; `IllFormed`, with the first pattern that isn't well-formed;
+    /// `PlaceLimit`, if the weight of the patterns is above 2,147,483,646. `Memory` means out of
+    /// memory, or that no memory could hold the tables.
     pub fn new_many(alloc: Global, patterns: &[&str]) -> Result<Regex, BuildError>
         requires { length patterns.now ≤ most_patterns }
         ensures read { IfOk result (λ re. AllRead default_settings (texts_of patterns.now) (dfa_patterns (dfa_of re))) }
@@ -54,7 +54,7 @@ impl Regex {
         Regex::builder().build_many(alloc, patterns)
     }
 
-    /// A builder in which nothing is set. It reads text by the default settings.
+    /// Returns a builder with no setting set. It parses text by the default syntax settings.
     pub fn builder() -> Builder
         ensures settings { builder_settings result ≡ no_limit_set }
         ensures program { builder_program result ≡ unset }
@@ -63,21 +63,21 @@ impl Regex {
         Builder::new()
     }
 
-    /// How many patterns it was built of.
+    /// The number of patterns that it was built of.
     pub fn pattern_len(&self) -> usize
         ensures { result ≡ length (dfa_patterns (dfa_of self.now)) }
     {
         self.dfa.pattern_len()
     }
 
-    /// What finds where matches end.
+    /// The DFA that finds where matches end.
     pub fn forward(&self) -> &DFA
         ensures { result.now ≡ dfa_of self.now }
     {
         &self.dfa
     }
 
-    /// What finds where matches begin. It is the same value as `forward` lends.
+    /// The DFA that finds where matches begin: the same value that `forward` returns.
     pub fn reverse(&self) -> &DFA
         ensures { result.now ≡ dfa_of self.now }
     {

@@ -24,15 +24,15 @@ use rc_text::cursor::Cursor;
 use rc_text::input::{Input, advance_start};
 use rc_text::types::{HalfMatch, Match, MatchError};
 
-/// The match that a search of the input finds.
+/// Returns the match that a search of the input finds.
 ///
-/// Under `MatchKind::LeftmostFirst` it is the one that is preferred of the least start, and under
-/// `LeftmostLongest` the longest of the least start, of these the one that is preferred. Under
-/// `MatchKind::All` it is the one with the greatest end, then the least start, then the least
-/// pattern, and no match is passed over. With the input's earliest flag on it may be any match,
-/// unless matches are passed over.
+/// Under `MatchKind::LeftmostFirst` it is the preferred match of the least start. Under
+/// `LeftmostLongest` it is the longest of the least start, and of these the preferred one. Under
+/// `MatchKind::All` it is the one with the greatest end, then the least start, then the first
+/// pattern, and no match is rejected. With the earliest flag of the input on it may be any match,
+/// unless matches may be rejected.
 ///
-/// An `Err` is `Quit`: if an assertion of the patterns speaks of Unicode's words, the search
+/// An `Err` is always `Quit`: if an assertion of the patterns asks for Unicode words, the search
 /// doesn't go past a byte above 127.
 pub fn find<C: Cursor>(re: &Regex, input: &mut Input<C>) -> Result<Option<Match>, MatchError>
     ensures keeps { Keeps input.old input.new }
@@ -44,7 +44,7 @@ pub fn find<C: Cursor>(re: &Regex, input: &mut Input<C>) -> Result<Option<Match>
     find_by(&re.dfa, input, earliest)
 }
 
-/// As `find`.
+/// Returns the match that a search of the input finds, exactly as `find` does.
 pub fn try_search<C: Cursor>(re: &Regex, input: &mut Input<C>) -> Result<Option<Match>, MatchError>
     ensures keeps { Keeps input.old input.new }
     ensures found { IfOk result (IsAnswerBy (dfa_kind (dfa_of re.now)) input.old.earliest (search_for (sought (dfa_of re.now)) input.old)) }
@@ -54,10 +54,10 @@ pub fn try_search<C: Cursor>(re: &Regex, input: &mut Input<C>) -> Result<Option<
     find(re, input)
 }
 
-/// Where the match ends that a search of the input finds, in bytes of the whole content, and its
-/// pattern.
+/// Returns where the match ends that a search of the input finds, in bytes of the whole content,
+/// and its pattern.
 ///
-/// Under `MatchKind::All` the pattern is some pattern of which a match ends there. The `Err`s are
+/// Under `MatchKind::All` the pattern is some pattern of which a match ends there. The errors are
 /// those of `find`.
 pub fn try_search_fwd<C: Cursor>(
     dfa: &DFA,
@@ -73,11 +73,11 @@ pub fn try_search_fwd<C: Cursor>(
     spans::find_end(&dfa.tables, &mut cache, input, aim)
 }
 
-/// Where the longest match begins that ends where the input's bounds end, in bytes of the whole
-/// content, and the least pattern of which one does. With the input's earliest flag on it may be
-/// any such match, unless matches are passed over.
+/// Returns where the longest match begins that ends at the end of the input's bounds, in bytes of
+/// the whole content, and the first pattern with such a match. With the earliest flag of the input
+/// on it may be any such match, unless matches may be rejected.
 ///
-/// The `Err`s are those of `find`.
+/// The errors are those of `find`.
 pub fn try_search_rev<C: Cursor>(
     dfa: &DFA,
     input: &mut Input<C>,
@@ -92,12 +92,12 @@ pub fn try_search_rev<C: Cursor>(
     spans::find_start(&dfa.tables, &mut cache, input, aim)
 }
 
-/// The matches in the input, from left to right, whatever its earliest flag. An error is an item,
-/// and the last one.
+/// Returns an iterator over the matches in the input, from left to right, whatever its earliest
+/// flag. An error is an item, and the last one.
 ///
-/// Each is the match that `find` finds with the earliest flag off from where the one before ended,
-/// or from a byte later if that would be an empty one that ends there again. So under
-/// `MatchKind::All` the first is the one with the greatest end of all.
+/// Each search starts where the last match ended, and finds the match that `find` finds with the
+/// earliest flag off. If that match is empty and ends there again, the search begins a byte later.
+/// So under `MatchKind::All` the first match is the one with the greatest end of all.
 pub fn find_iter<'r, C: Cursor + Drop>(re: &'r Regex, input: Input<C>) -> FindMatches<'r, C>
     ensures left { find_left result ≡ matches_in (dfa_of re.now) input None }
     ensures leftmost { dfa_kind (dfa_of re.now) ≡ LeftmostFirst
@@ -114,7 +114,7 @@ pub fn find_iter<'r, C: Cursor + Drop>(re: &'r Regex, input: Input<C>) -> FindMa
     }
 }
 
-/// The match that a search of the input finds, with the earliest flag on or off, whatever the
+/// Returns the match that a search of the input finds with this earliest flag, whatever the
 /// input's.
 fn find_by<C: Cursor>(
     dfa: &DFA,
@@ -131,8 +131,8 @@ fn find_by<C: Cursor>(
     spans::find(&dfa.tables, &mut cache, input, aim)
 }
 
-/// The next match in the input, where the match before ended at `last`. The span then starts where
-/// that next match ends.
+/// Returns the next match in the input; the last one ended at `last`. The span then starts where
+/// the new match ends.
 pub(crate) fn next_match<C: Cursor>(
     dfa: &DFA,
     input: &mut Input<C>,
@@ -154,8 +154,8 @@ pub(crate) fn next_match<C: Cursor>(
     }
 }
 
-/// The match from where the input's span starts, or from a byte later if that is an empty one that
-/// ends at `last`. The span then starts where the match was looked for.
+/// Returns the match from the start of the input's span, or from a byte later if that is an empty
+/// one that ends at `last`. The span then starts where the search did.
 fn look_on<C: Cursor>(
     dfa: &DFA,
     input: &mut Input<C>,

@@ -20,12 +20,12 @@ use rc_settings::error::BuildError;
 use rc_settings::{states, thompson};
 use std::alloc::Global;
 
-/// The settings of searches by a lazy DFA, with how many bytes the states of each direction may
-/// weigh.
+/// The settings of a lazy DFA, with the capacity of its cache: the bytes that the states of each
+/// direction may take.
 pub type Config = states::Config<usize>;
 
-/// Builds a `Regex` under settings of its own: those of its tables and their searches, those of its
-/// program, and those by which text is read.
+/// A builder of lazy DFA regexes. It has the settings of the lazy DFA, of the program, and of the
+/// pattern syntax.
 #[derive(Drop)]
 pub struct Builder {
     config: Config,
@@ -34,7 +34,7 @@ pub struct Builder {
 }
 
 impl Builder {
-    /// A builder in which nothing is set. It reads text by the default settings.
+    /// Returns a builder with no setting set. It parses text by the default syntax settings.
     pub fn new() -> Builder
         ensures settings { builder_settings result ≡ no_capacity_set }
         ensures program { builder_program result ≡ unset }
@@ -47,7 +47,7 @@ impl Builder {
         }
     }
 
-    /// Takes each setting that `config` sets for the tables and their searches, keeps the others,
+    /// Takes each setting that `config` sets for the lazy DFA and its searches, keeps the others,
     /// and returns the builder.
     pub fn dfa(&mut self, config: Config) -> &mut Builder
         ensures same_reference { result.ghost_name ≡ self.entry.ghost_name }
@@ -71,7 +71,7 @@ impl Builder {
         self
     }
 
-    /// Reads text by these settings from now on, and returns the builder.
+    /// Sets the syntax settings by which text is parsed from now on, and returns the builder.
     pub fn syntax(&mut self, config: rc_parser::Config) -> &mut Builder
         ensures same_reference { result.ghost_name ≡ self.entry.ghost_name }
         ensures value { builder_syntax result.now ≡ syntax_of config }
@@ -82,8 +82,7 @@ impl Builder {
         self
     }
 
-    /// What is built of the pattern as which this text is read. The `Err`s are those of
-    /// `build_many`.
+    /// Builds a `Regex` from the text of one pattern. The errors are those of `build_many`.
     pub fn build(&self, alloc: Global, pattern: &str) -> Result<Regex, BuildError>
         ensures read { IfOk result (λ re. AllRead (builder_syntax self.now) (pattern.now ∷ []) (regex_patterns re)) }
         ensures settings { IfOk result (λ re. regex_settings re ≡ (builder_settings self.now).search) }
@@ -95,11 +94,11 @@ impl Builder {
         self.build_many(alloc, std::slice::from_ref(&pattern))
     }
 
-    /// What is built of the patterns as which these texts are read, at most 2,147,483,647.
+    /// Builds a `Regex` from the texts of several patterns, at most 2,147,483,647.
     ///
-    /// An `Err` is the first of these that applies: `Syntax`, with the least text from which no
-    /// pattern is read, and a byte of it; then those of `build_many_from_hir`. All texts are read
-    /// before any pattern is built. The builder stays as it was.
+    /// The error is the first of these that applies: `Syntax`, with the first text that doesn't
+    /// parse and a byte of it; then those of `build_many_from_hir`. All texts are parsed before any
+    /// pattern is built. The builder stays as it was.
     pub fn build_many(&self, alloc: Global, patterns: &[&str]) -> Result<Regex, BuildError>
         requires { length patterns.now ≤ most_patterns }
         ensures read { IfOk result (λ re. AllRead (builder_syntax self.now) (texts_of patterns.now) (regex_patterns re)) }
@@ -113,13 +112,13 @@ impl Builder {
         self.build_many_from_hir(alloc, &hirs)
     }
 
-    /// What is built of these patterns, at most 2,147,483,647.
+    /// Builds a `Regex` from these patterns, at most 2,147,483,647.
     ///
-    /// An `Err` is the first of these that applies: `IllFormed`, with the least pattern that isn't
-    /// well-formed; `SizeLimit`, if 32 times the weight of the patterns is above the limit on their
-    /// size; `PlaceLimit`, if the weight is above 2,147,483,646; `CacheTooSmall`, if the capacity
-    /// of a cache is below the least that serves, with both. `Memory` comes if memory was refused,
-    /// or if the least capacity overflows. The builder stays as it was.
+    /// The error is the first of these that applies: `IllFormed`, with the first pattern that isn't
+    /// well-formed; `SizeLimit`, if 32 times the weight of the patterns is above the size limit;
+    /// `PlaceLimit`, if the weight is above 2,147,483,646; `CacheTooSmall`, with the capacity and
+    /// the minimum, if the capacity is below the minimum. `Memory` means out of memory, or that the
+    /// minimum overflows. The builder stays as it was.
     pub fn build_many_from_hir(&self, alloc: Global, hirs: &[Hir]) -> Result<Regex, BuildError>
         requires { length hirs.now ≤ most_patterns }
         ensures patterns { IfOk result (λ re. regex_patterns re ≡ map meaning hirs.now) }

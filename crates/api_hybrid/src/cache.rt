@@ -4,8 +4,8 @@ use crate::regex::Regex;
 use rc_lazy_dfa::lazy;
 use std::alloc::{AllocError, Global};
 
-/// The states that searches by a `Regex` built so far, with what is known of their steps: a table
-/// for each direction.
+/// The states that searches by a `Regex` have built so far, with what is known of their
+/// transitions: a table for each direction.
 #[derive(Drop)]
 pub struct Cache {
     pub(crate) inner: lazy::Cache,
@@ -15,7 +15,8 @@ impl Cache {
     ghost use Rattle.std.specs.Prelude.{◌≡◌, IfErr, IfOk, min};
     ghost use Rattle.api_hybrid.specs.Caches.{IsCacheFor, IsFresh, capacity_of, clears_of, usage_of};
 
-    /// A cache for searches by this regex, with no states yet. An `Err` means out of memory.
+    /// Returns a cache for searches by this regex, with no states yet. An `Err` means out of
+    /// memory.
     pub fn new(alloc: Global, re: &Regex) -> Result<Cache, AllocError>
         ensures made { IfOk result (IsCacheFor re.now) }
         ensures fresh { IfOk result IsFresh }
@@ -25,7 +26,7 @@ impl Cache {
     }
 
     /// Makes this a cache for searches by another regex, with no states yet. An `Err` means out of
-    /// memory, and then the cache stays as it was.
+    /// memory, and leaves the cache as it was.
     pub fn reset(&mut self, re: &Regex) -> Result<(), AllocError>
         ensures made { IfOk result (λ _. IsCacheFor re.now self.new) }
         ensures fresh { IfOk result (λ _. IsFresh self.new) }
@@ -34,26 +35,28 @@ impl Cache {
         self.inner.reset(&re.lazy)
     }
 
-    /// How many bytes hold the states of both directions, or the greatest number if that is more.
+    /// The number of bytes that hold the states of both directions, or the greatest `usize` if it
+    /// is more.
     ///
-    /// For each direction that are 8 for each cell of a row and each start, and for each state 32
-    /// and 8 for each entry of its list: a place, or in tables that seek the longest match a mark
-    /// that parts the places of different starts. It is at most twice the capacity.
+    /// For each direction that is 8 for each cell of a row and each start. Each state takes 32, and
+    /// 8 for each entry of its list. An entry is an NFA state, or, in a search for the longest
+    /// match, a mark between the states of different starts. The number is at most twice the
+    /// capacity.
     pub fn memory_usage(&self) -> usize
         ensures { result ≡ min (usage_of self.now) usize.MAX }
     {
         self.inner.memory_usage()
     }
 
-    /// This many bytes may hold the states of each direction.
+    /// The number of bytes that the states of each direction may take.
     pub fn capacity(&self) -> usize
         ensures { result ≡ capacity_of self.now }
     {
         self.inner.capacity()
     }
 
-    /// How often all states of a direction were let go since the cache was made or reset: the
-    /// greater of the two counts. A count stays at the greatest number once there.
+    /// How often all states of a direction were dropped since the cache was made or reset: the
+    /// greater of the two counts. A count stays at the greatest `usize` once there.
     pub fn clear_count(&self) -> usize
         ensures { result ≡ clears_of self.now }
     {

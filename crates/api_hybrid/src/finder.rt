@@ -14,7 +14,7 @@ use rc_text::input::Input;
 use rc_text::types::{Match, MatchError};
 use std::marker::Model;
 
-/// A regex, with a lent cache that was made for it.
+/// A regex, with a borrowed cache that was made for it.
 #[derive(Drop)]
 pub(crate) struct Finder<'r, 'c> {
     pub(crate) regex: &'r Regex,
@@ -45,8 +45,8 @@ impl<'r, 'c> Finder<'r, 'c> {
         self.regex
     }
 
-    /// The next match in the input, where the match before ended at `last`. The span then starts
-    /// where that next match ends.
+    /// Returns the next match in the input; the last one ended at `last`. The span then starts
+    /// where the new match ends.
     pub(crate) fn next_match<C: Cursor>(
         &mut self,
         input: &mut Input<C>,

@@ -7,12 +7,12 @@ use rc_text::input::Input;
 use rc_text::types::{Match, MatchError};
 use std::iter::FusedIterator;
 
-/// The matches in an input, from left to right. Each is searched for when `next` is called, in the
-/// cache that is lent.
+/// An iterator over the matches in an input, from left to right. Each call of `next` searches, in a
+/// borrowed cache.
 ///
-/// A call keeps the `Regex`, and the input but for where its span starts. An error of a search is
-/// an item. After an error, and after the last match, it gives none, whatever its input becomes.
-/// The cache is always one that was made for the `Regex`.
+/// A call keeps the `Regex`, and the input except for the start of its span. An error of a search
+/// is an item. After an error, and after the last match, it returns `None`, whatever the input
+/// becomes. The cache is always one that was made for the `Regex`.
 #[derive(Drop)]
 pub struct FindMatches<'r, 'c, C: Cursor> {
     pub(crate) finder: Finder<'r, 'c>,
@@ -29,14 +29,15 @@ impl<'r, 'c, C: Cursor> FindMatches<'r, 'c, C> {
     ghost use Rattle.api_hybrid.specs.contracts.iterators.FindMatches.{the_row};
     ghost use Rattle.api_hybrid.specs.Left.{find_input, find_regex, with_input};
 
-    /// What it searches by.
+    /// The regex that searches.
     pub fn regex(&self) -> &'r Regex
         ensures { result.now ≡ find_regex self.now }
     {
         self.finder.regex()
     }
 
-    /// The input. The next search is over what it then is; the iterator is otherwise as before.
+    /// The input. You may change it: the next search goes on in the changed input, and the iterator
+    /// is otherwise as before.
     pub fn input(&mut self) -> &mut Input<C>
         ensures* kept { sem 𝓛 (Lends
             (the_row (record { mir = named 0; lft = [] }) (record { mir = named 1; lft = [] }) C.row C.Cursor)

@@ -22,8 +22,8 @@ use rc_settings::thompson;
 use rc_text::types::MatchKind;
 use std::alloc::Global;
 
-/// What searches for patterns are made of, by their program, for matches of this kind. The states
-/// of each direction may weigh `capacity` bytes.
+/// The lazy DFA of patterns by their program, for matches of this kind. The states of each
+/// direction may take `capacity` bytes.
 pub(crate) fn lazy_of(
     alloc: Global,
     hirs: &[Hir],
@@ -49,7 +49,7 @@ pub(crate) fn lazy_of(
     }
 }
 
-/// Why there are no searches within the capacity.
+/// The error of a build whose capacity is too small.
 fn refusal_of(error: LazyError) -> BuildError
     ensures { result ≡ refusal_of error }
 {

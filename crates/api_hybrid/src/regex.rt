@@ -18,8 +18,8 @@ use rc_settings::pikevm::Config;
 use rc_settings::thompson;
 use std::alloc::{AllocError, Global};
 
-/// A list of patterns, built for searches by a lazy DFA: forwards to where a match ends, and
-/// backwards to where it begins. The states are in a `Cache`.
+/// A list of patterns, built for searches by a lazy DFA: forwards to the end of a match, and
+/// backwards to its start. The states are in a `Cache`.
 #[derive(Drop)]
 pub struct Regex {
     pub(crate) hirs: Vec<Hir>,
@@ -44,9 +44,8 @@ impl Regex {
     ghost use Rattle.api_hybrid.specs.Refusals.{IsHybridTextRefusal, IsWithinCapacity, no_capacity_set};
     ghost use Rattle.api_hybrid.specs.Views.{builder_settings, builder_program, builder_syntax, least_of, regex_kind, regex_patterns, regex_program, regex_settings, sought};
 
-    /// What is built of the pattern as which this text is read by the default settings. Nothing
-    /// else is set, so the states of each direction may weigh 2,097,152 bytes. The `Err`s are those
-    /// of `new_many`.
+    /// Builds a `Regex` from the text of one pattern, with the default settings: the states of each
+    /// direction may take 2,097,152 bytes. The errors are those of `new_many`.
     pub fn new(alloc: Global, pattern: &str) -> Result<Regex, BuildError>
         ensures read { IfOk result (λ re. AllRead default_settings (pattern.now ∷ []) (regex_patterns re)) }
         ensures settings { IfOk result (λ re. regex_settings re ≡ none_set) }
@@ -58,15 +57,14 @@ impl Regex {
         Regex::builder().build(alloc, pattern)
     }
 
-    /// What is built of the patterns as which these texts are read by the default settings, at most
-    /// 2,147,483,647. Nothing else is set, so the states of each direction may weigh 2,097,152
-    /// bytes.
+    /// Builds a `Regex` from the texts of several patterns, at most 2,147,483,647, with the default
+    /// settings: the states of each direction may take 2,097,152 bytes.
     ///
-    /// An `Err` is the first of these that applies: `Syntax`, with the least text from which no
-    /// pattern is read, and a byte of it; `IllFormed`, with the least pattern that isn't
-    /// well-formed; `PlaceLimit`, if the weight of the patterns is above 2,147,483,646;
-    /// `CacheTooSmall`, if the least capacity that serves is more than 2,097,152. `Memory` comes if
-    /// memory was refused, or if the least capacity overflows.
+    /// The error is the first of these that applies: `Syntax`, with the first text that doesn't
+    /// parse and a byte of it; `IllFormed`, with the first pattern that isn't well-formed;
+    /// `PlaceLimit`, if the weight of the patterns is above 2,147,483,646; `CacheTooSmall`, if the
+    /// minimum capacity is more than 2,097,152. `Memory` means out of memory, or that the minimum
+    /// overflows.
     pub fn new_many(alloc: Global, patterns: &[&str]) -> Result<Regex, BuildError>
         requires { length patterns.now ≤ most_patterns }
         ensures read { IfOk result (λ re. AllRead default_settings (texts_of patterns.now) (regex_patterns re)) }
@@ -79,7 +77,7 @@ impl Regex {
         Regex::builder().build_many(alloc, patterns)
     }
 
-    /// A builder in which nothing is set. It reads text by the default settings.
+    /// Returns a builder with no setting set. It parses text by the default syntax settings.
     pub fn builder() -> Builder
         ensures settings { builder_settings result ≡ no_capacity_set }
         ensures program { builder_program result ≡ unset }
@@ -88,24 +86,25 @@ impl Regex {
         Builder::new()
     }
 
-    /// How many patterns it was built of.
+    /// The number of patterns that it was built of.
     pub fn pattern_len(&self) -> usize
         ensures { result ≡ length (regex_patterns self.now) }
     {
         self.hirs.len()
     }
 
-    /// The least capacity with which it is built, in bytes for each direction: what five states
-    /// weigh whose lists have as many entries as a list has at most. Those are as many as the
-    /// program has places, and twice as many in tables that seek the longest match, whose lists
-    /// have marks that part the places of different starts.
+    /// The minimum capacity, in bytes for each direction: the size of five states with the longest
+    /// list that a state may have. Such a list has as many entries as the program has states. In a
+    /// search for the longest match it has twice as many, because marks separate the states of
+    /// different starts.
     pub fn minimum_cache_capacity(&self) -> usize
         ensures { result ≡ least_of self.now }
     {
         self.lazy.minimum_capacity()
     }
 
-    /// A cache for searches by this regex, with no states yet. An `Err` means out of memory.
+    /// Returns a cache for searches by this regex, with no states yet. An `Err` means out of
+    /// memory.
     pub fn create_cache(&self, alloc: Global) -> Result<Cache, AllocError>
         ensures made { IfOk result (IsCacheFor self.now) }
         ensures fresh { IfOk result IsFresh }
@@ -113,7 +112,7 @@ impl Regex {
         Cache::new(alloc, self)
     }
 
-    /// What its searches seek, with the earliest flag on or off.
+    /// The kind of match that its searches find, with the earliest flag on or off.
     pub(crate) fn aim(&self, earliest: bool) -> Aim
         ensures { result ≡ aim_for (sought self.now) (regex_kind self.now) earliest }
     {

@@ -25,21 +25,21 @@ use rc_text::cursor::Cursor;
 use rc_text::input::{Input, advance_start};
 use rc_text::types::{HalfMatch, Match, MatchError};
 
-/// The match that a search of the input finds, in a cache that was made for this regex. The cache
-/// stays so, also after an `Err`.
+/// Returns the match that a search of the input finds, in a cache that was made for this regex. The
+/// cache stays so, also after an `Err`.
 ///
-/// Under `MatchKind::LeftmostFirst` it is the one that is preferred of the least start, and under
-/// `LeftmostLongest` the longest of the least start, of these the one that is preferred. Under
-/// `MatchKind::All` it is the one with the greatest end, then the least start, then the least
-/// pattern, and no match is passed over. With the input's earliest flag on it may be any match,
-/// unless matches are passed over.
+/// Under `MatchKind::LeftmostFirst` it is the preferred match of the least start. Under
+/// `LeftmostLongest` it is the longest of the least start, and of these the preferred one. Under
+/// `MatchKind::All` it is the one with the greatest end, then the least start, then the first
+/// pattern, and no match is rejected. With the earliest flag of the input on it may be any match,
+/// unless matches may be rejected.
 ///
-/// An `Err` is `Quit` if an assertion of the patterns speaks of Unicode's words: the search doesn't
-/// go past a byte above 127. It is `GaveUp` with `memory` if memory was refused, and without if the
-/// states of a direction were let go three times and would have to be again. A table is short only
-/// if what the cache held before, and the least capacity for each of (n + 4)² states, pass its
-/// capacity; n is how many bytes lie between the input's bounds. The offset of a `GaveUp` is one of
-/// theirs.
+/// An `Err` is `Quit` if an assertion of the patterns asks for Unicode words: the search doesn't go
+/// past a byte above 127. It is `GaveUp` with `memory` if the search ran out of memory, and without
+/// `memory` if it dropped the states of a direction three times and would have to drop them again.
+/// It drops states only if two sizes together pass the capacity of the cache: what the cache held
+/// before, and the minimum capacity for each of (n + 4)² states, where n is the number of bytes
+/// between the input's bounds. The offset of a `GaveUp` is within these bounds.
 pub fn find<C: Cursor>(
     re: &Regex,
     cache: &mut Cache,
@@ -57,7 +57,7 @@ pub fn find<C: Cursor>(
     find_by(re, cache, input, earliest)
 }
 
-/// As `find`.
+/// Returns the match that a search of the input finds, exactly as `find` does.
 pub fn try_search<C: Cursor>(
     re: &Regex,
     cache: &mut Cache,
@@ -74,11 +74,11 @@ pub fn try_search<C: Cursor>(
     find(re, cache, input)
 }
 
-/// Where the match ends that a search of the input finds, in bytes of the whole content, and its
-/// pattern.
+/// Returns where the match ends that a search of the input finds, in bytes of the whole content,
+/// and its pattern.
 ///
 /// Under `MatchKind::All` the pattern is some pattern of which a match ends there. The cache has to
-/// be made for this regex, and stays so. The `Err`s are those of `find`.
+/// be made for this regex, and stays so. The errors are those of `find`.
 pub fn try_search_fwd<C: Cursor>(
     re: &Regex,
     cache: &mut Cache,
@@ -96,11 +96,11 @@ pub fn try_search_fwd<C: Cursor>(
     spans::find_end(&re.lazy, &mut cache.inner, input, aim)
 }
 
-/// Where the longest match begins that ends where the input's bounds end, in bytes of the whole
-/// content, and the least pattern of which one does. With the input's earliest flag on it may be
-/// any such match, unless matches are passed over.
+/// Returns where the longest match begins that ends at the end of the input's bounds, in bytes of
+/// the whole content, and the first pattern with such a match. With the earliest flag of the input
+/// on it may be any such match, unless matches may be rejected.
 ///
-/// The cache has to be made for this regex, and stays so. The `Err`s are those of `find`.
+/// The cache has to be made for this regex, and stays so. The errors are those of `find`.
 pub fn try_search_rev<C: Cursor>(
     re: &Regex,
     cache: &mut Cache,
@@ -118,13 +118,13 @@ pub fn try_search_rev<C: Cursor>(
     spans::find_start(&re.lazy, &mut cache.inner, input, aim)
 }
 
-/// The matches in the input, from left to right, whatever its earliest flag. None is searched for
-/// before it is asked for. An error is an item, and the last one. The cache has to be made for this
-/// regex, and stays so, even if the iterator is dropped before its end.
+/// Returns an iterator over the matches in the input, from left to right, whatever its earliest
+/// flag. Nothing is searched ahead. An error is an item, and the last one. The cache has to be made
+/// for this regex, and stays so, even if you drop the iterator before its end.
 ///
-/// Each is the match that `find` finds with the earliest flag off from if the one before ended, or
-/// from a byte later if that would be an empty one that ends there again. So under `MatchKind::All`
-/// the first is the one with the greatest end of all.
+/// Each search starts where the last match ended, and finds the match that `find` finds with the
+/// earliest flag off. If that match is empty and ends there again, the search begins a byte later.
+/// So under `MatchKind::All` the first match is the one with the greatest end of all.
 pub fn find_iter<'r, 'c, C: Cursor + Drop>(
     re: &'r Regex,
     cache: &'c mut Cache,
@@ -149,7 +149,7 @@ pub fn find_iter<'r, 'c, C: Cursor + Drop>(
     }
 }
 
-/// The match that a search of the input finds, with the earliest flag on or off, whatever the
+/// Returns the match that a search of the input finds with this earliest flag, whatever the
 /// input's.
 fn find_by<C: Cursor>(
     re: &Regex,
@@ -170,8 +170,8 @@ fn find_by<C: Cursor>(
     spans::find(&re.lazy, &mut cache.inner, input, aim)
 }
 
-/// The next match in the input, where the match before ended at `last`. The span then starts where
-/// that next match ends.
+/// Returns the next match in the input; the last one ended at `last`. The span then starts where
+/// the new match ends.
 pub(crate) fn next_match<C: Cursor>(
     re: &Regex,
     cache: &mut Cache,
@@ -197,8 +197,8 @@ pub(crate) fn next_match<C: Cursor>(
     }
 }
 
-/// The match from where the input's span starts, or from a byte later if that is an empty one that
-/// ends at `last`. The span then starts where the match was looked for.
+/// Returns the match from the start of the input's span, or from a byte later if that is an empty
+/// one that ends at `last`. The span then starts where the search did.
 fn look_on<C: Cursor>(
     re: &Regex,
     cache: &mut Cache,

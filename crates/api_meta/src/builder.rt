@@ -35,8 +35,7 @@ use rc_strategy::engines::{Engines, Limits};
 use rc_strategy::spans::Spans;
 use std::alloc::{AllocError, Global};
 
-/// Makes regexes under settings of its own: those of the regex, and those by which its text is
-/// read.
+/// A builder of regexes. It has the settings of the regex, and the settings of the pattern syntax.
 #[derive(Drop)]
 pub struct Builder {
     config: Config,
@@ -44,7 +43,7 @@ pub struct Builder {
 }
 
 impl Builder {
-    /// A builder in which nothing is set. It reads text by the default settings.
+    /// Returns a builder with no setting set. It parses text by the default syntax settings.
     pub fn new() -> Builder
         ensures settings { builder_settings result ≡ unset }
         ensures syntax { builder_syntax result ≡ default_settings }
@@ -65,7 +64,7 @@ impl Builder {
         self
     }
 
-    /// Reads text by these settings from now on, and returns the builder.
+    /// Sets the syntax settings by which text is parsed from now on, and returns the builder.
     pub fn syntax(&mut self, config: rc_parser::Config) -> &mut Builder
         ensures same_reference { result.ghost_name ≡ self.entry.ghost_name }
         ensures value { builder_syntax result.now ≡ syntax_of config }
@@ -75,7 +74,7 @@ impl Builder {
         self
     }
 
-    /// The regex of the pattern as which this text is read. The `Err`s are those of `build_many`.
+    /// Builds a regex from the text of one pattern. The errors are those of `build_many`.
     pub fn build(&self, alloc: Global, pattern: &str) -> Result<Regex, BuildError>
         ensures read { IfOk result (λ r. AllRead (builder_syntax self.now) (pattern.now ∷ []) (regex_patterns r)) }
         ensures settings { IfOk result (λ r. regex_settings r ≡ builder_settings self.now) }
@@ -85,11 +84,11 @@ impl Builder {
         self.build_many(alloc, std::slice::from_ref(&pattern))
     }
 
-    /// The regex of the patterns as which these texts are read, at most 2,147,483,647.
+    /// Builds a regex from the texts of several patterns, at most 2,147,483,647.
     ///
-    /// An `Err` is the first of these that applies: `Syntax`, with the least text from which no
-    /// pattern is read, and a byte of it; then those of `build_many_from_hir`. All texts are read
-    /// before any pattern is built. The builder stays as it was.
+    /// The error is the first of these that applies: `Syntax`, with the first text that doesn't
+    /// parse and a byte of it; then those of `build_many_from_hir`. All texts are parsed before any
+    /// pattern is built. The builder stays as it was.
     pub fn build_many(&self, alloc: Global, patterns: &[&str]) -> Result<Regex, BuildError>
         requires { length patterns.now ≤ most_patterns }
         ensures read { IfOk result (λ r. AllRead (builder_syntax self.now) (texts_of patterns.now) (regex_patterns r)) }
@@ -101,7 +100,7 @@ impl Builder {
         self.build_many_from_hir(alloc, &hirs)
     }
 
-    /// The regex of one pattern. The `Err`s are those of `build_many_from_hir`.
+    /// Builds a regex from one pattern. The errors are those of `build_many_from_hir`.
     pub fn build_from_hir(&self, alloc: Global, hir: &Hir) -> Result<Regex, BuildError>
         ensures patterns { IfOk result (λ r. regex_patterns r ≡ meaning hir.now ∷ []) }
         ensures settings { IfOk result (λ r. regex_settings r ≡ builder_settings self.now) }
@@ -111,12 +110,12 @@ impl Builder {
         self.build_many_from_hir(alloc, std::slice::from_ref(hir))
     }
 
-    /// The regex of these patterns, at most 2,147,483,647.
+    /// Builds a regex from these patterns, at most 2,147,483,647.
     ///
-    /// An `Err` is the first of these that applies: `IllFormed`, with the least pattern that isn't
-    /// well-formed; `SizeLimit`, if 32 times the weight of the patterns is above the limit on their
-    /// size; `PlaceLimit`, if the weight is above 2,147,483,646. `Memory` comes if memory was
-    /// refused. The builder stays as it was.
+    /// The error is the first of these that applies: `IllFormed`, with the first pattern that isn't
+    /// well-formed; `SizeLimit`, if 32 times the weight of the patterns is above the size limit;
+    /// `PlaceLimit`, if the weight is above 2,147,483,646. `Memory` means out of memory. The
+    /// builder stays as it was.
     pub fn build_many_from_hir(&self, alloc: Global, hirs: &[Hir]) -> Result<Regex, BuildError>
         requires { length hirs.now ≤ most_patterns }
         ensures patterns { IfOk result (λ r. regex_patterns r ≡ map meaning hirs.now) }
@@ -128,7 +127,7 @@ impl Builder {
     }
 }
 
-/// The regex of these patterns under these settings.
+/// Builds a regex from these patterns under these settings.
 pub(crate) fn build(alloc: Global, config: &Config, hirs: &[Hir]) -> Result<Regex, BuildError>
     requires { length hirs.now ≤ most_patterns }
     ensures patterns { IfOk result (λ r. regex_patterns r ≡ map meaning hirs.now) }
@@ -155,7 +154,7 @@ pub(crate) fn build(alloc: Global, config: &Config, hirs: &[Hir]) -> Result<Rege
     })
 }
 
-/// The engines of these patterns under these settings, whose program `engine` searches.
+/// The engines of these patterns under these settings. `engine` searches their program.
 fn engines_of(
     alloc: Global,
     config: &Config,
@@ -183,8 +182,8 @@ fn engines_of(
     )
 }
 
-/// What each match holds, if searches go by that: needles are only taken from the patterns if the
-/// settings say so.
+/// The literals that each match contains, if searches use them. They are extracted from the
+/// patterns only if the settings say so.
 fn needs_of(alloc: Global, config: &Config, hirs: &[Hir]) -> Result<Option<Needs>, AllocError>
     ensures holds { IfOk result (λ found. IfSome found (λ n. (t : Text) → Holds t (map meaning hirs.now) (needles_of n.needles))) }
     ensures leaves { IfOk result (λ found. IfSome found (λ n. (t : Text) → LeavesOut t (map meaning hirs.now) n.stops.table)) }
@@ -195,8 +194,8 @@ fn needs_of(alloc: Global, config: &Config, hirs: &[Hir]) -> Result<Option<Needs
     needs::needs_of(alloc, hirs)
 }
 
-/// What the settings say of tables: each direction may take a quarter of the size of those of all
-/// states.
+/// The limits on DFAs that the settings give. Each direction of the full DFA may take a quarter of
+/// the size limit.
 fn limits_of(config: &Config) -> Limits
     ensures dfa { result.dfa ≡ dfa_of (settings_of config.now) }
     ensures hybrid { result.hybrid ≡ hybrid_of (settings_of config.now) }

@@ -4,7 +4,7 @@ use crate::regex::Regex;
 use rc_strategy::cache;
 use std::alloc::{AllocError, Global};
 
-/// What searches by a regex work in: all memory that they need, made once.
+/// The scratch memory of searches by a regex, allocated once.
 #[derive(Drop)]
 pub struct Cache {
     alloc: Global,
@@ -16,8 +16,8 @@ impl Cache {
     ghost use Rattle.api_meta.specs.Caches.{IsCacheFor};
     ghost use Rattle.api_meta.specs.Views.{regex_patterns, regex_settings};
 
-    /// A cache for searches by this regex, and by any of the same patterns under the same settings.
-    /// An `Err` means out of memory.
+    /// Returns a cache for searches by this regex, and by any regex of the same patterns under the
+    /// same settings. An `Err` means out of memory.
     pub fn new(alloc: Global, regex: &Regex) -> Result<Cache, AllocError>
         ensures { IfOk result (IsCacheFor (regex_patterns regex.now) (regex_settings regex.now)) }
     {
@@ -25,8 +25,8 @@ impl Cache {
         Ok(Cache { alloc, inner })
     }
 
-    /// Makes this a cache for searches by another regex. An `Err` means out of memory, and then the
-    /// cache stays as it was.
+    /// Makes this a cache for searches by another regex. An `Err` means out of memory, and leaves
+    /// the cache as it was.
     pub fn reset(&mut self, regex: &Regex) -> Result<(), AllocError>
         ensures made { OnOk result (IsCacheFor (regex_patterns regex.now) (regex_settings regex.now) self.new) }
         ensures refused { OnErr result (self.new ≡ self.old) }
@@ -35,8 +35,8 @@ impl Cache {
         Ok(())
     }
 
-    /// About how many bytes the cache has taken for its lists, and for the states that searches
-    /// found.
+    /// Roughly the number of bytes that the cache has allocated, for its lists and for the states
+    /// of the lazy DFA.
     pub fn memory_usage(&self) -> usize {
         self.inner.memory_usage()
     }

@@ -13,8 +13,8 @@ use rc_text::types::{HalfMatch, Match};
 use std::alloc::{AllocError, Global};
 use std::marker::Model;
 
-/// A regex that it borrows, and a cache that was made for that regex, so that its searches ask for
-/// nothing else. Contracts see it as the regex.
+/// A borrowed regex and a cache that was made for it, so that its searches need nothing else.
+/// Contracts see it as the regex.
 #[derive(Drop)]
 pub struct Finder<'r> {
     regex: &'r Regex,
@@ -54,7 +54,7 @@ impl<'r> Finder<'r> {
     ghost use Rattle.rc_text.specs.Text.{Keeps, high, low};
     ghost use Rattle.rc_text.specs.declared.types.MatchKind.TheVariants.{LeftmostFirst};
 
-    /// What searches by this regex, with a cache that is made for it. An `Err` means out of memory.
+    /// Returns a finder for this regex, with a cache of its own. An `Err` means out of memory.
     pub fn new(alloc: Global, regex: &'r Regex) -> Result<Finder<'r>, AllocError>
         ensures { IfOk result (λ f. f ≡ regex.now) }
     {
@@ -69,7 +69,8 @@ impl<'r> Finder<'r> {
         self.regex
     }
 
-    /// The match that a search of the input finds, as `Regex::find` says. It takes no memory.
+    /// Returns the match that a search of the input finds, as `Regex::find` does. It takes no
+    /// memory.
     pub fn find<C: Cursor>(&mut self, input: &mut Input<C>) -> Option<Match>
         ensures regex { self.new ≡ self.old }
         ensures keeps { Keeps input.old input.new }
@@ -85,7 +86,7 @@ impl<'r> Finder<'r> {
         self.regex.search_with(&mut self.cache, input)
     }
 
-    /// The pattern and the end of the match that `find` finds. It takes no memory.
+    /// Returns the pattern and the end of the match that `find` finds. It takes no memory.
     pub fn find_end<C: Cursor>(&mut self, input: &mut Input<C>) -> Option<HalfMatch>
         ensures regex { self.new ≡ self.old }
         ensures keeps { Keeps input.old input.new }
@@ -97,7 +98,7 @@ impl<'r> Finder<'r> {
         self.regex.search_half_with(&mut self.cache, input)
     }
 
-    /// Whether a search of the input finds a match. It takes no memory.
+    /// Returns whether a search of the input finds a match. It takes no memory.
     pub fn is_match<C: Cursor>(&mut self, input: &mut Input<C>) -> bool
         ensures regex { self.new ≡ self.old }
         ensures keeps { Keeps input.old input.new }
@@ -106,9 +107,9 @@ impl<'r> Finder<'r> {
         self.regex.is_match_with(&mut self.cache, input)
     }
 
-    /// The match that `find` finds with the earliest flag off, with its groups, in captures that
-    /// are made for it. Without a match they hold none. An `Err` means out of memory for them, and
-    /// then the input stays as it was.
+    /// Returns the match that `find` finds with the earliest flag off, with its groups, in captures
+    /// that are made for it. Without a match the captures are empty. An `Err` means out of memory
+    /// for the captures, and leaves the input as it was.
     pub fn captures<C: Cursor>(
         &mut self,
         alloc: Global,
@@ -132,8 +133,8 @@ impl<'r> Finder<'r> {
         Ok(caps)
     }
 
-    /// Puts into the set each pattern that has a match within the bounds of a search of the input,
-    /// as `Regex::which_patterns_with` says. It takes no memory.
+    /// Inserts into the set each pattern that has a match within the bounds of a search of the
+    /// input, as `Regex::which_patterns_with` does. It takes no memory.
     pub fn which_patterns<C: Cursor>(&mut self, input: &mut Input<C>, set: &mut PatternSet)
         ensures regex { self.new ≡ self.old }
         ensures keeps { Keeps input.old input.new }

@@ -12,48 +12,51 @@ use rc_text::types::{Match, Span};
 use std::alloc::AllocError;
 use std::iter::FusedIterator;
 
-/// The matches of a regex in an input, from left to right.
+/// An iterator over the matches of a regex in an input, from left to right.
 ///
-/// Each call of `next` searches, and takes no memory. It keeps the regex, and the input but for
-/// where its span starts. After the last match it gives None, whatever the input becomes.
+/// Each call of `next` searches, and takes no memory. It keeps the regex, and the input except for
+/// the start of its span. After the last match it returns `None`, whatever the input becomes.
 #[derive(Drop)]
 pub struct FindMatches<'r, C: Cursor> {
     pub(crate) seeker: Seeker<'r>,
     pub(crate) input: Input<C>,
 }
 
-/// The matches of a regex in an input, from left to right, each with its groups.
+/// An iterator over the matches of a regex in an input, from left to right, each with its groups.
 ///
-/// Each call of `next` searches, and takes the memory of one match's captures, and no other: it
-/// gives them with the match, or gives the memory back if none is left. It keeps the regex, and the
-/// input but for where its span starts. Want of memory is an item, if a match is left, after which
-/// None comes, whatever the input becomes; so it does after the last match.
+/// Each call of `next` searches. It allocates the captures of one match and nothing else: it
+/// returns them with the match, or frees them if no match is left. It keeps the regex, and the
+/// input except for the start of its span. If a match is left and there is no memory for its
+/// captures, an `Err` is the last item. After it, and after the last match, `next` returns `None`,
+/// whatever the input becomes.
 #[derive(Drop)]
 pub struct CapturesMatches<'r, C: Cursor> {
     pub(crate) seeker: GroupSeeker<'r>,
     pub(crate) input: Input<C>,
 }
 
-/// The pieces of a content between the matches of a regex, from left to right.
+/// An iterator over the pieces of a content between the matches of a regex, from left to right.
 ///
-/// Each call of `next` searches, and takes no memory. It keeps the regex, and the input but for
-/// where its span starts. After the last piece it gives None, whatever the input becomes.
+/// Each call of `next` searches, and takes no memory. It keeps the regex, and the input except for
+/// the start of its span. After the last piece it returns `None`, whatever the input becomes.
 #[derive(Drop)]
 pub struct Split<'r, C: Cursor> {
     pub(crate) pieces: Pieces<'r>,
     pub(crate) input: Input<C>,
 }
 
-/// The same, of which there are at most this many. Each call of `next` lowers that number by one.
+/// An iterator over the pieces of a content between the matches of a regex, up to a limit. Each
+/// call of `next` lowers the limit by one.
 #[derive(Drop)]
 pub struct SplitN<'r, C: Cursor> {
     pub(crate) pieces: Pieces<'r>,
     pub(crate) input: Input<C>,
-    /// How many more calls of `next` may give a piece.
+    /// The number of calls of `next` that may still return a piece.
     pub(crate) limit: usize,
 }
 
-/// What finds the pieces between the matches, one after another, in an input that it borrows.
+/// The state of a split: it returns the pieces between the matches one after another, in a borrowed
+/// input.
 #[derive(Drop)]
 pub(crate) struct Pieces<'r> {
     pub(crate) seeker: Seeker<'r>,
@@ -77,7 +80,7 @@ impl<'r, C: Cursor> FindMatches<'r, C> {
         self.seeker.regex
     }
 
-    /// The input. It may be changed: `next` then goes on in what it is, and the iterator is
+    /// The input. You may change it: `next` then goes on in the changed input, and the iterator is
     /// otherwise as before.
     pub fn input(&mut self) -> &mut Input<C>
         ensures* kept { sem 𝓛 (Lends (the_row (record { mir = named 1; lft = [] }) C.row C.Cursor)
@@ -93,7 +96,7 @@ impl<'r, C: Cursor + Drop> FindMatches<'r, C> {
     ghost use Rattle.std.specs.Prelude.{◌≡◌, length};
     ghost use Rattle.api_meta.specs.Left.{find_left};
 
-    /// How many matches are left. It takes no memory.
+    /// The number of matches that are left. It takes no memory.
     pub fn count(self) -> usize
         ensures { result ≡ length (find_left self.entry) }
     {
@@ -134,7 +137,7 @@ impl<'r, C: Cursor> CapturesMatches<'r, C> {
         self.seeker.seeker.regex
     }
 
-    /// The input. It may be changed: `next` then goes on in what it is, and the iterator is
+    /// The input. You may change it: `next` then goes on in the changed input, and the iterator is
     /// otherwise as before.
     pub fn input(&mut self) -> &mut Input<C>
         ensures* kept { sem 𝓛 (Lends (the_row (record { mir = named 1; lft = [] }) C.row C.Cursor)
@@ -150,7 +153,7 @@ impl<'r, C: Cursor + Drop> CapturesMatches<'r, C> {
     ghost use Rattle.std.specs.Prelude.{◌≡◌, length};
     ghost use Rattle.api_meta.specs.Left.{captures_left};
 
-    /// How many matches are left: as many items as `next` would give with no memory refused. It
+    /// The number of matches that are left: as many as `next` would return with enough memory. It
     /// makes no captures, and takes no memory.
     pub fn count(self) -> usize
         ensures { result ≡ length (captures_left self.entry) }
@@ -173,8 +176,8 @@ impl<'r, C: Cursor + Drop> Iterator for CapturesMatches<'r, C> {
 
     ghost remaining = { item_count captures_left };
 
-    /// The next match, with its groups. An `Err` means out of memory for them, and after it no item
-    /// comes.
+    /// Returns the next match, with its groups. An `Err` means out of memory for them; no item
+    /// comes after it.
     fn next(&mut self) -> Option<Result<Captures, AllocError>> {
         self.seeker.next(&mut self.input)
     }
@@ -187,7 +190,7 @@ impl<'r> Pieces<'r> {
     ghost use Rattle.rc_text.specs.Text.{high};
     ghost use Rattle.api_meta.specs.Left.{Goes, few_in, pieces_in};
 
-    /// The next piece.
+    /// Returns the next piece.
     pub(crate) fn next_piece<C: Cursor>(&mut self, input: &mut Input<C>) -> Option<Span>
         ensures steps { MatchOption result
             ((pieces_in self.old input.old ≡ []) × (pieces_in self.new input.new ≡ []))
@@ -212,7 +215,7 @@ impl<'r> Pieces<'r> {
         })
     }
 
-    /// All from the start of the next piece on, as the last piece.
+    /// Returns everything from the start of the next piece on, as the last piece.
     pub(crate) fn rest<C: Cursor>(&mut self, input: &mut Input<C>) -> Span
         ensures value { result ≡ record { start = self.old.start; end = high input.old } }
         ensures done { self.new.is_done ≡ true }
@@ -234,7 +237,7 @@ impl<'r, C: Cursor> Split<'r, C> {
     ghost use Rattle.api_meta.specs.contracts.iterators.Split.{the_row};
     ghost use Rattle.api_meta.specs.Left.{split_input, with_split_input};
 
-    /// The input. It may be changed: `next` then goes on in what it is, and the iterator is
+    /// The input. You may change it: `next` then goes on in the changed input, and the iterator is
     /// otherwise as before.
     pub fn input(&mut self) -> &mut Input<C>
         ensures* kept { sem 𝓛 (Lends (the_row (record { mir = named 1; lft = [] }) C.row C.Cursor)
@@ -272,7 +275,7 @@ impl<'r, C: Cursor> SplitN<'r, C> {
     ghost use Rattle.api_meta.specs.contracts.iterators.SplitN.{the_row};
     ghost use Rattle.api_meta.specs.Left.{SplitnKeeps, splitn_input, splitn_left, splitn_limit, with_splitn_input};
 
-    /// The input. It may be changed: `next` then goes on in what it is, and the iterator is
+    /// The input. You may change it: `next` then goes on in the changed input, and the iterator is
     /// otherwise as before.
     pub fn input(&mut self) -> &mut Input<C>
         ensures* kept { sem 𝓛 (Lends (the_row (record { mir = named 1; lft = [] }) C.row C.Cursor)
@@ -283,7 +286,7 @@ impl<'r, C: Cursor> SplitN<'r, C> {
         input
     }
 
-    /// The next piece. Each call lowers the limit.
+    /// Returns the next piece. Each call lowers the limit.
     pub fn next(&mut self) -> Option<Span>
         ensures steps { YieldsFirst splitn_left self.old result self.new }
         ensures limit { splitn_limit self.new ≡ splitn_limit self.old - 1 }
@@ -318,7 +321,7 @@ impl<'r, C: Cursor + Drop> Iterator for SplitN<'r, C> {
         SplitN::next(self)
     }
 
-    /// From none to the limit, less the calls of `next` so far.
+    /// From 0 to the limit, less the calls of `next` so far.
     fn size_hint(&self) -> (usize, Option<usize>)
         ensures lower { IsWithinCount result.0 (at_most (splitn_limit self.now)) }
         ensures upper { IfSome result.1 (UpTo (at_most (splitn_limit self.now))) }

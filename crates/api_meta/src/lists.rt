@@ -13,11 +13,12 @@ use rc_text::types::Match;
 use std::alloc::{AllocError, Global};
 use std::iter::FusedIterator;
 
-/// The matches of a regex in an input, from left to right, in a borrowed cache as the input is.
+/// An iterator over the matches of a regex in an input, from left to right. It borrows the input
+/// and a cache.
 ///
-/// Each call of `next` searches, and takes no memory. It keeps the regex, the cache, which stays
-/// one that was made for the regex, and the input but for where its span starts, which is where the
-/// match ended. After the last match it gives None.
+/// Each call of `next` searches, and takes no memory. It keeps the regex, and the cache stays one
+/// that was made for it. It keeps the input except for the start of its span, which becomes the end
+/// of the match. After the last match it returns `None`.
 #[derive(Drop)]
 pub struct FindMatchesWith<'r, 'c, 'i, C: Cursor> {
     pub(crate) regex: &'r Regex,
@@ -26,13 +27,13 @@ pub struct FindMatchesWith<'r, 'c, 'i, C: Cursor> {
     pub(crate) standing: Standing,
 }
 
-/// The matches of a regex in an input, from left to right, each with its groups, in a borrowed
-/// cache as the input is.
+/// An iterator over the matches of a regex in an input, from left to right, each with its groups.
+/// It borrows the input and a cache.
 ///
-/// Each call of `next` searches, and takes the memory of one match's captures, and no other: it
-/// gives them with the match, or gives the memory back if none is left. It keeps what a call of
-/// `FindMatchesWith` keeps. Want of memory is an item, if a match is left, after which None comes;
-/// so it does after the last match.
+/// Each call of `next` searches. It allocates the captures of one match and nothing else: it
+/// returns them with the match, or frees them if no match is left. It keeps what a call of
+/// `FindMatchesWith::next` keeps. If a match is left and there is no memory for its captures, an
+/// `Err` is the last item. After it, and after the last match, `next` returns `None`.
 #[derive(Drop)]
 pub struct CapturesMatchesWith<'r, 'c, 'i, C: Cursor> {
     pub(crate) regex: &'r Regex,
@@ -56,11 +57,11 @@ impl Regex {
     ghost use Rattle.rc_text.specs.Bounds.{IsWithinBounds};
     ghost use Rattle.rc_text.specs.declared.types.MatchKind.TheVariants.{All as greatest_matches, LeftmostFirst};
 
-    /// The matches of `find_iter`, in a cache that was made for this regex. Neither this call nor
-    /// an item takes memory.
+    /// Returns an iterator over the matches that `find_iter` finds, in a cache that was made for
+    /// this regex. Neither this call nor an item takes memory.
     ///
-    /// The cache stays one that was made for this regex, even if what goes over the matches is
-    /// dropped before the last one.
+    /// The cache stays one that was made for this regex, even if you drop the iterator before the
+    /// last match.
     pub fn find_iter_with<'r, 'c, 'i, C: Cursor>(
         &'r self,
         cache: &'c mut Cache,
@@ -93,12 +94,12 @@ impl Regex {
         }
     }
 
-    /// The matches of `captures_iter`, each with its groups, in a cache that was made for this
-    /// regex. This call takes no memory; an item takes the memory of its captures alone, and is an
-    /// `Err` if that is refused.
+    /// Returns an iterator over the matches that `captures_iter` finds, each with its groups, in a
+    /// cache that was made for this regex. This call takes no memory. An item takes only the memory
+    /// of its captures, and is an `Err` if there is none.
     ///
-    /// The cache stays one that was made for this regex, even if what goes over the matches is
-    /// dropped before the last one.
+    /// The cache stays one that was made for this regex, even if you drop the iterator before the
+    /// last match.
     pub fn captures_iter_with<'r, 'c, 'i, C: Cursor>(
         &'r self,
         alloc: Global,
@@ -195,8 +196,8 @@ impl<'r, 'c, 'i, C: Cursor> Iterator for CapturesMatchesWith<'r, 'c, 'i, C> {
 
     ghost remaining = { item_count captures_with_left };
 
-    /// The next match, with its groups. An `Err` means out of memory for them, and after it no item
-    /// comes.
+    /// Returns the next match, with its groups. An `Err` means out of memory for them; no item
+    /// comes after it.
     fn next(&mut self) -> Option<Result<Captures, AllocError>> {
         let cache = &mut self.cache.inner;
         let input = &mut *self.input;

@@ -34,7 +34,7 @@ use rc_text::types::{HalfMatch, Match, PatternID};
 use std::alloc::{AllocError, Global};
 use std::mem::size_of;
 
-/// A list of patterns, built.
+/// A regex: a list of patterns, built for searches.
 #[derive(Drop)]
 pub struct Regex {
     pub(crate) config: Config,
@@ -44,7 +44,7 @@ pub struct Regex {
     ghost fits: { Fits (program_settings (settings_of config)) (match_kind_of (settings_of config)) (map meaning hirs.items) engines.engine info },
     ghost planned: { ∥ IfSome engines.lazy (IsLazyFor (plan_by (map meaning hirs.items) (settings_of config))) ∥₁ },
     ghost well_formed: { ∥ All IsWellFormed (map meaning hirs.items) ∥₁ },
-    // no needles, if none are asked for
+    // No needles, if none are asked for.
     ghost unguarded: { auto_prefilter_of (settings_of config) ≡ false → prefilter_of (settings_of config) ≡ None → guarding engines.engine.strategy ≡ None },
 }
 
@@ -79,8 +79,8 @@ impl Regex {
     ghost use Rattle.api_meta.specs.Preferred.{HoldsPreferred};
     ghost use Rattle.api_meta.specs.Views.{builder_settings, builder_syntax, regex_kind, regex_patterns, regex_settings, regex_names, sought};
 
-    /// The regex of the pattern as which this text is read by the default settings. Nothing else is
-    /// set. The `Err`s are those of `new_many`.
+    /// Builds a regex from the text of one pattern, with the default settings. The errors are those
+    /// of `new_many`.
     pub fn new(alloc: Global, pattern: &str) -> Result<Regex, BuildError>
         ensures read { IfOk result (λ r. AllRead default_settings (pattern.now ∷ []) (regex_patterns r)) }
         ensures settings { IfOk result (λ r. regex_settings r ≡ unset) }
@@ -90,13 +90,13 @@ impl Regex {
         Regex::builder().build(alloc, pattern)
     }
 
-    /// The regex of the patterns as which these texts are read by the default settings, at most
-    /// 2,147,483,647. Nothing else is set.
+    /// Builds a regex from the texts of several patterns, at most 2,147,483,647, with the default
+    /// settings.
     ///
-    /// An `Err` is the first of these that applies: `Syntax`, with the least text from which no
-    /// pattern is read, and a byte of it; `IllFormed`, with the least pattern that isn't
-    /// well-formed; `SizeLimit`, if 32 times the weight of the patterns is above 10,485,760;
-    /// `PlaceLimit`, if the weight is above 2,147,483,646. `Memory` comes if memory was refused.
+    /// The error is the first of these that applies: `Syntax`, with the first text that doesn't
+    /// parse and a byte of it; `IllFormed`, with the first pattern that isn't well-formed;
+    /// `SizeLimit`, if 32 times the weight of the patterns is above 10,485,760; `PlaceLimit`, if
+    /// the weight is above 2,147,483,646. `Memory` means out of memory.
     pub fn new_many(alloc: Global, patterns: &[&str]) -> Result<Regex, BuildError>
         requires { length patterns.now ≤ most_patterns }
         ensures read { IfOk result (λ r. AllRead default_settings (texts_of patterns.now) (regex_patterns r)) }
@@ -107,7 +107,7 @@ impl Regex {
         Regex::builder().build_many(alloc, patterns)
     }
 
-    /// A builder in which nothing is set. It reads text by the default settings.
+    /// Returns a builder with no setting set. It parses text by the default syntax settings.
     pub fn builder() -> Builder
         ensures settings { builder_settings result ≡ unset }
         ensures syntax { builder_syntax result ≡ default_settings }
@@ -115,27 +115,26 @@ impl Regex {
         Builder::new()
     }
 
-    /// Settings of which none is set.
+    /// Returns settings with nothing set.
     pub fn config() -> Config
         ensures { settings_of result ≡ unset }
     {
         Config::new()
     }
 
-    /// The match that a search of the input finds. An `Err` means out of memory.
+    /// Returns the match that a search of the input finds. An `Err` means out of memory.
     ///
     /// Under `MatchKind::All` it is the match with the greatest end, of these the one with the
-    /// least start, and of these the one of the least pattern. Empty matches inside a character
-    /// aren't passed over then. Under `MatchKind::LeftmostLongest` it is, of the matches of the
-    /// least start, the longest.
+    /// least start, and of these the one of the first pattern. Empty matches inside a character
+    /// aren't rejected then. Under `MatchKind::LeftmostLongest` it is the longest of the matches
+    /// with the least start.
     ///
-    /// With the input's earliest flag on, unless matches are passed over, any span that a pattern
-    /// spells may be the answer, and there is one if there is one with the flag off. The search
-    /// then stops at the first position at which some match ends.
+    /// With the earliest flag of the input on, unless matches may be rejected, any span that a
+    /// pattern matches may be the result, and there is one if there is one with the flag off. The
+    /// search then stops at the first position at which some match ends.
     ///
-    /// The match depends on the uncut bytes of the content alone, however the cursor cuts them. If
-    /// `is_plain` is true, the match that is preferred is the least parse of the least start that
-    /// has one.
+    /// The match depends only on the uncut bytes of the content, however the cursor cuts them. If
+    /// `is_plain` is true, the preferred match is the least parse of the least start that has one.
     pub fn find<C: Cursor + Drop>(
         &self,
         alloc: Global,
@@ -153,7 +152,7 @@ impl Regex {
         early::search_once(&self.engines, alloc, &mut input)
     }
 
-    /// As `find`.
+    /// Returns the match that a search of the input finds, exactly as `find` does.
     pub fn search<C: Cursor + Drop>(
         &self,
         alloc: Global,
@@ -168,7 +167,8 @@ impl Regex {
         Ok(found)
     }
 
-    /// As `find`, in a cache that was made for this regex. It takes no memory.
+    /// Returns the match that `find` finds, in a cache that was made for this regex. It takes no
+    /// memory.
     pub fn search_with<C: Cursor>(&self, cache: &mut Cache, input: &mut Input<C>) -> Option<Match>
         requires made { IsCacheFor (regex_patterns self.now) (regex_settings self.now) cache.old }
         ensures cache { IsCacheFor (regex_patterns self.now) (regex_settings self.now) cache.new }
@@ -185,7 +185,8 @@ impl Regex {
         early::search(&self.engines, &mut cache.inner, input)
     }
 
-    /// The pattern and the end of the match that `find` finds. An `Err` means out of memory.
+    /// Returns the pattern and the end of the match that `find` finds. An `Err` means out of
+    /// memory.
     pub fn search_half<C: Cursor + Drop>(
         &self,
         alloc: Global,
@@ -199,7 +200,8 @@ impl Regex {
         early::search_end_once(&self.engines, alloc, &mut input)
     }
 
-    /// As `search_half`, in a cache that was made for this regex. It takes no memory.
+    /// Returns the pattern and the end of the match that `find` finds, in a cache that was made for
+    /// this regex. It takes no memory.
     pub fn search_half_with<C: Cursor>(
         &self,
         cache: &mut Cache,
@@ -216,9 +218,9 @@ impl Regex {
         early::search_end(&self.engines, &mut cache.inner, input)
     }
 
-    /// Whether a search of the input finds a match. An `Err` means out of memory.
+    /// Returns whether a search of the input finds a match. An `Err` means out of memory.
     ///
-    /// Under `MatchKind::All` empty matches inside a character aren't passed over.
+    /// Under `MatchKind::All` empty matches inside a character aren't rejected.
     pub fn is_match<C: Cursor + Drop>(
         &self,
         alloc: Global,
@@ -229,23 +231,23 @@ impl Regex {
         self.engines.is_match_once(alloc, &mut input)
     }
 
-    /// How many patterns there are.
+    /// The number of patterns.
     pub fn pattern_len(&self) -> usize
         ensures { result ≡ length (regex_patterns self.now) }
     {
         self.hirs.len()
     }
 
-    /// How many groups the patterns have: group 0 of each, and the explicit ones, whether they are
-    /// kept or not.
+    /// The number of groups of all patterns: group 0 of each, and the explicit ones, whether they
+    /// are kept or not.
     pub fn captures_len(&self) -> usize
         ensures { result ≡ length (regex_patterns self.now) + all_groups (regex_patterns self.now) }
     {
         self.pattern_len() + explicit_groups(&self.hirs)
     }
 
-    /// How many groups take part in each match, group 0 among them, if that is known to be one
-    /// number for all patterns. `None` if there is no pattern.
+    /// The number of groups that take part in each match, group 0 among them, if that is known to
+    /// be one number for all patterns. `None` if there is no pattern.
     pub fn static_captures_len(&self) -> Option<usize>
         ensures { result ≡ static_captures_len (regex_patterns self.now) }
     {
@@ -253,8 +255,8 @@ impl Regex {
         Some(explicit.saturating_add(1))
     }
 
-    /// Whether no pattern repeats what may be empty. Then the patterns alone tell which match is
-    /// preferred, and its groups. It takes no memory.
+    /// Whether no pattern repeats something that may be empty. If so, the patterns alone decide
+    /// which match is preferred, and its groups. It takes no memory.
     pub fn is_plain(&self) -> bool
         ensures { IsTrue result ↔ ArePlain (regex_patterns self.now) }
     {
@@ -280,20 +282,19 @@ impl Regex {
         &self.config
     }
 
-    /// A regex of the same patterns under the same settings. An `Err` means out of memory.
+    /// Returns a regex of the same patterns under the same settings. An `Err` means out of memory.
     pub fn try_clone(&self, alloc: Global) -> Result<Regex, AllocError>
         ensures patterns { IfOk result (λ r. regex_patterns r ≡ regex_patterns self.now) }
         ensures settings { IfOk result (λ r. regex_settings r ≡ regex_settings self.now) }
     {
         match build(alloc, &self.config, &self.hirs) {
             Ok(regex) => Ok(regex),
-            // The patterns were built before, so nothing else refuses them.
+            // The patterns were built before, so there is no other error.
             Err(_) => Err(AllocError),
         }
     }
 
-    /// Whether searches go by needles, and one for these goes by a needle or by at most three
-    /// bytes.
+    /// Whether searches use literals, and find candidates by one needle or by at most three bytes.
     pub fn is_accelerated(&self) -> bool
         ensures { auto_prefilter_of (regex_settings self.now) ≡ false → prefilter_of (regex_settings self.now) ≡ None
             → result ≡ false }
@@ -301,7 +302,7 @@ impl Regex {
         self.engines.engine.strategy.is_fast()
     }
 
-    /// About how many bytes the program, the groups, the needles and the tables of searches take.
+    /// Roughly the number of bytes that the program, the groups, the needles and the DFAs take.
     pub fn memory_usage(&self) -> usize {
         let places = self
             .engines
@@ -320,7 +321,7 @@ impl Regex {
             .saturating_add(self.engines.memory_usage())
     }
 
-    /// A cache for searches by this regex. An `Err` means out of memory.
+    /// Returns a cache for searches by this regex. An `Err` means out of memory.
     pub fn create_cache(&self, alloc: Global) -> Result<Cache, AllocError>
         ensures { IfOk result (IsCacheFor (regex_patterns self.now) (regex_settings self.now)) }
     {
@@ -335,8 +336,8 @@ impl Regex {
         self.engines.create_cache(alloc, self.info.slot_len())
     }
 
-    /// Captures that keep the groups of the patterns. They hold no match. An `Err` means out of
-    /// memory.
+    /// Returns captures that keep the groups of the patterns, and hold no match yet. An `Err` means
+    /// out of memory.
     pub fn create_captures(&self, alloc: Global) -> Result<Captures, AllocError>
         ensures made { IfOk result (IsCapturesFor (regex_names self.now)) }
         ensures whole { IfOk result (KeepsAll (regex_names self.now)) }
@@ -345,12 +346,12 @@ impl Regex {
         Captures::all(alloc, &self.info)
     }
 
-    /// The match that `find` finds, with its groups. Without a match the captures hold none. An
-    /// `Err` means out of memory.
+    /// Returns the match that `find` finds, with its groups. Without a match the captures are
+    /// empty. An `Err` means out of memory.
     ///
-    /// Under `MatchKind::All` explicit groups hold nothing. Under `MatchKind::LeftmostLongest` they
-    /// are those of the walk that is preferred of those that are that long. Otherwise, if
-    /// `is_plain` is true, the groups are those of the least parse.
+    /// Under `MatchKind::All` explicit groups are empty. Under `MatchKind::LeftmostLongest` the
+    /// groups are those of the preferred walk of that length. Otherwise, if `is_plain` is true, the
+    /// groups are those of the least parse.
     pub fn captures<C: Cursor + Drop>(
         &self,
         alloc: Global,
@@ -373,8 +374,8 @@ impl Regex {
         Ok(caps)
     }
 
-    /// As `captures`, into captures that were made for this regex: by `create_captures`, or of its
-    /// `group_info`. After an `Err` they hold no match.
+    /// Finds the match that `captures` finds, and writes it to captures that were made for this
+    /// regex: by `create_captures`, or of its `group_info`. After an `Err` they hold no match.
     pub fn search_captures<C: Cursor + Drop>(
         &self,
         alloc: Global,
@@ -396,7 +397,8 @@ impl Regex {
         Ok(())
     }
 
-    /// As `search_captures`, in a cache that was made for this regex. It takes no memory.
+    /// Finds the match that `captures` finds, and writes it to captures that were made for this
+    /// regex, in a cache that was made for it. It takes no memory.
     pub fn search_captures_with<C: Cursor>(
         &self,
         cache: &mut Cache,
@@ -423,11 +425,11 @@ impl Regex {
         self.engines.find_captures(&mut cache.inner, input, caps);
     }
 
-    /// The pattern of the match that `find` finds, and its slots in `slots`, which may be fewer
-    /// than the regex has. Without a match the slots stay. An `Err` means out of memory, and then
-    /// the slots stay too.
+    /// Returns the pattern of the match that `find` finds, and writes its slots to `slots`, which
+    /// may be fewer than the regex has. Without a match the slots stay. An `Err` means out of
+    /// memory, and the slots stay then too.
     ///
-    /// Under `MatchKind::All` the slots of explicit groups hold nothing.
+    /// Under `MatchKind::All` the slots of explicit groups are empty.
     pub fn search_slots<C: Cursor + Drop>(
         &self,
         alloc: Global,
@@ -445,7 +447,8 @@ impl Regex {
         Ok(self.engines.find_slots(&mut cache, &mut input, slots))
     }
 
-    /// As `search_slots`, in a cache that was made for this regex. It takes no memory.
+    /// Returns the pattern of the match that `find` finds, and writes its slots to `slots`, in a
+    /// cache that was made for this regex. Without a match the slots stay. It takes no memory.
     pub fn search_slots_with<C: Cursor>(
         &self,
         cache: &mut Cache,
@@ -464,13 +467,11 @@ impl Regex {
         self.engines.find_slots(&mut cache.inner, input, slots)
     }
 
-    /// All matches in the input, from left to right.
+    /// Returns an iterator over all matches in the input, from left to right.
     ///
-    /// Each search starts where the match before ended. A match that is empty and ends there gives
-    /// way to the answer from a byte later. An `Err` means out of memory for the cache; the items
-    /// take none.
-    ///
-    /// Each search finds the match of the regex's kind, as `find` does.
+    /// Each search starts where the last match ended, and finds the match that `find` finds. If
+    /// that match is empty and ends there again, the search begins a byte later. An `Err` means out
+    /// of memory for the cache; the items take no memory.
     pub fn find_iter<'r, C: Cursor + Drop>(
         &'r self,
         alloc: Global,
@@ -498,10 +499,11 @@ impl Regex {
         Ok(FindMatches { seeker, input })
     }
 
-    /// The matches of `find_iter`, each with its groups. An `Err` means out of memory for the
-    /// cache; an item takes the memory of its captures alone, and is an `Err` if that is refused.
+    /// Returns an iterator over the matches of `find_iter`, each with its groups. An `Err` means
+    /// out of memory for the cache. An item takes only the memory of its captures, and is an `Err`
+    /// if there is none.
     ///
-    /// Under `MatchKind::All` explicit groups hold nothing.
+    /// Under `MatchKind::All` explicit groups are empty.
     pub fn captures_iter<'r, C: Cursor + Drop>(
         &'r self,
         alloc: Global,
@@ -532,9 +534,9 @@ impl Regex {
         Ok(CapturesMatches { seeker, input })
     }
 
-    /// The pieces of the content between the matches of `find_iter`, from left to right: the first
-    /// begins at 0, and the last ends where the search does. An `Err` means out of memory for the
-    /// cache; the items take none.
+    /// Returns an iterator over the pieces of the content between the matches of `find_iter`, from
+    /// left to right. The first piece begins at 0, and the last one ends where the search does. An
+    /// `Err` means out of memory for the cache; the items take no memory.
     pub fn split<'r, C: Cursor + Drop>(
         &'r self,
         alloc: Global,
@@ -557,8 +559,9 @@ impl Regex {
         Ok(Split { pieces, input })
     }
 
-    /// The pieces of `split`, but no more than `limit`: the last one then goes on to where the
-    /// search ends. An `Err` means out of memory for the cache; the items take none.
+    /// Returns an iterator over the pieces of `split`, at most `limit` of them: the last one then
+    /// goes on to where the search ends. An `Err` means out of memory for the cache; the items take
+    /// no memory.
     pub fn splitn<'r, C: Cursor + Drop>(
         &'r self,
         alloc: Global,
@@ -586,7 +589,7 @@ impl Regex {
     }
 }
 
-/// How many explicit groups the patterns have.
+/// The number of explicit groups of the patterns.
 #[tactic(auto, using(crate::proofs::Weights::groups_light))]
 fn explicit_groups(hirs: &[Hir]) -> usize
     requires { list_weight (map meaning hirs.now) ≤ greatest_weight }
@@ -600,8 +603,8 @@ fn explicit_groups(hirs: &[Hir]) -> usize
     total
 }
 
-/// How many explicit groups take part in each match, if that is known to be one number for all
-/// patterns.
+/// The number of explicit groups that take part in each match, if that is known to be one number
+/// for all patterns.
 fn static_groups(hirs: &[Hir]) -> Option<usize>
     ensures { result ≡ static_groups (map meaning hirs.now) }
 {
@@ -615,7 +618,7 @@ fn static_groups(hirs: &[Hir]) -> Option<usize>
     groups
 }
 
-/// The number that both are, if both are one.
+/// The number that both are, if they are equal.
 fn common(left: Option<usize>, right: Option<usize>) -> Option<usize>
     ensures { result ≡ common left right }
 {

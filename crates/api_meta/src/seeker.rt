@@ -25,14 +25,14 @@ use rc_text::types::Match;
 use std::alloc::{AllocError, Global};
 use std::marker::Model;
 
-/// Where a list of matches is: where the last match ended, and whether none comes any more.
+/// The state of an iteration: where the last match ended, and whether the iteration is over.
 #[derive(Drop)]
 pub(crate) struct Standing {
     pub(crate) last: Option<usize>,
     pub(crate) is_done: bool,
 }
 
-/// A regex with a cache for its searches, and where the list of its matches is.
+/// A regex with a cache for its searches, and the state of an iteration over its matches.
 #[derive(Drop)]
 pub(crate) struct Seeker<'r> {
     pub(crate) regex: &'r Regex,
@@ -56,7 +56,8 @@ impl<'r> Model for Seeker<'r> {
     ghost invariant = { λ s. IsCacheIn s.regex.now 0 s.cache };
 }
 
-/// The same, with a cache for searches with all groups, and what gives the memory of captures.
+/// A regex with a cache for searches with all groups, the state of an iteration over its matches,
+/// and an allocator for their captures.
 #[derive(Drop)]
 pub(crate) struct GroupSeeker<'r> {
     pub(crate) seeker: Seeker<'r>,
@@ -81,7 +82,7 @@ impl<'r> Model for GroupSeeker<'r> {
     ghost invariant = { λ s. IsCacheIn s.seeker.regex (slot_len (names_of s.seeker.regex.info)) s.seeker.cache };
 }
 
-/// The match that a search finds, with its groups in the captures.
+/// Finds a match, and writes its groups to the captures.
 fn find_groups<C: Cursor>(
     regex: &Regex,
     cache: &mut Cache,
@@ -102,9 +103,9 @@ fn find_groups<C: Cursor>(
     caps.get_match()
 }
 
-/// The next match of a list, with its groups in the captures: the match from where the span starts,
-/// and if that is empty and ends at `last`, the match from a byte later. The span then starts where
-/// the match was looked for.
+/// Finds the next match of an iteration, and writes its groups to the captures. It is the match
+/// from the start of the span. If that is empty and ends at `last`, it is the match from a byte
+/// later. The span then starts where the search did.
 fn next_groups<C: Cursor>(
     regex: &Regex,
     cache: &mut Cache,
@@ -139,8 +140,8 @@ impl Standing {
     ghost use Rattle.api_meta.specs.Left.{GivesNext, GivesCaptures};
     ghost use Rattle.api_meta.specs.Seeking.{seeking};
 
-    /// The next match of the list in the input. Its span then starts where that ends. It takes no
-    /// memory.
+    /// Returns the next match of the iteration in the input. The span then starts at its end. It
+    /// takes no memory.
     pub(crate) fn next_match<C: Cursor>(
         &mut self,
         regex: &Regex,
@@ -166,8 +167,8 @@ impl Standing {
         Some(found)
     }
 
-    /// What is given if no memory is there for captures: out of memory if a match is left, else
-    /// nothing. The list is over.
+    /// Returns the last item if there is no memory for captures: an error if a match is left,
+    /// otherwise `None`. The iteration is over.
     fn lacks_memory<C: Cursor>(
         &mut self,
         regex: &Regex,
@@ -189,8 +190,9 @@ impl Standing {
         None
     }
 
-    /// The captures of the next match of the list in the input. It takes their memory alone, which
-    /// it gives back if no match is left, and ends if that is refused.
+    /// Returns the captures of the next match of the iteration in the input. It allocates only
+    /// these, frees them if no match is left, and ends the iteration if there is no memory for
+    /// them.
     pub(crate) fn next_captures<C: Cursor>(
         &mut self,
         regex: &Regex,
@@ -226,7 +228,7 @@ impl<'r> Seeker<'r> {
     ghost use Rattle.rc_pikevm_search.specs.Moved.{IsMoved};
     ghost use Rattle.api_meta.specs.Left.{GivesNext, GivesCaptures};
 
-    /// The next match in the input. Its span then starts where that ends. It takes no memory.
+    /// Returns the next match in the input. The span then starts at its end. It takes no memory.
     pub(crate) fn next_match<C: Cursor>(&mut self, input: &mut Input<C>) -> Option<Match>
         ensures steps { GivesNext self.old input.old result self.new input.new }
         ensures moves { IsMoved input.old input.new }
@@ -236,8 +238,8 @@ impl<'r> Seeker<'r> {
         self.standing.next_match(self.regex, &mut self.cache, input)
     }
 
-    /// The captures of the next match in the input. It takes their memory alone, and ends if that
-    /// is refused.
+    /// Returns the captures of the next match in the input. It allocates only these, and ends the
+    /// iteration if there is no memory for them.
     pub(crate) fn next_captures<C: Cursor>(
         &mut self,
         alloc: Global,
@@ -260,7 +262,7 @@ impl<'r> GroupSeeker<'r> {
     ghost use Rattle.rc_pikevm_search.specs.Moved.{IsMoved};
     ghost use Rattle.api_meta.specs.Left.{GivesCaptures};
 
-    /// The captures of the next match in the input.
+    /// Returns the captures of the next match in the input.
     pub(crate) fn next<C: Cursor>(
         &mut self,
         input: &mut Input<C>,

@@ -16,8 +16,8 @@ impl Regex {
     ghost use Rattle.rc_program.specs.Sought.{search_for};
     ghost use Rattle.rc_text.specs.Text.{Keeps};
 
-    /// Whether a search of the input finds a match, as `is_match`, in a cache that was made for
-    /// this regex. It takes no memory.
+    /// Returns whether a search of the input finds a match, as `is_match` does, in a cache that was
+    /// made for this regex. It takes no memory.
     pub fn is_match_with<C: Cursor>(&self, cache: &mut Cache, input: &mut Input<C>) -> bool
         requires made { IsCacheFor (regex_patterns self.now) (regex_settings self.now) cache.old }
         ensures cache { IsCacheFor (regex_patterns self.now) (regex_settings self.now) cache.new }
@@ -27,17 +27,16 @@ impl Regex {
         self.engines.is_match(&mut cache.inner, input)
     }
 
-    /// Puts into the set each pattern that has a match within the bounds of a search of the input,
-    /// as far as the set can hold it, in a cache that was made for this regex. What the set has
-    /// stays. It takes no memory.
+    /// Inserts into the set each pattern that has a match within the bounds of a search of the
+    /// input, as far as the capacity of the set goes, in a cache that was made for this regex.
+    /// Members stay members. It takes no memory.
     ///
-    /// A pattern has a match if it spells some span within the bounds, whatever the kind of match:
-    /// none is left out because another begins earlier or is preferred, nor because it is empty and
-    /// lies inside a character. A search tells first where the first match begins, if there is one,
-    /// and then one pass from there on tells all of them; of one pattern the search tells. The pass
-    /// goes over all that lies within the bounds if each match is sought, or the longest, and if
-    /// matches that are empty may be passed over. It ends if the set has each pattern that it can
-    /// hold.
+    /// A pattern has a match if it matches some span within the bounds, whatever the kind of match.
+    /// None is left out because another pattern begins earlier or is preferred, nor because its
+    /// match is empty and inside a character. A search first finds where the first match begins.
+    /// One pass from there on then finds all patterns; of one pattern the search alone decides. The
+    /// pass reads everything within the bounds if the kind is `All` or `LeftmostLongest`, or if
+    /// empty matches may be rejected. It ends early if the set contains each pattern that it can.
     pub fn which_patterns_with<C: Cursor>(
         &self,
         cache: &mut Cache,

@@ -19,8 +19,8 @@ use rc_settings::pikevm::Config;
 use rc_settings::thompson;
 use std::alloc::Global;
 
-/// Builds a `PikeVM` under settings of its own: those of its searches, those of its program, and
-/// those by which text is read.
+/// A builder of Pike VMs. It has the settings of searches, of the program, and of the pattern
+/// syntax.
 #[derive(Drop)]
 pub struct Builder {
     config: Config,
@@ -29,7 +29,7 @@ pub struct Builder {
 }
 
 impl Builder {
-    /// A builder in which nothing is set. It reads text by the default settings.
+    /// Returns a builder with no setting set. It parses text by the default syntax settings.
     pub fn new() -> Builder
         ensures settings { builder_settings result ≡ none_set }
         ensures program { builder_program result ≡ unset }
@@ -65,7 +65,7 @@ impl Builder {
         self
     }
 
-    /// Reads text by these settings from now on, and returns the builder.
+    /// Sets the syntax settings by which text is parsed from now on, and returns the builder.
     pub fn syntax(&mut self, config: rc_parser::Config) -> &mut Builder
         ensures same_reference { result.ghost_name ≡ self.entry.ghost_name }
         ensures value { builder_syntax result.now ≡ syntax_of config }
@@ -76,8 +76,7 @@ impl Builder {
         self
     }
 
-    /// What is built of the pattern as which this text is read. The `Err`s are those of
-    /// `build_many`.
+    /// Builds a `PikeVM` from the text of one pattern. The errors are those of `build_many`.
     pub fn build(&self, alloc: Global, pattern: &str) -> Result<PikeVM, BuildError>
         ensures read { IfOk result (λ vm. AllRead (builder_syntax self.now) (pattern.now ∷ []) (vm_patterns vm)) }
         ensures settings { IfOk result (λ vm. vm_settings vm ≡ builder_settings self.now) }
@@ -88,11 +87,11 @@ impl Builder {
         self.build_many(alloc, std::slice::from_ref(&pattern))
     }
 
-    /// What is built of the patterns as which these texts are read, at most 2,147,483,647.
+    /// Builds a `PikeVM` from the texts of several patterns, at most 2,147,483,647.
     ///
-    /// An `Err` is the first of these that applies: `Syntax`, with the least text from which no
-    /// pattern is read, and a byte of it; then those of `build_many_from_hir`. All texts are read
-    /// before any pattern is built. The builder stays as it was.
+    /// The error is the first of these that applies: `Syntax`, with the first text that doesn't
+    /// parse and a byte of it; then those of `build_many_from_hir`. All texts are parsed before any
+    /// pattern is built. The builder stays as it was.
     pub fn build_many(&self, alloc: Global, patterns: &[&str]) -> Result<PikeVM, BuildError>
         requires { length patterns.now ≤ most_patterns }
         ensures read { IfOk result (λ vm. AllRead (builder_syntax self.now) (texts_of patterns.now) (vm_patterns vm)) }
@@ -105,12 +104,12 @@ impl Builder {
         self.build_many_from_hir(alloc, &hirs)
     }
 
-    /// What is built of these patterns, at most 2,147,483,647.
+    /// Builds a `PikeVM` from these patterns, at most 2,147,483,647.
     ///
-    /// An `Err` is the first of these that applies: `IllFormed`, with the least pattern that isn't
-    /// well-formed; `SizeLimit`, if 32 times the weight of the patterns is above the limit on their
-    /// size; `PlaceLimit`, if the weight is above 2,147,483,646. `Memory` comes if memory was
-    /// refused. The builder stays as it was.
+    /// The error is the first of these that applies: `IllFormed`, with the first pattern that isn't
+    /// well-formed; `SizeLimit`, if 32 times the weight of the patterns is above the size limit;
+    /// `PlaceLimit`, if the weight is above 2,147,483,646. `Memory` means out of memory. The
+    /// builder stays as it was.
     pub fn build_many_from_hir(&self, alloc: Global, hirs: &[Hir]) -> Result<PikeVM, BuildError>
         requires { length hirs.now ≤ most_patterns }
         ensures patterns { IfOk result (λ vm. vm_patterns vm ≡ map meaning hirs.now) }

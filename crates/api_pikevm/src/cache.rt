@@ -4,7 +4,7 @@ use crate::vm::PikeVM;
 use rc_pikevm::cache;
 use std::alloc::{AllocError, Global};
 
-/// What searches by a `PikeVM` work in: all memory that they need, made once.
+/// The scratch memory of searches by a `PikeVM`, allocated once.
 #[derive(Drop)]
 pub struct Cache {
     alloc: Global,
@@ -16,8 +16,8 @@ impl Cache {
     ghost use Rattle.api_pikevm.specs.Caches.{IsCacheFor, insertions_of};
     ghost use Rattle.api_pikevm.specs.Views.{sought};
 
-    /// A cache for searches by this `PikeVM`, and by any that seeks the same. An `Err` means out of
-    /// memory.
+    /// Returns a cache for searches by this `PikeVM`, and by any with the same program and
+    /// settings. An `Err` means out of memory.
     pub fn new(alloc: Global, vm: &PikeVM) -> Result<Cache, AllocError>
         ensures made { IfOk result (IsCacheFor (sought vm.now)) }
         ensures unused { IfOk result (λ c. insertions_of c ≡ 0) }
@@ -26,8 +26,8 @@ impl Cache {
         Ok(Cache { alloc, inner })
     }
 
-    /// Makes this a cache for searches by another `PikeVM`. An `Err` means out of memory, and then
-    /// the cache stays as it was.
+    /// Makes this a cache for searches by another `PikeVM`. An `Err` means out of memory, and
+    /// leaves the cache as it was.
     pub fn reset(&mut self, vm: &PikeVM) -> Result<(), AllocError>
         ensures made { OnOk result (IsCacheFor (sought vm.now) self.new) }
         ensures unused { OnOk result (insertions_of self.new ≡ 0) }
@@ -37,15 +37,15 @@ impl Cache {
         Ok(())
     }
 
-    /// How many places the last pass of the last search entered, over all positions; 0 if that
-    /// search made no pass.
+    /// The number of states that the last pass of the last search entered, over all positions; 0 if
+    /// that search made no pass.
     pub fn insertions(&self) -> u128
         ensures { result ≡ insertions_of self.now }
     {
         self.inner.insertions()
     }
 
-    /// About how many bytes the cache has taken for its lists.
+    /// Roughly the number of bytes that the cache has allocated for its lists.
     pub fn memory_usage(&self) -> usize {
         self.inner.memory_usage()
     }

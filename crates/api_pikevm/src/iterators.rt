@@ -11,11 +11,12 @@ use rc_text::input::Input;
 use rc_text::types::Match;
 use std::iter::FusedIterator;
 
-/// The matches in an input, from left to right. Each is searched for when `next` is called, in the
-/// cache that is lent.
+/// An iterator over the matches in an input, from left to right. Each call of `next` searches, in a
+/// borrowed cache.
 ///
-/// A call keeps the `PikeVM`, and the input but for where its span starts. After the last match it
-/// gives none, whatever its input becomes. The cache is always one that was made for the `PikeVM`.
+/// A call keeps the `PikeVM`, and the input except for the start of its span. After the last match
+/// it returns `None`, whatever the input becomes. The cache is always one that was made for the
+/// `PikeVM`.
 #[derive(Drop)]
 pub struct FindMatches<'v, 'c, C: Cursor> {
     pub(crate) vm: &'v PikeVM,
@@ -34,14 +35,15 @@ impl<'v, 'c, C: Cursor> FindMatches<'v, 'c, C> {
     ghost use Rattle.api_pikevm.specs.contracts.iterators.FindMatches.{the_row};
     ghost use Rattle.api_pikevm.specs.Left.{find_input, find_vm, with_input};
 
-    /// What it searches by.
+    /// The `PikeVM` that searches.
     pub fn vm(&self) -> &'v PikeVM
         ensures { result.now ≡ find_vm self.now }
     {
         self.vm
     }
 
-    /// The input. The next search is over what it then is; the iterator is otherwise as before.
+    /// The input. You may change it: the next search goes on in the changed input, and the iterator
+    /// is otherwise as before.
     pub fn input(&mut self) -> &mut Input<C>
         ensures* kept { sem 𝓛 (Lends
             (the_row (record { mir = named 0; lft = [] }) (record { mir = named 1; lft = [] }) C.row C.Cursor)

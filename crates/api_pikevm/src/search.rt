@@ -29,12 +29,12 @@ use rc_text::cursor::Cursor;
 use rc_text::input::Input;
 use rc_text::types::{Match, PatternID};
 
-/// Whether a search of the input finds a match, in a cache that was made for this `PikeVM`. The
-/// cache stays so.
+/// Returns whether a search of the input finds a match, in a cache that was made for this `PikeVM`.
+/// The cache stays so.
 ///
-/// Under `MatchKind::LeftmostFirst` the match is the one that is preferred of the least start, and
-/// under `LeftmostLongest` the longest of that start. Under `MatchKind::All` it is the one with the
-/// greatest end, then the least start, then the least pattern, and no match is passed over.
+/// Under `MatchKind::LeftmostFirst` the match is the preferred one of the least start, and under
+/// `LeftmostLongest` the longest of the least start. Under `MatchKind::All` it is the one with the
+/// greatest end, then the least start, then the first pattern, and no match is rejected.
 pub fn is_match<C: Cursor>(vm: &PikeVM, cache: &mut Cache, input: &mut Input<C>) -> bool
     requires made { IsCacheFor (sought vm.now) cache.old }
     ensures cache { IsCacheFor (sought vm.now) cache.new }
@@ -55,14 +55,14 @@ pub fn is_match<C: Cursor>(vm: &PikeVM, cache: &mut Cache, input: &mut Input<C>)
     .is_some()
 }
 
-/// Writes the match that a search of the input finds, with its groups, into captures that were made
-/// of the groups of this `PikeVM`. Without a match they hold none. All slots but the match's are
-/// empty afterwards. The cache has to be made for this `PikeVM`; it stays so.
+/// Finds a match in the input, and writes it with its groups to captures that were made of the
+/// groups of this `PikeVM`. Without a match the captures are empty. All slots but those of the
+/// match are empty afterwards. The cache has to be made for this `PikeVM`, and stays so.
 ///
-/// Under `MatchKind::LeftmostFirst` the match is the one that is preferred of the least start, and
-/// under `LeftmostLongest` the longest of that start, with the groups of the walk that is preferred
-/// of those that long. Under `MatchKind::All` it is the one with the greatest end, then the least
-/// start, then the least pattern; no match is passed over, and explicit groups hold nothing.
+/// Under `MatchKind::LeftmostFirst` the match is the preferred one of the least start. Under
+/// `LeftmostLongest` it is the longest of the least start, with the groups of the preferred walk of
+/// that length. Under `MatchKind::All` it is the one with the greatest end, then the least start,
+/// then the first pattern; no match is rejected, and explicit groups are empty.
 pub fn search<C: Cursor>(vm: &PikeVM, cache: &mut Cache, input: &mut Input<C>, caps: &mut Captures)
     requires made { IsCacheFor (sought vm.now) cache.old }
     requires for_vm { IsCapturesFor (vm_names vm.now) caps.old }
@@ -93,15 +93,15 @@ pub fn search<C: Cursor>(vm: &PikeVM, cache: &mut Cache, input: &mut Input<C>, c
     captures::set_pattern(caps, pattern);
 }
 
-/// The pattern of the match that a search of the input finds, and its slots in `slots`, which may
-/// be fewer than there are. Without a match the slots stay. The cache has to be made for this
-/// `PikeVM`; it stays so.
+/// Returns the pattern of the match in the input, and writes its slots to `slots`, which may be
+/// fewer than there are. Without a match the slots stay. The cache has to be made for this
+/// `PikeVM`, and stays so.
 ///
-/// Under `MatchKind::LeftmostFirst` the match is the one that is preferred of the least start, and
-/// under `LeftmostLongest` the longest of that start, with the slots of the walk that is preferred
-/// of those that long. Under `MatchKind::All` it is the one with the greatest end, then the least
-/// start, then the least pattern; no match is passed over, and all slots but the two of the whole
-/// match are `None`.
+/// Under `MatchKind::LeftmostFirst` the match is the preferred one of the least start. Under
+/// `LeftmostLongest` it is the longest of the least start, with the slots of the preferred walk of
+/// that length. Under `MatchKind::All` it is the one with the greatest end, then the least start,
+/// then the first pattern; no match is rejected, and all slots but the two of the whole match are
+/// `None`.
 pub fn search_slots<C: Cursor>(
     vm: &PikeVM,
     cache: &mut Cache,
@@ -132,15 +132,15 @@ pub fn search_slots<C: Cursor>(
     )
 }
 
-/// The matches in the input, from left to right. None is searched for before it is asked for, and
-/// neither this call nor an item takes memory. The cache has to be made for this `PikeVM`; it stays
-/// so, even if the iterator is dropped before its end.
+/// Returns an iterator over the matches in the input, from left to right. Nothing is searched
+/// ahead, and neither this call nor an item takes memory. The cache has to be made for this
+/// `PikeVM`; it stays so, even if you drop the iterator before its end.
 ///
-/// The cache counts the last pass for an item as for a search.
+/// `Cache::insertions` counts the last pass for an item, as it does for a search.
 ///
-/// Each is the match that `search` finds from if the one before ended, or from a byte later if that
-/// would be an empty one that ends there again. So under `MatchKind::All` the first is the one with
-/// the greatest end of all.
+/// Each search starts where the last match ended, and finds the match that `search` finds. If that
+/// match is empty and ends there again, the search begins a byte later. So under `MatchKind::All`
+/// the first match is the one with the greatest end of all.
 pub fn find_iter<'v, 'c, C: Cursor + Drop>(
     vm: &'v PikeVM,
     cache: &'c mut Cache,
@@ -165,8 +165,8 @@ pub fn find_iter<'v, 'c, C: Cursor + Drop>(
     }
 }
 
-/// The next match in the input, where the match before ended at `last`. The span then starts where
-/// that next match ends.
+/// Returns the next match in the input; the last one ended at `last`. The span then starts where
+/// the new match ends.
 pub(crate) fn next_match<C: Cursor>(
     vm: &PikeVM,
     cache: &mut Cache,

@@ -18,8 +18,8 @@ use rc_settings::pikevm::Config;
 use rc_settings::thompson;
 use std::alloc::{AllocError, Global};
 
-/// A list of patterns, built for searches by one ordered pass. No needles alone decide its answers,
-/// so each search makes a pass.
+/// A list of patterns, built for searches by a Pike VM. Literals alone never decide its results, so
+/// each search makes a pass.
 #[derive(Drop)]
 pub struct PikeVM {
     pub(crate) config: Config,
@@ -46,8 +46,8 @@ impl PikeVM {
     ghost use Rattle.rc_settings.specs.Thompson.{unset};
     ghost use Rattle.api_pikevm.specs.Views.{builder_settings, builder_program, builder_syntax, sought, states_of, vm_names, vm_patterns, vm_program, vm_settings};
 
-    /// What is built of the pattern as which this text is read by the default settings. Nothing
-    /// else is set. The `Err`s are those of `new_many`.
+    /// Builds a `PikeVM` from the text of one pattern, with the default settings. The errors are
+    /// those of `new_many`.
     pub fn new(alloc: Global, pattern: &str) -> Result<PikeVM, BuildError>
         ensures read { IfOk result (λ vm. AllRead default_settings (pattern.now ∷ []) (vm_patterns vm)) }
         ensures settings { IfOk result (λ vm. vm_settings vm ≡ none_set) }
@@ -58,13 +58,13 @@ impl PikeVM {
         PikeVM::builder().build(alloc, pattern)
     }
 
-    /// What is built of the patterns as which these texts are read by the default settings, at most
-    /// 2,147,483,647. Nothing else is set.
+    /// Builds a `PikeVM` from the texts of several patterns, at most 2,147,483,647, with the
+    /// default settings.
     ///
-    /// An `Err` is the first of these that applies: `Syntax`, with the least text from which no
-    /// pattern is read, and a byte of it; `IllFormed`, with the least pattern that isn't
-    /// well-formed; `PlaceLimit`, if the weight of the patterns is above 2,147,483,646. `Memory`
-    /// comes if memory was refused.
+    /// The error is the first of these that applies: `Syntax`, with the first text that doesn't
+    /// parse and a byte of it; `IllFormed`, with the first pattern that isn't well-formed;
+    /// `PlaceLimit`, if the weight of the patterns is above 2,147,483,646. `Memory` means out of
+    /// memory.
     pub fn new_many(alloc: Global, patterns: &[&str]) -> Result<PikeVM, BuildError>
         requires { length patterns.now ≤ most_patterns }
         ensures read { IfOk result (λ vm. AllRead default_settings (texts_of patterns.now) (vm_patterns vm)) }
@@ -76,7 +76,7 @@ impl PikeVM {
         PikeVM::builder().build_many(alloc, patterns)
     }
 
-    /// A builder in which nothing is set. It reads text by the default settings.
+    /// Returns a builder with no setting set. It parses text by the default syntax settings.
     pub fn builder() -> Builder
         ensures settings { builder_settings result ≡ none_set }
         ensures program { builder_program result ≡ unset }
@@ -85,7 +85,7 @@ impl PikeVM {
         Builder::new()
     }
 
-    /// How many places the program has: no more than the patterns' weight.
+    /// The number of states of the program: at most the weight of the patterns.
     pub fn states_len(&self) -> usize
         ensures value { result ≡ states_of (sought self.now) }
         ensures small { result ≤ list_weight (vm_patterns self.now) }
@@ -100,8 +100,8 @@ impl PikeVM {
         &self.built.info
     }
 
-    /// Captures that keep the groups of the patterns. They hold no match. An `Err` means out of
-    /// memory.
+    /// Returns captures that keep the groups of the patterns, and hold no match yet. An `Err` means
+    /// out of memory.
     pub fn create_captures(&self, alloc: Global) -> Result<Captures, AllocError>
         ensures made { IfOk result (IsCapturesFor (vm_names self.now)) }
         ensures whole { IfOk result (KeepsAll (vm_names self.now)) }
@@ -110,7 +110,7 @@ impl PikeVM {
         Captures::all(alloc, &self.built.info)
     }
 
-    /// A cache for searches. An `Err` means out of memory.
+    /// Returns a cache for searches. An `Err` means out of memory.
     pub fn create_cache(&self, alloc: Global) -> Result<Cache, AllocError>
         ensures made { IfOk result (IsCacheFor (sought self.now)) }
         ensures unused { IfOk result (λ c. insertions_of c ≡ 0) }
