@@ -15,8 +15,8 @@ use std::alloc::{AllocError, Global};
 
 /// The pattern that matched, and the positions of its groups.
 ///
-/// A group is the span of its two slots. It is absent without a match, and if a slot is empty or
-/// isn't kept.
+/// A group is the span of its two slots. It is absent if there is no match, or if a slot is empty
+/// or not kept.
 #[derive(Drop)]
 pub struct Captures {
     info: GroupInfo,
@@ -25,8 +25,8 @@ pub struct Captures {
 }
 
 impl Captures {
-    /// Captures that keep all groups of these patterns. They hold no match, and each slot is empty.
-    /// An error means out of memory.
+    /// Returns captures that keep all groups of these patterns. They hold no match, and each slot
+    /// is empty. An `Err` means out of memory.
     pub fn all(alloc: Global, info: &GroupInfo) -> Result<Captures, AllocError>
         ensures made { IfOk result (IsCapturesFor (names_of info.now)) }
         ensures pattern { IfOk result (λ c. captures_pattern c ≡ None) }
@@ -35,8 +35,8 @@ impl Captures {
         empty(alloc, info, info.slot_len())
     }
 
-    /// Captures that keep the whole matches of these patterns alone. They hold no match, and each
-    /// slot is empty. An error means out of memory.
+    /// Returns captures that keep only the whole matches of these patterns. They hold no match, and
+    /// each slot is empty. An `Err` means out of memory.
     pub fn matches(alloc: Global, info: &GroupInfo) -> Result<Captures, AllocError>
         ensures made { IfOk result (IsCapturesFor (names_of info.now)) }
         ensures pattern { IfOk result (λ c. captures_pattern c ≡ None) }
@@ -46,7 +46,7 @@ impl Captures {
         empty(alloc, info, info.implicit_slot_len())
     }
 
-    /// The pattern that matched; `None` without a match.
+    /// The pattern that matched, or `None` without a match.
     pub fn pattern(&self) -> Option<PatternID>
         ensures { result ≡ captures_pattern self.now }
     {
@@ -60,8 +60,8 @@ impl Captures {
         self.pattern.is_some()
     }
 
-    /// The match: the pattern, and the span of its group 0. `None` without a match, and if that
-    /// group is absent or its start is above its end.
+    /// The match: the pattern, and the span of its group 0. It is `None` without a match, and if
+    /// that group is absent or its start is above its end.
     pub fn get_match(&self) -> Option<Match>
         ensures { result ≡ match_of self.now }
     {
@@ -85,7 +85,8 @@ impl Captures {
         Some(Span { start, end })
     }
 
-    /// The span of the group of that name; `None` if the group is absent, or none has the name.
+    /// The span of the group with this name; `None` if the group is absent, or no group has the
+    /// name.
     pub fn get_group_by_name(&self, name: &str) -> Option<Span>
         ensures { result ≡ named_span self.now name.now }
     {
@@ -93,7 +94,7 @@ impl Captures {
         self.get_group(index)
     }
 
-    /// How many groups the pattern that matched has, group 0 among them; 0 without a match.
+    /// The number of groups of the pattern that matched, group 0 among them; 0 without a match.
     pub fn group_len(&self) -> usize
         ensures { result ≡ option_map_or (group_len (captures_names self.now)) (captures_pattern self.now) 0 }
     {
@@ -103,7 +104,7 @@ impl Captures {
         }
     }
 
-    /// The slots, to be written: positions in bytes of the content. The pattern that matched stays.
+    /// The slots, for writing: positions in bytes of the content. The pattern that matched stays.
     pub fn slots_mut(&mut self) -> &mut [Option<usize>]
         ensures* writes_back { sem 𝓛 (LendsSlots self.entry result) }
         ensures value { result.now ≡ captures_slots self.old }
@@ -112,7 +113,7 @@ impl Captures {
     }
 }
 
-/// Captures with this many empty slots.
+/// Captures with this number of empty slots.
 fn empty(alloc: Global, info: &GroupInfo, len: usize) -> Result<Captures, AllocError>
     ensures names { IfOk result (λ c. captures_names c ≡ names_of info.now) }
     ensures pattern { IfOk result (λ c. captures_pattern c ≡ None) }
@@ -126,7 +127,7 @@ fn empty(alloc: Global, info: &GroupInfo, len: usize) -> Result<Captures, AllocE
     })
 }
 
-/// Makes it the pattern that matched. The slots stay.
+/// Sets the pattern that matched. The slots stay.
 pub fn set_pattern(caps: &mut Captures, pattern: Option<PatternID>)
     ensures names { captures_names caps.new ≡ captures_names caps.old }
     ensures pattern { captures_pattern caps.new ≡ pattern }
@@ -136,7 +137,7 @@ pub fn set_pattern(caps: &mut Captures, pattern: Option<PatternID>)
     caps.pattern = pattern;
 }
 
-/// Forgets the match: no pattern, and each slot is empty.
+/// Clears the captures: no pattern, and each slot is empty.
 pub fn clear(caps: &mut Captures)
     ensures names { captures_names caps.new ≡ captures_names caps.old }
     ensures pattern { captures_pattern caps.new ≡ None }
@@ -168,12 +169,12 @@ pub fn copy_of(alloc: Global, caps: &Captures) -> Result<Captures, AllocError>
     })
 }
 
-/// Captures that hold a match answer it, and the spans of its groups. A law: it does nothing.
+/// Captures that hold a match return it, and the spans of its groups. A law: it does nothing.
 pub fn captures_tell_their_match()
     ensures { MatchLaw }
 {}
 
-/// Lending the slots keeps the patterns, the pattern that matched and the number of slots. A law:
+/// Borrowing the slots keeps the patterns, the pattern that matched and the number of slots. A law:
 /// it does nothing.
 pub fn lending_keeps_the_patterns()
     ensures { LentLaw }

@@ -12,8 +12,7 @@ use std::alloc::{AllocError, Global};
 use std::sync::Arc;
 use table::{Table, table_of};
 
-/// Which groups the patterns of a list have, what they are called, and in which slots their bounds
-/// are.
+/// The groups of a list of patterns: their number, their names, and the slots of their bounds.
 ///
 /// Group 0 of a pattern is its whole match, and has no name. The others are its explicit groups.
 #[derive(Drop)]
@@ -22,14 +21,14 @@ pub struct GroupInfo {
 }
 
 impl GroupInfo {
-    /// How many patterns there are.
+    /// The number of patterns.
     pub fn pattern_len(&self) -> usize
         ensures { result ≡ length (names_of self.now) }
     {
         self.table.names.len()
     }
 
-    /// How many slots there are: two for each group of each pattern, group 0 among them.
+    /// The number of slots: two for each group of each pattern, group 0 among them.
     pub fn slot_len(&self) -> usize
         ensures small { result < 2 ^ 63 }
         ensures value { result ≡ slot_len (names_of self.now) }
@@ -37,14 +36,14 @@ impl GroupInfo {
         self.table.end
     }
 
-    /// How many slots the whole matches have: two for each pattern.
+    /// The number of slots of the whole matches: two for each pattern.
     pub fn implicit_slot_len(&self) -> usize
         ensures { result ≡ implicit_slot_len (names_of self.now) }
     {
         2 * self.table.names.len()
     }
 
-    /// How many groups the pattern has, group 0 among them; 0 if there is no such pattern.
+    /// The number of groups of the pattern, group 0 among them; 0 if there is no such pattern.
     pub fn group_len(&self, pattern: PatternID) -> usize
         ensures { result ≡ group_len (names_of self.now) pattern }
     {
@@ -54,9 +53,9 @@ impl GroupInfo {
         }
     }
 
-    /// The slots of a group's start and end; `None` if there is no such pattern or group.
+    /// The slots of the start and the end of a group; `None` if there is no such pattern or group.
     ///
-    /// The whole match of pattern p is in the slots 2p and 2p + 1. The explicit groups' slots
+    /// The whole match of pattern p has the slots 2p and 2p + 1. The slots of the explicit groups
     /// follow, by pattern and then by number.
     pub fn slots(&self, pattern: PatternID, group: usize) -> Option<(usize, usize)>
         ensures { result ≡ slots (names_of self.now) pattern group }
@@ -68,8 +67,8 @@ impl GroupInfo {
         Some((slot, slot + 1))
     }
 
-    /// The group of that name, from 1 on; the first one if several have it, and `None` if none has
-    /// it or there is no such pattern.
+    /// The number of the group with this name, from 1 on. It is the first one if several have the
+    /// name, and `None` if none has it or there is no such pattern.
     pub fn to_index(&self, pattern: PatternID, name: &str) -> Option<usize>
         ensures { result ≡ to_index (names_of self.now) pattern name.now }
     {
@@ -101,8 +100,8 @@ impl GroupInfo {
     }
 }
 
-/// The groups of patterns with these names: for each pattern those of its explicit groups 1, 2, ..
-/// in order. An error means out of memory.
+/// Returns the groups of patterns with these names: for each pattern the names of its explicit
+/// groups 1, 2, .. in order. An `Err` means out of memory.
 pub fn group_info(alloc: Global, names: Vec<Vec<Option<String>>>) -> Result<GroupInfo, AllocError>
     ensures { IfOk result (λ g. names_of g ≡ names_in names.items) }
 {
@@ -110,8 +109,8 @@ pub fn group_info(alloc: Global, names: Vec<Vec<Option<String>>>) -> Result<Grou
     Ok(GroupInfo { table })
 }
 
-/// The same groups. The names are shared, so this takes no memory; an error means that there are
-/// too many copies.
+/// Returns a copy. It shares the names, so it takes no memory; an `Err` means that there are too
+/// many copies.
 pub fn copy_of(info: &GroupInfo) -> Result<GroupInfo, AllocError>
     ensures { IfOk result (λ g. names_of g ≡ names_of info.now) }
 {
@@ -119,7 +118,7 @@ pub fn copy_of(info: &GroupInfo) -> Result<GroupInfo, AllocError>
     Ok(GroupInfo { table })
 }
 
-/// Whether it is this name.
+/// Whether the name is this one.
 fn is_named(other: &Option<String>, name: &str) -> bool
     ensures { result ≡ is_named (option_map string_bytes other.now) name.now }
 {
@@ -129,7 +128,7 @@ fn is_named(other: &Option<String>, name: &str) -> bool
     }
 }
 
-/// How many groups are before the first one of that name.
+/// The number of groups before the first one with this name.
 fn position_of(names: &[Option<String>], name: &str) -> Option<usize>
     ensures { result
         ≡ position (λ other. is_named (option_map string_bytes other) name.now) names.now }
@@ -142,7 +141,7 @@ pub fn slots_are_shared_out()
     ensures { SlotsLaw }
 {}
 
-/// A name's group has that name. A law: it does nothing.
+/// The group of a name has that name. A law: it does nothing.
 pub fn names_and_groups_are_inverse()
     ensures { NamesLaw }
 {}

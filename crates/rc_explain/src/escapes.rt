@@ -3,7 +3,7 @@
 use crate::faults::FaultKind;
 use crate::places::Found;
 
-/// What is wrong with an escape that isn't read.
+/// The fault of an escape that doesn't parse.
 pub fn escape_fault(mark: &[char]) -> Found {
     match mark {
         ['\\'] => Found::new(FaultKind::DanglingBackslash, 0, 1),
@@ -31,7 +31,7 @@ fn brace_end(mark: &[char]) -> usize {
     mark.len()
 }
 
-/// What is wrong with `\b{` that isn't read.
+/// The fault of `\b{` that doesn't parse.
 fn boundary_fault(mark: &[char]) -> Found {
     for i in 0..mark.len() {
         if mark[i] == '}' {
@@ -41,7 +41,7 @@ fn boundary_fault(mark: &[char]) -> Found {
     Found::new(FaultKind::UnclosedBrace, 2, 3)
 }
 
-/// What is wrong with a code in braces.
+/// The fault of a code in braces.
 fn braced_fault(mark: &[char]) -> Found {
     for i in 3..mark.len() {
         let c = mark[i];
@@ -55,7 +55,7 @@ fn braced_fault(mark: &[char]) -> Found {
     Found::new(FaultKind::UnclosedBrace, 2, 3)
 }
 
-/// What is wrong with a code that would end there.
+/// The fault of a code that should end there.
 fn fixed_fault(mark: &[char], end: usize) -> Found {
     for i in 2..mark.len() {
         if i >= end {

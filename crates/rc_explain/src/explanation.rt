@@ -11,9 +11,9 @@ use rc_parser::{Config, Error, parse};
 use rc_text::types::Span;
 use std::alloc::{AllocError, Global};
 
-/// What is wrong with a text from which `parse` may read no pattern, and with which part of it.
+/// Returns what is wrong with a text that doesn't parse, and with which part of it.
 ///
-/// It is `None` if and only if a pattern is read from the text. An `Err` means out of memory.
+/// It returns `None` if and only if the text parses. An `Err` means out of memory.
 pub fn explain(alloc: Global, text: &str, config: &Config) -> Result<Option<Fault>, AllocError>
     ensures answer { IfOk result (λ found. MatchOption found
         (IsRead (settings_of config.now) (chars text.now))
@@ -30,7 +30,7 @@ pub fn explain(alloc: Global, text: &str, config: &Config) -> Result<Option<Faul
     }
 }
 
-/// What is wrong with a text that is refused at this byte.
+/// The fault of a text that is refused at this byte.
 fn fault_met_at(alloc: Global, text: &str, config: &Config, at: usize) -> Result<Fault, AllocError>
     ensures { IfOk result (λ fault. IsWithin fault.span text.now) }
 {

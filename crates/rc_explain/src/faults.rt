@@ -3,17 +3,17 @@
 use rc_text::types::Span;
 use std::fmt;
 
-/// What is wrong with the text of a pattern, and where.
+/// A fault: what is wrong with the text of a pattern, and where.
 #[derive(Clone, Copy, Debug, PartialEq, Eq)]
 pub struct Fault {
     /// What is wrong.
     pub kind: FaultKind,
-    /// The part of the text that the kind speaks of, in bytes: the opening `(`, `[`, `{` or `<` of
-    /// what isn't closed, and else what can't be there.
+    /// The part of the text that is at fault, in bytes: the opening `(`, `[`, `{` or `<` if it
+    /// isn't closed, and otherwise what isn't allowed there.
     pub span: Span,
 }
 
-/// What is wrong with the text of a pattern.
+/// The kinds of faults. The examples are texts with that fault.
 #[derive(Clone, Copy, Debug, PartialEq, Eq)]
 pub enum FaultKind {
     /// `(a`: the span is the `(`.
@@ -28,7 +28,7 @@ pub enum FaultKind {
     MissingFlags,
     /// `(?q)`
     UnknownFlag,
-    /// `(?x)`, if blanks and comments in a pattern would count for nothing.
+    /// `(?x)`: blanks and comments in a pattern always count.
     VerboseFlag,
     /// `(?ii)`, `(?i-i)`
     RepeatedFlag,
@@ -57,7 +57,7 @@ pub enum FaultKind {
     BoundsOutOfOrder,
     /// `[a`: the span is the `[`.
     UnclosedList,
-    /// `[]`, `[^]`, where a `]` that is first is a member, and no other closes the list.
+    /// `[]`, `[^]`: a `]` that comes first is a member, and no other closes the list.
     EmptyList,
     /// `[a[b]]`
     NestedList,
@@ -89,16 +89,16 @@ pub enum FaultKind {
     UnclosedBrace,
     /// `\b{word}`
     UnknownBoundary,
-    /// `(?-u).`, `(?-u)\xFF`, `(?-u)[^a]`, if a pattern may match nothing but UTF-8.
+    /// `(?-u).`, `(?-u)\xFF`, `(?-u)[^a]`, if a pattern may only match UTF-8.
     NotUtf8,
-    /// `.`, if a line terminator past ASCII is to be left out of the characters.
+    /// `.`, if it has to exclude a line terminator that is not ASCII, among characters.
     LineTerminator,
-    /// The nest limit is passed. The span is what is nested too deeply, from the opener of the
-    /// innermost open group on.
+    /// The pattern exceeds the nest limit. The span is the part that is nested too deeply, from the
+    /// opener of the innermost open group on.
     NestedTooDeeply,
 }
 
-/// What is wrong with a group that isn't read.
+/// The message for a group that doesn't parse.
 fn group_line(kind: FaultKind) -> Option<&'static str> {
     match kind {
         FaultKind::UnclosedGroup => Some("unclosed group"),
@@ -119,7 +119,7 @@ fn group_line(kind: FaultKind) -> Option<&'static str> {
     }
 }
 
-/// What is wrong with a list that isn't read.
+/// The message for a list that doesn't parse.
 fn list_line(kind: FaultKind) -> Option<&'static str> {
     match kind {
         FaultKind::UnclosedList => Some("unclosed list"),
@@ -135,7 +135,7 @@ fn list_line(kind: FaultKind) -> Option<&'static str> {
     }
 }
 
-/// What is wrong with an escape that isn't read.
+/// The message for an escape that doesn't parse.
 fn escape_line(kind: FaultKind) -> Option<&'static str> {
     match kind {
         FaultKind::DanglingBackslash => Some("nothing is escaped"),
@@ -150,7 +150,7 @@ fn escape_line(kind: FaultKind) -> Option<&'static str> {
     }
 }
 
-/// What is wrong with a repetition, or a pattern as a whole.
+/// The message for a repetition, or a pattern as a whole.
 fn other_line(kind: FaultKind) -> &'static str {
     match kind {
         FaultKind::RepetitionOfNothing => "repetition of nothing",
@@ -165,7 +165,7 @@ fn other_line(kind: FaultKind) -> &'static str {
 }
 
 impl FaultKind {
-    /// A line that says what is wrong.
+    /// A one-line message that says what is wrong.
     pub fn line(self) -> &'static str {
         group_line(self)
             .or(list_line(self))

@@ -17,12 +17,12 @@ fn front(mark: &[char]) -> (usize, bool) {
     }
 }
 
-/// Whether two characters that are adjacent are an operation on sets.
+/// Whether two adjacent characters are a set operation.
 fn is_operation(before: char, c: char) -> bool {
     before == c && (c == '&' || c == '~')
 }
 
-/// What is wrong with a list that is no mark. Its first fault counts.
+/// The fault of a list that is no token. Its first fault counts.
 pub fn list_fault(alloc: Global, mark: &[char]) -> Result<Found, AllocError> {
     let (start, has_bracket) = front(mark);
     let mut at = start;
@@ -59,7 +59,7 @@ fn nested_fault(mark: &[char], at: usize) -> Found {
     }
 }
 
-/// How many characters an escape in a list takes, or what is wrong with it.
+/// The number of characters of an escape in a list, or its fault.
 fn escape_in_list(alloc: Global, mark: &[char]) -> Result<Result<usize, Found>, AllocError> {
     match first_mark(alloc, mark)? {
         Some((Token::Assertion(_), count)) => {
@@ -79,7 +79,7 @@ fn code_of(is_unicode: bool, member: Member) -> Option<u32> {
     }
 }
 
-/// What is wrong with the range that begins with this member, counted in members.
+/// The fault of the range that begins with this member, counted in members.
 fn range_fault(is_unicode: bool, first: Member, last: Member, at: usize) -> Option<Found> {
     let (from, end) = (at.saturating_add(2), at.saturating_add(3));
     match last {
@@ -95,7 +95,7 @@ fn range_fault(is_unicode: bool, first: Member, last: Member, at: usize) -> Opti
     }
 }
 
-/// What is wrong with a hyphen that stands for itself, counted in members.
+/// The fault of a hyphen that stands for itself, counted in members.
 fn hyphen_fault(after_range: bool, following: Option<Member>, at: usize) -> Option<Found> {
     match following {
         Some(Member::Hyphen) => Some(Found::new(FaultKind::SetOperation, at, at.saturating_add(2))),
@@ -108,7 +108,7 @@ fn hyphen_fault(after_range: bool, following: Option<Member>, at: usize) -> Opti
     }
 }
 
-/// What is wrong with members that are no items, counted in members.
+/// The fault of members that are no items, counted in members.
 fn items_fault(is_unicode: bool, list: &List) -> Option<Found> {
     let members = list.members.as_slice();
     let mut past = 0;
@@ -161,7 +161,7 @@ fn place_of(alloc: Global, mark: &[char], number: usize) -> Result<usize, AllocE
     Ok(at)
 }
 
-/// What is wrong with the members of a list that is a mark; `None` if they are its items.
+/// The fault of the members of a list that is a token; `None` if they are its items.
 pub fn members_fault(
     alloc: Global,
     is_unicode: bool,

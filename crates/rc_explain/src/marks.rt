@@ -12,7 +12,7 @@ use rc_tokens::refusal::Refusal;
 use rc_tokens::tokens::{Opening, Token};
 use std::alloc::{AllocError, Global};
 
-/// The first mark of a text, and of how many characters it is; `None` if no mark begins the text.
+/// The first token of a text, and its number of characters; `None` if no token begins the text.
 pub fn first_mark(alloc: Global, text: &[char]) -> Result<Option<(Token, usize)>, AllocError> {
     match first_token(alloc, text) {
         Ok((token, rest)) => Ok(Some((token, text.len().saturating_sub(rest.len())))),
@@ -35,7 +35,7 @@ struct OpenGroup {
     is_unicode_outside: bool,
 }
 
-/// What the marks so far leave.
+/// The state after the tokens so far.
 #[derive(Drop)]
 struct Standing {
     groups: Vec<OpenGroup>,
@@ -46,7 +46,7 @@ struct Standing {
 }
 
 impl Standing {
-    /// Goes past a mark that is at this place.
+    /// Goes past a token at this position.
     fn pass(&mut self, token: &Token, at: usize) -> Result<(), AllocError> {
         self.has_item = match token {
             Token::Bar | Token::Setting(_) | Token::Opens(_) => false,
@@ -74,7 +74,7 @@ impl Standing {
         Ok(())
     }
 
-    /// The innermost open group goes too deep, or the whole pattern.
+    /// The fault of nesting too deeply: of the innermost open group, or of the whole pattern.
     fn too_deep(&self, end: usize) -> Found {
         let start = match self.groups.last() {
             Some(group) => group.at,
@@ -83,7 +83,7 @@ impl Standing {
         Found::new(FaultKind::NestedTooDeeply, start, end)
     }
 
-    /// What is wrong at the end of the text.
+    /// The fault at the end of the text.
     fn end_fault(&self, end: usize) -> Found {
         match self.groups.last() {
             Some(group) => Found::new(
@@ -95,7 +95,7 @@ impl Standing {
         }
     }
 
-    /// What is wrong with a mark that can't be at this place.
+    /// The fault of a token that isn't allowed at this position.
     fn mark_fault(
         &self,
         alloc: Global,
@@ -134,7 +134,7 @@ impl Standing {
     }
 }
 
-/// What is wrong with a text that begins with no mark.
+/// The fault of a text that begins with no token.
 fn unread_mark(alloc: Global, mark: &[char]) -> Result<Found, AllocError> {
     match mark.first().copied() {
         Some('[') => list_fault(alloc, mark),
@@ -144,7 +144,7 @@ fn unread_mark(alloc: Global, mark: &[char]) -> Result<Found, AllocError> {
     }
 }
 
-/// What is wrong with a text that is read up to the character at `stop`, and not with it.
+/// The fault of a text that parses up to the character at `stop`, and not with it.
 pub fn fault_at(
     alloc: Global,
     config: &Config,

@@ -3,7 +3,7 @@
 use crate::faults::FaultKind;
 use crate::places::Found;
 
-/// What is wrong with an opening of a group that isn't read.
+/// The fault of a group opening that doesn't parse.
 pub fn opening_fault(mark: &[char]) -> Found {
     match mark {
         ['(', '?', '=', ..] | ['(', '?', '!', ..] => Found::new(FaultKind::LookAround, 0, 3),
@@ -29,7 +29,7 @@ fn is_in_name(c: char, is_first: bool) -> bool {
     !is_first && (c.is_ascii_digit() || c == '.' || c == '[' || c == ']')
 }
 
-/// What is wrong with a name that begins there.
+/// The fault of a name that begins there.
 fn name_fault(mark: &[char], from: usize) -> Found {
     for i in from..mark.len() {
         let c = mark[i];
@@ -43,7 +43,7 @@ fn name_fault(mark: &[char], from: usize) -> Found {
     Found::new(FaultKind::UnclosedName, from.saturating_sub(1), from)
 }
 
-/// The name of the group that opens so: what is between `<` and `>`.
+/// The name of the group: what is between `<` and `>`.
 pub fn name_of(mark: &[char]) -> (usize, usize) {
     let mut start = 0;
     for i in 0..mark.len() {
@@ -57,7 +57,7 @@ pub fn name_of(mark: &[char]) -> (usize, usize) {
     (start, mark.len())
 }
 
-/// What is wrong with flags that aren't read.
+/// The fault of flags that don't parse.
 fn flags_fault(mark: &[char]) -> Found {
     let mut are_cleared = false;
     for i in 2..mark.len() {

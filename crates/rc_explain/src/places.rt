@@ -4,13 +4,13 @@ ghost use Rattle.std.specs.Prelude.{◌≡◌, length, IsCharBoundary};
 
 use crate::faults::FaultKind;
 
-/// What is wrong, and with which characters.
+/// A kind of fault, with the characters at fault.
 #[derive(Clone, Copy)]
 pub struct Found {
     pub kind: FaultKind,
     /// The number of characters before the first.
     pub start: usize,
-    /// The number of characters up to the last and with it.
+    /// The number of characters up to and including the last.
     pub end: usize,
 }
 
@@ -19,7 +19,7 @@ impl Found {
         Found { kind, start, end }
     }
 
-    /// The same, in a text with `count` characters more before it.
+    /// The fault in a text with `count` more characters before it.
     pub fn after(self, count: usize) -> Found {
         Found {
             kind: self.kind,
@@ -29,7 +29,7 @@ impl Found {
     }
 }
 
-/// How many characters end up to this byte.
+/// The number of characters that end at or before this byte.
 pub fn characters_before(text: &[char], byte: usize) -> usize {
     let mut seen: usize = 0;
     for i in 0..text.len() {

@@ -20,7 +20,7 @@ fn is_at(mark: &[char], at: usize, c: char) -> bool {
     mark.get(at).copied() == Some(c)
 }
 
-/// What is wrong with a `{` that begins no repetition.
+/// The fault of a `{` that begins no repetition.
 pub fn counted_fault(mark: &[char]) -> Found {
     let (min, end) = number_at(mark, 1);
     if end > 1 && min > u32::MAX as u64 {
@@ -32,7 +32,7 @@ pub fn counted_fault(mark: &[char]) -> Found {
     unended_fault(mark, end)
 }
 
-/// What is wrong with a second number that begins there.
+/// The fault of a second number that begins there.
 fn second_fault(mark: &[char], min: u64, from: usize) -> Found {
     let (max, end) = number_at(mark, from);
     if max > u32::MAX as u64 {
@@ -44,7 +44,7 @@ fn second_fault(mark: &[char], min: u64, from: usize) -> Found {
     unended_fault(mark, end)
 }
 
-/// No repetition ends there.
+/// The fault of a repetition that doesn't end there.
 fn unended_fault(mark: &[char], end: usize) -> Found {
     if end >= mark.len() && end > 1 {
         return Found::new(FaultKind::UnclosedRepetition, 0, 1);

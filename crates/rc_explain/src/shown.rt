@@ -3,15 +3,15 @@
 use crate::faults::Fault;
 use std::fmt;
 
-/// A text and what is wrong with it. It is shown as a line that says what, the line of the text in
-/// which the fault begins, and a line with carets below what the fault speaks of.
+/// A text and its fault, for display. It shows a message, the line of the text in which the fault
+/// begins, and a line with carets below the part at fault.
 #[derive(Clone, Copy, Debug)]
 pub struct Explained<'t> {
     pub text: &'t str,
     pub fault: Fault,
 }
 
-/// The line of the text in which this byte is: where it begins, how many lines are before it, and
+/// The line of the text that contains this byte: where it begins, how many lines are before it, and
 /// the line itself.
 fn line_at(text: &str, at: usize) -> (usize, usize, &str) {
     let mut start: usize = 0;
@@ -27,8 +27,8 @@ fn line_at(text: &str, at: usize) -> (usize, usize, &str) {
     (start, number, "")
 }
 
-/// Puts what is below a line: blanks up to the span, and a caret below each of its characters, one
-/// at least.
+/// Writes what is below a line: blanks up to the span, and a caret below each of its characters, at
+/// least one.
 fn put_carets<W: fmt::Write>(
     f: &mut fmt::Formatter<W>,
     line: &str,

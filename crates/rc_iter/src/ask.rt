@@ -8,7 +8,7 @@ ghost use Rattle.rc_iter.specs.Finders.{Answers, AnswersAs, IsLawfulFinder, Lies
 use crate::kept::KeptInput;
 use rc_text::types::{HalfMatch, Match, MatchError};
 
-/// What a finder answers over an input.
+/// Returns what a finder returns for an input.
 pub(crate) fn ask<F: FnMut(&mut I) -> Result<Option<Match>, MatchError>, I: KeptInput>(
     finder: &mut F,
     input: &mut I,
@@ -28,7 +28,7 @@ pub(crate) fn ask<F: FnMut(&mut I) -> Result<Option<Match>, MatchError>, I: Kept
     finder(input)
 }
 
-/// The same, of a finder of half matches.
+/// Returns what a finder of half matches returns for an input.
 pub(crate) fn ask_half<F: FnMut(&mut I) -> Result<Option<HalfMatch>, MatchError>, I: KeptInput>(
     finder: &mut F,
     input: &mut I,

@@ -8,12 +8,13 @@ use rc_text::input::Input;
 use rc_text::types::{HalfMatch, MatchError};
 use std::marker::Model;
 
-/// The half matches over a finder and an `Input<C>`.
+/// An iterator over the half matches that a finder finds in an `Input<C>`.
 pub type TryHalfMatchesIter<F, C> = TryHalfMatchesOf<F, Input<C>>;
 
-/// The half matches that a finder gives, one after another, as `SearcherOf::try_advance_half` says.
+/// An iterator over the half matches that a finder finds, one after another, as
+/// `SearcherOf::try_advance_half` does.
 ///
-/// An error of the finder is an item, and nothing comes after it.
+/// An error of the finder is an item, and the last one.
 #[derive(Drop)]
 pub struct TryHalfMatchesOf<F, I: KeptInput> {
     searcher: SearcherOf<I>,
@@ -32,7 +33,7 @@ impl<F, I: KeptInput> Model for TryHalfMatchesOf<F, I> {
 impl<I: KeptInput + Drop> SearcherOf<I> {
     ghost use Rattle.rc_iter.specs.Halves.{HalvesLaw, going};
 
-    /// The half matches from here on.
+    /// Returns an iterator over the half matches from here on.
     pub fn into_half_matches_iter<F: FnMut(&mut I) -> Result<Option<HalfMatch>, MatchError>>(
         self,
         finder: F,

@@ -6,9 +6,9 @@ ghost use Rattle.rc_iter.specs.Finders.{with_start};
 use rc_text::cursor::Cursor;
 use rc_text::input::Input;
 
-/// An input that a searcher can keep: `Input` alone implements it.
+/// An input that a searcher can keep. Only `Input` implements it.
 ///
-/// It stands in the place of `Input<C>` in the bounds of finders.
+/// The bounds of finders use it in place of `Input<C>`.
 pub trait KeptInput {
     /// The input as contracts see it.
     ghost searched: { Self → Searched };

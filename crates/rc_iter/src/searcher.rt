@@ -16,10 +16,10 @@ pub type Searcher<C> = SearcherOf<Input<C>>;
 
 /// An input, and where the last match in it ended.
 ///
-/// Each call of `advance`, `try_advance` or `try_advance_half` gives the next match that a finder
-/// finds. A finder is called with the kept input. Each of its calls has to leave the input's span,
-/// slice, anchoring and earliest flag, and a match that it returns has to lie from the input's
-/// start to its end, and in the content.
+/// Each call of `advance`, `try_advance` or `try_advance_half` returns the next match that a finder
+/// finds. A finder is called with the kept input. Each of its calls has to leave the span, the
+/// slice, the anchoring and the earliest flag of the input. A match that it returns has to be
+/// within the bounds of the input and in the content.
 #[derive(Drop)]
 pub struct SearcherOf<I: KeptInput> {
     input: I,
@@ -38,7 +38,7 @@ impl<I: KeptInput + Drop> SearcherOf<I> {
     ghost use Rattle.std.specs.Borrow.{Lends, sem};
     ghost use Rattle.rc_iter.specs.contracts.searcher.SearcherOf.{the_row};
 
-    /// A searcher of the input, with no last match.
+    /// Returns a searcher of the input, with no last match.
     pub fn new(input: I) -> SearcherOf<I>
         ensures input { result.input ≡ I.searched input }
         ensures last { result.last ≡ None }
@@ -46,7 +46,7 @@ impl<I: KeptInput + Drop> SearcherOf<I> {
         SearcherOf { input, last: None }
     }
 
-    /// Lends the kept input. It may be changed: the next search is over what it then is. The
+    /// The kept input. You may change it: the next search goes on in the changed input, and the
     /// searcher is otherwise as before.
     pub fn input(&mut self) -> &mut I
         ensures* kept { sem 𝓛 (Lends (the_row I.row I.KeptInput) I.row self.entry result
@@ -56,7 +56,7 @@ impl<I: KeptInput + Drop> SearcherOf<I> {
         &mut self.input
     }
 
-    /// The next match, or an error of the finder, as `try_advance` says.
+    /// Returns the next match, or an error of the finder, as `try_advance` does.
     pub fn advance<F: FnMut(&mut I) -> Result<Option<Match>, MatchError>>(
         &mut self,
         finder: F,
@@ -73,11 +73,13 @@ impl<I: KeptInput + Drop> SearcherOf<I> {
         self.try_advance(finder)
     }
 
-    /// The next match: what the finder answers from where the last match ended, or if that is an
-    /// empty match that ends there too, what it returns from a byte later.
+    /// Returns the next match: the one that the finder finds from where the last match ended. If
+    /// that is an empty match that ends there too, it is the one that the finder finds from a byte
+    /// later.
     ///
-    /// An error is the finder's. After a match the kept input's span begins where the match ends.
-    /// After None and after an error all is as before, except the input's position and chunk.
+    /// An error is the finder's. After a match the span of the kept input begins where the match
+    /// ends. After `None` and after an error everything is as before, except the position and the
+    /// chunk of the input.
     pub fn try_advance<F: FnMut(&mut I) -> Result<Option<Match>, MatchError>>(
         &mut self,
         mut finder: F,
@@ -109,11 +111,13 @@ impl<I: KeptInput + Drop> SearcherOf<I> {
         Ok(Some(found))
     }
 
-    /// The pattern and the end of the next match: the half that the finder answers from where the
-    /// last match ended, or if that half ends there too, what it returns from a byte later.
+    /// Returns the pattern and the end of the next match: the half match that the finder finds from
+    /// where the last match ended. If that ends there too, it is the one that the finder finds from
+    /// a byte later.
     ///
-    /// An error is the finder's. After a half the kept input's span begins where it ends. After
-    /// None and after an error all is as before, except the input's position and chunk.
+    /// An error is the finder's. After a half match the span of the kept input begins where it
+    /// ends. After `None` and after an error everything is as before, except the position and the
+    /// chunk of the input.
     pub fn try_advance_half<F: FnMut(&mut I) -> Result<Option<HalfMatch>, MatchError>>(
         &mut self,
         mut finder: F,
@@ -133,7 +137,7 @@ impl<I: KeptInput + Drop> SearcherOf<I> {
         self.next_half(&mut finder)
     }
 
-    /// The same, by a borrowed finder.
+    /// Returns the next half match, as `try_advance_half` does, by a borrowed finder.
     pub(crate) fn next_half<F: FnMut(&mut I) -> Result<Option<HalfMatch>, MatchError>>(
         &mut self,
         finder: &mut F,

@@ -24,11 +24,11 @@ use rc_tokens::tokens::{Bounds, Change, Opening, Token};
 use std::alloc::{AllocError, Global};
 use std::mem;
 
-/// A body that is being read.
+/// A body that is being parsed.
 #[derive(Drop)]
 pub struct Level {
     pub flags: Flags,
-    /// How many groups are opened so far.
+    /// The number of groups opened so far.
     pub groups: usize,
     /// Their names.
     pub names: Vec<String>,
@@ -94,7 +94,7 @@ impl Level {
         self.branches.push(branch)
     }
 
-    /// The body as one part. It takes the branches.
+    /// The body as one part. It consumes the branches.
     fn whole(&mut self, alloc: Global, config: Config) -> Result<Nested, Refusal>
         ensures value { IsResultOf result (whole (settings_of config) (level self.old)) part }
         ensures groups { self.new.groups ≡ self.old.groups }
@@ -175,7 +175,7 @@ impl Work {
         }
     }
 
-    /// No operator can follow the last item any more.
+    /// Ends the last item: no operator can follow it any more.
     fn settle(&mut self) -> Result<(), Refusal>
         ensures value { MatchResult result (λ _. state self.new ≡ work (settled (state self.old).last (state self.old).level) None (state self.old).outer) (λ e. e ≡ Refusal.Memory) }
         ensures last { OnOk result (self.new.last ≡ None) }
@@ -210,7 +210,7 @@ impl Work {
         })
     }
 
-    /// Goes into a group.
+    /// Enters a group.
     fn enter(
         &mut self,
         alloc: Global,
@@ -290,7 +290,7 @@ impl Work {
         Ok(())
     }
 
-    /// A mark that stands alone is the last item.
+    /// Makes a token that stands alone the last item.
     fn put(&mut self, item: Result<Nested, Refusal>) -> Result<(), Refusal>
         requires { self.old.last ≡ None }
         ensures value { MatchResult item (λ n. IsOk result × (state self.new ≡ work (state self.old).level (Some (part n)) (state self.old).outer)) (λ e. result ≡ Err e) }
@@ -306,7 +306,7 @@ impl Work {
         }
     }
 
-    /// Reads one mark that is no operator.
+    /// Reads one token that is no operator.
     fn step(&mut self, alloc: Global, token: Token) -> Result<(), Refusal>
         requires last { self.old.last ≡ None }
         requires room { self.old.level.groups < 2 ^ 64 - 1 }
@@ -331,7 +331,7 @@ impl Work {
         }
     }
 
-    /// Reads one mark more.
+    /// Reads one more token.
     pub fn accept(&mut self, alloc: Global, token: Token) -> Result<(), Refusal>
         requires { self.old.level.groups < 2 ^ 64 - 1 }
         ensures value { IsResultOf result (take_said (settings_of self.old.config) (said_of token) (state self.old)) (λ _. state self.new) }

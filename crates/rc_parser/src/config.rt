@@ -6,7 +6,7 @@ ghost use Rattle.rc_parser.specs.Pieces.{depth_limit};
 
 use crate::flags::Flags;
 
-/// The settings of a reader of patterns.
+/// The settings of the parser.
 #[derive(Clone, Copy, Debug, PartialEq, Eq)]
 pub struct Config {
     unicode: bool,
@@ -21,8 +21,8 @@ pub struct Config {
 }
 
 impl Config {
-    /// `unicode` and `utf8` are on, all other flags are off, the line terminator is LF, and the
-    /// nest limit is 250.
+    /// Returns the default settings: `unicode` and `utf8` are on, all other flags are off, the line
+    /// terminator is LF, and the nest limit is 250.
     pub fn new() -> Config
         ensures { settings_of result ≡ default_settings }
     {
@@ -39,22 +39,22 @@ impl Config {
         }
     }
 
-    /// A scalar if it is on, a byte if it is off: what classes and dots hold, and how word
-    /// assertions look. It is the flag `u` at the start.
+    /// Sets the flag `u` at the start: whether classes and dots match characters or bytes, and
+    /// whether word assertions look at characters or bytes.
     pub fn unicode(self, unicode: bool) -> Config
         ensures { settings_of result ≡ record (settings_of self) { unicode = unicode } }
     {
         Config { unicode, ..self }
     }
 
-    /// Whether a pattern that can match what is no UTF-8 is refused.
+    /// Sets whether a pattern is refused if it can match something that is not UTF-8.
     pub fn utf8(self, utf8: bool) -> Config
         ensures { settings_of result ≡ record (settings_of self) { utf8 = utf8 } }
     {
         Config { utf8, ..self }
     }
 
-    /// The flag `i` at the start.
+    /// Sets the flag `i` at the start.
     pub fn case_insensitive(self, case_insensitive: bool) -> Config
         ensures { settings_of result ≡ record (settings_of self) { case_insensitive = case_insensitive } }
     {
@@ -64,14 +64,14 @@ impl Config {
         }
     }
 
-    /// The flag `m` at the start.
+    /// Sets the flag `m` at the start.
     pub fn multi_line(self, multi_line: bool) -> Config
         ensures { settings_of result ≡ record (settings_of self) { multi_line = multi_line } }
     {
         Config { multi_line, ..self }
     }
 
-    /// The flag `s` at the start.
+    /// Sets the flag `s` at the start.
     pub fn dot_matches_new_line(self, dot_matches_new_line: bool) -> Config
         ensures { settings_of result ≡ record (settings_of self) { dot_matches_new_line = dot_matches_new_line } }
     {
@@ -81,14 +81,14 @@ impl Config {
         }
     }
 
-    /// The flag `R` at the start.
+    /// Sets the flag `R` at the start.
     pub fn crlf(self, crlf: bool) -> Config
         ensures { settings_of result ≡ record (settings_of self) { crlf = crlf } }
     {
         Config { crlf, ..self }
     }
 
-    /// The byte that the dot leaves out.
+    /// Sets the byte that the dot excludes.
     pub fn line_terminator(self, line_terminator: u8) -> Config
         ensures { settings_of result ≡ record (settings_of self) { line_terminator = line_terminator } }
     {
@@ -98,14 +98,14 @@ impl Config {
         }
     }
 
-    /// The flag `U` at the start.
+    /// Sets the flag `U` at the start.
     pub fn swap_greed(self, swap_greed: bool) -> Config
         ensures { settings_of result ≡ record (settings_of self) { swap_greed = swap_greed } }
     {
         Config { swap_greed, ..self }
     }
 
-    /// How deep a pattern may be nested. More than 250 is read as 250.
+    /// Sets how deep a pattern may be nested. More than 250 is read as 250.
     pub fn nest_limit(self, nest_limit: u32) -> Config
         ensures { settings_of result ≡ record (settings_of self) { nest_limit = nest_limit } }
     {

@@ -5,7 +5,7 @@ ghost use Rattle.rc_parser.specs.Grammar.{set_flags};
 
 use rc_tokens::tokens::Change;
 
-/// The flags that hold at a place of a pattern.
+/// The flags that are on at a point of a pattern.
 #[derive(Clone, Copy)]
 pub struct Flags {
     /// `i`

@@ -15,7 +15,7 @@ use rc_pattern::hir::Hir;
 use rc_tokens::refusal::Refusal;
 use std::alloc::Global;
 
-/// One level more, within the limit.
+/// The pattern one level deeper, if that is within the limit.
 pub fn one_deeper(config: Config, hir: Hir, depth: u32) -> Option<Nested>
     requires { IsTrue (has_plain_nodes hir) }
     ensures { option_map part result ≡ deeper (settings_of config) (meaning hir) depth }
@@ -48,7 +48,7 @@ impl Parts {
         Ok(())
     }
 
-    /// The parts one after another.
+    /// Concatenates the parts.
     pub fn join_concat(self, alloc: Global, config: Config) -> Result<Nested, Refusal>
         ensures { IsResultOf result (join (settings_of config) concat_of (parts self)) part }
     {
@@ -64,7 +64,7 @@ impl Parts {
         one_deeper(config, hir, deepest).ok_or(Refusal::Syntax)
     }
 
-    /// One of the parts.
+    /// Alternates the parts.
     pub fn join_alternation(self, alloc: Global, config: Config) -> Result<Nested, Refusal>
         ensures { IsResultOf result (join (settings_of config) alternation_of (parts self)) part }
     {

@@ -25,10 +25,10 @@ use rc_tokens::lexer::first_token;
 use rc_tokens::refusal::Refusal;
 use std::alloc::{AllocError, Global};
 
-/// Why the characters aren't read.
+/// Why the characters don't parse.
 #[derive(Drop)]
 pub enum Fault {
-    /// How many characters are left.
+    /// The number of characters that are left.
     Syntax(usize),
     Memory,
 }
@@ -81,11 +81,11 @@ fn characters(alloc: Global, text: &str) -> Result<Vec<char>, AllocError>
     text.chars().collect(alloc)
 }
 
-/// Reads the text of a pattern.
+/// Parses the text of a pattern.
 ///
-/// The answer is the pattern as which the grammar reads the text, and is well-formed. No node of it
-/// is a concatenation of nothing, and of the empty text it is the node `Empty`. `Syntax` comes only
-/// if the grammar reads none, and `Memory` means out of memory.
+/// It returns the pattern that the grammar gives the text. That pattern is well-formed. None of its
+/// nodes is a concatenation of nothing, and the empty text is the node `Empty`. It fails with
+/// `Syntax` only if the grammar gives no pattern, and with `Memory` if it runs out of memory.
 pub fn parse(alloc: Global, text: &str, config: &Config) -> Result<Hir, Error>
     ensures reads { MatchResult result
         (λ h. Reads (settings_of config.now) (chars text.now) (meaning h))
@@ -110,17 +110,17 @@ pub fn parse(alloc: Global, text: &str, config: &Config) -> Result<Hir, Error>
     }
 }
 
-/// No text is read as two patterns.
+/// No text parses as two patterns.
 pub fn reads_as_one()
     ensures { OneLaw }
 {}
 
-/// What is read is well-formed.
+/// A parsed pattern is well-formed.
 pub fn reads_well_formed()
     ensures { WellFormedLaw }
 {}
 
-/// Under the default settings a text without special characters is read as its UTF-8 bytes.
+/// Under the default settings a text without special characters parses as its UTF-8 bytes.
 pub fn reads_plain()
     ensures { PlainLaw }
 {}

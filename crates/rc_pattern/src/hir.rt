@@ -21,9 +21,9 @@ use std::alloc::{AllocError, Global};
 /// An assertion about a position. It reads no byte.
 #[derive(Clone, Copy, Debug, PartialEq, Eq)]
 pub enum Look {
-    /// The start of what is searched.
+    /// The start of the slice.
     Start,
-    /// The end of what is searched.
+    /// The end of the slice.
     End,
     /// The start of a line, if the line terminator ends lines.
     StartLF,
@@ -33,17 +33,17 @@ pub enum Look {
     StartCRLF,
     /// The end of a line, if CR, LF and CR with LF end lines.
     EndCRLF,
-    /// An ASCII word character on one side alone.
+    /// An ASCII word character on exactly one side.
     WordAscii,
-    /// An ASCII word character on both sides or on none.
+    /// An ASCII word character on both sides or on neither.
     WordAsciiNegate,
-    /// A word character on one side alone.
+    /// A word character on exactly one side.
     WordUnicode,
-    /// A word character on both sides or on none.
+    /// A word character on both sides or on neither.
     WordUnicodeNegate,
-    /// The start of a word of ASCII.
+    /// The start of an ASCII word.
     WordStartAscii,
-    /// The end of a word of ASCII.
+    /// The end of an ASCII word.
     WordEndAscii,
     /// The start of a word.
     WordStartUnicode,
@@ -84,8 +84,8 @@ pub enum Class {
 
 /// A pattern.
 ///
-/// It may be nested without bound. What drops it, and `properties`, make a call for each level, and
-/// a stack of 8 MiB bears 2,000 levels and more.
+/// It may be nested without bound. Dropping it and `properties` recurse once for each level; a
+/// stack of 8 MiB allows at least 2,000 levels.
 #[cycle(hir)]
 #[derive(Drop)]
 pub struct Hir {
@@ -104,7 +104,7 @@ pub enum HirKind {
     Class(Class),
     /// The empty text, if the assertion holds.
     Look(Look),
-    /// Turns of a pattern.
+    /// Repetitions of a pattern.
     Repetition(Repetition),
     /// A group.
     Capture(Capture),
@@ -114,8 +114,8 @@ pub enum HirKind {
     Alternation(Vec<Hir>),
 }
 
-/// From `min` to `max` turns of a pattern, without a bound if `max` is `None`. More turns are
-/// preferred if it is `greedy`, and fewer if it isn't.
+/// From `min` to `max` repetitions of a pattern, without a bound if `max` is `None`. If it is
+/// `greedy`, more repetitions are preferred, and otherwise fewer.
 #[cycle(hir)]
 #[derive(Drop)]
 pub struct Repetition {
@@ -137,7 +137,7 @@ pub struct Capture {
 impl Hir {
     ghost use Rattle.rc_pattern.specs.PropertiesOf.{IsPropertiesOf};
 
-    /// The pattern that spells nothing but the empty text.
+    /// Returns the pattern that matches only the empty text.
     pub fn empty() -> Hir
         ensures meaning { meaning result ≡ re.empty }
         ensures kind { IsTrue (has_plain_nodes result) }
@@ -147,7 +147,7 @@ impl Hir {
         }
     }
 
-    /// The pattern that spells no text at all: the class of no byte.
+    /// Returns the pattern that matches nothing at all: the class of no byte.
     pub fn fail(alloc: Global) -> Hir
         ensures meaning { meaning result ≡ re.byte_in [] }
         ensures kind { IsTrue (has_plain_nodes result) }
@@ -155,7 +155,7 @@ impl Hir {
         Hir::class(Class::Bytes(Vec::new(alloc)))
     }
 
-    /// These bytes. Of no bytes it is `empty`. An `Err` means out of memory.
+    /// Returns the pattern of these bytes. Of no bytes it is `empty`. An `Err` means out of memory.
     pub fn literal(alloc: Global, bytes: &[u8]) -> Result<Hir, AllocError>
         ensures meaning { IfOk result (λ h. meaning h ≡ literal_of bytes.now) }
         ensures kind { IfOk result (λ h. IsTrue (has_plain_nodes h)) }
@@ -168,7 +168,8 @@ impl Hir {
         })
     }
 
-    /// One character or one byte of the class, whose ranges stay as they are given.
+    /// Returns the pattern of one character or one byte of the class. The ranges stay as you pass
+    /// them.
     pub fn class(class: Class) -> Hir
         ensures meaning { meaning result ≡ class_meaning class }
         ensures kind { IsTrue (has_plain_nodes result) }
@@ -178,7 +179,7 @@ impl Hir {
         }
     }
 
-    /// The assertion.
+    /// Returns the pattern of the assertion.
     pub fn look(look: Look) -> Hir
         ensures meaning { meaning result ≡ re.look look }
         ensures kind { IsTrue (has_plain_nodes result) }
@@ -188,7 +189,7 @@ impl Hir {
         }
     }
 
-    /// The class of what the dot leaves in. An `Err` means out of memory.
+    /// Returns the class that the dot matches. An `Err` means out of memory.
     pub fn dot(alloc: Global, dot: Dot) -> Result<Hir, AllocError>
         ensures meaning { IfOk result (λ h. meaning h ≡ dot_of dot) }
         ensures kind { IfOk result (λ h. IsTrue (has_plain_nodes h)) }
@@ -196,7 +197,7 @@ impl Hir {
         Ok(Hir::class(dots::class_of(alloc, dot)?))
     }
 
-    /// The repetition, as it is given.
+    /// Returns the pattern of the repetition, as you pass it.
     pub fn repetition(repetition: Repetition) -> Hir
         ensures meaning { meaning result ≡ repetition_meaning repetition }
         ensures kind { has_plain_nodes result ≡ repetition_has_plain_nodes repetition }
@@ -206,7 +207,7 @@ impl Hir {
         }
     }
 
-    /// The group, as it is given.
+    /// Returns the pattern of the group, as you pass it.
     pub fn capture(capture: Capture) -> Hir
         ensures meaning { meaning result ≡ capture_meaning capture }
         ensures kind { has_plain_nodes result ≡ capture_has_plain_nodes capture }
@@ -216,9 +217,9 @@ impl Hir {
         }
     }
 
-    /// One pattern after another. An empty one is dropped, a concatenation gives its members, and
-    /// neighbouring literals are joined. No member left is `empty`, and one stands for itself. An
-    /// `Err` means out of memory, and the patterns are dropped then.
+    /// Returns the concatenation of the patterns. It drops empty ones, takes the members of
+    /// concatenations, and joins adjacent literals. No remaining member is `empty`, and a single
+    /// member is returned itself. An `Err` means out of memory, and the patterns are dropped then.
     pub fn concat(alloc: Global, subs: Vec<Hir>) -> Result<Hir, AllocError>
         ensures meaning { IfOk result (λ h. meaning h ≡ concat_of (map meaning subs.items)) }
         ensures kind { IfOk result (λ h. IsTrue (all_have_plain_nodes subs.items) → IsTrue (has_plain_nodes h)) }
@@ -233,9 +234,9 @@ impl Hir {
         Ok(members.pop().unwrap_or(Hir::empty()))
     }
 
-    /// One of the patterns, the earlier ones preferred. An alternation gives its members. No member
-    /// is `fail`, and one stands for itself. An `Err` means out of memory, and the patterns are
-    /// dropped then.
+    /// Returns the alternation of the patterns, the earlier ones preferred. It takes the members of
+    /// alternations. No member is `fail`, and a single member is returned itself. An `Err` means
+    /// out of memory, and the patterns are dropped then.
     pub fn alternation(alloc: Global, subs: Vec<Hir>) -> Result<Hir, AllocError>
         ensures meaning { IfOk result (λ h. meaning h ≡ alternation_of (map meaning subs.items)) }
         ensures kind { IfOk result (λ h. IsTrue (all_have_plain_nodes subs.items) → IsTrue (has_plain_nodes h)) }
@@ -249,7 +250,7 @@ impl Hir {
         Ok(members.pop().unwrap_or(Hir::fail(alloc)))
     }
 
-    /// The pattern of this node, as it is given.
+    /// Returns the pattern of this node, as it is passed.
     pub(crate) fn from_kind(kind: HirKind) -> Hir
         ensures meaning { meaning result ≡ kind_meaning kind }
         ensures kind { has_plain_nodes result ≡ kind_has_plain_nodes kind }
@@ -257,15 +258,15 @@ impl Hir {
         Hir { kind }
     }
 
-    /// What is known of the pattern. It is computed at each call, in time linear in the pattern's
-    /// size.
+    /// Returns what is known of the pattern. It is computed at each call, in time linear in the
+    /// size of the pattern.
     pub fn properties(&self) -> Properties
         ensures { IsPropertiesOf (meaning self.now) result }
     {
         properties::properties_of(self)
     }
 
-    /// The pattern's uppermost node.
+    /// The root node of the pattern.
     pub fn kind(&self) -> &HirKind
         ensures value { kind_meaning result.now ≡ meaning self.now }
         ensures node { result.now ≡ (out-Hir self.now).kind }

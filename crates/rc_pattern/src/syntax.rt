@@ -3,17 +3,17 @@
 use std::alloc::AllocError;
 use thiserror::Error;
 
-/// Why a text was not read.
+/// Why a text doesn't parse.
 #[derive(Clone, Copy, Debug, PartialEq, Eq, Error)]
 pub enum Error {
-    /// No pattern is read from the text. The fault was found `at` this place: a byte offset, at
-    /// most the text's length.
+    /// The text is no pattern. The fault is `at` this position: a byte offset, at most the length
+    /// of the text.
     #[error("syntax error at byte {at}")]
     Syntax {
-        /// The place, in bytes.
+        /// The position, in bytes.
         at: usize,
     },
-    /// Memory was refused.
+    /// Out of memory.
     #[error("out of memory")]
     Memory,
 }

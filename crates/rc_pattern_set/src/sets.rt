@@ -7,8 +7,8 @@ use std::alloc::{AllocError, Global};
 use std::iter::FusedIterator;
 use std::marker::Model;
 
-/// A set of patterns whose numbers are below its capacity. Contracts see it as a list that says of
-/// each such number whether it is a member.
+/// A set of patterns whose numbers are below its capacity. Contracts see it as a list with a flag
+/// for each such number: whether it is a member.
 #[derive(Drop)]
 pub struct PatternSet {
     marks: Vec<bool>,
@@ -30,7 +30,7 @@ impl PatternSet {
     ghost use Rattle.std.specs.Prelude.{◌≡◌, ◌<◌, ◌↔◌, IfOk, IsTrue, true, false, length, replicate, slice_set};
     ghost use Rattle.rc_pattern_set.specs.Sets.{Has, members, members_left};
 
-    /// A set of no pattern, for those whose numbers are below `capacity`. An `Err` means out of
+    /// Returns an empty set, for patterns whose numbers are below `capacity`. An `Err` means out of
     /// memory.
     pub fn new(alloc: Global, capacity: usize) -> Result<PatternSet, AllocError>
         ensures { IfOk result (λ s. s ≡ replicate capacity false) }
@@ -39,8 +39,8 @@ impl PatternSet {
         Ok(PatternSet { marks, len: 0 })
     }
 
-    /// Makes the pattern a member, and returns whether it was none before. If its number is not
-    /// below the capacity, nothing changes, and this is false.
+    /// Inserts the pattern, and returns whether it was no member before. If its number is not below
+    /// the capacity, nothing changes, and it returns false.
     pub fn insert(&mut self, pattern: PatternID) -> bool
         ensures set { self.new ≡ slice_set self.old pattern true }
         ensures new { IsTrue result ↔ ((pattern < length self.old) × ¬ Has self.old pattern) }
@@ -62,7 +62,7 @@ impl PatternSet {
         index < self.capacity() && self.marks[index]
     }
 
-    /// The members, the least number first.
+    /// Returns an iterator over the members, the least number first.
     pub fn iter(&self) -> PatternSetIter<'_>
         ensures { members_left result ≡ members self.now }
     {
@@ -72,7 +72,7 @@ impl PatternSet {
         }
     }
 
-    /// How many members there are.
+    /// The number of members.
     pub fn len(&self) -> usize
         ensures { result ≡ length (members self.now) }
     {
@@ -87,7 +87,7 @@ impl PatternSet {
         self.len() == 0
     }
 
-    /// Lets all members go.
+    /// Removes all members.
     pub fn clear(&mut self)
         ensures { self.new ≡ replicate (length self.old) false }
     {
@@ -95,7 +95,7 @@ impl PatternSet {
         self.len = 0;
     }
 
-    /// Below which number a pattern can be a member.
+    /// The capacity: a pattern can be a member if its number is below it.
     pub fn capacity(&self) -> usize
         ensures { result ≡ length self.now }
     {
@@ -103,7 +103,7 @@ impl PatternSet {
     }
 }
 
-/// The members of a set of patterns that are left, the least number first.
+/// An iterator over the members of a pattern set, the least number first.
 #[derive(Drop)]
 pub struct PatternSetIter<'a> {
     left: &'a [bool],

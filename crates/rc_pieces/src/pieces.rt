@@ -4,12 +4,12 @@ ghost use Rattle.std.specs.String.{string_bytes};
 
 use std::alloc::Allocator;
 
-/// What lends bytes, the same ones at each call.
+/// A value that contains bytes: the same ones at each call.
 pub trait Piece {
     /// These bytes.
     ghost bytes: { Self → List ℕ };
 
-    /// These bytes, which may be none.
+    /// Returns the bytes, which may be none.
     fn bytes(&self) -> &[u8]
         ensures { result.now ≡ bytes self.now };
 }

@@ -10,12 +10,12 @@ use rc_text::chunks::{AtError, TooLong};
 use rc_text::cursor::Cursor;
 use std::alloc::AllocError;
 
-/// A cursor whose content is the bytes of a slice of pieces, one after another. It passes over
-/// empty ones.
+/// A cursor whose content is the bytes of a slice of pieces, one after another. It skips empty
+/// ones.
 ///
-/// It is `ChunkCursor` for what isn't a list of slices, as `Vec<Vec<u8>>`, `[[u8; N]; M]` or
-/// `&[String]`. A move looks at the piece that it goes to and at the empty ones between, and at no
-/// other.
+/// Use it instead of `ChunkCursor` for values that aren't a list of slices, such as `Vec<Vec<u8>>`,
+/// `[[u8; N]; M]` or `&[String]`. A move looks only at the piece that it goes to and at the empty
+/// ones between.
 #[derive(Debug)]
 pub struct SliceCursor<'a, T: Piece> {
     pieces: &'a [T],
@@ -40,9 +40,10 @@ impl<T: Piece> Clone for SliceCursor<'_, T> {
 impl<T: Piece> Copy for SliceCursor<'_, T> {}
 
 impl<'a, T: Piece> SliceCursor<'a, T> {
-    /// The cursor that shows the first piece with a byte, or an empty chunk if there is no byte.
+    /// Returns the cursor that shows the first piece with a byte, or an empty chunk if there is no
+    /// byte.
     ///
-    /// Fails if the number of bytes reaches the greatest `usize`, and only there.
+    /// Fails if and only if the number of bytes reaches the greatest `usize`.
     pub fn new(pieces: &'a [T]) -> Result<SliceCursor<'a, T>, TooLong>
         ensures { MatchResult result
             (λ c. ShowsAt (chunks_of T.bytes pieces.now) 0
@@ -57,10 +58,10 @@ impl<'a, T: Piece> SliceCursor<'a, T> {
         }
     }
 
-    /// The cursor that shows the piece with the byte `at`, or the last piece with a byte if `at` is
-    /// the number of bytes.
+    /// Returns the cursor that shows the piece with the byte `at`, or the last piece with a byte if
+    /// `at` is the number of bytes.
     ///
-    /// Fails with `TooLong` if the number of bytes reaches the greatest `usize`, and else with
+    /// Fails with `TooLong` if the number of bytes reaches the greatest `usize`, and otherwise with
     /// `PastEnd` if `at` is above it.
     pub fn at(pieces: &'a [T], at: usize) -> Result<SliceCursor<'a, T>, AtError>
         ensures { MatchResult result

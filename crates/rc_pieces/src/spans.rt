@@ -6,13 +6,13 @@ use rc_text::cursor::Cursor;
 use rc_text::types::Span;
 use std::marker::Model;
 
-/// The bytes of a span, a piece of a chunk after another. They are lent, and nothing is copied.
+/// The bytes of a span, a piece of a chunk after another. They are borrowed, and nothing is copied.
 ///
 /// A span that ends past the content ends with it.
 #[derive(Drop)]
 pub struct SpanPieces<C: Cursor> {
     cursor: C,
-    /// Where the piece begins that is shown, and where it ends, in bytes of the content.
+    /// Where the shown piece begins, and where it ends, in bytes of the content.
     start: usize,
     next: usize,
     /// Where the span ends.
@@ -37,7 +37,7 @@ impl<C: Cursor> Model for SpanPieces<C> {
 }
 
 impl<C: Cursor> SpanPieces<C> {
-    /// The bytes of a span of the cursor's content. None of them is shown yet.
+    /// Returns the bytes of a span of the cursor's content. None of them is shown yet.
     pub fn new(mut cursor: C, span: Span) -> SpanPieces<C>
         ensures shown { result.shown ≡ [] }
         ensures left { result.left ≡ slice_range (C.content cursor) span.start span.end }
@@ -65,7 +65,7 @@ impl<C: Cursor> SpanPieces<C> {
         len > 0
     }
 
-    /// The bytes of the piece that is shown: none before the first `advance`.
+    /// The bytes of the shown piece: none before the first `advance`.
     pub fn piece(&self) -> &[u8]
         ensures { result.now ≡ self.now.shown }
     {
@@ -93,8 +93,8 @@ pub fn seek<C: Cursor>(cursor: &mut C, at: usize)
     }
 }
 
-/// The bytes of the shown chunk from the place `at` in the content on, up to `end`: some if it has
-/// any.
+/// The bytes of the shown chunk from the position `at` in the content on, up to `end`. It is empty
+/// only if there are none.
 pub fn piece<C: Cursor>(cursor: &C, at: usize, end: usize) -> &[u8]
     requires { C.offset cursor.now ≤ at }
     ensures bytes { result.now ≡ slice_range (C.content cursor.now) at (at + length result.now) }

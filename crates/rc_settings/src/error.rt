@@ -11,36 +11,36 @@ use std::fmt;
 /// Why a build was refused.
 #[derive(Clone, Copy, Debug, PartialEq, Eq)]
 pub enum BuildError {
-    /// No pattern is read from the text with this number, the least such text.
+    /// The text with this number doesn't parse. It is the first such text.
     Syntax {
         /// The number of the text.
         pattern: PatternID,
-        /// Why it isn't read.
+        /// Why it doesn't parse.
         error: syntax::Error,
     },
-    /// The pattern with this number isn't well-formed, the least such pattern.
+    /// The pattern with this number isn't well-formed. It is the first such pattern.
     IllFormed {
         /// The number of the pattern.
         pattern: PatternID,
     },
-    /// 32 times the weight of the patterns is above the limit on their size.
+    /// 32 times the weight of the patterns is above the size limit.
     SizeLimit {
-        /// The limit that was set.
+        /// The size limit that was set.
         limit: usize,
     },
     /// The weight of the patterns is above 2,147,483,646.
     PlaceLimit,
-    /// Memory was refused.
+    /// Out of memory.
     Memory,
-    /// A DFA is larger than its limit. Only the builder of a DFA answers this.
+    /// A DFA is larger than its limit. Only the builder of a DFA returns this.
     DfaSizeLimit {
         /// The limit that was set, in bytes.
         limit: usize,
     },
-    /// The cache of a lazy DFA is below the least that it needs. Only the builder of a lazy DFA
-    /// answers this.
+    /// The cache of a lazy DFA is smaller than its minimum. Only the builder of a lazy DFA returns
+    /// this.
     CacheTooSmall {
-        /// The least capacity, in bytes.
+        /// The minimum capacity, in bytes.
         minimum: usize,
         /// The capacity that was set, in bytes.
         given: usize,
@@ -96,7 +96,7 @@ impl<T: Drop> From<AllocFailed<T>> for BuildError {
 }
 
 impl BuildError {
-    /// The number of the text that isn't read; `None` if the refusal has another cause.
+    /// The number of the text that doesn't parse; `None` if the error has another cause.
     pub fn pattern(&self) -> Option<PatternID>
         ensures { result ≡ pattern_of self.now }
     {
@@ -106,8 +106,7 @@ impl BuildError {
         }
     }
 
-    /// The limit on the size of the patterns that was passed; `None` if the refusal has another
-    /// cause.
+    /// The size limit that the patterns exceed; `None` if the error has another cause.
     pub fn size_limit(&self) -> Option<usize>
         ensures { result ≡ size_limit_of self.now }
     {
@@ -117,7 +116,7 @@ impl BuildError {
         }
     }
 
-    /// Why the text isn't read; `None` if the refusal has another cause.
+    /// Why the text doesn't parse; `None` if the error has another cause.
     pub fn syntax_error(&self) -> Option<&syntax::Error>
         ensures { option_map (λ r. r.now) result ≡ syntax_fault_of self.now }
     {

@@ -10,7 +10,7 @@ use rc_needles::prefilter::{Prefilter, copy_of};
 use rc_text::types::MatchKind;
 use std::alloc::{AllocError, Global};
 
-/// The settings of a build. A setting that isn't set has its default.
+/// The settings of a regex. A setting that isn't set has its default.
 #[derive(Debug, Drop)]
 pub struct Config {
     match_kind: Option<MatchKind>,
@@ -54,7 +54,7 @@ impl Config {
         }
     }
 
-    /// Which match is sought: the first walk of the least start, or all.
+    /// Sets which match a search finds.
     pub fn match_kind(mut self, value: MatchKind) -> Config
         ensures { settings_of result ≡ record (settings_of self) { match_kind = Some value } }
     {
@@ -62,7 +62,7 @@ impl Config {
         self
     }
 
-    /// Whether empty matches occur only on character boundaries.
+    /// Sets whether empty matches occur only on character boundaries.
     pub fn utf8_empty(mut self, yes: bool) -> Config
         ensures { settings_of result ≡ record (settings_of self) { utf8_empty = Some yes } }
     {
@@ -70,8 +70,8 @@ impl Config {
         self
     }
 
-    /// Whether a search may look for literals of the patterns first. No search result depends on
-    /// it.
+    /// Sets whether a search may look for literals of the patterns first. No search result depends
+    /// on it.
     pub fn auto_prefilter(mut self, yes: bool) -> Config
         ensures { settings_of result ≡ record (settings_of self) { auto_prefilter = Some yes } }
     {
@@ -79,7 +79,7 @@ impl Config {
         self
     }
 
-    /// The needles that a search may look for first; `None` for none of the caller's. No search
+    /// Sets the needles that a search may look for first, or `None` for none of yours. No search
     /// result depends on it: they are used only if each prefix of the patterns begins with one of
     /// them.
     pub fn prefilter(mut self, value: Option<Prefilter>) -> Config
@@ -89,7 +89,7 @@ impl Config {
         self
     }
 
-    /// Which groups the regex keeps.
+    /// Sets which groups the regex keeps.
     pub fn which_captures(mut self, value: WhichCaptures) -> Config
         ensures { settings_of result ≡ record (settings_of self) { which_captures = Some value } }
     {
@@ -97,7 +97,7 @@ impl Config {
         self
     }
 
-    /// The limit on 32 times the weight of the patterns; `None` for no limit.
+    /// Sets the limit on 32 times the weight of the patterns, or `None` for no limit.
     pub fn nfa_size_limit(mut self, value: Option<usize>) -> Config
         ensures { settings_of result ≡ record (settings_of self) { nfa_size_limit = Some value } }
     {
@@ -113,7 +113,7 @@ impl Config {
         self
     }
 
-    /// The capacity of the cache of the lazy DFA, in bytes. No search result depends on it.
+    /// Sets the capacity of the cache of the lazy DFA, in bytes. No search result depends on it.
     pub fn hybrid_cache_capacity(mut self, value: usize) -> Config
         ensures { settings_of result ≡ record (settings_of self) { hybrid_cache_capacity = Some value } }
     {
@@ -121,7 +121,7 @@ impl Config {
         self
     }
 
-    /// Whether a search may run a lazy DFA. No search result depends on it.
+    /// Sets whether a search may use a lazy DFA. No search result depends on it.
     pub fn hybrid(mut self, yes: bool) -> Config
         ensures { settings_of result ≡ record (settings_of self) { hybrid = Some yes } }
     {
@@ -129,7 +129,7 @@ impl Config {
         self
     }
 
-    /// Whether a search may run a DFA. No search result depends on it.
+    /// Sets whether a search may use a full DFA. No search result depends on it.
     pub fn dfa(mut self, yes: bool) -> Config
         ensures { settings_of result ≡ record (settings_of self) { dfa = Some yes } }
     {
@@ -137,8 +137,8 @@ impl Config {
         self
     }
 
-    /// The limit on the size of DFAs, in bytes, a quarter of it for each direction; `None` for no
-    /// limit. No search result depends on it.
+    /// Sets the limit on the size of the full DFA, in bytes, or `None` for no limit. Each direction
+    /// may take a quarter of it. No search result depends on it.
     pub fn dfa_size_limit(mut self, value: Option<usize>) -> Config
         ensures { settings_of result ≡ record (settings_of self) { dfa_size_limit = Some value } }
     {
@@ -146,8 +146,8 @@ impl Config {
         self
     }
 
-    /// The number of places up to which a DFA is tried; `None` for no limit. No search result
-    /// depends on it.
+    /// Sets the number of NFA states up to which a full DFA is tried, or `None` for no limit. No
+    /// search result depends on it.
     pub fn dfa_state_limit(mut self, value: Option<usize>) -> Config
         ensures { settings_of result ≡ record (settings_of self) { dfa_state_limit = Some value } }
     {
@@ -155,7 +155,7 @@ impl Config {
         self
     }
 
-    /// Whether DFAs put bytes that no pattern distinguishes into one class. No search result
+    /// Sets whether DFAs put bytes that no pattern distinguishes into one class. No search result
     /// depends on it.
     pub fn byte_classes(mut self, yes: bool) -> Config
         ensures { settings_of result ≡ record (settings_of self) { byte_classes = Some yes } }
@@ -172,7 +172,7 @@ impl Config {
         self
     }
 
-    /// The byte that ends a line for `^` and `$`.
+    /// Sets the byte that ends a line for `^` and `$`.
     pub fn line_terminator(mut self, value: u8) -> Config
         ensures { settings_of result ≡ record (settings_of self) { line_terminator = Some value } }
     {
@@ -180,28 +180,28 @@ impl Config {
         self
     }
 
-    /// Which match is sought; `LeftmostFirst` if it isn't set.
+    /// Which match a search finds. The default is `LeftmostFirst`.
     pub fn get_match_kind(&self) -> MatchKind
         ensures { result ≡ match_kind_of (settings_of self.now) }
     {
         self.match_kind.unwrap_or(MatchKind::LeftmostFirst)
     }
 
-    /// Whether empty matches occur only on character boundaries; true if it isn't set.
+    /// Whether empty matches occur only on character boundaries. The default is true.
     pub fn get_utf8_empty(&self) -> bool
         ensures { result ≡ utf8_empty_of (settings_of self.now) }
     {
         self.utf8_empty.unwrap_or(true)
     }
 
-    /// Whether a search may look for literals of the patterns first; true if it isn't set.
+    /// Whether a search may look for literals of the patterns first. The default is true.
     pub fn get_auto_prefilter(&self) -> bool
         ensures { result ≡ auto_prefilter_of (settings_of self.now) }
     {
         self.auto_prefilter.unwrap_or(true)
     }
 
-    /// The needles that a search may look for first; `None` if they aren't set.
+    /// The needles that a search may look for first. The default is `None`.
     pub fn get_prefilter(&self) -> Option<&Prefilter>
         ensures { option_map (λ p. needles_of p.now) result ≡ prefilter_of (settings_of self.now) }
     {
@@ -211,72 +211,74 @@ impl Config {
         }
     }
 
-    /// Which groups the regex keeps; `All` if it isn't set.
+    /// Which groups the regex keeps. The default is `All`.
     pub fn get_which_captures(&self) -> WhichCaptures
         ensures { result ≡ which_captures_of (settings_of self.now) }
     {
         self.which_captures.unwrap_or(WhichCaptures::All)
     }
 
-    /// The limit on 32 times the weight of the patterns, `None` for no limit; 10,485,760 if it
-    /// isn't set.
+    /// The limit on 32 times the weight of the patterns, or `None` for no limit. The default is
+    /// 10,485,760.
     pub fn get_nfa_size_limit(&self) -> Option<usize>
         ensures { result ≡ nfa_size_limit_of (settings_of self.now) }
     {
         self.nfa_size_limit.unwrap_or(Some(10_485_760))
     }
 
-    /// The capacity of the cache of the lazy DFA, in bytes; 2,097,152 if it isn't set.
+    /// The capacity of the cache of the lazy DFA, in bytes. The default is 2,097,152.
     pub fn get_hybrid_cache_capacity(&self) -> usize
         ensures { result ≡ hybrid_cache_capacity_of (settings_of self.now) }
     {
         self.hybrid_cache_capacity.unwrap_or(2_097_152)
     }
 
-    /// Whether a search may run a lazy DFA; true if it isn't set.
+    /// Whether a search may use a lazy DFA. The default is true.
     pub fn get_hybrid(&self) -> bool
         ensures { result ≡ hybrid_of (settings_of self.now) }
     {
         self.hybrid.unwrap_or(true)
     }
 
-    /// Whether a search may run a DFA; true if it isn't set.
+    /// Whether a search may use a full DFA. The default is true.
     pub fn get_dfa(&self) -> bool
         ensures { result ≡ dfa_of (settings_of self.now) }
     {
         self.dfa.unwrap_or(true)
     }
 
-    /// The limit on the size of DFAs, in bytes, `None` for no limit; 40,960 if it isn't set.
+    /// The limit on the size of the full DFA, in bytes, or `None` for no limit. The default is
+    /// 40,960.
     pub fn get_dfa_size_limit(&self) -> Option<usize>
         ensures { result ≡ dfa_size_limit_of (settings_of self.now) }
     {
         self.dfa_size_limit.unwrap_or(Some(40_960))
     }
 
-    /// The number of places up to which a DFA is tried, `None` for no limit; 30 if it isn't set.
+    /// The number of NFA states up to which a full DFA is tried, or `None` for no limit. The
+    /// default is 30.
     pub fn get_dfa_state_limit(&self) -> Option<usize>
         ensures { result ≡ dfa_state_limit_of (settings_of self.now) }
     {
         self.dfa_state_limit.unwrap_or(Some(30))
     }
 
-    /// Whether DFAs put bytes that no pattern distinguishes into one class; true if it isn't set.
+    /// Whether DFAs put bytes that no pattern distinguishes into one class. The default is true.
     pub fn get_byte_classes(&self) -> bool
         ensures { result ≡ byte_classes_of (settings_of self.now) }
     {
         self.byte_classes.unwrap_or(true)
     }
 
-    /// The byte that ends a line for `^` and `$`; 10 if it isn't set.
+    /// The byte that ends a line for `^` and `$`. The default is 10.
     pub fn get_line_terminator(&self) -> u8
         ensures { result ≡ line_terminator_of (settings_of self.now) }
     {
         self.line_terminator.unwrap_or(b'\n')
     }
 
-    /// The settings of the regex's program. All four are set, if they aren't set here to the
-    /// defaults here.
+    /// The settings of the program of the regex. All four are set: to the values set here, or to
+    /// the defaults.
     pub fn program_settings(&self) -> thompson::Config
         ensures { program_settings_of result ≡ program_settings (settings_of self.now) }
     {
@@ -310,7 +312,7 @@ impl Config {
         }
     }
 
-    /// The same settings. An `Err` means out of memory, which a prefilter takes.
+    /// Returns a copy of the settings. An `Err` means out of memory for the prefilter.
     pub fn try_clone(&self, alloc: Global) -> Result<Config, AllocError>
         ensures { IfOk result (λ c. settings_of c ≡ settings_of self.now) }
     {

@@ -25,9 +25,9 @@ impl Config {
         }
     }
 
-    /// Which match is sought: the first walk of the least start, as by default; or the greatest,
-    /// which has the greatest end, then the least start, then the least pattern. A search for the
-    /// greatest passes no match over, and finds no groups but the whole match.
+    /// Sets which match a search finds. The default is the first walk of the least start. Under
+    /// `MatchKind::All` it is the match with the greatest end, then the least start, then the first
+    /// pattern; such a search rejects no match, and finds no groups but the whole match.
     pub fn match_kind(mut self, value: MatchKind) -> Config
         ensures { search_settings_of result ≡ record (search_settings_of self) { match_kind = Some value } }
     {
@@ -35,9 +35,9 @@ impl Config {
         self
     }
 
-    /// The needles that a search may look for first; `None`, as by default, for none. No search
-    /// result depends on it: they are used only if prefixes of the patterns were extracted and each
-    /// begins with one of them.
+    /// Sets the needles that a search may look for first. The default is `None`. No search result
+    /// depends on it: they are used only if prefixes of the patterns were extracted and each begins
+    /// with one of them.
     pub fn prefilter(mut self, value: Option<Prefilter>) -> Config
         ensures { search_settings_of result ≡ record (search_settings_of self) { prefilter = Some (option_map needles_of value) } }
     {
@@ -45,7 +45,7 @@ impl Config {
         self
     }
 
-    /// Which match is sought.
+    /// Which match a search finds.
     pub fn get_match_kind(&self) -> MatchKind
         ensures { result ≡ match_kind_of (search_settings_of self.now) }
     {
@@ -71,7 +71,7 @@ impl Config {
         }
     }
 
-    /// The same settings. An `Err` means out of memory, which a prefilter takes.
+    /// Returns a copy of the settings. An `Err` means out of memory for the prefilter.
     pub fn try_clone(&self, alloc: Global) -> Result<Config, AllocError>
         ensures { IfOk result (λ c. search_settings_of c ≡ search_settings_of self.now) }
     {

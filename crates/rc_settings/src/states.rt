@@ -8,8 +8,8 @@ use crate::pikevm;
 use rc_needles::prefilter::Prefilter;
 use rc_text::types::MatchKind;
 
-/// The settings of searches by states, with a limit `L` on what the states may weigh. A setting
-/// that isn't set has its default.
+/// The settings of DFAs, with a limit `L` on the size of their states. A setting that isn't set has
+/// its default.
 #[derive(Debug, Drop)]
 pub struct Config<L> {
     search: pikevm::Config,
@@ -29,7 +29,7 @@ impl<L: Drop> Config<L> {
         }
     }
 
-    /// Which match is sought, as in the settings of a `PikeVM`.
+    /// Sets which match a search finds, as `pikevm::Config::match_kind` does.
     pub fn match_kind(mut self, value: MatchKind) -> Config<L>
         ensures { let s = (state_settings_of self).search in state_settings_of result ≡ record (state_settings_of self) { search = record s { match_kind = Some value } } }
     {
@@ -37,8 +37,8 @@ impl<L: Drop> Config<L> {
         self
     }
 
-    /// The needles that a search may look for first, as in the settings of a `PikeVM`. No search
-    /// result depends on it.
+    /// Sets the needles that a search may look for first, as `pikevm::Config::prefilter` does. No
+    /// search result depends on it.
     pub fn prefilter(mut self, value: Option<Prefilter>) -> Config<L>
         ensures { let s = (state_settings_of self).search in state_settings_of result ≡ record (state_settings_of self) { search = record s { prefilter = Some (option_map needles_of value) } } }
     {
@@ -46,8 +46,8 @@ impl<L: Drop> Config<L> {
         self
     }
 
-    /// Whether bytes that no pattern distinguishes share a column of a table; true if it isn't set.
-    /// No search result depends on it.
+    /// Sets whether bytes that no pattern distinguishes share a column of a table. The default is
+    /// true. No search result depends on it.
     pub fn byte_classes(mut self, yes: bool) -> Config<L>
         ensures { state_settings_of result ≡ record (state_settings_of self) { byte_classes = Some yes } }
     {
@@ -66,7 +66,7 @@ impl<L: Drop> Config<L> {
         }
     }
 
-    /// The settings that searches by states share with others.
+    /// The settings that DFAs share with the Pike VM.
     pub fn search(&self) -> &pikevm::Config
         ensures { search_settings_of result.now ≡ (state_settings_of self.now).search }
     {
@@ -92,8 +92,8 @@ impl<L: Drop> Config<L> {
 }
 
 impl Config<Option<usize>> {
-    /// How many bytes the states of each direction may weigh, if all of them are made at the build;
-    /// `None`, as by default, for no limit.
+    /// Sets the limit on the bytes that the states of each direction of a full DFA may take. The
+    /// default is `None`, for no limit.
     pub fn dfa_size_limit(mut self, value: Option<usize>) -> Config<Option<usize>>
         ensures { state_settings_of result ≡ record (state_settings_of self) { limit = Some value } }
     {
@@ -103,8 +103,8 @@ impl Config<Option<usize>> {
 }
 
 impl Config<usize> {
-    /// How many bytes the states of each direction may weigh that a cache keeps; 2,097,152 if it
-    /// isn't set.
+    /// Sets the number of bytes that the states of each direction of a lazy DFA may take in its
+    /// cache. The default is 2,097,152.
     pub fn cache_capacity(mut self, bytes: usize) -> Config<usize>
         ensures { state_settings_of result ≡ record (state_settings_of self) { limit = Some bytes } }
     {

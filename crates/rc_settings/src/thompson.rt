@@ -4,7 +4,7 @@ ghost use Rattle.rc_settings.specs.Thompson.{settings_of, unset, overwritten, ut
 
 use crate::which::WhichCaptures;
 
-/// The settings of a program. A setting that isn't set has its default.
+/// The settings of a program (an NFA). A setting that isn't set has its default.
 #[derive(Clone, Copy, Debug)]
 pub struct Config {
     utf8: Option<bool>,
@@ -26,7 +26,7 @@ impl Config {
         }
     }
 
-    /// Whether empty matches occur only on character boundaries; true if it isn't set.
+    /// Sets whether empty matches occur only on character boundaries. The default is true.
     pub fn utf8(mut self, yes: bool) -> Config
         ensures { settings_of result ≡ record (settings_of self) { utf8 = Some yes } }
     {
@@ -34,7 +34,7 @@ impl Config {
         self
     }
 
-    /// The limit on 32 times the weight of the patterns; `None`, for no limit, if it isn't set.
+    /// Sets the limit on 32 times the weight of the patterns. The default is `None`, for no limit.
     pub fn nfa_size_limit(mut self, value: Option<usize>) -> Config
         ensures { settings_of result ≡ record (settings_of self) { nfa_size_limit = Some value } }
     {
@@ -42,7 +42,7 @@ impl Config {
         self
     }
 
-    /// Which groups are kept; all if it isn't set.
+    /// Sets which groups are kept. The default is all.
     pub fn which_captures(mut self, value: WhichCaptures) -> Config
         ensures { settings_of result ≡ record (settings_of self) { which_captures = Some value } }
     {
@@ -50,7 +50,7 @@ impl Config {
         self
     }
 
-    /// The byte that ends a line for `^` and `$`; 10 if it isn't set.
+    /// Sets the byte that ends a line for `^` and `$`. The default is 10.
     pub fn line_terminator(mut self, byte: u8) -> Config
         ensures { settings_of result ≡ record (settings_of self) { line_terminator = Some byte } }
     {

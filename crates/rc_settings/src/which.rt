@@ -2,14 +2,14 @@
 ghost use Rattle.std.specs.Prelude.{◌≡◌};
 ghost use Rattle.rc_settings.specs.Which.{is_grouped};
 
-/// Which groups a regex keeps: every one, or the whole matches alone.
+/// Which groups a regex keeps: all of them, or only the whole matches.
 #[derive(Clone, Copy, Debug, PartialEq, Eq)]
 pub enum WhichCaptures {
     /// The whole matches and every explicit group.
     All,
-    /// The whole matches alone.
+    /// Only the whole matches.
     Implicit,
-    /// Read as `Implicit`.
+    /// The same as `Implicit`.
     None,
 }
 

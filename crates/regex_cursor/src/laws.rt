@@ -1,11 +1,12 @@
 //! Law of all engines. The function does nothing: its contract is the law.
 ghost use Rattle.regex_cursor.specs.Cuttings.{EnginesLaw};
 
-/// What an engine answers depends on the uncut bytes, the span, the slice, the anchoring and the
-/// earliest flag alone: two inputs that are equal in these get equal answers, however their cursors
-/// cut the content and wherever they are, and whatever a cache holds. With the earliest flag on,
-/// unless matches are passed over, any match may be returned; then both find one or neither does.
-/// If a search ends in an error, that one tells nothing, and the other may still answer.
+/// The search results of an engine depend only on the uncut bytes, the span, the slice, the
+/// anchoring and the earliest flag. Two inputs that are equal in these have equal results, however
+/// their cursors cut the content and wherever they are, and whatever a cache contains. With the
+/// earliest flag on, unless matches may be rejected, any match may be returned; then both searches
+/// find one or neither does. If a search ends in an error, nothing is said of that one, and the
+/// other may still succeed.
 pub fn engines_know_no_chunk()
     ensures { EnginesLaw }
 {}

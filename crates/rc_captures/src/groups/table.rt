@@ -4,11 +4,11 @@ ghost use Rattle.rc_captures.specs.Names.{names_in, slot_len, first_slot, group_
 
 use std::alloc::{AllocError, Global};
 
-/// This many groups have slots that can be numbered.
+/// The greatest number of groups whose slots can be numbered.
 const MOST: usize = usize::MAX / 4;
 
-/// The names of the explicit groups of each pattern, the slot of each pattern's group 1, and how
-/// many slots there are.
+/// The names of the explicit groups of each pattern, the slot of group 1 of each pattern, and the
+/// number of slots.
 #[derive(Drop)]
 pub struct Table {
     pub names: Vec<Vec<Option<String>>>,
@@ -52,8 +52,8 @@ pub fn table_of(alloc: Global, names: Vec<Vec<Option<String>>>) -> Result<Table,
     })
 }
 
-/// This many groups and this many more. More than can be numbered take more memory than there can
-/// be.
+/// The sum of two numbers of groups. An `Err` means that they can't be numbered, and so take more
+/// memory than there can be.
 fn added(groups: usize, more: usize) -> Result<usize, AllocError>
     ensures { MatchResult result (λ n. (n ≡ groups + more) × (n < 2 ^ 62)) (λ _. 2 ^ 62
         ≤ groups + more) }

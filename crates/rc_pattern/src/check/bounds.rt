@@ -6,8 +6,8 @@ ghost use Rattle.rc_pattern.specs.WellFormed.{HasBounds, AreAscending};
 
 use crate::hir::{Class, ClassBytesRange, ClassUnicodeRange, Hir, HirKind};
 
-/// Whether each min is at most its max, and the ranges of each class ascend. It calls itself as
-/// deep as the pattern is.
+/// Whether each `min` is at most its `max`, and the ranges of each class ascend. It recurses as
+/// deep as the pattern is nested.
 #[cycle(bounds)]
 pub(super) fn has_bounds(hir: &Hir) -> bool
     ensures { IsTrue result ↔ HasBounds (meaning hir.now) }

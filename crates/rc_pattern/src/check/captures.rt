@@ -9,7 +9,7 @@ ghost use Rattle.rc_pattern.specs.Groups.{number_of, name_of};
 use crate::hir::{Capture, Hir, HirKind};
 use std::alloc::{AllocError, Global};
 
-/// Appends the pattern's groups, in the order of their opening.
+/// Appends the groups of the pattern, in the order of their opening.
 #[cycle(captures)]
 pub(super) fn push_captures<'a>(
     captures: &mut Vec<&'a Capture>,
@@ -41,8 +41,8 @@ fn push_all_captures<'a>(captures: &mut Vec<&'a Capture>, subs: &'a [Hir]) -> Re
     Ok(())
 }
 
-/// The names of the pattern's groups, in the order of their opening; `None` for a group without
-/// one. An `Err` means out of memory.
+/// The names of the groups of the pattern, in the order of their opening; `None` for a group
+/// without one. An `Err` means out of memory.
 pub fn groups(alloc: Global, hir: &Hir) -> Result<Vec<Option<String>>, AllocError>
     ensures { IfOk result (λ names. map (option_map string_bytes) names.items ≡ group_names (meaning hir.now)) }
 {
@@ -55,7 +55,7 @@ pub fn groups(alloc: Global, hir: &Hir) -> Result<Vec<Option<String>>, AllocErro
     Ok(names)
 }
 
-/// How many groups the pattern has, or the greatest usize if there are more.
+/// The number of groups of the pattern, or the greatest `usize` if there are more.
 #[cycle(count)]
 pub fn group_count(hir: &Hir) -> usize
     ensures { result ≡ min (group_count (meaning hir.now)) (2 ^ 64 - 1) }

@@ -6,7 +6,7 @@ ghost use Rattle.rc_pattern.specs.Meaning.{meaning, class_meaning, repetition_me
 use crate::hir::{Capture, Class, Hir, HirKind, Repetition};
 use std::alloc::{AllocError, Global};
 
-/// A copy of the pattern. An `Err` means out of memory.
+/// Returns a copy of the pattern. An `Err` means out of memory.
 #[cycle(copy)]
 pub fn copy_of(alloc: Global, hir: &Hir) -> Result<Hir, AllocError>
     ensures { IfOk result (λ copy. meaning copy ≡ meaning hir.now) }
@@ -34,7 +34,7 @@ pub fn copy_of(alloc: Global, hir: &Hir) -> Result<Hir, AllocError>
     }
 }
 
-/// Copies of the patterns, in their order. An `Err` means out of memory.
+/// Returns copies of the patterns, in order. An `Err` means out of memory.
 #[cycle(copy)]
 pub fn copies_of(alloc: Global, hirs: &[Hir]) -> Result<Vec<Hir>, AllocError>
     ensures { IfOk result (λ copies. map meaning copies.items ≡ map meaning hirs.now) }

@@ -6,8 +6,8 @@ ghost use Rattle.rc_pattern.specs.WellFormed.{depth};
 
 use crate::hir::{Hir, HirKind};
 
-/// Whether no way from the pattern's root to a leaf has more than `most` nodes. It calls itself at
-/// most `most` deep.
+/// Whether no path from the root of the pattern to a leaf has more than `most` nodes. It recurses
+/// at most `most` deep.
 #[cycle(depth)]
 #[tactic(auto, using(crate::proofs::WellFormedLemmas::some_depth))]
 pub fn depth_within(hir: &Hir, most: u32) -> bool
@@ -25,7 +25,7 @@ pub fn depth_within(hir: &Hir, most: u32) -> bool
     }
 }
 
-/// The same of each member, and so of an alternation of them too.
+/// Whether no path from the root of a member to a leaf has more than `most` nodes.
 #[cycle(depth)]
 #[tactic(auto, using(crate::proofs::WellFormedLemmas::member_depth))]
 fn depths_within(subs: &[Hir], most: u32) -> bool

@@ -6,11 +6,11 @@ ghost use Rattle.rc_pattern.specs.Weight.{weight, list_weight, copies_of};
 
 use crate::hir::{Class, Hir, HirKind, Repetition};
 
-/// A weight from here on is told as this.
+/// The cap: a weight from here on is reported as this.
 const CAP: u128 = 0x1_0000_0000_0000_0000;
 
-/// The pattern's weight, or 2 to the power of 64 if it is above that. It calls itself as deep as
-/// the pattern is.
+/// The weight of the pattern, or 2 to the power of 64 if it is above that. It recurses as deep as
+/// the pattern is nested.
 #[cycle(weight)]
 pub fn capped_weight(hir: &Hir) -> u128
     ensures { result ≡ min (weight (meaning hir.now)) (2 ^ 64) }
@@ -35,7 +35,7 @@ fn class_weight(class: &Class) -> u128
     }
 }
 
-/// How many copies of its body a repetition counts as.
+/// The number of copies of its body that a repetition counts as.
 fn copies(min: u32, max: Option<u32>) -> u128
     ensures value { result ≡ copies_of min max }
     ensures some { 1 ≤ result }

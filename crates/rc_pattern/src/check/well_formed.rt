@@ -13,7 +13,7 @@ use super::names::are_distinct;
 use crate::hir::{Capture, Hir};
 use std::alloc::{AllocError, Global};
 
-/// Whether the groups are numbered 1, 2, .. as they are here.
+/// Whether the groups are numbered 1, 2, .. in this order.
 fn are_numbered(captures: &[&Capture]) -> bool
     ensures { IsTrue result ↔ (map number_of captures.now ≡ range_with_len 1 (length captures.now)) }
 {
@@ -26,9 +26,10 @@ fn are_numbered(captures: &[&Capture]) -> bool
 }
 
 /// Whether the pattern is well-formed: its groups are numbered 1, 2, .. in the order of their
-/// opening, no name occurs twice, each min is at most its max, each class range ends where it
-/// begins or later and begins above the end of the one before, and it is at most 1,024 nodes deep.
-/// The depth is tried first, so a pattern of any depth may be asked. An `Err` means out of memory.
+/// opening, no name occurs twice, and each `min` is at most its `max`. Each class range ends where
+/// it begins or later, and begins above the end of the last one. The pattern is at most 1,024 nodes
+/// deep. The depth is checked first, so a pattern of any depth may be passed. An `Err` means out of
+/// memory.
 pub fn is_well_formed(alloc: Global, hir: &Hir) -> Result<bool, AllocError>
     ensures { IfOk result (λ b. IsTrue b ↔ IsWellFormed (meaning hir.now)) }
 {

@@ -7,7 +7,7 @@ ghost use Rattle.rc_pattern.specs.Dots as dots;
 use super::{Class, ClassBytesRange, ClassUnicodeRange};
 use std::alloc::{AllocError, Global};
 
-/// What a dot leaves in.
+/// The characters or bytes that a dot matches.
 #[derive(Clone, Copy, Debug, PartialEq, Eq)]
 pub enum Dot {
     /// Every character.
@@ -108,7 +108,7 @@ fn bytes_except_crlf(alloc: Global) -> Result<Vec<ClassBytesRange>, AllocError>
     Ok(ranges)
 }
 
-/// The class of what the dot leaves in.
+/// The class that the dot matches.
 pub(super) fn class_of(alloc: Global, dot: Dot) -> Result<Class, AllocError>
     ensures { IfOk result (λ class. class_meaning class ≡ dots.dot_of dot) }
 {

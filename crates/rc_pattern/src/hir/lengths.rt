@@ -8,7 +8,7 @@ ghost use Rattle.rc_pattern.specs.Properties as given;
 
 use super::{ClassBytesRange, ClassUnicodeRange};
 
-/// Whether the length is there, and 0.
+/// Whether the length is `Some(0)`.
 pub(super) fn is_zero(len: Option<usize>) -> bool
     ensures { result ≡ given.is_zero len }
 {
@@ -18,7 +18,7 @@ pub(super) fn is_zero(len: Option<usize>) -> bool
     }
 }
 
-/// The lesser of those that are there.
+/// The lesser of the two, of those that are `Some`.
 pub(super) fn least(a: Option<usize>, b: Option<usize>) -> Option<usize>
     ensures { result ≡ given.least a b }
 {
@@ -29,7 +29,7 @@ pub(super) fn least(a: Option<usize>, b: Option<usize>) -> Option<usize>
     }
 }
 
-/// The greater of both, if both are there.
+/// The greater of the two, if both are `Some`.
 pub(super) fn greatest(a: Option<usize>, b: Option<usize>) -> Option<usize>
     ensures { result ≡ given.both (λ m n. Some (max m n)) a b }
 {
@@ -40,7 +40,7 @@ pub(super) fn greatest(a: Option<usize>, b: Option<usize>) -> Option<usize>
     }
 }
 
-/// The sum, or the greatest usize if it is above that, if both are there.
+/// The sum, if both are `Some`, or the greatest `usize` if the sum is above it.
 pub(super) fn saturated_sum(a: Option<usize>, b: Option<usize>) -> Option<usize>
     ensures { result ≡ given.both (λ m n. Some (given.saturated (m + n))) a b }
 {
@@ -51,7 +51,7 @@ pub(super) fn saturated_sum(a: Option<usize>, b: Option<usize>) -> Option<usize>
     }
 }
 
-/// The sum, if both are there and it fits.
+/// The sum, if both are `Some` and it fits.
 pub(super) fn capped_sum(a: Option<usize>, b: Option<usize>) -> Option<usize>
     ensures { result ≡ given.both (λ m n. given.capped (m + n)) a b }
 {
@@ -62,7 +62,7 @@ pub(super) fn capped_sum(a: Option<usize>, b: Option<usize>) -> Option<usize>
     }
 }
 
-/// The number, if both are there and equal.
+/// The number, if both are `Some` and equal.
 pub(super) fn common(a: Option<usize>, b: Option<usize>) -> Option<usize>
     ensures { result ≡ given.common a b }
 {
@@ -78,7 +78,7 @@ pub(super) fn common(a: Option<usize>, b: Option<usize>) -> Option<usize>
     }
 }
 
-/// The least number of bytes of at least `min` turns of a body.
+/// The least number of bytes of at least `min` repetitions of a body.
 pub(super) fn minimum_of_turns(min: u32, body: Option<usize>) -> Option<usize>
     ensures none { min ≡ 0 → result ≡ Some 0 }
     ensures some { 0 < min → result ≡ option_map (λ k. given.saturated (min * k)) body }
@@ -92,7 +92,7 @@ pub(super) fn minimum_of_turns(min: u32, body: Option<usize>) -> Option<usize>
     }
 }
 
-/// The greatest number of bytes of at most `max` turns of a body.
+/// The greatest number of bytes of at most `max` repetitions of a body.
 pub(super) fn maximum_of_turns(max: Option<u32>, body: Option<usize>) -> Option<usize>
     ensures { result ≡ given.both (λ most k. given.capped (most * k)) max body }
 {
@@ -103,7 +103,7 @@ pub(super) fn maximum_of_turns(max: Option<u32>, body: Option<usize>) -> Option<
     }
 }
 
-/// How many groups of a body that may be left out take part.
+/// The number of groups of a body that may be skipped, which take part in each match.
 pub(super) fn optional_static(max: Option<u32>, body: Option<usize>) -> Option<usize>
     ensures { result ≡ given.optional_static max body }
 {

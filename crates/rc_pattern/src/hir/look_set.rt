@@ -31,7 +31,7 @@ const LOOKS: [Look; 18] = [
 /// A set of assertions.
 #[derive(Clone, Copy, PartialEq, Eq)]
 pub struct LookSet {
-    /// The bit of an assertion's number is set where the set has it, and no other bit is.
+    /// The bit of an assertion's number is set if and only if the set contains it.
     bits: u32,
     ghost small: { bits < 2 ^ 18 },
 }
@@ -71,14 +71,14 @@ impl LookSet {
         }
     }
 
-    /// Whether the set has the assertion.
+    /// Whether the set contains the assertion.
     pub fn contains(&self, look: Look) -> bool
         ensures { result ≡ has self.now look }
     {
         (self.bits >> number_of(look)) & 1 == 1
     }
 
-    /// The assertions of the set, each once, in the order of `Look`.
+    /// Returns an iterator over the assertions of the set, each once, in the order of `Look`.
     pub fn iter(&self) -> LookSetIter
         ensures { looks_left result ≡ looks_of self.now }
     {
@@ -88,7 +88,7 @@ impl LookSet {
         }
     }
 
-    /// The assertions of either set.
+    /// The assertions that at least one of the sets contains.
     pub(super) fn union(self, other: LookSet) -> LookSet
         ensures { HasOnly result (λ k. has self k || has other k) }
     {
@@ -97,7 +97,7 @@ impl LookSet {
         }
     }
 
-    /// The assertions of both sets.
+    /// The assertions that both sets contain.
     pub(super) fn intersect(self, other: LookSet) -> LookSet
         ensures { HasOnly result (λ k. has self k && has other k) }
     {
@@ -107,14 +107,14 @@ impl LookSet {
     }
 }
 
-/// Its assertions in braces, as `{Start, EndLF}`.
+/// The assertions in braces, as `{Start, EndLF}`.
 impl Debug for LookSet {
     fn fmt<W: Write>(&self, f: &mut Formatter<W>) -> fmt::Result {
         f.debug_set().entries(self.iter()).finish()
     }
 }
 
-/// The assertions of a set that are left, in the order of `Look`.
+/// An iterator over the assertions of a set, in the order of `Look`.
 #[derive(Clone, Debug, Drop)]
 pub struct LookSetIter {
     set: LookSet,

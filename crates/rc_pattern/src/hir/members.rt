@@ -17,7 +17,7 @@ fn put(members: &mut Vec<Hir>, kind: HirKind) -> Result<(), AllocError>
     Ok(())
 }
 
-/// Appends what the pattern stands for in a concatenation.
+/// Appends the members that the pattern gives a concatenation.
 fn put_cat_members(members: &mut Vec<Hir>, sub: Hir) -> Result<(), AllocError>
     ensures meaning { OnOk result (map meaning members.new.items ≡ map meaning members.old.items ++ cat_members (meaning sub)) }
     ensures kind { OnOk result (IsTrue (all_have_plain_nodes members.old.items) → IsTrue (has_plain_nodes sub) → IsTrue (all_have_plain_nodes members.new.items)) }
@@ -57,7 +57,7 @@ fn append_literal(members: &mut Vec<Hir>, bytes: Vec<u8>) -> Result<(), AllocErr
     }
 }
 
-/// Appends a member, if neighbouring literals are joined.
+/// Appends a member. Adjacent literals are joined.
 fn append(members: &mut Vec<Hir>, member: Hir) -> Result<(), AllocError>
     ensures meaning { OnOk result ((xs : List Re) → map meaning members.old.items ≡ joined xs
         → map meaning members.new.items ≡ joined (xs ++ meaning member ∷ [])) }
@@ -70,7 +70,7 @@ fn append(members: &mut Vec<Hir>, member: Hir) -> Result<(), AllocError>
     }
 }
 
-/// Appends what the pattern stands for in an alternation.
+/// Appends the members that the pattern gives an alternation.
 fn put_alt_members(members: &mut Vec<Hir>, sub: Hir) -> Result<(), AllocError>
     ensures meaning { OnOk result (map meaning members.new.items ≡ map meaning members.old.items ++ alt_members (meaning sub)) }
     ensures kind { OnOk result (IsTrue (all_have_plain_nodes members.old.items) → IsTrue (has_plain_nodes sub) → IsTrue (all_have_plain_nodes members.new.items)) }
@@ -98,7 +98,7 @@ pub(super) fn all_alt_members(alloc: Global, subs: Vec<Hir>) -> Result<Vec<Hir>,
     Ok(members)
 }
 
-/// The members of a concatenation of these patterns, but for the joining of literals.
+/// The members of a concatenation of these patterns, before literals are joined.
 pub(super) fn all_cat_members(alloc: Global, subs: Vec<Hir>) -> Result<Vec<Hir>, AllocError>
     ensures meaning { IfOk result (λ members. map meaning members.items ≡ flat_map cat_members (map meaning subs.items)) }
     ensures kind { IfOk result (λ members. IsTrue (all_have_plain_nodes subs.items) → IsTrue (all_have_plain_nodes members.items)) }
@@ -110,7 +110,7 @@ pub(super) fn all_cat_members(alloc: Global, subs: Vec<Hir>) -> Result<Vec<Hir>,
     Ok(members)
 }
 
-/// The members with neighbouring literals joined.
+/// The members with adjacent literals joined.
 pub(super) fn joined_literals(alloc: Global, members: Vec<Hir>) -> Result<Vec<Hir>, AllocError>
     ensures meaning { IfOk result (λ all. map meaning all.items ≡ joined (map meaning members.items)) }
     ensures kind { IfOk result (λ all. IsTrue (all_have_plain_nodes members.items) → IsTrue (all_have_plain_nodes all.items)) }

@@ -6,7 +6,7 @@ mod parts;
 use super::LookSet;
 pub(super) use known::properties_of;
 
-/// What is known of a pattern before any search. Lengths are in bytes.
+/// The properties of a pattern, known before any search. Lengths are in bytes.
 #[derive(Clone, Copy, Debug, PartialEq, Eq)]
 pub struct Properties {
     minimum_len: Option<usize>,
@@ -26,30 +26,30 @@ impl Properties {
     ghost use Rattle.rc_pattern.specs.LookSets.{HasOnly};
     ghost use Rattle.rc_pattern.specs.PropertiesOf.{IsPropertiesOf};
 
-    /// The least number of bytes that the pattern spells, or the greatest usize if it is above
-    /// that. `None` if the pattern is known to spell nothing at all.
+    /// The least length of a match, or the greatest `usize` if it is above that. `None` if the
+    /// pattern is known to match nothing at all.
     pub fn minimum_len(&self) -> Option<usize>
         ensures { (h : re.Re) → IsPropertiesOf h self.now → result ≡ given.minimum_len h }
     {
         self.minimum_len
     }
 
-    /// The greatest number of bytes that the pattern spells. `None` if there is no bound, if it is
-    /// above the greatest usize, or if a part of the pattern spells nothing at all.
+    /// The greatest length of a match. `None` if there is no bound, if it is above the greatest
+    /// `usize`, or if a part of the pattern matches nothing at all.
     pub fn maximum_len(&self) -> Option<usize>
         ensures { (h : re.Re) → IsPropertiesOf h self.now → result ≡ given.maximum_len h }
     {
         self.maximum_len
     }
 
-    /// How many groups the pattern has, or the greatest usize if there are more.
+    /// The number of groups of the pattern, or the greatest `usize` if there are more.
     pub fn explicit_captures_len(&self) -> usize
         ensures { (h : re.Re) → IsPropertiesOf h self.now → result ≡ given.explicit_captures_len h }
     {
         self.explicit_captures_len
     }
 
-    /// How many groups take part in each match, if that is known to be one number.
+    /// The number of groups that take part in each match, if that is known to be one number.
     pub fn static_explicit_captures_len(&self) -> Option<usize>
         ensures { (h : re.Re) → IsPropertiesOf h self.now → result ≡ given.static_explicit_captures_len h }
     {
@@ -63,21 +63,21 @@ impl Properties {
         self.look_set
     }
 
-    /// The assertions that are where each match begins.
+    /// The assertions that hold where each match begins.
     pub fn look_set_prefix(&self) -> LookSet
         ensures { (h : re.Re) → IsPropertiesOf h self.now → HasOnly result (given.begins_with_look h) }
     {
         self.look_prefix
     }
 
-    /// The assertions that are where each match ends.
+    /// The assertions that hold where each match ends.
     pub fn look_set_suffix(&self) -> LookSet
         ensures { (h : re.Re) → IsPropertiesOf h self.now → HasOnly result (given.ends_with_look h) }
     {
         self.look_suffix
     }
 
-    /// Whether no repetition has a body that spells the empty text.
+    /// Whether no repetition has a body that may match the empty text.
     pub fn is_plain(&self) -> bool
         ensures { (h : re.Re) → IsPropertiesOf h self.now → result ≡ given.is_plain h }
     {

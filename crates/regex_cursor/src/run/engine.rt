@@ -18,7 +18,7 @@ use rc_text::cursor::Cursor;
 use rc_text::input::Input;
 use std::alloc::Global;
 
-/// The chunks, as an input.
+/// An input over the chunks.
 fn input_over<'a>(chunks: &'a [&'a [u8]]) -> Result<Input<ChunkCursor<'a>>, TooLong>
     ensures whole { MatchResult result (IsWhole (joined chunks.now)) (λ _. IsTooLong chunks.now) }
     ensures short { OnOk result (¬ IsTooLong chunks.now) }
@@ -26,7 +26,7 @@ fn input_over<'a>(chunks: &'a [&'a [u8]]) -> Result<Input<ChunkCursor<'a>>, TooL
     Ok(Input::new(ChunkCursor::new(chunks)?))
 }
 
-/// Puts the lines of the matches, and returns whether there is one.
+/// Writes the lines of the matches, and returns whether there is one.
 fn put_lines<W: Sink, C: Cursor + Drop>(
     out: &mut W,
     matches: FindMatches<'_, C>,
@@ -46,8 +46,8 @@ fn put_lines<W: Sink, C: Cursor + Drop>(
     Ok(is_found)
 }
 
-/// Puts the lines of the matches of a borrowed regex, in which nothing is set, and returns whether
-/// there is one.
+/// Writes the lines of the matches of a borrowed regex with the default settings, and returns
+/// whether there is one.
 fn run_lent<W: Sink>(
     alloc: Global,
     regex: &Regex,
@@ -70,12 +70,11 @@ fn run_lent<W: Sink>(
     Ok(is_found)
 }
 
-/// Puts a line for each match of the pattern in the chunks, one after another, and returns whether
-/// there is one.
+/// Writes a line for each match of the pattern in the chunks, and returns whether there is one.
 ///
-/// The text is read and its pattern built first, both by the default settings, so that any error
-/// but `Build` comes only if that can be done. After any error but `Write` nothing was put, and the
-/// sink has not failed.
+/// The pattern is parsed and built first, with the default settings, so any error but `Build` comes
+/// only after that has succeeded. After any error but `Write` nothing was written, and the sink has
+/// not failed.
 pub fn run<W: Sink>(
     alloc: Global,
     pattern: &str,

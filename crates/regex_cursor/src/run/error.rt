@@ -6,14 +6,14 @@ use std::alloc::{AllocError, AllocFailed};
 use std::error::Error;
 use std::fmt;
 
-/// Why a run stopped.
+/// Why a run failed.
 #[derive(Clone, Copy, Debug, PartialEq, Eq)]
 pub enum RunError {
-    /// The pattern was refused.
+    /// The pattern couldn't be built.
     Build(BuildError),
     /// The number of bytes in the chunks reaches the greatest `usize`.
     TooLong,
-    /// Memory was refused, after the pattern was built.
+    /// Out of memory, after the pattern was built.
     Memory,
     /// The writer failed.
     Write,

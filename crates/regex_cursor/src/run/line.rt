@@ -17,7 +17,7 @@ pub struct Line {
 impl Line {
     ghost use Rattle.regex_cursor.specs.Line.{line_text};
 
-    /// The line of no bytes.
+    /// Returns an empty line.
     pub fn new() -> Line
         ensures text { line_text result ≡ [] }
         ensures len { result.len ≡ 0 }

@@ -9,8 +9,8 @@ use crate::run::Sink;
 use rc_text::types::Match;
 use std::io;
 
-/// Puts all bytes of a piece, in as many calls as it takes. After an error a beginning of them was
-/// put.
+/// Writes all bytes of a piece, in as many calls as it takes. After an error some first bytes were
+/// written.
 pub fn put_all<W: Sink>(out: &mut W, bytes: &[u8]) -> io::Result<()>
     ensures appended { OnOk result (Appends (W.taken out.old) (W.taken out.new) bytes.now) }
     ensures put { Puts result (W.taken out.old) (W.taken out.new) bytes.now }
@@ -28,7 +28,7 @@ pub fn put_all<W: Sink>(out: &mut W, bytes: &[u8]) -> io::Result<()>
     Ok(())
 }
 
-/// Puts the line of a match, in one call if the sink takes it whole. It takes no memory.
+/// Writes the line of a match, in one call if the sink takes it whole. It takes no memory.
 pub fn put_line<W: Sink>(out: &mut W, found: Match) -> io::Result<()>
     ensures appended { OnOk result (Appends (W.taken out.old) (W.taken out.new) (line_of found)) }
     ensures ok { OnOk result (W.has_failed out.new ≡ W.has_failed out.old) }

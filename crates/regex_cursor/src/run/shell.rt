@@ -17,7 +17,7 @@ const MATCHED: u8 = 0;
 /// The status if there is none.
 const UNMATCHED: u8 = 1;
 
-/// The status of a fault.
+/// The status of an error.
 const FAULT: u8 = 2;
 
 /// The greatest length of a chunk, in bytes.
@@ -27,7 +27,7 @@ const USAGE: &str = "usage: rcfind PATTERN CHUNK";
 
 const OUT_OF_MEMORY: &str = "out of memory";
 
-/// The length of chunks that the word writes: digits alone, and a number from 1 to 1,048,576.
+/// The length of chunks that the argument gives: digits alone, and a number from 1 to 1,048,576.
 fn chunk_len(word: &str) -> Option<usize>
     ensures { SomeIff result (IsLength word.now) (digits_value 10 word.now) }
 {
@@ -41,7 +41,7 @@ fn chunk_len(word: &str) -> Option<usize>
     Some(n)
 }
 
-/// The pattern and the length of chunks, or `None` if these are not the words.
+/// The pattern and the length of chunks, or `None` if the arguments are not these two.
 fn arguments<'a>(words: &[&'a str]) -> Option<(&'a str, usize)>
     ensures { MatchOption result
         (¬ ((text : List ℕ) × AreWords words.now text))
@@ -54,7 +54,7 @@ fn arguments<'a>(words: &[&'a str]) -> Option<(&'a str, usize)>
     Some((pattern, n))
 }
 
-/// The bytes in chunks of `n` bytes, of which the last may be shorter.
+/// Cuts the bytes into chunks of `n` bytes, of which the last may be shorter.
 fn cut(alloc: Global, bytes: &[u8], n: usize) -> Result<Vec<&[u8]>, AllocError>
     requires { 1 ≤ n }
     ensures { IfOk result (λ chunks. joined chunks.items ≡ bytes.now) }
@@ -66,7 +66,7 @@ fn cut(alloc: Global, bytes: &[u8], n: usize) -> Result<Vec<&[u8]>, AllocError>
     Ok(chunks)
 }
 
-/// Writes the line of a fault. A fault of the writer is ignored.
+/// Writes the line of an error. An error of the writer is ignored.
 fn report<E: Write>(err: &mut E, line: &str) -> u8
     ensures { result ≡ FAULT }
 {
@@ -74,7 +74,7 @@ fn report<E: Write>(err: &mut E, line: &str) -> u8
     FAULT
 }
 
-/// The line of a fault in reading.
+/// The line of a read error.
 fn read_fault(fault: &io::Error) -> &'static str {
     if fault.kind() == io::ErrorKind::OutOfMemory {
         return OUT_OF_MEMORY;
@@ -82,11 +82,12 @@ fn read_fault(fault: &io::Error) -> &'static str {
     "read failed"
 }
 
-/// Finds a pattern in an input that is cut into chunks, and puts a line for each match. The words
-/// are the pattern and the length of a chunk in bytes.
+/// Runs `rcfind`: finds a pattern in an input that is cut into chunks, and writes a line for each
+/// match. The arguments are the pattern and the length of a chunk in bytes.
 ///
-/// The answer is 0 if there is a match, 1 if there is none, and 2 at a fault, of which one line
-/// goes to `err`. A fault of `err` is ignored. The words are checked before anything is read.
+/// It returns 0 if there is a match, 1 if there is none, and 2 after an error, of which it writes
+/// one line to `err`. An error of `err` is ignored. The arguments are checked before anything is
+/// read.
 pub fn program<R: Read, W: Sink, E: Write>(
     alloc: Global,
     words: &[&str],

@@ -8,10 +8,11 @@ use rc_text::cursor::Cursor;
 use rc_text::types::Span;
 use std::io;
 
-/// Puts the bytes of a span of the cursor's content, a piece of a chunk at a time. A span that ends
-/// past the content ends with it.
+/// Writes the bytes of a span of the cursor's content, a piece of a chunk at a time. A span that
+/// ends past the content ends with it.
 ///
-/// It takes no memory, and the cursor moves. After an error a beginning of these bytes was put.
+/// It takes no memory, and the cursor moves. After an error some first bytes of the span were
+/// written.
 pub fn put_span<W: Sink, C: Cursor>(out: &mut W, cursor: &mut C, span: Span) -> io::Result<()>
     ensures content { C.content cursor.new ≡ C.content cursor.old }
     ensures put { Puts result (W.taken out.old) (W.taken out.new) (slice_range (C.content cursor.old) span.start span.end) }

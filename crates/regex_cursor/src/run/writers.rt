@@ -5,17 +5,17 @@ ghost use Rattle.std.specs.Io.KnownBytes.{WriteAppends};
 use std::io;
 use std::io::Write;
 
-/// Takes bytes, and remembers whether it failed.
+/// A writer that remembers whether it failed.
 pub trait Sink {
-    /// The bytes that it holds, or `None` if it doesn't know them.
+    /// The bytes that it contains, or `None` if it doesn't know them.
     ghost taken: { Self → Option (List ℕ) } = { λ _. None };
 
     /// Whether a call failed.
     ghost has_failed: { Self → Bool };
 
-    /// Takes the first bytes of a piece, and returns how many it took.
+    /// Writes the first bytes of a piece, and returns how many it wrote.
     ///
-    /// It takes at least one byte of a piece that has one. An error takes none, and from then on
+    /// It writes at least one byte of a piece that has one. An error writes none, and from then on
     /// the sink has failed.
     fn put(&mut self, bytes: &[u8]) -> io::Result<usize>
         ensures some { IfOk result (λ n. 0 < length bytes.now → 0 < n) }
@@ -29,7 +29,7 @@ pub trait Sink {
         ensures { result ≡ has_failed self.now };
 }
 
-/// A sink over a writer of `std::io`, of which each call is one `write`.
+/// A sink over a writer of `std::io`. Each call is one `write`.
 ///
 /// A write that takes nothing of a piece with bytes is an error of kind `WriteZero`.
 #[derive(Drop)]
@@ -39,7 +39,7 @@ pub struct Written<W> {
 }
 
 impl<W: Write> Written<W> {
-    /// The sink over this writer. It has not failed.
+    /// Returns a sink over this writer. It has not failed.
     pub fn new(inner: W) -> Written<W>
         ensures holds { ⟦<Written<W> as Sink>⟧.taken result ≡ W.contents inner }
         ensures sound { ⟦<Written<W> as Sink>⟧.has_failed result ≡ false }

@@ -144,7 +144,7 @@ impl Properties {
         }
     }
 
-    /// Those of an alternation of the one pattern.
+    /// The properties of an alternation of this pattern alone.
     pub(super) fn alone(self) -> Properties
         ensures { (h : re.Re) → IsPropertiesOf h self → IsPropertiesOf (re.alt h re.none) result }
     {
