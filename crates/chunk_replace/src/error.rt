@@ -2,16 +2,16 @@
 
 use thiserror::Error;
 
-/// Why a rewriting stopped.
+/// Why a replacement failed.
 #[derive(Clone, Copy, Debug, PartialEq, Eq, Error)]
 pub enum ReplaceError {
-    /// The number of bytes in the chunks reaches the greatest `usize`. Nothing was put.
+    /// The number of bytes in the chunks reaches the greatest `usize`. Nothing was written.
     #[error("input too long")]
     TooLong,
-    /// Memory was refused. What was put is a beginning of the replaced text.
+    /// Out of memory. The replaced text was written in part, from its start on.
     #[error("out of memory")]
     Memory,
-    /// The writer failed. What was put is a beginning of the replaced text.
+    /// The sink failed. The replaced text was written in part, from its start on.
     #[error("write failed")]
     Write,
 }

@@ -8,7 +8,7 @@ ghost use Rattle.chunk_replace.specs.Marks.{IsNoReference, IsUnmarked, Marks, Re
 
 use crate::template::Part;
 
-/// What a `$` before the text stands for, and the text after it.
+/// The part that a `$` before the text begins, and the text after that part.
 pub(crate) fn marked(text: &str) -> Option<(Part<'_>, &str)>
     ensures { MatchOption result (IsUnmarked text.now) (λ r. Marks text.now (items_of r.0) r.1.now) }
 {
@@ -19,7 +19,7 @@ pub(crate) fn marked(text: &str) -> Option<(Part<'_>, &str)>
     Some((reference(word)?, rest))
 }
 
-/// The group that a word in braces stands for.
+/// The group that a word in braces refers to.
 fn reference(word: &str) -> Option<Part<'_>>
     ensures { MatchOption result (IsNoReference word.now) (λ part. Refers word.now (items_of part)) }
 {

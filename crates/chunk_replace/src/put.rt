@@ -12,7 +12,7 @@ use regex_cursor::engines::meta::Captures;
 use regex_cursor::run::{Sink, put_all, put_span};
 use regex_cursor::types::Span;
 
-/// Puts all bytes of a piece.
+/// Writes all bytes of a piece.
 fn put_bytes<W: Sink>(out: &mut W, bytes: &[u8]) -> Result<(), ReplaceError>
     ensures put { Puts result (W.taken out.old) (W.taken out.new) bytes.now }
     ensures ok { OnOk result (W.has_failed out.new ≡ W.has_failed out.old) }
@@ -24,8 +24,8 @@ fn put_bytes<W: Sink>(out: &mut W, bytes: &[u8]) -> Result<(), ReplaceError>
     }
 }
 
-/// Puts the bytes of the content from `start` to `end`, or to the content's end if that comes
-/// first.
+/// Writes the bytes of the content from `start` to `end`, or to the end of the content if that
+/// comes first.
 pub(crate) fn put_range<W: Sink, C: Cursor>(
     out: &mut W,
     cursor: &mut C,
@@ -43,7 +43,7 @@ pub(crate) fn put_range<W: Sink, C: Cursor>(
     }
 }
 
-/// Puts the bytes of a group's span; none if the group took no part.
+/// Writes the bytes of the span of a group, or nothing if the group took no part.
 fn put_group<W: Sink, C: Cursor>(
     out: &mut W,
     cursor: &mut C,
@@ -60,7 +60,7 @@ fn put_group<W: Sink, C: Cursor>(
     }
 }
 
-/// Puts what the captures tell of a part: its text, or the bytes of its group.
+/// Writes a part of a template: its text, or the bytes of its group.
 fn put_part<W: Sink, C: Cursor>(
     out: &mut W,
     cursor: &mut C,
@@ -79,7 +79,7 @@ fn put_part<W: Sink, C: Cursor>(
     }
 }
 
-/// Puts what the captures tell of some parts, one after another.
+/// Writes some parts of a template, one after another.
 pub(crate) fn put_parts<W: Sink, C: Cursor>(
     out: &mut W,
     cursor: &mut C,

@@ -19,7 +19,7 @@ use regex_cursor::run::Sink;
 use regex_cursor::{Cursor, Input, cursor};
 use std::alloc::Global;
 
-/// The chunks, as an input and as a text to read from.
+/// The chunks, as an input to search and as a cursor to read from.
 fn input_over<'a>(
     chunks: &'a [&'a [u8]],
 ) -> Result<(Input<ChunkCursor<'a>>, ChunkCursor<'a>), cursor::TooLong>
@@ -31,18 +31,18 @@ fn input_over<'a>(
     Ok((Input::new(cursor), cursor))
 }
 
-/// Puts the chunks' bytes, one chunk after another, with each match of the regex replaced by the
-/// template. It returns how many matches there were.
+/// Writes the bytes of the chunks, with each match of the regex replaced by the template. It
+/// returns the number of matches.
 ///
-/// The matches are those of `Regex::captures_iter`: what was replaced isn't searched again. A
-/// group's bytes are those of the chunks, and a group that took no part, or that the match's
-/// pattern doesn't have, gives none. The bytes go out a piece of a chunk at a time. It takes the
-/// memory of the search's cache and of the captures of one match at a time, however long the text
-/// is. The sink has not failed before.
+/// The matches are those of `Regex::captures_iter`: replaced text isn't searched again. The bytes
+/// of a group come from the chunks; a group that took no part, or that the pattern of the match
+/// doesn't have, is empty. The bytes are written a piece of a chunk at a time. It allocates the
+/// cache of the search and the captures of one match at a time, however long the text is. The sink
+/// must not have failed before.
 ///
-/// `TooLong` comes if and only if the number of bytes reaches the greatest `usize`, and nothing was
-/// put then. `Write` comes only if the sink failed in this call. After `Memory` and `Write` what
-/// was put is a beginning of the replaced text.
+/// It fails with `TooLong` if and only if the number of bytes reaches the greatest `usize`; nothing
+/// was written then. It fails with `Write` only if the sink failed in this call. After `Memory` and
+/// `Write` the replaced text was written in part, from its start on.
 pub fn replace_all<W: Sink>(
     alloc: Global,
     regex: &Regex,

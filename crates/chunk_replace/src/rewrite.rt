@@ -17,8 +17,8 @@ use regex_cursor::engines::meta::{Captures, CapturesMatches};
 use regex_cursor::run::Sink;
 use regex_cursor::types::Match;
 
-/// Puts the content's bytes from `from` to a match, and some parts for it, and returns where the
-/// match ends.
+/// Writes the bytes of the content from `from` to a match, and the parts that replace it. It
+/// returns where the match ends.
 fn put_match<W: Sink, C: Cursor>(
     out: &mut W,
     text: &mut C,
@@ -39,18 +39,18 @@ fn put_match<W: Sink, C: Cursor>(
     Ok(found.end())
 }
 
-/// Puts the content's bytes from `from` on.
+/// Writes the bytes of the content from `from` on.
 fn put_rest<W: Sink, C: Cursor>(out: &mut W, text: &mut C, from: usize) -> Result<(), ReplaceError>
     ensures put { Puts result (W.taken out.old) (W.taken out.new) (drop from (C.content text.old)) }
     ensures ok { OnOk result (W.has_failed out.new ≡ W.has_failed out.old) }
     ensures err { IfErr result (λ e. (e ≡ Write) × (W.has_failed out.new ≡ true)) }
 {
-    // The content is shorter than the greatest number.
+    // A call that tells the prover that the content has fewer bytes than `usize::MAX`.
     let _offset = text.offset();
     put_range(out, text, from, usize::MAX)
 }
 
-/// Puts the text with the matches replaced, and returns how many there were.
+/// Writes the text with the matches replaced, and returns the number of matches.
 pub(crate) fn put_replaced<W: Sink, C: Cursor + Drop, T: Cursor>(
     out: &mut W,
     text: &mut T,

@@ -23,7 +23,7 @@ const REPLACED: u8 = 0;
 /// The status if nothing was.
 const UNREPLACED: u8 = 1;
 
-/// The status of a fault.
+/// The status of an error.
 const FAULT: u8 = 2;
 
 /// The greatest length of a chunk, in bytes.
@@ -33,7 +33,7 @@ const USAGE: &str = "usage: rcsub PATTERN TEMPLATE CHUNK";
 
 const OUT_OF_MEMORY: &str = "out of memory";
 
-/// The length of chunks that the word writes: digits alone, and a number from 1 to 1,048,576.
+/// The length of chunks that the argument gives: digits alone, and a number from 1 to 1,048,576.
 fn chunk_len(word: &str) -> Option<usize>
     ensures { SomeIff result (IsLength word.now) (digits_value 10 word.now) }
 {
@@ -44,7 +44,8 @@ fn chunk_len(word: &str) -> Option<usize>
     Some(n)
 }
 
-/// The pattern, the template and the length of chunks, or `None` if these are not the words.
+/// The pattern, the template and the length of chunks, or `None` if the arguments are not these
+/// three.
 fn arguments<'a>(words: &[&'a str]) -> Option<(&'a str, &'a str, usize)>
     ensures { MatchOption result
         (¬ HasWords words.now)
@@ -57,7 +58,7 @@ fn arguments<'a>(words: &[&'a str]) -> Option<(&'a str, &'a str, usize)>
     Some((pattern, template, n))
 }
 
-/// The bytes in chunks of `n` bytes, of which the last may be shorter.
+/// Cuts the bytes into chunks of `n` bytes, of which the last may be shorter.
 fn cut(alloc: Global, bytes: &[u8], n: usize) -> Result<Vec<&[u8]>, AllocError>
     requires { 1 ≤ n }
     ensures { IfOk result (λ chunks. joined chunks.items ≡ bytes.now) }
@@ -69,7 +70,7 @@ fn cut(alloc: Global, bytes: &[u8], n: usize) -> Result<Vec<&[u8]>, AllocError>
     Ok(chunks)
 }
 
-/// Writes the line of a fault. A fault of the writer is ignored.
+/// Writes the line of an error. An error of the writer is ignored.
 fn report<E: Write>(err: &mut E, line: &str) -> u8
     ensures { result ≡ FAULT }
 {
@@ -77,7 +78,7 @@ fn report<E: Write>(err: &mut E, line: &str) -> u8
     FAULT
 }
 
-/// The line of a fault in reading.
+/// The line of a read error.
 fn read_fault(fault: &io::Error) -> &'static str {
     if fault.kind() == io::ErrorKind::OutOfMemory {
         return OUT_OF_MEMORY;
@@ -97,8 +98,8 @@ fn any_replaced(replaced: Result<usize, ReplaceError>) -> Result<bool, RunError>
     }
 }
 
-/// Puts the bytes in chunks of `n`, with each match of the pattern replaced, and returns whether
-/// there was one.
+/// Writes the bytes, cut into chunks of `n`, with each match of the pattern replaced. It returns
+/// whether there was a match.
 fn substitute<W: Sink>(
     alloc: Global,
     pattern: &str,
@@ -115,12 +116,12 @@ fn substitute<W: Sink>(
     any_replaced(replaced)
 }
 
-/// Replaces each match of a pattern in an input that is cut into chunks. The words are the pattern,
-/// the template and the length of a chunk in bytes.
+/// Runs `rcsub`: replaces each match of a pattern in an input that is cut into chunks. The
+/// arguments are the pattern, the template and the length of a chunk in bytes.
 ///
-/// The answer is 0 if something was replaced, 1 if nothing was and the bytes went out unchanged,
-/// and 2 at a fault, of which one line goes to `err`. A fault of `err` is ignored. The words and
-/// the template are checked before anything is read.
+/// It returns 0 if something was replaced, 1 if nothing was and the bytes were written unchanged,
+/// and 2 after an error, of which it writes one line to `err`. An error of `err` is ignored. The
+/// arguments and the template are checked before anything is read.
 pub fn program<R: Read, W: Sink, E: Write>(
     alloc: Global,
     words: &[&str],

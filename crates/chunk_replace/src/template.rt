@@ -10,15 +10,15 @@ use thiserror::Error;
 /// A part of a template.
 #[derive(Clone, Copy)]
 pub(crate) enum Part<'t> {
-    /// Text that stands for itself.
+    /// Literal text.
     Literal(&'t str),
-    /// The group of this number.
+    /// The group with this number.
     Group(usize),
-    /// The group of this name.
+    /// The group with this name.
     Name(&'t str),
 }
 
-/// What a match is replaced by: text that stands for itself, and groups of the match. It keeps its
+/// A template for what replaces a match: literal text, and groups of the match. It borrows its
 /// text.
 #[derive(Drop)]
 pub struct Template<'t> {
@@ -28,21 +28,21 @@ pub struct Template<'t> {
 /// Why a text is no template.
 #[derive(Clone, Copy, Debug, PartialEq, Eq, Error)]
 pub enum TemplateError {
-    /// A `$` begins neither `$$` nor the mark of a group. It is the first such one, and `at` is its
-    /// place in bytes.
+    /// A `$` begins neither `$$` nor a reference to a group. It is the first such one, and `at` is
+    /// its position in bytes.
     #[error("error parsing template at byte {at}")]
     Syntax { at: usize },
-    /// Memory was refused.
+    /// Out of memory.
     #[error("out of memory")]
     Memory,
 }
 
 impl<'t> Template<'t> {
-    /// Reads a template.
+    /// Parses a template.
     ///
-    /// `$$` is a `$`, `${n}` is the group of the number `n`, in decimal digits, and `${name}` is
-    /// the group of that name. All else stands for itself. The text is refused if a `$` begins none
-    /// of these, even if a number is above the greatest `usize`.
+    /// `$$` is a `$`, `${n}` is the group with the number `n`, in decimal digits, and `${name}` is
+    /// the group with that name. Everything else is literal text. It fails if a `$` begins none of
+    /// these, or if a number is above the greatest `usize`.
     pub fn parse(alloc: Global, text: &'t str) -> Result<Template<'t>, TemplateError>
         ensures { MatchResult result (λ t. IsReadAs (template_items t) text.now) (IsTemplateError text.now) }
     {
@@ -63,7 +63,7 @@ impl<'t> Template<'t> {
     }
 }
 
-/// A text is read in one way, or is refused at one place. A law: it does nothing.
+/// A text parses in one way, or fails at one position. A law: it does nothing.
 pub fn templates_are_read_in_one_way()
     ensures { TemplateLaw }
 {}

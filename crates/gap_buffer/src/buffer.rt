@@ -7,13 +7,13 @@ use regex_cursor::Cursor;
 use std::alloc::{AllocError, Global};
 use std::marker::Model;
 
-/// The room that a gap gets at least, in bytes.
+/// The minimum size of a new gap, in bytes.
 const LEAST_ROOM: usize = 64;
 
-/// A text that is edited at its caret. The bytes before the caret are before a gap, and those after
-/// it behind the gap, so an edit at the caret moves nothing.
+/// A text that is edited at its caret. The bytes before the caret are before a gap, and the bytes
+/// after it are behind the gap, so an edit at the caret moves nothing.
 ///
-/// Places are in bytes of the text, as if there was no gap.
+/// Positions are in bytes of the text, as if there were no gap.
 #[derive(Drop)]
 pub struct GapBuffer {
     alloc: Global,
@@ -42,7 +42,7 @@ impl GapBuffer {
     ghost use Rattle.std.specs.Prelude.{◌≡◌, ◌≤◌, Some, [], length, min, nat_eq, MatchResult};
     ghost use Rattle.gap_buffer.specs.Edits.{cut_after, cut_before, inserted};
 
-    /// An empty text. It takes no memory yet.
+    /// Returns an empty text. It takes no memory yet.
     pub fn new(alloc: Global) -> GapBuffer
         ensures { result ≡ record { content = []; caret = 0 } }
     {
@@ -76,7 +76,7 @@ impl GapBuffer {
         self.gap // the gap begins there
     }
 
-    /// Moves the caret to a place, or to the end if the place is past it. It moves the bytes
+    /// Moves the caret to a position, or to the end if the position is past it. It moves the bytes
     /// between, and takes no memory.
     pub fn move_to(&mut self, at: usize)
         ensures content { self.new.content ≡ self.old.content }
@@ -98,7 +98,7 @@ impl GapBuffer {
     }
 
     /// Inserts bytes at the caret, which is behind them then. An `Err` means out of memory, and
-    /// nothing has changed then.
+    /// leaves the text as it was.
     pub fn insert(&mut self, bytes: &[u8]) -> Result<(), AllocError>
         ensures { MatchResult result (λ _. self.new ≡ inserted self.old bytes.now) (λ _. self.new ≡ self.old) }
     {
@@ -117,21 +117,21 @@ impl GapBuffer {
         Ok(())
     }
 
-    /// Removes this many bytes before the caret, or all of them if there are fewer.
+    /// Deletes `count` bytes before the caret, or all of them if there are fewer.
     pub fn delete_before(&mut self, count: usize)
         ensures { self.new ≡ cut_before self.old count }
     {
         self.gap = self.gap.saturating_sub(count);
     }
 
-    /// Removes this many bytes after the caret, or all of them if there are fewer.
+    /// Deletes `count` bytes after the caret, or all of them if there are fewer.
     pub fn delete_after(&mut self, count: usize)
         ensures { self.new ≡ cut_after self.old count }
     {
         self.rest = self.rest.saturating_add(count).min(self.bytes.len());
     }
 
-    /// A cursor over the text, at its start. It looks at the bytes where they are, on both sides of
+    /// Returns a cursor over the text, at its start. It shows the bytes in place, on both sides of
     /// the gap.
     pub fn cursor(&self) -> GapCursor<'_>
         ensures content { ⟦<GapCursor<'static> as Cursor>⟧.content result ≡ self.now.content }
@@ -142,7 +142,7 @@ impl GapBuffer {
     }
 }
 
-/// Writes the text over the bytes from a place on.
+/// Overwrites the bytes from a position on with the text.
 fn write_at(bytes: &mut Vec<u8>, at: usize, text: &[u8])
     requires { at + length text.now ≤ vec_len bytes.old }
     ensures items { bytes.new.items ≡ take at bytes.old.items ++ text.now ++ drop (at + length text.now) bytes.old.items }
@@ -151,8 +151,8 @@ fn write_at(bytes: &mut Vec<u8>, at: usize, text: &[u8])
     bytes[at..at + text.len()].copy_from_slice(text);
 }
 
-/// The front, the inserted bytes, a gap that is no shorter than all of these, and the back; and
-/// where the back begins.
+/// A new buffer: the front, the inserted bytes, a gap that is no shorter than all of these, and the
+/// back. With it comes the position at which the back begins.
 fn spread(
     alloc: Global,
     front: &[u8],

@@ -5,7 +5,7 @@ use regex_cursor::Cursor;
 
 /// A cursor over the bytes on both sides of a gap.
 ///
-/// It shows the front, then the back. Neither is shown while it is empty, unless both are.
+/// It shows the front, then the back. It skips one that is empty, unless both are.
 #[derive(Clone, Copy, Debug)]
 pub struct GapCursor<'a> {
     front: &'a [u8],
@@ -17,7 +17,7 @@ pub struct GapCursor<'a> {
 }
 
 impl<'a> GapCursor<'a> {
-    /// The cursor over these two, at the start of the first one with a byte.
+    /// Returns the cursor over these two, at the start of the first one with a byte.
     pub fn new(front: &'a [u8], back: &'a [u8]) -> GapCursor<'a>
         ensures content { ⟦<GapCursor<'static> as Cursor>⟧.content result ≡ front.now ++ back.now }
         ensures start { ⟦<GapCursor<'static> as Cursor>⟧.offset result ≡ 0 }

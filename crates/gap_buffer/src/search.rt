@@ -11,7 +11,7 @@ use regex_cursor::engines::meta::{Cache, FindMatches, Regex};
 use regex_cursor::types::{Match, Span};
 use std::alloc::{AllocError, Global};
 
-/// The match that a search from the caret on finds, in a cache that was made for the regex.
+/// Returns the match that a search from the caret on finds, in a cache that was made for the regex.
 /// Assertions see the whole text. It takes no memory.
 pub fn next_match(text: &GapBuffer, regex: &Regex, cache: &mut Cache) -> Option<Match>
     requires made { IsCacheOf regex.now cache.old }
@@ -22,9 +22,9 @@ pub fn next_match(text: &GapBuffer, regex: &Regex, cache: &mut Cache) -> Option<
     regex.search_with(cache, &mut input)
 }
 
-/// The last of the text's matches that begin before the caret. The matches are those of
-/// `Regex::find_iter` over the whole text, and are looked at from its start on, up to the caret. An
-/// `Err` means out of memory for the search's cache.
+/// Returns the last match that begins before the caret. The matches are those of `Regex::find_iter`
+/// over the whole text; it goes through them from the start, up to the caret. An `Err` means out of
+/// memory for the cache of the search.
 pub fn previous_match(
     alloc: Global,
     text: &GapBuffer,
@@ -38,7 +38,7 @@ pub fn previous_match(
     Ok(last)
 }
 
-/// The last of the matches that are left, in order, that begin before the place.
+/// The last of the remaining matches, in order, that begin before the position.
 fn last_of(matches: &mut FindMatches<'_, GapCursor<'_>>, at: usize) -> Option<Match>
     ensures { (hi : ℕ) → AreInOrder begin_of end_of hi (find_left matches.old) → result ≡ last_before at (find_left matches.old) }
 {
@@ -52,9 +52,9 @@ fn last_of(matches: &mut FindMatches<'_, GapCursor<'_>>, at: usize) -> Option<Ma
     last
 }
 
-/// The text's matches with a byte in the window, also those that begin before it: each begins
-/// before the window's end, and ends after its start. The matches are those of `Regex::find_iter`
-/// over the whole text, in order. An `Err` means out of memory.
+/// Returns the matches with a byte in the window, also those that begin before it: each begins
+/// before the end of the window, and ends after its start. The matches are those of
+/// `Regex::find_iter` over the whole text, in order. An `Err` means out of memory.
 pub fn matches_on_screen(
     alloc: Global,
     text: &GapBuffer,
@@ -69,7 +69,7 @@ pub fn matches_on_screen(
     shown
 }
 
-/// Those of the matches that are left, in order, with a byte in the window.
+/// The remaining matches, in order, with a byte in the window.
 fn shown_of(
     alloc: Global,
     matches: &mut FindMatches<'_, GapCursor<'_>>,
@@ -90,7 +90,7 @@ fn shown_of(
     Ok(shown)
 }
 
-/// The text, to be searched from a place on.
+/// The text, as an input from a position on.
 fn input_from(text: &GapBuffer, at: usize) -> Input<GapCursor<'_>>
     requires { at ≤ length text.now.content }
     ensures start { result.span.start ≡ at }

@@ -5,7 +5,7 @@ ghost use Rattle.grep_lines.specs.Pages.{AreLinesBefore, is_newline};
 
 use memchr::memrchr;
 
-/// How many newlines there are.
+/// The number of newlines.
 fn count_newlines(bytes: &[u8]) -> u64
     ensures { result ≡ length (filter is_newline bytes.now) }
 {
@@ -18,8 +18,8 @@ fn count_newlines(bytes: &[u8]) -> u64
     count
 }
 
-/// Where the last of the lines of a page ends, with its newline, that end before a place, and how
-/// many these are.
+/// Of the lines of a page that end before a position: where the last one ends, with its newline,
+/// and how many there are.
 pub fn lines_before(page: &[u8], place: usize) -> (usize, u64)
     requires { place ≤ length page.now }
     ensures { AreLinesBefore page.now place result.0 result.1 }

@@ -9,19 +9,18 @@ use memchr::memchr;
 use std::io;
 use std::io::{BufRead, ErrorKind};
 
-/// What selects lines.
+/// A selector of lines.
 pub trait LineSelector {
     /// Whether a line is selected. It has no newline.
     ghost selects: { Self → List ℕ → Bool };
 
-    /// Whether the line is selected. What is selected doesn't change.
+    /// Whether the line is selected. The answer for a line never changes.
     fn selects(&mut self, line: &[u8]) -> bool
         ensures value { result ≡ selects self.old line.now }
         ensures same { selects self.new ≡ selects self.old };
 
-    /// A place in a page, which begins where a line does, such that no line of the page that ends
-    /// before it is selected: so these need not be looked at one by one. It is 0 if nothing is
-    /// known.
+    /// A position in a page at which a line begins, such that no line of the page that ends before
+    /// it is selected. Those lines need no look of their own. It is 0 if nothing is known.
     fn next_candidate(&mut self, page: &[u8]) -> usize
         ensures within { result ≤ length page.now }
         ensures unselected { (start end : ℕ) → start ≤ end → end < result → AreLinesOf page.now start end → selects self.old (slice_range page.now start end) ≡ false }
@@ -31,9 +30,9 @@ pub trait LineSelector {
     }
 }
 
-/// Reads the next line into `line`, without its newline, replacing its content, if that line and
-/// its newline are in what the reader has read. Returns whether they do; otherwise nothing is
-/// taken, and the line is empty.
+/// Reads the next line into `line`, without its newline, replacing its content, if the buffer of
+/// the reader contains the line and its newline. Returns whether it does; otherwise nothing is
+/// consumed, and `line` is empty.
 fn take_line<R: BufRead>(reader: &mut R, line: &mut Vec<u8>) -> io::Result<bool>
     ensures { IfOk result (λ taken. MayTake taken (R.remaining reader.old) (R.remaining reader.new) line.new.items) }
 {
@@ -52,7 +51,7 @@ fn take_line<R: BufRead>(reader: &mut R, line: &mut Vec<u8>) -> io::Result<bool>
 }
 
 /// Reads the next line into `line`, without its newline, replacing its content. Returns false at
-/// the end, and then the line is empty. The bytes after the last newline are a line, if there are
+/// the end, and then `line` is empty. The bytes after the last newline are a line, if there are
 /// any.
 ///
 /// After an `Err` some bytes of the line may have been read, and are lost.
@@ -73,8 +72,8 @@ pub fn next_line<R: BufRead>(reader: &mut R, line: &mut Vec<u8>) -> io::Result<b
     Ok(true)
 }
 
-/// Passes over lines that are in what the reader has read, of which none is selected, and returns
-/// how many. It may be none.
+/// Skips lines in the buffer of the reader of which none is selected, and returns how many. It may
+/// be none.
 fn skip_lines<R: BufRead, S: LineSelector>(reader: &mut R, selector: &mut S) -> io::Result<u64>
     ensures skipped { IfOk result (λ count. IfSome (R.remaining reader.old) (λ text.
         AreSkipped (S.selects selector.old) text count (R.remaining reader.new))) }
@@ -91,8 +90,8 @@ fn skip_lines<R: BufRead, S: LineSelector>(reader: &mut R, selector: &mut S) -> 
     Ok(count)
 }
 
-/// Reads lines up to the next one that is selected, which is in `line` then, and returns how many
-/// were read, that one among them. `None` if no line is selected up to the end.
+/// Reads lines up to the next one that is selected, and leaves that one in `line`. Returns how many
+/// lines were read, that one among them, or `None` if no line is selected up to the end.
 ///
 /// It keeps one line at a time. An `Err` is one of the reader, or out of memory for a line, or
 /// comes after 2^64 - 2 lines.

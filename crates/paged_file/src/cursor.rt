@@ -11,15 +11,15 @@ use std::alloc::{AllocError, Global};
 use std::marker::Model;
 use std::mem;
 
-/// A cursor over the bytes of a file that can be read: all of them, or those before the first place
-/// that can't be read.
+/// A cursor over the readable bytes of a file: all of them, or those before the first position that
+/// can't be read.
 ///
-/// It shows a page at a time, and keeps as many in memory as it was made with room for. A page that
-/// is gone to and isn't in memory is read, and takes the room of the one that was read longest ago.
-/// That is never the one that is shown.
+/// It shows a page at a time, and keeps a fixed number of pages in memory. If you go to a page that
+/// isn't in memory, it is read, and replaces the page that was read longest ago. That is never the
+/// shown page.
 ///
-/// If a read fails, the content ends, so a search answers as it does in the text before that place,
-/// and `failure` tells of it. A move takes no memory.
+/// If a read fails, the content ends, so a search returns what it finds in the text before that
+/// position, and `failure` returns the fault. A move takes no memory.
 #[derive(Drop)]
 pub struct PagedCursor<P: Pages> {
     file: P,
@@ -50,10 +50,10 @@ impl<P: Pages> Model for PagedCursor<P> {
 }
 
 impl<P: Pages> PagedCursor<P> {
-    /// A cursor that shows the file's first page, with room for this many pages of this many bytes:
-    /// at least two, of at least one byte.
+    /// Returns a cursor that shows the first page of the file. It keeps `pages` pages of `page_len`
+    /// bytes in memory: at least two, of at least one byte.
     ///
-    /// An `Err` means out of memory. No move takes any.
+    /// An `Err` means out of memory. Moves take no memory.
     pub fn new(
         alloc: Global,
         mut file: P,
@@ -81,7 +81,7 @@ impl<P: Pages> PagedCursor<P> {
         })
     }
 
-    /// How many pages it keeps in memory at most, the shown one among them.
+    /// The number of pages that it keeps in memory, the shown one among them.
     pub fn pages(&self) -> usize
         ensures { result ≡ self.now.pages }
     {
@@ -96,8 +96,8 @@ impl<P: Pages> PagedCursor<P> {
         self.page_len // that it was made with
     }
 
-    /// The fault that was found where the content ends, or None if none was found so far. Once
-    /// `advance` has answered false, None says that the content is the whole file.
+    /// The fault at which the content ends, or `None` if none was found so far. Once `advance` has
+    /// returned false, `None` means that the content is the whole file.
     pub fn failure(&self) -> Option<ReadFault>
         ensures value { result ≡ self.now.failure }
         ensures met { IsMet self.now.stored result }
@@ -105,8 +105,8 @@ impl<P: Pages> PagedCursor<P> {
         self.failure // the one that a move met
     }
 
-    /// Reads on to the end, and returns the fault there, or None if the whole file can be read. The
-    /// cursor shows the page that it showed.
+    /// Reads on to the end, and returns the fault there, or `None` if the whole file can be read.
+    /// The cursor shows the same page afterwards.
     pub fn check(&mut self) -> Option<ReadFault>
         ensures fault { result ≡ fault_of self.old.stored }
         ensures same { self.new ≡ record self.old { failure = fault_of self.old.stored } }
@@ -117,7 +117,7 @@ impl<P: Pages> PagedCursor<P> {
         self.failure
     }
 
-    /// Shows the page at a place, if there is a byte.
+    /// Shows the page at a position, if there is a byte.
     fn show(&mut self, at: usize) -> bool
         requires start { at < length self.old.stored.bytes → IsStart self.old.page_len at }
         ensures same { Same self.old self.new }

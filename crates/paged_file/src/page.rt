@@ -9,15 +9,15 @@ use std::alloc::{AllocError, Global};
 /// Room for a page.
 #[derive(Drop)]
 pub(crate) struct Page {
-    /// Where the page begins that it holds, in bytes of the file.
+    /// Where the held page begins, in bytes of the file.
     pub(crate) offset: usize,
-    /// How many bytes it holds.
+    /// The number of bytes that it holds.
     pub(crate) len: usize,
     pub(crate) bytes: Vec<u8>,
 }
 
 impl Page {
-    /// Room for this many bytes, which holds none yet.
+    /// Room for a page of `page_len` bytes, which holds none yet.
     pub(crate) fn new(alloc: Global, page_len: usize) -> Result<Page, AllocError>
         ensures len { IfOk result (λ p. p.len ≡ 0) }
         ensures offset { IfOk result (λ p. p.offset ≡ 0) }
@@ -32,8 +32,8 @@ impl Page {
         })
     }
 
-    /// Reads the page at a place, and lets go what it held. It holds none if no byte can be read
-    /// there.
+    /// Reads the page at a position, in place of the held one. It holds nothing if no byte can be
+    /// read there.
     pub(crate) fn read<P: Pages>(&mut self, file: &mut P, at: usize) -> Result<(), ReadFault>
         requires room { 0 < length self.old.bytes.items }
         ensures stored { P.stored file.new ≡ P.stored file.old }
@@ -57,12 +57,12 @@ impl Page {
 #[derive(Drop)]
 pub(crate) struct Spares {
     pub(crate) pages: Vec<Page>,
-    /// Which of them is dropped next.
+    /// The page that is replaced next.
     pub(crate) oldest: usize,
 }
 
 impl Spares {
-    /// Room for this many pages.
+    /// Room for `count` pages.
     pub(crate) fn new(alloc: Global, count: usize, page_len: usize) -> Result<Spares, AllocError>
         requires some { 0 < count }
         ensures count { IfOk result (λ s. vec_len s.pages ≡ count) }
@@ -75,7 +75,7 @@ impl Spares {
         Ok(Spares { pages, oldest: 0 })
     }
 
-    /// Where the page at a place is in memory.
+    /// The index in memory of the page at a position.
     fn find(&self, at: usize) -> Option<usize>
         ensures page { IfSome result (λ slot. IfSome (slice_get self.now.pages.items slot) (λ p. (p.offset ≡ at) × (0 < p.len))) }
         ensures within { IfSome result (λ slot. slot < vec_len self.now.pages) }
@@ -88,8 +88,8 @@ impl Spares {
         None
     }
 
-    /// Where the page at a place is in memory, once it was read if it wasn't. None is the file's
-    /// end, if there is no byte.
+    /// The index in memory of the page at a position; the page is read if it isn't there. `None`
+    /// means the end of the file: there is no byte.
     pub(crate) fn fetch<P: Pages>(
         &mut self,
         file: &mut P,
@@ -118,7 +118,7 @@ impl Spares {
         Ok(Some(slot))
     }
 
-    /// Reads from a place on to the file's end, or to what can't be read.
+    /// Reads from a position on to the end of the file, or to what can't be read.
     pub(crate) fn read_on<P: Pages>(
         &mut self,
         file: &mut P,

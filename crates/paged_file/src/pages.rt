@@ -8,26 +8,26 @@ use thiserror::Error;
 #[derive(Clone, Copy, Debug, PartialEq, Eq, Error)]
 #[error("the file can't be read at {offset}")]
 pub struct ReadFault {
-    /// The first place that couldn't be read, in bytes of the file.
+    /// The first position that couldn't be read, in bytes of the file.
     pub offset: usize,
 }
 
-/// A file that is read a page at a time, in any order and as often as is asked for.
+/// A file that is read a page at a time, in any order and any number of times.
 ///
-/// What can be read is settled: all bytes of the file, or those before the first place that can't
-/// be read. It has fewer bytes than the greatest `usize`. A read leaves it as it is, so a page that
-/// was read is read again the same, and one that couldn't be is never read. The clauses of `read`
-/// say all this, so it is proved of each implementation.
+/// What can be read never changes: all bytes of the file, or those before the first position that
+/// can't be read. It has fewer bytes than the greatest `usize`. So a page that was read has the
+/// same bytes when it is read again, and a page that couldn't be read never can. The clauses of
+/// `read` say all this, so it is proved of each implementation.
 pub trait Pages {
     /// What can be read, and whether this is the whole file.
     ghost stored: { Self → Stored };
 
-    /// Reads the page that begins at a place, into room for at least one byte, and returns how many
-    /// bytes it has.
+    /// Reads the page that begins at a position, into a buffer of at least one byte, and returns
+    /// the number of bytes read.
     ///
-    /// It fills the room, except if fewer bytes can be read from that place on. The answer is 0 if
-    /// the file ends at the place or before it, and an `Err` if it goes on there and can't be read;
-    /// the room's bytes are any then.
+    /// It fills the buffer unless fewer bytes can be read from that position on. It returns 0 if
+    /// the file ends at the position or before it, and an `Err` if the file goes on there and can't
+    /// be read; the buffer is unspecified then.
     fn read(&mut self, at: usize, page: &mut [u8]) -> Result<usize, ReadFault>
         requires room { 0 < length page.old }
         ensures stored { stored self.new ≡ stored self.old }
@@ -54,8 +54,8 @@ impl<'a> MemoryPages<'a> {
         }
     }
 
-    /// A file of these bytes that can't be read from a place on, which is past the end if all of
-    /// them can be.
+    /// Returns a file of these bytes that can't be read from a position on. If the position is past
+    /// the end, all of it can be read.
     pub fn failing(bytes: &'a [u8], at: usize) -> MemoryPages<'a>
         ensures { ⟦<MemoryPages<'static> as Pages>⟧.stored result ≡ cut bytes.now at }
     {

@@ -8,20 +8,20 @@ use regex_cursor::engines::meta::Regex;
 use regex_cursor::types::Match;
 use std::alloc::{AllocError, Global};
 
-/// Why nothing was found, and nothing was not found either.
+/// Why a search is undecided.
 #[derive(Clone, Copy, Debug, PartialEq, Eq)]
 pub enum FindError {
     /// A page of the file can't be read.
     Read(ReadFault),
-    /// Memory was refused for the search's cache.
+    /// Out of memory for the cache of the search.
     Memory,
 }
 
-/// The match that a search of the bytes that can be read finds, from the shown page on. Assertions
-/// see all these bytes, so if a page can't be read, the text ends before it: `failure` of the
-/// cursor tells then whether the search came there.
+/// Returns the match that a search of the readable bytes finds, from the shown page on. Assertions
+/// see all these bytes, so if a page can't be read, the text ends before it. Afterwards `failure`
+/// of the cursor says whether the search came there.
 ///
-/// An `Err` means out of memory for the search's cache.
+/// An `Err` means out of memory for the cache of the search.
 pub fn find<P: Pages>(
     alloc: Global,
     cursor: &mut PagedCursor<P>,
@@ -33,8 +33,8 @@ pub fn find<P: Pages>(
     Ok(found) // and what it met, the cursor tells
 }
 
-/// The match that a search of the whole file finds, from the shown page on. The file is read to its
-/// end first, and is searched only if each page could be read.
+/// Returns the match that a search of the whole file finds, from the shown page on. The file is
+/// read to its end first, and is searched only if each page could be read.
 pub fn find_whole<P: Pages>(
     alloc: Global,
     cursor: &mut PagedCursor<P>,
@@ -53,7 +53,7 @@ pub fn find_whole<P: Pages>(
     }
 }
 
-/// The bytes that can be read, to be searched from the shown page on.
+/// The readable bytes, as an input from the shown page on.
 fn input_over<P: Pages>(cursor: &mut PagedCursor<P>) -> Input<&mut PagedCursor<P>>
     ensures same { IsSearchedFrom cursor.old.stored.bytes cursor.old.offset result }
     ensures late { result.earliest ≡ false }

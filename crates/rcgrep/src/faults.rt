@@ -6,16 +6,16 @@ use regex_cursor::syntax::{Config, Explained, Oversize, explain, explain_size};
 use std::alloc::Global;
 use std::io::Write;
 
-/// The status of a fault.
+/// The status of an error.
 pub const FAULT: u8 = 2;
 
-/// Tells of a fault. A fault of the standard error is ignored.
+/// Reports an error. An error of the standard error is ignored.
 pub fn report(rt: &HostRuntime, line: &str) -> u8 {
     let _ = writeln!(rt.stderr(), "rcgrep: {line}");
     FAULT
 }
 
-/// What is wrong with the pattern of this number. It is None if memory was refused.
+/// What is wrong with the pattern with this number. It is `None` if there is no memory.
 fn explained<'p>(
     alloc: Global,
     patterns: &[&'p str],
@@ -27,7 +27,7 @@ fn explained<'p>(
     Some(Explained { text, fault })
 }
 
-/// Tells what is wrong with the pattern of this number, and shows where.
+/// Reports what is wrong with the pattern with this number, and where.
 pub fn report_unread(rt: &HostRuntime, patterns: &[&str], number: usize, config: &Config) -> u8 {
     let Some(shown) = explained(rt.alloc(), patterns, number, config) else {
         return report(rt, "out of memory");
@@ -36,7 +36,7 @@ pub fn report_unread(rt: &HostRuntime, patterns: &[&str], number: usize, config:
     FAULT
 }
 
-/// How heavy the patterns are, if their build was refused for that.
+/// The weight of the patterns, if their build failed for that.
 fn oversize_of(alloc: Global, hirs: &[Hir], refusal: &BuildError) -> Option<Oversize> {
     let BuildError::SizeLimit { limit } = refusal else {
         return None;
@@ -44,7 +44,7 @@ fn oversize_of(alloc: Global, hirs: &[Hir], refusal: &BuildError) -> Option<Over
     explain_size(alloc, hirs, Some(*limit)).ok()?
 }
 
-/// Tells why the patterns weren't built, and how large they are, if that is why.
+/// Reports why the patterns weren't built, and their size if that is why.
 pub fn report_refusal(rt: &HostRuntime, hirs: &[Hir], refusal: &BuildError) -> u8 {
     if let Some(oversize) = oversize_of(rt.alloc(), hirs, refusal) {
         let _ = writeln!(rt.stderr(), "rcgrep: {oversize}");

@@ -16,28 +16,27 @@ use std::alloc::{AllocError, Global};
 use std::marker::Model;
 use std::simd::prelude::*;
 
-/// How many bytes of a page are searched at once at least.
+/// The least number of bytes of a page that are searched at once.
 const LEAST: usize = 512;
 
-/// How many bytes of a page are searched at once at most.
+/// The greatest number of bytes of a page that are searched at once.
 const GREATEST: usize = 1 << 20;
 
-/// This many bytes of a page are looked at together for one past ASCII.
+/// The number of bytes of a page that are tested together for one past ASCII.
 const BLOCK: usize = 64;
 
-/// A match that begins so close behind a line has its line looked at without such a search, and so
-/// has the next one.
+/// If a match begins this close behind a line, its line and the next one are tested by themselves.
 const CLOSE: usize = 64;
 
-/// Selects the lines in which a pattern matches, or the others. It keeps a cache over all lines.
+/// Selects the lines in which a pattern matches, or the others. It keeps one cache for all lines.
 #[derive(Drop)]
 pub struct LineRegex<'p> {
     patterns: &'p Patterns,
     cache: Cache,
     is_inverted: bool,
-    /// How many bytes of a page are searched at once next: four times what was passed over to a
-    /// match, and twice as many if nothing was found, so what is read twice is no more than some
-    /// times what was passed over. At 0 the next line is looked at by itself.
+    /// The number of bytes of a page that are searched at once next: four times what was skipped
+    /// before a match, and twice as many if nothing was found. So the bytes that are read twice are
+    /// no more than some times the skipped ones. At 0 the next line is tested by itself.
     reach: usize,
 }
 
@@ -58,7 +57,7 @@ impl<'p> Model for LineRegex<'p> {
 }
 
 impl<'p> LineRegex<'p> {
-    /// Selects by these patterns. An `Err` means out of memory for the cache.
+    /// Returns a selector by these patterns. An `Err` means out of memory for the cache.
     pub fn new(
         alloc: Global,
         patterns: &'p Patterns,
@@ -73,7 +72,7 @@ impl<'p> LineRegex<'p> {
         })
     }
 
-    /// The match of the text, as if there was nothing around it.
+    /// The match in the text, as if there were nothing around it.
     fn find(&mut self, text: &[u8]) -> Option<Match>
         ensures value { result ≡ answer_by (regex_kind self.old.regex) (search_for (sought self.old.regex) (whole text.now)) }
         ensures regex { self.new.regex ≡ self.old.regex }
@@ -83,7 +82,7 @@ impl<'p> LineRegex<'p> {
         self.patterns.regex.search_with(&mut self.cache, &mut input)
     }
 
-    /// Whether the patterns have a match in the line, as if there was nothing around it.
+    /// Whether the patterns have a match in the line, as if there were nothing around it.
     fn has_match(&mut self, line: &[u8]) -> bool
         ensures value { result ≡ has_match self.old.regex line.now }
         ensures regex { self.new.regex ≡ self.old.regex }
@@ -92,7 +91,7 @@ impl<'p> LineRegex<'p> {
         self.find(line).is_some()
     }
 
-    /// Where the match of the text begins, or the text's end.
+    /// Where the match in the text begins, or the end of the text.
     fn find_start(&mut self, text: &[u8]) -> usize
         ensures value { result ≡ start_or (length text.now) (answer_by (regex_kind self.old.regex) (search_for (sought self.old.regex) (whole text.now))) }
         ensures regex { self.new.regex ≡ self.old.regex }
@@ -111,8 +110,8 @@ impl<'p> LineRegex<'p> {
         start
     }
 
-    /// How many bytes of a page are searched at once: only blocks before the first that has one
-    /// past ASCII, if a search would be slow from there on.
+    /// The number of bytes of a page that are searched at once. If a search would be slow from the
+    /// first byte past ASCII on, it is whole blocks before that byte.
     fn reach_in(&self, page: &[u8]) -> usize
         ensures { result ≤ length page.now }
     {
@@ -124,7 +123,7 @@ impl<'p> LineRegex<'p> {
         }
     }
 
-    /// The match of the line that a search from a place on finds.
+    /// The match that a search of the line from a position on finds.
     pub fn find_from(&mut self, line: &[u8], from: usize) -> Option<Match> {
         if from > line.len() {
             return None;
@@ -134,7 +133,7 @@ impl<'p> LineRegex<'p> {
     }
 }
 
-/// How many bytes are in whole blocks before the first block in which one is past ASCII.
+/// The number of bytes in whole blocks before the first block with a byte past ASCII.
 fn ascii_len(bytes: &[u8]) -> usize
     ensures { result ≤ length bytes.now }
 {
@@ -148,7 +147,7 @@ fn ascii_len(bytes: &[u8]) -> usize
     place
 }
 
-/// Whether one of the first bytes is past ASCII, this many as a block has.
+/// Whether one of the first bytes is past ASCII, of as many as a block has.
 #[inline(always)]
 fn is_past_ascii(bytes: &[u8]) -> bool
     requires { 64 ≤ length bytes.now }

@@ -36,18 +36,18 @@ Prints the lines of files, or of the standard input, in which a pattern matches.
   --          no word after it is an option
 The status is 0 where a line was printed or counted, 1 where none was, and 2 at a fault.";
 
-/// The words after the program's name. An error means out of memory, or a word that isn't text.
+/// The arguments of the program. An error means out of memory, or an argument that isn't text.
 fn words_of(rt: &HostRuntime) -> io::Result<Vec<String>> {
     let words = std::env::args(rt)?.skip(1).collect(rt.alloc())?;
     Ok(words)
 }
 
-/// The same words, lent.
+/// The arguments, borrowed.
 fn lent(alloc: Global, words: &[String]) -> Result<Vec<&str>, AllocError> {
     words.iter().map(|word| word.as_str()).collect(alloc)
 }
 
-/// Builds the patterns, or returns why they aren't built.
+/// Builds the patterns, or reports why they can't be built.
 fn build_or_report(rt: &HostRuntime, hirs: &[Hir]) -> Result<Patterns, u8> {
     if hirs.len() > MAX_PATTERNS {
         return Err(report(rt, "too many patterns"));
@@ -58,7 +58,7 @@ fn build_or_report(rt: &HostRuntime, hirs: &[Hir]) -> Result<Patterns, u8> {
     }
 }
 
-/// Reads the patterns and builds them, or returns why they aren't.
+/// Parses and builds the patterns, or reports why they can't be built.
 fn patterns_of(rt: &HostRuntime, options: &Options<'_>) -> Result<Patterns, u8> {
     let texts = options.patterns.as_slice();
     let config = Config::new().case_insensitive(options.ignore_case);
@@ -89,7 +89,7 @@ fn run(rt: &HostRuntime, options: &Options<'_>) -> u8 {
     }
 }
 
-/// Runs the program with these words.
+/// Runs the program with these arguments.
 fn run_with(rt: &HostRuntime, words: &[&str]) -> u8 {
     match read_words(rt.alloc(), words) {
         Ok(options) => run(rt, &options),

@@ -5,22 +5,22 @@ use std::alloc::{AllocFailed, Global};
 /// What is searched, and how it is printed.
 #[derive(Drop)]
 pub struct Options<'w> {
-    /// `-n`: the number of each line is before it.
+    /// `-n`: print the number of each line before it.
     pub numbers: bool,
-    /// `-c`: the number of lines alone.
+    /// `-c`: print only the number of lines.
     pub count: bool,
-    /// `-o`: each match alone.
+    /// `-o`: print only the matches.
     pub only_matching: bool,
     /// `-i`: letters match in either case.
     pub ignore_case: bool,
-    /// `-v`: the lines in which no pattern matches.
+    /// `-v`: select the lines in which no pattern matches.
     pub invert: bool,
-    /// `-l`: the names of files alone.
+    /// `-l`: print only the names of files.
     pub names_only: bool,
-    /// `--color`: matches are marked.
+    /// `--color`: highlight matches.
     pub color: bool,
     pub patterns: Vec<&'w str>,
-    /// The names of files, of which `-` is the standard input. There is one at least.
+    /// The names of files; `-` is the standard input. There is at least one.
     pub files: Vec<&'w str>,
 }
 
@@ -29,9 +29,9 @@ pub struct Options<'w> {
 pub enum WordsError {
     /// The help is asked for.
     Help,
-    /// These are no words of the program.
+    /// The arguments are wrong.
     Usage,
-    /// Memory was refused.
+    /// Out of memory.
     Memory,
 }
 
@@ -56,7 +56,7 @@ impl<'w> Options<'w> {
         }
     }
 
-    /// Sets what a letter asks for.
+    /// Sets the option of a letter.
     fn set(&mut self, letter: u8) -> Result<(), WordsError> {
         match letter {
             b'n' => self.numbers = true,
@@ -70,7 +70,7 @@ impl<'w> Options<'w> {
         Ok(())
     }
 
-    /// Takes a word that begins with `-`. Returns whether the next word is a pattern.
+    /// Takes an argument that begins with `-`. Returns whether the next argument is a pattern.
     fn take(&mut self, word: &'w str) -> Result<bool, WordsError> {
         if word == "--help" {
             return Err(WordsError::Help);
@@ -93,8 +93,8 @@ impl<'w> Options<'w> {
     }
 }
 
-/// What the words ask for. The first word that is no option is the pattern, if no `-e` gives one;
-/// the others are files.
+/// The options that the arguments give. The first argument that is no option is the pattern, unless
+/// `-e` gives one; the others are files.
 pub fn read_words<'w>(alloc: Global, words: &[&'w str]) -> Result<Options<'w>, WordsError> {
     let mut options = Options::new(alloc);
     let mut is_pattern_next = false;

@@ -5,10 +5,10 @@ use crate::options::Options;
 use std::io;
 use std::io::Write;
 
-/// What is before a match, and after it, if matches are marked.
+/// The text before a highlighted match, and the text after it.
 const MARK: (&str, &str) = ("\x1b[01;31m", "\x1b[0m");
 
-/// Puts what is before a line: the name of its file, if one is given, and its number, if that is
+/// Writes what comes before a line: the name of its file if there is one, and its number if it is
 /// asked for.
 fn put_prefix<W: Write>(
     out: &mut W,
@@ -30,7 +30,7 @@ fn part(line: &[u8], start: usize, end: usize) -> &[u8] {
     line.get(start..end).unwrap_or(&[])
 }
 
-/// Puts a match, marked if that is asked for.
+/// Writes a match, highlighted if that is asked for.
 fn put_match<W: Write>(out: &mut W, options: &Options<'_>, bytes: &[u8]) -> io::Result<()> {
     if !options.color {
         return out.write_all(bytes);
@@ -41,7 +41,7 @@ fn put_match<W: Write>(out: &mut W, options: &Options<'_>, bytes: &[u8]) -> io::
     out.write_all(after.as_bytes())
 }
 
-/// Puts each match that isn't empty, as a line of its own.
+/// Writes each match that isn't empty, as a line of its own.
 fn put_matches<W: Write>(
     out: &mut W,
     selector: &mut LineRegex<'_>,
@@ -67,7 +67,7 @@ fn put_matches<W: Write>(
     Ok(())
 }
 
-/// Puts the line with its matches marked.
+/// Writes the line with its matches highlighted.
 fn put_marked<W: Write>(
     out: &mut W,
     selector: &mut LineRegex<'_>,
@@ -93,7 +93,7 @@ fn put_marked<W: Write>(
     out.write_all(b"\n")
 }
 
-/// Puts a selected line, as the options say.
+/// Writes a selected line, as the options say.
 pub fn put_line<W: Write>(
     out: &mut W,
     selector: &mut LineRegex<'_>,
@@ -116,7 +116,7 @@ pub fn put_line<W: Write>(
     out.write_all(b"\n")
 }
 
-/// Puts the number of a file's selected lines, or its name if it has one, as the options ask for.
+/// Writes the number of selected lines of a file, or its name if it has one, as the options say.
 pub fn put_count<W: Write>(
     out: &mut W,
     options: &Options<'_>,

@@ -11,12 +11,12 @@ use std::alloc::{AllocFailed, Global};
 /// The greatest number of patterns.
 pub const MAX_PATTERNS: usize = 2_147_483_647;
 
-/// Why texts weren't read as patterns.
+/// Why texts don't parse as patterns.
 #[derive(Clone, Copy)]
 pub enum Unread {
-    /// No pattern is read from the text with this number.
+    /// The text with this number doesn't parse.
     Text(usize),
-    /// Memory was refused.
+    /// Out of memory.
     Memory,
 }
 
@@ -26,7 +26,7 @@ impl<T: Drop> From<AllocFailed<T>> for Unread {
     }
 }
 
-/// The patterns as which the texts are read.
+/// Parses the texts as patterns.
 pub fn read_patterns(alloc: Global, texts: &[&str], config: &Config) -> Result<Vec<Hir>, Unread> {
     let mut hirs = Vec::new(alloc);
     for (number, text) in texts.iter().enumerate() {
@@ -43,11 +43,12 @@ pub fn read_patterns(alloc: Global, texts: &[&str], config: &Config) -> Result<V
 #[derive(Drop)]
 pub struct Patterns {
     pub regex: Regex,
-    /// Each assertion in them says the same at a newline as at the end of a text, and none spells
-    /// an empty text. So a line that has a match has one between other lines too.
+    /// Each assertion of the patterns holds at a newline if and only if it holds at the end of a
+    /// text, and no pattern matches an empty text. So a line that has a match has one between other
+    /// lines too.
     pub is_local: bool,
-    /// A search is slow from the first byte past ASCII on: tables don't read it if an assertion
-    /// asks for words of Unicode, and no needle is sought behind it. A matter of speed alone.
+    /// A search is slow from the first byte past ASCII on: an assertion asks for Unicode words, so
+    /// DFAs quit there, and no literal is found behind it. This only affects speed.
     pub is_slow_past_ascii: bool,
     ghost local: { is_local ≡ true → ∥ IsLocalRegex regex ∥₁ },
 }
@@ -66,8 +67,8 @@ pub fn build(alloc: Global, hirs: &[Hir]) -> Result<Patterns, BuildError>
     })
 }
 
-/// Whether each assertion in the pattern says the same at a newline as at the end of a text. `\b`
-/// and `(?m)$` do, `$` doesn't.
+/// Whether each assertion in the pattern holds at a newline if and only if it holds at the end of a
+/// text. `\b` and `(?m)$` do, `$` doesn't.
 fn has_line_looks(hir: &Hir) -> bool
     ensures { IsTrue result → HasLineLooks (meaning hir.now) }
 {
@@ -78,14 +79,15 @@ fn has_line_looks(hir: &Hir) -> bool
         && !looks.contains(Look::EndCRLF)
 }
 
-/// Whether each assertion in the pattern is such a one, and it spells no empty text.
+/// Whether each assertion in the pattern is one that `has_line_looks` allows, and the pattern
+/// matches no empty text.
 fn is_local(hir: &Hir) -> bool
     ensures { IsTrue result → IsLocalPattern (meaning hir.now) }
 {
     has_line_looks(hir) && hir.properties().minimum_len() != Some(0)
 }
 
-/// Whether each assertion in the patterns is such a one, and none spells an empty text.
+/// Whether `is_local` is true of each pattern.
 fn are_local(hirs: &[Hir]) -> bool
     ensures { IsTrue result → All IsLocalPattern (map meaning hirs.now) }
 {
@@ -97,7 +99,7 @@ fn are_local(hirs: &[Hir]) -> bool
     true
 }
 
-/// Whether an assertion on words of Unicode is in a pattern.
+/// Whether a pattern contains an assertion on Unicode words.
 fn has_scalar_looks(hirs: &[Hir]) -> bool {
     for hir in hirs {
         let looks = hir.properties().look_set();

@@ -19,9 +19,9 @@ const STDIN: &str = "(standard input)";
 /// Why the search of a file stopped.
 #[derive(Drop)]
 enum Fault {
-    /// The file wasn't read, or memory was refused.
+    /// The file couldn't be read, or there was no memory.
     Read(io::Error),
-    /// A line wasn't written.
+    /// A line couldn't be written.
     Write(io::Error),
 }
 
@@ -34,7 +34,7 @@ struct Job<'o, 'w> {
 
 impl Job<'_, '_> {
     /// Prints the selected lines of a reader, if lines are asked for, and returns how many there
-    /// were: at most one if names alone are asked for.
+    /// were: at most one if only names are asked for.
     fn print_lines<R: BufRead, W: Write>(
         &self,
         selector: &mut LineRegex<'_>,
@@ -90,7 +90,7 @@ impl Job<'_, '_> {
         }
     }
 
-    /// Searches the file of a name, or the standard input.
+    /// Searches the file with a name, or the standard input.
     fn search_named<W: Write>(
         &self,
         rt: &HostRuntime,
@@ -131,9 +131,9 @@ impl Job<'_, '_> {
 }
 
 /// Searches all files, one after another, or the standard input, and returns the status: 0 if a
-/// line was selected, 1 if none was, and 2 if a file wasn't read. Its line goes to the standard
-/// error, and the next file is searched. An `Err` is a fault of the standard output, or out of
-/// memory.
+/// line was selected, 1 if none was, and 2 if a file couldn't be read. An unreadable file is
+/// reported on the standard error, and the next file is searched. An `Err` is an error of the
+/// standard output, or out of memory.
 pub fn search_all(rt: &HostRuntime, patterns: &Patterns, options: &Options<'_>) -> io::Result<u8> {
     let alloc = rt.alloc();
     let mut selector = LineRegex::new(alloc, patterns, options.invert)?;

@@ -9,21 +9,21 @@ use std::io;
 use std::io::Write;
 use std::process::ExitCode;
 
-/// The status if memory was refused before the words were read.
+/// The status if memory runs out before the arguments are read.
 const FAULT: u8 = 2;
 
-/// The words after the program's name. An error means out of memory, or a word that isn't text.
+/// The arguments of the program. An error means out of memory, or an argument that isn't text.
 fn words_of(rt: &HostRuntime) -> io::Result<Vec<String>> {
     let words = std::env::args(rt)?.skip(1).collect(rt.alloc())?;
     Ok(words)
 }
 
-/// The same words, lent.
+/// The arguments, borrowed.
 fn lent(alloc: Global, words: &[String]) -> Result<Vec<&str>, AllocError> {
     words.iter().map(|word| word.as_str()).collect(alloc)
 }
 
-/// Runs the program with these words.
+/// Runs the program with these arguments.
 fn run_with(rt: &HostRuntime, words: &[&str]) -> u8 {
     let mut out = Written::new(rt.stdout());
     program(
@@ -35,7 +35,7 @@ fn run_with(rt: &HostRuntime, words: &[&str]) -> u8 {
     )
 }
 
-/// Tells that memory was refused. A fault of the standard error is ignored.
+/// Reports that memory ran out. An error of the standard error is ignored.
 fn out_of_memory(rt: &HostRuntime) -> u8 {
     let _ = writeln!(rt.stderr(), "out of memory");
     FAULT
