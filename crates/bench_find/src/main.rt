@@ -30,10 +30,10 @@ use std::io::{Read, Write};
 use std::process::ExitCode;
 use std::time::{Duration, Instant};
 
-/// The status of a fault.
+/// The status of an error.
 const FAULT: u8 = 2;
 
-/// The rounds if the words name no number.
+/// The default number of rounds.
 const ROUNDS: u32 = 3;
 
 const USAGE: &str =
@@ -48,28 +48,28 @@ enum What {
     Captures,
     /// A search of each chunk as a text of its own.
     Texts,
-    /// The same, in no cache.
+    /// A search of each chunk as a text of its own, without a cache.
     Finds,
     /// A build of the pattern.
     Build,
 }
 
-/// By what is searched.
+/// Which engines search.
 #[derive(Clone, Copy)]
 enum By {
-    /// What is chosen if nothing is set.
+    /// Those that are chosen by default.
     All,
-    /// No needles.
+    /// Without a prefilter.
     Plain,
-    /// No full DFA.
+    /// Without a full DFA.
     Met,
-    /// No needles, and no full DFA.
+    /// Without a prefilter and without a full DFA.
     Lazy,
-    /// No needles, and no tables.
+    /// Without a prefilter and without DFAs.
     Pass,
 }
 
-/// What the words ask for.
+/// What the arguments ask for.
 #[derive(Drop)]
 struct Job<'a> {
     pattern: &'a str,
@@ -79,14 +79,14 @@ struct Job<'a> {
     by: By,
 }
 
-/// Why the benchmark stopped, once the pattern was built.
+/// Why the benchmark failed, once the pattern was built.
 #[derive(Drop)]
 enum BenchError {
     /// The number of bytes in the text reaches the greatest `usize`.
     TooLong,
-    /// Memory was refused.
+    /// Out of memory.
     Memory,
-    /// The text wasn't read, the clock gave no time, or a line wasn't written.
+    /// The text couldn't be read, the clock failed, or a line couldn't be written.
     Io(io::Error),
 }
 
@@ -108,18 +108,18 @@ impl From<io::Error> for BenchError {
     }
 }
 
-/// The words after the program's name. An error means out of memory, or a word that isn't text.
+/// The arguments of the program. An error means out of memory, or an argument that isn't text.
 fn words_of(rt: &HostRuntime) -> io::Result<Vec<String>> {
     let words = std::env::args(rt)?.skip(1).collect(rt.alloc())?;
     Ok(words)
 }
 
-/// The same words, lent.
+/// The arguments, borrowed.
 fn lent(alloc: Global, words: &[String]) -> Result<Vec<&str>, AllocError> {
     words.iter().map(|word| word.as_str()).collect(alloc)
 }
 
-/// What the word names.
+/// What the argument says is timed.
 fn what_of(word: &str) -> Option<What> {
     match word {
         "matches" => Some(What::Matches),
@@ -131,7 +131,7 @@ fn what_of(word: &str) -> Option<What> {
     }
 }
 
-/// By what the word says that is searched.
+/// Which engines the argument names.
 fn by_of(word: &str) -> Option<By> {
     match word {
         "all" => Some(By::All),
@@ -143,7 +143,7 @@ fn by_of(word: &str) -> Option<By> {
     }
 }
 
-/// What these words ask for, if they ask for at least one round.
+/// What these arguments ask for, if they ask for at least one round.
 fn job_of<'a>(words: &[&'a str]) -> Option<Job<'a>> {
     if words.len() < 2 || words.len() > 5 {
         return None;
@@ -172,7 +172,7 @@ fn job_of<'a>(words: &[&'a str]) -> Option<Job<'a>> {
     })
 }
 
-/// The settings by which a search goes by this.
+/// The settings under which these engines search.
 fn config_of(by: By) -> Config {
     let config = Config::new();
     match by {
@@ -184,7 +184,7 @@ fn config_of(by: By) -> Config {
     }
 }
 
-/// The pattern, built so that a search goes by this.
+/// The pattern, built so that these engines search.
 fn built(alloc: Global, pattern: &str, by: By) -> Result<Regex, BuildError> {
     let mut builder = Regex::builder();
     let built = builder.configure(config_of(by)).build(alloc, pattern);
@@ -192,7 +192,8 @@ fn built(alloc: Global, pattern: &str, by: By) -> Result<Regex, BuildError> {
     built
 }
 
-/// The bytes in chunks of `n` bytes, of which the last may be shorter, or in one chunk if `n` is 0.
+/// Cuts the bytes into chunks of `n` bytes, of which the last may be shorter, or into one chunk if
+/// `n` is 0.
 fn cut(alloc: Global, bytes: &[u8], n: usize) -> Result<Vec<&[u8]>, AllocError> {
     let mut chunks = Vec::new(alloc);
     if n == 0 {
@@ -238,7 +239,8 @@ fn count_texts(alloc: Global, regex: &Regex, chunks: &[&[u8]]) -> Result<usize, 
     Ok(count)
 }
 
-/// The same, each searched in a cache that is made for it if one is needed.
+/// The number of chunks that have a match as texts of their own, each searched without a given
+/// cache.
 fn count_finds(alloc: Global, regex: &Regex, chunks: &[&[u8]]) -> Result<usize, BenchError> {
     let mut count: usize = 0;
     for chunk in chunks {
@@ -248,7 +250,7 @@ fn count_finds(alloc: Global, regex: &Regex, chunks: &[&[u8]]) -> Result<usize, 
     Ok(count)
 }
 
-/// The number of patterns that are built, which is one unless memory is refused.
+/// The number of patterns that are built, which is one unless memory runs out.
 fn count_built(alloc: Global, job: &Job<'_>) -> usize {
     let built = built(alloc, job.pattern, job.by);
     let count = usize::from(built.is_ok());
@@ -256,7 +258,7 @@ fn count_built(alloc: Global, job: &Job<'_>) -> usize {
     count
 }
 
-/// What is timed, and its count.
+/// Does what is timed, and returns its count.
 fn count(
     alloc: Global,
     regex: &Regex,
@@ -272,7 +274,7 @@ fn count(
     }
 }
 
-/// Counts once, and writes the number and the time. The answer is the time.
+/// Counts once, writes the count and the time, and returns the time.
 fn round(
     rt: &HostRuntime,
     regex: &Regex,
@@ -312,7 +314,7 @@ fn bench(rt: &HostRuntime, regex: &Regex, job: &Job<'_>) -> Result<(), BenchErro
     rounds(rt, regex, &chunks, job)
 }
 
-/// Writes the line of a fault. A fault of the standard error is ignored.
+/// Writes the line of an error. An error of the standard error is ignored.
 fn report(rt: &HostRuntime, error: &BenchError) -> u8 {
     let _ = match error {
         BenchError::TooLong => writeln!(rt.stderr(), "input too long"),
@@ -322,7 +324,7 @@ fn report(rt: &HostRuntime, error: &BenchError) -> u8 {
     FAULT
 }
 
-/// Does what the words ask for, which is nothing if there are none.
+/// Does what the arguments ask for, which is nothing if there are none.
 fn run_with(rt: &HostRuntime, words: &[&str]) -> u8 {
     if words.is_empty() {
         return 0;
@@ -347,7 +349,7 @@ fn run_with(rt: &HostRuntime, words: &[&str]) -> u8 {
     }
 }
 
-/// Reads the words, and does what they ask for.
+/// Reads the arguments, and does what they ask for.
 fn run(rt: &HostRuntime) -> Result<u8, BenchError> {
     let words = words_of(rt)?;
     let words = lent(rt.alloc(), &words)?;

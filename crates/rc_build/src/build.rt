@@ -29,7 +29,7 @@ use rc_settings::thompson;
 use rc_text::types::MatchKind;
 use std::alloc::Global;
 
-/// What patterns were built to.
+/// Patterns that were built.
 #[derive(Drop)]
 pub struct Built {
     /// Copies of the patterns.
@@ -40,15 +40,15 @@ pub struct Built {
     pub info: GroupInfo,
 }
 
-/// The patterns, at most 2,147,483,647 of them, built under the settings of their program, for
+/// Builds the patterns, at most 2,147,483,647 of them, under the settings of their program, for
 /// searches for this kind of match.
 ///
-/// Searches may go by the needles of `prefilter`, and if `is_auto` is on also by the patterns' own.
-/// No search result depends on them.
+/// Searches may use the needles of `prefilter`, and if `is_auto` is on also literals of the
+/// patterns. No search result depends on them.
 ///
-/// An `Err` is the first of these that applies: `IllFormed`, with the least pattern that isn't
-/// well-formed; `SizeLimit`, if 32 times the weight of the patterns is above the limit on their
-/// size; `PlaceLimit`, if the weight is above 2,147,483,646. `Memory` comes if memory was refused.
+/// The error is the first of these that applies: `IllFormed`, with the first pattern that isn't
+/// well-formed; `SizeLimit`, if 32 times the weight of the patterns is above the size limit;
+/// `PlaceLimit`, if the weight is above 2,147,483,646. `Memory` means out of memory.
 pub fn build_all(
     alloc: Global,
     hirs: &[Hir],
@@ -83,8 +83,7 @@ pub fn build_all(
     })
 }
 
-/// The engine of these patterns, whose program this is with its heads, and whose searches may go by
-/// the strategy.
+/// The engine of these patterns, with their program, its first-byte sets and the literal strategy.
 fn engine_of(
     settings: thompson::Config,
     kind: MatchKind,

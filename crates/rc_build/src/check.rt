@@ -15,12 +15,12 @@ use std::alloc::Global;
 /// The greatest weight of patterns that have a program.
 const GREATEST_WEIGHT: u128 = 2_147_483_646;
 
-/// Whether the patterns, at most 2,147,483,647 of them, can be built under a limit on 32 times
+/// Checks that the patterns, at most 2,147,483,647 of them, can be built under a limit on 32 times
 /// their weight.
 ///
-/// An `Err` is the first of these that applies: `IllFormed`, with the least pattern that isn't
+/// The error is the first of these that applies: `IllFormed`, with the first pattern that isn't
 /// well-formed; `SizeLimit`, if 32 times the weight is above the limit; `PlaceLimit`, if the weight
-/// is above 2,147,483,646. `Memory` may come at any time. The patterns may be of any depth and any
+/// is above 2,147,483,646. `Memory` may come at any time. The patterns may have any depth and any
 /// weight.
 pub fn check(alloc: Global, hirs: &[Hir], limit: Option<usize>) -> Result<(), BuildError>
     requires { length hirs.now ≤ most_patterns }
@@ -31,7 +31,7 @@ pub fn check(alloc: Global, hirs: &[Hir], limit: Option<usize>) -> Result<(), Bu
     check_weight(hirs, limit)
 }
 
-/// Whether each pattern is well-formed.
+/// Checks that each pattern is well-formed.
 fn check_forms(alloc: Global, hirs: &[Hir], limit: Option<usize>) -> Result<(), BuildError>
     requires { length hirs.now ≤ most_patterns }
     ensures well_formed { IfOk result (λ _. All IsWellFormed (map meaning hirs.now)) }
@@ -46,7 +46,7 @@ fn check_forms(alloc: Global, hirs: &[Hir], limit: Option<usize>) -> Result<(), 
     Ok(())
 }
 
-/// Whether well-formed patterns are light enough.
+/// Checks that well-formed patterns are light enough.
 fn check_weight(hirs: &[Hir], limit: Option<usize>) -> Result<(), BuildError>
     requires { All IsWellFormed (map meaning hirs.now) }
     ensures buildable { IfOk result (λ _. IsBuildable limit (map meaning hirs.now)) }

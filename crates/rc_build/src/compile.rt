@@ -21,7 +21,7 @@ use rc_settings::error::BuildError;
 use rc_settings::which::WhichCaptures;
 use std::alloc::{AllocError, Global};
 
-/// What patterns were compiled to.
+/// Patterns that were compiled.
 #[derive(Drop)]
 pub struct Compiled {
     /// The program.
@@ -30,11 +30,11 @@ pub struct Compiled {
     pub info: GroupInfo,
 }
 
-/// The patterns, at most 2,147,483,647 of them, compiled under a limit on 32 times their weight.
+/// Compiles the patterns, at most 2,147,483,647 of them, under a limit on 32 times their weight.
 ///
-/// An `Err` is the first of these that applies: `IllFormed`, with the least pattern that isn't
+/// The error is the first of these that applies: `IllFormed`, with the first pattern that isn't
 /// well-formed; `SizeLimit`, if 32 times the weight is above the limit; `PlaceLimit`, if the weight
-/// is above 2,147,483,646. `Memory` comes if memory was refused.
+/// is above 2,147,483,646. `Memory` means out of memory.
 pub fn compile_all(
     alloc: Global,
     hirs: &[Hir],
@@ -55,7 +55,7 @@ pub fn compile_all(
     Ok(Compiled { places, info })
 }
 
-/// For each pattern the names of its groups that are kept.
+/// For each pattern the names of the groups that are kept.
 fn names_shown(
     alloc: Global,
     hirs: &[Hir],

@@ -12,11 +12,11 @@ use rc_settings::error::BuildError;
 use rc_text::types::PatternID;
 use std::alloc::Global;
 
-/// The patterns as which the texts are read, at most 2,147,483,647 of them, each at the place of
-/// its text.
+/// Parses the texts, at most 2,147,483,647 of them, and returns the pattern of each text at its
+/// index.
 ///
-/// An `Err` is `Syntax`, with the least text from which no pattern is read, or `Memory`, if memory
-/// was refused.
+/// The error is `Syntax`, with the first text that doesn't parse, or `Memory`, which means out of
+/// memory.
 pub fn parse_all(alloc: Global, texts: &[&str], config: &Config) -> Result<Vec<Hir>, BuildError>
     requires { length texts.now ≤ most_patterns }
     ensures read { IfOk result (λ hirs. AllRead (settings_of config.now) (texts_of texts.now) (map meaning hirs.items)) }

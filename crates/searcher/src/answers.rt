@@ -11,7 +11,7 @@ use rc_settings::error::BuildError;
 use rc_text::types::{Match, PatternID, Span};
 use std::alloc::{AllocError, AllocFailed};
 
-/// A match: the number of its pattern, and from where to where it goes, in bytes of the whole text.
+/// A match: the number of its pattern, and its span, in bytes of the whole text.
 #[repr(C)]
 #[derive(Clone, Copy)]
 pub struct MatchAt {
@@ -19,27 +19,27 @@ pub struct MatchAt {
     pub pattern: usize,
     /// Where the match begins.
     pub start: usize,
-    /// Where it ends, without the byte there.
+    /// Where it ends, exclusive.
     pub end: usize,
 }
 
-/// From where to where a group goes, in bytes of the whole text. Both are the greatest `usize` if
-/// the group took no part.
+/// The span of a group, in bytes of the whole text. Both are the greatest `usize` if the group took
+/// no part.
 #[repr(C)]
 #[derive(Clone, Copy)]
 pub struct GroupAt {
     /// Where the group begins.
     pub start: usize,
-    /// Where it ends, without the byte there.
+    /// Where it ends, exclusive.
     pub end: usize,
 }
 
-/// Why a search gave no answer.
+/// Why a search failed.
 #[derive(Clone, Copy)]
 pub enum Fault {
-    /// The chunks hold as many bytes as the greatest `usize`, or more.
+    /// The number of bytes in the chunks reaches the greatest `usize`.
     TooLong,
-    /// The search was to begin behind its end, or behind the text's.
+    /// The search was to begin behind its end, or behind the end of the text.
     Outside,
 }
 
@@ -52,9 +52,9 @@ pub enum Refusal {
     TooMany,
     /// The pattern with this number isn't UTF-8.
     NotUtf8(usize),
-    /// The patterns weren't built.
+    /// The patterns couldn't be built.
     Build(BuildError),
-    /// Memory was refused.
+    /// Out of memory.
     Memory,
 }
 
@@ -62,7 +62,7 @@ impl MatchAt {
     ghost use Rattle.std.specs.Prelude.{◌≡◌};
     ghost use Rattle.searcher.specs.Places.{found_at};
 
-    /// The match, with numbers alone.
+    /// Returns the match as plain numbers.
     pub fn of(found: Match) -> MatchAt
         ensures { found_at result ≡ found }
     {
@@ -78,7 +78,7 @@ impl GroupAt {
     ghost use Rattle.std.specs.Prelude.{◌≡◌};
     ghost use Rattle.searcher.specs.Places.{AreGroups, group_of};
 
-    /// The span, with numbers alone.
+    /// Returns the span as plain numbers.
     fn of(span: Option<Span>) -> GroupAt
         ensures { result ≡ group_of span }
     {
@@ -94,8 +94,8 @@ impl GroupAt {
         }
     }
 
-    /// Writes the groups that the captures hold, one after another from group 0 on. If there is no
-    /// such group, it took no part.
+    /// Writes the groups of the captures, one after another from group 0 on. A group that doesn't
+    /// exist took no part.
     pub fn write_all(captures: &Captures, groups: &mut [GroupAt])
         ensures { AreGroups captures.now groups.new }
     {
@@ -105,7 +105,7 @@ impl GroupAt {
     }
 }
 
-/// Writes for each number whether it is a member of the set: 1, or 0.
+/// Writes for each number whether it is a member of the set: 1 or 0.
 pub(crate) fn write_marks(set: &PatternSet, marks: &mut [u8])
     requires { length set.now ≤ most_patterns }
     ensures { AreMarksOf set.now marks.new }
@@ -115,7 +115,7 @@ pub(crate) fn write_marks(set: &PatternSet, marks: &mut [u8])
     }
 }
 
-/// Whether the number is a member of the set: 1, or 0.
+/// Whether the number is a member of the set: 1 or 0.
 fn mark_of(set: &PatternSet, number: usize) -> u8
     requires { length set.now ≤ most_patterns }
     ensures { IsMark (Has set.now number) (Some result) }

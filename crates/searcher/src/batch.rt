@@ -18,10 +18,10 @@ use rc_text::cursor::Cursor;
 use rc_text::input::{Input, content_fits};
 use rc_text::types::Match;
 
-/// What a batch was filled with, and where the iteration is behind it.
+/// The result of filling a batch, and the state of the iteration after it.
 #[derive(Clone, Copy)]
 pub(crate) struct Filled {
-    /// How many matches there are.
+    /// The number of matches.
     pub(crate) count: usize,
     /// Where the next search begins.
     pub(crate) from: usize,
@@ -29,7 +29,7 @@ pub(crate) struct Filled {
     pub(crate) last: Option<usize>,
 }
 
-/// The match of an input whose earliest flag is off.
+/// Returns the match of an input whose earliest flag is off.
 pub(crate) fn search<C: Cursor>(
     regex: &Regex,
     cache: &mut Cache,
@@ -45,7 +45,8 @@ pub(crate) fn search<C: Cursor>(
     regex.search_with(cache, input)
 }
 
-/// The same match, as the first of the list of the input's matches: that doesn't read the earliest flag. The span may start elsewhere then.
+/// Returns the match of an input whose earliest flag is off, as the first item of an iteration. The
+/// iteration doesn't read the flag. The span may start elsewhere afterwards.
 fn first<C: Cursor>(regex: &Regex, cache: &mut Cache, input: &mut Input<C>) -> Option<Match>
     requires made { IsCacheFor (regex_patterns regex.now) (regex_settings regex.now) cache.old }
     ensures cache { IsCacheFor (regex_patterns regex.now) (regex_settings regex.now) cache.new }
@@ -57,8 +58,8 @@ fn first<C: Cursor>(regex: &Regex, cache: &mut Cache, input: &mut Input<C>) -> O
     matches.next()
 }
 
-/// The next match of the list, where the one before ended at `last`. The span may start elsewhere
-/// then.
+/// Returns the next match of the iteration; the last one ended at `last`. The span may start
+/// elsewhere afterwards.
 fn next_match<C: Cursor>(
     regex: &Regex,
     cache: &mut Cache,
@@ -83,7 +84,7 @@ fn next_match<C: Cursor>(
     search(regex, cache, input)
 }
 
-/// Fills the batch with the next matches of the list, where the one before ended at `before`.
+/// Fills the batch with the next matches of the iteration; the last one ended at `before`.
 pub(crate) fn fill<C: Cursor>(
     regex: &Regex,
     cache: &mut Cache,

@@ -6,11 +6,11 @@ ghost use Rattle.std.specs.Box.Ownership.{box_owns};
 use std::alloc::Allocator;
 use std::marker::Model;
 
-/// What a box owns, as the pointer to it and what gave its memory.
+/// The contents of a box, as its pointer and its allocator.
 pub struct Parts<T, A: Allocator> {
-    /// Where the value is.
+    /// The pointer to the value.
     pub ptr: *mut T,
-    /// What gave its memory.
+    /// The allocator of its memory.
     pub alloc: A,
     pub ghost value: { T },
 }
@@ -20,7 +20,7 @@ impl<T, A: Allocator> Model for Parts<T, A> {
 }
 
 impl<T, A: Allocator> Parts<T, A> {
-    /// The parts of a box.
+    /// Takes a box apart.
     pub(crate) fn of(b: Box<T, A>) -> Parts<T, A>
     where
         T: Drop,
@@ -30,7 +30,7 @@ impl<T, A: Allocator> Parts<T, A> {
         Parts { ptr, alloc }
     }
 
-    /// The box that these are the parts of.
+    /// Puts the box together again.
     pub(crate) fn into_box(self) -> Box<T, A>
         ensures { result.value ≡ self.value }
     {

@@ -23,12 +23,12 @@ use rc_text::types::{Match, MatchKind, Span};
 use std::alloc::{AllocError, Global};
 use std::marker::Model;
 
-/// A regex, with all that its searches need: a cache, captures, a set of its patterns, and where an
-/// iteration is.
+/// A regex with everything that its searches need: a cache, captures, a set of its patterns, and
+/// the state of an iteration.
 ///
-/// The text isn't kept. Each search is handed its chunks, and says what the text is that they make
-/// then. No search answers out of memory: its cache may grow up to a limit, and if that is refused
-/// the answer is the same.
+/// It doesn't keep the text. You pass the chunks to each search, which says what the text is. No
+/// search fails for lack of memory: its cache may grow up to a limit, and if it can't grow, the
+/// result is the same.
 #[derive(Drop)]
 pub struct Searcher {
     regex: Regex,
@@ -70,11 +70,11 @@ impl Searcher {
     ghost use Rattle.searcher.specs.Places.{AreMarks, IsFilled};
     ghost use Rattle.searcher.specs.Ranges.{IsFault};
 
-    /// A searcher for the patterns as which these texts are read, each in UTF-8. Its iteration is
-    /// before the text's first byte.
+    /// Returns a searcher for the patterns with these texts, each in UTF-8. Its iteration is before
+    /// the first byte of the text.
     ///
-    /// An `Err` is the first of these that applies: no kind of match has the number; there are too
-    /// many texts; a text isn't UTF-8; what the build refuses. Want of memory may come at any time.
+    /// The error is the first of these that applies: no kind of match has the number; there are too
+    /// many texts; a text isn't UTF-8; an error of the build. `Memory` may come at any time.
     pub fn new(alloc: Global, patterns: &[&[u8]], settings: &Settings) -> Result<Searcher, Refusal>
         ensures built { IfOk result (IsBuilt settings.now patterns.now) }
         ensures refused { IfErr result (IsRefused settings.now patterns.now) }
@@ -91,7 +91,7 @@ impl Searcher {
         Ok(searcher)
     }
 
-    /// The same on the heap.
+    /// Returns the searcher that `new` returns, on the heap.
     pub fn boxed(
         alloc: Global,
         patterns: &[&[u8]],
@@ -118,7 +118,7 @@ impl Searcher {
         &self.captures
     }
 
-    /// About how many bytes the regex and the cache take.
+    /// Roughly the number of bytes that the regex and the cache take.
     pub fn memory_usage(&self) -> usize {
         self.regex
             .memory_usage()
@@ -135,8 +135,8 @@ impl Searcher {
         Ok(self.regex.is_match_with(&mut self.cache, &mut input))
     }
 
-    /// The match in the text from `start` to `end`, or to the text's end if that comes first.
-    /// Assertions see the whole text.
+    /// Returns the match in the text from `start` to `end`, or to the end of the text if that comes
+    /// first. Assertions see the whole text.
     pub fn find(
         &mut self,
         chunks: &[&[u8]],
@@ -151,10 +151,10 @@ impl Searcher {
         Ok(batch::search(&self.regex, &mut self.cache, &mut input))
     }
 
-    /// Marks which patterns have a match in the text from `start` to `end`: the place of a
-    /// pattern's number is 1 if it has one, and each other place is 0. A pattern has a match if it
-    /// spells some span there, even if that is never found since another is preferred. After an
-    /// `Err` the marks are as before.
+    /// Marks which patterns have a match in the text from `start` to `end`: the mark at the number
+    /// of a pattern is 1 if it has one, and each other mark is 0. A pattern has a match if it
+    /// matches some span there, even if no search finds that one because another is preferred. An
+    /// `Err` leaves the marks as they were.
     pub fn which_patterns(
         &mut self,
         chunks: &[&[u8]],
@@ -175,8 +175,8 @@ impl Searcher {
         Ok(())
     }
 
-    /// The match that `find` finds, whose groups are kept then, and none if there is no match.
-    /// After an `Err` those of the search before are still kept.
+    /// Returns the match that `find` finds, and keeps its groups, or none if there is no match.
+    /// After an `Err` the groups of the search before are still kept.
     pub fn find_groups(
         &mut self,
         chunks: &[&[u8]],
@@ -196,8 +196,8 @@ impl Searcher {
         Ok(self.captures.get_match())
     }
 
-    /// Begins an iteration at a place. A match ended at `last`, if that is given: an empty one
-    /// there gives way to the next.
+    /// Begins an iteration at a position. If `last` is given, a match ended there, so an empty
+    /// match there is skipped.
     pub fn restart(&mut self, from: usize, last: Option<usize>)
         ensures { self.new ≡ record self.old { from = from; last = last } }
     {
@@ -213,12 +213,13 @@ impl Searcher {
         *from
     }
 
-    /// Fills the batch with the next matches of the text, up to `end`, and returns how many they
-    /// are. If the batch isn't full, no more is left. Each match is sought from where the one
-    /// before ended, and an empty one that ends there gives way to the answer from a byte later.
+    /// Fills the batch with the next matches of the text, up to `end`, and returns how many there
+    /// are. If the batch isn't full, no more are left. Each search starts where the last match
+    /// ended. If it finds an empty match that ends there again, the search begins a byte later.
     ///
-    /// The matches are those of the text that is passed in. If it is another than in the call
-    /// before, the list goes on from the same place in that one. After an `Err` all is as before.
+    /// The matches are those of the text that you pass. If that is another one than in the last
+    /// call, the iteration goes on from the same position in the new text. An `Err` leaves
+    /// everything as it was.
     pub fn fill(
         &mut self,
         chunks: &[&[u8]],
@@ -239,26 +240,26 @@ impl Searcher {
     }
 }
 
-/// Frees a searcher. What holds one need not be able to let go each of its parts then.
+/// Frees a searcher, so that its owner needn't be able to drop each of its parts.
 pub fn free(searcher: Box<Searcher>) {
     drop(searcher);
 }
 
-/// The parts of the box that holds a searcher.
+/// Takes apart the box of a searcher.
 pub fn parts_of(searcher: Box<Searcher>) -> Parts<Searcher, Global>
     ensures { result.value ≡ searcher.value }
 {
     Parts::of(searcher)
 }
 
-/// The box that these are the parts of.
+/// Puts the box of a searcher together again.
 pub fn box_of(parts: Parts<Searcher, Global>) -> Box<Searcher>
     ensures { result.value ≡ parts.value }
 {
     parts.into_box()
 }
 
-/// The texts that these bytes are.
+/// The texts of these bytes.
 fn texts_of<'p>(alloc: Global, patterns: &[&'p [u8]]) -> Result<Vec<&'p str>, Refusal>
     ensures same { IfOk result (λ v. texts_of v.items ≡ texts_of patterns.now) }
     ensures refused { IfErr result (IsNotText patterns.now) }
@@ -274,7 +275,7 @@ fn texts_of<'p>(alloc: Global, patterns: &[&'p [u8]]) -> Result<Vec<&'p str>, Re
     Ok(texts)
 }
 
-/// The regex of the patterns as which these texts are read.
+/// Builds a regex from the texts of patterns.
 fn build(
     alloc: Global,
     texts: &[&str],
@@ -293,7 +294,7 @@ fn build(
         .build_many(alloc, texts)
 }
 
-/// The searcher of a regex.
+/// Returns the searcher of a regex.
 fn with_cache(alloc: Global, regex: Regex) -> Result<Searcher, AllocError>
     requires { length (regex_patterns regex) ≤ most_patterns }
     ensures regex { IfOk result (λ s. s.regex ≡ regex) }
@@ -325,7 +326,7 @@ fn with_cache(alloc: Global, regex: Regex) -> Result<Searcher, AllocError>
     })
 }
 
-/// The text that the chunks make, to be searched from `start` to `end`, with the earliest flag off.
+/// The text of the chunks, as an input from `start` to `end`, with the earliest flag off.
 fn input_over<'a>(
     chunks: &'a [&'a [u8]],
     start: usize,

@@ -6,8 +6,8 @@ use rc_parser as syntax;
 use rc_settings::meta;
 use rc_text::types::MatchKind;
 
-/// How patterns are read, and which match is sought. Each field but `kind` is a flag, off at 0 and
-/// on at each other number. With all fields 0, the settings are the default ones.
+/// How patterns are parsed, and which match a search finds. Each field but `kind` is a flag, off at
+/// 0 and on at any other number. With all fields 0, the settings are the defaults.
 #[repr(C)]
 #[derive(Clone, Copy)]
 pub struct Settings {
@@ -21,14 +21,14 @@ pub struct Settings {
     pub crlf: u8,
     /// Repetitions are lazy, and greedy with `?`: the flag `U`.
     pub swap_greed: u8,
-    /// Classes, dots and words are of bytes, and not of characters: without the flag `u`.
+    /// Classes, dots and words are of bytes instead of characters: the flag `u` is off.
     pub bytes: u8,
-    /// Patterns may match what isn't UTF-8.
+    /// Patterns may match bytes that aren't UTF-8.
     pub any_bytes: u8,
     /// Empty matches may split a character.
     pub split_characters: u8,
-    /// The number of the kind of match that is sought: 0 for the preferred match of the least
-    /// start, 1 for the match with the greatest end, 2 for the longest match of the least start.
+    /// The number of the kind of match: 0 for the preferred match of the least start, 1 for the
+    /// match with the greatest end, 2 for the longest match of the least start.
     pub kind: u8,
 }
 
@@ -37,7 +37,7 @@ impl Settings {
     ghost use Rattle.rc_settings.specs.Settings.{settings_of};
     ghost use Rattle.searcher.specs.Flags.{kind_of, search_settings, syntax_settings};
 
-    /// How patterns are read.
+    /// The syntax settings.
     pub(crate) fn syntax(&self) -> syntax::Config
         ensures { syntax_of result ≡ syntax_settings self.now }
     {
@@ -51,7 +51,7 @@ impl Settings {
             .utf8(self.any_bytes == 0)
     }
 
-    /// The kind of match that is sought, if one has the number.
+    /// The kind of match, if one has the number.
     pub(crate) fn kind(&self) -> Option<MatchKind>
         ensures { result ≡ kind_of self.now.kind }
     {
@@ -63,7 +63,7 @@ impl Settings {
         }
     }
 
-    /// Which matches are sought, of a kind.
+    /// The settings of a regex that finds matches of this kind.
     pub(crate) fn search(&self, kind: MatchKind) -> meta::Config
         ensures { settings_of result ≡ search_settings self.now kind }
     {

@@ -12,7 +12,7 @@ use searcher::{Refusal, Searcher, Settings, free};
 use std::alloc::Global;
 
 /// Why patterns were refused, and where: the number of the pattern, and a byte of it. Both are 0 if
-/// the status doesn't tell of them.
+/// the status isn't about a pattern.
 #[repr(C)]
 #[derive(Clone, Copy)]
 pub struct Refused {
@@ -20,11 +20,11 @@ pub struct Refused {
     pub status: u32,
     /// The number of the pattern.
     pub pattern: usize,
-    /// The byte of its text at which the fault was found.
+    /// The byte of its text at which the fault is.
     pub at: usize,
 }
 
-/// A refusal as numbers.
+/// Returns an error as plain numbers.
 fn told(refusal: Refusal) -> Refused
     ensures { result ≡ told_refusal refusal }
 {
@@ -54,7 +54,7 @@ fn told(refusal: Refusal) -> Refused
 }
 
 /// Frees what the handle holds, and fills it with a searcher for these patterns, each in UTF-8. If
-/// the status isn't `DONE`, the handle is empty, and `refused` tells why.
+/// the status isn't `DONE`, the handle is empty, and `refused` says why.
 #[unsafe(no_mangle)]
 pub extern "C" fn zf_compile(
     alloc: Global,

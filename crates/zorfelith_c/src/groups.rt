@@ -10,7 +10,7 @@ use api_meta::regex::Regex;
 use rc_text::types::PatternID;
 use std::alloc::Global;
 
-/// How many patterns there are.
+/// Writes the number of patterns.
 #[unsafe(no_mangle)]
 pub extern "C" fn zf_pattern_count(alloc: Global, handle: &mut Handle, count: &mut usize) -> u32
     ensures answered { MatchOption handle.old.held.value (result ≡ empty) (λ s. (result ≡ done) × (count.new ≡ length (regex_patterns s.regex))) }
@@ -25,8 +25,8 @@ pub extern "C" fn zf_pattern_count(alloc: Global, handle: &mut Handle, count: &m
     DONE
 }
 
-/// How many groups a pattern has, the whole match among them: `DONE`, and 0 if there is no such
-/// pattern; or `ABSENT`, if its number is above 2,147,483,646.
+/// Writes the number of groups of a pattern, the whole match among them: `DONE`, and 0 if there is
+/// no such pattern; or `ABSENT`, if its number is above 2,147,483,646.
 #[unsafe(no_mangle)]
 pub extern "C" fn zf_group_count(
     alloc: Global,
@@ -52,9 +52,9 @@ pub extern "C" fn zf_group_count(
     }
 }
 
-/// Writes the name of a group: `DONE`, and `length` tells how many bytes it has; `SHORT`, if `name`
-/// has fewer, and `length` tells how many are needed; or `ABSENT`, if it has no name, or there is
-/// no such pattern or group.
+/// Writes the name of a group. The status is `DONE`, and `length` is its number of bytes; `SHORT`,
+/// if `name` has fewer, and `length` is how many are needed; or `ABSENT`, if it has no name, or
+/// there is no such pattern or group.
 #[unsafe(no_mangle)]
 pub extern "C" fn zf_group_name(
     alloc: Global,
@@ -76,8 +76,9 @@ pub extern "C" fn zf_group_name(
     status
 }
 
-/// The number of the group of a name, from 1 on: the first one if several have it; `ABSENT` if none
-/// has it, or there is no such pattern; `NOT_UTF8` if the name isn't UTF-8.
+/// Writes the number of the group with a name, from 1 on: the first one if several have it. The
+/// status is `ABSENT` if none has it, or there is no such pattern, and `NOT_UTF8` if the name isn't
+/// UTF-8.
 #[unsafe(no_mangle)]
 pub extern "C" fn zf_group_number(
     alloc: Global,
@@ -98,7 +99,7 @@ pub extern "C" fn zf_group_number(
     status
 }
 
-/// How many groups a pattern has; `None` if no pattern can have that number.
+/// The number of groups of a pattern; `None` if no pattern can have that number.
 fn group_count(regex: &Regex, pattern: usize) -> Option<usize>
     ensures { MatchOption result (TellsCount regex.now pattern 5 0) (TellsCount regex.now pattern 0) }
 {
@@ -106,7 +107,7 @@ fn group_count(regex: &Regex, pattern: usize) -> Option<usize>
     Some(regex.group_info().group_len(pattern))
 }
 
-/// The status for the name of a group, which is written.
+/// Writes the name of a group, and returns the status.
 fn put_name(regex: &Regex, pattern: usize, group: usize, name: &mut [u8], length: &mut usize) -> u32
     ensures { TellsName regex.now pattern group result name.new length.new }
 {
@@ -125,7 +126,7 @@ fn put_name(regex: &Regex, pattern: usize, group: usize, name: &mut [u8], length
     DONE
 }
 
-/// The status for the number of a group, which is written.
+/// Writes the number of a group, and returns the status.
 fn put_number(regex: &Regex, pattern: usize, name: &[u8], number: &mut usize) -> u32
     ensures { TellsNumber regex.now pattern name.now result number.new }
 {

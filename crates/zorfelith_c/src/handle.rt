@@ -6,10 +6,10 @@ use searcher::{Searcher, box_of, parts_of};
 use std::alloc::Global;
 use std::mem::replace;
 
-/// A searcher, or none. C makes an empty one of bytes that are 0, and writes nothing in one that is
-/// full.
+/// A searcher, or none. C makes an empty handle of bytes that are 0, and writes nothing to a full
+/// one.
 ///
-/// What is dropped full is not freed, so each call takes the searcher out first.
+/// Dropping a full handle doesn't free the searcher, so each call takes it out first.
 #[repr(C)]
 #[derive(Drop)]
 pub struct Handle {

@@ -14,13 +14,13 @@ use std::alloc::Global;
 #[repr(C)]
 #[derive(Clone, Copy)]
 pub struct Progress {
-    /// How many matches were written by the call.
+    /// The number of matches that the call wrote.
     pub count: usize,
     /// Where the next search begins, in bytes of the text.
     pub next: usize,
 }
 
-/// Whether there is a match in the text from `start` to `end`: `FOUND` or `DONE`.
+/// Tests whether there is a match in the text from `start` to `end`: `FOUND` or `DONE`.
 #[unsafe(no_mangle)]
 pub extern "C" fn zf_is_match(
     alloc: Global,
@@ -46,7 +46,7 @@ pub extern "C" fn zf_is_match(
     }
 }
 
-/// The match in the text from `start` to `end`: `FOUND`, and then it is written, or `DONE`.
+/// Finds the match in the text from `start` to `end`: `FOUND`, and the match is written, or `DONE`.
 #[unsafe(no_mangle)]
 pub extern "C" fn zf_find(
     alloc: Global,
@@ -76,8 +76,8 @@ pub extern "C" fn zf_find(
     }
 }
 
-/// The match that `zf_find` finds, and its groups, as many as there are places for them. Without a
-/// match each took no part.
+/// Finds the match that `zf_find` finds, and writes as many of its groups as there is room for.
+/// Without a match each group took no part.
 #[unsafe(no_mangle)]
 pub extern "C" fn zf_find_groups(
     alloc: Global,
@@ -113,8 +113,8 @@ pub extern "C" fn zf_find_groups(
     status
 }
 
-/// Marks which patterns have a match in the text from `start` to `end`: the place of a pattern's
-/// number is 1 if it has one, and each other place is 0.
+/// Marks which patterns have a match in the text from `start` to `end`: the mark at the number of a
+/// pattern is 1 if it has one, and each other mark is 0.
 #[unsafe(no_mangle)]
 pub extern "C" fn zf_which_patterns(
     alloc: Global,
@@ -140,8 +140,8 @@ pub extern "C" fn zf_which_patterns(
     }
 }
 
-/// Begins an iteration at a place. If `follows` isn't 0, a match ended there, so that an empty one
-/// there gives way to the next.
+/// Begins an iteration at a position. If `follows` isn't 0, a match ended there, so an empty match
+/// there is skipped.
 #[unsafe(no_mangle)]
 pub extern "C" fn zf_restart(alloc: Global, handle: &mut Handle, from: usize, follows: u8) -> u32
     ensures answered { MatchOption handle.old.held.value (result ≡ empty) (λ _. result ≡ done) }
@@ -158,7 +158,7 @@ pub extern "C" fn zf_restart(alloc: Global, handle: &mut Handle, from: usize, fo
     DONE
 }
 
-/// Fills the batch with the next matches of the text, up to `end`. No more is left if the batch
+/// Fills the batch with the next matches of the text, up to `end`. No more are left if the batch
 /// isn't full.
 #[unsafe(no_mangle)]
 pub extern "C" fn zf_next(
@@ -189,7 +189,7 @@ pub extern "C" fn zf_next(
     }
 }
 
-/// About how many bytes the regex and its cache take.
+/// Writes roughly the number of bytes that the regex and its cache take.
 #[unsafe(no_mangle)]
 pub extern "C" fn zf_memory(alloc: Global, handle: &mut Handle, bytes: &mut usize) -> u32
     ensures answered { MatchOption handle.old.held.value (result ≡ empty) (λ _. result ≡ done) }

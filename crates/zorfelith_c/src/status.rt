@@ -1,26 +1,26 @@
 //! Status codes that calls return.
 
-/// It is done; of a search: there is no match.
+/// The call is done. Of a search: there is no match.
 pub const DONE: u32 = 0;
 /// There is a match.
 pub const FOUND: u32 = 1;
 /// The handle is empty.
 pub const EMPTY: u32 = 2;
-/// The chunks hold as many bytes as the greatest `size_t`, or more.
+/// The number of bytes in the chunks reaches the greatest `size_t`.
 pub const TOO_LONG: u32 = 3;
-/// The range begins behind its end, or behind the text's.
+/// The range begins behind its end, or behind the end of the text.
 pub const OUTSIDE: u32 = 4;
 /// There is no such pattern or group, or it has no name.
 pub const ABSENT: u32 = 5;
-/// The place for a name is too short.
+/// The buffer for a name is too short.
 pub const SHORT: u32 = 6;
 /// The bytes aren't UTF-8.
 pub const NOT_UTF8: u32 = 7;
-/// No pattern is read from the text.
+/// The text of a pattern doesn't parse.
 pub const SYNTAX: u32 = 8;
 /// The patterns are too large, or too many.
 pub const TOO_LARGE: u32 = 9;
-/// Memory was refused.
+/// Out of memory.
 pub const MEMORY: u32 = 10;
 /// No kind of match has the number.
 pub const NO_KIND: u32 = 11;
