@@ -4,17 +4,17 @@ ghost use Rattle.rc_build.specs.Oversized.{oversize_line};
 
 use std::fmt;
 
-/// From here on a weight is told as this.
+/// The cap: a weight from here on is reported as this.
 const CAP: u128 = 0x1_0000_0000_0000_0000;
 
-/// How heavy patterns are whose size is above a limit. It is shown as a line that tells the size,
-/// the weight and the limit.
+/// The weight of patterns that are too large. It is shown as one line with the size, the weight and
+/// the limit.
 #[derive(Clone, Copy, Debug, PartialEq, Eq)]
 pub struct Oversize {
     /// The weight of the patterns, or 2 to the power of 64 if it is above that. The size is 32
     /// times the weight, in bytes.
     pub weight: u128,
-    /// The limit on the size, in bytes.
+    /// The size limit, in bytes.
     pub limit: usize,
 }
 

@@ -10,11 +10,11 @@ use rc_pattern::check::{capped_list_weight, is_well_formed};
 use rc_pattern::hir::Hir;
 use std::alloc::{AllocError, Global};
 
-/// How heavy the patterns are whose build under this limit, in bytes, is refused with `SizeLimit`:
-/// they are well-formed, and 32 times their weight is above it.
+/// Returns the weight of the patterns if a build under this limit, in bytes, fails with
+/// `SizeLimit`: they are well-formed, and 32 times their weight is above the limit.
 ///
-/// It is `None` if and only if such a build isn't refused for the patterns' size. An `Err` means
-/// out of memory.
+/// It returns `None` if and only if such a build doesn't fail for the size of the patterns. An
+/// `Err` means out of memory.
 pub fn explain_size(
     alloc: Global,
     hirs: &[Hir],

@@ -155,7 +155,7 @@ pub fn slots_of(caps: &Captures) -> &[Option<usize>]
     &caps.slots
 }
 
-/// The same captures in memory of their own. An error is want of memory.
+/// Returns a copy of the captures. An `Err` means out of memory.
 pub fn copy_of(alloc: Global, caps: &Captures) -> Result<Captures, AllocError>
     ensures names { IfOk result (λ c. captures_names c ≡ captures_names caps.now) }
     ensures pattern { IfOk result (λ c. captures_pattern c ≡ captures_pattern caps.now) }

@@ -22,7 +22,8 @@ pub enum Exits {
     Many,
 }
 
-/// The exits, and one more. A common byte is taken for many, since a search for it would end too soon to be worth it.
+/// The exits, and one more. A common byte is taken for many, since a search for it would end too
+/// soon to be worth it.
 fn with(exits: Exits, byte: u8) -> Exits
     ensures { (b : ℕ) → is_exit result b ≡ false → (is_exit exits b ≡ false) × (b ≢ byte) }
 {

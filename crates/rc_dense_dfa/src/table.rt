@@ -50,7 +50,8 @@ pub const MET: usize = 1 << 63;
 /// Added to the name of a row from which nothing goes on.
 pub const DEAD: usize = 1 << 62;
 
-/// Added to the name of a row at which a search may have more to do than to read on. It is a hint: a search that heeds it not is slower alone.
+/// Added to the name of a row at which a search may have more to do than to read on. It is a hint:
+/// a search that heeds it not is slower alone.
 pub const SKIP: usize = 1 << 61;
 
 /// In place of a row, where a byte stands that isn't read.

@@ -12,7 +12,8 @@ use rc_text::types::Anchored;
 /// It isn't known where the byte leads.
 pub(crate) const UNKNOWN: usize = 1 << 61;
 
-/// Nothing goes on. Added to the name of a row where something was met on the way to it; alone where nothing was.
+/// Nothing goes on. Added to the name of a row where something was met on the way to it; alone
+/// where nothing was.
 pub(crate) const DEAD: usize = 1 << 62;
 
 /// Added to the name of a row where something was met on the way to it.

@@ -113,8 +113,8 @@ fn begins_common(needle: &[u8]) -> bool {
     }
 }
 
-/// Whether the byte is common in typical text. The library ranks most bytes past ASCII as common, which
-/// they are in few texts; here none is.
+/// Whether the byte is common in typical text. The library ranks most bytes past ASCII as common,
+/// which they are in few texts; here none is.
 fn is_common_by_rank(byte: u8) -> bool {
     let ranks = DefaultFrequencyRank;
     byte < 128 && ranks.rank(byte) >= LEAST_COMMON

@@ -151,7 +151,8 @@ impl Engines {
         })
     }
 
-    /// How many bytes the tables of all states take, or `usize::MAX` where that is more; 0 where there are none.
+    /// How many bytes the tables of all states take, or `usize::MAX` where that is more; 0 where
+    /// there are none.
     pub fn memory_usage(&self) -> usize
         ensures { result ≡ bytes_taken self.now.tables }
     {
@@ -289,9 +290,10 @@ impl Engines {
         }
     }
 
-    /// The match that the tables tell where each walk begins with a needle: it is sought where the first may begin, and then along. Where the
-    /// tables quit, they go once more, from needle to needle: fewer bytes are read then, and so fewer that they don't read. An `Err` says why
-    /// they tell none.
+    /// The match that the tables tell where each walk begins with a needle: it is sought where the
+    /// first may begin, and then along. Where the tables quit, they go once more, from needle to
+    /// needle: fewer bytes are read then, and so fewer that they don't read. An `Err` says why they
+    /// tell none.
     #[inline(always)]
     fn find_past_quit<H: Halves, C: Cursor>(
         &self,

@@ -1,4 +1,5 @@
-//! How often bytes stand in most texts. No answer depends on it: it tells which way to search is worth its cost.
+//! How often bytes stand in most texts. No answer depends on it: it tells which way to search is
+//! worth its cost.
 
 /// Bytes of most texts, the most common ones first.
 pub const MOST_COMMON: &[u8] = b" etsranolicudfpmhbgwyvk\n0";
