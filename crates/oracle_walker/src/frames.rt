@@ -15,20 +15,20 @@ use rc_text::cursor::Cursor;
 use rc_text::input::Input;
 use std::alloc::AllocError;
 
-/// A pair on the walk under way, and how many of its ways out were tried.
+/// A pair of a place and a position on the current walk, and how many of its ways out were tried.
 #[derive(Clone, Copy)]
 pub struct Frame {
     /// The index of its place.
     pub place: usize,
     /// Its position, in bytes of the content.
     pub position: usize,
-    /// How many of its ways out were tried.
+    /// The number of its ways out that were tried.
     pub tried: usize,
-    /// The mark of its place before the frame was put on the stack.
+    /// The mark of its place before the frame was pushed.
     pub before: Option<usize>,
 }
 
-/// The place is a match place of an allowed pattern; `None` allows all.
+/// Whether the place is a match place of an allowed pattern; `None` allows all.
 fn is_match(program: &Program, place: usize, only: Option<usize>) -> bool
     requires { place < length program.now.places.items }
     ensures { result ≡ is_match_place only (place_at (places_of program.now.places.items) place) }
@@ -49,7 +49,7 @@ fn is_match(program: &Program, place: usize, only: Option<usize>) -> bool
     }
 }
 
-/// The pair is on the stack: its place is marked with its position.
+/// Whether the pair is on the stack: its place is marked with its position.
 fn is_on(marks: &[Option<usize>], place: usize, position: usize) -> bool
     requires { place < length marks.now }
     ensures on { IsTrue result → slice_index_or marks.now place None ≡ Some position }
@@ -61,7 +61,7 @@ fn is_on(marks: &[Option<usize>], place: usize, position: usize) -> bool
     }
 }
 
-/// Puts a pair on the stack, and marks its place.
+/// Pushes a pair, and marks its place.
 fn enter(
     stack: &mut Vec<Frame>,
     marks: &mut [Option<usize>],
@@ -84,7 +84,7 @@ fn enter(
     Ok(())
 }
 
-/// Takes every frame off the stack, and its mark.
+/// Pops all frames, and removes their marks.
 fn unwind(stack: &mut Vec<Frame>, marks: &mut [Option<usize>])
     requires marked { IsMarked (length marks.old) marks.old (reverse stack.old.items) }
     ensures none { stack.new.items ≡ [] }
@@ -95,9 +95,9 @@ fn unwind(stack: &mut Vec<Frame>, marks: &mut [Option<usize>])
     }
 }
 
-/// Whether a walk leads on from `start`. If one does, the stack ends as the frames of the first of
-/// them. Each place on the stack is marked with the position of its uppermost frame. The stack and
-/// the marks are taken as the start before left them.
+/// Whether a walk leads on from `start`. If one does, the stack ends with the frames of the first
+/// of them. Each place on the stack is marked with the position of its uppermost frame. The stack
+/// and the marks begin as the last start left them.
 pub fn first_walk<C: Cursor>(
     input: &mut Input<C>,
     stack: &mut Vec<Frame>,

@@ -39,7 +39,7 @@ fn only_of(anchored: Anchored) -> Option<usize>
     }
 }
 
-/// A walk may begin at the least start alone.
+/// Whether a walk may only begin at the least start.
 fn is_anchored(anchored: Anchored) -> bool
     ensures { result ≡ is_anchored (anchoring_of anchored) }
 {
@@ -49,7 +49,7 @@ fn is_anchored(anchored: Anchored) -> bool
     }
 }
 
-/// The last start to be tried.
+/// The last start to try.
 fn last_start(lo: usize, hi: usize, is_anchored: bool) -> usize
     ensures { result ≡ (if is_anchored then min lo hi else hi) }
 {
@@ -66,7 +66,7 @@ fn end_of(walk: &Vec<Frame>) -> (usize, usize)
     }
 }
 
-/// Passing over, if it is in play, allows the walk.
+/// Whether the walk is allowed: if matches may be passed over, this one isn't.
 fn allows<C: Cursor>(input: &mut Input<C>, passes_over: bool, walk: &Vec<Frame>) -> bool
     ensures keeps { Keeps input.old input.new }
     ensures value { result ≡ (not passes_over || is_boundary input.old.content (last_of (walk_of walk.now)).1) }
@@ -78,7 +78,7 @@ fn allows<C: Cursor>(input: &mut Input<C>, passes_over: bool, walk: &Vec<Frame>)
     is_boundary_at(input, end)
 }
 
-/// The first walk that a search chooses.
+/// Returns the first walk that a search chooses.
 fn find_walk<C: Cursor>(
     alloc: Global,
     input: &mut Input<C>,
@@ -127,8 +127,8 @@ fn pattern_of(program: &Program, place: usize) -> PatternID
     }
 }
 
-/// The match that a search of the input finds. The earliest flag is not read. An `Err` means out of
-/// memory.
+/// Returns the match that a search of the input finds. The earliest flag is not read. An `Err`
+/// means out of memory.
 pub fn find<C: Cursor>(
     alloc: Global,
     input: &mut Input<C>,
@@ -180,15 +180,15 @@ fn slot_at(program: &Program, place: usize) -> Option<usize>
     }
 }
 
-/// Empties the slots.
+/// Clears the slots.
 fn clear(slots: &mut [Option<usize>])
     ensures { slots.new ≡ replicate (length slots.old) None }
 {
     slots.fill(None);
 }
 
-/// Writes into each slot the position of the walk's last visit to a place that names it, and
-/// empties the others.
+/// Writes to each slot the position of the walk's last visit to a place that names it, and clears
+/// the others.
 fn note_visits(program: &Program, frames: &Vec<Frame>, slots: &mut [Option<usize>])
     ensures { slots.new ≡ map (λ k. last_visit (places_of program.now.places.items) k (walk_of frames.now)) (range_with_len 0 (length slots.old)) }
 {
@@ -200,9 +200,9 @@ fn note_visits(program: &Program, frames: &Vec<Frame>, slots: &mut [Option<usize
     }
 }
 
-/// The pattern that a search of the input finds, with the first of its slots. Without a match the
-/// slots stay. The earliest flag is not read. An `Err` means out of memory, and the slots stay
-/// then.
+/// Returns the pattern that a search of the input finds, and writes as many of its slots as there
+/// is room for. Without a match the slots stay. The earliest flag is not read. An `Err` means out
+/// of memory, and the slots stay then.
 pub fn find_slots<C: Cursor>(
     alloc: Global,
     input: &mut Input<C>,

@@ -26,7 +26,7 @@ fn next_byte<C: Cursor>(input: &mut Input<C>, hi: usize, position: usize) -> Opt
     byte_at(input, position)
 }
 
-/// The scalar whose bytes are from the position on, below `hi`, and how many they are.
+/// The character whose bytes begin at the position, below `hi`, and its number of bytes.
 fn next_scalar<C: Cursor>(input: &mut Input<C>, hi: usize, position: usize) -> Option<(char, usize)>
     requires { hi ≤ length input.old.content }
     ensures keeps { Keeps input.old input.new }
@@ -42,7 +42,7 @@ fn next_scalar<C: Cursor>(input: &mut Input<C>, hi: usize, position: usize) -> O
     scalar_at(&bytes[..count])
 }
 
-/// The assertion holds at the position, which is in the slice.
+/// Whether the assertion holds at the position, which is in the slice.
 fn holds_at<C: Cursor>(input: &mut Input<C>, look: Look, terminator: u8, position: usize) -> bool
     requires low { input.old.slice.start ≤ position }
     requires high { position ≤ slice_end input.old }
@@ -106,7 +106,7 @@ fn first_way<C: Cursor>(
     }
 }
 
-/// The way out of a place with this number, counted from 0.
+/// The way out of a place at this index, counted from 0.
 pub fn way<C: Cursor>(
     input: &mut Input<C>,
     program: &Program,

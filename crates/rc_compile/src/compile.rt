@@ -19,7 +19,8 @@ use rc_program::place::Place;
 use sizes::size;
 use std::alloc::{AllocError, Global};
 
-/// How many groups the pattern's part names, or the greatest usize if there are more.
+/// The number of groups that the part of the pattern names, or the greatest `usize` if there are
+/// more.
 fn shown_groups(hir: &Hir, groups: bool) -> usize
     ensures { result ≡ min (group_count (shown_one groups (meaning hir.now))) (2 ^ 64 - 1) }
 {
@@ -29,7 +30,7 @@ fn shown_groups(hir: &Hir, groups: bool) -> usize
     0
 }
 
-/// Appends the choice of this pattern or the later ones, and the pattern with its match place.
+/// Emits the choice between this pattern and the later ones, and the pattern with its match place.
 fn emit_pattern(
     places: &mut Vec<Place>,
     hir: &Hir,
@@ -52,8 +53,8 @@ fn emit_pattern(
     append(places, Place::Accept(pattern))
 }
 
-/// The program of the patterns: with their groups, or with each group as its body. An `Err` means
-/// out of memory.
+/// Returns the program of the patterns: with their groups, or with each group as its body. An `Err`
+/// means out of memory.
 pub fn compile(alloc: Global, hirs: &[Hir], groups: bool) -> Result<Vec<Place>, AllocError>
     requires well_formed { All IsWellFormed (map meaning hirs.now) }
     requires light { list_weight (map meaning hirs.now) ≤ greatest_weight }

@@ -11,14 +11,15 @@ use crate::place::Place;
 use rc_pattern::hir::{ClassBytesRange, ClassUnicodeRange};
 use std::alloc::{AllocError, Global};
 
-/// A place from which more places than these are reached without reading gets no flags. So a build
-/// stays linear.
+/// The greatest number of places that may be reached from a place without reading, if it is to get
+/// flags. So a build stays linear.
 const MOST_REACHED: usize = 62;
 
-/// No place from this number on gets flags. So they stay within 4 MiB.
+/// The number of the first place that gets no flags. So the flags stay within 4 MiB.
 const MOST_PLACES: usize = 16_384;
 
-/// For each of the places over which bytes walks may go on from there, as `Program` keeps it.
+/// Returns for each place the bytes over which a walk may go on from there, as `Program` keeps
+/// them.
 pub fn heads_of(alloc: Global, places: &[Place]) -> Result<Vec<Vec<bool>>, AllocError>
     ensures { IfOk result (λ tables. AreHeads (places_of places.now) (flags_in tables.items)) }
 {
@@ -32,8 +33,8 @@ pub fn heads_of(alloc: Global, places: &[Place]) -> Result<Vec<Vec<bool>>, Alloc
     Ok(tables)
 }
 
-/// The flags of the place. None if one byte is to be compared, if no walk goes on at all or one
-/// ends, and if too many places are reached. `opened` and `spots` are room to work in.
+/// The flags of a place. `None` if one byte is to be compared, if no walk goes on at all or one
+/// ends, or if too many places are reached. `opened` and `spots` are scratch space.
 fn flags_of(
     alloc: Global,
     places: &[Place],
@@ -60,7 +61,8 @@ fn flags_of(
     Ok(flags)
 }
 
-/// Opens the places that are reached from this one without reading. False if these are too many.
+/// Marks as open the places that are reached from this one without reading. Returns false if there
+/// are too many.
 fn open_all(
     opened: &mut Vec<usize>,
     spots: &mut [usize],
@@ -84,7 +86,7 @@ fn open_all(
     Ok(false)
 }
 
-/// Opens the places to which ways lead from one that read nothing.
+/// Marks as open the places to which a place leads without reading.
 fn open_from(
     opened: &mut Vec<usize>,
     spots: &mut [usize],
@@ -106,8 +108,8 @@ fn open_from(
     }
 }
 
-/// Opens a place, if it isn't open. If it was opened last, `spots` says where that was: so one look
-/// says whether it still is.
+/// Marks a place as open, unless it is. `spots` has the index in `opened` at which it was put last,
+/// so one look shows whether it is open.
 fn open(opened: &mut Vec<usize>, spots: &mut [usize], place: usize) -> Result<(), AllocError>
     ensures { OnOk result (Opens (place ∷ []) opened.old.items opened.new.items) }
 {
@@ -122,7 +124,7 @@ fn open(opened: &mut Vec<usize>, spots: &mut [usize], place: usize) -> Result<()
     Ok(())
 }
 
-/// Which bytes these places take.
+/// The bytes that these places take.
 fn joined(alloc: Global, places: &[Place], opened: &[usize]) -> Result<Vec<bool>, AllocError>
     ensures { IfOk result (λ flags. AreFlags (places_of places.now) opened.now flags.items) }
 {
@@ -133,7 +135,7 @@ fn joined(alloc: Global, places: &[Place], opened: &[usize]) -> Result<Vec<bool>
     Ok(flags)
 }
 
-/// Sets the flags of the bytes that the place of this number takes.
+/// Sets the flags of the bytes that the place with this number takes.
 fn join_at(flags: &mut [bool], places: &[Place], number: usize)
     requires { length flags.old ≡ 256 }
     ensures { AreJoined 256 (may_take (place_at (places_of places.now) number)) flags.old flags.new }

@@ -6,11 +6,11 @@ ghost use Rattle.rc_program.specs.Looks.{side_before, side_after, has_byte, is_w
 use rc_pattern::hir::Look;
 use unicode::properties::{GeneralCategory, is_alphabetic};
 
-/// Whether the assertion holds at a position, if `before` are the bytes that lead up to it and
-/// `after` those that go on from it. Lines end at the byte `terminator`; `StartCRLF` and `EndCRLF`
-/// know CR, LF and both as one end instead.
+/// Whether the assertion holds at a position: `before` are the bytes that lead up to it, and
+/// `after` those that follow. Lines end at the byte `terminator`; for `StartCRLF` and `EndCRLF`
+/// they end at CR, LF, or both together.
 ///
-/// Of longer bytes the four next to the position are enough.
+/// The four bytes next to the position are enough on each side.
 pub fn holds(look: Look, terminator: u8, before: &[u8], after: &[u8]) -> bool
     ensures { result ≡ holds_between terminator (side_before before.now) (side_after after.now) look }
 {
@@ -39,8 +39,8 @@ pub fn holds(look: Look, terminator: u8, before: &[u8], after: &[u8]) -> bool
     }
 }
 
-/// The scalar whose UTF-8 bytes begin these, and how many they are, from 1 to 4. None if the bytes
-/// begin with no scalar.
+/// The character whose UTF-8 bytes begin these, and how many bytes it has, from 1 to 4. `None` if
+/// no character begins the bytes.
 pub fn scalar_at(bytes: &[u8]) -> Option<(char, usize)>
     ensures { result ≡ scalar_at bytes.now }
 {
@@ -59,7 +59,7 @@ pub fn scalar_at(bytes: &[u8]) -> Option<(char, usize)>
     }
 }
 
-/// The scalar whose UTF-8 bytes end these. None if the bytes end with no scalar.
+/// The character whose UTF-8 bytes end these. `None` if no character ends the bytes.
 pub fn scalar_before(bytes: &[u8]) -> Option<char>
     ensures { result ≡ scalar_before bytes.now }
 {
@@ -75,8 +75,8 @@ pub fn scalar_before(bytes: &[u8]) -> Option<char>
     scalar_of_last(4, bytes)
 }
 
-/// Whether the character is in words: it is alphabetic, a mark, a decimal number or a connecting
-/// punctuation, or one of the two joiners U+200C and U+200D.
+/// Whether the character is a word character: it is alphabetic, a mark, a decimal number or a
+/// connecting punctuation, or one of the two joiners U+200C and U+200D.
 pub fn is_word_char(c: char) -> bool
     ensures { result ≡ is_word_scalar c }
 {
@@ -168,7 +168,7 @@ fn are_same(before: Option<bool>, after: Option<bool>) -> bool
     }
 }
 
-// Whether a word character is before a position; None if bytes are there and no scalar.
+// Whether a word character is before a position; `None` if there are bytes and no character.
 fn word_before(before: &[u8]) -> Option<bool>
     ensures word { unwrap_or result false ≡ is_unicode_word (side_before before.now) }
     ensures broken { is_none result ≡ is_broken (side_before before.now) }
@@ -180,7 +180,7 @@ fn word_before(before: &[u8]) -> Option<bool>
     Some(is_word_char(c))
 }
 
-// The same of what is after it.
+// Whether a word character is after a position; `None` if there are bytes and no character.
 fn word_after(after: &[u8]) -> Option<bool>
     ensures word { unwrap_or result false ≡ is_unicode_word (side_after after.now) }
     ensures broken { is_none result ≡ is_broken (side_after after.now) }
@@ -192,7 +192,7 @@ fn word_after(after: &[u8]) -> Option<bool>
     Some(is_word_char(c))
 }
 
-// The scalar of the last `count` bytes, if one is all of them.
+// The character that the last `count` bytes are, if they are exactly one.
 fn scalar_of_last(count: usize, bytes: &[u8]) -> Option<char>
     ensures { result ≡ scalar_of_last count bytes.now }
 {
@@ -207,7 +207,7 @@ fn continues(byte: u8) -> bool
     byte >= 128 && byte < 192
 }
 
-// The scalar of this many bytes, which is none below `least`.
+// The character with this code, and its number of bytes. `None` if the code is below `least`.
 fn in_bytes(count: usize, least: u32, code: u32) -> Option<(char, usize)>
     ensures { result ≡ in_bytes count least code }
 {

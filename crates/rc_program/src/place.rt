@@ -2,12 +2,12 @@
 
 use rc_pattern::hir::{ClassBytesRange, ClassUnicodeRange, Look};
 
-/// A place of a program. A way out names another place by its index in the program.
+/// A place of a program: an NFA state. A way out names another place by its index in the program.
 #[derive(Drop)]
 pub enum Place {
-    /// Two ways out, in this order, which read nothing.
+    /// Two ways out, in order of preference, which read nothing.
     Choice(usize, usize),
-    /// One way out, which reads nothing.
+    /// One way out, which reads nothing: an epsilon transition.
     Pass(usize),
     /// No way out.
     Dead,

@@ -7,26 +7,26 @@ ghost use Rattle.rc_program.specs.Places.{places_of};
 
 use crate::place::Place;
 
-/// A program that can be searched with: it is entered at place 0, no way leads out, and each
-/// pattern's number is one of `PatternID`.
+/// A program that is ready for searches: it is entered at place 0, no way leads outside, and the
+/// number of each pattern is a valid `PatternID`.
 #[derive(Drop)]
 pub struct Program {
     /// The places. Walks enter at place 0.
     pub places: Vec<Place>,
     /// The byte at which lines end, if an assertion asks for lines.
     pub terminator: u8,
-    /// Whether matches are passed over that end off a boundary of characters.
+    /// Whether matches that end off a character boundary are passed over.
     pub passes_over: bool,
-    /// For each place over which bytes walks may go on from there, 256 flags; none if that wasn't
-    /// closed over.
+    /// For each place 256 flags: over which bytes a walk may go on from there. It is empty if that
+    /// wasn't computed.
     pub heads: Vec<Vec<bool>>,
     ghost runnable: { IsRunnable (places_of places.items) },
     ghost closed_over: { AreHeads (places_of places.items) (flags_in heads.items) },
 }
 
 impl Program {
-    /// Over which bytes walks may go on from the place, whatever assertions say: 256 flags. None if
-    /// that wasn't closed over.
+    /// The 256 flags of a place: over which bytes a walk may go on from there, whatever assertions
+    /// say. `None` if that wasn't computed.
     #[inline(always)]
     #[tactic(auto, using(crate::proofs::HeadsLemmas::flags_tell))]
     pub fn head_table(&self, place: usize) -> Option<&[bool]>
@@ -37,8 +37,8 @@ impl Program {
         if flags.is_empty() { None } else { Some(flags) }
     }
 
-    /// Whether a walk may go on from the place over the byte, whatever assertions say. None if that
-    /// wasn't closed over.
+    /// Whether a walk may go on from the place over the byte, whatever assertions say. `None` if
+    /// that wasn't computed.
     #[inline(always)]
     pub fn may_go_on(&self, place: usize, byte: u8) -> Option<bool>
         requires { place < length self.now.places.items }

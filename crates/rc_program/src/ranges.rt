@@ -5,7 +5,7 @@ ghost use Rattle.rc_program.specs.Program.{in_ranges};
 
 use rc_pattern::hir::{ClassBytesRange, ClassUnicodeRange};
 
-/// Whether one of the ranges has the byte.
+/// Whether one of the ranges contains the byte.
 #[inline(always)]
 pub fn has_byte(ranges: &[ClassBytesRange], byte: u8) -> bool
     ensures { result ≡ in_ranges (map byte_range ranges.now) byte }
@@ -18,7 +18,7 @@ pub fn has_byte(ranges: &[ClassBytesRange], byte: u8) -> bool
     false
 }
 
-/// Whether one of the ranges has the character.
+/// Whether one of the ranges contains the character.
 #[inline(always)]
 pub fn has_char(ranges: &[ClassUnicodeRange], character: char) -> bool
     ensures { result ≡ in_ranges (map char_range ranges.now) character }

@@ -1,15 +1,15 @@
-//! How often bytes stand in most texts. No answer depends on it: it tells which way to search is
-//! worth its cost.
+//! Byte frequencies: how common bytes are in most texts. No search result depends on them; they
+//! only decide which way to search pays.
 
-/// Bytes of most texts, the most common ones first.
+/// The most common bytes of most texts, the most common one first.
 pub const MOST_COMMON: &[u8] = b" etsranolicudfpmhbgwyvk\n0";
 
-/// Whether the byte stands close together in most texts.
+/// Whether the byte is common in most texts.
 pub fn is_common(byte: u8) -> bool {
     matches!(byte, b' ' | b'\n' | b'0'..=b'9' | b'a'..=b'z')
 }
 
-/// How many of a thousand bytes of most texts are this one, about.
+/// Roughly how many of a thousand bytes of most texts are this byte.
 pub fn per_thousand(byte: u8) -> usize {
     match byte {
         b' ' => 180,

@@ -9,14 +9,14 @@ ghost use Rattle.std.specs.List.Sorted.{IsPermutation, IsNonDecreasingBy};
 
 use std::alloc::{AllocError, Global};
 
-/// Codes of characters or of bytes, both ends included.
+/// A range of codes of characters or of bytes, both ends included.
 #[derive(Clone, Copy, Debug, PartialEq, Eq)]
 pub struct CodeRange {
     pub start: u32,
     pub end: u32,
 }
 
-/// The code after, which after U+D7FF is U+E000 among characters.
+/// The next code; among characters U+E000 follows U+D7FF.
 fn next(unicode: bool, code: u32) -> u64
     ensures { result ≡ next unicode code }
 {
@@ -26,7 +26,7 @@ fn next(unicode: bool, code: u32) -> u64
     code as u64 + 1
 }
 
-/// The code before, which before U+E000 is U+D7FF among characters.
+/// The previous code; among characters U+D7FF precedes U+E000.
 fn before(unicode: bool, code: u32) -> u32
     ensures { result ≡ before unicode code }
 {
@@ -36,7 +36,7 @@ fn before(unicode: bool, code: u32) -> u32
     code.saturating_sub(1)
 }
 
-/// Whether a code is left out between the two.
+/// Whether a code lies between the two.
 fn is_apart(unicode: bool, low: u32, high: u32) -> bool
     ensures { result ≡ nat_lt (next unicode low) high }
 {
@@ -59,7 +59,7 @@ pub(crate) fn append(ranges: &mut Vec<CodeRange>, more: &[CodeRange]) -> Result<
     Ok(())
 }
 
-/// The ranges in the order of where they begin.
+/// The ranges, sorted by their starts.
 fn sorted(alloc: Global, ranges: &[CodeRange]) -> Result<Vec<CodeRange>, AllocError>
     ensures moved { IfOk result (λ v. IsPermutation ranges.now v.items) }
     ensures order { IfOk result (λ v. IsNonDecreasingBy (λ (r : CodeRange). r.start) v.items) }
@@ -69,7 +69,7 @@ fn sorted(alloc: Global, ranges: &[CodeRange]) -> Result<Vec<CodeRange>, AllocEr
     Ok(all)
 }
 
-/// Joins ranges that are in the order of where they begin.
+/// Joins ranges that are sorted by their starts.
 #[tactic(auto, using(crate::proofs::ClassSteps::merges_apart, crate::proofs::ClassSteps::merges_touch, crate::proofs::ClassSteps::merges_end))]
 fn merged(alloc: Global, unicode: bool, ranges: &[CodeRange]) -> Result<Vec<CodeRange>, AllocError>
     ensures { IfOk result (λ v. pairs v.items ≡ merged unicode (pairs ranges.now)) }
@@ -92,8 +92,8 @@ fn merged(alloc: Global, unicode: bool, ranges: &[CodeRange]) -> Result<Vec<Code
     Ok(all)
 }
 
-/// The ranges in order, and joined if they touch: sorted, and then joined in one pass. The
-/// definition puts them in one by one, which gives the same if they are ranges of codes.
+/// The ranges, sorted and then joined in one pass. The definition inserts them one by one, which
+/// has the same result for ranges of codes.
 #[tactic(auto, using(crate::proofs::MergedLemmas::merged_sorted))]
 fn canonical(
     alloc: Global,
@@ -107,7 +107,7 @@ fn canonical(
     merged(alloc, unicode, &in_order)
 }
 
-/// What the ranges in order leave out.
+/// The codes that the sorted ranges leave out.
 #[tactic(auto, using(crate::proofs::ClassSteps::gaps_step, crate::proofs::ClassSteps::gaps_end))]
 fn gaps(alloc: Global, unicode: bool, ranges: &[CodeRange]) -> Result<Vec<CodeRange>, AllocError>
     ensures { IfOk result (λ v. pairs v.items ≡ gaps unicode 0 (pairs ranges.now)) }
@@ -152,7 +152,7 @@ fn push_upper(ranges: &mut Vec<CodeRange>, range: CodeRange) -> Result<(), Alloc
     Ok(())
 }
 
-/// The ranges, with the other case of each ASCII letter.
+/// The ranges, together with the other case of each ASCII letter.
 #[tactic(auto, using(crate::proofs::ClassSteps::folded_step, crate::proofs::ClassSteps::folded_end))]
 fn folded(alloc: Global, ranges: &[CodeRange]) -> Result<Vec<CodeRange>, AllocError>
     ensures { IfOk result (λ v. pairs v.items ≡ folded (pairs ranges.now)) }
@@ -167,7 +167,7 @@ fn folded(alloc: Global, ranges: &[CodeRange]) -> Result<Vec<CodeRange>, AllocEr
     Ok(all)
 }
 
-/// The class of ranges of codes: folded first, then in order and joined, then complemented.
+/// The class of ranges of codes: folded first, then sorted and joined, then complemented.
 #[tactic(auto, using(crate::proofs::ClassLemmas::folded_codes))]
 pub fn class_of(
     alloc: Global,

@@ -53,7 +53,7 @@ fn short(c: char) -> Option<Escape>
     }
 }
 
-/// The scalar that the digits write.
+/// The character with the code that the digits write.
 fn scalar(digits: &[char]) -> Option<Escape>
     ensures { result ≡ scalar_says digits.now }
 {
@@ -113,7 +113,7 @@ fn opens_brace(c: char, rest: &[char]) -> bool
     c == 'b' && is_brace_name(rest)
 }
 
-/// What is in braces after `c`.
+/// The escape with `c` and the text in braces.
 fn in_brace(c: char, inside: &[char]) -> Option<Escape>
     ensures { result ≡ in_brace c inside.now }
 {
@@ -123,7 +123,7 @@ fn in_brace(c: char, inside: &[char]) -> Option<Escape>
     scalar(inside)
 }
 
-/// After the text in braces.
+/// Goes on after the text in braces: returns the escape, and the rest.
 fn braced<'t>(c: char, inside: &[char], rest: &'t [char]) -> Option<(Escape, &'t [char])>
     ensures { Lexes result (brace_then c inside.now rest.now) }
 {
@@ -136,7 +136,7 @@ fn braced<'t>(c: char, inside: &[char], rest: &'t [char]) -> Option<(Escape, &'t
     Some((escape, rest))
 }
 
-/// `x`, `u` and `U` take two, four and eight digits.
+/// The escape with digits and no braces: `x`, `u` and `U` take two, four and eight digits.
 fn fixed(c: char, digits: &[char]) -> Option<Escape>
     ensures { result ≡ fixed_says c digits.now }
 {
@@ -199,7 +199,7 @@ fn escape_at(c: char, rest: &[char]) -> Option<(Escape, &[char])>
     Some((escape, rest))
 }
 
-/// What follows a backslash, and the rest.
+/// The escape that follows a backslash, and the rest.
 #[tactic(auto, using(crate::proofs::OrderLemmas::escape_is, crate::proofs::OrderLemmas::escape_none))]
 pub fn escape(text: &[char]) -> Option<(Escape, &[char])>
     ensures { Lexes result (lex_escape text.now) }

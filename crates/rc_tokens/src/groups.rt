@@ -21,7 +21,7 @@ fn once(on: bool, before: Option<bool>) -> Option<bool>
     }
 }
 
-/// What one letter changes.
+/// The change that one letter makes.
 fn letter_change(c: char, on: bool, mut to: Change) -> Option<Change>
     ensures { result ≡ letter_change c on to }
 {
@@ -70,7 +70,7 @@ fn letter_change(c: char, on: bool, mut to: Change) -> Option<Change>
     None
 }
 
-/// What one character of a text of flags changes, and whether flags are set after it.
+/// The change that one character of a text of flags makes, and whether flags are set after it.
 fn flag(c: char, is_last: bool, on: bool, to: Change) -> Option<(bool, Change)>
     ensures { result ≡ flag c is_last on to }
 {
@@ -86,7 +86,7 @@ fn flag(c: char, is_last: bool, on: bool, to: Change) -> Option<(bool, Change)>
     Some((on, next))
 }
 
-/// What the flags set and clear.
+/// The change that the flags make.
 #[tactic(auto, using(crate::proofs::FlagLemmas::flags_end))]
 fn changes(flags: &[char]) -> Option<Change>
     ensures { result ≡ change_of true unchanged flags.now }
@@ -111,7 +111,7 @@ fn changes(flags: &[char]) -> Option<Change>
     Some(to)
 }
 
-/// After a text of flags.
+/// Goes on after a text of flags: returns the token, and the rest.
 #[tactic(auto, using(crate::proofs::FlagLemmas::flags_of_full, crate::proofs::FlagLemmas::flags_of_none))]
 fn flags_then<'t>(flags: &[char], rest: &'t [char]) -> Result<(Token, &'t [char]), Refusal>
     ensures { LexesToken result (flags_then flags.now rest.now) }
@@ -179,7 +179,7 @@ fn string_of(alloc: Global, text: &[char]) -> Result<String, AllocError>
     Ok(all)
 }
 
-/// After the name of a group.
+/// Goes on after the name of a group: returns the token, and the rest.
 fn name_then<'t>(
     alloc: Global,
     name: &[char],
@@ -197,7 +197,7 @@ fn name_then<'t>(
     Ok((Token::Opens(Opening::Named(name)), rest))
 }
 
-/// After `(?`.
+/// Goes on after `(?`: returns the token, and the rest.
 fn group(alloc: Global, text: &[char]) -> Result<(Token, &[char]), Refusal>
     ensures { LexesToken result (group text.now) }
 {
@@ -216,7 +216,7 @@ fn group(alloc: Global, text: &[char]) -> Result<(Token, &[char]), Refusal>
     flags_then(flags, rest)
 }
 
-/// After `(`.
+/// Goes on after `(`: returns the token, and the rest.
 pub fn opening(alloc: Global, text: &[char]) -> Result<(Token, &[char]), Refusal>
     ensures { LexesToken result (opening text.now) }
 {

@@ -24,7 +24,7 @@ fn first(members: &[Member]) -> Option<(Member, &[Member])>
     Some((members[0], &members[1..]))
 }
 
-/// The code of a character of a list. Without `unicode` one past ASCII has none.
+/// The code of a character of a list. Without `unicode`, a character past ASCII has none.
 fn code_of(unicode: bool, member: Member) -> Option<u32>
     ensures { result ≡ code_of unicode member }
 {
@@ -63,7 +63,7 @@ fn set_ranges(alloc: Global, set: Set) -> Result<Vec<CodeRange>, AllocError>
     Ok(ranges)
 }
 
-/// The class that a Perl class is.
+/// The ranges of a Perl class.
 #[tactic(auto, using(crate::proofs::ClassLemmas::set_codes))]
 pub fn perl_ranges(alloc: Global, unicode: bool, perl: Perl) -> Result<Vec<CodeRange>, AllocError>
     ensures { IfOk result (λ v. pairs v.items ≡ perl_ranges unicode perl) }
@@ -97,7 +97,7 @@ fn is_hyphen(member: Member) -> bool
     }
 }
 
-/// What may be the end of a range, and what follows it.
+/// The member that may end a range, and what follows it.
 fn range_end(rest: &[Member]) -> Option<(Member, &[Member])>
     ensures { MatchOption result (range_end rest.now ≡ None) (λ p. range_end rest.now ≡ Some (p.0, p.1.now)) }
 {
@@ -110,7 +110,7 @@ fn range_end(rest: &[Member]) -> Option<(Member, &[Member])>
     None
 }
 
-/// `code`, or a range that begins with it.
+/// The item `code`, or a range that begins with it.
 fn ranged<'m>(
     unicode: bool,
     code: u32,
@@ -197,7 +197,7 @@ fn items(
     Ok(())
 }
 
-/// Adds the hyphens at the front, and gives what follows.
+/// Adds the hyphens at the front, and returns what follows.
 #[tactic(auto, using(crate::proofs::LeadLemmas::led_hyphen, crate::proofs::LeadLemmas::led_other, crate::proofs::LeadLemmas::led_end))]
 fn lead<'m>(
     unicode: bool,
@@ -232,15 +232,15 @@ pub fn list_ranges(alloc: Global, unicode: bool, list: &List) -> Result<Vec<Code
     Ok(ranges)
 }
 
-/// The ends of a class's ranges are codes, and its ranges ascend.
+/// The ends of the ranges of a class are codes, and its ranges ascend.
 pub fn classes_ascend()
     ensures classes { ClassLaw }
     ensures lists { ListLaw }
 {}
 
-/// A code is in the class of a list if and only if one of the list's items has it, or its other
-/// case if letters are folded; in a negated class, if and only if none has. The ranges are in
-/// order, and no two of them touch.
+/// A code is in the class of a list if and only if one of the list's items has it, or has its other
+/// case if letters are folded. In a negated class it is if and only if no item has it. The ranges
+/// ascend, and no two of them touch.
 pub fn classes_have_members()
     ensures { MembersLaw }
 {}

@@ -15,7 +15,7 @@ use crate::text::{after, digits, first, number};
 use crate::tokens::{Assertion, Bounds, Escape, Token};
 use std::alloc::Global;
 
-/// A repetition with these limits, lazy if a `?` follows.
+/// A repetition with these bounds, lazy if a `?` follows.
 fn repeats(text: &[char], min: u32, max: Option<u32>) -> (Token, &[char])
     ensures token { said_of result.0 ≡ Repeats (bounds (is_at 63 text.now) min max) }
     ensures rest { result.1.now ≡ past 63 text.now }
@@ -28,14 +28,14 @@ fn repeats(text: &[char], min: u32, max: Option<u32>) -> (Token, &[char])
     (Token::Repeats(Bounds { min, max, lazy }), text)
 }
 
-/// A number of turns.
+/// The number of repetitions that the digits write.
 fn count(digits: &[char]) -> Option<u32>
     ensures { result ≡ count digits.now }
 {
     number(digits, 10, 0x1_0000_0000)
 }
 
-/// After the digits of the second number.
+/// Goes on after the digits of the second number: returns the token, and the rest.
 fn second<'t>(min: u32, digits: &[char], text: &'t [char]) -> Result<(Token, &'t [char]), Refusal>
     ensures { LexesToken result (second min digits.now text.now) }
 {
@@ -51,7 +51,8 @@ fn second<'t>(min: u32, digits: &[char], text: &'t [char]) -> Result<(Token, &'t
     Ok(repeats(rest, min, Some(max)))
 }
 
-/// After the digits of the first number of a counted repetition.
+/// Goes on after the digits of the first number of a counted repetition: returns the token, and the
+/// rest.
 fn counted<'t>(number: &[char], text: &'t [char]) -> Result<(Token, &'t [char]), Refusal>
     ensures { LexesToken result (counts number.now text.now) }
 {
@@ -71,7 +72,7 @@ fn counted<'t>(number: &[char], text: &'t [char]) -> Result<(Token, &'t [char]),
     second(min, most, rest)
 }
 
-/// An escape that stands alone, after its backslash.
+/// The token of an escape outside lists, after its backslash.
 fn escaped(text: &[char]) -> Result<(Token, &[char]), Refusal>
     ensures { LexesToken result (piece_then (lex_escape text.now)) }
 {
@@ -110,8 +111,8 @@ fn token_at(alloc: Global, c: char, rest: &[char]) -> Result<(Token, &[char]), R
     }
 }
 
-/// What the first mark of a text says, and the rest. It is `Refusal::Syntax` only if no mark begins
-/// the text. `Refusal::Memory` means out of memory.
+/// Returns the first token of a text, and the rest. It fails with `Refusal::Syntax` only if no
+/// token begins the text, and with `Refusal::Memory` if it runs out of memory.
 #[tactic(auto, using(crate::proofs::OrderLemmas::lex_is, crate::proofs::OrderLemmas::lex_none))]
 pub fn first_token(alloc: Global, text: &[char]) -> Result<(Token, &[char]), Refusal>
     ensures { LexesToken result (lex text.now) }
@@ -122,7 +123,7 @@ pub fn first_token(alloc: Global, text: &[char]) -> Result<(Token, &[char]), Ref
     token_at(alloc, c, rest)
 }
 
-/// What the reader of marks gives is the mark with which the text begins, and none if none does.
+/// The lexer returns the token with which the text begins, or none if no token begins it.
 pub fn gives_the_mark()
     ensures { (t : Characters) (k : Said) (u : Characters) → (lex t ≡ Some (k, u)) ↔ BeginsWithMark t k u }
 {}

@@ -12,7 +12,7 @@ use crate::text::{after, first, has_twice};
 use crate::tokens::{Escape, List, Member, Token};
 use std::alloc::Global;
 
-/// What an escape is in a list.
+/// The member that an escape is in a list.
 fn escaped_member(escape: Escape) -> Option<Member>
     ensures { result ≡ escaped_member escape }
 {
@@ -54,7 +54,7 @@ fn member_at(c: char, rest: &[char]) -> Option<(Member, &[char])>
     Some((member, rest))
 }
 
-/// The first member of a list's text, and the rest.
+/// The first member of the text of a list, and the rest.
 #[tactic(auto, using(crate::proofs::OrderLemmas::member_is, crate::proofs::OrderLemmas::member_none))]
 fn first_member(text: &[char]) -> Option<(Member, &[char])>
     ensures { Lexes result (lex_member text.now) }
@@ -102,7 +102,7 @@ fn is_list(negated: bool, bracket: bool, text: &[char]) -> bool
     !has_twice(text, '&') && !has_twice(text, '~')
 }
 
-/// All members of a list's text.
+/// All members of the text of a list.
 #[tactic(auto, using(crate::proofs::MemberLemmas::members_start, crate::proofs::MemberLemmas::members_end, crate::proofs::MemberLemmas::members_stuck, crate::proofs::MemberLemmas::members_step, crate::proofs::MemberLemmas::member_shorter))]
 fn members(alloc: Global, text: &[char]) -> Result<Vec<Member>, Refusal>
     ensures { IsResultOf result (lex_members (length text.now) text.now) (λ v. v.items) }
@@ -143,7 +143,7 @@ fn list_then<'t>(
     Ok((Token::List(list), rest))
 }
 
-/// A list, after its `[`.
+/// The token of a list, after its `[`.
 pub fn list(alloc: Global, text: &[char]) -> Result<(Token, &[char]), Refusal>
     ensures { LexesToken result (list text.now) }
 {

@@ -4,12 +4,12 @@ ghost use Rattle.std.specs.Prelude.{◌≡◌};
 
 use std::alloc::{AllocError, AllocFailed};
 
-/// Why a text isn't read.
+/// Why a text has no token.
 #[derive(Drop, Debug, PartialEq)]
 pub enum Refusal {
-    /// The text is none.
+    /// No token begins the text.
     Syntax,
-    /// Memory ran out.
+    /// Out of memory.
     Memory,
 }
 

@@ -52,7 +52,7 @@ pub(crate) fn digits(text: &[char]) -> (&[char], &[char])
     (text, &text[text.len()..])
 }
 
-/// What is before the first of the two characters, and the rest.
+/// The text before the first of the two characters, and the rest.
 #[tactic(auto, using(crate::proofs::RunLemmas::passed_none, crate::proofs::RunLemmas::passed_more, crate::proofs::RunLemmas::passed_until))]
 pub(crate) fn until(text: &[char], d: char, e: char) -> (&[char], &[char])
     ensures front { result.0.now ≡ run (is_before d e) text.now }
@@ -93,7 +93,7 @@ pub(crate) fn number(digits: &[char], radix: u32, limit: u64) -> Option<u32>
     Some(n as u32)
 }
 
-/// Whether the two texts are the same.
+/// Whether the two texts are equal.
 #[tactic(auto, using(crate::proofs::TextLemmas::same_lengths))]
 pub(crate) fn is_same(text: &[char], other: &[char]) -> bool
     ensures { result ≡ same_text text.now other.now }
@@ -109,7 +109,7 @@ pub(crate) fn is_same(text: &[char], other: &[char]) -> bool
     true
 }
 
-/// Whether the character occurs twice side by side.
+/// Whether the character occurs twice in a row.
 pub(crate) fn has_twice(text: &[char], c: char) -> bool
     ensures { result ≡ has_twice c text.now }
 {

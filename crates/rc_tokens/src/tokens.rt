@@ -18,7 +18,7 @@ pub struct Perl {
     pub negated: bool,
 }
 
-/// An assertion as it is written. The flags say which form is meant.
+/// An assertion as it is written. The flags decide which form is meant.
 #[derive(Clone, Copy, Debug, PartialEq, Eq)]
 pub enum Assertion {
     /// `^`
@@ -43,7 +43,7 @@ pub enum Assertion {
     WordEndHalf,
 }
 
-/// What an escape says.
+/// The meaning of an escape.
 #[derive(Clone, Copy, Debug, PartialEq, Eq)]
 pub enum Escape {
     /// A character.
@@ -54,7 +54,7 @@ pub enum Escape {
     Assertion(Assertion),
 }
 
-/// What is in a list.
+/// A member of a list.
 #[derive(Clone, Copy, Debug, PartialEq, Eq)]
 pub enum Member {
     /// A character, plain or escaped.
@@ -66,7 +66,7 @@ pub enum Member {
     Perl(Perl),
 }
 
-/// A list: what is after `[` or `[^`, up to the closing `]`.
+/// A list: the text after `[` or `[^`, up to the closing `]`.
 #[derive(Drop)]
 pub struct List {
     /// Whether `^` came first.
@@ -76,7 +76,7 @@ pub struct List {
     pub members: Vec<Member>,
 }
 
-/// What a text of flags sets and clears.
+/// The flags that a text of flags sets and clears.
 #[derive(Clone, Copy, Debug, PartialEq, Eq)]
 pub struct Change {
     /// The flag `i`.
@@ -93,7 +93,7 @@ pub struct Change {
     pub unicode: Option<bool>,
 }
 
-/// How often an item is repeated.
+/// The bounds of a repetition.
 #[derive(Clone, Copy, Debug, PartialEq, Eq)]
 pub struct Bounds {
     pub min: u32,
@@ -111,7 +111,7 @@ pub enum Opening {
     Flagged(Change),
 }
 
-/// What a mark says.
+/// A token.
 #[derive(Drop)]
 pub enum Token {
     Character(char),

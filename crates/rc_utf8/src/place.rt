@@ -2,7 +2,8 @@
 
 use rc_pattern::hir::{ClassBytesRange, Look};
 
-/// A way out of a branch: over one byte of a range, both ends included, to the place of this index.
+/// A way out of a branch: over one byte of a range, both ends included, to the place with this
+/// index.
 #[derive(Clone, Copy, Debug, PartialEq, Eq)]
 pub struct ByteWay {
     pub first: u8,
@@ -10,12 +11,13 @@ pub struct ByteWay {
     pub next: usize,
 }
 
-/// A place of a byte program. A way out names another place by its index in the program.
+/// A place of a byte program: an NFA state. A way out names another place by its index in the
+/// program.
 #[derive(Drop)]
 pub enum BytePlace {
-    /// Two ways out, in this order, which read nothing.
+    /// Two ways out, in order of preference, which read nothing.
     Choice(usize, usize),
-    /// One way out, which reads nothing.
+    /// One way out, which reads nothing: an epsilon transition.
     Pass(usize),
     /// No way out.
     Dead,

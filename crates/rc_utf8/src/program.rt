@@ -19,7 +19,7 @@ use sequence::class_sequences;
 use std::alloc::{AllocError, Global};
 use tree::{Exits, add_tails, add_tree, append, longest};
 
-/// Adds a place of scalars and its block.
+/// Adds a place for characters and its block.
 fn add_scalars(
     alloc: Global,
     places: &mut Vec<BytePlace>,
@@ -77,12 +77,12 @@ fn add_place(
     }
 }
 
-/// The byte program of a program: each place keeps its number, and the places that take scalars
-/// byte by byte are behind.
+/// Returns the byte program of a program. Each place keeps its number, and the places that read the
+/// bytes of characters come behind.
 ///
-/// It has no more places than the program weighs: 1 for each place, and 84 more for each range of a
-/// place of scalars. So a program of patterns that may be built is light enough. An `Err` means out
-/// of memory, and nothing else.
+/// It has no more places than the weight of the program: 1 for each place, and 84 more for each
+/// range of a place for characters. So a program of patterns that may be built is light enough. An
+/// `Err` means out of memory.
 pub fn byte_program(alloc: Global, program: &[Place]) -> Result<Vec<BytePlace>, AllocError>
     requires light { heaviness (sources_of program.now) ≤ greatest_weight }
     ensures { IfOk result (λ places. places_of places.items ≡ bytes_of (sources_of program.now)) }

@@ -11,7 +11,7 @@ use rc_pattern::hir::{Capture, Class, Hir, HirKind, Repetition};
 use rc_program::place::Place;
 use std::alloc::AllocError;
 
-/// No pattern that is light enough for a program has a group of a greater number.
+/// The greatest number of a group in a pattern that is light enough for a program.
 const GREATEST_GROUP: usize = 2147483647;
 
 /// Appends one place.
@@ -23,7 +23,7 @@ pub(super) fn append(places: &mut Vec<Place>, place: Place) -> Result<(), AllocE
     Ok(())
 }
 
-/// The choice of a body and the way out: greedy puts the body first.
+/// The choice between a body and the way out: greedy prefers the body.
 fn choice_of(greedy: bool, body: usize, out: usize) -> Place
     ensures { place_of result ≡ body_or_out greedy body out }
 {
@@ -33,7 +33,7 @@ fn choice_of(greedy: bool, body: usize, out: usize) -> Place
     Place::Choice(out, body)
 }
 
-/// Appends the part of a literal, which leads to `next`.
+/// Emits the part of a literal, which leads to `next`.
 fn emit_literal(places: &mut Vec<Place>, bytes: &Vec<u8>, next: usize) -> Result<(), AllocError>
     requires { vec_len places.old + vec_len bytes.now < 2 ^ 62 }
     ensures long { IfOk result (λ _. vec_len places.new ≡ vec_len places.old + (literal_part bytes.now.items).size) }
@@ -51,7 +51,7 @@ fn emit_literal(places: &mut Vec<Place>, bytes: &Vec<u8>, next: usize) -> Result
     append(places, Place::Byte(bytes[last], next))
 }
 
-/// Appends the part of a class, which leads to `next`.
+/// Emits the part of a class, which leads to `next`.
 fn emit_class(places: &mut Vec<Place>, class: &Class, next: usize) -> Result<(), AllocError>
     ensures long { IfOk result (λ _. vec_len places.new ≡ vec_len places.old + (part (class_meaning class.now)).size) }
     ensures more { IfOk result (λ _. places_of places.new.items
@@ -69,8 +69,8 @@ fn emit_class(places: &mut Vec<Place>, class: &Class, next: usize) -> Result<(),
     }
 }
 
-/// Appends the part of the pattern, which leads to `next`: with its groups, of which group 1 has
-/// the slot `slots`, or with each group as its body.
+/// Emits the part of the pattern, which leads to `next`. It has its groups, of which group 1 has
+/// the slot `slots`, or has each group as its body.
 #[cycle(emit)]
 pub(super) fn emit(
     places: &mut Vec<Place>,

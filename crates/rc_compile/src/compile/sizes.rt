@@ -6,7 +6,8 @@ ghost use Rattle.rc_compile.specs.Shown.{laid};
 
 use rc_pattern::hir::{Hir, HirKind, Repetition};
 
-/// How many places the pattern's part has: with its groups, or with each group as its body.
+/// The number of places of the part of the pattern: with its groups, or with each group as its
+/// body.
 #[cycle(size)]
 pub(super) fn size(hir: &Hir, groups: bool) -> usize
     requires { (laid groups (meaning hir.now)).size < 2 ^ 62 }

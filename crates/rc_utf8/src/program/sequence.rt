@@ -8,14 +8,15 @@ ghost use Rattle.rc_utf8.specs.Places.{sequences_of};
 use rc_pattern::hir::{ClassBytesRange, ClassUnicodeRange};
 use std::alloc::{AllocError, Global};
 
-/// One byte of each of the ranges in turn, and then some number of continuation bytes.
+/// A UTF-8 sequence: one byte of each of the ranges in turn, and then some number of continuation
+/// bytes.
 #[derive(Drop)]
 pub(super) struct Sequence {
     pub(super) ranges: Vec<ClassBytesRange>,
     pub(super) rest: usize,
 }
 
-/// The ranges, and one more of the byte alone.
+/// The ranges, and one more that contains only the byte.
 fn extended(
     alloc: Global,
     ranges: &[ClassBytesRange],
@@ -98,7 +99,7 @@ fn all_are(byte: u8, bytes: &[u8]) -> bool
     true
 }
 
-/// Whether the bytes from `first` and `left` on, the first of them at most `last`, are all that
+/// Whether the bytes from `first` and `left` on, with a first byte of at most `last`, are all that
 /// begin with a byte from `first` to `last`.
 fn reach_all_from(first: u8, left: &[u8], last: u8) -> bool
     ensures { result ≡ (all_are 128 left.now && nat_le first last) }
@@ -121,7 +122,7 @@ fn are_any(low: &[u8], high: &[u8]) -> bool
     all_are(128, low) && all_are(191, high)
 }
 
-/// Adds the sequences over the bytes that are at least those of `low`, the first of them at most
+/// Adds the sequences over the bytes that are at least those of `low`, with a first byte of at most
 /// `last`, behind the ranges.
 fn add_from(
     alloc: Global,
@@ -169,7 +170,7 @@ fn add_to(
 }
 
 /// Adds the sequences over the bytes from those of `low` to `last` and those of `high`, behind the
-/// ranges, if the first of `low` is another byte than `last`.
+/// ranges, if the first of `low` is not `last`.
 fn add_both(
     alloc: Global,
     list: &mut Vec<Sequence>,
@@ -221,7 +222,7 @@ fn add_within(
     add_within(alloc, list, &longer, low_left, high_left)
 }
 
-/// The later of two scalars.
+/// The later of two characters.
 fn later(one: char, other: char) -> char
     ensures { result ≡ max one other }
 {
@@ -231,7 +232,7 @@ fn later(one: char, other: char) -> char
     one
 }
 
-/// The earlier of two scalars.
+/// The earlier of two characters.
 fn earlier(one: char, other: char) -> char
     ensures { result ≡ min one other }
 {
@@ -241,8 +242,8 @@ fn earlier(one: char, other: char) -> char
     one
 }
 
-/// Adds the sequences of the scalars of a range that lie between `least` and `most`, which take as
-/// many bytes as each other.
+/// Adds the sequences of the characters of a range between `least` and `most`, which have equally
+/// many bytes.
 fn add_between(
     alloc: Global,
     list: &mut Vec<Sequence>,
@@ -265,7 +266,7 @@ fn add_between(
     add_within(alloc, list, &[], low, high)
 }
 
-/// Adds the sequences of the scalars of a range.
+/// Adds the sequences of the characters of a range.
 fn add_scalars(
     alloc: Global,
     list: &mut Vec<Sequence>,
@@ -281,7 +282,7 @@ fn add_scalars(
     add_between(alloc, list, range, '\u{10000}', char::MAX)
 }
 
-/// The sequences of the scalars of the ranges.
+/// The sequences of the characters of the ranges.
 pub(super) fn class_sequences(
     alloc: Global,
     ranges: &[ClassUnicodeRange],
