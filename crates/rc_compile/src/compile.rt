@@ -19,8 +19,7 @@ use rc_program::place::Place;
 use sizes::size;
 use std::alloc::{AllocError, Global};
 
-/// The number of groups that the part of the pattern names, or the greatest `usize` if there are
-/// more.
+/// Returns how many groups the pattern's part names, or `usize::MAX` if there are more.
 fn shown_groups(hir: &Hir, groups: bool) -> usize
     ensures { result ≡ min (group_count (shown_one groups (meaning hir.now))) (2 ^ 64 - 1) }
 {
@@ -30,7 +29,8 @@ fn shown_groups(hir: &Hir, groups: bool) -> usize
     0
 }
 
-/// Emits the choice between this pattern and the later ones, and the pattern with its match place.
+/// Appends the choice of this pattern or the later ones, and the pattern with its match place.
+/// `Err` means out of memory.
 fn emit_pattern(
     places: &mut Vec<Place>,
     hir: &Hir,
@@ -53,7 +53,7 @@ fn emit_pattern(
     append(places, Place::Accept(pattern))
 }
 
-/// Returns the program of the patterns: with their groups, or with each group as its body. An `Err`
+/// Returns the program of the patterns: with their groups, or with each group as its body. `Err`
 /// means out of memory.
 pub fn compile(alloc: Global, hirs: &[Hir], groups: bool) -> Result<Vec<Place>, AllocError>
     requires well_formed { All IsWellFormed (map meaning hirs.now) }

@@ -1,4 +1,4 @@
--- Two tables as the halves of a search.
+-- DFA: two tables as the halves of a search.
 use Rattle.std.specs.Prelude.{◌≡◌, ℕ, ◌+◌, ◌*◌, Bool, false, List, length, Option, slice_index_or}
 use Rattle.rc_text.specs.declared.types.Anchored.{Anchored}
 use Rattle.rc_program.specs.Program.{place_at}
@@ -19,11 +19,12 @@ use Rattle.rc_dense_dfa.specs.declared.table.Table.{Table}
 use Rattle.rc_dense_dfa.specs.declared.run.Ended.{Ended}
 use Rattle.rc_dense_dfa.specs.declared.dense.Dense.{Dense}
 
--- for each place of the program the pattern whose match place it is, and 0 where it is none
+-- For each place of the program, the pattern whose match place it is; 0 if it is none.
 abbrev pub ArePatterns : Machine → List ℕ → Type 0
 ArePatterns m patterns = (place : ℕ) → slice_index_or patterns place 0 ≡ pattern_at (place_at m.setting.places place)
 
--- They are tables of the one machine forwards and of the other backwards, and it is known which pattern's each match place is.
+-- They are tables of the first machine forwards and of the second backwards, with the pattern of
+-- each match place.
 pub record AreHalves (d : Dense) (m n : Machine) : Type 0 where
   pub ahead : List State
   pub is_ahead : IsTable m ahead d.forward
@@ -37,7 +38,7 @@ pub record AreTablesOf (a : Automaton) (limit : Option ℕ) (d : Dense) : Type 0
   pub reverse : IsMade (machine_of a Backwards) (length (samples_of a)) limit d.reverse
   pub patterns : ArePatterns (machine_of a Forwards) d.patterns.items
 
--- where the search by a table ended so, the halves say that it ended as this
+-- If the search by a table ended so, the halves return this.
 pub record SaysForwards (patterns : List ℕ) (ended : Ended) (said : halves.Ended) : Type 0 where
   pub says : (m : Machine) (t : Text) (hi from : ℕ) (anchored : Anchored) (earliest may_rest : Bool) → ArePatterns m patterns → MayEnd t.content may_rest ended →
       SearchEnds m t hi from anchored earliest (run_end ended) → HasEnded m t hi from anchored earliest may_rest said
@@ -46,6 +47,6 @@ pub record SaysBackwards (ended : Ended) (said : halves.Ended) : Type 0 where
   pub says : (m : Machine) (t : Text) (lo end : ℕ) (anchored : Anchored) (earliest : Bool) → MayEnd t.content false ended →
       SearchEndsDown m t lo end anchored earliest (run_end ended) → HasEndedDown m t lo end anchored earliest said
 
--- how many bytes the parts of a table take
+-- How many bytes the parts of a table take.
 abbrev pub bytes_of : Table → ℕ
 bytes_of d = length d.classes.items + length d.idles.items + 4 * length d.exits.items + 280 * length d.leaps.items + 8 * (length d.cells.items + length d.ends.items + length d.tells.items + length d.starts.items)

@@ -1,4 +1,4 @@
--- What the making of a table gives.
+-- DFA construction: what it gives.
 use Rattle.std.specs.Prelude.{◌≡◌, ℕ, ◌+◌, ◌*◌, ◌<◌, ◌≤◌, List, length, Option, Some, slice_get, IfSome}
 use Rattle.rc_determinize.specs.States.{State}
 use Rattle.rc_dfa.specs.Machine.{Machine}
@@ -12,12 +12,13 @@ pub record AreStates (m : Machine) (states : List State) : Type 0 where
   pub reached : (id : ℕ) (s : State) → slice_get states id ≡ Some s → IsReached m s
   pub once : (i j : ℕ) (s : State) → slice_get states i ≡ Some s → slice_get states j ≡ Some s → i ≡ j
 
--- what holds these states weighs, where there are so many classes of bytes
+-- What these states weigh, in bytes, for so many byte classes.
 abbrev pub weight_by : Machine → ℕ → List State → ℕ
 weight_by m classes states = weight_of (classes + 1) ((length m.entries + 2) * (classes + 1)) states
 
--- It is a table of the machine, with so many classes of bytes. Its first row is that of the dead state; it has no state that can't be
--- reached, and none twice; and what holds the states weighs no more than the limit.
+-- It is a table of the machine, with so many byte classes. Its first row is that of the dead state.
+-- All other states can be reached, and none is there twice. The states weigh no more than the
+-- limit.
 pub record IsMade (m : Machine) (classes : ℕ) (limit : Option ℕ) (d : Table) : Type 0 where
   pub states : List State
   pub is_table : IsTable m states d
@@ -26,7 +27,7 @@ pub record IsMade (m : Machine) (classes : ℕ) (limit : Option ℕ) (d : Table)
   pub width : d.width ≡ classes
   pub light : IfSome limit (λ l. weight_by m classes states ≤ l)
 
--- Why none was made: memory was wanting, or some of the states weigh more than the limit.
+-- Why none was made: out of memory, or some of the states weigh more than the limit.
 abbrev pub IsRefused : Machine → ℕ → Option ℕ → TableError → Type 0
 IsRefused m classes limit Memory = Unit {0}
 IsRefused m classes limit TooBig = (l : ℕ) × (limit ≡ Some l) × (states : List State) × AreStates m states × (l < weight_by m classes states)

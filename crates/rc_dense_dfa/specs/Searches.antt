@@ -1,4 +1,4 @@
--- Searches by a table: where their runs stand, and how they end.
+-- DFA searches: what their runs keep, and how they end.
 use Rattle.std.specs.Prelude.{◌≡◌, ℕ, zero, suc, ◌+◌, ◌-◌, ◌/◌, ◌≤◌, Bool, IsTrue, List, length, Option, Some, None, slice_get, slice_index_or, nat_le, if◌then◌else◌}
 use Rattle.rc_text.specs.declared.types.Anchored.{Anchored}
 use Rattle.rc_text.specs.Text.{Searched}
@@ -16,13 +16,13 @@ use Rattle.rc_dense_dfa.specs.declared.run.Stand.{Stand}
 use Rattle.rc_dense_dfa.specs.declared.run.Leg.{Leg}
 use Rattle.rc_dense_dfa.specs.declared.run.Leg.TheVariants.{Through, Over}
 
--- how the search ended
+-- How the search ended.
 abbrev pub run_end : Ended → RunEnd
 run_end (Met found) = met_last found
 run_end (Idle i) = idle_at i
 run_end (Quit b p) = stopped_at p
 
--- the byte that isn't read stands in the content, and the search rests only where it may
+-- The byte that may not be read is one of the content, and the search rests only if it may.
 abbrev pub MayEnd : List ℕ → Bool → Ended → Type 0
 MayEnd content may_rest (Met found) = Unit {0}
 MayEnd content may_rest (Idle i) = IsTrue may_rest
@@ -30,35 +30,36 @@ MayEnd content may_rest (Quit b p) = slice_get content p ≡ Some b
 
 -- WHAT A RUN KEEPS
 
--- the row lies within the cells
+-- The row is within the cells.
 abbrev pub InRow : Table → ℕ → Type 0
 InRow d row = row + d.width ≤ length d.cells.items
 
--- the cell has the mark of a row from which nothing goes on
+-- The cell has the mark `DEAD`.
 abbrev pub has_died : ℕ → Bool
 has_died cell = if nat_le met cell then nat_le dead (cell - met) else nat_le dead cell
 
--- what is noted once the cell was read at the position: the row, where the cell has the mark of something met
+-- The note of a run behind a cell at the position: its row, if the cell has the mark `MET`, else
+-- the earlier note.
 abbrev pub noted_by : ℕ → ℕ → Option (ℕ × ℕ) → Option (ℕ × ℕ)
 noted_by cell at noted = if nat_le met cell then Some (row_of cell, at) else noted
 
--- what was met, from its code, or else the other
+-- What was found, from its code, or else the other.
 abbrev pub met_by : ℕ → ℕ → Option (ℕ × ℕ) → Option (ℕ × ℕ)
 met_by zero at other = other
 met_by (suc k) at other = Some (k, at)
 
--- what was met last, as far as the table tells
+-- What was found last, by the table.
 abbrev pub told : Table → Option (ℕ × ℕ) → Option (ℕ × ℕ)
 told d None = None
 told d (Some n) = met_by (slice_index_or d.tells.items (n.0 / d.width) 0) n.1 None
 
--- the row that is noted is that of a state before which this was met last
+-- The row that is noted is that of a state before which this was found last.
 abbrev pub IsNoted : Table → List State → Option (ℕ × ℕ) → Option (ℕ × ℕ) → Type 0
 IsNoted d states None found = found ≡ None
 IsNoted d states (Some n) found = (s : State) × (k : ℕ) × IsRow d states n.0 s × (s.stop ≡ Some k) × (found ≡ Some (k, n.1))
 
--- A search by a table, of which the code holds only a part at a time: what is searched, from which position, up to or down to which bound,
--- and how.
+-- A search by a table, of which the code has only a part at a time: what is searched, from which
+-- position, up to or down to which bound, and how.
 pub record Course : Type 0 where
   pub seen : Searched
   pub from : ℕ
@@ -69,7 +70,8 @@ pub record Course : Type 0 where
 
 -- FORWARDS
 
--- From a state in which the search begins the bytes up to the position lead to the state of the row.
+-- From a state in which the search begins, the bytes up to the position lead to the state of the
+-- row.
 pub record IsStanding (m : Machine) (states : List State) (d : Table) (t : Text) (q : Course) (i row : ℕ) (noted : Option (ℕ × ℕ)) : Type 0 where
   pub first : State
   pub read : MayRead m (behind_at t q.from)
@@ -80,7 +82,7 @@ pub record IsStanding (m : Machine) (states : List State) (d : Table) (t : Text)
   pub tells : IsNoted d states noted found
   pub runs : Runs m t q.bound q.from first i state found
 
--- whatever machine the table is of
+-- It holds whatever machine the table is of.
 abbrev pub Stands : Table → Course → ℕ → Stand → Type 0
 Stands d q i s =
     (m : Machine) (states : List State) (terminator : ℕ) → IsTable m states d → IsAsked m q.anchored →
@@ -91,19 +93,20 @@ Ends d q e =
     (m : Machine) (states : List State) (terminator : ℕ) → IsTable m states d → IsAsked m q.anchored →
     SearchEnds m (text_of terminator q.seen) q.bound q.from q.anchored q.earliest (run_end e)
 
--- the run stands at the position, or the search has ended
+-- The run goes on at the position, or the search has ended.
 abbrev pub IsLeg : Table → Course → ℕ → Leg → Type 0
 IsLeg d q i (Through s) = InRow d s.row × Stands d q i s
 IsLeg d q i (Over e) = Ends d q e × MayEnd q.seen.content q.may_rest e
 
 -- BACKWARDS
 
--- the position first
+-- The position first.
 abbrev pub swapped : Option (ℕ × ℕ) → Option (ℕ × ℕ)
 swapped None = None
 swapped (Some n) = Some (n.1, n.0)
 
--- The same on the way down: the search begins at `from`, as the byte there tells.
+-- On the way down: from a state in which the search begins, the bytes down to the position lead to
+-- the state of the row. The search begins at `from`, by the byte there.
 pub record IsStandingDown (m : Machine) (states : List State) (d : Table) (t : Text) (q : Course) (i row : ℕ) (noted : Option (ℕ × ℕ)) : Type 0 where
   pub first : State
   pub read : MayRead m (ahead_at t q.from)

@@ -17,8 +17,8 @@ use rc_text::cursor::Cursor;
 use rc_text::input::{Input, piece_before};
 use rc_text::types::Anchored;
 
-/// The cell to which the last of this many bytes of a piece leads. If it has no mark, it names the
-/// row of the run before that byte.
+/// Returns the cell to which the last of the first `left` bytes of a piece leads. If it has no
+/// mark, it is the row of the run before that byte.
 #[inline(always)]
 fn cell_at(
     table: &Table,
@@ -45,9 +45,9 @@ fn cell_at(
     cells[stand.row + classes[piece[left - 1] as usize] as usize]
 }
 
-/// Runs over bytes whose cells have no mark, four at a time towards the beginning of a piece, and
-/// returns how many bytes are left and the row before the others. Fewer than four are left, or the
-/// next cell has a mark.
+/// Runs over bytes whose cells have no mark, four at a time towards the piece's beginning. Returns
+/// how many bytes are left, and the row before the others. Fewer than four are left, or the next
+/// cell has a mark.
 #[inline(always)]
 fn stride(table: &Table, piece: &[u8], from: usize, start: usize, stand: Stand) -> (usize, usize)
     ghost course: { Course }
@@ -124,9 +124,8 @@ fn stride(table: &Table, piece: &[u8], from: usize, start: usize, stand: Stand) 
     (left, row)
 }
 
-/// Runs over the bytes of a piece from its end, down to one of which the cell needs a look, and
-/// returns how many bytes are left. A mark of something found needs none if `limit` is `SKIP`, and
-/// one if it is 0.
+/// Runs over the bytes of a piece from its end down to one whose cell needs a look. Returns how
+/// many bytes are left. A cell with `MET` needs a look if `limit` is 0, and none if it is `SKIP`.
 #[inline(never)]
 fn run(table: &Table, piece: &[u8], start: usize, stand: Stand, limit: usize) -> (usize, Stand)
     ghost course: { Course }
@@ -193,7 +192,7 @@ fn step(table: &Table, byte: u8, at: usize, stand: Stand, earliest: bool) -> Leg
     Leg::Through(Stand { row, noted })
 }
 
-/// Runs over the chunks from one position down to another.
+/// Runs over the chunks from the position `from` down to `end`.
 #[inline(always)]
 fn cross<C: Cursor>(
     table: &Table,
@@ -235,7 +234,7 @@ fn cross<C: Cursor>(
     Leg::Through(stand)
 }
 
-/// Where a search begins, by the byte ahead of the position.
+/// Begins a search at the position: the byte ahead of it decides the start state.
 #[inline(always)]
 fn begin(table: &Table, anchored: Anchored, beside: Option<u8>, from: usize) -> Leg
     ghost course: { Course }
@@ -264,8 +263,8 @@ fn begin(table: &Table, anchored: Anchored, beside: Option<u8>, from: usize) -> 
     Leg::Through(Stand { row, noted: None })
 }
 
-/// How a search ends that came to its lower bound: the byte before it decides what is found there,
-/// or the beginning of what is seen.
+/// Ends a search that came to its lower bound. The byte before that, or the beginning of what the
+/// search sees, decides whether a match begins there.
 #[inline(always)]
 fn finish<C: Cursor>(table: &Table, input: &mut Input<C>, end: usize, stand: Stand) -> Ended
     ghost course: { Course }
@@ -291,7 +290,7 @@ fn finish<C: Cursor>(table: &Table, input: &mut Input<C>, end: usize, stand: Sta
     }
 }
 
-/// Searches from one position down to another.
+/// Searches from the position `from` down to `end`.
 #[inline(always)]
 fn search<C: Cursor>(
     table: &Table,
@@ -321,11 +320,11 @@ fn search<C: Cursor>(
     }
 }
 
-/// Searches backwards by the table, from the position `end` down to `least`, in bytes of the whole
-/// content, wherever it is cut, and returns the least position at which an entry is found, with the
-/// entry's number: the first of those found there. With `earliest` it is the first position that is
-/// come to, and nothing before it is read. A byte that the table doesn't read ends the search.
-/// Nothing is copied, and no memory is taken.
+/// Searches backwards from the position `end` down to `least`, in bytes of the whole content,
+/// wherever chunks are cut. Returns the least position at which an entry is reached, and the index
+/// of the first entry that is reached there. With `earliest`, it returns the first such position
+/// that it comes to, and reads nothing before it. A byte that may not be read ends the search.
+/// Nothing is copied or allocated.
 #[inline(always)]
 pub fn run_backwards<C: Cursor>(
     table: &Table,

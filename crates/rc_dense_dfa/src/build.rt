@@ -24,7 +24,8 @@ use rc_dfa::states::States;
 use rc_text::types::{Anchored, PatternID};
 use std::alloc::{AllocError, Global};
 
-/// What was found, as a number; None if that is none.
+/// Encodes what was found as a number: 0 for nothing, else one more. Returns None if that
+/// overflows.
 fn code_of(met: Option<usize>) -> Option<usize>
     ensures { IfSome result (λ code. code ≡ code_of met) }
 {
@@ -34,7 +35,8 @@ fn code_of(met: Option<usize>) -> Option<usize>
     }
 }
 
-/// The way of anchoring of this number; None if there is none.
+/// Returns the kind of anchoring with this number: 0 is unanchored, 1 anchored, and p + 2 anchored
+/// for pattern p. Returns None if there is no such pattern.
 fn anchoring(mode: usize) -> Option<Anchored>
     ensures { IfSome result (λ anchored. mode_of anchored ≡ mode) }
 {
@@ -48,7 +50,8 @@ fn anchoring(mode: usize) -> Option<Anchored>
     }
 }
 
-/// The starts, for each way of anchoring.
+/// Returns the start cells: for each kind of anchoring one for each class of the byte beside, and
+/// one for an end.
 fn starts_of(
     alloc: Global,
     maker: &mut Maker,
@@ -77,7 +80,8 @@ fn starts_of(
     Ok(starts)
 }
 
-/// What is found at the end, from the state of the number on.
+/// Returns the code of what is found at the end of what the search sees, from the state of the
+/// number.
 fn end_of(
     maker: &mut Maker,
     automaton: &Automaton,
@@ -100,7 +104,7 @@ fn end_of(
     Ok(code)
 }
 
-/// What was found before each row, as a number.
+/// Returns for each row the code of what was found on the way to it.
 fn tells_of(alloc: Global, states: &States) -> Result<Vec<usize>, TableError>
     ensures tells { IfOk result (λ tells. (length tells.items ≡ length states.now) × AreTells states.now tells.items) }
     ensures refused { IfErr result (λ e. e ≡ Memory) }
@@ -122,7 +126,8 @@ fn is_idle(state: &State) -> bool
     state.goes_on && state.list.len() == 1 && state.list[0] == 0
 }
 
-/// The same for each row.
+/// Returns for each row whether nothing is under way in its state but walks that begin there or
+/// later.
 fn idles_of(alloc: Global, states: &States) -> Result<Vec<bool>, TableError>
     ensures idles { IfOk result (λ idles. (length idles.items ≡ length states.now) × AreIdles states.now idles.items) }
     ensures refused { IfErr result (λ e. e ≡ Memory) }
@@ -134,14 +139,14 @@ fn idles_of(alloc: Global, states: &States) -> Result<Vec<bool>, TableError>
     Ok(idles)
 }
 
-/// The rows of a table.
+/// The rows of a table, and for each the code of what is found at the end.
 #[derive(Drop)]
 struct Rows {
     cells: Vec<usize>,
     ends: Vec<usize>,
 }
 
-/// All rows, of the states so far and of those that come up.
+/// Builds the rows of all states, also of those that come up on the way.
 fn rows_of(
     alloc: Global,
     maker: &mut Maker,
@@ -170,7 +175,7 @@ fn rows_of(
     Ok(Rows { cells, ends })
 }
 
-/// What makes a table, before any row: the state from which nothing goes on is the first one.
+/// Prepares to build a table. The first state is the dead one.
 fn maker_of(
     alloc: Global,
     scratch: Scratch,
@@ -195,14 +200,14 @@ fn maker_of(
     Ok(Maker { names, scratch, to })
 }
 
-/// How many starts a table has; None if memory could not hold them.
+/// Returns how many start cells a table has, or None if that overflows.
 fn start_count(modes: usize, width: usize) -> Option<usize>
     ensures { IfSome result (λ count. count ≡ modes * (width + 1)) }
 {
     modes.checked_mul(width.checked_add(1)?)
 }
 
-/// What makes a table of the automaton, before any row.
+/// Prepares to build the automaton's table.
 fn begun(
     alloc: Global,
     automaton: &Automaton,
@@ -239,7 +244,7 @@ struct Parts {
     idles: Vec<bool>,
 }
 
-/// The parts of the automaton's table.
+/// Builds the parts of the automaton's table.
 fn parts_of(
     alloc: Global,
     automaton: &Automaton,
@@ -280,7 +285,7 @@ fn have_few(exits: &[Exits]) -> bool {
     false
 }
 
-/// Which rows are marked: those with few exits or of which a leap is known, and with `rests` those
+/// Returns which rows get the mark `SKIP`: those with few exits or a leap, and with `rests` those
 /// at which searches may rest.
 fn hints_of(
     alloc: Global,
@@ -304,9 +309,9 @@ fn hints_of(
     Ok(hints)
 }
 
-/// A table of all the states that searches by the automaton can reach in this direction. The error
-/// `TooBig` comes if what holds the states weighs more than `limit` bytes, and `Memory` if memory
-/// is wanting. With `rests` searches that may rest stop to look at the rows at which they may.
+/// Builds the table of all states that searches by the automaton can reach in this direction. The
+/// error is `TooBig` if the states weigh more than `limit` bytes, and `Memory` if out of memory.
+/// With `rests`, searches that may rest look at each row at which they may.
 pub(crate) fn table_of(
     alloc: Global,
     automaton: &Automaton,

@@ -18,20 +18,20 @@ use rc_text::input::Input;
 use rc_text::types::Anchored;
 use std::alloc::{AllocError, Global};
 
-/// What a search by tables changes: nothing.
+/// The cache of DFA searches: it has nothing, since a search changes nothing.
 #[derive(Clone, Copy, Debug)]
 pub struct NoCache;
 
-/// Tables of all the states that searches by an automaton can reach, one for each direction.
+/// A DFA: a table of all states that searches by an automaton can reach, for each direction.
 #[derive(Drop)]
 pub struct Dense {
     forward: Table,
     reverse: Table,
-    /// For each place of the byte program the pattern whose match place it is; 0 if it is none.
+    /// For each place of the byte program, the pattern whose match place it is; 0 if it is none.
     patterns: Vec<usize>,
 }
 
-/// The pattern of each place.
+/// Returns the pattern of each place. `Err` means out of memory.
 fn patterns_of(alloc: Global, automaton: &Automaton) -> Result<Vec<usize>, AllocError>
     ensures { IfOk result (λ patterns. ArePatterns (machine_of automaton.now Forwards) patterns.items) }
 {
@@ -42,7 +42,7 @@ fn patterns_of(alloc: Global, automaton: &Automaton) -> Result<Vec<usize>, Alloc
     Ok(patterns)
 }
 
-/// How a search forwards by the table ended, with the pattern in place of its match place.
+/// Returns how a forward search ended, with the pattern instead of its match place.
 #[inline(always)]
 fn said_forwards(patterns: &[usize], ended: run::Ended) -> Ended
     ensures says { SaysForwards patterns.now ended result }
@@ -62,7 +62,7 @@ fn said_forwards(patterns: &[usize], ended: run::Ended) -> Ended
     }
 }
 
-/// How a search backwards by the table ended.
+/// Returns how a reverse search ended, with the pattern and the position in their fields.
 #[inline(always)]
 fn said_backwards(ended: run::Ended) -> Ended
     ensures says { SaysBackwards ended result }
@@ -76,7 +76,7 @@ fn said_backwards(ended: run::Ended) -> Ended
     }
 }
 
-/// How many bytes the table takes.
+/// Returns how many bytes the table takes.
 fn table_usage(table: &Table) -> u128
     ensures { result ≡ bytes_of table.now }
 {
@@ -89,10 +89,9 @@ fn table_usage(table: &Table) -> u128
 }
 
 impl Dense {
-    /// The tables of the automaton, each of them within `limit` bytes: so much what holds its
-    /// states may weigh. The error `TooBig` comes if the states of one of the two weigh more, and
-    /// `Memory` if memory is wanting. With `rests` the searches forwards that may rest do so
-    /// wherever they may.
+    /// Builds the tables of the automaton. The states of each may weigh `limit` bytes. The error is
+    /// `TooBig` if those of one table weigh more, and `Memory` if out of memory. With `rests`,
+    /// forward searches that may rest do so wherever they may.
     pub fn new(
         alloc: Global,
         automaton: &Automaton,
@@ -114,7 +113,7 @@ impl Dense {
         })
     }
 
-    /// How many bytes the tables take, or `usize::MAX` if that is more.
+    /// Returns how many bytes the tables take, or `usize::MAX` if that is more.
     pub fn memory_usage(&self) -> usize
         ensures { result ≡ min (bytes_of self.now.forward + bytes_of self.now.reverse + 8 * length self.now.patterns.items) usize.MAX }
     {

@@ -2,12 +2,12 @@
 
 use std::alloc::{AllocError, AllocFailed};
 
-/// Why no table was made.
+/// Why no table was built.
 #[derive(Clone, Copy, Debug, PartialEq, Eq)]
 pub enum TableError {
-    /// Memory is wanting, or no memory could hold the table.
+    /// Out of memory, or no memory could hold the table.
     Memory,
-    /// What holds the states weighs more than the limit.
+    /// The states weigh more than the limit.
     TooBig,
 }
 

@@ -11,19 +11,18 @@ use rc_dfa::automaton::Direction;
 use rc_text::frequency::is_common;
 use std::alloc::{AllocError, Global};
 
-/// The bytes of which the cells of a row don't name that row itself, or tell of something found.
+/// The exits of a row: the bytes whose cells don't lead back to that row, or report a match.
 #[derive(Clone, Copy)]
 pub enum Exits {
     Zero,
     One(u8),
     Two(u8, u8),
     Three(u8, u8, u8),
-    /// More, or such as are in most texts: the row is not worth a search for them.
+    /// More than three, or one that is common in texts: a search for them doesn't pay.
     Many,
 }
 
-/// The exits, and one more. A common byte is taken for many, since a search for it would end too
-/// soon to be worth it.
+/// Adds an exit. A common byte counts as many, since a search for it would end too soon to pay.
 fn with(exits: Exits, byte: u8) -> Exits
     ensures { (b : ℕ) → is_exit result b ≡ false → (is_exit exits b ≡ false) × (b ≢ byte) }
 {
@@ -38,7 +37,7 @@ fn with(exits: Exits, byte: u8) -> Exits
     }
 }
 
-/// Whether they are worth a search.
+/// Whether a search for the exits pays.
 pub(crate) fn are_few(exits: Exits) -> bool {
     match exits {
         Exits::Many => false,
@@ -46,7 +45,7 @@ pub(crate) fn are_few(exits: Exits) -> bool {
     }
 }
 
-/// Whether the byte leads from the row to the row itself, and nothing is found.
+/// Whether the byte leads from the row back to it, without a match.
 fn stays(classes: &[u8], cells: &[usize], row: usize, byte: usize) -> bool
     requires { row < met }
     ensures { IsTrue result → Stays dead classes.now cells.now row byte }
@@ -60,7 +59,7 @@ fn stays(classes: &[u8], cells: &[usize], row: usize, byte: usize) -> bool
     *cell < DEAD && row_of(*cell) == row
 }
 
-/// The exits of a row.
+/// Returns the exits of a row.
 fn exits_from(classes: &[u8], cells: &[usize], row: usize) -> Exits
     requires { row < met }
     ensures { AreExitsOf dead classes.now cells.now row result }
@@ -74,7 +73,8 @@ fn exits_from(classes: &[u8], cells: &[usize], row: usize) -> Exits
     exits
 }
 
-/// The exits of each row; none are known of a table for searches backwards, which read each byte.
+/// Returns the exits of each row. There are none for reverse searches, which read each byte. `Err`
+/// means out of memory.
 pub(crate) fn exits_of(
     alloc: Global,
     classes: &[u8],
@@ -98,8 +98,8 @@ pub(crate) fn exits_of(
     Ok(exits)
 }
 
-/// The first place of the piece at which an exit is, or the piece's length; 0 if there are many
-/// exits.
+/// Returns the index of the first exit in the piece, or the piece's length. Returns 0 if there are
+/// many exits.
 pub(crate) fn first_exit(exits: Exits, piece: &[u8]) -> usize
     ensures within { result ≤ length piece.now }
     ensures passed { (k : ℕ) → k < result → is_exit exits (slice_index_or piece.now k 0) ≡ false }

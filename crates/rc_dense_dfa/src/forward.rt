@@ -21,7 +21,7 @@ use rc_text::cursor::Cursor;
 use rc_text::input::{Input, high, piece_from};
 use rc_text::types::Anchored;
 
-/// The position from which on a search rests if it may.
+/// Returns the position from which on a search rests if it may, or `usize::MAX` if it may not.
 #[inline(always)]
 fn looks_from(may_rest: bool, rest_from: usize) -> usize {
     if may_rest {
@@ -30,8 +30,8 @@ fn looks_from(may_rest: bool, rest_from: usize) -> usize {
     usize::MAX
 }
 
-/// The cell to which the byte of a piece at an index leads. If it has no mark, it names the row of
-/// the run behind that byte.
+/// Returns the cell to which a byte of a piece leads. If it has no mark, it is the row of the run
+/// behind that byte.
 #[inline(always)]
 fn cell_at(
     table: &Table,
@@ -57,8 +57,8 @@ fn cell_at(
     cells[stand.row + classes[piece[index] as usize] as usize]
 }
 
-/// Runs over bytes whose cells have no mark, four at a time, and returns how many bytes were read
-/// and the row behind them. Fewer than four are left, or the next cell has a mark.
+/// Runs over bytes whose cells have no mark, four at a time. Returns how many bytes were read, and
+/// the row behind them. Fewer than four are left, or the next cell has a mark.
 #[inline(always)]
 fn stride(table: &Table, piece: &[u8], from: usize, start: usize, stand: Stand) -> (usize, usize)
     ghost course: { Course }
@@ -135,10 +135,10 @@ fn stride(table: &Table, piece: &[u8], from: usize, start: usize, stand: Stand) 
     (index, row)
 }
 
-/// Leaps over the bytes of a piece from an index on, behind a cell with the mark `SKIP`, up to the
-/// first that may lead away, and returns how many bytes were read and the row behind them. No byte
-/// is read if no leap is known of the row. None if that cell needs a look: a search may rest at the
-/// row from the position `looks` on, or a search for its few exits serves better.
+/// Leaps over the bytes of a piece behind a cell with the mark `SKIP`, up to the first that may
+/// leave the two rows. Returns how many bytes were read, and the row behind them. No byte is read
+/// if the row has no leap. Returns None if that cell needs a look: the search may rest there, from
+/// the position `looks` on, or the row has no leap and some row has few exits.
 #[inline(always)]
 fn leap(
     table: &Table,
@@ -176,9 +176,9 @@ fn leap(
     Some((from + passed, row_of(cell)))
 }
 
-/// Runs over the bytes of a piece from an index on, up to one of which the cell needs a look, and
-/// returns how many bytes were read. A mark of something found needs none if `limit` is `SKIP`, and
-/// one if it is 0; a mark `SKIP` needs none if `leap` tells how far to go.
+/// Runs over the bytes of a piece up to one whose cell needs a look. Returns how many bytes were
+/// read. A cell with `MET` needs a look if `limit` is 0, and none if it is `SKIP`. A cell with
+/// `SKIP` needs none if `leap` handles it.
 #[inline(never)]
 fn run(
     table: &Table,
@@ -239,7 +239,7 @@ fn run(
     (index, Stand { row, noted })
 }
 
-/// Reads one byte, whatever its cell. With `may_rest` the search rests behind it if it may, from
+/// Reads one byte, whatever its cell. With `may_rest`, the search rests behind it if it may, from
 /// the position `rest_from` on.
 #[inline(always)]
 fn step(
@@ -280,8 +280,8 @@ fn step(
     Leg::Through(Stand { row, noted })
 }
 
-/// How many bytes of a piece are passed over: those before the first that may lead away from the
-/// row. None are if the search is to rest.
+/// Returns how many bytes of a piece are skipped: those before the first exit of the row. Returns 0
+/// if the search is to rest, or no row has few exits.
 #[inline(always)]
 fn pass(table: &Table, piece: &[u8], start: usize, stand: Stand, may_rest: bool) -> usize
     ghost course: { Course }
@@ -298,7 +298,7 @@ fn pass(table: &Table, piece: &[u8], start: usize, stand: Stand, may_rest: bool)
     first_exit(exits_at(table, stand.row), piece)
 }
 
-/// Runs over the chunks from one position to another.
+/// Runs over the chunks from the position `from` to `end`.
 #[inline(always)]
 fn cross<C: Cursor>(
     table: &Table,
@@ -347,7 +347,7 @@ fn cross<C: Cursor>(
     Leg::Through(stand)
 }
 
-/// Where a search begins, by the byte behind the position.
+/// Begins a search at the position: the byte behind it decides the start state.
 #[inline(always)]
 fn begin(table: &Table, anchored: Anchored, beside: Option<u8>, from: usize) -> Leg
     ghost course: { Course }
@@ -376,8 +376,8 @@ fn begin(table: &Table, anchored: Anchored, beside: Option<u8>, from: usize) -> 
     Leg::Through(Stand { row, noted: None })
 }
 
-/// How a search ends that came to its upper bound: the byte beyond decides what is found there, or
-/// the end of what is seen.
+/// Ends a search that came to its upper bound. The byte beyond, or the end of what the search sees,
+/// decides whether a match ends there.
 #[inline(always)]
 fn finish<C: Cursor>(table: &Table, input: &mut Input<C>, end: usize, stand: Stand) -> Ended
     ghost course: { Course }
@@ -402,7 +402,7 @@ fn finish<C: Cursor>(table: &Table, input: &mut Input<C>, end: usize, stand: Sta
     }
 }
 
-/// Searches from one position up to another.
+/// Searches from the position `from` up to `end`.
 #[inline(always)]
 fn search<C: Cursor>(
     table: &Table,
@@ -436,12 +436,11 @@ fn search<C: Cursor>(
     }
 }
 
-/// Searches forwards by the table, from the position `from` up to where the input's bounds end, in
-/// bytes of the whole content, wherever it is cut: what is found last is returned, with its
-/// position; with `earliest` the first that is found, and nothing is read beyond it. If `may_rest`
-/// is set, the search may end behind a byte that it read, if nothing was found and nothing is under
-/// way; before `rest_from` it reads on. A byte that the table doesn't read ends the search. Nothing
-/// is copied, and no memory is taken.
+/// Searches forwards from the position `from` up to the end of the input's bounds, in bytes of the
+/// whole content, wherever chunks are cut. Returns what was found last, with its position. With
+/// `earliest`, it returns what was found first, and reads nothing beyond it. With `may_rest`, it
+/// may end behind a byte, from `rest_from` on, if nothing was found and nothing is under way. A
+/// byte that may not be read ends the search. Nothing is copied or allocated.
 #[inline(always)]
 pub fn run_forwards<C: Cursor>(
     table: &Table,

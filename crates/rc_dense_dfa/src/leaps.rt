@@ -10,29 +10,29 @@ use crate::table::{DEAD, QUIT};
 use rc_text::frequency::{MOST_COMMON, per_thousand};
 use std::alloc::{AllocError, Global};
 
-/// This many leaps are known at most.
+/// A table has at most so many leaps.
 const MOST: usize = 4;
 
-/// Of a thousand bytes of most texts, this many lead away at most if a leap is known.
+/// Of a thousand bytes of most texts, at most so many may leave the rows of a leap.
 const LEAVING: usize = 60;
 
-/// Two rows among which a run stays over most bytes of most texts.
+/// Two rows among which a run stays for most bytes of most texts.
 #[derive(Clone, Copy)]
 pub struct Leap {
     /// A row.
     pub row: usize,
-    /// Another one, or the same again.
+    /// Another row, or the same one.
     pub other: usize,
-    /// For each byte whether it is known to lead from both rows to the same one of the two, if
-    /// nothing is found.
+    /// For each byte, whether it is known to lead from both rows to the same one of the two,
+    /// without a match.
     pub stays: [bool; 256],
-    /// Whether a search may rest at the row.
+    /// Whether a search may rest at `row`.
     pub rests: bool,
-    /// Whether it may rest at the other.
+    /// Whether a search may rest at `other`.
     pub other_rests: bool,
 }
 
-/// The row to which a byte leads, if it goes on from there and nothing is met.
+/// Returns the row to which a byte leads, if that isn't dead and no match is found on the way.
 fn row_behind(classes: &[u8], cells: &[usize], row: usize, byte: usize) -> Option<usize>
     requires { row < met }
     ensures small { IfSome result (λ behind. behind < met) }
@@ -51,7 +51,7 @@ fn row_behind(classes: &[u8], cells: &[usize], row: usize, byte: usize) -> Optio
     Some(row_of(*cell))
 }
 
-/// Whether the byte leads from both rows to the same one of the two, and nothing is found.
+/// Whether the byte leads from both rows to the same one of the two, without a match.
 fn stays_among(classes: &[u8], cells: &[usize], row: usize, other: usize, byte: usize) -> bool
     requires row { row < met }
     requires other { other < met }
@@ -66,8 +66,7 @@ fn stays_among(classes: &[u8], cells: &[usize], row: usize, other: usize, byte: 
     behind == beside && (behind == row || behind == other)
 }
 
-/// Whether the byte isn't read in the row: a search ends there, so it is no matter how it comes
-/// there.
+/// Whether the byte may not be read in the row. It ends a search, so it doesn't count as leaving.
 fn quits(classes: &[u8], cells: &[usize], row: usize, byte: usize) -> bool
     requires { row < met }
 {
@@ -80,8 +79,8 @@ fn quits(classes: &[u8], cells: &[usize], row: usize, byte: usize) -> bool
     *cell == QUIT
 }
 
-/// How many of a thousand bytes of most texts lead away from the two rows, about. If it is more
-/// than `LEAVING`, it may be more still.
+/// Returns about how many of a thousand bytes of most texts leave the two rows. A result above
+/// `LEAVING` may be too small, since the count stops there.
 fn leaving(classes: &[u8], cells: &[usize], row: usize, other: usize) -> usize
     requires row { row < met }
     requires other { other < met }
@@ -100,8 +99,7 @@ fn leaving(classes: &[u8], cells: &[usize], row: usize, other: usize) -> usize
     sum
 }
 
-/// Another row, to which the most common byte leads that leads away from the row; or the row
-/// itself.
+/// Returns the row to which the most common byte leads that leaves the row, or else the row itself.
 fn likely(classes: &[u8], cells: &[usize], row: usize) -> usize
     requires { row < met }
     ensures { result < met }
@@ -116,7 +114,7 @@ fn likely(classes: &[u8], cells: &[usize], row: usize) -> usize
     row
 }
 
-/// What is known of two rows.
+/// Builds the leap of two rows.
 fn among(classes: &[u8], cells: &[usize], row: usize, other: usize) -> Leap
     requires row { row < met }
     requires other { other < met }
@@ -137,7 +135,7 @@ fn among(classes: &[u8], cells: &[usize], row: usize, other: usize) -> Leap
     }
 }
 
-/// What is known of a row, if few bytes of most texts lead away from it, or from it and another.
+/// Builds the leap of a row, if few bytes of most texts leave it, or leave it and another.
 fn leap_of(classes: &[u8], cells: &[usize], row: usize) -> Option<Leap>
     requires { row < met }
     ensures { IfSome result (λ leap. AreStays dead classes.now cells.now leap.row leap.other leap.stays) }
@@ -154,7 +152,7 @@ fn leap_of(classes: &[u8], cells: &[usize], row: usize) -> Option<Leap>
     None
 }
 
-/// Whether something is known of the row.
+/// Whether a leap has the row.
 fn is_in(leaps: &[Leap], row: usize) -> bool {
     for leap in leaps {
         if leap.row == row || leap.other == row {
@@ -164,8 +162,7 @@ fn is_in(leaps: &[Leap], row: usize) -> bool {
     false
 }
 
-/// What is known of a row with these exits, unless they are few, or something is known of it
-/// already.
+/// Builds the leap of a row, unless its exits are few or a leap has the row already.
 fn wanted(classes: &[u8], cells: &[usize], exits: Exits, leaps: &[Leap], row: usize) -> Option<Leap>
     requires { row < met }
     ensures { IfSome result (λ leap. AreStays dead classes.now cells.now leap.row leap.other leap.stays) }
@@ -186,7 +183,7 @@ fn may_rest_at(idles: &[bool], row: usize, width: usize) -> bool
     }
 }
 
-/// The same, with the rows at which a search may rest.
+/// Sets in a leap whether searches may rest at its rows.
 fn resting(mut leap: Leap, idles: &[bool], width: usize) -> Leap
     requires { 0 < width }
     ensures { (result.row ≡ leap.row) × (result.other ≡ leap.other) × (result.stays ≡ leap.stays) }
@@ -196,7 +193,8 @@ fn resting(mut leap: Leap, idles: &[bool], width: usize) -> Leap
     leap
 }
 
-/// What is known of some rows, of which these are the exits. Rows with few exits are left out.
+/// Builds the leaps of a table, at most `MOST`. Rows with few exits have none. `Err` means out of
+/// memory.
 pub(crate) fn leaps_of(
     alloc: Global,
     classes: &[u8],
@@ -223,7 +221,7 @@ pub(crate) fn leaps_of(
     Ok(leaps)
 }
 
-/// Whether something is known of the row of this number.
+/// Whether a leap has the row of this number.
 pub(crate) fn is_told(leaps: &[Leap], number: usize, width: usize) -> bool
     requires { 0 < width }
 {
@@ -235,7 +233,7 @@ pub(crate) fn is_told(leaps: &[Leap], number: usize, width: usize) -> bool
     false
 }
 
-/// Whether the byte of a piece at an index stays.
+/// Whether the byte at an index of a piece stays among the rows.
 #[inline(always)]
 fn stays_at(stays: &[bool; 256], piece: &[u8], index: usize) -> bool
     requires { index < length piece.now }
@@ -244,8 +242,8 @@ fn stays_at(stays: &[bool; 256], piece: &[u8], index: usize) -> bool
     stays[piece[index] as usize]
 }
 
-/// The first place of a piece, from an index on before which all bytes stay, at which a byte
-/// doesn't, or the piece's length.
+/// Returns the index, `from` or greater, of the first byte that may leave the rows, or the piece's
+/// length. All bytes before `from` stay.
 #[inline(always)]
 fn rest(stays: &[bool; 256], piece: &[u8], from: usize) -> usize
     requires from { from ≤ length piece.now }
@@ -260,7 +258,7 @@ fn rest(stays: &[bool; 256], piece: &[u8], from: usize) -> usize
     index
 }
 
-/// The first place of a piece at which a byte doesn't stay, or the piece's length.
+/// Returns the index of the first byte that may leave the rows, or the piece's length.
 #[inline(always)]
 pub(crate) fn first_leaving(stays: &[bool; 256], piece: &[u8]) -> usize
     ensures within { result ≤ length piece.now }
@@ -285,9 +283,9 @@ pub(crate) fn first_leaving(stays: &[bool; 256], piece: &[u8]) -> usize
     rest(stays, piece, index)
 }
 
-/// Where a leap ends at most that begins at an index of a piece, of this many bytes: the piece's
-/// length, or the position `looks` if a search may rest at one of the two rows. From there on a
-/// byte at a time is read; None if the search may rest where it is.
+/// Returns the index at which a leap from the index `from` of a piece ends at most. That is the
+/// piece's length; if a search may rest at one of the rows, it is at most the position `looks`.
+/// Behind `looks`, bytes are read one at a time. Returns None if the search may rest at its row.
 #[inline(always)]
 pub(crate) fn leap_end(
     leap: &Leap,

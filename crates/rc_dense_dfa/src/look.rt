@@ -10,7 +10,7 @@ use crate::exits::Exits;
 use crate::leaps::Leap;
 use crate::table::{DEAD, MET, SKIP, Table};
 
-/// The row that a cell names.
+/// Returns the row to which a cell leads, without its marks.
 #[inline(always)]
 pub(crate) fn row_of(cell: usize) -> usize
     ensures { result ≡ row_of cell }
@@ -18,7 +18,7 @@ pub(crate) fn row_of(cell: usize) -> usize
     cell % SKIP
 }
 
-/// Whether nothing goes on from the row that a cell names.
+/// Whether the row to which a cell leads is dead.
 #[inline(always)]
 pub(crate) fn has_died(cell: usize) -> bool
     ensures { result ≡ has_died cell }
@@ -26,7 +26,7 @@ pub(crate) fn has_died(cell: usize) -> bool
     cell % MET >= DEAD
 }
 
-/// The cell of a row to which a byte leads.
+/// Returns the cell of a row and a byte.
 #[inline(always)]
 pub(crate) fn cell_of(table: &Table, row: usize, byte: u8) -> usize
     requires { InRow table.now row }
@@ -36,8 +36,8 @@ pub(crate) fn cell_of(table: &Table, row: usize, byte: u8) -> usize
     table.cells[row + table.classes[byte as usize] as usize]
 }
 
-/// What is noted once a cell was read at the position: that row, if something was found on the way
-/// to it.
+/// Returns the note of a run behind a cell: its row and the position if the cell has `MET`, else
+/// the earlier note.
 #[inline(always)]
 pub(crate) fn noted_by(
     cell: usize,
@@ -63,7 +63,7 @@ pub(crate) fn is_idle(table: &Table, row: usize) -> bool
     }
 }
 
-/// The exits of the row.
+/// Returns the exits of the row.
 #[inline(always)]
 pub(crate) fn exits_at(table: &Table, row: usize) -> Exits
     ensures { result ≡ slice_index_or table.now.exits.items (row / table.now.width) Many }
@@ -74,7 +74,7 @@ pub(crate) fn exits_at(table: &Table, row: usize) -> Exits
     }
 }
 
-/// The leap of the row, if one is known.
+/// Returns the leap that has the row, if there is one.
 #[inline(always)]
 pub(crate) fn leap_at(table: &Table, row: usize) -> Option<&Leap>
     ensures here { IfSome result (λ leap. (row ≡ leap.now.row) ⊎ (row ≡ leap.now.other)) }
@@ -88,7 +88,7 @@ pub(crate) fn leap_at(table: &Table, row: usize) -> Option<&Leap>
     None
 }
 
-/// The code of the row in a list of codes, or 0 if it has none.
+/// Returns the code of the row in a list of codes, or 0 if it has none.
 #[inline(always)]
 fn code_of(codes: &[usize], row: usize, width: usize) -> usize
     requires { 0 < width }
@@ -100,7 +100,7 @@ fn code_of(codes: &[usize], row: usize, width: usize) -> usize
     }
 }
 
-/// What was found, by its code, with the position; or the other if the code is 0.
+/// Decodes what was found, with the position. Returns the other if the code is 0.
 #[inline(always)]
 pub(crate) fn met_by(
     code: usize,
@@ -115,7 +115,7 @@ pub(crate) fn met_by(
     other
 }
 
-/// What was found last, with its position, by what is noted.
+/// Returns what was found last, with its position, by a run's note.
 #[inline(always)]
 pub(crate) fn told(table: &Table, noted: Option<(usize, usize)>) -> Option<(usize, usize)>
     ensures { result ≡ told table.now noted }
@@ -126,7 +126,8 @@ pub(crate) fn told(table: &Table, noted: Option<(usize, usize)>) -> Option<(usiz
     }
 }
 
-/// What is found at the end of what a search sees, from this row on, and else what was found last.
+/// Returns what is found at the end of what the search sees, from this row, or else what was found
+/// last.
 #[inline(always)]
 pub(crate) fn met_at_end(
     table: &Table,
@@ -143,7 +144,7 @@ pub(crate) fn met_at_end(
     )
 }
 
-/// The position first.
+/// Swaps the two, so that the position comes first.
 #[inline(always)]
 pub(crate) fn swapped(found: Option<(usize, usize)>) -> Option<(usize, usize)>
     ensures { result ≡ swapped found }

@@ -18,7 +18,7 @@ use rc_dfa::automaton::{Automaton, Direction};
 use rc_text::types::Anchored;
 use std::alloc::AllocError;
 
-/// What makes a table.
+/// The state of a construction.
 #[derive(Drop)]
 pub(crate) struct Maker {
     pub names: Names,
@@ -28,7 +28,7 @@ pub(crate) struct Maker {
 }
 
 impl Maker {
-    /// Makes the state to which a byte leads from the state of the number, or the end.
+    /// Makes the state to which a byte leads from the state of the number; None is the end.
     pub(crate) fn lead(
         &mut self,
         automaton: &Automaton,
@@ -46,7 +46,7 @@ impl Maker {
         automaton.step(direction, &mut self.scratch, from, beside, &mut self.to)
     }
 
-    /// The cell of a state, by its number, and of a byte.
+    /// Returns the cell of a state, by its number, and a byte.
     pub(crate) fn cell(
         &mut self,
         automaton: &Automaton,
@@ -72,7 +72,7 @@ impl Maker {
         Ok(name)
     }
 
-    /// The cell of a way of anchoring and of what is beside where a search begins.
+    /// Returns the start cell for a kind of anchoring and the byte beside, or an end.
     pub(crate) fn start(
         &mut self,
         automaton: &Automaton,
@@ -98,7 +98,7 @@ impl Maker {
         Ok(name)
     }
 
-    /// Adds the cells of the row of the number, one for each class.
+    /// Appends the cells of the row of the number, one for each class.
     pub(crate) fn row(
         &mut self,
         automaton: &Automaton,
@@ -124,7 +124,7 @@ impl Maker {
         Ok(())
     }
 
-    /// Adds the starts of a way of anchoring, one for each class of the byte beside.
+    /// Appends the start cells for a kind of anchoring, one for each class of the byte beside.
     pub(crate) fn starts_by(
         &mut self,
         automaton: &Automaton,
@@ -150,7 +150,7 @@ impl Maker {
         Ok(())
     }
 
-    /// Adds the start of a way of anchoring if nothing is beside it.
+    /// Appends the start cell for a kind of anchoring with no byte beside.
     pub(crate) fn start_at_end(
         &mut self,
         automaton: &Automaton,

@@ -6,7 +6,7 @@ ghost use Rattle.rc_dense_dfa.specs.Cells.{AreMarked, IsMarkedAs};
 use crate::look::row_of;
 use crate::table::{QUIT, SKIP};
 
-/// The cell, with the mark if its row has the hint.
+/// Returns the cell, with the mark `SKIP` if its row has the hint.
 fn marked(cell: usize, width: usize, hints: &[bool]) -> usize
     requires { 0 < width }
     ensures { IsMarkedAs cell result }
@@ -24,7 +24,7 @@ fn marked(cell: usize, width: usize, hints: &[bool]) -> usize
     }
 }
 
-/// Marks the cells that name rows with hints: one for each row.
+/// Marks each cell whose row has a hint; there is one hint a row.
 pub(crate) fn mark(cells: &mut Vec<usize>, width: usize, hints: &[bool])
     requires { 0 < width }
     ensures { AreMarked cells.old.items cells.new.items }

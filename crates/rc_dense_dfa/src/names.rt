@@ -14,20 +14,20 @@ use rc_determinize::state::State;
 use rc_dfa::states::States;
 use std::alloc::{AllocError, Global};
 
-/// The states of a table under way. Each has a row, and the rows are one behind another.
+/// The states of a table that is being built. Each has a row, and rows come one behind another.
 #[derive(Drop)]
 pub(crate) struct Names {
     pub states: States,
     /// How many cells a row has.
     pub width: usize,
-    /// What the states may weigh, in bytes.
+    /// How many bytes the states may weigh.
     pub limit: Option<usize>,
-    /// What they weigh, if there is a limit.
+    /// How many bytes they weigh. This is counted only if there is a limit.
     pub weight: u128,
 }
 
-/// The weight, with what comes to it; None if that is more than the limit. Without a limit it is as
-/// before.
+/// Returns the weight in bytes with what comes to it, or None if that is more than the limit.
+/// Without a limit the weight stays.
 fn weigh(weight: u128, more: u128, limit: Option<usize>) -> Option<u128>
     requires weight { weight ≤ 18446744073709551616 }
     requires more { more < 2361183241434822606848 }
@@ -43,7 +43,7 @@ fn weigh(weight: u128, more: u128, limit: Option<usize>) -> Option<u128>
     Some(weight)
 }
 
-/// What nothing goes on from.
+/// The state from which nothing goes on.
 pub(crate) fn dead(alloc: Global) -> State
     ensures { state_of result ≡ dead_state }
 {
@@ -61,7 +61,7 @@ pub(crate) fn dead(alloc: Global) -> State
     }
 }
 
-/// The marks of a state's name.
+/// Returns the marks of a state's name.
 fn marks(state: &State) -> usize
     ensures { result ≡ marks (state_of state.now) }
 {
@@ -75,8 +75,8 @@ fn marks(state: &State) -> usize
 }
 
 impl Names {
-    /// The number of the state. It is added if it isn't there. The error `TooBig` comes if the
-    /// state is a new one, and what holds all weighs more than the limit.
+    /// Returns the number of the state, and adds it if it is new. The error is `TooBig` if a new
+    /// state makes all weigh more than the limit, and `Memory` if out of memory.
     fn number(&mut self, state: &State) -> Result<usize, TableError>
         ghost m: { Machine }
         requires named { AreNamed m self.old }
@@ -104,8 +104,9 @@ impl Names {
         Ok(number)
     }
 
-    /// The name of the state's row. The state is added if it isn't there. The error `TooBig` comes
-    /// if it is a new one, and what holds all weighs more than the limit.
+    /// Returns the name of the state's row with its marks, and adds the state if it is new. The
+    /// error is `TooBig` if a new state makes all weigh more than the limit, and `Memory` if out of
+    /// memory.
     pub(crate) fn name(&mut self, state: &State) -> Result<usize, TableError>
         ghost m: { Machine }
         requires named { AreNamed m self.old }
@@ -120,7 +121,8 @@ impl Names {
         Ok(number * self.width + marks(state))
     }
 
-    /// No states yet, for rows of this many cells and a table of `starts` starts.
+    /// No states yet, for rows of `width` cells and a table of `starts` start cells. The error is
+    /// `TooBig` if these alone weigh more than the limit.
     pub(crate) fn new(
         alloc: Global,
         width: usize,

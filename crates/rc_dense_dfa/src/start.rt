@@ -6,7 +6,7 @@ ghost use Rattle.rc_dense_dfa.specs.Tables.{column, mode_of, start_at};
 use crate::table::{QUIT, Table};
 use rc_text::types::Anchored;
 
-/// The number of a way of anchoring.
+/// Returns the number of a kind of anchoring.
 #[inline(always)]
 fn mode(anchored: Anchored) -> usize
     ensures value { result ≡ mode_of anchored }
@@ -19,7 +19,7 @@ fn mode(anchored: Anchored) -> usize
     }
 }
 
-/// The column of the byte beside, or of the end.
+/// Returns the column of the byte beside, or of an end.
 #[inline(always)]
 fn column(table: &Table, beside: Option<u8>) -> usize
     ensures value { result ≡ column table.now beside }
@@ -31,7 +31,7 @@ fn column(table: &Table, beside: Option<u8>) -> usize
     }
 }
 
-/// The cell at an index, or `QUIT` if there is none.
+/// Returns the cell at an index, or `QUIT` if there is none.
 #[inline(always)]
 fn cell_at(cells: &[usize], index: usize) -> usize
     ensures { result ≡ slice_index_or cells.now index QUIT }
@@ -42,8 +42,8 @@ fn cell_at(cells: &[usize], index: usize) -> usize
     }
 }
 
-/// The name of the row in which a search begins if this byte is beside it, or none. `QUIT` if the
-/// byte isn't read, or the table has no such row.
+/// Returns the start cell for a kind of anchoring and the byte beside, or an end. Returns `QUIT` if
+/// that byte may not be read, or the table has no such start.
 #[inline(always)]
 pub(crate) fn start(table: &Table, anchored: Anchored, beside: Option<u8>) -> usize
     ensures value { result ≡ start_at table.now (mode_of anchored * (table.now.width + 1) + column table.now beside) }

@@ -7,35 +7,35 @@ ghost use Rattle.rc_dense_dfa.specs.declared.exits.Exits.TheVariants.{Many};
 use crate::exits::Exits;
 use crate::leaps::Leap;
 
-/// A table of states, in one direction. Each state has a row of cells, one for each class of bytes.
-/// A row is named by the index of its first cell, and a cell names the row to which a byte leads;
-/// if that row needs a look, `MET`, `DEAD` or `SKIP` or more of them are added to its name.
+/// A table of states, in one direction. Each state has a row of cells, one for each byte class. A
+/// row is named by the index of its first cell. A cell is the name of the row to which a byte
+/// leads. If that row needs a look, `MET`, `DEAD` or `SKIP`, or more of them, are added to it.
 #[derive(Drop)]
 pub struct Table {
     /// The class of each byte.
     pub classes: Vec<u8>,
-    /// How many classes there are: this many cells has a row.
+    /// How many classes there are, and so how many cells a row has.
     pub width: usize,
     /// The rows, one behind another. Each cell names a row, or is `QUIT`.
     pub cells: Vec<usize>,
-    /// For each row what is found at the end of what a search sees: 0 for nothing, else one more
-    /// than that.
+    /// For each row, the code of what is found at the end of what the search sees: 0 for nothing,
+    /// else one more.
     pub ends: Vec<usize>,
-    /// For each row what was found on the way to it, in the same way.
+    /// For each row, the code of what was found on the way to it: 0 for nothing, else one more.
     pub tells: Vec<usize>,
-    /// For each row whether nothing is under way in its state but walks that begin there or later.
+    /// For each row, whether nothing is under way in its state but walks that begin there or later.
     pub idles: Vec<bool>,
-    /// For each row the bytes that lead away from it, if searches pass over the others; none are
-    /// known if they read each byte.
+    /// For each row, its exits, so that a search skips all other bytes. Reverse searches read each
+    /// byte, so their table has none.
     pub exits: Vec<Exits>,
-    /// Whether some row has few exits. If none has, and a search may not rest, it heeds no mark
-    /// `SKIP`.
+    /// Whether some row has few exits. If none has, a search that may not rest ignores `SKIP` at
+    /// rows without a leap.
     pub skips: bool,
-    /// What is known of some rows among which a run stays over most bytes, so that it may leap over
-    /// them; nothing is known if searches read each byte.
+    /// The leaps: rows among which a run stays for most bytes, so that it leaps over them. Reverse
+    /// searches have none.
     pub leaps: Vec<Leap>,
-    /// The rows in which searches begin: for each way of anchoring, the class of the byte beside
-    /// and the end of what is seen.
+    /// The start cells: for each kind of anchoring, one for each class of the byte beside, and one
+    /// for an end.
     pub starts: Vec<usize>,
     ghost classed: { (length classes.items ≡ 256) × All (λ c. c < width) classes.items },
     ghost inside: { All (IsNamed width (length cells.items)) cells.items × All (IsNamed width (length cells.items)) starts.items },

@@ -1,4 +1,5 @@
--- States of a search backwards: the places that reach the end, and the step from one position to the one before.
+-- Reverse determinization: states of a search backwards, as the places that reach the end, and the
+-- step from one position to the one before.
 use Rattle.std.specs.Prelude.{◌≡◌, ℕ, zero, suc, ◌<◌, ◌≤◌, ◌↔◌, false, List, [], ◌∷◌, Option, Some, None, IsTrue}
 use Rattle.rc_pattern.specs.declared.hir.Look.{Look}
 use Rattle.rc_program.specs.Text.{Text, after_at}
@@ -9,24 +10,24 @@ use Rattle.rc_determinize.specs.Sides.{holds_by, told, byte_of, IsReadable}
 use Rattle.rc_determinize.specs.Run.{IsBackState, IsGoal, Reaches}
 use Rattle.rc_determinize.specs.States.{Setting, State, Stops, is_match}
 
--- ways that read nothing lead from the place to one of the list
+-- Ways that read nothing lead from the place to one of the list.
 pub data LeadsBy (out : ℕ → List Way) (list : List ℕ) : ℕ → Type 0 where
   listed : (q : ℕ) → HasPlace q list → LeadsBy out list q
   leads : (q p : ℕ) → HasWay (stays p) (out q) → LeadsBy out list p → LeadsBy out list q
 
--- the ways that read nothing, where this is told of both sides
+-- The ways that read nothing, by the facts about both sides.
 abbrev pub still_out : List Place → Seen → Seen → ℕ → List Way
 still_out places behind ahead q = ways_out (holds_by behind ahead) [] (place_at places q)
 
--- ways that read nothing lead to the state, where this byte stands before, or none
+-- Ways that read nothing lead to the state, if this byte comes before, or none.
 abbrev pub LeadsHere : Setting → State → Option ℕ → ℕ → Type 0
 LeadsHere g s before = LeadsBy (still_out g.places (told g.needs g.terminator before) s.beside) s.list
 
--- a way over the byte leads from the one place to the other
+-- A way over the byte leads from the first place to the second.
 abbrev pub ReadsTo : List Place → ℕ → ℕ → ℕ → Type 0
 ReadsTo places b q p = HasWay (reads 1 p) (out_by places (λ (l : Look). false) (Some b) q)
 
--- the number of the first of the roots of which it holds
+-- The number of the first of the roots of which it holds.
 abbrev pub IsFirstRoot : (ℕ → Type 0) → List ℕ → Option ℕ → Type 0
 IsFirstRoot Holds [] None = Unit {0}
 IsFirstRoot Holds [] (Some k) = ⊥
@@ -34,8 +35,9 @@ IsFirstRoot Holds (root ∷ roots) None = (¬ Holds root) × IsFirstRoot Holds r
 IsFirstRoot Holds (root ∷ roots) (Some zero) = Holds root
 IsFirstRoot Holds (root ∷ roots) (Some (suc k)) = (¬ Holds root) × IsFirstRoot Holds roots (Some k)
 
--- The state to which the byte before leads, or the beginning: the places that reach the state over that byte, whether one of the roots
--- reached it before that byte, and which is the first.
+-- The state to which the byte before leads, or the beginning. It lists the places that reach the
+-- state over that byte. Its `stop` is the first of the roots that reached the state before that
+-- byte, if one did.
 pub record IsPrior (g : Setting) (roots : List ℕ) (s : State) (before : Option ℕ) (t : State) : Type 0 where
   pub list : (q : ℕ) → HasPlace q t.list ↔ ((b : ℕ) × (before ≡ Some b) × (p : ℕ) × ReadsTo g.places b q p × LeadsHere g s before p)
   pub rising : IsRising t.list
@@ -43,7 +45,7 @@ pub record IsPrior (g : Setting) (roots : List ℕ) (s : State) (before : Option
   pub goes_on : t.goes_on ≡ false
   pub beside : t.beside ≡ told g.needs g.terminator before
 
--- the state at the end: the match places
+-- The state at the end: the match places.
 pub record IsLast (g : Setting) (after : Option ℕ) (s : State) : Type 0 where
   pub list : (q : ℕ) → HasPlace q s.list ↔ IsTrue (is_match g.places q)
   pub rising : IsRising s.list
@@ -57,18 +59,19 @@ pub record IsComing (g : Setting) (t : Text) (hi end i : ℕ) (s : State) : Type
   pub beside : s.beside ≡ told g.needs t.terminator (byte_of (after_at t i))
   pub readable : IsReadable g.needs (byte_of (after_at t i))
 
--- a walk leads from the root at i to a match place at `end`
+-- A walk leads from the root at i to a match place at `end`.
 abbrev pub ReachesEnd : Setting → Text → ℕ → ℕ → ℕ → ℕ → Type 0
 ReachesEnd g t hi end i root = Reaches (ways g.places t hi) (IsGoal (Stops g.places) end) (root, i)
 
--- The least position so far, on the way down from `end` to `i`, at which some root reaches the end, and the first root that does.
+-- The least position so far, on the way down from `end` to `i`, at which some root reaches the end,
+-- and the first root that does.
 abbrev pub IsLeastSoFar : Setting → Text → ℕ → ℕ → List ℕ → ℕ → Option (ℕ × ℕ) → Type 0
 IsLeastSoFar g t hi end roots i None = (y : ℕ) → i ≤ y → y ≤ end → IsFirstRoot (ReachesEnd g t hi end y) roots None
 IsLeastSoFar g t hi end roots i (Some m) =
     (i ≤ m.0) × (m.0 ≤ end) × IsFirstRoot (ReachesEnd g t hi end m.0) roots (Some m.1)
     × ((y : ℕ) → i ≤ y → y < m.0 → IsFirstRoot (ReachesEnd g t hi end y) roots None)
 
--- the one found here, or else the one found before
+-- The one found here, or else the one found before.
 abbrev pub least_at : ℕ → Option ℕ → Option (ℕ × ℕ) → Option (ℕ × ℕ)
 least_at i None least = least
 least_at i (Some k) least = Some (i, k)

@@ -1,4 +1,4 @@
--- Classes of bytes: between which bytes a program can tell.
+-- Byte classes: which bytes a program can tell apart.
 use Rattle.std.specs.Prelude.{◌≡◌, ℕ, ◌+◌, ◌<◌, Bool, false, ◌&&◌, ◌||◌, List, [], ◌∷◌, length, Some, nat_le, nat_eq, slice_index, if◌then◌else◌}
 use Rattle.std.specs.List.{list_any}
 use Rattle.rc_pattern.specs.Re.{Range}
@@ -12,43 +12,44 @@ use Rattle.rc_determinize.specs.Steps.{IsByBytes}
 abbrev pub is_within : Range → ℕ → Bool
 is_within r b = nat_le r.0 b && nat_le b r.1
 
--- the range has one of the byte and the next, and not the other
+-- The range contains one of the byte and the next, but not both.
 abbrev pub parts : ℕ → Range → Bool
 parts b r = differ (is_within r b) (is_within r (b + 1))
 
--- some range of the places does
+-- Some range of the places does.
 abbrev pub are_parted : List Place → ℕ → Bool
 are_parted [] b = false
 are_parted (q ∷ qs) b = list_any (parts b) (ranges_of q) || are_parted qs b
 
--- not the same is told
+-- The facts about the two are different.
 abbrev pub is_other : Seen → Seen → Bool
 is_other x y =
     differ x.edge y.edge || (differ x.terminator y.terminator || (differ x.line_feed y.line_feed
     || (differ x.carriage_return y.carriage_return || differ x.word y.word)))
 
--- Some place or some assertion of the program may tell the byte and the next apart, or the one is read and the other not.
+-- Some place or some assertion of the program may tell the byte and the next apart, or only one of
+-- the two may be read.
 abbrev pub is_border : List Place → Needs → ℕ → ℕ → Bool
 is_border places needs terminator b =
     are_parted places b || is_other (told needs terminator (Some b)) (told needs terminator (Some (b + 1))) || (needs.unicode && nat_eq b 127)
 
--- The class of each byte, where a class ends only where a border stands.
+-- The class of each byte; a class ends only at a border.
 pub record AreClasses (places : List Place) (needs : Needs) (terminator : ℕ) (classes : List ℕ) : Type 0 where
   pub size : length classes ≡ 256
   pub first : slice_index classes 0 ≡ 0
   pub next : (b : ℕ) → b < 255 → slice_index classes (b + 1) ≡ (if is_border places needs terminator b then slice_index classes b + 1 else slice_index classes b)
 
--- each byte is a class of its own
+-- Each byte is a class of its own.
 pub record AreSingle (classes : List ℕ) : Type 0 where
   pub size : length classes ≡ 256
   pub own : (b : ℕ) → b < 256 → slice_index classes b ≡ b
 
--- bytes of the same class are alike
+-- Bytes of the same class are alike.
 abbrev pub TellsAlike : List Place → Needs → ℕ → List ℕ → Type 0
 TellsAlike places needs terminator classes =
     (b c : ℕ) → b < 256 → c < 256 → slice_index classes b ≡ slice_index classes c → AreAlike places needs terminator b c
 
--- what holds of classes of bytes
+-- What holds of byte classes.
 pub record ClassLaw : Type 0 where
   pub alike : (places : List Place) (needs : Needs) (terminator : ℕ) (classes : List ℕ) → IsByBytes places →
       AreClasses places needs terminator classes → TellsAlike places needs terminator classes

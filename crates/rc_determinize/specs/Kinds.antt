@@ -1,4 +1,4 @@
--- The step of each kind of match. Tables, caches and loops speak of this one alone.
+-- Determinization: the step of each kind of match. Both DFAs know only this one.
 use Rattle.std.specs.Prelude.{◌≡◌, ℕ, ◌+◌, ◌*◌, ◌<◌, ◌≤◌, List, length, Option, Some}
 use Rattle.rc_text.specs.declared.types.MatchKind.{MatchKind}
 use Rattle.rc_text.specs.declared.types.MatchKind.TheVariants.{All as all_matches, LeftmostFirst as leftmost_first, LeftmostLongest as leftmost_longest}
@@ -34,7 +34,7 @@ IsListOf leftmost_first places list = AreOnce list × AreBelow places list
 IsListOf all_matches places list = AreOnce list × AreBelow places list
 IsListOf leftmost_longest places list = IsMarkedList places list
 
--- what holds of the steps of each kind
+-- What holds of the steps of each kind.
 pub record KindLaw : Type 0 where
   -- one byte stands for each that is alike
   pub alike : (kind : MatchKind) (g : Setting) (root b c : ℕ) (s t : State) → AreAlike g.places g.needs g.terminator b c →

@@ -1,4 +1,4 @@
--- The laws of states and steps.
+-- Laws of states and steps.
 use Rattle.std.specs.Prelude.{◌≡◌, ℕ, ◌+◌, ◌<◌, ◌≤◌, Bool, true, false, not, ◌||◌, List, [], ◌∷◌, length, Option, Some, None, ◌⊎◌, ◌↔◌}
 use Rattle.rc_text.specs.Text.{is_boundary}
 use Rattle.rc_walks.specs.Walks.{Pair, EndsAt}
@@ -14,50 +14,50 @@ use Rattle.rc_determinize.specs.Gives.{starts}
 use Rattle.rc_determinize.specs.Sets.{Comes, IsNextOfAll, IsLeastMatch, IsGathering}
 use Rattle.rc_determinize.specs.Backward.{IsPrior, IsLast, IsComing, IsFirstRoot, ReachesEnd, IsLeastSoFar, least_at}
 
--- forwards
+-- Forwards.
 pub record ForwardLaw : Type 0 where
-  -- before the first byte
+  -- Before the first byte.
   pub begins : (g : Setting) (t : Text) (hi root lo : ℕ) (anchored : Bool) (s : State) → IsSetting g → g.terminator ≡ t.terminator →
       IsReadable g.needs (byte_of (before_at t lo)) → IsFirst g root (byte_of (before_at t lo)) anchored s →
       IsUnderWay g t hi root (all_starts anchored root lo hi) lo s None
-  -- over one byte
+  -- Over one byte.
   pub goes : (g : Setting) (t : Text) (hi root : ℕ) (origin : List Pair) (i : ℕ) (s s2 : State) (best : Option Pair) → IsSetting g →
       g.terminator ≡ t.terminator → i < hi → IsInside t i hi → IsUnderWay g t hi root origin i s best →
       IsReadable g.needs (byte_of (after_at t i)) → IsNext g root s (byte_of (after_at t i)) s2 →
       IsUnderWay g t hi root origin (i + 1) s2 (best_at i s2.stop best)
-  -- at the bound
+  -- At the bound.
   pub ends : (g : Setting) (t : Text) (hi root : ℕ) (origin : List Pair) (s s2 : State) (best : Option Pair) → IsSetting g →
       g.terminator ≡ t.terminator → IsUnderWay g t hi root origin hi s best →
       IsReadable g.needs (byte_of (after_at t hi)) → IsNext g root s (byte_of (after_at t hi)) s2 →
       Gives (ways g.places t hi) (Stops g.places) [] origin (best_at hi s2.stop best)
-  -- or before, where nothing goes on
+  -- Or earlier, if nothing goes on.
   pub dies : (g : Setting) (t : Text) (hi root : ℕ) (origin : List Pair) (i : ℕ) (s : State) (best : Option Pair) → IsSetting g →
       g.terminator ≡ t.terminator → IsUnderWay g t hi root origin i s best → s.list ≡ [] → s.goes_on ≡ false →
       Gives (ways g.places t hi) (Stops g.places) [] origin best
 
--- backwards
+-- Backwards.
 pub record BackwardLaw : Type 0 where
   pub comes : (g : Setting) (t : Text) (hi end : ℕ) (s : State) → IsSetting g → g.terminator ≡ t.terminator → end ≤ hi →
       IsReadable g.needs (byte_of (after_at t end)) → IsLast g (byte_of (after_at t end)) s → IsComing g t hi end end s
-  -- which root reaches the end from here
+  -- Which root reaches the end from here.
   pub tells : (g : Setting) (t : Text) (hi end i : ℕ) (roots : List ℕ) (s s2 : State) → IsSetting g → g.terminator ≡ t.terminator → end ≤ hi → i ≤ hi →
       IsInside t i hi → IsComing g t hi end i s → IsReadable g.needs (byte_of (before_at t i)) → IsPrior g roots s (byte_of (before_at t i)) s2 →
       IsFirstRoot (ReachesEnd g t hi end i) roots s2.stop
-  -- over one byte
+  -- Over one byte.
   pub descends : (g : Setting) (t : Text) (hi end i : ℕ) (roots : List ℕ) (s s2 : State) → IsSetting g → g.terminator ≡ t.terminator → end ≤ hi → i < end →
       IsInside t i hi → IsComing g t hi end (i + 1) s → IsReadable g.needs (byte_of (before_at t (i + 1))) →
       IsPrior g roots s (byte_of (before_at t (i + 1))) s2 → IsComing g t hi end i s2
-  -- where nothing reaches the end any more, no root does before
+  -- If nothing reaches the end any more, no earlier root does.
   pub dies : (g : Setting) (t : Text) (hi end i y root : ℕ) (s : State) → IsSetting g → IsComing g t hi end i s → s.list ≡ [] → i ≤ end → y < i →
       ¬ ReachesEnd g t hi end y root
-  -- one byte stands for each that is alike
+  -- A byte stands for all bytes that are alike.
   pub alike : (g : Setting) (roots : List ℕ) (b c : ℕ) (s s2 : State) → AreAlike g.places g.needs g.terminator b c → IsPrior g roots s (Some b) s2 →
       IsPrior g roots s (Some c) s2
-  -- a state has places of the program, each once, so it is no longer than the program
+  -- A state has places of the program, each once, so it is no longer than the program.
   pub inside : (g : Setting) (roots : List ℕ) (s s2 : State) (before : Option ℕ) → IsPrior g roots s before s2 →
       AreOnce s2.list × AreBelow (length g.places) s2.list
   pub short : (g : Setting) (roots : List ℕ) (s s2 : State) (before : Option ℕ) → IsPrior g roots s before s2 → length s2.list ≤ length g.places
-  -- what is met on the way down is the least so far
+  -- What is found on the way down is the least so far.
   pub lowers : (g : Setting) (t : Text) (hi end i : ℕ) (roots : List ℕ) (stop : Option ℕ) (least : Option (ℕ × ℕ)) → i ≤ end →
       IsFirstRoot (ReachesEnd g t hi end i) roots stop → IsLeastSoFar g t hi end roots (i + 1) least →
       IsLeastSoFar g t hi end roots i (least_at i stop least)
@@ -70,20 +70,20 @@ pub record IsRaised (s : Search) (from : ℕ) : Type 0 where
 abbrev pub may_end_at : Search → ℕ → Bool
 may_end_at s e = not s.passes_over || is_boundary s.text.content e
 
--- a setting of the search, whose walks may end at each pattern's match place
+-- A setting of the search whose walks may end at each pattern's match place.
 pub record IsSettingOf (s : Search) (g : Setting) : Type 0 where
   pub setting : IsSetting g
   pub places : g.places ≡ s.places
   pub terminator : g.terminator ≡ s.text.terminator
   pub all : only s.anchoring ≡ None
 
--- both
+-- Forwards and backwards together.
 pub record SpanLaw : Type 0 where
   pub answers : (s : Search) (g : Setting) (from x : ℕ) (e : Pair) → IsSettingOf s g → IsRaised s from →
       Gives (ways g.places s.text s.hi) (Stops g.places) [] (all_starts (is_anchored s.anchoring) 0 from s.hi) (Some e) →
       IsLeastSoFar g s.text s.hi e.1 (0 ∷ []) from (Some (x, 0)) → may_end_at s e.1 ≡ true →
       (w : List Pair) × IsAnswer s (record { start = x; walk = w }) × EndsAt w e
-  -- an end that is passed over raises the start by one
+  -- An end that is passed over raises the start by one.
   pub raises : (s : Search) (g : Setting) (from : ℕ) (e : Pair) → IsSettingOf s g → IsRaised s from →
       Gives (ways g.places s.text s.hi) (Stops g.places) [] (all_starts (is_anchored s.anchoring) 0 from s.hi) (Some e) →
       may_end_at s e.1 ≡ false →
@@ -92,19 +92,19 @@ pub record SpanLaw : Type 0 where
   pub none : (s : Search) (g : Setting) (from : ℕ) → IsSettingOf s g → IsRaised s from →
       Gives (ways g.places s.text s.hi) (Stops g.places) [] (all_starts (is_anchored s.anchoring) 0 from s.hi) None → HasNoAnswer s
 
--- forwards, where each match counts
+-- Forwards, for `MatchKind::All`.
 pub record GatherLaw : Type 0 where
-  -- whether a walk from one of the first pairs ends here
+  -- Whether a walk from one of the first pairs ends here.
   pub tells : (g : Setting) (t : Text) (hi root : ℕ) (origin : List Pair) (i : ℕ) (s s2 : State) → IsSetting g → g.terminator ≡ t.terminator → i ≤ hi →
       IsInside t i hi → IsGathering g t hi origin i s → IsReadable g.needs (byte_of (after_at t i)) → IsNextOfAll g root s (byte_of (after_at t i)) s2 →
       IsLeastMatch g.places (λ q. Comes (ways g.places t hi) origin (q, i)) s2.stop
-  -- over one byte
+  -- Over one byte.
   pub goes : (g : Setting) (t : Text) (hi root : ℕ) (origin : List Pair) (i : ℕ) (s s2 : State) → IsSetting g → g.terminator ≡ t.terminator → i < hi →
       IsInside t i hi → ((q : ℕ) → IsIn (q, i + 1) origin ↔ ((s2.goes_on ≡ true) × (q ≡ root))) →
       IsGathering g t hi origin i s → IsReadable g.needs (byte_of (after_at t i)) → IsNextOfAll g root s (byte_of (after_at t i)) s2 →
       IsGathering g t hi origin (i + 1) s2
-  -- where nothing is under way and no start is left, no walk ends later
+  -- If nothing is under way and no start is left, no walk ends later.
   pub dies : (g : Setting) (t : Text) (hi : ℕ) (origin : List Pair) (i : ℕ) (s : State) → IsSetting g → IsGathering g t hi origin i s → s.list ≡ [] →
       ((q y : ℕ) → IsIn (q, y) origin → y ≤ i) → (q y : ℕ) → i ≤ y → ¬ Comes (ways g.places t hi) origin (q, y)
-  -- which starts there are
+  -- Which starts there are.
   pub start : (root x count q y : ℕ) → IsIn (q, y) (starts root x count) ↔ ((q ≡ root) × (x ≤ y) × (y < x + count))

@@ -1,4 +1,4 @@
--- The laws of states and steps where the longest match of the least start is sought.
+-- Laws of states and steps for leftmost-longest.
 use Rattle.std.specs.Prelude.{◌≡◌, ℕ, ◌+◌, ◌*◌, ◌<◌, ◌≤◌, ◌⊎◌, Bool, true, false, List, [], ◌∷◌, ◌++◌, length, map, Option, Some, None}
 use Rattle.rc_walks.specs.Walks.{Pair, HasNoWalk, EndsAt}
 use Rattle.rc_program.specs.Text.{Text, before_at, after_at}
@@ -15,24 +15,25 @@ use Rattle.rc_determinize.specs.Backward.{IsLeastSoFar}
 use Rattle.rc_determinize.specs.Laws.{IsSettingOf, may_end_at}
 use Rattle.rc_determinize.specs.Longest.{parted, flat, IsNextOfLongest}
 
--- the longest walk from the pair n ends at e
+-- The longest walk from the pair n ends at e.
 abbrev pub ReachesLongest : (Pair → List Pair) → (Pair → Type 0) → Pair → Pair → Type 0
 ReachesLongest ways Ends n e = (w : List Pair) × IsLongestWalk ways Ends [] (n ∷ []) w × EndsAt w e
 
--- of the first of the pairs from which a walk leads
+-- The same, of the first of the pairs from which a walk leads.
 abbrev pub FirstReaches : (Pair → List Pair) → (Pair → Type 0) → List Pair → Pair → Type 0
 FirstReaches ways Ends [] e = ⊥
 FirstReaches ways Ends (n ∷ from) e =
     ReachesLongest ways Ends n e ⊎ (HasNoWalk ways Ends [] (n ∷ []) × FirstReaches ways Ends from e)
 
--- The longest walk of the first of the pairs from which a walk leads ends at this pair; or there is no walk.
+-- The longest walk of the first of the pairs from which a walk leads ends at this pair; or there is
+-- no walk.
 abbrev pub GivesLongest : (Pair → List Pair) → (Pair → Type 0) → List Pair → Option Pair → Type 0
 GivesLongest ways Ends from (Some e) = FirstReaches ways Ends from e
 GivesLongest ways Ends from None = HasNoWalk ways Ends [] from
 
 -- THE SEARCH UNDER WAY
 
--- a start, and the places that are held for it
+-- A start, and the places that are listed for it.
 abbrev pub Held : Type 0
 Held = Pair × List ℕ
 
@@ -42,28 +43,30 @@ begun hs = map (λ (h : Held). h.0) hs
 abbrev pub held : List Held → List (List ℕ)
 held hs = map (λ (h : Held). h.1) hs
 
--- each place that is held is below n
+-- Each place that is listed is below n.
 abbrev pub AreHeldBelow : ℕ → List Held → Type 0
 AreHeldBelow n [] = Unit {0}
 AreHeldBelow n (h ∷ hs) = AreBelow n h.1 × AreHeldBelow n hs
 
--- no walk leads to the position e
+-- No walk leads to the position e.
 abbrev pub IsQuiet : (Pair → List Pair) → (Pair → Type 0) → ℕ → List Pair → Type 0
 IsQuiet ways Ends e from = HasNoWalk ways (IsGoal Ends e) [] from
 
--- what the pairs give, where walks may end at the position e alone, the first pairs give
+-- The pairs give what the first pairs give, if walks may end at the position e alone.
 abbrev pub CarriesTo : (Pair → List Pair) → (Pair → Type 0) → ℕ → List Pair → List Pair → Type 0
 CarriesTo ways Ends e origin from = (r : Option Pair) → Gives ways (IsGoal Ends e) [] from r → Gives ways (IsGoal Ends e) [] origin r
 
--- At the position i, for each start with those before it: the places held for them carry to each end from here on.
+-- At the position i, for each start with those before it: the places listed for them carry to each
+-- end from here on.
 abbrev pub AreCarried : (Pair → List Pair) → (Pair → Type 0) → ℕ → List Pair → List ℕ → List Held → Type 0
 AreCarried ways Ends i origin places [] = Unit {0}
 AreCarried ways Ends i origin places (h ∷ hs) =
     ((e : ℕ) → i ≤ e → CarriesTo ways Ends e (origin ++ h.0 ∷ []) (at i (places ++ h.1)))
     × AreCarried ways Ends i (origin ++ h.0 ∷ []) (places ++ h.1) hs
 
--- What is known of the ends behind i, where these starts count. A match that was met last is of the last of them: no lesser start has a walk
--- to an end behind, its own has none that is longer, and its first walk to that end ends at the place that was met.
+-- What is known of the ends before i, if these starts count. A match found last is of the last of
+-- them: no lesser start has a walk to an end before i, its own start has none that is longer, and
+-- its first walk to that end ends at the place that was found.
 abbrev pub IsKnown : (Pair → List Pair) → (Pair → Type 0) → ℕ → List Pair → Option Pair → Type 0
 IsKnown ways Ends i starts None = (e : ℕ) → e < i → IsQuiet ways Ends e starts
 IsKnown ways Ends i starts (Some b) =
@@ -72,12 +75,13 @@ IsKnown ways Ends i starts (Some b) =
     × ((e : ℕ) → b.1 < e → e < i → IsQuiet ways Ends e starts)
     × Gives ways (IsGoal Ends b.1) [] starts (Some b)
 
--- the starts that hold no places: without a match those behind i, if walks may still begin; with one they count no more
+-- The starts for which no places are listed. Without a match, they are those after i, if walks may
+-- still begin; with a match they no longer count.
 abbrev pub IsRest : Bool → ℕ → ℕ → ℕ → List Pair → Option Pair → Type 0
 IsRest goes_on root i hi rest None = rest ≡ later_starts goes_on root i hi
 IsRest goes_on root i hi rest (Some b) = goes_on ≡ false
 
--- Before the byte at i, in the state s, where `best` is the last match that was met.
+-- Before the byte at i, in the state s, if `best` is the last match found.
 pub record IsRacing (g : Setting) (t : Text) (hi root : ℕ) (origin : List Pair) (i : ℕ) (s : State) (best : Option Pair) : Type 0 where
   pub starts : List Held
   pub rest : List Pair
@@ -90,45 +94,45 @@ pub record IsRacing (g : Setting) (t : Text) (hi root : ℕ) (origin : List Pair
   pub beside : s.beside ≡ told g.needs t.terminator (byte_of (before_at t i))
   pub readable : IsReadable g.needs (byte_of (before_at t i))
 
--- forwards: what is met last is where the longest walk of the least start ends
+-- Forwards: the match found last is where the longest walk of the least start ends.
 pub record LongestForwardLaw : Type 0 where
-  -- before the first byte
+  -- Before the first byte.
   pub begins : (g : Setting) (t : Text) (hi root lo : ℕ) (anchored : Bool) (s : State) → IsSetting g → root < length g.places →
       g.terminator ≡ t.terminator → IsReadable g.needs (byte_of (before_at t lo)) → IsFirst g root (byte_of (before_at t lo)) anchored s →
       IsRacing g t hi root (all_starts anchored root lo hi) lo s None
-  -- over one byte
+  -- Over one byte.
   pub goes : (g : Setting) (t : Text) (hi root : ℕ) (origin : List Pair) (i : ℕ) (s s2 : State) (best : Option Pair) → IsSetting g →
       IsClosed g.places → root < length g.places → g.terminator ≡ t.terminator → i < hi → IsInside t i hi → IsRacing g t hi root origin i s best →
       IsReadable g.needs (byte_of (after_at t i)) → IsNextOfLongest g root s (byte_of (after_at t i)) s2 →
       IsRacing g t hi root origin (i + 1) s2 (best_at i s2.stop best)
-  -- at the bound
+  -- At the bound.
   pub ends : (g : Setting) (t : Text) (hi root : ℕ) (origin : List Pair) (s s2 : State) (best : Option Pair) → IsSetting g →
       g.terminator ≡ t.terminator → IsRacing g t hi root origin hi s best →
       IsReadable g.needs (byte_of (after_at t hi)) → IsNextOfLongest g root s (byte_of (after_at t hi)) s2 →
       GivesLongest (ways g.places t hi) (Stops g.places) origin (best_at hi s2.stop best)
-  -- or before, where nothing goes on
+  -- Or earlier, if nothing goes on.
   pub dies : (g : Setting) (t : Text) (hi root : ℕ) (origin : List Pair) (i : ℕ) (s : State) (best : Option Pair) → IsSetting g →
       g.terminator ≡ t.terminator → IsRacing g t hi root origin i s best → s.list ≡ [] → s.goes_on ≡ false →
       GivesLongest (ways g.places t hi) (Stops g.places) origin best
-  -- where nothing is under way but the place of the starts, the search may be taken up anew
+  -- If nothing is under way but the place of the starts, the search may begin anew here.
   pub rests : (g : Setting) (t : Text) (hi root : ℕ) (origin : List Pair) (i : ℕ) (s : State) → IsSetting g → g.terminator ≡ t.terminator →
       IsRacing g t hi root origin i s None → s.list ≡ root ∷ [] → s.goes_on ≡ true → (r : Option Pair) →
       GivesLongest (ways g.places t hi) (Stops g.places) (all_starts false root i hi) r → GivesLongest (ways g.places t hi) (Stops g.places) origin r
 
--- Each entry is a place of the program, which stands in the list once, or a mark between two places.
+-- Each entry is a place of the program, which is in the list once, or a mark between two places.
 pub record IsMarkedList (mark : ℕ) (list : List ℕ) : Type 0 where
   pub groups : List (List ℕ)
   pub is_parted : list ≡ parted mark groups
   pub once : AreOnce (flat groups)
   pub below : AreBelow mark (flat groups)
 
--- what holds of the steps, as `KindLaw` has it for the other kinds
+-- What holds of the steps, as `KindLaw` says it of the other kinds.
 pub record LongestStepLaw : Type 0 where
   pub alike : (g : Setting) (root b c : ℕ) (s t : State) → AreAlike g.places g.needs g.terminator b c →
       IsNextOfLongest g root s (Some b) t → IsNextOfLongest g root s (Some c) t
   pub inside : (g : Setting) (root : ℕ) (s t : State) (after : Option ℕ) → IsClosed g.places → root < length g.places →
       IsNextOfLongest g root s after t → IsMarkedList (length g.places) t.list
-  -- there are fewer marks than places
+  -- There are fewer marks than places.
   pub short : (g : Setting) (root : ℕ) (s t : State) (after : Option ℕ) → IsClosed g.places → root < length g.places →
       IsNextOfLongest g root s after t → length t.list ≤ 2 * length g.places
   pub within : (mark : ℕ) (list : List ℕ) → IsMarkedList mark list → AreBelow (mark + 1) list
@@ -141,13 +145,14 @@ pub record IsLongestRaised (s : Search) (from : ℕ) : Type 0 where
   pub start : IsStart s from
   pub passed : (y : ℕ) → IsStart s y → y < from → IsPassedOf s (IsLongestFrom s) y
 
--- The end that is found forwards, and backwards from it the least start, which is the one whose longest walk ends there, are the answer's.
+-- The answer has the end that is found forwards, and the least start that is found backwards from
+-- it. That start's longest walk ends there.
 pub record LongestSpanLaw : Type 0 where
   pub answers : (s : Search) (g : Setting) (from x : ℕ) (e : Pair) → IsSettingOf s g → IsLongestRaised s from →
       GivesLongest (ways g.places s.text s.hi) (Stops g.places) (all_starts (is_anchored s.anchoring) 0 from s.hi) (Some e) →
       IsLeastSoFar g s.text s.hi e.1 (0 ∷ []) from (Some (x, 0)) → may_end_at s e.1 ≡ true →
       (w : List Pair) × IsLongestAnswer s (record { start = x; walk = w }) × EndsAt w e
-  -- an end that is passed over raises the start by one
+  -- An end that is passed over raises the start by one.
   pub raises : (s : Search) (g : Setting) (from : ℕ) (e : Pair) → IsSettingOf s g → IsLongestRaised s from →
       GivesLongest (ways g.places s.text s.hi) (Stops g.places) (all_starts (is_anchored s.anchoring) 0 from s.hi) (Some e) →
       may_end_at s e.1 ≡ false →

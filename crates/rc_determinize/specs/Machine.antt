@@ -1,5 +1,6 @@
 -- Only proofs use this file.
--- The step as a machine with a stack, a set of places that it has entered, and a list that grows.
+-- Determinization: the step as a machine with a stack, a set of places entered, and a list that
+-- grows.
 use Rattle.std.specs.Prelude.{◌≡◌, ℕ, suc, map, List, [], ◌∷◌, ◌++◌, Option, Some, None, Bool, true, false, IsTrue, nat_eq, min, if◌then◌else◌, ◌↔◌}
 use Rattle.std.specs.List.{list_any}
 use Rattle.rc_program.specs.Program.{Place, Way, stays, reads}
@@ -7,7 +8,7 @@ use Rattle.rc_determinize.specs.Steps.{HasPlace, HasWay, Adds}
 use Rattle.rc_determinize.specs.Sets.{ComesBy, IsLeastMatch}
 use Rattle.rc_determinize.specs.Longest.{Closes, GroupSteps, AddsGroups, parted, flat}
 
--- `Runs steps entered stack next new stop`: so many steps lead to the end
+-- `Runs steps entered stack next new stop`: so many steps lead to the end.
 pub data Runs (out : ℕ → List Way) (ends : ℕ → Bool) : ℕ → List ℕ → List Way → List ℕ → List ℕ → Option ℕ → Type 0 where
   done : {entered next : List ℕ} → Runs out ends 0 entered [] next next None
   adds : {k : ℕ} {entered : List ℕ} {from : List Way} {next new : List ℕ} {stop : Option ℕ} (q : ℕ) → ¬ HasPlace q next →
@@ -25,19 +26,19 @@ pub data Runs (out : ℕ → List Way) (ends : ℕ → Bool) : ℕ → List ℕ 
 abbrev pub Finishes : (ℕ → List Way) → (ℕ → Bool) → List ℕ → List Way → List ℕ → List ℕ → Option ℕ → Type 0
 Finishes out ends entered from next new stop = (k : ℕ) × Runs out ends k entered from next new stop
 
--- the places to which ways lead that read nothing, in order
+-- The places to which ways lead that read nothing, in order.
 abbrev pub stay_places : List Way → List ℕ
 stay_places [] = []
 stay_places (stays q ∷ ws) = q ∷ stay_places ws
 stay_places (reads count q ∷ ws) = stay_places ws
 
--- the places to which ways lead that read
+-- The places to which ways lead that read.
 abbrev pub read_places : List Way → List ℕ
 read_places [] = []
 read_places (stays q ∷ ws) = read_places ws
 read_places (reads count q ∷ ws) = q ∷ read_places ws
 
--- the list with the place, where it doesn't have it
+-- The list with the place, unless it has it already.
 abbrev pub add_one : List ℕ → ℕ → List ℕ
 add_one list place = if list_any (λ q. nat_eq q place) list then list else list ++ place ∷ []
 
@@ -45,40 +46,42 @@ abbrev pub add_all : List ℕ → List ℕ → List ℕ
 add_all list [] = list
 add_all list (q ∷ qs) = add_all (add_one list q) qs
 
--- the lesser, where the place counts
+-- The lesser of the two, if the place counts.
 abbrev pub least_with : Bool → Option ℕ → ℕ → Option ℕ
 least_with false least q = least
 least_with true None q = Some q
 least_with true (Some p) q = Some (min p q)
 
--- The places to which the byte leads from those to which ways lead that read nothing, and the least match place of these.
+-- The places to which the byte leads from those to which ways lead that read nothing, and the least
+-- match place of these.
 pub record IsGathered (out : ℕ → List Way) (places : List Place) (list next : List ℕ) (stop : Option ℕ) : Type 0 where
   pub listed : (q : ℕ) → HasPlace q next ↔ ((p : ℕ) × ComesBy out list p × HasWay (reads 1 q) (out p))
   pub least : IsLeastMatch places (ComesBy out list) stop
 
--- the same places stand in both
+-- Both lists have the same places.
 abbrev pub HaveSame : List ℕ → List ℕ → Type 0
 HaveSame xs ys = (q : ℕ) → HasPlace q xs ↔ HasPlace q ys
 
--- The places were closed over, where these had been entered and those listed.
+-- The places were closed over, when these had been entered and those listed.
 abbrev pub IsShut : (ℕ → List Way) → (ℕ → Bool) → List ℕ → List ℕ → List ℕ → List ℕ → List ℕ → Option ℕ → Type 0
 IsShut out ends list entered entered2 listed listed2 stop =
     (visited : List ℕ) → HaveSame visited entered → (onward : List ℕ) × (visited2 : List ℕ)
     × Closes out ends visited (map stays list) onward stop visited2 × HaveSame visited2 entered2 × Adds listed onward listed2
 
--- the first that was met, where the place counts
+-- The first that was found, or this place if it counts.
 abbrev pub first_with : Bool → Option ℕ → ℕ → Option ℕ
 first_with met (Some p) q = Some p
 first_with true None q = Some q
 first_with false None q = None
 
--- the group behind those of the list, with a mark between
+-- The group behind those of the list, with a mark between.
 abbrev pub with_group : ℕ → List ℕ → List ℕ → List ℕ
 with_group mark list [] = list
 with_group mark [] (q ∷ g) = q ∷ g
 with_group mark (p ∷ list) (q ∷ g) = (p ∷ list) ++ mark ∷ q ∷ g
 
--- The groups were closed over in turn, up to one that met a match; the list holds what comes of them, and so do those listed.
+-- The groups were closed over in turn, up to one with a match. The list has what comes of them, and
+-- so have those listed.
 pub record IsParted (out : ℕ → List Way) (ends : ℕ → Bool) (mark : ℕ) (groups : List (List ℕ)) (listed2 list : List ℕ) (stop : Option ℕ) : Type 0 where
   pub onward : List (List ℕ)
   pub new : List (List ℕ)

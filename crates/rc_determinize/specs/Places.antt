@@ -1,4 +1,4 @@
--- What states in code are, and the setting of a program.
+-- Conversions: what states in code are, and the setting of a program.
 use Rattle.std.specs.Prelude.{List, ℕ}
 use Rattle.rc_utf8.specs.Places.{places_of}
 use Rattle.rc_utf8.specs.declared.place.BytePlace as code
@@ -6,10 +6,10 @@ use Rattle.rc_determinize.specs.declared.sides.Needs.{Needs}
 use Rattle.rc_determinize.specs.declared.state.State as code_state
 use Rattle.rc_determinize.specs.States.{Setting, State}
 
--- the setting of a program in code
+-- The setting of a program in code.
 abbrev pub setting_of : List code.BytePlace → Needs → ℕ → Setting
 setting_of places needs terminator = record { places = places_of places; needs = needs; terminator = terminator }
 
--- the state that a state in code is
+-- The state that a state in code is.
 abbrev pub state_of : code_state.State → State
 state_of s = record { list = s.list.items; beside = s.beside; goes_on = s.goes_on; stop = s.stop }

@@ -1,5 +1,5 @@
 -- Only proofs use this file.
--- The edges of a program, by the places to which they lead.
+-- Reverse edges: the edges of a program, by the places to which they lead.
 use Rattle.std.specs.Prelude.{◌≡◌, ℕ, Bool, true, false, ◌&&◌, List, [], ◌∷◌, ◌++◌, length, map, Option, Some, None, nat_le, nat_eq, ◌+◌, slice_index_or, if◌then◌else◌, ◌↔◌}
 use Rattle.rc_pattern.specs.Re.{Range}
 use Rattle.rc_program.specs.Program.{Place, choice, byte, branch, scalar, guard, slot, accept, stays}
@@ -12,35 +12,35 @@ use Rattle.rc_determinize.specs.Sides.{holds_by}
 use Rattle.rc_determinize.specs.Steps.{HasPlace, AreBelow, HasWay}
 use Rattle.rc_determinize.specs.Backward.{still_out, ReadsTo}
 
--- the edge is passed without reading
+-- The edge is followed without reading.
 abbrev pub passes : Seen → Seen → Over → Bool
 passes behind ahead Nothing = true
 passes behind ahead (Where l) = holds_by behind ahead l
 passes behind ahead (Within first last) = false
 
--- the edge is passed over the byte
+-- The edge is followed over the byte.
 abbrev pub reads_over : Option ℕ → Over → Bool
 reads_over None over = false
 reads_over (Some b) (Within first last) = nat_le first b && nat_le b last
 reads_over (Some b) over = false
 
--- where the edges begin of which it holds
+-- Where the edges begin of which it holds.
 abbrev pub sources : (Over → Bool) → List Source → List ℕ
 sources holds [] = []
 sources holds (e ∷ es) = if holds e.over then e.from ∷ sources holds es else sources holds es
 
--- the edges that lead to a place
+-- The edges that lead to a place.
 abbrev pub into_at : Reversed → ℕ → List Source
 into_at r p = slice_index_or (map (λ v. v.items) r.into.items) p []
 
--- Each edge of the program is kept at the place to which it leads, and no other.
+-- Each edge of the program is stored at the place to which it leads, and no other is.
 pub record IsReversed (places : List Place) (r : Reversed) : Type 0 where
   pub size : length r.into.items ≡ length places
   pub below : (p : ℕ) → AreBelow (length places) (map (λ (e : Source). e.from) (into_at r p))
   pub still : (behind ahead : Seen) (q p : ℕ) → HasPlace q (sources (passes behind ahead) (into_at r p)) ↔ HasWay (stays p) (still_out places behind ahead q)
   pub reading : (b q p : ℕ) → HasPlace q (sources (reads_over (Some b)) (into_at r p)) ↔ ReadsTo places b q p
 
--- the edges from place number i to place number p
+-- The edges from place number i to place number p.
 abbrev pub branch_edges : ℕ → ℕ → List (Range × ℕ) → List Source
 branch_edges p i [] = []
 branch_edges p i (t ∷ ts) =
@@ -64,19 +64,19 @@ edges_from p i (guard l n) = if nat_eq n p then record { from = i; over = Where 
 edges_from p i (slot k n) = if nat_eq n p then record { from = i; over = Nothing } ∷ [] else []
 edges_from p i (accept q) = []
 
--- the edges to place number p from the places, of which the first has number i
+-- The edges to place number p from the places, of which the first has number i.
 abbrev pub all_edges : ℕ → ℕ → List Place → List Source
 all_edges p i [] = []
 all_edges p i (q ∷ qs) = edges_from p i q ++ all_edges p (i + 1) qs
 
--- each edge begins at a place
+-- Each edge begins at a place.
 abbrev pub AreInside : Reversed → Type 0
 AreInside r = (p : ℕ) → AreBelow (length r.into.items) (map (λ (e : Source). e.from) (into_at r p))
 
--- at each place all edges that lead to it, in the order of the places from which they lead
+-- At each place all edges that lead to it, in the order of the places from which they lead.
 abbrev pub AreEdges : List Place → Reversed → Type 0
 AreEdges places r = (length r.into.items ≡ length places) × ((p : ℕ) → into_at r p ≡ all_edges p 0 places)
 
--- the edges of the place with number i are added
+-- The edges of the place with number i are added.
 abbrev pub HasAdded : (ℕ → List Source) → Reversed → Reversed → Type 0
 HasAdded more old new = (length new.into.items ≡ length old.into.items) × ((p : ℕ) → into_at new p ≡ into_at old p ++ more p)

@@ -1,4 +1,4 @@
--- States where each match counts, and not the first alone: the places to which some walk comes, as a set.
+-- Determinization for `MatchKind::All`: states as the sets of places to which some walk comes.
 use Rattle.std.specs.Prelude.{◌≡◌, ℕ, ◌+◌, ◌≤◌, ◌⊎◌, ◌↔◌, true, List, Option, Some, None, IsTrue}
 use Rattle.rc_walks.specs.Walks.{Pair, IsIn}
 use Rattle.rc_program.specs.Text.{Text, before_at}
@@ -7,12 +7,12 @@ use Rattle.rc_determinize.specs.Steps.{HasPlace, IsRising, HasWay}
 use Rattle.rc_determinize.specs.Sides.{told, out_seen, byte_of, IsReadable}
 use Rattle.rc_determinize.specs.States.{Setting, State, is_match}
 
--- edges lead from one of the pairs to this one
+-- Edges lead from one of the pairs to this one.
 pub data Comes (ways : Pair → List Pair) (origin : List Pair) : Pair → Type 0 where
   begins : (n : Pair) → IsIn n origin → Comes ways origin n
   goes : (n m : Pair) → Comes ways origin m → IsIn n (ways m) → Comes ways origin n
 
--- ways that read nothing lead from a place of the list to this one
+-- Ways that read nothing lead from a place of the list to this one.
 pub data ComesBy (out : ℕ → List Way) (list : List ℕ) : ℕ → Type 0 where
   listed : (q : ℕ) → HasPlace q list → ComesBy out list q
   follows : (q p : ℕ) → ComesBy out list p → HasWay (stays q) (out p) → ComesBy out list q
@@ -20,12 +20,12 @@ pub data ComesBy (out : ℕ → List Way) (list : List ℕ) : ℕ → Type 0 whe
 abbrev pub ComesHere : Setting → State → Option ℕ → ℕ → Type 0
 ComesHere g s after = ComesBy (out_seen g.places g.needs g.terminator s.beside after) s.list
 
--- the least match place of which it holds, if there is one
+-- The least match place of which it holds, if there is one.
 abbrev pub IsLeastMatch : List Place → (ℕ → Type 0) → Option ℕ → Type 0
 IsLeastMatch places Holds (Some q) = IsTrue (is_match places q) × Holds q × ((p : ℕ) → Holds p → IsTrue (is_match places p) → q ≤ p)
 IsLeastMatch places Holds None = (q : ℕ) → Holds q → ¬ IsTrue (is_match places q)
 
--- an edge over the byte leads to the place, from one to which ways lead that read nothing
+-- An edge over the byte leads to the place from one to which ways lead that read nothing.
 abbrev pub IsReadHere : Setting → State → Option ℕ → ℕ → Type 0
 IsReadHere g s after q = (p : ℕ) × ComesHere g s after p × HasWay (reads 1 q) (out_seen g.places g.needs g.terminator s.beside after p)
 
@@ -37,7 +37,7 @@ pub record IsNextOfAll (g : Setting) (root : ℕ) (s : State) (after : Option �
   pub goes_on : t.goes_on ≡ s.goes_on
   pub beside : t.beside ≡ told g.needs g.terminator after
 
--- a pair of the position i is one of the first, or an edge over the byte before leads to it
+-- A pair of the position i is one of the first, or an edge over the byte before leads to it.
 abbrev pub ArrivesAt : (Pair → List Pair) → List Pair → ℕ → ℕ → Type 0
 ArrivesAt ways origin i q =
     IsIn (q, i) origin ⊎ ((j : ℕ) × (p : ℕ) × (j + 1 ≡ i) × Comes ways origin (p, j) × IsIn (q, i) (ways (p, j)))

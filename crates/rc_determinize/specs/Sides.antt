@@ -1,4 +1,5 @@
--- What a step needs to know of the two sides of a position: facts about one byte each.
+-- Look-around: what a step needs to know of the two sides of a position, as facts about one byte
+-- each.
 use Rattle.std.specs.Prelude.{◌≡◌, ◌↔◌, ℕ, Bool, true, false, not, ◌&&◌, ◌||◌, ◌<◌, List, [], ◌∷◌, map, Option, Some, None, nat_le, IsTrue}
 use Rattle.rc_pattern.specs.Re.{Range}
 use Rattle.rc_program.specs.Program.{Place, byte, branch, guard, Way, ways_out, place_at}
@@ -9,7 +10,8 @@ use Rattle.rc_pattern.specs.declared.hir.Look.{Look}
 use Rattle.rc_pattern.specs.declared.hir.Look.TheVariants.{Start, End, StartLF, EndLF, StartCRLF, EndCRLF, WordAscii, WordAsciiNegate, WordUnicode, WordUnicodeNegate, WordStartAscii, WordEndAscii, WordStartUnicode, WordEndUnicode, WordStartHalfAscii, WordEndHalfAscii, WordStartHalfUnicode, WordEndHalfUnicode}
 use Rattle.rc_program.specs.Looks.{Side, nothing, stands, differ, is_edge, has_byte, is_ascii_word}
 
--- What is told of a side: that nothing stands there; that a line terminator, an LF, a CR or a word byte of ASCII does.
+-- The facts about a side: that there is no byte, or that it is a line terminator, an LF, a CR, or a
+-- word byte of ASCII.
 abbrev pub seen_by : ℕ → Side → Seen
 seen_by terminator side = record {
   edge = is_edge side;
@@ -19,12 +21,13 @@ seen_by terminator side = record {
   word = is_ascii_word side;
 }
 
--- what is told of a byte, or of the end
+-- The facts about a byte, or about the end.
 abbrev pub seen_of : ℕ → Option ℕ → Seen
 seen_of terminator None = seen_by terminator nothing
 seen_of terminator (Some b) = seen_by terminator (stands b None)
 
--- The assertion holds between what is told of the two sides; of assertions on Unicode's words where both sides are ASCII.
+-- The assertion holds, by the facts about the two sides. For assertions on Unicode's words, both
+-- sides must be ASCII.
 abbrev pub holds_by : Seen → Seen → Look → Bool
 holds_by before after Start = before.edge
 holds_by before after End = after.edge
@@ -45,7 +48,7 @@ holds_by before after WordEndHalfAscii = not after.word
 holds_by before after WordStartHalfUnicode = not before.word
 holds_by before after WordEndHalfUnicode = not after.word
 
--- the assertion speaks of Unicode's words
+-- The assertion depends on Unicode's words.
 abbrev pub is_unicode : Look → Bool
 is_unicode WordUnicode = true
 is_unicode WordUnicodeNegate = true
@@ -55,12 +58,12 @@ is_unicode WordStartHalfUnicode = true
 is_unicode WordEndHalfUnicode = true
 is_unicode _ = false
 
--- nothing stands there, or a byte of ASCII with its scalar
+-- There is no byte, or an ASCII byte with its scalar.
 abbrev pub IsPlain : Side → Type 0
 IsPlain nothing = Unit {0}
 IsPlain (stands b c) = (b < 128) × (c ≡ Some b)
 
--- Which facts some assertions ask for; what isn't asked for is told as false.
+-- The facts that some assertions ask for; all others are false.
 abbrev pub asked : Seen → Seen → Seen
 asked needs seen = record {
   edge = needs.edge && seen.edge;
@@ -70,7 +73,7 @@ asked needs seen = record {
   word = needs.word && seen.word;
 }
 
--- what the assertion asks for
+-- The facts that the assertion asks for are needed.
 abbrev pub asks : Look → Seen → Type 0
 asks Start needs = IsTrue needs.edge
 asks End needs = IsTrue needs.edge
@@ -80,22 +83,22 @@ asks StartCRLF needs = IsTrue needs.edge × IsTrue needs.line_feed × IsTrue nee
 asks EndCRLF needs = IsTrue needs.edge × IsTrue needs.line_feed × IsTrue needs.carriage_return
 asks _ needs = IsTrue needs.word
 
--- the byte that stands there
+-- The byte of the side, if there is one.
 abbrev pub byte_of : Side → Option ℕ
 byte_of nothing = None
 byte_of (stands b c) = Some b
 
--- the assertion stands at the place
+-- The assertion is that of the place.
 abbrev pub HasLook : Look → Place → Type 0
 HasLook l (guard k n) = k ≡ l
 HasLook l _ = ⊥
 
--- the assertions of the program ask for no more
+-- The assertions of the program ask for no more.
 pub record Covers (needs : Needs) (places : List Place) : Type 0 where
   pub facts : (q : ℕ) (l : Look) → HasLook l (place_at places q) → asks l needs.facts
   pub unicode : (q : ℕ) (l : Look) → HasLook l (place_at places q) → IsTrue (is_unicode l) → IsTrue needs.unicode
 
--- what the one asks for the other asks for too
+-- What the first asks for, the second asks for too.
 pub record AsksNoMore (fewer more : Needs) : Type 0 where
   pub edge : IsTrue fewer.facts.edge → IsTrue more.facts.edge
   pub terminator : IsTrue fewer.facts.terminator → IsTrue more.facts.terminator
@@ -104,17 +107,17 @@ pub record AsksNoMore (fewer more : Needs) : Type 0 where
   pub word : IsTrue fewer.facts.word → IsTrue more.facts.word
   pub unicode : IsTrue fewer.unicode → IsTrue more.unicode
 
--- What the assertions of the program ask for, and nothing else.
+-- Exactly what the assertions of the program ask for.
 pub record AreNeeds (needs : Needs) (places : List Place) : Type 0 where
   pub covers : Covers needs places
   pub least : (other : Needs) → Covers other places → AsksNoMore needs other
 
--- the assertion that stands at the place
+-- The assertion of the place, if it has one.
 abbrev pub guarded : Place → Option Look
 guarded (guard l n) = Some l
 guarded _ = None
 
--- with what the assertion asks for
+-- The needs, with what the assertion asks for.
 abbrev pub asking : Look → Needs → Needs
 asking Start needs = record needs { facts = record needs.facts { edge = true } }
 asking End needs = record needs { facts = record needs.facts { edge = true } }
@@ -124,32 +127,32 @@ asking StartCRLF needs = record needs { facts = record needs.facts { edge = true
 asking EndCRLF needs = record needs { facts = record needs.facts { edge = true; line_feed = true; carriage_return = true } }
 asking look needs = record { facts = record needs.facts { word = true }; unicode = needs.unicode || is_unicode look }
 
--- what is told of a byte, or of the end, as far as the program asks
+-- The facts about a byte, or about the end, as far as the program asks.
 abbrev pub told : Needs → ℕ → Option ℕ → Seen
 told needs terminator b = asked needs.facts (seen_of terminator b)
 
--- the ways out of a place, where this is told of what stands before, and this byte stands ahead, or none
+-- The ways out of a place, by these facts about the side before, and this byte ahead, or none.
 abbrev pub out_seen : List Place → Needs → ℕ → Seen → Option ℕ → ℕ → List Way
 out_seen places needs terminator behind after =
     out_by places (holds_by behind (told needs terminator after)) after
 
--- the byte is one of ASCII; or no assertion speaks of Unicode's words
+-- The byte is ASCII; or no assertion depends on Unicode's words.
 abbrev pub IsReadable : Needs → Option ℕ → Type 0
 IsReadable needs None = Unit {0}
 IsReadable needs (Some b) = IsTrue needs.unicode → b < 128
 
--- No step can tell the bytes apart, and both are read or none.
+-- No step can tell the bytes apart, and both may be read or none.
 pub record AreAlike (places : List Place) (needs : Needs) (terminator b c : ℕ) : Type 0 where
   pub told_same : told needs terminator (Some b) ≡ told needs terminator (Some c)
   pub read_same : (q : ℕ) (test : Look → Bool) → ways_out test (b ∷ []) (place_at places q) ≡ ways_out test (c ∷ []) (place_at places q)
   pub readable : IsReadable needs (Some b) ↔ IsReadable needs (Some c)
 
--- the ranges of bytes that a place reads
+-- The ranges of bytes that a place reads.
 abbrev pub ranges_of : Place → List Range
 ranges_of (byte rs n) = rs
 ranges_of (branch ts) = map (λ (t : Range × ℕ). t.0) ts
 ranges_of _ = []
 
--- the range has both bytes, or none of them
+-- The range contains both bytes, or none of them.
 abbrev pub holds_both : ℕ → ℕ → Range → Type 0
 holds_both b c r = (nat_le r.0 b && nat_le b r.1) ≡ (nat_le r.0 c && nat_le c r.1)

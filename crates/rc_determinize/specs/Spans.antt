@@ -1,4 +1,4 @@
--- The greatest span, where each match counts, by states forwards and backwards.
+-- Greatest spans: those of `MatchKind::All`, by states forwards and backwards.
 use Rattle.std.specs.Prelude.{◌≡◌, ◌↔◌, ℕ, ◌+◌, ◌<◌, ◌≤◌, List, [], ◌∷◌, length, Option, Some, None, IsTrue, slice_index}
 use Rattle.rc_walks.specs.Walks.{Pair, IsWalk}
 use Rattle.rc_program.specs.Text.{Text}
@@ -11,7 +11,7 @@ use Rattle.rc_determinize.specs.Sets.{Comes, IsLeastMatch}
 use Rattle.rc_determinize.specs.Backward.{IsLeastSoFar}
 use Rattle.rc_determinize.specs.Laws.{IsSettingOf}
 
--- some match place holds it
+-- It holds of some match place.
 abbrev pub IsSomeMatch : Setting → (ℕ → Type 0) → Type 0
 IsSomeMatch g Holds = (q : ℕ) × Holds q × IsTrue (is_match g.places q)
 
@@ -22,22 +22,24 @@ IsLastSoFar g t hi origin i (Some e) =
     (e < i) × IsSomeMatch g (λ q. Comes (ways g.places t hi) origin (q, e))
     × ((y : ℕ) → e < y → y < i → ¬ IsSomeMatch g (λ q. Comes (ways g.places t hi) origin (q, y)))
 
--- the position, if a match was met here, or else the one before
+-- The position if a match was found here, or else the one before.
 abbrev pub last_at : ℕ → Option ℕ → Option ℕ → Option ℕ
 last_at i None last = last
 last_at i (Some q) last = Some i
 
--- a walk of pattern p leads from x to e
+-- A walk of pattern p leads from x to e.
 abbrev pub IsSpelled : Search → ℕ → ℕ → ℕ → Type 0
 IsSpelled s p x e =
     (w : List Pair) × IsWalk (next_of s) (λ n. IsTrue (ends s n)) [] ((0, x) ∷ []) w × (place_at s.places (last_of w).0 ≡ accept p) × ((last_of w).1 ≡ e)
 
--- The roots stand for the patterns, in their order: a walk of pattern p leads from x to e where root number p reaches an end there.
+-- The roots stand for the patterns, in their order: a walk of pattern p leads from x to e if root
+-- number p reaches an end there.
 abbrev pub AreRoots : Search → List ℕ → Type 0
 AreRoots s roots = (p x e : ℕ) → IsSpelled s p x e
     ↔ ((p < length roots) × Reaches (next_of s) (IsGoal (λ n. IsTrue (ends s n)) e) (slice_index roots p, x))
 
--- the last end forwards, and from there the least start backwards with its first root, are the greatest span
+-- The last end forwards, and from there the least start backwards with its first root, are the
+-- greatest span.
 pub record GreatestSpanLaw : Type 0 where
   pub later : (g : Setting) (t : Text) (hi : ℕ) (origin : List Pair) (i : ℕ) (stop last : Option ℕ) →
       IsLeastMatch g.places (λ q. Comes (ways g.places t hi) origin (q, i)) stop → IsLastSoFar g t hi origin i last →

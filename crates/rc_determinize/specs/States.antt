@@ -1,4 +1,4 @@
--- States of a search over bytes, and the step from one to the next.
+-- Determinization: states of a search over bytes, and the step from one to the next.
 use Rattle.std.specs.Prelude.{◌≡◌, ℕ, ◌+◌, ◌-◌, ◌≤◌, Bool, true, false, not, ◌&&◌, List, [], ◌∷◌, ◌++◌, length, Option, None, is_none, IsTrue}
 use Rattle.std.specs.Option.{option_or, option_map}
 use Rattle.rc_walks.specs.Walks.{Pair}
@@ -10,20 +10,21 @@ use Rattle.rc_determinize.specs.declared.sides.Seen.{Seen}
 use Rattle.rc_determinize.specs.declared.sides.Needs.{Needs}
 use Rattle.rc_determinize.specs.Sides.{Covers, told, out_seen, byte_of, IsReadable}
 
--- What a program is to a table: its places, what its assertions ask for, and the line terminator.
+-- What a DFA needs of a program: its places, what its assertions ask for, and the line terminator.
 pub record Setting : Type 0 where
   pub places : List Place
   pub needs : Needs
   pub terminator : ℕ
 
--- the places read bytes alone, and the assertions ask for no more
+-- The places read bytes alone, and the assertions ask for no more.
 pub record IsSetting (g : Setting) : Type 0 where
   pub by_bytes : IsByBytes g.places
   pub covers : Covers g.needs g.places
 
--- A state: the places to which the byte before led, in order, each once, from none of which the search has gone on yet, since nothing
--- is known of what stands ahead; what is told of what stands behind; whether a walk may begin at each position to come; and the match
--- place that was met at the position before.
+-- A state. `list` has the places to which the byte before led, in order, each once. The search
+-- hasn't gone on from any of them yet, since the byte ahead isn't known. `beside` has the facts
+-- about the byte before, and `goes_on` says whether a walk may begin at each position to come.
+-- `stop` is the match place that was found at the position before.
 pub record State : Type 0 where
   pub list : List ℕ
   pub beside : Seen
@@ -33,12 +34,13 @@ pub record State : Type 0 where
 abbrev pub is_match : List Place → ℕ → Bool
 is_match places q = is_match_place None (place_at places q)
 
--- where walks may begin at the next position too, by the place `root`
+-- The place `root`, if walks may begin at the next position too.
 abbrev pub root_if : Bool → ℕ → List ℕ
 root_if true root = root ∷ []
 root_if false root = []
 
--- The state to which this byte leads, or the end. A match ends all that stands behind it in order, later starts too.
+-- The state to which this byte leads, or the end. A match ends all that comes behind it in order,
+-- later starts too.
 pub record IsNext (g : Setting) (root : ℕ) (s : State) (after : Option ℕ) (t : State) : Type 0 where
   pub next : List ℕ
   pub is_step : IsStep (out_seen g.places g.needs g.terminator s.beside after) (is_match g.places) s.list next t.stop
@@ -46,7 +48,7 @@ pub record IsNext (g : Setting) (root : ℕ) (s : State) (after : Option ℕ) (t
   pub joined : Adds next (root_if t.goes_on root) t.list
   pub beside : t.beside ≡ told g.needs g.terminator after
 
--- the state before the first byte
+-- The state before the first byte.
 pub record IsFirst (g : Setting) (root : ℕ) (before : Option ℕ) (anchored : Bool) (s : State) : Type 0 where
   pub list : s.list ≡ root ∷ []
   pub beside : s.beside ≡ told g.needs g.terminator before
@@ -58,26 +60,26 @@ pub record IsFirst (g : Setting) (root : ℕ) (before : Option ℕ) (anchored : 
 abbrev pub Stops : List Place → Pair → Type 0
 Stops places n = IsTrue (is_match places n.0)
 
--- the starts behind position i
+-- The starts after position i.
 abbrev pub later_starts : Bool → ℕ → ℕ → ℕ → List Pair
 later_starts true root i hi = starts root (i + 1) (hi - i)
 later_starts false root i hi = []
 
--- all starts of a search
+-- All starts of a search.
 abbrev pub all_starts : Bool → ℕ → ℕ → ℕ → List Pair
 all_starts anchored root lo hi = (root, lo) ∷ later_starts (not anchored) root lo hi
 
--- the last match seen
+-- The last match seen.
 abbrev pub best_at : ℕ → Option ℕ → Option Pair → Option Pair
 best_at i stop best = option_or (option_map (λ q. (q, i)) stop) best
 
--- The bounds of the search lie within the slice.
+-- The bounds of the search are within the slice.
 pub record IsInside (t : Text) (lo hi : ℕ) : Type 0 where
   pub low : t.slice_start ≤ lo
   pub high : hi ≤ t.slice_end
   pub bounded : t.slice_end ≤ length t.content
 
--- Before the byte at i, in the state s, where `best` is the last match that was met.
+-- Before the byte at i, in the state s, if `best` is the last match found.
 pub record IsUnderWay (g : Setting) (t : Text) (hi root : ℕ) (origin : List Pair) (i : ℕ) (s : State) (best : Option Pair) : Type 0 where
   pub carries : Carries (ways g.places t hi) (Stops g.places) origin (at i s.list ++ later_starts s.goes_on root i hi) best
   pub beside : s.beside ≡ told g.needs t.terminator (byte_of (before_at t i))

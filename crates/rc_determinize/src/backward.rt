@@ -22,18 +22,18 @@ use rc_pattern::hir::{ClassBytesRange, Look};
 use rc_utf8::place::{BytePlace, ByteWay};
 use std::alloc::{AllocError, Global};
 
-/// What an edge goes over.
+/// What an edge asks for.
 #[derive(Clone, Copy)]
 pub enum Over {
-    /// Nothing.
+    /// Nothing: an epsilon edge.
     Nothing,
-    /// Nothing, if the assertion holds.
+    /// Nothing but that the assertion holds.
     Where(Look),
-    /// A byte from the one to the other, both included.
+    /// A byte of this range, both ends included.
     Within(u8, u8),
 }
 
-/// An edge, kept at the place to which it leads.
+/// An edge, stored at the place to which it leads.
 #[derive(Clone, Copy)]
 pub struct Source {
     /// The place from which it leads.
@@ -44,12 +44,12 @@ pub struct Source {
 /// The edges of a program, by the places to which they lead.
 #[derive(Drop)]
 pub struct Reversed {
-    /// At the index of each place the edges that lead to it.
+    /// At the index of each place, the edges that lead to it.
     pub into: Vec<Vec<Source>>,
 }
 
 impl Reversed {
-    /// Keeps one more edge, which leads to the place `to`.
+    /// Stores one more edge, which leads to the place `to`.
     fn keep(&mut self, to: usize, from: usize, over: Over) -> Result<(), AllocError>
         requires { to < length self.old.into.items }
         ensures len { length self.new.into.items ≡ length self.old.into.items }
@@ -60,7 +60,7 @@ impl Reversed {
         Ok(())
     }
 
-    /// Keeps an edge for each range, to the place `to`.
+    /// Stores an edge to the place `to` for each range.
     fn keep_ranges(
         &mut self,
         to: usize,
@@ -77,7 +77,7 @@ impl Reversed {
         Ok(())
     }
 
-    /// Keeps an edge for each way.
+    /// Stores an edge for each way.
     fn keep_ways(&mut self, from: usize, ways: &Vec<ByteWay>) -> Result<(), AllocError>
         requires { AreBelow (length self.old.into.items) (map (λ (w : ByteWay). w.next) ways.now.items) }
         ensures len { length self.new.into.items ≡ length self.old.into.items }
@@ -89,7 +89,7 @@ impl Reversed {
         Ok(())
     }
 
-    /// Keeps the edges of the place of index `from`.
+    /// Stores the edges of the place of index `from`.
     fn keep_place(&mut self, from: usize, place: &BytePlace) -> Result<(), AllocError>
         requires { AreBelow (length self.old.into.items) (targets (place_of place.now)) }
         ensures len { length self.new.into.items ≡ length self.old.into.items }
@@ -111,7 +111,7 @@ impl Reversed {
         }
     }
 
-    /// This many places without edges.
+    /// `len` places without edges.
     fn empty(alloc: Global, len: usize) -> Result<Reversed, AllocError>
         ensures len { IfOk result (λ r. length r.into.items ≡ len) }
         ensures none { IfOk result (λ r. (p : ℕ) → into_at r p ≡ []) }
@@ -123,7 +123,7 @@ impl Reversed {
         Ok(Reversed { into })
     }
 
-    /// The edges of a program, by the places to which they lead. An `Err` means out of memory.
+    /// The edges of a program, by the places to which they lead. `Err` means out of memory.
     pub fn new(alloc: Global, places: &[BytePlace]) -> Result<Reversed, AllocError>
         requires closed { IsClosed (places_of places.now) }
         ensures reversed { IfOk result (λ r. IsReversed (places_of places.now) r) }
@@ -137,7 +137,7 @@ impl Reversed {
     }
 }
 
-/// Whether the edge is passed without reading.
+/// Whether the edge is followed without reading.
 fn passes(behind: Seen, ahead: Seen, over: Over) -> bool
     ensures { result ≡ passes behind ahead over }
 {
@@ -148,7 +148,7 @@ fn passes(behind: Seen, ahead: Seen, over: Over) -> bool
     }
 }
 
-/// Whether the edge is passed over the byte.
+/// Whether the edge is followed over the byte.
 fn reads_over(byte: Option<u8>, over: Over) -> bool
     ensures { result ≡ reads_over byte over }
 {
@@ -158,7 +158,7 @@ fn reads_over(byte: Option<u8>, over: Over) -> bool
     }
 }
 
-/// Adds the places from which edges lead that are passed without reading.
+/// Adds the places from which edges come that are followed without reading.
 fn add_still(set: &mut SparseSet, edges: &Vec<Source>, behind: Seen, ahead: Seen)
     requires { AreBelow set.old.capacity (map (λ (e : Source). e.from) edges.now.items) }
     ensures { set.new ≡ record set.old { items = add_all set.old.items (sources (passes behind ahead) edges.now.items) } }
@@ -170,7 +170,7 @@ fn add_still(set: &mut SparseSet, edges: &Vec<Source>, behind: Seen, ahead: Seen
     }
 }
 
-/// Adds the places from which edges lead that are passed over the byte.
+/// Adds the places from which edges come that are followed over the byte.
 fn add_reading(set: &mut SparseSet, edges: &Vec<Source>, byte: Option<u8>)
     requires { AreBelow set.old.capacity (map (λ (e : Source). e.from) edges.now.items) }
     ensures { set.new ≡ record set.old { items = add_all set.old.items (sources (reads_over byte) edges.now.items) } }
@@ -192,7 +192,7 @@ fn add_list(set: &mut SparseSet, list: &[usize])
     }
 }
 
-/// Which of the roots is the first that is in the set.
+/// Returns the index of the first root that is in the set.
 fn first_root(set: &SparseSet, roots: &[usize]) -> Option<usize>
     requires { AreBelow set.now.capacity roots.now }
     ensures { IsFirstRoot (λ q. HasPlace q set.now.items) roots.now result }
@@ -205,7 +205,7 @@ fn first_root(set: &SparseSet, roots: &[usize]) -> Option<usize>
     None
 }
 
-/// The edges that lead to the place.
+/// Returns the edges that lead to the place.
 fn edges_into(reversed: &Reversed, place: usize) -> &Vec<Source>
     requires { place < length reversed.now.into.items }
     ensures { result.now.items ≡ into_at reversed.now place }
@@ -213,9 +213,8 @@ fn edges_into(reversed: &Reversed, place: usize) -> &Vec<Source>
     &reversed.into[place]
 }
 
-/// Goes back from the places that were entered, by the edges that read nothing, until each that
-/// leads to them was entered; and lists the places from which edges over the byte lead to one of
-/// them.
+/// Follows epsilon edges backwards from the places in `entered`, until no more are found. Adds to
+/// `listed` the places from which edges over the byte `before` lead to one of them.
 fn go_back(
     reversed: &Reversed,
     behind: Seen,
@@ -242,13 +241,14 @@ fn go_back(
     }
 }
 
-/// Makes `to` the state to which a byte leads back from a state, or the beginning of what a search
-/// sees, if `before` is None; of the roots its `stop` tells the first that reached the end before
-/// that byte was read. Lines end at the byte `terminator`. `needs` says what the program's
-/// assertions ask for, and `reversed` its edges.
+/// Makes `to` the state to which the byte `before` leads back from a state. If `before` is None, it
+/// is the state at the beginning of what the search sees. The `stop` of `to` is the index of the
+/// first root from which a walk leads to the end, from the position behind that byte. Lines end at
+/// the byte `terminator`, `needs` is what the program's assertions ask for, and `reversed` has its
+/// edges.
 ///
-/// No memory is taken but what the list of `to` grows by. An `Err` is want of it; then `to` is some
-/// state.
+/// Nothing is allocated but what the list of `to` grows by. `Err` means out of memory; then `to` is
+/// some state.
 pub fn prior(
     reversed: &Reversed,
     needs: Needs,
@@ -286,8 +286,9 @@ pub fn prior(
     Ok(())
 }
 
-/// Makes `to` the state at the end of a match: the match places. `after` is the byte there, or None
-/// at the end of what a search sees. An `Err` means out of memory; then `to` is some state.
+/// Makes `to` the state at the end of a match: all match places. `after` is the byte at that
+/// position, or None at the end of what the search sees. `Err` means out of memory; then `to` is
+/// some state.
 pub fn last(
     places: &[BytePlace],
     needs: Needs,

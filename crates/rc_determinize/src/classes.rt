@@ -12,7 +12,7 @@ use rc_pattern::hir::ClassBytesRange;
 use rc_utf8::place::{BytePlace, ByteWay};
 use std::alloc::{AllocError, Global};
 
-/// Not the same is told.
+/// Whether a step knows different facts of the two bytes.
 fn is_other(one: Seen, other: Seen) -> bool
     ensures { result ≡ is_other one other }
 {
@@ -23,7 +23,8 @@ fn is_other(one: Seen, other: Seen) -> bool
         || one.word != other.word
 }
 
-/// The range from the one byte to the other has one of a byte and the next, and not the other.
+/// Whether the range from `first` to `last` contains the byte but not the next one, or the other
+/// way round.
 fn parts(byte: u8, first: u8, last: u8) -> bool
     requires { byte < 255 }
     ensures { result ≡ parts byte (first, last) }
@@ -33,7 +34,7 @@ fn parts(byte: u8, first: u8, last: u8) -> bool
     here != next
 }
 
-/// Whether one of the ranges parts the byte from the next.
+/// Whether one of the ranges separates the byte from the next one.
 fn ranges_part(byte: u8, ranges: &Vec<ClassBytesRange>) -> bool
     requires { byte < 255 }
     ensures { result ≡ list_any (parts byte) (map byte_range ranges.now.items) }
@@ -46,7 +47,7 @@ fn ranges_part(byte: u8, ranges: &Vec<ClassBytesRange>) -> bool
     false
 }
 
-/// Whether one of the ways parts the byte from the next.
+/// Whether one of the ways separates the byte from the next one.
 fn ways_part(byte: u8, ways: &Vec<ByteWay>) -> bool
     requires { byte < 255 }
     ensures { result ≡ list_any (parts byte) (map (λ (w : ByteWay). (w.first, w.last)) ways.now.items) }
@@ -59,7 +60,7 @@ fn ways_part(byte: u8, ways: &Vec<ByteWay>) -> bool
     false
 }
 
-/// Whether the place may tell the byte from the next.
+/// Whether the place may tell the byte from the next one.
 fn place_parts(byte: u8, place: &BytePlace) -> bool
     requires { byte < 255 }
     ensures { result ≡ list_any (parts byte) (ranges_of (place_of place.now)) }
@@ -72,7 +73,7 @@ fn place_parts(byte: u8, place: &BytePlace) -> bool
     }
 }
 
-/// Whether some place may tell the byte from the next.
+/// Whether some place may tell the byte from the next one.
 fn are_parted(places: &[BytePlace], byte: u8) -> bool
     requires { byte < 255 }
     ensures { result ≡ are_parted (places_of places.now) byte }
@@ -85,8 +86,8 @@ fn are_parted(places: &[BytePlace], byte: u8) -> bool
     false
 }
 
-/// Whether some place or some assertion of the program may tell the byte from the next, or the one
-/// is read and the other not.
+/// Whether a class ends at the byte: some place or some assertion of the program may tell it from
+/// the next byte, or only one of the two may be read.
 fn is_border(places: &[BytePlace], needs: Needs, terminator: u8, byte: u8) -> bool
     requires { byte < 255 }
     ensures { result ≡ is_border (places_of places.now) needs terminator byte }
@@ -99,9 +100,9 @@ fn is_border(places: &[BytePlace], needs: Needs, terminator: u8, byte: u8) -> bo
         || (needs.unicode && byte == 127)
 }
 
-/// The class of each byte, from 0 on: a class ends only if some place or some assertion of the
-/// program may tell a byte from the next, or the one is read and the other not. An `Err` means out
-/// of memory.
+/// Returns the class of each of the 256 bytes, numbered from 0 on. A class ends only where some
+/// place or some assertion of the program may tell a byte from the next one, or only one of the two
+/// may be read. `Err` means out of memory.
 pub fn classes(
     alloc: Global,
     places: &[BytePlace],
@@ -122,7 +123,7 @@ pub fn classes(
     Ok(classes)
 }
 
-/// Each byte as a class of its own. An `Err` means out of memory.
+/// Returns each of the 256 bytes as a class of its own. `Err` means out of memory.
 pub fn single_classes(alloc: Global) -> Result<Vec<u8>, AllocError>
     ensures { IfOk result (λ classes. AreSingle classes.items) }
 {

@@ -31,7 +31,7 @@ use rc_text::types::MatchKind;
 use rc_utf8::place::BytePlace;
 use std::alloc::AllocError;
 
-/// Puts the places onto the empty stack, the first uppermost.
+/// Replaces the stack by the places, the first of them on top.
 pub fn stack_up(list: &[usize], stack: &mut Vec<usize>) -> Result<(), AllocError>
     ensures { IfOk result (λ _. stack.new.items ≡ reverse list.now) }
 {
@@ -41,9 +41,9 @@ pub fn stack_up(list: &[usize], stack: &mut Vec<usize>) -> Result<(), AllocError
     Ok(())
 }
 
-/// Goes on from the places on the stack, the uppermost first, by the ways that read nothing, until
-/// a match place is found, which is answered, or none is left. The places to which the byte leads
-/// are added as they are found.
+/// Follows epsilon ways from the places on the stack, the top one first, and adds the places to
+/// which the byte leads to `listed`, in that order. Returns the first match place that it comes to,
+/// and follows nothing behind it; or None once the stack is empty.
 fn follow(
     places: &[BytePlace],
     behind: Seen,
@@ -73,8 +73,8 @@ fn follow(
     Ok(None)
 }
 
-/// Goes on from the places on the stack, by the ways that read nothing, until none is left, and
-/// returns the least match place found. The places to which the byte leads are added.
+/// Follows epsilon ways from the places on the stack until it is empty, and adds the places to
+/// which the byte leads to `listed`. Returns the least match place that it came to.
 fn gather(
     places: &[BytePlace],
     behind: Seen,
@@ -103,14 +103,14 @@ fn gather(
     Ok(least)
 }
 
-/// Walks may begin at the positions to come, unless a match was found.
+/// Whether walks may begin at later positions: they did so far, and no match was found.
 pub fn goes_on(from: &State, stop: Option<usize>) -> bool
     ensures { result ≡ (from.now.goes_on && is_none stop) }
 {
     from.goes_on && stop.is_none()
 }
 
-/// The step if the preferred match is sought.
+/// The step for leftmost-first.
 fn next_preferred(
     places: &[BytePlace],
     needs: Needs,
@@ -150,7 +150,7 @@ fn next_preferred(
     Ok(())
 }
 
-/// The step if each match counts.
+/// The step for `MatchKind::All`.
 fn next_of_all(
     places: &[BytePlace],
     needs: Needs,
@@ -189,12 +189,13 @@ fn next_of_all(
     Ok(())
 }
 
-/// Makes `to` the state to which a byte leads from a state, or the end of what a search sees, if
-/// `after` is None. Matches of this kind are sought, walks begin at the place `root`, and lines end
-/// at the byte `terminator`. `needs` says what the program's assertions ask for.
+/// Makes `to` the state to which the byte `after` leads from a state. If `after` is None, it is the
+/// state behind the end of what the search sees. States are those for matches of this kind, walks
+/// begin at the place `root`, and lines end at the byte `terminator`. `needs` is what the program's
+/// assertions ask for.
 ///
-/// No memory is taken but what the lists of `scratch` and `to` grow by. An `Err` is want of it;
-/// then `to` is some state.
+/// Nothing is allocated but what the lists of `scratch` and `to` grow by. `Err` means out of
+/// memory; then `to` is some state.
 pub fn next_by(
     kind: MatchKind,
     places: &[BytePlace],
@@ -224,9 +225,9 @@ pub fn next_by(
     }
 }
 
-/// Makes `to` the state before the first byte, where walks begin at the place `root`, and at later
-/// positions too unless the search is anchored. `before` is the byte before, or None at the
-/// beginning of what a search sees. An `Err` means out of memory; then `to` is some state.
+/// Makes `to` the start state: walks begin at the place `root`, and at later positions too unless
+/// the search is anchored. `before` is the byte before the start, or None at the beginning of what
+/// the search sees. `Err` means out of memory; then `to` is some state.
 pub fn first(
     needs: Needs,
     terminator: u8,

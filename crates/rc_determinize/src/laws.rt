@@ -5,14 +5,14 @@ ghost use Rattle.rc_determinize.specs.Spans.{GreatestSpanLaw};
 ghost use Rattle.rc_determinize.specs.Kinds.{KindLaw};
 ghost use Rattle.rc_determinize.specs.LongestLaws.{LongestForwardLaw, LongestSpanLaw, LongestStepLaw};
 
-/// A search that goes from state to state, a byte at a time, gives where the first walk of the
-/// least start ends.
+/// A search from state to state, a byte at a time, gives where the first walk of the least start
+/// ends.
 pub fn states_carry_first_walks()
     ensures { ForwardLaw }
 {}
 
-/// A search that comes down from an end tells at each position whether walks lead from there to
-/// that end.
+/// A search from state to state downwards from an end reports at each position whether a walk leads
+/// from there to that end.
 pub fn states_tell_starts()
     ensures { BackwardLaw }
 {}
@@ -23,42 +23,43 @@ pub fn ends_and_starts_are_answers()
     ensures { SpanLaw }
 {}
 
-/// A search if each match counts tells at each position whether a walk ends there.
+/// With `MatchKind::All`, a search from state to state reports at each position whether a walk ends
+/// there.
 pub fn states_gather_walks()
     ensures { GatherLaw }
 {}
 
-/// A step of each kind is the same over bytes that are alike, and its state holds places of the
+/// A step of each kind is the same over bytes that are alike. Its state lists places of the
 /// program, each once.
 pub fn steps_are_of_a_kind()
     ensures { KindLaw }
 {}
 
-/// No step can tell bytes of one class apart.
+/// No step tells bytes of one class apart.
 pub fn classes_are_alike()
     ensures { ClassLaw }
 {}
 
-/// If each match counts, the last end that is found forwards, and backwards from it the least start
-/// and there the first root, are the greatest span.
+/// With `MatchKind::All`, the greatest span ends at the last end that is found forwards. It begins
+/// at the least start that is found backwards from there, and is of the first root there.
 pub fn last_ends_and_least_starts_are_greatest()
     ensures { GreatestSpanLaw }
 {}
 
-/// A search that goes from state to state, a byte at a time, if the longest match is sought, gives
-/// where the longest walk of the least start that has one ends.
+/// For leftmost-longest, a search from state to state, a byte at a time, gives where the longest
+/// walk of the least start that has one ends.
 pub fn states_carry_longest_walks()
     ensures { LongestForwardLaw }
 {}
 
-/// That end and the least start that is found backwards from it are those of the longest match of
-/// the least start.
+/// For leftmost-longest, the end that is found forwards and the least start that is found backwards
+/// from it are the match's.
 pub fn ends_and_starts_are_longest()
     ensures { LongestSpanLaw }
 {}
 
-/// A step if the longest match is sought is the same over bytes that are alike, and its state holds
-/// places of the program, each once, and fewer marks than places.
+/// A step for leftmost-longest is the same over bytes that are alike. Its state lists places of the
+/// program, each once, and fewer marks than places.
 pub fn steps_part_starts()
     ensures { LongestStepLaw }
 {}

@@ -19,9 +19,9 @@ use crate::state::State;
 use rc_utf8::place::BytePlace;
 use std::alloc::AllocError;
 
-/// Goes on from the places on the stack, the uppermost first, by the ways that read nothing, until
-/// none is left, and returns the first match place that was found. The places to which the byte
-/// leads are added as they are found.
+/// Follows epsilon ways from the places on the stack, the top one first, until it is empty. Adds
+/// the places to which the byte leads to `listed`, in that order. Returns the first match place
+/// that it came to.
 fn close(
     places: &[BytePlace],
     behind: Seen,
@@ -52,7 +52,8 @@ fn close(
     Ok(first)
 }
 
-/// Where the group ends that begins at the index `from`.
+/// Returns the index of the mark that ends the group which begins at the index `from`, or the
+/// list's length.
 fn group_end(list: &[usize], from: usize, mark: usize) -> usize
     requires { from < length list.now }
     ensures inside { (from ≤ result) × (result ≤ length list.now) }
@@ -67,8 +68,8 @@ fn group_end(list: &[usize], from: usize, mark: usize) -> usize
     list.len()
 }
 
-/// Closes over the groups of the list, one after the other, up to the first that meets a match, and
-/// returns its place. What comes of them is put into `to`.
+/// Closes over the groups of the list, one after another, up to the first with a match. Returns the
+/// match place. The places to which the byte leads go into `to`, again in groups.
 fn close_groups(
     places: &[BytePlace],
     behind: Seen,
@@ -104,7 +105,9 @@ fn close_groups(
     Ok(None)
 }
 
-/// The step if the longest match of the least start is sought.
+/// Makes `to` the state to which the byte `after` leads from a state, for leftmost-longest. A match
+/// drops the groups behind its own, and nothing of its own. `Err` means out of memory; then `to` is
+/// some state.
 pub fn next_longest(
     places: &[BytePlace],
     needs: Needs,

@@ -15,7 +15,7 @@ use rc_program::ranges::has_byte;
 use rc_utf8::place::{BytePlace, ByteWay};
 use std::alloc::AllocError;
 
-/// The place of the index.
+/// Returns the place at the index.
 pub fn place_at(places: &[BytePlace], index: usize) -> &BytePlace
     requires { index < length places.now }
     ensures { place_of result.now ≡ place_at (places_of places.now) index }
@@ -23,7 +23,7 @@ pub fn place_at(places: &[BytePlace], index: usize) -> &BytePlace
     &places[index]
 }
 
-/// Adds the place, where the set doesn't have it.
+/// Adds the place unless the set has it.
 pub fn add(listed: &mut SparseSet, place: usize)
     requires { place < listed.old.capacity }
     ensures { listed.new ≡ record listed.old { items = add_one listed.old.items place } }
@@ -31,7 +31,7 @@ pub fn add(listed: &mut SparseSet, place: usize)
     listed.insert(place);
 }
 
-/// Adds the place where walks may begin, if they still may.
+/// Adds the place where walks begin, if they still may.
 pub fn add_root(listed: &mut SparseSet, root: usize, goes_on: bool)
     requires { root < listed.old.capacity }
     ensures { listed.new ≡ record listed.old { items = add_all listed.old.items (root_if goes_on root) } }
@@ -41,7 +41,7 @@ pub fn add_root(listed: &mut SparseSet, root: usize, goes_on: bool)
     }
 }
 
-/// Adds the places to which the ways over the byte lead.
+/// Adds the places to which ways over the byte lead.
 fn add_ways(listed: &mut SparseSet, ways: &Vec<ByteWay>, byte: u8)
     requires { AreBelow listed.old.capacity (map (λ (w : ByteWay). w.next) ways.now.items) }
     ensures { listed.new ≡ record listed.old { items = add_all listed.old.items (read_places (branch_ways byte (map way_of ways.now.items))) } }
@@ -53,7 +53,7 @@ fn add_ways(listed: &mut SparseSet, ways: &Vec<ByteWay>, byte: u8)
     }
 }
 
-/// A walk may end at the place.
+/// Whether a walk may end at the place.
 pub fn is_match(place: &BytePlace) -> bool
     ensures { result ≡ is_match_place None (place_of place.now) }
 {
@@ -63,8 +63,8 @@ pub fn is_match(place: &BytePlace) -> bool
     }
 }
 
-/// Puts the places to which ways lead that read nothing onto the stack, the first uppermost, and
-/// adds those to which the byte leads.
+/// Pushes the places to which epsilon ways lead, so that the first is on top, and adds to `listed`
+/// those to which the byte leads. `Err` means out of memory.
 pub fn open(
     place: &BytePlace,
     behind: Seen,
@@ -126,7 +126,7 @@ pub fn open(
     }
 }
 
-/// The lesser of what was found and this place, if a walk may end at it.
+/// Returns the lesser of `least` and this place, if a walk may end at it.
 pub fn least_with(least: Option<usize>, here: &BytePlace, index: usize) -> Option<usize>
     ensures { result ≡ least_with (is_match_place None (place_of here.now)) least index }
 {
@@ -139,7 +139,7 @@ pub fn least_with(least: Option<usize>, here: &BytePlace, index: usize) -> Optio
     }
 }
 
-/// What was found first, with this place behind, if a walk may end at it.
+/// Returns `first` if it is Some; else this place, if a walk may end at it.
 pub fn first_with(first: Option<usize>, here: &BytePlace, index: usize) -> Option<usize>
     ensures { result ≡ first_with (is_match_place None (place_of here.now)) first index }
 {

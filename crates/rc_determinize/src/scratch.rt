@@ -6,7 +6,7 @@ use crate::sparse_set::SparseSet;
 use std::alloc::{AllocError, Global};
 use std::marker::Model;
 
-/// What a step works with, made once for a program. Between steps it says nothing.
+/// The memory of steps, made once for a program. Its content doesn't matter between steps.
 #[derive(Drop)]
 pub struct Scratch {
     pub(crate) stack: Vec<usize>,
@@ -25,7 +25,7 @@ impl Model for Scratch {
 }
 
 impl Scratch {
-    /// Scratch for programs of this many places. An `Err` means out of memory.
+    /// Scratch memory for programs of so many places. `Err` means out of memory.
     pub fn new(alloc: Global, places: usize) -> Result<Scratch, AllocError>
         ensures { IfOk result (λ scratch. scratch ≡ places) }
     {

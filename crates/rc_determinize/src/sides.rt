@@ -7,37 +7,38 @@ ghost use Rattle.rc_determinize.specs.Sides.{seen_of, holds_by, told, is_unicode
 use rc_pattern::hir::Look;
 use rc_utf8::place::BytePlace;
 
-/// What is known of one side of a position.
+/// The facts about one side of a position.
 #[derive(Clone, Copy, PartialEq, Eq)]
 pub struct Seen {
-    /// Nothing is there.
+    /// There is no byte: what the search sees ends here.
     pub edge: bool,
-    /// The line terminator is there.
+    /// The byte is the line terminator.
     pub terminator: bool,
-    /// An LF is there.
+    /// The byte is an LF.
     pub line_feed: bool,
-    /// A CR is there.
+    /// The byte is a CR.
     pub carriage_return: bool,
-    /// A letter, a digit or `_` of ASCII is there.
+    /// The byte is an ASCII letter, an ASCII digit or `_`.
     pub word: bool,
 }
 
-/// What a program's assertions ask of a side.
+/// The facts that a program's assertions ask for.
 #[derive(Clone, Copy, PartialEq, Eq)]
 pub struct Needs {
     /// The facts that some assertion asks for.
     pub facts: Seen,
-    /// Some assertion speaks of Unicode's words, so that a byte of at least 128 can't be read.
+    /// Some assertion depends on Unicode's words, so that bytes of at least 128 can't be read.
     pub unicode: bool,
 }
 
+/// Whether the byte is an ASCII letter, an ASCII digit or `_`.
 fn is_word_byte(byte: u8) -> bool
     ensures { result ≡ is_word_byte byte }
 {
     matches!(byte, b'0'..=b'9' | b'A'..=b'Z' | b'_' | b'a'..=b'z')
 }
 
-/// All that is known of a byte, or of the end.
+/// Returns all facts about a byte, or about an end.
 fn seen_of(terminator: u8, byte: Option<u8>) -> Seen
     ensures { result ≡ seen_of terminator byte }
 {
@@ -59,8 +60,8 @@ fn seen_of(terminator: u8, byte: Option<u8>) -> Seen
     }
 }
 
-/// What is known of a byte, or of the end, as far as the program asks. Lines end at the byte
-/// `terminator`.
+/// Returns the facts about a byte, or about an end, for which the program asks; all others are
+/// false. Lines end at the byte `terminator`.
 pub fn told(needs: Needs, terminator: u8, byte: Option<u8>) -> Seen
     ensures { result ≡ told needs terminator byte }
 {
@@ -74,7 +75,7 @@ pub fn told(needs: Needs, terminator: u8, byte: Option<u8>) -> Seen
     }
 }
 
-/// Whether the assertion holds between what is known of the two sides.
+/// Whether the assertion holds, by the facts about the two sides.
 pub(crate) fn holds_by(before: Seen, after: Seen, look: Look) -> bool
     ensures { result ≡ holds_by before after look }
 {
@@ -98,7 +99,7 @@ pub(crate) fn holds_by(before: Seen, after: Seen, look: Look) -> bool
     }
 }
 
-/// The assertion speaks of Unicode's words.
+/// Whether the assertion depends on Unicode's words.
 fn is_unicode(look: Look) -> bool
     ensures { result ≡ is_unicode look }
 {
@@ -113,7 +114,7 @@ fn is_unicode(look: Look) -> bool
     )
 }
 
-/// What the assertion asks for, beside what is asked for already.
+/// Adds to `needs` the facts that the assertion asks for.
 fn asking(look: Look, needs: Needs) -> Needs
     ensures { result ≡ asking look needs }
 {
@@ -153,7 +154,7 @@ fn asking(look: Look, needs: Needs) -> Needs
     }
 }
 
-/// The assertion that is at the place.
+/// Returns the assertion of the place, if it has one.
 fn guarded(place: &BytePlace) -> Option<Look>
     ensures { result ≡ guarded (place_of place.now) }
 {
@@ -163,7 +164,7 @@ fn guarded(place: &BytePlace) -> Option<Look>
     }
 }
 
-/// What the assertions of a program ask for: all that they ask for, and nothing else.
+/// Returns exactly the facts that the assertions of a program ask for.
 pub fn needs_of(places: &[BytePlace]) -> Needs
     ensures { AreNeeds result (places_of places.now) }
 {

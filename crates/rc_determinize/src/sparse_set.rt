@@ -11,9 +11,9 @@ use std::marker::Model;
 /// A set of numbers below its capacity.
 #[derive(Drop)]
 pub struct SparseSet {
-    /// The members, in the order in which they were inserted.
+    /// The members, in the order of insertion.
     dense: Vec<usize>,
-    /// At a member, where it is in `dense`.
+    /// For each member, its index in `dense`.
     sparse: Vec<usize>,
 }
 
@@ -28,7 +28,7 @@ impl Model for SparseSet {
 }
 
 impl SparseSet {
-    /// An empty set of numbers below `capacity`.
+    /// An empty set of numbers below `capacity`. `Err` means out of memory.
     pub fn new(alloc: Global, capacity: usize) -> Result<SparseSet, AllocError>
         ensures { IfOk result (λ s. s ≡ record { capacity = capacity; items = [] }) }
     {
@@ -37,8 +37,7 @@ impl SparseSet {
         Ok(SparseSet { dense, sparse })
     }
 
-    /// Puts the members into the list, in the order in which they were inserted, in place of what
-    /// it held.
+    /// Replaces the list by the members, in the order of insertion. `Err` means out of memory.
     pub fn copy_to(&self, list: &mut Vec<usize>) -> Result<(), AllocError>
         ensures { IfOk result (λ _. list.new.items ≡ self.now.items) }
     {
@@ -46,8 +45,8 @@ impl SparseSet {
         list.extend_from_slice(&self.dense)
     }
 
-    /// Adds the members from number `from` on to the list, in the order in which they were
-    /// inserted, behind a mark if the list holds any.
+    /// Appends the members from number `from` on, in the order of insertion. If there are any and
+    /// the list isn't empty, a mark comes first. `Err` means out of memory.
     pub fn part_to(&self, from: usize, mark: usize, list: &mut Vec<usize>) -> Result<(), AllocError>
         requires { from ≤ length self.now.items }
         ensures { IfOk result (λ _. list.new.items ≡ with_group mark list.old.items (drop from self.now.items)) }
@@ -61,7 +60,7 @@ impl SparseSet {
         list.extend_from_slice(&self.dense[from..])
     }
 
-    /// Puts the members into the list in rising order, in place of what it held.
+    /// Replaces the list by the members in rising order. `Err` means out of memory.
     pub fn rise_to(&self, list: &mut Vec<usize>) -> Result<(), AllocError>
         ensures rising { IfOk result (λ _. IsRising list.new.items) }
         ensures members { IfOk result (λ _. (q : ℕ) → HasPlace q list.new.items ↔ HasPlace q self.now.items) }
@@ -75,7 +74,8 @@ impl SparseSet {
         Ok(())
     }
 
-    /// How many members there are, and that each is below the capacity and none is there twice.
+    /// Returns how many members there are. By its contract, each is below the capacity and none is
+    /// there twice.
     pub fn len(&self) -> usize
         ensures value { result ≡ length self.now.items }
         ensures set { IsSet self.now.capacity self.now.items }
@@ -83,7 +83,7 @@ impl SparseSet {
         self.dense.len()
     }
 
-    /// The member that was inserted as number `place`, counted from 0.
+    /// Returns the member that was inserted as number `place`, counted from 0.
     pub fn get(&self, place: usize) -> usize
         requires { place < length self.now.items }
         ensures { result ≡ slice_index self.now.items place }
@@ -91,12 +91,14 @@ impl SparseSet {
         self.dense[place]
     }
 
+    /// Removes all members, in constant time.
     pub fn clear(&mut self)
         ensures { self.new ≡ record self.old { items = [] } }
     {
         self.dense.clear();
     }
 
+    /// Whether the number is a member.
     pub fn contains(&self, number: usize) -> bool
         requires { number < self.now.capacity }
         ensures { MatchBool result (HasPlace number self.now.items) (¬ HasPlace number self.now.items) }
@@ -105,7 +107,7 @@ impl SparseSet {
         index < self.dense.len() && self.dense[index] == number
     }
 
-    /// Returns whether the number was new.
+    /// Inserts the number, and returns whether it is new.
     pub fn insert(&mut self, number: usize) -> bool
         requires { number < self.old.capacity }
         ensures member { MatchBool result (¬ HasPlace number self.old.items) (HasPlace number self.old.items) }

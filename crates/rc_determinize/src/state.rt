@@ -2,20 +2,20 @@
 
 use crate::sides::Seen;
 
-/// A state: where a search is between two bytes, whatever the text is.
+/// A DFA state: all that a search keeps between two bytes.
 #[derive(Drop)]
 pub struct State {
-    /// The places, by their indices in the program, from none of which the search has gone on yet.
-    /// Forwards these are the places to which the byte before led, in order of preference; if each
-    /// match counts, and backwards, they are a set, in rising order. If the longest match is
-    /// sought, the number of places of the program is between places of walks from different
-    /// starts, as a mark.
+    /// The places under way, before their epsilon closure. Forwards, they are those to which the
+    /// byte before led, in order of preference. For `MatchKind::All`, and backwards, they are a set
+    /// in rising order. For leftmost-longest, a mark separates places of walks from different
+    /// starts: it is the program's number of places.
     pub list: Vec<usize>,
-    /// What is known of the byte that was read last: that behind it, or backwards that ahead of it.
+    /// The facts about the byte that was read last: forwards the one before, backwards the one
+    /// ahead.
     pub beside: Seen,
-    /// A walk may begin at each position to come. Backwards it is false.
+    /// Whether a walk may begin at each position to come. Backwards it is false.
     pub goes_on: bool,
-    /// What the search found at the position that it left: forwards a match place, backwards which
-    /// of the roots reaches the end.
+    /// The match that the search found at the position that it just left: forwards the match place,
+    /// backwards the index of the root that reaches the end.
     pub stop: Option<usize>,
 }

@@ -1,4 +1,4 @@
--- What an automaton is.
+-- Determinizers: what an automaton is.
 use Rattle.std.specs.Prelude.{◌≡◌, ℕ, Bool, List}
 use Rattle.rc_text.specs.declared.types.MatchKind.{MatchKind}
 use Rattle.rc_program.specs.Program.{Place}
@@ -15,11 +15,11 @@ abbrev pub direction_of : MatchKind → code.Direction → Direction
 direction_of kind code_variants.Forwards = forwards kind
 direction_of kind code_variants.Backwards = backwards
 
--- the machine that it is in this direction
+-- The machine that it is in this direction.
 abbrev pub machine_of : Automaton → code.Direction → Machine
 machine_of a d = record { setting = setting_of a.places.items a.needs a.terminator; entries = a.entries.items; direction = direction_of a.kind d }
 
--- the class of each byte, and a byte of each class
+-- The class of each byte, and a byte of each class.
 abbrev pub classes_of : Automaton → List ℕ
 classes_of a = a.classes.items
 
@@ -28,7 +28,7 @@ samples_of a = a.samples.items
 
 -- It is that of these places.
 pub record IsMadeOf (places : List Place) (entries : List ℕ) (terminator : ℕ) (kind : MatchKind) (byte_classes : Bool) (a : Automaton) : Type 0 where
-  -- what the program's assertions ask for
+  -- What the program's assertions ask for.
   pub needs : Needs
   pub are_needs : AreNeeds needs places
   pub machine : (d : code.Direction) → machine_of a d

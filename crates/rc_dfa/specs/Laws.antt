@@ -1,4 +1,4 @@
--- The laws of machines and of their runs.
+-- Laws of determinizers and of their runs.
 use Rattle.std.specs.Prelude.{◌≡◌, ℕ, ◌+◌, ◌<◌, ◌≤◌, Bool, true, false, List, [], ◌∷◌, length, Option, Some, None, IsTrue, slice_get, slice_index}
 use Rattle.std.specs.Option.{option_map}
 use Rattle.rc_text.specs.declared.types.MatchKind.{MatchKind}
@@ -20,58 +20,60 @@ use Rattle.rc_determinize.specs.Spans.{IsLastSoFar}
 use Rattle.rc_dfa.specs.Machine.{Machine, forwards, backwards, entry_bound, longest_in, IsListIn, Leads, Begins, IsMachine}
 use Rattle.rc_dfa.specs.Runs.{met_last, stopped_at, SearchEnds, SearchEndsDown}
 
--- The state has places of the program, each once, so it is no longer than the program; or than twice the program where it has marks.
+-- The state has places of the program, each once. So it is no longer than the program, or than
+-- twice the program if it has marks.
 pub record IsWithin (m : Machine) (s : State) : Type 0 where
   pub places : IsListIn m.direction (length m.setting.places) s.list
   pub below : AreBelow (entry_bound m.direction (length m.setting.places)) s.list
   pub short : length s.list ≤ longest_in m.direction (length m.setting.places)
 
--- what holds of the states of a machine
+-- What holds of the states of a determinizer.
 pub record MachineLaw : Type 0 where
   pub begins : (m : Machine) (anchored : Anchored) (beside : Option ℕ) (s : State) → IsMachine m → Begins m anchored beside s → IsWithin m s
   pub leads : (m : Machine) (s t : State) (beside : Option ℕ) → IsMachine m → Leads m s beside t → IsWithin m t
 
--- where a search forwards enters the program
+-- Where a search forwards enters the program.
 abbrev pub starts_of : Machine → Anchored → ℕ → ℕ → List Pair
 starts_of m No from hi = all_starts false 0 from hi
 starts_of m Yes from hi = all_starts true 0 from hi
 starts_of m (Pattern p) from hi = (slice_index m.entries p, from) ∷ []
 
--- the position of what was met
+-- The position of what was found.
 abbrev pub position_of : Option Pair → Option ℕ
 position_of met = option_map (λ (n : Pair). n.1) met
 
--- a walk leads from the root at i to a match place at `end`; to one of this pattern, if one is asked for
+-- A walk leads from the root at i to a match place at `end`; to one of this pattern, if one is
+-- asked for.
 abbrev pub ReachesMatch : Option ℕ → Setting → Text → ℕ → ℕ → ℕ → ℕ → Type 0
 ReachesMatch only g t hi end i root = Reaches (ways g.places t hi) (IsGoal (λ (n : Pair). IsTrue (is_match_place only (place_at g.places n.0))) end) (root, i)
 
--- The least position so far, as `IsLeastSoFar`, at which some root reaches a match place of the pattern that is asked for, and the first root that
--- does.
+-- The least position so far, as in `IsLeastSoFar`, at which some root reaches a match place of the
+-- pattern that is asked for, and the first root that does.
 abbrev pub IsLeastOf : Option ℕ → Setting → Text → ℕ → ℕ → List ℕ → ℕ → Option (ℕ × ℕ) → Type 0
 IsLeastOf only g t hi end roots i None = (y : ℕ) → i ≤ y → y ≤ end → IsFirstRoot (ReachesMatch only g t hi end y) roots None
 IsLeastOf only g t hi end roots i (Some m) =
     (i ≤ m.0) × (m.0 ≤ end) × IsFirstRoot (ReachesMatch only g t hi end m.0) roots (Some m.1)
     × ((y : ℕ) → i ≤ y → y < m.0 → IsFirstRoot (ReachesMatch only g t hi end y) roots None)
 
--- The slice's byte at p is not one of ASCII, where some assertion of the program speaks of Unicode's words; and it is the first so of those that
--- are read: the others of which `IsRead` holds are of ASCII.
+-- The slice's byte at p isn't ASCII, and some assertion of the program depends on Unicode's words.
+-- Of the bytes that are read it is the first of this kind: those of which `IsRead` holds are ASCII.
 pub record IsUnread (m : Machine) (t : Text) (IsRead : ℕ → Type 0) (p : ℕ) : Type 0 where
   pub unicode : IsTrue m.setting.needs.unicode
   pub inside : (t.slice_start ≤ p) × (p < t.slice_end)
   pub byte : (b : ℕ) × (slice_get t.content p ≡ Some b) × (128 ≤ b)
   pub first : (y b : ℕ) → IsRead y → t.slice_start ≤ y → y < t.slice_end → slice_get t.content y ≡ Some b → b < 128
 
--- what the runs of a machine tell
+-- What runs find.
 pub record RunLaw : Type 0 where
-  -- forwards: where the first walk ends
+  -- Forwards, for leftmost-first: where the first walk ends.
   pub first : (m : Machine) (t : Text) (hi from : ℕ) (anchored : Anchored) (r : Option Pair) → IsMachine m → m.direction ≡ forwards leftmost_first →
       m.setting.terminator ≡ t.terminator → IsInside t from hi → SearchEnds m t hi from anchored false (met_last r) →
       Gives (ways m.setting.places t hi) (Stops m.setting.places) [] (starts_of m anchored from hi) r
-  -- forwards, where each match counts: the last position at which a walk ends
+  -- Forwards, for `MatchKind::All`: the last position at which a walk ends.
   pub last : (m : Machine) (t : Text) (hi from : ℕ) (anchored : Anchored) (r : Option Pair) → IsMachine m → m.direction ≡ forwards all_matches →
       m.setting.terminator ≡ t.terminator → IsInside t from hi → SearchEnds m t hi from anchored false (met_last r) →
       IsLastSoFar m.setting t hi (starts_of m anchored from hi) (hi + 1) (position_of r)
-  -- forwards: where the longest walk of the least start ends
+  -- Forwards, for leftmost-longest: where the longest walk of the least start ends.
   pub longest : (m : Machine) (t : Text) (hi from : ℕ) (anchored : Anchored) (r : Option Pair) → IsMachine m → m.direction ≡ forwards leftmost_longest →
       m.setting.terminator ≡ t.terminator → IsInside t from hi → SearchEnds m t hi from anchored false (met_last r) →
       GivesLongest (ways m.setting.places t hi) (Stops m.setting.places) (starts_of m anchored from hi) r
@@ -83,25 +85,27 @@ pub record RunLaw : Type 0 where
   pub none : (kind : MatchKind) (m : Machine) (t : Text) (hi from : ℕ) (anchored : Anchored) (earliest : Bool) → IsMachine m →
       m.direction ≡ forwards kind → m.setting.terminator ≡ t.terminator → IsInside t from hi → SearchEnds m t hi from anchored earliest (met_last None) →
       (n : Pair) → Comes (ways m.setting.places t hi) (starts_of m anchored from hi) n → ¬ Stops m.setting.places n
-  -- backwards: the least position from which an entry leads to a match place at `end`
+  -- Backwards: the least position from which an entry leads to a match place at `end`.
   pub least : (m : Machine) (t : Text) (hi lo end : ℕ) (anchored : Anchored) (r : Option (ℕ × ℕ)) → IsMachine m → m.direction ≡ backwards →
       m.setting.terminator ≡ t.terminator → IsInside t lo hi → end ≤ hi → SearchEndsDown m t lo end anchored false (met_last r) →
       IsLeastOf (only_pattern anchored) m.setting t hi end m.entries lo r
-  -- which is the least so far where no pattern is asked for
+  -- That is the least so far if no pattern is asked for.
   pub of_any : (g : Setting) (t : Text) (hi end : ℕ) (roots : List ℕ) (lo : ℕ) (r : Option (ℕ × ℕ)) → IsLeastOf None g t hi end roots lo r →
       IsLeastSoFar g t hi end roots lo r
-  -- backwards, whether or not the first that is met is enough
+  -- Backwards, whether or not the first match is enough.
   pub met_down : (m : Machine) (t : Text) (hi lo end : ℕ) (anchored : Anchored) (earliest : Bool) (x k : ℕ) → IsMachine m → m.direction ≡ backwards →
       m.setting.terminator ≡ t.terminator → IsInside t lo hi → end ≤ hi → SearchEndsDown m t lo end anchored earliest (met_last (Some (x, k))) →
       (lo ≤ x) × (x ≤ end) × IsFirstRoot (ReachesMatch (only_pattern anchored) m.setting t hi end x) m.entries (Some k)
   pub none_down : (m : Machine) (t : Text) (hi lo end : ℕ) (anchored : Anchored) (earliest : Bool) → IsMachine m → m.direction ≡ backwards →
       m.setting.terminator ≡ t.terminator → IsInside t lo hi → end ≤ hi → SearchEndsDown m t lo end anchored earliest (met_last None) →
       IsLeastOf (only_pattern anchored) m.setting t hi end m.entries lo None
-  -- where a search stops: forwards it reads the byte before its start, if one stands there, and those from there to its bound and at it
+  -- Where a search stops. Forwards it reads the byte before its start, if there is one, and those
+  -- from there to its bound and at it.
   pub stops : (m : Machine) (t : Text) (hi from : ℕ) (anchored : Anchored) (earliest : Bool) (p : ℕ) → IsInside t from hi → from ≤ hi →
       SearchEnds m t hi from anchored earliest (stopped_at p) →
       (from ≤ p + 1) × (p ≤ hi) × IsUnread m t (λ y. (from ≤ y + 1) × (y < p)) p
-  -- backwards the byte at its end, if one stands there, and those from there down to its bound and before it
+  -- Backwards it reads the byte at its end, if there is one, and those from there down to its bound
+  -- and before it.
   pub stops_down : (m : Machine) (t : Text) (hi lo end : ℕ) (anchored : Anchored) (earliest : Bool) (p : ℕ) → IsInside t lo hi → lo ≤ end → end ≤ hi →
       SearchEndsDown m t lo end anchored earliest (stopped_at p) →
       (lo ≤ p + 1) × (p ≤ end) × IsUnread m t (λ y. (p < y) × (y ≤ end)) p

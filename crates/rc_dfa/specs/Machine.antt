@@ -1,4 +1,5 @@
--- What states are made of: a byte program, the direction in which it is searched, and the kind of match that is sought.
+-- Determinizers: what states are made of. It is a byte program, the direction of the search, and
+-- the kind of match.
 use Rattle.std.specs.Prelude.{◌≡◌, ◌↔◌, ℕ, ◌<◌, Bool, true, false, not, ◌&&◌, List, [], ◌∷◌, length, Option, Some, None, nat_eq, slice_get}
 use Rattle.rc_text.specs.declared.types.MatchKind.{MatchKind}
 use Rattle.rc_text.specs.declared.types.Anchored.{Anchored}
@@ -11,18 +12,20 @@ use Rattle.rc_determinize.specs.States.{Setting, IsSetting, State, IsFirst}
 use Rattle.rc_determinize.specs.Kinds.{IsNextBy, bound_of, longest, IsListOf}
 use Rattle.rc_determinize.specs.Backward.{IsPrior, IsLast}
 
--- In which direction the bytes are read, and forwards, which kind of match is sought.
+-- In which direction bytes are read, and forwards, which kind of match is found.
 pub data Direction : Type 0 where
   forwards : MatchKind → Direction
   backwards : Direction
 
--- A byte program, which is entered at place 0, the entry of each of its patterns, in their order, and the direction.
+-- A byte program, which is entered at place 0; the entry of each of its patterns, in their order;
+-- and the direction.
 pub record Machine : Type 0 where
   pub setting : Setting
   pub entries : List ℕ
   pub direction : Direction
 
--- the state to which a byte leads, or the end of what the search sees; backwards a state's `stop` tells which pattern's entry is met
+-- The state to which a byte leads, or the end of what the search sees. Backwards, a state's `stop`
+-- is the pattern whose entry was reached.
 abbrev pub leads_by : Direction → Setting → List ℕ → State → Option ℕ → State → Type 0
 leads_by (forwards kind) g entries = IsNextBy kind g 0
 leads_by backwards g entries = IsPrior g entries
@@ -30,7 +33,8 @@ leads_by backwards g entries = IsPrior g entries
 abbrev pub Leads : Machine → State → Option ℕ → State → Type 0
 Leads m = leads_by m.direction m.setting m.entries
 
--- below which number the entries of a state's list are, and how long it is at most, where the program has so many places
+-- The bound below which all entries of a state's list are, and the greatest length of that list,
+-- for a program of so many places.
 abbrev pub entry_bound : Direction → ℕ → ℕ
 entry_bound (forwards kind) places = bound_of kind places
 entry_bound backwards places = places
@@ -39,12 +43,13 @@ abbrev pub longest_in : Direction → ℕ → ℕ
 longest_in (forwards kind) places = longest kind places
 longest_in backwards places = places
 
--- the list has places of the program, each once; forwards, where the longest match is sought, with marks between them
+-- The list has places of the program, each once; forwards for leftmost-longest with marks between
+-- them.
 abbrev pub IsListIn : Direction → ℕ → List ℕ → Type 0
 IsListIn (forwards kind) places list = IsListOf kind places list
 IsListIn backwards places list = AreOnce list × AreBelow places list
 
--- the state at the end of a match of this pattern: as `IsLast`, with its match places alone
+-- The state at the end of a match of this pattern: it lists the pattern's match places.
 pub record IsLastOf (p : ℕ) (g : Setting) (after : Option ℕ) (s : State) : Type 0 where
   pub list : (q : ℕ) → HasPlace q s.list ↔ (place_at g.places q ≡ accept p)
   pub rising : IsRising s.list
@@ -52,9 +57,10 @@ pub record IsLastOf (p : ℕ) (g : Setting) (after : Option ℕ) (s : State) : T
   pub goes_on : s.goes_on ≡ false
   pub beside : s.beside ≡ told g.needs g.terminator after
 
--- The state in which a search begins, where this byte stands beside, or none. Forwards it enters the program, at the first position
--- alone where it is anchored, and by the entry of the one pattern that is asked for. Backwards it begins at the match places, of the one
--- pattern that is asked for or of all.
+-- The state in which a search begins, with this byte beside it, or none. Forwards it enters the
+-- program: only at the first position if it is anchored, and at the entry of the one pattern that
+-- is asked for. Backwards it begins at the match places, of the one pattern that is asked for or of
+-- all.
 abbrev pub begins_by : Direction → Setting → List ℕ → Anchored → Option ℕ → State → Type 0
 begins_by (forwards kind) g entries No beside s = IsFirst g 0 beside false s
 begins_by (forwards kind) g entries Yes beside s = IsFirst g 0 beside true s
@@ -66,7 +72,7 @@ begins_by backwards g entries (Pattern p) beside s = IsLastOf p g beside s
 abbrev pub Begins : Machine → Anchored → Option ℕ → State → Type 0
 Begins m = begins_by m.direction m.setting m.entries
 
--- searches may be anchored so: the pattern asked for, if any, is one of the program's
+-- Searches may be anchored so: the pattern asked for, if any, is one of the program's.
 abbrev pub IsAsked : Machine → Anchored → Type 0
 IsAsked m (Pattern p) = p < length m.entries
 IsAsked m _ = Unit {0}
@@ -75,28 +81,29 @@ abbrev pub is_empty : List ℕ → Bool
 is_empty [] = true
 is_empty (q ∷ qs) = false
 
--- nothing goes on from the state
+-- Nothing goes on from the state.
 abbrev pub is_dead : State → Bool
 is_dead s = is_empty s.list && not s.goes_on
 
--- the list is that of the place by which the program is entered
+-- The list has nothing but the place at which the program is entered.
 abbrev pub is_root_alone : List ℕ → Bool
 is_root_alone [] = false
 is_root_alone (q ∷ []) = nat_eq q 0
 is_root_alone (q ∷ p ∷ qs) = false
 
--- nothing is under way but walks that begin at the state's position or later
+-- Nothing is under way but walks that begin at the state's position or later.
 abbrev pub is_idle : State → Bool
 is_idle s = is_root_alone s.list && s.goes_on
 
--- What makes it a machine: its places read bytes alone, it is closed, and it and its entries are entered within it.
+-- What makes it a machine: its places read bytes alone, no way leads out of it, and place 0 and the
+-- entries are within it.
 pub record IsMachine (m : Machine) : Type 0 where
   pub setting : IsSetting m.setting
   pub closed : IsClosed m.setting.places
   pub rooted : 0 < length m.setting.places
   pub entered : AreBelow (length m.setting.places) m.entries
 
--- Bytes of one class are read or not alike, and lead to the same states.
+-- Bytes of one class lead to the same states, and either all of them may be read or none.
 pub record AreOfOneClass (m : Machine) (b c : ℕ) : Type 0 where
   pub read : IsReadable m.setting.needs (Some b) → IsReadable m.setting.needs (Some c)
   pub lead : (s t : State) → Leads m s (Some b) t → Leads m s (Some c) t

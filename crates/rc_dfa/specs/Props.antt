@@ -1,5 +1,5 @@
 -- Only proofs use this file.
--- An automaton holds what is known of it in one way alone.
+-- Determinizers: what is known of one has at most one proof.
 use Rattle.std.specs.Prelude.{ℕ, List}
 use Rattle.std.proofs.Props.{props}
 use Rattle.rc_pattern.specs.declared.hir.Look.{Look}

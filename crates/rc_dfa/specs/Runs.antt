@@ -1,4 +1,4 @@
--- Runs from state to state over the bytes of a text. Whatever holds the states, a table or a cache, runs like this.
+-- Runs: from state to state over the bytes of a text. Both DFAs run like this.
 use Rattle.std.specs.Prelude.{◌≡◌, ℕ, ◌+◌, ◌<◌, ◌≤◌, Bool, true, Option, Some, None}
 use Rattle.rc_text.specs.declared.types.Anchored.{Anchored}
 use Rattle.rc_program.specs.Text.{Text, before_at, after_at}
@@ -7,7 +7,7 @@ use Rattle.rc_determinize.specs.States.{State, best_at}
 use Rattle.rc_determinize.specs.Backward.{least_at}
 use Rattle.rc_dfa.specs.Machine.{Machine, Leads, Begins, is_dead, is_idle}
 
--- the byte that stands at the position, or before it, within what the search sees; none at its ends
+-- The byte at the position, or before it, within what the search sees; none at its ends.
 abbrev pub ahead_at : Text → ℕ → Option ℕ
 ahead_at t i = byte_of (after_at t i)
 
@@ -22,52 +22,54 @@ IsByte (Some b) = b < 256
 abbrev pub MayRead : Machine → Option ℕ → Type 0
 MayRead m = IsReadable m.setting.needs
 
--- `Runs m t hi from first i s met`: from the state `first` at the position `from` the bytes up to the position i lead to the state s, and
--- `met` is what was met last on the way, with its position.
+-- `Runs m t hi from first i s met`: from the state `first` at the position `from`, the bytes up to
+-- the position i lead to the state s. `met` is what was found last on the way, with its position.
 pub data Runs (m : Machine) (t : Text) (hi from : ℕ) (first : State) : ℕ → State → Option (ℕ × ℕ) → Type 0 where
   begun : Runs m t hi from first from first None
   goes_on : {met : Option (ℕ × ℕ)} (i : ℕ) (s next : State) → Runs m t hi from first i s met → i < hi → MayRead m (ahead_at t i) →
       Leads m s (ahead_at t i) next → Runs m t hi from first (i + 1) next (best_at i next.stop met)
 
--- How a search forwards ended: with what was met last, if anything, and its position; at a byte that isn't read, at this offset; or at this
--- position, before which nothing was met, and where nothing is under way but walks that begin there or later.
+-- How a search forwards ended: with what was found last, if anything, and its position; at the
+-- offset of a byte that may not be read; or at a position before which nothing was found, and at
+-- which nothing is under way but walks that begin there or later.
 pub data RunEnd : Type 0 where
   met_last : Option (ℕ × ℕ) → RunEnd
   stopped_at : ℕ → RunEnd
   idle_at : ℕ → RunEnd
 
 pub data EndsSo (m : Machine) (t : Text) (hi from : ℕ) (first : State) (earliest : Bool) : RunEnd → Type 0 where
-  -- at the upper bound, where the byte beyond decides what is met there
+  -- At the upper bound, where the byte beyond decides what is found.
   at_bound : {met : Option (ℕ × ℕ)} (s next : State) → Runs m t hi from first hi s met → MayRead m (ahead_at t hi) → Leads m s (ahead_at t hi) next →
       EndsSo m t hi from first earliest (met_last (best_at hi next.stop met))
-  -- where nothing goes on
+  -- Where nothing goes on.
   dead : {met : Option (ℕ × ℕ)} (i : ℕ) (s : State) → Runs m t hi from first i s met → is_dead s ≡ true →
       EndsSo m t hi from first earliest (met_last met)
-  -- at the first that is met, where that is enough
+  -- At the first match, if that is enough.
   early : {met : ℕ × ℕ} (i : ℕ) (s : State) → earliest ≡ true → Runs m t hi from first i s (Some met) →
       EndsSo m t hi from first earliest (met_last (Some met))
   quit : {met : Option (ℕ × ℕ)} (i : ℕ) (s : State) → Runs m t hi from first i s met → i ≤ hi → ¬ MayRead m (ahead_at t i) →
       EndsSo m t hi from first earliest (stopped_at i)
-  -- where the search may be taken up anew
+  -- Where the search may begin anew.
   rests : (i : ℕ) (s : State) → Runs m t hi from first i s None → i ≤ hi → is_idle s ≡ true → EndsSo m t hi from first earliest (idle_at i)
 
--- A whole search forwards: it begins at `from`, as the byte before tells, if that can be read.
+-- A whole search forwards. It begins at `from`, by the byte before, if that may be read.
 pub data SearchEnds (m : Machine) (t : Text) (hi from : ℕ) (anchored : Anchored) (earliest : Bool) : RunEnd → Type 0 where
   ran : {e : RunEnd} (first : State) → MayRead m (behind_at t from) → Begins m anchored (behind_at t from) first →
       EndsSo m t hi from first earliest e → SearchEnds m t hi from anchored earliest e
   unread : (p : ℕ) → p + 1 ≡ from → ¬ MayRead m (behind_at t from) → SearchEnds m t hi from anchored earliest (stopped_at p)
 
--- `RunsDown m t lo end first i s least`: from the state `first` at the position `end` the bytes down to the position i lead to the state s, and
--- `least` is the least position above i at which some entry was met, with the number of the first that was.
+-- `RunsDown m t lo end first i s least`: from the state `first` at the position `end`, the bytes
+-- down to the position i lead to the state s. `least` is the least position above i at which some
+-- entry was reached, with the number of the first that was.
 pub data RunsDown (m : Machine) (t : Text) (lo end : ℕ) (first : State) : ℕ → State → Option (ℕ × ℕ) → Type 0 where
   begun : RunsDown m t lo end first end first None
   goes_down : {least : Option (ℕ × ℕ)} (i : ℕ) (s next : State) → RunsDown m t lo end first (i + 1) s least → lo ≤ i →
       MayRead m (behind_at t (i + 1)) → Leads m s (behind_at t (i + 1)) next →
       RunsDown m t lo end first i next (least_at (i + 1) next.stop least)
 
--- How a search backwards ended, as forwards; the position is the least one.
+-- How a search backwards ended: in one of the same ways, and the position is the least one.
 pub data EndsDown (m : Machine) (t : Text) (lo end : ℕ) (first : State) (earliest : Bool) : RunEnd → Type 0 where
-  -- at the lower bound, where the byte before decides what is met there
+  -- At the lower bound, where the byte before decides what is found.
   at_bound : {least : Option (ℕ × ℕ)} (s next : State) → RunsDown m t lo end first lo s least → MayRead m (behind_at t lo) →
       Leads m s (behind_at t lo) next → EndsDown m t lo end first earliest (met_last (least_at lo next.stop least))
   dead : {least : Option (ℕ × ℕ)} (i : ℕ) (s : State) → RunsDown m t lo end first i s least → is_dead s ≡ true →
@@ -77,7 +79,7 @@ pub data EndsDown (m : Machine) (t : Text) (lo end : ℕ) (first : State) (earli
   quit : {least : Option (ℕ × ℕ)} (p : ℕ) (s : State) → RunsDown m t lo end first (p + 1) s least → lo ≤ p + 1 → ¬ MayRead m (behind_at t (p + 1)) →
       EndsDown m t lo end first earliest (stopped_at p)
 
--- A whole search backwards: it begins at `end`, as the byte there tells, if that can be read.
+-- A whole search backwards. It begins at `end`, by the byte there, if that may be read.
 pub data SearchEndsDown (m : Machine) (t : Text) (lo end : ℕ) (anchored : Anchored) (earliest : Bool) : RunEnd → Type 0 where
   ran : {e : RunEnd} (first : State) → MayRead m (ahead_at t end) → Begins m anchored (ahead_at t end) first →
       EndsDown m t lo end first earliest e → SearchEndsDown m t lo end anchored earliest e

@@ -21,7 +21,7 @@ use rc_text::types::{Anchored, MatchKind};
 use rc_utf8::place::BytePlace;
 use std::alloc::{AllocError, Global};
 
-/// In which direction a search reads.
+/// The direction in which a search reads.
 #[derive(Clone, Copy, Debug, PartialEq, Eq)]
 pub enum Direction {
     /// From a start to an end.
@@ -30,8 +30,8 @@ pub enum Direction {
     Backwards,
 }
 
-/// A byte program, ready to be gone through state by state, in both directions. It is entered at
-/// place 0, and by the entry of each of its patterns.
+/// A determinizer: a byte program with its byte classes and its steps, in both directions. It is
+/// entered at place 0, and at the entry of each of its patterns.
 #[derive(Drop)]
 pub struct Automaton {
     places: Vec<BytePlace>,
@@ -52,8 +52,8 @@ pub struct Automaton {
     ghost sampled: { AreSamples classes.items samples.items },
 }
 
-/// The class of each byte: found by what the program distinguishes, or each byte as a class of its
-/// own.
+/// Returns the class of each byte: by what the program tells apart if `byte_classes` is set, else
+/// each byte as a class of its own.
 fn classes_by(
     alloc: Global,
     places: &[BytePlace],
@@ -83,9 +83,9 @@ impl Automaton {
     ghost use Rattle.rc_program.specs.Program.{place_at};
     ghost use Rattle.rc_program.specs.Answer.{pattern_at};
 
-    /// An automaton of a byte program whose patterns are entered at these places, and whose lines
-    /// end at the byte `terminator`. Forwards it seeks matches of this kind. Unless `byte_classes`
-    /// is set, each byte is a class of its own. An `Err` means out of memory.
+    /// A determinizer for a byte program with these entries, one a pattern. Lines end at the byte
+    /// `terminator`. Forwards it finds matches of this kind. Unless `byte_classes` is set, each
+    /// byte is a class of its own. `Err` means out of memory.
     pub fn new(
         alloc: Global,
         places: Vec<BytePlace>,
@@ -115,15 +115,15 @@ impl Automaton {
         })
     }
 
-    /// How many places the program has.
+    /// Returns how many places the program has.
     pub fn places_len(&self) -> usize
         ensures { (direction : Direction) → result ≡ length (machine_of self.now direction).setting.places }
     {
         self.places.len()
     }
 
-    /// How many entries the list of a state has at most that is gone through in this direction: as
-    /// many as the program has places, and twice as many forwards if the longest match is sought.
+    /// Returns how many entries the list of a state has at most in this direction. That is the
+    /// number of places; forwards for leftmost-longest it is twice as many.
     pub fn longest_list(&self, direction: Direction) -> usize
         ensures { result ≡ longest_in (machine_of self.now direction).direction (length (machine_of self.now direction).setting.places) }
     {
@@ -134,7 +134,7 @@ impl Automaton {
         }
     }
 
-    /// The pattern whose match place this is; 0 if it is none.
+    /// Returns the pattern whose match place this is, or 0 if it is none.
     pub fn pattern_at(&self, place: usize) -> usize
         requires { place < length (machine_of self.now Forwards).setting.places }
         ensures { result ≡ pattern_at (place_at (machine_of self.now Forwards).setting.places place) }
@@ -142,14 +142,14 @@ impl Automaton {
         pattern_of(&self.places[place])
     }
 
-    /// How many patterns it has.
+    /// Returns how many patterns it has.
     pub fn pattern_len(&self) -> usize
         ensures { (direction : Direction) → result ≡ length (machine_of self.now direction).entries }
     {
         self.entries.len()
     }
 
-    /// The class of each byte. No step can tell bytes of one class apart.
+    /// Returns the class of each of the 256 bytes. No step tells bytes of one class apart.
     pub fn classes(&self) -> &[u8]
         ensures value { result.now ≡ classes_of self.now }
         ensures machine { (direction : Direction) → IsMachine (machine_of self.now direction) }
@@ -158,15 +158,15 @@ impl Automaton {
         &self.classes
     }
 
-    /// A byte of each class.
+    /// Returns a byte of each class.
     pub fn samples(&self) -> &[u8]
         ensures { result.now ≡ samples_of self.now }
     {
         &self.samples
     }
 
-    /// Whether a search may read the byte, or the end of what it sees: if some assertion speaks of
-    /// Unicode's words, a byte of at least 128 can't be read.
+    /// Whether a search may read the byte; the end may always be read. If some assertion depends on
+    /// Unicode's words, bytes of at least 128 may not.
     pub fn may_read(&self, byte: Option<u8>) -> bool
         ensures { (direction : Direction) → IsTrue result ↔ IsReadable (machine_of self.now direction).setting.needs byte }
     {
@@ -176,7 +176,7 @@ impl Automaton {
         }
     }
 
-    /// What steps work with. An `Err` means out of memory.
+    /// Scratch memory for steps. `Err` means out of memory.
     pub fn create_scratch(&self, alloc: Global) -> Result<Scratch, AllocError>
         ensures { IfOk result (λ scratch. (direction : Direction) → scratch ≡ length (machine_of self.now direction).setting.places) }
     {
@@ -184,9 +184,9 @@ impl Automaton {
         Scratch::new(alloc, places.len())
     }
 
-    /// Makes `to` the state in which a search begins, if this byte is beside it: before its start,
-    /// or backwards ahead of its end; None at an end of what it sees. An `Err` means out of memory;
-    /// then `to` is some state.
+    /// Makes `to` the state in which a search begins. `beside` is the byte before its start, or
+    /// backwards the byte at its end; None at an end of what the search sees. `Err` means out of
+    /// memory; then `to` is some state.
     pub fn begin(
         &self,
         direction: Direction,
@@ -203,6 +203,7 @@ impl Automaton {
         }
     }
 
+    /// Makes `to` the state in which a search forwards begins. `Err` means out of memory.
     fn begin_forwards(
         &self,
         anchored: Anchored,
@@ -222,6 +223,7 @@ impl Automaton {
         }
     }
 
+    /// Makes `to` the state in which a search backwards begins. `Err` means out of memory.
     fn begin_backwards(
         &self,
         anchored: Anchored,
@@ -244,9 +246,10 @@ impl Automaton {
         }
     }
 
-    /// Makes `to` the state to which a byte leads from a state: the byte ahead, or backwards the
-    /// one before; None is an end of what a search sees. No memory is taken but what the lists of
-    /// `scratch` and `to` grow by. An `Err` is want of it; then `to` is some state.
+    /// Makes `to` the state to which a byte leads from a state. `beside` is the byte ahead, or
+    /// backwards the one before; None at an end of what the search sees. Nothing is allocated but
+    /// what the lists of `scratch` and `to` grow by. `Err` means out of memory; then `to` is some
+    /// state.
     pub fn step(
         &self,
         direction: Direction,

@@ -1,6 +1,6 @@
 //! Search results: how a DFA search ended. Positions are in bytes of the whole content.
 
-/// What a search by states met.
+/// What a DFA search found.
 #[derive(Clone, Copy)]
 pub struct Met {
     /// The number of the pattern.
@@ -10,7 +10,7 @@ pub struct Met {
     pub at: usize,
 }
 
-/// How a search by states ended.
+/// How a DFA search ended.
 #[derive(Clone, Copy)]
 pub enum Ended {
     /// With what was found last, if anything was.
@@ -18,8 +18,8 @@ pub enum Ended {
     /// At this position: nothing was found before it, and nothing is under way there but walks that
     /// begin there or later.
     Idle(usize),
-    /// At a byte that isn't read: the byte and its offset.
+    /// At a byte that the search may not read: the byte and its offset.
     Quit(u8, usize),
-    /// It was given up at this position; whether memory was refused.
+    /// It gave up at this position; the flag says whether it ran out of memory.
     GaveUp(usize, bool),
 }

@@ -10,26 +10,27 @@ use rc_text::cursor::Cursor;
 use rc_text::input::Input;
 use rc_text::types::Anchored;
 
-/// The two halves of a search by states: forwards from a start to an end, and backwards from an end
-/// to a start. A table holds all states, and a cache those that were built so far.
+/// The two halves of a DFA search: forwards from a start to an end, and backwards from an end to a
+/// start. The DFA has all states, the lazy DFA those that were reached so far.
 pub trait Halves {
     /// What a search changes.
     type Cache;
 
-    // They are halves of searches by the one machine forwards, and by the other backwards.
+    // They search by the first machine forwards, and by the second backwards.
     ghost AreOf: { Self → Machine → Machine → Type 0 };
     // The cache was made for these halves.
     ghost IsCache: { Self → Self.Cache → Type 0 };
-    // From the one cache to the other at most this many states were added.
+    // From the first cache to the second, at most so many states were added.
     ghost Spends: { Self → Self.Cache → Self.Cache → ℕ → Type 0 };
-    // A search that found the one cache, left the other, and added at most this many states may
-    // have been given up, for out of memory or else.
+    // A search that found the first cache and left the second added at most so many states, and may
+    // have given up, out of memory or not.
     ghost GivesUp: { Self → Self.Cache → Self.Cache → ℕ → Bool → Type 0 };
 
-    /// Searches forwards from the position `from` up to where the input's bounds end, in bytes of
-    /// the whole content: what is found last is returned; with `earliest` the first that is found,
-    /// and nothing is read beyond it. If `may_rest` is set, the search may rest if nothing is under
-    /// way; before the position `rest_from` it is to read on all the same, which is a hint alone.
+    /// Searches forwards from the position `from` up to the end of the input's bounds, in bytes of
+    /// the whole content. Returns what was found last. With `earliest`, it returns what was found
+    /// first, and reads nothing beyond it. With `may_rest`, the search may return at a position
+    /// where nothing is under way. `rest_from` is a hint: before that position it should read on
+    /// all the same.
     fn run_forwards<C: Cursor>(
         &self,
         cache: &mut Self::Cache,
@@ -50,9 +51,8 @@ pub trait Halves {
         ensures spends { Spends self.now cache.old cache.new (high input.old - from + 2) }
         ensures gives_up { (memory : Bool) → gave_up result ≡ Some memory → GivesUp self.now cache.old cache.new (high input.old - from + 2) memory };
 
-    /// Searches backwards from the position `end` down to `from`, in bytes of the whole content:
-    /// the least position at which something is found is returned; with `earliest` the first that
-    /// is found.
+    /// Searches backwards from the position `end` down to `from`, in bytes of the whole content.
+    /// Returns the least position at which something was found; with `earliest`, the first one.
     fn run_backwards<C: Cursor>(
         &self,
         cache: &mut Self::Cache,

@@ -1,14 +1,14 @@
 //! Laws of determinizers and of their runs. The functions do nothing: their contracts are the laws.
 ghost use Rattle.rc_dfa.specs.Laws.{MachineLaw, RunLaw};
 
-/// The states of a machine hold places of its program, each once.
+/// The states of a determinizer list places of its program, each once.
 pub fn machines_keep_places()
     ensures { MachineLaw }
 {}
 
-/// What a search by states meets: forwards where the first walk ends, or the last position at which
-/// a walk ends; backwards the least position from which a walk leads to the end. And if it stops,
-/// at a byte that can't be read.
+/// What a DFA search finds: forwards where the first walk ends, or the last position at which a
+/// walk ends; backwards the least position from which a walk leads to the end. And at which byte it
+/// stops, if that may not be read.
 pub fn runs_meet_walks()
     ensures { RunLaw }
 {}

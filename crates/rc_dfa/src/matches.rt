@@ -28,7 +28,7 @@ fn is_match_of(place: &BytePlace, pattern: usize) -> bool
     }
 }
 
-/// The pattern of a match place; 0 of another.
+/// Returns the pattern of a match place, or 0 for any other place.
 pub fn pattern_of(place: &BytePlace) -> usize
     ensures { result ≡ pattern_at (place_of place.now) }
 {
@@ -45,9 +45,9 @@ pub fn pattern_of(place: &BytePlace) -> usize
     }
 }
 
-/// Makes `to` the state at the end of a match of the pattern: its match places. `after` is the byte
-/// there, or None at the end of what a search sees. An `Err` means out of memory; then `to` is some
-/// state.
+/// Makes `to` the state at the end of a match of the pattern: the pattern's match places. `after`
+/// is the byte at that position, or None at the end of what the search sees. `Err` means out of
+/// memory; then `to` is some state.
 pub fn last_of(
     places: &[BytePlace],
     needs: Needs,

@@ -4,7 +4,7 @@ ghost use Rattle.rc_dfa.specs.Samples.{IsCounted, AreSamples};
 
 use std::alloc::{AllocError, Global};
 
-/// The first byte of each class.
+/// Returns the first byte of each class. `Err` means out of memory.
 pub fn samples_of(alloc: Global, classes: &Vec<u8>) -> Result<Vec<u8>, AllocError>
     requires size { length classes.now.items ≡ 256 }
     requires counted { IsCounted classes.now.items }

@@ -8,7 +8,7 @@ use std::alloc::{AllocError, Global};
 use std::collections::BTreeMap;
 use std::marker::Model;
 
-/// A number with one more binary digit.
+/// Returns the number with one more binary digit, the lowest.
 fn with_bit(bit: bool, rest: usize) -> usize
     requires { rest < 1024 }
     ensures value { result ≡ with_bit bit rest }
@@ -17,7 +17,7 @@ fn with_bit(bit: bool, rest: usize) -> usize
     if bit { 2 * rest + 1 } else { 2 * rest }
 }
 
-/// All of a state that is true or false, as a number.
+/// Returns all booleans of a state, as the digits of a number.
 fn facts_of(state: &State) -> usize
     ensures { result ≡ facts_of (state_of state.now) }
 {
@@ -30,7 +30,7 @@ fn facts_of(state: &State) -> usize
     )
 }
 
-/// Writes the state's key, in place of what was there.
+/// Replaces the key by that of the state. `Err` means out of memory.
 fn write_key(key: &mut Vec<usize>, state: &State) -> Result<(), AllocError>
     ensures { IfOk result (λ _. key.new.items ≡ key_of (state_of state.now)) }
 {
@@ -40,13 +40,13 @@ fn write_key(key: &mut Vec<usize>, state: &State) -> Result<(), AllocError>
     key.extend_from_slice(&state.list)
 }
 
-/// States, none twice. The number of a state is its place in the list.
+/// States, none of them twice. The number of a state is its index in the list.
 #[derive(Drop)]
 pub struct States {
     list: Vec<State>,
-    /// The number of the state of a key.
+    /// The number of the state of each key.
     numbers: BTreeMap<Vec<usize>, usize>,
-    /// The key of a state that is looked up.
+    /// The key of the state that is looked up.
     key: Vec<usize>,
 }
 
@@ -64,6 +64,7 @@ impl Model for States {
 }
 
 impl States {
+    /// No states yet.
     pub fn new(alloc: Global) -> States
         ensures { result ≡ [] }
     {
@@ -74,13 +75,14 @@ impl States {
         }
     }
 
+    /// Returns how many states there are.
     pub fn len(&self) -> usize
         ensures { result ≡ length self.now }
     {
         self.list.len()
     }
 
-    /// The state of the number.
+    /// Returns the state of the number.
     pub fn get(&self, number: usize) -> &State
         requires { number < length self.now }
         ensures { slice_get self.now number ≡ Some (state_of result.now) }
@@ -88,7 +90,7 @@ impl States {
         &self.list[number]
     }
 
-    /// The number of the state, or None if it isn't there. An `Err` means out of memory.
+    /// Returns the number of the state, or None if it isn't there. `Err` means out of memory.
     pub fn find(&mut self, state: &State) -> Result<Option<usize>, AllocError>
         ensures kept { self.new ≡ self.old }
         ensures found { IfOk result (IsFound self.old (state_of state.now)) }
@@ -97,7 +99,7 @@ impl States {
         Ok(self.numbers.get(&self.key).copied())
     }
 
-    /// Lets all states go; the memory for them stays.
+    /// Drops all states, and keeps their lists' capacity.
     pub fn clear(&mut self)
         ensures { self.new ≡ [] }
     {
@@ -105,7 +107,7 @@ impl States {
         self.numbers.clear();
     }
 
-    /// Adds a copy of the state, under the next number. An `Err` means out of memory; then it isn't
+    /// Adds a copy of the state, under the next number. `Err` means out of memory; then it isn't
     /// added.
     pub fn add(&mut self, state: &State) -> Result<(), AllocError>
         requires { IsAbsent self.old (state_of state.now) }

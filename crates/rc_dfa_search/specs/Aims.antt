@@ -1,5 +1,5 @@
 -- Only proofs use this file.
--- What two halves of a search seek.
+-- DFA search: what it is for.
 use Rattle.std.specs.Prelude.{◌≡◌, ℕ, ◌+◌, ◌-◌, ◌*◌, ◌≤◌, Bool, not, ◌&&◌, List, length}
 use Rattle.rc_text.specs.Limits.{most_patterns}
 use Rattle.rc_pattern.specs.Re.{Re}
@@ -11,15 +11,16 @@ use Rattle.rc_dfa.specs.Machine.{Machine}
 use Rattle.rc_dfa_search.specs.Machines.{AreMachines}
 use Rattle.rc_dfa_search.specs.declared.search.Aim.{Aim}
 
--- the search of an input for patterns
+-- The search of an input for patterns.
 abbrev pub search_for : Aim → List Re → ℕ → Searched → Search
 search_for aim hs terminator s = search_over (program hs) terminator aim.passes_over s
 
--- any match is enough
+-- Any match is enough.
 abbrev pub is_early : Aim → Bool
 is_early aim = aim.earliest && not aim.passes_over
 
--- The halves are those of machines of these patterns, whose matches of the kind are sought. `PatternID` has a number for each of them.
+-- The halves are those of machines of these patterns, for matches of the kind. `PatternID` has a
+-- number for each of them.
 pub record AreHalvesOf (AreOf : Machine → Machine → Type 0) (aim : Aim) (hs : List Re) (terminator : ℕ) : Type 0 where
   pub ahead : Machine
   pub back : Machine
@@ -28,6 +29,6 @@ pub record AreHalvesOf (AreOf : Machine → Machine → Type 0) (aim : Aim) (hs 
   pub counted : aim.patterns ≡ length hs
   pub few : length hs ≤ most_patterns
 
--- how much a search may spend
+-- How many states a search may add.
 abbrev pub cost : Searched → ℕ
 cost s = (high s - low s + 4) * (high s - low s + 4)

@@ -1,4 +1,4 @@
--- The classes of bytes in which patterns are searched for.
+-- Byte classes: those by which patterns are searched for.
 use Rattle.std.specs.Prelude.{ℕ, Bool, List}
 use Rattle.rc_pattern.specs.Re.{Re}
 use Rattle.rc_program.specs.Program.{program}
@@ -7,7 +7,8 @@ use Rattle.rc_determinize.specs.declared.sides.Needs.{Needs}
 use Rattle.rc_determinize.specs.Sides.{AreNeeds}
 use Rattle.rc_dfa.specs.Samples.{AreClassesBy}
 
--- They are told by the byte program of the patterns and what its assertions ask for; or each byte is a class of its own.
+-- They are those of the patterns' byte program and its assertions; or each byte is a class of its
+-- own.
 pub record AreClassesOf (byte_classes : Bool) (hs : List Re) (terminator : ℕ) (classes : List ℕ) : Type 0 where
   pub needs : Needs
   pub are_needs : AreNeeds needs (bytes_of (program hs))

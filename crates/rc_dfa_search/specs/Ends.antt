@@ -1,5 +1,5 @@
 -- Only proofs use this file.
--- What each half tells on the way to a match.
+-- DFA search: what each half finds on the way to a match.
 use Rattle.std.specs.Prelude.{◌≡◌, ◌⊎◌, ℕ, ◌+◌, ◌*◌, ◌-◌, ◌<◌, ◌≤◌, Bool, true, false, not, ◌&&◌, ◌||◌, if◌then◌else◌, List, Option, Some, None, Result, Ok, Err, min, max}
 use Rattle.rc_pattern.specs.Re.{Re}
 use Rattle.rc_text.specs.Found as spans
@@ -24,19 +24,19 @@ use Rattle.rc_dfa_search.specs.Leftmost.{IsRaisedBy}
 use Rattle.rc_dfa_search.specs.Machines.{IsCase}
 use Rattle.rc_dfa_search.specs.Laws.{pattern_met}
 
--- the pattern asked for, if any, is one of so many
+-- The pattern asked for, if any, is one of so many.
 abbrev pub Asks : ℕ → Anchored → Type 0
 Asks patterns (Pattern p) = p < patterns
 Asks patterns _ = Unit {0}
 
--- what was met, or why nothing is told
+-- What was found, or why there is no answer.
 abbrev pub told_of : Ended → Result (Option Met) error.MatchError
 told_of (Found met) = Ok met
 told_of (Idle i) = Ok None
 told_of (Quit b p) = Err (errors.Quit b p)
 told_of (GaveUp p memory) = Err (errors.GaveUp p memory)
 
--- this was met from one position on, and no search rests
+-- This was found from one position on, and no search rests.
 abbrev pub HasMet : Machine → Text → ℕ → ℕ → Anchored → Bool → Option Met → Type 0
 HasMet m t hi from anchored earliest met = HasEnded m t hi from anchored earliest false (Found met)
 
@@ -83,10 +83,10 @@ start_by kind early end met = record {
   at = min (max met.at end.from) end.at;
 }
 
--- the match of this start and pattern with this end
+-- The match of this start and pattern with this end.
 abbrev pub match_by : End → Met → spans.Found
 match_by end start = record { pattern = start.pattern; start = start.at; end = end.at }
 
--- how much all runs forwards may spend
+-- How many states all forward runs may add.
 abbrev pub cost_forwards : Searched → ℕ
 cost_forwards s = (high s - low s + 1) * (high s - low s + 2)

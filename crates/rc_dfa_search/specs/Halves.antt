@@ -1,4 +1,4 @@
--- The half of a match that a search forwards tells: its end.
+-- Half matches: what a search forwards finds of a match is its end.
 use Rattle.std.specs.Prelude.{◌≡◌, ℕ, Bool, Option, Some, None}
 use Rattle.rc_text.specs.Found.{Found, HalfFound}
 use Rattle.rc_text.specs.declared.types.MatchKind.{MatchKind}

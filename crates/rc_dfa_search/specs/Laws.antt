@@ -1,4 +1,5 @@
--- What runs over the byte program of patterns tell of the matches of a search for them.
+-- Laws of DFA searches: what runs over the byte program of patterns find of the matches of a
+-- search.
 use Rattle.std.specs.Prelude.{◌≡◌, ℕ, ◌+◌, ◌<◌, ◌≤◌, ◌⊎◌, Bool, true, false, List, Option, Some, None}
 use Rattle.rc_pattern.specs.Re.{Re}
 use Rattle.rc_text.specs.Found.{Found}
@@ -21,15 +22,16 @@ use Rattle.rc_dfa_search.specs.Machines.{IsCase}
 use Rattle.rc_dfa_search.specs.Reverse.{EndsAtBound, IsMatchToEnd, IsSpelledToEnd, IsLeastStart, HasNoStart}
 use Rattle.rc_dfa_search.specs.Faults.{SpeaksOfUnicode}
 
--- the pattern whose match place was met
+-- The pattern whose match place was reached.
 abbrev pub pattern_met : Machine → ℕ → ℕ
 pattern_met m q = pattern_at (place_at m.setting.places q)
 
--- the match of the pattern of this match place, from x to e
+-- The match of the pattern of this match place, from x to e.
 abbrev pub met_from : Machine → ℕ → ℕ → ℕ → Found
 met_from m q x e = record { pattern = pattern_met m q; start = x; end = e }
 
--- The match of the least start: the preferred one, or the longest. `from` is where the search stands, once what begins before was passed over.
+-- The match of the least start: leftmost-first, or leftmost-longest. `from` is where the search
+-- begins, behind all starts that were passed over.
 pub record LeftmostLaw : Type 0 where
   pub begins : (hs : List Re) (kind : MatchKind) (m n : Machine) (anchored : Anchored) (s : Search) → IsCase hs kind m n anchored s → IsRaisedBy kind (by_bytes s) s.lo
   -- the end that is met is the answer's, and so is the pattern
@@ -59,11 +61,11 @@ pub record LastLaw : Type 0 where
   pub starts : (hs : List Re) (m n : Machine) (anchored : Anchored) (s : Search) (q e x k : ℕ) → IsCase hs all_matches m n anchored s →
       SearchEnds m s.text s.hi s.lo anchored false (met_last (Some (q, e))) → SearchEndsDown n s.text s.lo e anchored false (met_last (Some (x, k))) →
       greatest s ≡ Some (record { pattern = k; start = x; end = e })
-  -- the end is the greatest span's, whatever its start
+  -- The end is the greatest span's, whatever its start.
   pub ends : (hs : List Re) (m n : Machine) (anchored : Anchored) (s : Search) (q e : ℕ) → IsCase hs all_matches m n anchored s →
       SearchEnds m s.text s.hi s.lo anchored false (met_last (Some (q, e))) → (f : Found) × (greatest s ≡ Some f) × (f.end ≡ e)
 
--- Whatever the kind, and whether or not the first that is met is enough.
+-- For every kind, and whether or not the first match is enough.
 pub record MetLaw : Type 0 where
   -- what is met is the end of a walk of that pattern
   pub ends : (hs : List Re) (kind : MatchKind) (m n : Machine) (anchored : Anchored) (s : Search) (earliest : Bool) (q e : ℕ) → IsCase hs kind m n anchored s →
@@ -88,16 +90,17 @@ pub record ReverseLaw : Type 0 where
   pub none : (hs : List Re) (kind : MatchKind) (m n : Machine) (anchored : Anchored) (s : Search) (earliest : Bool) → IsCase hs kind m n anchored s →
       SearchEndsDown n s.text s.lo s.hi anchored earliest (met_last None) → HasNoStart s
 
--- Where each span ends at the upper bound, and the search isn't anchored, the match from the least start is the preferred one, and the longest.
+-- If each span ends at the upper bound, and the search isn't anchored, the match from the least
+-- start is both the leftmost-first and the leftmost-longest one.
 pub record ReverseEndLaw : Type 0 where
   pub leftmost : (hs : List Re) (kind : MatchKind) (s : Search) (o : Option Found) → IsLeftmost kind → s.places ≡ program hs → s.anchoring ≡ anywhere → EndsAtBound s →
       IsMatchToEnd false s o → o ≡ answer_by kind s
 
--- Where bytes aren't read.
+-- Where bytes may not be read.
 pub record UnreadLaw : Type 0 where
   -- an assertion of the patterns speaks of Unicode's words, if the program's do
   pub unicode : (hs : List Re) (kind : MatchKind) (m n : Machine) (anchored : Anchored) (s : Search) → IsCase hs kind m n anchored s →
       m.setting.needs.unicode ≡ true → SpeaksOfUnicode hs
-  -- what was read forwards up to an end is read backwards
+  -- What was read forwards up to an end may be read backwards.
   pub read : (m n : Machine) (s : Search) (from q e p : ℕ) (anchored back : Anchored) (earliest early : Bool) → n.setting ≡ m.setting → IsInside s.text s.lo s.hi →
       SearchEnds m s.text s.hi from anchored earliest (met_last (Some (q, e))) → ¬ SearchEndsDown n s.text from e back early (stopped_at p)

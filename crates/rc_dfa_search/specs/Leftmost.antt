@@ -1,4 +1,5 @@
--- The kinds of match that begin at the least start: the preferred match, and the longest one.
+-- Leftmost kinds of match: those that begin at the least start are leftmost-first and
+-- leftmost-longest.
 use Rattle.std.specs.Prelude.{ℕ, List, [], Option}
 use Rattle.rc_walks.specs.Walks.{Pair}
 use Rattle.rc_program.specs.Answer.{Search}

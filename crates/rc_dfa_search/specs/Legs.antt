@@ -1,5 +1,5 @@
 -- Only proofs use this file.
--- What the runs tell of a search that goes from needle to needle.
+-- Prefilters: what the runs of a search find that goes from needle to needle.
 use Rattle.std.specs.Prelude.{◌≡◌, ℕ, ◌≤◌, false, Option, Some, None, Result, Ok, Err, min, max}
 use Rattle.rc_text.specs.declared.types.Anchored.{Anchored}
 use Rattle.rc_text.specs.declared.types.Anchored.TheVariants.{No}
@@ -21,26 +21,28 @@ use Rattle.rc_dfa_search.specs.Leftmost.{IsLeftmost}
 use Rattle.rc_dfa_search.specs.Ends.{HasMet}
 use Rattle.rc_dfa_search.specs.Rests.{StartsGive}
 
--- The search goes from needle to needle: it isn't anchored, and seeks the preferred or the longest match alone, none of which is passed over.
+-- The search goes from needle to needle: it isn't anchored, it is leftmost, and no match is passed
+-- over.
 pub record GoesByNeedles (aim : Aim) (anchored : Anchored) : Type 0 where
   pub kind : IsLeftmost aim.kind
   pub late : aim.earliest ≡ false
   pub all : aim.passes_over ≡ false
   pub free : anchored ≡ No
 
--- how far a run came, or why nothing is told; it rests at or above the position, and at or below the bound
+-- How far a run came, or why there is no answer. It rests from the position on, and not past the
+-- bound.
 abbrev pub leg_of : ended.Ended → ℕ → ℕ → Result Leg error.MatchError
 leg_of (endings.Found met) from hi = Ok (Ended met)
 leg_of (endings.Idle i) from hi = Ok (Rested (min (max i from) hi))
 leg_of (endings.Quit b p) from hi = Err (errors.Quit b p)
 leg_of (endings.GaveUp p memory) from hi = Err (errors.GaveUp p memory)
 
--- so a run from one position on ended, or here it rested
+-- A run from this position on ended so, or rested here.
 abbrev pub HasRun : Machine → Text → ℕ → ℕ → Leg → Type 0
 HasRun m t hi from (Ended met) = HasMet m t hi from No false met
 HasRun m t hi from (Rested i) = SearchEnds m t hi from No false (idle_at i)
 
--- where it rested it came on, and not past the bound
+-- If it rested, it came on, and not past the bound.
 abbrev pub ComesOn : ℕ → ℕ → Leg → Type 0
 ComesOn from hi (Ended met) = Unit {0}
 ComesOn from hi (Rested i) = (from ≤ i) × (i ≤ hi)

@@ -1,4 +1,4 @@
--- The machines of patterns.
+-- Determinizers: the machines of some patterns.
 use Rattle.std.specs.Prelude.{◌≡◌, ℕ, ◌+◌, ◌≤◌, List, [], ◌∷◌}
 use Rattle.rc_text.specs.declared.types.MatchKind.{MatchKind}
 use Rattle.rc_text.specs.declared.types.Anchored.{Anchored}
@@ -12,7 +12,7 @@ use Rattle.rc_determinize.specs.Sides.{AreNeeds}
 use Rattle.rc_determinize.specs.States.{IsInside}
 use Rattle.rc_dfa.specs.Machine.{Direction, forwards, backwards, Machine, IsAsked}
 
--- the places by which the patterns of the choice at `start` are entered, in their order
+-- The entries of the patterns of the choice at `start`, in their order.
 abbrev pub entries_from : ℕ → List Re → List ℕ
 entries_from start [] = []
 entries_from start (h ∷ hs) = (start + 1) ∷ entries_from (start + 1 + ((part h).size + 1)) hs
@@ -20,7 +20,7 @@ entries_from start (h ∷ hs) = (start + 1) ∷ entries_from (start + 1 + ((part
 abbrev pub entries_of : List Re → List ℕ
 entries_of = entries_from 0
 
--- the machine of the byte program of some patterns
+-- The machine of the byte program of some patterns.
 abbrev pub machine_by : List Re → Needs → ℕ → Direction → Machine
 machine_by hs needs terminator direction = record {
   setting = record { places = bytes_of (program hs); needs = needs; terminator = terminator };

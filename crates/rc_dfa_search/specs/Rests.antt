@@ -1,4 +1,4 @@
--- What runs tell that rest where nothing is under way, and are taken up anew further on.
+-- Prefilters: what runs find that rest while nothing is under way, and begin anew further on.
 use Rattle.std.specs.Prelude.{◌≡◌, ℕ, ◌+◌, ◌<◌, ◌≤◌, Bool, true, false, List, Option, Some, None}
 use Rattle.rc_pattern.specs.Re.{Re}
 use Rattle.rc_text.specs.declared.types.MatchKind.{MatchKind}
@@ -21,7 +21,7 @@ use Rattle.rc_dfa_search.specs.Laws.{met_from}
 abbrev pub StartsGive : MatchKind → Machine → Search → ℕ → Option Pair → Type 0
 StartsGive kind m s from r = GivesBy kind (ways m.setting.places s.text s.hi) (Stops m.setting.places) (starts_of m No from s.hi) r
 
--- no walk begins from x on and before y
+-- No walk begins from x on and before y.
 abbrev pub HasNoWalkBetween : Search → ℕ → ℕ → Type 0
 HasNoWalkBetween s x y = (z : ℕ) → x ≤ z → z < y → HasNoWalkFrom s z
 
@@ -42,7 +42,8 @@ pub record RestLaw : Type 0 where
   pub nowhere : (hs : List Re) (kind : MatchKind) (m n : Machine) (s : Search) (i : ℕ) → IsLeftmost kind → IsCase hs kind m n No s → i ≤ s.hi →
       HasNoWalkBetween s i (s.hi + 1) → StartsGive kind m s i None
 
--- The match of the least start, as `LeftmostLaw` has it, by what the starts give from where the search stands: whichever runs told it.
+-- The match of the least start, as in `LeftmostLaw`, by what the starts give from where the search
+-- begins, whichever runs found it.
 pub record GivenLaw : Type 0 where
   pub ends : (hs : List Re) (kind : MatchKind) (m n : Machine) (s : Search) (from q e : ℕ) → IsLeftmost kind → IsCase hs kind m n No s → IsRaisedBy kind (by_bytes s) from →
       StartsGive kind m s from (Some (q, e)) → may_end_at s e ≡ true →

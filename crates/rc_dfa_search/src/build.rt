@@ -16,8 +16,8 @@ use rc_text::types::MatchKind;
 use rc_utf8::program::byte_program;
 use std::alloc::{AllocError, Global};
 
-/// The places by which the patterns of a program are entered, in their order: each choice, from
-/// place 0 on, leads to a pattern or on to the next choice.
+/// Returns the entry of each pattern of a program, in their order: each choice, from place 0 on,
+/// leads to a pattern or on to the next choice. `Err` means out of memory.
 fn entries_of(alloc: Global, program: &[Place], patterns: usize) -> Result<Vec<usize>, AllocError>
     ghost hs: { List Re }
     requires program { places_of program.now ≡ program_by hs }
@@ -36,9 +36,9 @@ fn entries_of(alloc: Global, program: &[Place], patterns: usize) -> Result<Vec<u
     Ok(entries)
 }
 
-/// The automaton of patterns by their program, whose lines end at the byte `terminator`. Forwards
-/// it seeks matches of this kind. Unless `byte_classes` is set, each byte is a class of its own. An
-/// `Err` means out of memory.
+/// Builds the determinizer of some patterns from their program. Lines end at the byte `terminator`.
+/// Forwards it finds matches of this kind. Unless `byte_classes` is set, each byte is a class of
+/// its own. `Err` means out of memory.
 pub fn automaton_of(
     alloc: Global,
     program: &[Place],

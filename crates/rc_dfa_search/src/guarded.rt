@@ -26,17 +26,18 @@ use rc_text::cursor::Cursor;
 use rc_text::input::Input;
 use rc_text::types::{Anchored, HalfMatch, Match, MatchError, MatchKind, Span};
 
-/// How far a run forwards came.
+/// How far a forward run came.
 #[derive(Clone, Copy)]
 enum Leg {
     /// To its end, with what it found last, if anything.
     Ended(Option<Met>),
-    /// To this position, if it rested: nothing was found, and nothing is under way there.
+    /// To this position, at which it rests: nothing was found, and nothing is under way there.
     Rested(usize),
 }
 
-/// Whether a search goes from needle to needle: it isn't anchored, and seeks the preferred or the
-/// longest match alone, none of which is passed over.
+/// Whether a search goes from needle to needle. It must not be anchored, its kind must be
+/// leftmost-first or leftmost-longest, the earliest flag must be off, and no match may be passed
+/// over.
 #[inline(always)]
 pub fn goes_by_needles(aim: Aim, anchored: Anchored) -> bool
     ensures { IsTrue result ↔ GoesByNeedles aim anchored }
@@ -49,8 +50,8 @@ pub fn goes_by_needles(aim: Aim, anchored: Anchored) -> bool
     }
 }
 
-/// How far a run forwards came from one position on, or why it tells nothing. It rests at or above
-/// that position, and at or below `bound`.
+/// Returns how far a forward run came that began at `from`, or why it has no answer. A run rests at
+/// a position from `from` to `bound`.
 #[inline(always)]
 fn leg_of(ended: Ended, from: usize, bound: usize) -> Result<Leg, MatchError>
     ensures { result ≡ leg_of ended from bound }
@@ -63,8 +64,8 @@ fn leg_of(ended: Ended, from: usize, bound: usize) -> Result<Leg, MatchError>
     }
 }
 
-/// How far a run forwards comes from one position on, up to `bound`. It may rest, from `rest_from`
-/// on.
+/// Runs forwards from the position `from` up to `bound`, and returns how far it came. The run may
+/// rest, from `rest_from` on.
 #[inline(always)]
 fn run_leg<H: Halves, C: Cursor>(
     halves: &H,
@@ -95,8 +96,8 @@ fn run_leg<H: Halves, C: Cursor>(
     )
 }
 
-/// The end of the match of the least start: runs forwards begin where a match may that goes by the
-/// next needle, and if one rests behind that, the next is sought.
+/// Returns the end of the match of the least start. A run begins where a match with the next needle
+/// may begin. If it rests further on, the needle after that position is next.
 #[inline(always)]
 fn seek_by_needles<H: Halves, C: Cursor>(
     halves: &H,
@@ -137,7 +138,7 @@ fn seek_by_needles<H: Halves, C: Cursor>(
     }
 }
 
-/// The match of the least start, from needle to needle.
+/// Returns the match of the least start, from needle to needle.
 #[inline(always)]
 fn find_by_needles<H: Halves, C: Cursor>(
     halves: &H,
@@ -172,7 +173,7 @@ fn find_by_needles<H: Halves, C: Cursor>(
     Ok(Some(Match::new(pattern, Span { start, end })))
 }
 
-/// The end of the match of the least start, from needle to needle, and its pattern.
+/// Returns the end of the match of the least start, from needle to needle, and its pattern.
 fn find_end_by_needles<H: Halves, C: Cursor>(
     halves: &H,
     cache: &mut H::Cache,
@@ -202,12 +203,12 @@ fn find_end_by_needles<H: Halves, C: Cursor>(
     Ok(Some(HalfMatch::new(pattern, end)))
 }
 
-/// The match that `find` finds, by needles that guard the patterns: each match begins with one of
-/// them, or holds one. A search that isn't anchored goes from needle to needle wherever nothing is
-/// under way, if it is for the preferred match or the longest, the earliest flag is off, and no
-/// match is passed over. Each other search is that of `find`.
+/// Returns the match that `find` returns, by needles that guard the patterns: each match begins
+/// with one of them, or contains one. The search goes from needle to needle while nothing is under
+/// way, if it isn't anchored, is leftmost, has the earliest flag off, and passes no match over.
+/// Every other search is that of `find`.
 ///
-/// An `Err` comes as for `find`.
+/// It fails as `find` does.
 pub fn find_guarded<H: Halves, C: Cursor>(
     halves: &H,
     cache: &mut H::Cache,
@@ -231,9 +232,9 @@ pub fn find_guarded<H: Halves, C: Cursor>(
     find(halves, cache, input, aim)
 }
 
-/// The end of the match that `find_guarded` finds, and its pattern; if each match counts, the
-/// number of a pattern that has a match with this end. It searches forwards alone. An `Err` comes
-/// as for `find`.
+/// Returns the end of the match that `find_guarded` returns, and its pattern. With
+/// `MatchKind::All`, that is the number of some pattern with a match that ends there. It only
+/// searches forwards, and fails as `find` does.
 pub fn find_end_guarded<H: Halves, C: Cursor>(
     halves: &H,
     cache: &mut H::Cache,

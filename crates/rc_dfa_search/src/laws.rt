@@ -2,48 +2,49 @@
 ghost use Rattle.rc_dfa_search.specs.Laws.{LastLaw, LeftmostLaw, MetLaw, ReverseEndLaw, ReverseLaw, UnreadLaw};
 ghost use Rattle.rc_dfa_search.specs.Rests.{GivenLaw, RestLaw};
 
-/// Where a search forwards ends and one backwards begins is the match of the least start, the
-/// preferred one or the longest.
+/// For leftmost-first and leftmost-longest, the match is from where a search backwards begins to
+/// where the search forwards ends.
 pub fn halves_give_answers()
     ensures { LeftmostLaw }
 {}
 
-/// A search backwards from the upper bound tells the least position from which a match may lead
+/// A search backwards from the upper bound finds the least position from which a match may lead
 /// there.
 pub fn starts_are_reversed()
     ensures { ReverseLaw }
 {}
 
-/// If a search by states quits, a byte isn't read; what was read forwards is read backwards.
+/// If a DFA search quits, it is at a byte that may not be read. What was read forwards may be read
+/// backwards.
 pub fn unread_bytes()
     ensures { UnreadLaw }
 {}
 
-/// What a search forwards meets is the end of a match, and what one backwards from there meets is
-/// its start, whatever the kind of match.
+/// For every kind, what a search forwards finds is the end of a match, and what a search backwards
+/// from there finds is its start.
 pub fn ends_have_walks()
     ensures { MetLaw }
 {}
 
-/// If each match counts, the last end of a search forwards and the least start of one backwards
-/// from there are the greatest span's.
+/// With `MatchKind::All`, the greatest span is from the least start of a search backwards to the
+/// last end of the one forwards.
 pub fn last_ends_are_greatest()
     ensures { LastLaw }
 {}
 
-/// What runs forwards tell that rest if nothing is under way, and are taken up anew further on.
+/// What forward runs find that rest while nothing is under way, and begin anew further on.
 pub fn runs_may_rest()
     ensures { RestLaw }
 {}
 
-/// Where the starts of a search lead, whichever runs told it, and where a search backwards begins
-/// is the match of the least start.
+/// The match of the least start ends where the starts of a search lead, whichever runs found that,
+/// and begins where the search backwards does.
 pub fn starts_give_answers()
     ensures { GivenLaw }
 {}
 
-/// If each span ends at the upper bound, what a search backwards from there tells is the preferred
-/// match, and the longest one.
+/// If each span ends at the upper bound, a search backwards from there finds the leftmost-first
+/// match and the leftmost-longest match.
 pub fn last_spans_are_reversed()
     ensures { ReverseEndLaw }
 {}

@@ -23,21 +23,21 @@ use rc_text::cursor::Cursor;
 use rc_text::input::{Input, high, is_boundary_at, low};
 use rc_text::types::{Anchored, HalfMatch, Match, MatchError, MatchKind, PatternID, Span};
 
-/// What two halves of a search seek.
+/// What a search is for.
 #[derive(Clone, Copy)]
 pub struct Aim {
     /// Which match is the answer.
     pub kind: MatchKind,
     /// How many patterns there are.
     pub patterns: usize,
-    /// Whether matches that end off a boundary of characters are passed over. If each match counts,
+    /// Whether matches that end off a character boundary are passed over. With `MatchKind::All`,
     /// none is.
     pub passes_over: bool,
-    /// Whether any match is enough. If matches are passed over, none but the answer is.
+    /// Whether any match is enough. It is ignored if matches are passed over.
     pub earliest: bool,
 }
 
-/// Where a search begins and ends.
+/// The bounds of a search, in bytes.
 #[derive(Clone, Copy)]
 pub(crate) struct Bounds {
     pub(crate) low: usize,
@@ -47,9 +47,9 @@ pub(crate) struct Bounds {
 /// The end of a match.
 #[derive(Clone, Copy)]
 struct End {
-    /// Where the search stood that found it, once what begins before was passed over.
+    /// The start of the search that found it, behind all starts that were passed over.
     from: usize,
-    /// The pattern whose match place was found.
+    /// The pattern whose match place was reached.
     pattern: usize,
     /// Where the match ends.
     at: usize,
@@ -75,8 +75,8 @@ fn asks(anchored: Anchored, patterns: usize) -> bool
     }
 }
 
-/// Where a search begins and ends; None if it finds nothing: it has no position, or the pattern
-/// that is asked for is none.
+/// Returns the bounds of a search in bytes. Returns None if the search finds nothing, since it has
+/// no position, or the pattern that is asked for doesn't exist.
 #[inline(always)]
 pub(crate) fn bounds_of<C: Cursor>(input: &mut Input<C>, aim: Aim) -> Option<Bounds>
     ensures keeps { Keeps input.old input.new }
@@ -95,7 +95,7 @@ pub(crate) fn bounds_of<C: Cursor>(input: &mut Input<C>, aim: Aim) -> Option<Bou
     Some(Bounds { low, high })
 }
 
-/// What a run found, or why it tells nothing.
+/// Returns what a run found, or why it has no answer.
 #[inline(always)]
 pub fn told(ended: Ended) -> Result<Option<Met>, MatchError>
     ensures { result ≡ told_of ended }
@@ -108,7 +108,7 @@ pub fn told(ended: Ended) -> Result<Option<Met>, MatchError>
     }
 }
 
-/// What a run forwards from one position on meets.
+/// Runs forwards from the position `from`, and returns what it found.
 #[inline(always)]
 pub(crate) fn run_forwards<H: Halves, C: Cursor>(
     halves: &H,
@@ -133,7 +133,7 @@ pub(crate) fn run_forwards<H: Halves, C: Cursor>(
     told(halves.run_forwards(cache, input, anchored, from, is_early(aim), false, 0))
 }
 
-/// What a run backwards from an end down to `from` meets.
+/// Runs backwards from `end` down to `from`, and returns what it found.
 #[inline(always)]
 pub(crate) fn run_backwards<H: Halves, C: Cursor>(
     halves: &H,
@@ -160,7 +160,7 @@ pub(crate) fn run_backwards<H: Halves, C: Cursor>(
     told(halves.run_backwards(cache, input, anchored, from, end, is_early(aim)))
 }
 
-/// Whether a match may end here if matches are passed over that end off a boundary.
+/// Whether a match may end here: on a boundary, if matches that end off one are passed over.
 #[inline(always)]
 fn is_allowed<C: Cursor>(input: &mut Input<C>, aim: Aim, at: usize) -> bool
     ensures keeps { Keeps input.old input.new }
@@ -181,7 +181,7 @@ fn may_end<C: Cursor>(input: &mut Input<C>, aim: Aim, at: usize) -> bool
     }
 }
 
-/// The end of the match that is sought: a run from where the search begins meets it, or, if matches
+/// Returns the end of the match: a run from the beginning of the search finds it, or, if matches
 /// are passed over, a run from a later start.
 #[inline(always)]
 fn seek_end<H: Halves, C: Cursor>(
@@ -225,7 +225,7 @@ fn seek_end<H: Halves, C: Cursor>(
     }
 }
 
-/// Whether a match begins where the run forwards did that found its end.
+/// Whether the match begins where the forward run did that found its end.
 #[inline(always)]
 fn begins_there(aim: Aim, anchored: Anchored) -> bool
     ensures { result ≡ begins_there aim.kind (is_early aim) (is_anchored anchored) }
@@ -247,7 +247,7 @@ fn keeps_pattern(aim: Aim) -> bool
     }
 }
 
-/// The start of the match with this end and its pattern, by what a run backwards found.
+/// Returns the start and the pattern of the match with this end, by what a reverse run found.
 #[inline(always)]
 fn start_by(aim: Aim, end: End, met: Met) -> Met
     ensures { result ≡ start_by aim.kind (is_early aim) end met }
@@ -265,7 +265,7 @@ fn start_by(aim: Aim, end: End, met: Met) -> Met
     }
 }
 
-/// The start of the match with this end, and its pattern.
+/// Returns the start and the pattern of the match with this end.
 #[inline(always)]
 fn seek_start<H: Halves, C: Cursor>(
     halves: &H,
@@ -301,8 +301,8 @@ fn seek_start<H: Halves, C: Cursor>(
     Ok(Some(start_by(aim, end, met)))
 }
 
-/// The number of the pattern that was found at the position. An `Err` comes if `PatternID` has none
-/// for it; it has one for each of the patterns.
+/// Returns the ID of the pattern that was found at the position `offset`. `Err` means that the
+/// number is too large for a `PatternID`, which is no pattern's.
 #[inline(always)]
 pub fn id_of(pattern: usize, offset: usize) -> Result<PatternID, MatchError>
     ensures id { IfOk result (λ id. id ≡ pattern) }
@@ -317,12 +317,12 @@ pub fn id_of(pattern: usize, offset: usize) -> Result<PatternID, MatchError>
     }
 }
 
-/// The match that a search of the input finds: forwards to its end, and from there, unless it is
-/// known, backwards to its start. If any match is enough, some match. If matches are passed over
-/// that end off a boundary, a run forwards is made again from the next start.
+/// Returns the match of a search: a forward run finds its end, and from there a reverse run its
+/// start, unless that is known. If any match is enough, it is some match. If a match is passed over
+/// that ends off a boundary, another forward run begins at the next start.
 ///
-/// An `Err` comes if the patterns speak of Unicode's words and a byte above 127 would have to be
-/// read, and if the halves give a search up.
+/// It fails if the patterns depend on Unicode's words and a byte above 127 would have to be read,
+/// or if the lazy DFA gives up.
 #[inline(always)]
 pub fn find<H: Halves, C: Cursor>(
     halves: &H,
@@ -354,9 +354,9 @@ pub fn find<H: Halves, C: Cursor>(
     Ok(Some(Match::new(pattern, span)))
 }
 
-/// The end of the match that `find` finds, and its pattern; if each match counts, the number of a
-/// pattern that has a match with this end. It searches forwards alone. An `Err` comes as for
-/// `find`.
+/// Returns the end of the match that `find` returns, and its pattern. With `MatchKind::All`, that
+/// is the number of some pattern with a match that ends there. It only searches forwards, and fails
+/// as `find` does.
 pub fn find_end<H: Halves, C: Cursor>(
     halves: &H,
     cache: &mut H::Cache,
@@ -380,10 +380,10 @@ pub fn find_end<H: Halves, C: Cursor>(
     Ok(Some(HalfMatch::new(pattern, end.at)))
 }
 
-/// The least start from which a match leads to where the search ends, and the first pattern of
-/// which one does; with `earliest` some such start. None if matches are passed over that end off a
-/// boundary and the search ends off one. It searches backwards alone, from there down to where the
-/// search begins. An `Err` comes as for `find`.
+/// Returns the least start from which a match leads to the end of the search, and the first pattern
+/// with such a match; with `earliest`, some such start. Returns None if matches that end off a
+/// boundary are passed over, and the search ends off one. It only searches backwards, and fails as
+/// `find` does.
 pub fn find_start<H: Halves, C: Cursor>(
     halves: &H,
     cache: &mut H::Cache,
@@ -414,9 +414,10 @@ pub fn find_start<H: Halves, C: Cursor>(
     Ok(Some(HalfMatch::new(pattern, offset)))
 }
 
-/// The match from the start that `find_start` tells to where the search ends, of the pattern that
-/// it tells. If each match ends there, and the search isn't anchored, it is the preferred one, and
-/// the longest one. It searches backwards alone. An `Err` comes as for `find`.
+/// Returns the match from the start that `find_start` returns to the end of the search, of the
+/// pattern that it returns. If each match ends there and the search isn't anchored, that is both
+/// the leftmost-first and the leftmost-longest match. It only searches backwards, and fails as
+/// `find` does.
 pub fn find_to_end<H: Halves, C: Cursor>(
     halves: &H,
     cache: &mut H::Cache,

@@ -1,5 +1,5 @@
 -- Only proofs use this file.
--- What searches in both directions spend adds up.
+-- Cache use: what searches in both directions spend adds up.
 use Rattle.std.proofs.Common.{ℕ, ◌+◌, ◌≤◌, Bool, inl, inr}
 use Rattle.rc_dfa.specs.declared.automaton.Direction.TheVariants.{Forwards, Backwards}
 use Rattle.rc_lazy_dfa.specs.Stores.{frame_of}

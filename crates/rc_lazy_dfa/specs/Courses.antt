@@ -1,4 +1,4 @@
--- Searches by a table that grows: where they stand, and how they end.
+-- Lazy DFA searches: what their runs keep, and how they end.
 use Rattle.std.specs.Prelude.{◌≡◌, ℕ, ◌+◌, ◌-◌, ◌≤◌, Bool, true, false, List, Option, Some, None}
 use Rattle.rc_text.specs.declared.types.Anchored.{Anchored}
 use Rattle.rc_text.specs.Text.{Searched}
@@ -17,13 +17,13 @@ use Rattle.rc_lazy_dfa.specs.declared.run.Stand.{Stand}
 use Rattle.rc_lazy_dfa.specs.declared.run.Leg.{Leg}
 use Rattle.rc_lazy_dfa.specs.declared.run.Leg.TheVariants.{Through, Over}
 
--- what was met last: by the way to the row that is noted, or else before
+-- What was found last: on the way to the noted row, or else before.
 abbrev pub IsNoted : ℕ → List State → Option (ℕ × ℕ) → Option (ℕ × ℕ) → Option (ℕ × ℕ) → Type 0
 IsNoted width states None before met = met ≡ before
 IsNoted width states (Some n) before met = (s : State) × (k : ℕ) × IsRow width states n.0 s × (s.stop ≡ Some k) × (met ≡ Some (k, n.1))
 
--- A search, of which the code holds only a part at a time: by which machine, with which table at its beginning, over what, from which position
--- up to or down to which bound, and how.
+-- A search, of which the code has only a part at a time: by which machine, with which states at its
+-- beginning, over what, from which position up to or down to which bound, and how.
 pub record Course : Type 0 where
   pub frame : Frame
   pub begun : Store
@@ -39,20 +39,21 @@ text_in q = text_of q.frame.machine.setting.terminator q.seen
 
 -- FORWARDS
 
--- From a state in which the search begins the bytes up to the position lead to this state, and this was met last.
+-- From a state in which the search begins, the bytes up to the position lead to this state, and
+-- this was found last.
 pub record IsStanding (q : Course) (i : ℕ) (s : State) (met : Option (ℕ × ℕ)) : Type 0 where
   pub first : State
   pub read : MayRead q.frame.machine (behind_at (text_in q) q.from)
   pub begins : Begins q.frame.machine q.anchored (behind_at (text_in q) q.from) first
   pub runs : Runs q.frame.machine (text_in q) q.bound q.from first i s met
 
--- it stands in the row
+-- Its state is that of the row.
 pub record StandsAt (q : Course) (t : Store) (i : ℕ) (stand : Stand) : Type 0 where
   pub state : State
   pub in_row : IsRow q.frame.width t.states stand.row state
   pub standing : IsStanding q i state stand.met
 
--- the same, with what was met last noted by a row
+-- Its state is that of the row, and a noted row has what was found last.
 pub record StandsNoted (q : Course) (t : Store) (i row : ℕ) (noted before : Option (ℕ × ℕ)) : Type 0 where
   pub state : State
   pub in_row : IsRow q.frame.width t.states row state
@@ -60,11 +61,13 @@ pub record StandsNoted (q : Course) (t : Store) (i row : ℕ) (noted before : Op
   pub tells : IsNoted q.frame.width t.states noted before found
   pub standing : IsStanding q i state found
 
--- the states that a search adds: at most one where it begins, one for each byte and one at the end
+-- The states that a search adds: at most one where it begins, one for each byte, and one at the
+-- end.
 abbrev pub all_spent : Course → ℕ
 all_spent q = q.bound - q.from + 2
 
--- why the search was given up: memory was refused, or the table was cleared three times and may have been short
+-- Why the search gave up: memory was refused, or the cache was cleared three times and may have
+-- been short.
 abbrev pub MayGiveUp : Frame → Store → Store → ℕ → Bool → Type 0
 MayGiveUp f old new n true = Unit {0}
 MayGiveUp f old new n false = (3 ≤ new.clears) × IsShort f old n
@@ -85,7 +88,7 @@ abbrev pub IsLeg : Course → Half → ℕ → Leg → Type 0
 IsLeg q h i (Through s) = IsAt q h i s
 IsLeg q h i (Over e) = IsOver q h e
 
--- what is said of a search that met this last
+-- The result of a search that found this last.
 pub record SaysMet (m : Machine) (met : Option (ℕ × ℕ)) (e : Ended) : Type 0 where
   pub done : gave_up e ≡ None
   pub says : (t : Text) (hi from : ℕ) (anchored : Anchored) (earliest may_rest : Bool) →
@@ -93,12 +96,13 @@ pub record SaysMet (m : Machine) (met : Option (ℕ × ℕ)) (e : Ended) : Type 
 
 -- BACKWARDS
 
--- the position first
+-- The position first.
 abbrev pub swapped : Option (ℕ × ℕ) → Option (ℕ × ℕ)
 swapped None = None
 swapped (Some n) = Some (n.1, n.0)
 
--- The same on the way down: the search begins at `from`, as the byte there tells.
+-- On the way down: from a state in which the search begins, the bytes down to the position lead to
+-- this state, and this was found last. The search begins at `from`, by the byte there.
 pub record IsStandingDown (q : Course) (i : ℕ) (s : State) (met : Option (ℕ × ℕ)) : Type 0 where
   pub first : State
   pub read : MayRead q.frame.machine (ahead_at (text_in q) q.from)
@@ -136,7 +140,7 @@ abbrev pub IsLegDown : Course → Half → ℕ → Leg → Type 0
 IsLegDown q h i (Through s) = IsAtDown q h i s
 IsLegDown q h i (Over e) = IsOverDown q h e
 
--- what is said of a search that met this last
+-- The result of a search backwards that found this last.
 pub record SaysLeast (met : Option (ℕ × ℕ)) (e : Ended) : Type 0 where
   pub done : gave_up e ≡ None
   pub says : (m : Machine) (t : Text) (lo end : ℕ) (anchored : Anchored) (earliest : Bool) →

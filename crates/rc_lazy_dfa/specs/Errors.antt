@@ -1,5 +1,5 @@
 -- Only proofs use this file.
--- Why a state isn't added.
+-- Errors: why a state isn't added.
 use Rattle.std.specs.Prelude.{Bool, true, false}
 use Rattle.rc_lazy_dfa.specs.declared.error.Refusal.{Refusal}
 use Rattle.rc_lazy_dfa.specs.declared.error.Refusal.TheVariants.{Memory, Short}

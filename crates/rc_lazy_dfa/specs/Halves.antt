@@ -4,18 +4,18 @@ use Rattle.rc_lazy_dfa.specs.Stores.{Frame, Held}
 use Rattle.rc_lazy_dfa.specs.declared.store.Store.{Store}
 use Rattle.rc_lazy_dfa.specs.declared.half.Half.{Half}
 
--- it was made for this machine
+-- It was made for this machine.
 pub record IsHalf (f : Frame) (h : Half) : Type 0 where
   pub held : Held f h.store
   pub scratch : h.scratch ≡ length f.machine.setting.places
 
--- it has no states yet
+-- It has no states yet.
 pub record IsFresh (capacity : ℕ) (h : Half) : Type 0 where
   pub states : h.store.states ≡ []
   pub clears : h.store.clears ≡ 0
   pub capacity_is : h.store.capacity ≡ capacity
 
--- the row of some state
+-- The row of some state.
 pub record IsPlace (f : Frame) (s : Store) (row : ℕ) : Type 0 where
   pub id : ℕ
   pub there : id < length s.states

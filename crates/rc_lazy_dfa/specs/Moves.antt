@@ -1,5 +1,5 @@
 -- Only proofs use this file.
--- How a table of states changes.
+-- Cache: how its states change.
 use Rattle.std.specs.Prelude.{◌≡◌, ℕ, ◌+◌, ◌*◌, ◌<◌, ◌≤◌, Bool, true, false, List, [], ◌∷◌, ◌++◌, length, Option, Some, slice_get, min}
 use Rattle.rc_text.specs.declared.types.Anchored.{Anchored}
 use Rattle.rc_determinize.specs.States.{State}
@@ -8,14 +8,14 @@ use Rattle.rc_lazy_dfa.specs.Stores.{Frame, IsRow, Names, IsCell, IsColumn, mode
 use Rattle.rc_lazy_dfa.specs.declared.store.Store.{Store}
 use Rattle.rc_lazy_dfa.specs.declared.store.Named.{Named}
 
--- all states are let go, and that is counted
+-- All states are dropped, and that is counted.
 pub record IsReset (old new : Store) : Type 0 where
   pub states : new.states ≡ []
   pub width : new.width ≡ old.width
   pub capacity : new.capacity ≡ old.capacity
   pub clears : new.clears ≡ min (old.clears + 1) 18446744073709551615
 
--- cells alone are written
+-- Only cells are written.
 pub record Writes (old new : Store) : Type 0 where
   pub states : new.states ≡ old.states
   pub width : new.width ≡ old.width
@@ -23,12 +23,12 @@ pub record Writes (old new : Store) : Type 0 where
   pub used : new.used ≡ old.used
   pub clears : new.clears ≡ old.clears
 
--- there is room: nothing was done for that, or all states were let go
+-- There is room: nothing was done for it, or all states were dropped.
 abbrev pub HasRoom : Store → Store → ℕ → Bool → Type 0
 HasRoom old new weight true = (new ≡ old) × (old.used + weight ≤ old.capacity)
 HasRoom old new weight false = IsReset old new × (new.used + weight ≤ new.capacity) × (old.capacity < old.used + weight)
 
--- the state was added, in this row
+-- The state was added, in this row.
 pub record Adds (f : Frame) (old new : Store) (s : State) (row : ℕ) : Type 0 where
   pub states : new.states ≡ old.states ++ s ∷ []
   pub at : row ≡ length old.states * f.width
@@ -40,12 +40,12 @@ pub record Adds (f : Frame) (old new : Store) (s : State) (row : ℕ) : Type 0 w
 abbrev pub Grows : List State → List State → Type 0
 Grows old new = (id : ℕ) (s : State) → slice_get old id ≡ Some s → slice_get new id ≡ Some s
 
--- the cell leads to the state, and where it says so, the rows that there were still stand
+-- The cell leads to the state, and if it says so, all earlier rows were kept.
 pub record IsNamed (f : Frame) (old new : Store) (s : State) (n : Named) : Type 0 where
   pub names : Names f.width new.states n.cell s
   pub grows : n.kept ≡ true → Grows old.states new.states
 
--- the cell of the row and column: there is such a row
+-- The cell of the row and column: there is such a row.
 pub record HasCell (f : Frame) (states : List State) (row column cell : ℕ) : Type 0 where
   pub id : ℕ
   pub there : id < length states
@@ -54,7 +54,7 @@ pub record HasCell (f : Frame) (states : List State) (row column cell : ℕ) : T
   pub cell_is : (s : State) (beside : Option ℕ) → IsRow f.width states row s → IsColumn f beside column →
       IsCell f states beside (Leads f.machine s beside) cell
 
--- the same among the starts
+-- The start cell of the kind of anchoring and the column: there is such a start.
 pub record HasStart (f : Frame) (states : List State) (mode column cell : ℕ) : Type 0 where
   pub there : mode < length f.machine.entries + 2
   pub inside : column < f.width

@@ -1,5 +1,5 @@
 -- Only proofs use this file.
--- What searches spend adds up.
+-- Cache use: what searches spend adds up.
 use Rattle.std.proofs.Common.{ℕ, ◌+◌, ◌*◌, ◌≤◌, Bool, true, false, inl, inr, refl, ◌∙◌, arith}
 use Rattle.std.proofs.Math.Nat.{mul-le-mul_right, add-mul}
 use Rattle.rc_lazy_dfa.specs.Stores.{Frame, IsShort, Spends, minimum_of}
@@ -24,7 +24,7 @@ spends_within f a b n k le s = record {
   ];
 }
 
--- what was spent before counts too
+-- What was spent before counts too.
 pub short_after : (f : Frame) (a b : Store) (n k : ℕ) → Spends f a b n → IsShort f b k → IsShort f a (n + k)
 short_after f a b n k s short =
     let sum = add-mul n k (minimum_of f) in

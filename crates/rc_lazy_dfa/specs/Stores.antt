@@ -1,4 +1,4 @@
--- A table of states that grows as they come, in one direction.
+-- Cache: the states of one direction, which are added as searches reach them.
 use Rattle.std.specs.Prelude.{◌≡◌, ◌⊎◌, ℕ, ◌+◌, ◌*◌, ◌<◌, ◌≤◌, true, List, [], ◌∷◌, length, Option, Some, None, slice_get, slice_index_or}
 use Rattle.rc_text.specs.declared.types.Anchored.{Anchored}
 use Rattle.rc_text.specs.declared.types.Anchored.TheVariants.{No, Yes, Pattern}
@@ -14,7 +14,8 @@ use Rattle.rc_lazy_dfa.specs.declared.store.Store.{Store}
 use Rattle.rc_lazy_dfa.specs.declared.error.Refusal.{Refusal}
 use Rattle.rc_lazy_dfa.specs.declared.error.Refusal.TheVariants.{Memory, Short}
 
--- What the rows are of: a machine, the class of each byte, and how many cells a row has, one for each class and one for the end.
+-- What the rows are of: a machine, the class of each byte, and how many cells a row has, one for
+-- each class and one for the end.
 pub record Frame : Type 0 where
   pub machine : Machine
   pub classes : List ℕ
@@ -32,42 +33,44 @@ pub record IsFrame (f : Frame) : Type 0 where
 
 -- THE COUNT
 
--- what a state weighs with its row, in bytes
+-- What a state weighs with its row, in bytes.
 abbrev pub weight_of : ℕ → State → ℕ
 weight_of width s = 8 * width + 32 + 8 * length s.list
 
--- how many entries their lists have
+-- How many entries their lists have.
 abbrev pub listed_by : List State → ℕ
 listed_by [] = 0
 listed_by (s ∷ ss) = length s.list + listed_by ss
 
--- how many starts there are: for each way of anchoring, and for each class of the byte beside and the end
+-- How many start cells there are: for each kind of anchoring, one for each class of the byte beside
+-- and one for an end.
 abbrev pub starts_in : Frame → ℕ
 starts_in f = (length f.machine.entries + 2) * f.width
 
--- How many bytes hold these states: 8 for each cell of a row and each start, and for each state 32 and 8 for each entry of its list, a place or
--- a mark that parts the places of different starts. Three more are counted, with no entries: that of which nothing is known yet, the dead one,
--- and that for a byte that isn't read.
+-- How many bytes these states take: 8 for each cell of a row and each start cell, and for each
+-- state 32 and 8 for each entry of its list, a place or a mark between places of different starts.
+-- Three more states are counted, with no entries: that of which nothing is known yet, the dead one,
+-- and that for a byte that may not be read.
 abbrev pub count_of : Frame → List State → ℕ
 count_of f states = 8 * ((length states + 3) * f.width) + 8 * starts_in f + 32 * (length states + 3) + 8 * listed_by states
 
--- the least capacity: of five states, each with as many entries as a list has at most
+-- The least capacity: for five states, each with as many entries as a list has at most.
 abbrev pub minimum_of : Frame → ℕ
 minimum_of f = 8 * (5 * f.width) + 8 * starts_in f + 5 * (32 + 8 * longest_in f.machine.direction (length f.machine.setting.places))
 
 -- CELLS
 
--- the row of the state
+-- The row of the state.
 abbrev pub IsRow : ℕ → List State → ℕ → State → Type 0
 IsRow width states row s = (id : ℕ) × (slice_get states id ≡ Some s) × (row ≡ id * width)
 
--- the cell leads to the state: to its row, or to none where nothing goes on and nothing was met
+-- The cell leads to the state: to its row, or to none if nothing goes on and no match was found.
 abbrev pub Names : ℕ → List State → ℕ → State → Type 0
 Names width states cell s =
     ((cell ≡ dead) × (is_dead s ≡ true) × (s.stop ≡ None))
     ⊎ ((row : ℕ) × IsRow width states row s × (cell ≡ row + marks s))
 
--- the byte leads where the cell says, or isn't read
+-- The byte leads where the cell says, or may not be read.
 abbrev pub IsKnown : Frame → List State → Option ℕ → (State → Type 0) → ℕ → Type 0
 IsKnown f states beside To cell =
     ((cell ≡ quit) × (¬ MayRead f.machine beside))
@@ -76,12 +79,12 @@ IsKnown f states beside To cell =
 abbrev pub IsCell : Frame → List State → Option ℕ → (State → Type 0) → ℕ → Type 0
 IsCell f states beside To cell = (cell ≡ unknown) ⊎ IsKnown f states beside To cell
 
--- the column of the byte, or of the end
+-- The column of the byte, or of the end.
 abbrev pub IsColumn : Frame → Option ℕ → ℕ → Type 0
 IsColumn f (Some b) column = slice_get f.classes b ≡ Some column
 IsColumn f None column = column + 1 ≡ f.width
 
--- the number of a way of anchoring
+-- The number of a kind of anchoring.
 abbrev pub mode_of : Anchored → ℕ
 mode_of No = 0
 mode_of Yes = 1
@@ -93,18 +96,18 @@ pub record AreCells (f : Frame) (states : List State) (cells : List ℕ) : Type 
   pub told : (row column : ℕ) (s : State) (beside : Option ℕ) → IsRow f.width states row s → IsColumn f beside column →
       IsCell f states beside (Leads f.machine s beside) (slice_index_or cells (row + column) unknown)
 
--- and each start that is known is where a search so anchored begins
+-- Each start cell that is known is where a search begins that is anchored so.
 pub record AreStarts (f : Frame) (states : List State) (starts : List ℕ) : Type 0 where
   pub size : length starts ≡ starts_in f
   pub told : (anchored : Anchored) (column : ℕ) (beside : Option ℕ) → IsAsked f.machine anchored → IsColumn f beside column →
       IsCell f states beside (Begins f.machine anchored beside) (slice_index_or starts (mode_of anchored * f.width + column) unknown)
 
--- The states hold places of the program, each once, and marks between them where the longest match is sought.
+-- The states have places of the program, each once; for leftmost-longest with marks between them.
 pub record AreWithin (f : Frame) (states : List State) : Type 0 where
   pub each : (id : ℕ) (s : State) → slice_get states id ≡ Some s → IsWithin f.machine s
 
--- The table was made for these machine and classes. What it says is true, whatever numbers its states have, and it holds no more than its
--- capacity.
+-- It was made for this machine and these classes. What its cells say is true, whatever numbers its
+-- states have, and it takes no more than its capacity.
 pub record Held (f : Frame) (s : Store) : Type 0 where
   pub frame : IsFrame f
   pub width : s.width ≡ f.width
@@ -118,16 +121,18 @@ pub record Held (f : Frame) (s : Store) : Type 0 where
 
 -- WHAT IS SPENT
 
--- What so many states may weigh passes the capacity.
+-- What so many states may weigh exceeds the capacity.
 abbrev pub IsShort : Frame → Store → ℕ → Type 0
 IsShort f s n = s.capacity < s.used + n * minimum_of f
 
--- From the one table to the other at most so many states were added; all were let go only where it may have been short.
+-- From the first to the second at most so many states were added, and it was cleared only if it may
+-- have been short.
 pub record Spends (f : Frame) (old new : Store) (n : ℕ) : Type 0 where
   pub capacity : new.capacity ≡ old.capacity
   pub added : ((new.clears ≡ old.clears) × (new.used ≤ old.used + n * minimum_of f)) ⊎ IsShort f old n
 
--- why a state wasn't added: memory was refused, or the table was cleared three times before and may be short again
+-- Why a state wasn't added: memory was refused, or the cache was cleared three times before and may
+-- be short again.
 abbrev pub IsRefused : Frame → Store → Store → Refusal → Type 0
 IsRefused f old new Memory = Unit {0}
 IsRefused f old new Short = (3 ≤ new.clears) × IsShort f old 1

@@ -22,8 +22,8 @@ use rc_text::cursor::Cursor;
 use rc_text::input::{Input, piece_before};
 use rc_text::types::Anchored;
 
-/// The cell to which the last of this many bytes of a piece leads. If it is known and has no mark,
-/// it names the row of the run before that byte.
+/// Returns the cell to which the last of the first `left` bytes of a piece leads. If it is known
+/// and has no mark, it is the row of the run before that byte.
 #[inline(always)]
 fn cell_at(
     store: &Store,
@@ -51,8 +51,8 @@ fn cell_at(
     cells[here.row + classes[piece[left - 1] as usize] as usize]
 }
 
-/// Runs over bytes whose cells are known and have no mark, four at a time towards the beginning of
-/// a piece, and returns how many bytes are left and the row before the others. Fewer than four are
+/// Runs over bytes whose cells are known and have no mark, four at a time towards the piece's
+/// beginning. Returns how many bytes are left, and the row before the others. Fewer than four are
 /// left, or the next cell is unknown or has a mark.
 #[inline(always)]
 fn stride(
@@ -152,9 +152,9 @@ fn stride(
     (left, row)
 }
 
-/// Runs over the bytes of a piece from its end, down to one of which the cell needs a look, and
-/// returns how many are left. A cell that tells of something found needs none if `limit` is
-/// `UNKNOWN`, and one if it is 0.
+/// Runs over the bytes of a piece from its end down to one whose cell needs a look. Returns how
+/// many bytes are left. A cell with `MET` needs a look if `limit` is 0, and none if it is
+/// `UNKNOWN`.
 #[inline(never)]
 fn run(
     automaton: &Automaton,
@@ -246,7 +246,7 @@ fn step(
     Leg::Through(Stand { row, met })
 }
 
-/// Runs over the chunks from one position down to another.
+/// Runs over the chunks from the position `from` down to `end`.
 #[inline(always)]
 fn cross<C: Cursor>(
     automaton: &Automaton,
@@ -290,7 +290,7 @@ fn cross<C: Cursor>(
     Leg::Through(stand)
 }
 
-/// Where a search begins, by the byte ahead of the position.
+/// Begins a search at the position: the byte ahead of it decides the start state.
 #[inline(always)]
 fn begin(
     automaton: &Automaton,
@@ -329,8 +329,8 @@ fn begin(
     Leg::Through(Stand { row, met: None })
 }
 
-/// How a search ends that came to its lower bound: the byte before it decides what is found there,
-/// or the beginning of what is seen.
+/// Ends a search that came to its lower bound. The byte before that, or the beginning of what the
+/// search sees, decides whether a match begins there.
 #[inline(always)]
 fn finish<C: Cursor>(
     automaton: &Automaton,
@@ -363,7 +363,7 @@ fn finish<C: Cursor>(
     found_down(met_by(&half.store, cell, end, stand.met))
 }
 
-/// Searches from one position down to another.
+/// Searches from the position `from` down to `end`.
 #[inline(always)]
 pub(crate) fn search<C: Cursor>(
     automaton: &Automaton,
@@ -395,7 +395,7 @@ pub(crate) fn search<C: Cursor>(
     }
 }
 
-/// Searches backwards from the position `end` down to another, within the input's bounds.
+/// Searches backwards from the position `end` down to `from`, within the input's bounds.
 #[inline(always)]
 pub(crate) fn run_backwards<C: Cursor>(
     automaton: &Automaton,

@@ -22,7 +22,7 @@ pub(crate) const MET: usize = 1 << 63;
 /// The byte isn't read.
 pub(crate) const QUIT: usize = usize::MAX;
 
-/// The row that a cell names.
+/// Returns the row to which a cell leads, without its marks.
 #[inline(always)]
 pub(crate) fn row_of(cell: usize) -> usize
     ensures { result ≡ row_of cell }
@@ -41,7 +41,7 @@ pub(crate) fn has_died(cell: usize) -> bool
     cell >= DEAD
 }
 
-/// What is added to the name of the state's row.
+/// Returns the marks of a state's name.
 pub(crate) fn marks(state: &State) -> usize
     ensures { result ≡ marks (state_of state.now) }
 {
@@ -54,7 +54,7 @@ pub(crate) fn marks(state: &State) -> usize
     met + dead
 }
 
-/// The column of the byte, or of the end: the last one.
+/// Returns the column of the byte, or that of the end, which is the last.
 #[inline(always)]
 pub(crate) fn column(classes: &[u8], width: usize, beside: Option<u8>) -> usize
     requires size { length classes.now ≡ 256 }
@@ -67,7 +67,7 @@ pub(crate) fn column(classes: &[u8], width: usize, beside: Option<u8>) -> usize
     }
 }
 
-/// The number of a way of anchoring.
+/// Returns the number of a kind of anchoring.
 #[inline(always)]
 pub(crate) fn mode(anchored: Anchored) -> usize
     ensures value { result ≡ mode_of anchored }

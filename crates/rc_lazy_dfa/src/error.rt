@@ -4,26 +4,26 @@ ghost use Rattle.rc_lazy_dfa.specs.Errors.{is_memory};
 
 use std::alloc::AllocError;
 
-/// Why there are no tables.
+/// Why there is no lazy DFA.
 #[derive(Clone, Copy, Debug, PartialEq, Eq)]
 pub enum LazyError {
-    /// No memory could hold them.
+    /// No memory could hold its states.
     Memory,
-    /// The capacity is too small: the least that serves, and what was given, in bytes.
+    /// The capacity is too small: the least that suffices, and what was given, in bytes.
     TooSmall { minimum: usize, given: usize },
 }
 
 /// Why a state isn't added.
 #[derive(Clone, Copy)]
 pub(crate) enum Refusal {
-    /// Memory is wanting.
+    /// Out of memory.
     Memory,
-    /// The table is full again, and too little was read since it was cleared.
+    /// The cache is full again, and too little was read since it was cleared.
     Short,
 }
 
 impl Refusal {
-    /// Whether memory is wanting.
+    /// Whether it is out of memory.
     pub(crate) fn is_memory(self) -> bool
         ensures { result ≡ is_memory self }
     {

@@ -26,7 +26,7 @@ use rc_text::types::Anchored;
 /// How many bytes a search that may rest reads before it looks whether it does.
 const REACH: usize = 128;
 
-/// Up to where a search reads on before it looks whether it rests.
+/// Returns the position up to which a search reads before it looks whether it rests.
 #[inline(always)]
 fn reach(at: usize, end: usize, may_rest: bool, rest_from: usize) -> usize
     requires { at < end }
@@ -48,8 +48,8 @@ fn is_idle_at(half: &Half, stand: Stand) -> bool
     stand.met.is_none() && half.store.idles_at(stand.row)
 }
 
-/// The cell to which the byte of a piece at an index leads. If it is known and has no mark, it
-/// names the row of the run behind that byte.
+/// Returns the cell to which a byte of a piece leads. If it is known and has no mark, it is the row
+/// of the run behind that byte.
 #[inline(always)]
 fn cell_at(
     store: &Store,
@@ -76,9 +76,9 @@ fn cell_at(
     cells[here.row + classes[piece[index] as usize] as usize]
 }
 
-/// Runs over bytes whose cells are known and have no mark, four at a time, and returns how many
-/// bytes were read and the row behind them. Fewer than four are left, or the next cell is unknown
-/// or has a mark.
+/// Runs over bytes whose cells are known and have no mark, four at a time. Returns how many bytes
+/// were read, and the row behind them. Fewer than four are left, or the next cell is unknown or has
+/// a mark.
 #[inline(always)]
 fn stride(
     store: &Store,
@@ -177,9 +177,8 @@ fn stride(
     (index, row)
 }
 
-/// Runs over the bytes of a piece, up to one of which the cell needs a look, and returns how many
-/// were read. A cell that tells of something found needs none if `limit` is `UNKNOWN`, and one if
-/// it is 0.
+/// Runs over the bytes of a piece up to one whose cell needs a look. Returns how many bytes were
+/// read. A cell with `MET` needs a look if `limit` is 0, and none if it is `UNKNOWN`.
 #[inline(never)]
 fn run(
     automaton: &Automaton,
@@ -232,7 +231,7 @@ fn run(
     (index, Stand { row, met })
 }
 
-/// Reads one byte, whatever its cell. With `may_rest` the search rests behind it if it may, from
+/// Reads one byte, whatever its cell. With `may_rest`, the search rests behind it if it may, from
 /// the position `rest_from` on.
 #[inline(always)]
 fn step(
@@ -278,7 +277,7 @@ fn step(
     Leg::Through(Stand { row, met })
 }
 
-/// Runs over the chunks from one position to another.
+/// Runs over the chunks from the position `from` to `end`.
 #[inline(always)]
 fn cross<C: Cursor>(
     automaton: &Automaton,
@@ -339,7 +338,7 @@ fn cross<C: Cursor>(
     Leg::Through(stand)
 }
 
-/// Where a search begins, by the byte behind the position.
+/// Begins a search at the position: the byte behind it decides the start state.
 #[inline(always)]
 fn begin(
     automaton: &Automaton,
@@ -378,8 +377,8 @@ fn begin(
     Leg::Through(Stand { row, met: None })
 }
 
-/// How a search ends that came to its upper bound: the byte beyond decides what is found there, or
-/// the end of what is seen.
+/// Ends a search that came to its upper bound. The byte beyond, or the end of what the search sees,
+/// decides whether a match ends there.
 #[inline(always)]
 fn finish<C: Cursor>(
     automaton: &Automaton,
@@ -411,7 +410,7 @@ fn finish<C: Cursor>(
     found(automaton, met_by(&half.store, cell, end, stand.met))
 }
 
-/// Searches from one position up to another.
+/// Searches from the position `from` up to `end`.
 #[inline(always)]
 pub(crate) fn search<C: Cursor>(
     automaton: &Automaton,
@@ -447,7 +446,7 @@ pub(crate) fn search<C: Cursor>(
     }
 }
 
-/// Searches forwards from a position up to where the input's bounds end.
+/// Searches forwards from the position `from` up to the end of the input's bounds.
 #[inline(always)]
 pub(crate) fn run_forwards<C: Cursor>(
     automaton: &Automaton,

@@ -20,14 +20,14 @@ use rc_dfa::states::States;
 use rc_text::types::Anchored;
 use std::alloc::{AllocError, Global};
 
-/// A table of states in one direction, with what makes the steps.
+/// One direction of a cache: its states, and what the steps need.
 #[derive(Drop)]
 pub(crate) struct Half {
     pub store: Store,
     pub scratch: Scratch,
     /// The state that was made last.
     pub to: State,
-    /// How many bytes were read since all states were let go last.
+    /// How many bytes were read since the cache was cleared last.
     pub served: usize,
 }
 
@@ -47,8 +47,8 @@ fn no_places(alloc: Global) -> State {
     }
 }
 
-/// How many starts there are: for each way of anchoring, and for each class of the byte beside and
-/// the end. None if that overflows.
+/// Returns how many start cells there are: for each kind of anchoring, one for each class of the
+/// byte beside and one for an end. Returns None if that overflows.
 pub(crate) fn starts_in(automaton: &Automaton, direction: Direction, width: usize) -> Option<usize>
     requires { width ≡ (frame_of automaton.now direction).width }
     ensures { MatchOption result (usize.MAX < starts_in (frame_of automaton.now direction)) (λ n. n ≡ starts_in (frame_of automaton.now direction)) }
@@ -60,7 +60,7 @@ pub(crate) fn starts_in(automaton: &Automaton, direction: Direction, width: usiz
 }
 
 impl Half {
-    /// No states yet, with this capacity in bytes. An `Err` means out of memory.
+    /// No states yet, with this capacity in bytes. `Err` means out of memory.
     pub(crate) fn new(
         alloc: Global,
         automaton: &Automaton,
@@ -95,7 +95,7 @@ impl Half {
         })
     }
 
-    /// This many bytes were read.
+    /// Counts bytes that were read.
     #[inline(always)]
     pub(crate) fn serve(&mut self, bytes: usize)
         ensures store { self.new.store ≡ self.old.store }
@@ -104,7 +104,7 @@ impl Half {
         self.served = self.served.saturating_add(bytes);
     }
 
-    /// Makes the state to which a byte leads from the state of the row, or the end.
+    /// Makes the state to which a byte leads from the state of the row; None is the end.
     fn lead(
         &mut self,
         automaton: &Automaton,
@@ -125,7 +125,8 @@ impl Half {
         Ok(())
     }
 
-    /// The cell that leads to the state that was made last. The state is added if it isn't there.
+    /// Returns the cell that leads to the state that was made last, and adds that state if it is
+    /// new.
     fn name(&mut self) -> Result<Named, Refusal>
         ghost f: { Frame }
         requires half { IsHalf f self.old }
@@ -142,8 +143,8 @@ impl Half {
         Ok(named)
     }
 
-    /// The cell of a row and a byte, or of the end. If it isn't known, the step is made, and it is
-    /// known from then on.
+    /// Returns the cell of a row and a byte; None is the end. If it isn't known, the step is made,
+    /// and the cell is known from then on.
     #[inline(always)]
     pub(crate) fn next(
         &mut self,
@@ -179,8 +180,8 @@ impl Half {
         Ok(named.cell)
     }
 
-    /// The cell in which a search begins that is anchored so, if this byte is beside it, or none.
-    /// If it isn't known, the state is made, and it is known from then on.
+    /// Returns the start cell for a kind of anchoring and the byte beside, or an end. If it isn't
+    /// known, the state is made, and the cell is known from then on.
     #[inline(always)]
     pub(crate) fn begin(
         &mut self,

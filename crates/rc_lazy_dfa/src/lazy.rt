@@ -16,8 +16,7 @@ use rc_text::input::Input;
 use rc_text::types::Anchored;
 use std::alloc::{AllocError, Global};
 
-/// What searches by an automaton are made of whose states are found as they are found. The states
-/// themselves are in a `Cache`.
+/// A lazy DFA: the determinizer, and the capacity of a cache. The states are in a `Cache`.
 #[derive(Drop)]
 pub struct Lazy {
     automaton: Automaton,
@@ -27,7 +26,7 @@ pub struct Lazy {
     ghost roomy: { minimum ≤ capacity },
 }
 
-/// The states that searches built so far, with what is known of their steps: a table for each
+/// The states that searches reached so far, and the steps between them that are known, for each
 /// direction.
 #[derive(Drop)]
 pub struct Cache {
@@ -36,7 +35,7 @@ pub struct Cache {
     alloc: Global,
 }
 
-/// The least capacity that serves, in bytes; None if that overflows.
+/// Returns the least capacity that suffices, in bytes, or None if that is more than `usize::MAX`.
 fn minimum(automaton: &Automaton) -> Option<usize>
     ensures { MatchOption result (usize.MAX < minimum_of (frame_of automaton.now direction.Forwards)) (λ n. n ≡ minimum_of (frame_of automaton.now direction.Forwards)) }
 {
@@ -50,7 +49,7 @@ fn minimum(automaton: &Automaton) -> Option<usize>
     Some(bytes as usize)
 }
 
-/// Whether searches may be anchored so: the pattern that is asked for, if any, is there.
+/// Whether a search may be anchored so: the pattern that is asked for, if any, exists.
 fn is_asked(automaton: &Automaton, anchored: &Anchored) -> bool
     ensures { (d : direction.the_data) → IsTrue result ↔ IsAsked (machine_of automaton.now d) anchored.now }
 {
@@ -64,9 +63,9 @@ impl Lazy {
     ghost use Rattle.std.specs.Prelude.{◌≡◌, IfOk, IfErr};
     ghost use Rattle.rc_lazy_dfa.specs.Caches.{IsCacheOf, IsFreshCache, IsLazyOf, IsNone, least_of};
 
-    /// What searches by this automaton are made of, with this many bytes for the states of each
-    /// direction. The error `TooSmall` comes if the capacity is less than the least that serves,
-    /// and `Memory` if that overflows.
+    /// A lazy DFA for this automaton, with `capacity` bytes for the states of each direction. The
+    /// error is `TooSmall` if that is less than the least that suffices, and `Memory` if the least
+    /// is more than `usize::MAX`.
     pub fn new(automaton: Automaton, capacity: usize) -> Result<Lazy, LazyError>
         ensures made { IfOk result (IsLazyOf automaton capacity) }
         ensures refused { IfErr result (IsNone automaton capacity) }
@@ -87,14 +86,14 @@ impl Lazy {
         })
     }
 
-    /// The least capacity that serves, in bytes.
+    /// Returns the least capacity that suffices, in bytes.
     pub fn minimum_capacity(&self) -> usize
         ensures { result ≡ least_of self.now.automaton }
     {
         self.minimum
     }
 
-    /// A cache for searches, with no states yet. An `Err` means out of memory.
+    /// A cache for searches, with no states yet. `Err` means out of memory.
     pub fn create_cache(&self, alloc: Global) -> Result<Cache, AllocError>
         ensures made { IfOk result (IsCacheOf self.now) }
         ensures fresh { IfOk result IsFreshCache }
@@ -113,8 +112,8 @@ impl Cache {
     ghost use Rattle.std.specs.Prelude.{◌≡◌, IfOk, IfErr, min};
     ghost use Rattle.rc_lazy_dfa.specs.Caches.{IsCacheOf, IsFreshCache, capacity_of, clears_of, usage_of};
 
-    /// Makes this a cache for other searches, with no states yet. An `Err` means out of memory, and
-    /// then the cache stays as it was.
+    /// Makes this a cache for searches by another lazy DFA, with no states yet. `Err` means out of
+    /// memory; then the cache stays as it was.
     pub fn reset(&mut self, lazy: &Lazy) -> Result<(), AllocError>
         ensures made { IfOk result (λ _. IsCacheOf lazy.now self.new) }
         ensures fresh { IfOk result (λ _. IsFreshCache self.new) }
@@ -125,7 +124,7 @@ impl Cache {
         Ok(())
     }
 
-    /// How many bytes hold the states of both directions, or the greatest number if that is more.
+    /// Returns how many bytes the states of both directions take, or `usize::MAX` if that is more.
     pub fn memory_usage(&self) -> usize
         ensures { result ≡ min (usage_of self.now) usize.MAX }
     {
@@ -135,15 +134,15 @@ impl Cache {
             .saturating_add(self.reverse.store.used)
     }
 
-    /// This many bytes may hold the states of each direction.
+    /// Returns how many bytes the states of each direction may take.
     pub fn capacity(&self) -> usize
         ensures { result ≡ capacity_of self.now }
     {
         self.forward.store.capacity
     }
 
-    /// How often all states of a direction were let go since the cache was made or reset: the
-    /// greater of the two counts. A count stays at the greatest number once there.
+    /// Returns how many times a direction was cleared since the cache was made or reset: the
+    /// greater of the two counts. A count stays at `usize::MAX` once there.
     pub fn clear_count(&self) -> usize
         ensures { result ≡ clears_of self.now }
     {

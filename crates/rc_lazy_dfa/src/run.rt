@@ -11,36 +11,38 @@ use crate::store::Store;
 use rc_dfa::automaton::Automaton;
 use rc_dfa::ended::{Ended, Met};
 
-/// Where a search is between two bytes.
+/// What a run keeps between two bytes.
 #[derive(Clone, Copy)]
 pub(crate) struct Stand {
     /// The row of its state.
     pub row: usize,
-    /// What was found last, with the position: forwards a match place, and backwards an entry.
+    /// What was found last, and its position: forwards a match place, backwards the index of an
+    /// entry.
     pub met: Option<(usize, usize)>,
 }
 
-/// Where a run over a piece is between two bytes.
+/// What a run over a piece keeps between two bytes.
 #[derive(Clone, Copy)]
 pub(crate) struct Noted {
     /// The row of its state.
     pub row: usize,
-    /// The row that tells what was found last on the way, with the position; None if nothing was.
+    /// The row that has what was found last in the piece, and the position of that; None if nothing
+    /// was found.
     pub noted: Option<(usize, usize)>,
-    /// What was found before, with the position.
+    /// What was found before the piece, and its position.
     pub before: Option<(usize, usize)>,
 }
 
 /// What became of a search over some bytes.
 #[derive(Clone, Copy)]
 pub(crate) enum Leg {
-    /// It is behind them.
+    /// It goes on behind them.
     Through(Stand),
     /// It ended among them.
     Over(Ended),
 }
 
-/// What was found if the cell leads.
+/// Returns what was found on the way to the row of the cell.
 #[inline(always)]
 pub(crate) fn stop_by(store: &Store, cell: usize) -> Option<usize>
     ghost f: { Frame }
@@ -53,8 +55,8 @@ pub(crate) fn stop_by(store: &Store, cell: usize) -> Option<usize>
     None
 }
 
-/// What was found last, if it was found by the way to the row that is noted, at the position beside
-/// it, or else before.
+/// Returns what was found last: on the way to the noted row, at the position beside it, or else
+/// what was found before.
 #[inline(always)]
 pub(crate) fn told(
     store: &Store,
@@ -74,7 +76,7 @@ pub(crate) fn told(
     }
 }
 
-/// What is said of a search by what was found last: a match place, with the position.
+/// Returns the result of a forward search, by what was found last: a match place and its position.
 #[inline(always)]
 pub(crate) fn found(automaton: &Automaton, met: Option<(usize, usize)>) -> Ended
     ensures { SaysMet (machine_of automaton.now Forwards) met result }
@@ -92,7 +94,8 @@ pub(crate) fn found(automaton: &Automaton, met: Option<(usize, usize)>) -> Ended
     }
 }
 
-/// What is said of a search backwards by what was found last: an entry, with the position.
+/// Returns the result of a reverse search, by what was found last: the index of an entry and its
+/// position.
 #[inline(always)]
 pub(crate) fn found_down(met: Option<(usize, usize)>) -> Ended
     ensures { SaysLeast met result }
@@ -103,7 +106,7 @@ pub(crate) fn found_down(met: Option<(usize, usize)>) -> Ended
     }
 }
 
-/// What was found last, once a cell was read at the position.
+/// Returns what was found last, once a cell was read at the position.
 #[inline(always)]
 pub(crate) fn met_by(
     store: &Store,

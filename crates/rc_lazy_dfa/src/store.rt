@@ -21,28 +21,27 @@ pub(crate) struct Store {
     pub states: States,
     /// The rows, one behind another.
     pub cells: Vec<usize>,
-    /// The cells in which searches begin: for each way of anchoring, the class of the byte beside
-    /// and the end of what is seen.
+    /// The start cells: for each kind of anchoring, one for each class of the byte beside, and one
+    /// for an end.
     pub starts: Vec<usize>,
-    /// How many cells a row has: one for each class of bytes, and one for the end.
+    /// How many cells a row has: one for each byte class, and one for the end.
     pub width: usize,
-    /// This many bytes it may hold.
+    /// How many bytes it may take.
     pub capacity: usize,
-    /// This many bytes it holds.
+    /// How many bytes it takes.
     pub used: usize,
-    /// How often all states were let go, or the greatest number.
+    /// How many times it was cleared, at most `usize::MAX`.
     pub clears: usize,
 }
 
-/// What is known of a state: the cell that leads to it, and whether the rows that there were still
-/// are.
+/// The name of a state: the cell that leads to it, and whether all earlier rows were kept.
 #[derive(Clone, Copy)]
 pub(crate) struct Named {
     pub cell: usize,
     pub kept: bool,
 }
 
-/// How many bytes a state takes, with its row.
+/// Returns how many bytes a state takes, with its row.
 fn weight(width: usize, state: &State) -> usize
     requires { weight_of width (state_of state.now) ≤ usize.MAX }
     ensures { result ≡ weight_of width (state_of state.now) }
@@ -58,7 +57,7 @@ fn is_idle(state: &State) -> bool
 }
 
 impl Store {
-    /// Lets all states go.
+    /// Drops all states, and counts that.
     fn clear(&mut self)
         ghost f: { Frame }
         requires held { Held f self.old }
@@ -72,16 +71,16 @@ impl Store {
         self.clears = self.clears.saturating_add(1);
     }
 
-    /// Whether it is of no use to let all states go again: that was done three times, and since the
-    /// last each of them served fewer than 10 bytes.
+    /// Whether clearing is futile: it was done three times, and since the last time each state
+    /// served fewer than ten bytes on average.
     fn is_futile(&self, served: usize) -> bool
         ensures { IsTrue result → 3 ≤ self.now.clears }
     {
         self.clears >= 3 && served / 10 < self.states.len()
     }
 
-    /// Makes room for this many bytes, and lets all states go if there is none. Returns whether
-    /// they stayed.
+    /// Makes room for `weight` bytes, and drops all states if there is none. Returns whether they
+    /// were kept.
     fn make_room(&mut self, weight: usize, served: usize) -> Result<bool, Refusal>
         ghost f: { Frame }
         requires held { Held f self.old }
@@ -100,8 +99,8 @@ impl Store {
         Ok(false)
     }
 
-    /// Adds a state for which there is room, and returns its row. An `Err` means out of memory;
-    /// then it isn't added.
+    /// Adds a state for which there is room, and returns its row. `Err` means out of memory; then
+    /// it isn't added.
     fn add(&mut self, state: &State) -> Result<usize, AllocError>
         ghost f: { Frame }
         requires held { Held f self.old }
@@ -120,9 +119,9 @@ impl Store {
         Ok(row)
     }
 
-    /// The cell that leads to the state. The state is added if it isn't there, and the others let
-    /// go if there is no room for it; `served` is how many bytes were read since that was done
-    /// last.
+    /// Returns the cell that leads to the state, and adds the state if it is new. If there is no
+    /// room for it, all others are dropped. `served` is how many bytes were read since that was
+    /// done last.
     pub(crate) fn name(&mut self, state: &State, served: usize) -> Result<Named, Refusal>
         ghost f: { Frame }
         requires held { Held f self.old }
@@ -153,7 +152,7 @@ impl Store {
         })
     }
 
-    /// Writes the cell of a row.
+    /// Writes a cell of a row.
     pub(crate) fn write(&mut self, row: usize, column: usize, cell: usize)
         ghost f: { Frame }
         requires held { Held f self.old }
@@ -164,7 +163,7 @@ impl Store {
         self.cells[row + column] = cell;
     }
 
-    /// Writes the cell of a start, by the number of its way of anchoring.
+    /// Writes a start cell, by the number of its kind of anchoring.
     pub(crate) fn write_start(&mut self, mode: usize, column: usize, cell: usize)
         ghost f: { Frame }
         requires held { Held f self.old }
@@ -175,7 +174,7 @@ impl Store {
         self.starts[mode * self.width + column] = cell;
     }
 
-    /// What was found on the way to the row.
+    /// Returns what was found on the way to the row.
     #[inline(always)]
     pub(crate) fn stop_at(&self, row: usize) -> Option<usize>
         ghost f: { Frame }

@@ -1,61 +1,61 @@
--- The prefixes that are taken from a pattern.
+-- Prefix literals: those that are extracted from a pattern.
 use Rattle.std.specs.Prelude.{◌≡◌, ℕ, zero, suc, ◌+◌, ◌-◌, ◌*◌, Bool, true, false, ◌&&◌, ◌||◌, List, [], ◌∷◌, ◌++◌, length, map, take, Option, Some, None, unwrap_or, nat_lt, nat_le, encode_utf8, if◌then◌else◌}
 use Rattle.std.specs.List.{filter, flat_map, range_with_len}
 use lib.Utf8.{scalar}
 use Rattle.rc_pattern.specs.Re.{Re, Range, empty, literal, byte_in, char_in, look, repeat, capture, cat, alt, none}
 
--- how many prefixes are kept at most
+-- The most prefixes that are kept.
 abbrev pub greatest_count : ℕ
 greatest_count = 64
 
--- needles that are shorter are lengthened by what is read behind them
+-- A shorter needle is lengthened by what is read behind it.
 abbrev pub short_length : ℕ
 short_length = 3
 
--- how many needles lengthening makes at most
+-- The most needles that lengthening may make.
 abbrev pub greatest_variants : ℕ
 greatest_variants = 32
 
--- how many bytes of a literal are kept at most
+-- The most bytes of a literal that are kept.
 abbrev pub greatest_length : ℕ
 greatest_length = 32
 
--- the numbers from the range's one end to the other
+-- The numbers from one end of the range to the other.
 abbrev pub numbers_of : Range → List ℕ
 numbers_of r = range_with_len r.0 (r.1 + 1 - r.0)
 
--- each byte of a range
+-- Each byte of a range.
 abbrev pub range_bytes : Range → List (List ℕ)
 range_bytes r = map (λ b. b ∷ []) (numbers_of r)
 
--- each scalar of a range, as UTF-8
+-- Each scalar of a range, as UTF-8.
 abbrev pub range_chars : Range → List (List ℕ)
 range_chars r = map encode_utf8 (filter scalar (numbers_of r))
 
--- an assertion or empty
+-- An assertion or empty.
 abbrev pub is_still : Re → Bool
 is_still empty = true
 is_still (look l) = true
 is_still _ = false
 
--- the prefixes of the one and of the other, where both have some
+-- The prefixes of both, if both have some.
 abbrev pub both : Option (List (List ℕ)) → Option (List (List ℕ)) → Option (List (List ℕ))
 both None ws = None
 both (Some vs) None = None
 both (Some vs) (Some ws) = Some (vs ++ ws)
 
--- the list with these at its end, one after another, where there is room for each
+-- The list with these at its end, one after another, if there is room for each.
 abbrev pub filled : List (List ℕ) → List (List ℕ) → Option (List (List ℕ))
 filled list [] = Some list
 filled list (w ∷ ws) = if nat_lt (length list) greatest_count then filled (list ++ w ∷ []) ws else None
 
--- what is added to the list, where it is known and there is room for it
+-- The list with what is added, if that is known and there is room for it.
 abbrev pub grown : List (List ℕ) → Option (List (List ℕ)) → Option (List (List ℕ))
 grown list None = None
 grown list (Some ws) = filled list ws
 
--- each text that is spelled by literals and classes, in groups and alternations as they come. None for other patterns, and where a
--- literal is too long to be kept.
+-- Each text that is spelled by literals and classes, in groups and alternations as they come. None
+-- for other patterns, and if a literal is too long to be kept.
 abbrev pub spelled_bytes : Re → Option (List (List ℕ))
 spelled_bytes (literal bs) = if nat_le (length bs) greatest_length then Some (bs ∷ []) else None
 spelled_bytes (byte_in rs) = Some (flat_map range_bytes rs)
@@ -65,37 +65,39 @@ spelled_bytes (alt a rest) = both (spelled_bytes a) (spelled_bytes rest)
 spelled_bytes none = Some []
 spelled_bytes _ = None
 
--- what each text is that the pattern spells, where all of it can be kept
+-- Each text that the pattern spells, if all of it can be kept.
 abbrev pub whole_bytes : Re → Option (List (List ℕ))
 whole_bytes a = grown [] (spelled_bytes a)
 
--- each of the one list with each of the other behind it
+-- Each of the first list with each of the second behind it.
 abbrev pub crossed : List (List ℕ) → List (List ℕ) → List (List ℕ)
 crossed ws vs = flat_map (λ w. map (λ v. w ++ v) vs) ws
 
--- one of the needles is short
+-- One of the needles is short.
 abbrev pub has_short : List (List ℕ) → Bool
 has_short [] = false
 has_short (w ∷ ws) = nat_lt (length w) short_length || has_short ws
 
--- one of them is short, and there are few enough once each has each of the others behind it
+-- One of them is short, and there are few enough once each has each of the others behind it.
 abbrev pub may_cross : List (List ℕ) → Option (List (List ℕ)) → Bool
 may_cross ws None = false
 may_cross ws (Some vs) = has_short ws && nat_le (length ws * length vs) greatest_variants
 
--- the needles with what is read behind them, by one part after another that is kept whole, while one of them is short and there are few enough
+-- The needles with what is read behind them: one part after another that is kept whole, as long as
+-- one needle is short and there are few enough.
 abbrev pub lengthened : List (List ℕ) → Re → List (List ℕ)
 lengthened ws (cat a rest) =
     if may_cross ws (whole_bytes a) then lengthened (crossed ws (unwrap_or (whole_bytes a) [])) rest else ws
 lengthened ws _ = ws
 
--- the needles of what is read first with what is read behind them, or the prefixes of what is read first, where it is none that is kept whole
+-- The needles of what is read first with what is read behind them; or the prefixes of what is read
+-- first, if that isn't kept whole.
 abbrev pub begun_by : Option (List (List ℕ)) → Option (List (List ℕ)) → Re → Option (List (List ℕ))
 begun_by None first rest = first
 begun_by (Some ws) first rest = Some (lengthened ws rest)
 
--- what each text begins with that the pattern spells: the literals and classes that may be read first. None where a body that may be
--- left out, or nothing but assertions, may be read first.
+-- The beginnings of the texts that the pattern spells: the literals and classes that may be read
+-- first. None if an optional body, or nothing but assertions, may come first.
 abbrev pub first_bytes : Re → Option (List (List ℕ))
 first_bytes empty = None
 first_bytes (literal bs) = Some (take greatest_length bs ∷ [])
@@ -109,6 +111,7 @@ first_bytes (cat a rest) = if is_still a then first_bytes rest else begun_by (wh
 first_bytes (alt a rest) = both (first_bytes a) (first_bytes rest)
 first_bytes none = Some []
 
--- Where it is done, the old list with these prefixes is the new one; where it isn't, there are none or there is no room for them.
+-- If it is done, the new list is the old one with these prefixes. If it isn't, there are none or
+-- there is no room for them.
 abbrev pub Extends : Bool → List (List ℕ) → List (List ℕ) → Option (List (List ℕ)) → Type 0
 Extends done old new found = grown old found ≡ (if done then Some new else None)

@@ -1,5 +1,5 @@
 -- Only proofs use this file.
--- What a search may go by from needle to needle.
+-- Prefilters: what a search may go by from needle to needle.
 use Rattle.std.specs.Prelude.{◌≡◌, ℕ, ◌<◌, ◌≤◌, ◌⊎◌, Bool, false, List, Some, slice_get}
 use Rattle.rc_program.specs.Program.{Place}
 use Rattle.rc_needles.specs.Guards.{Guards}
@@ -9,26 +9,27 @@ use Rattle.rc_literals.specs.declared.guard.Guard.{Guard}
 use Rattle.rc_literals.specs.declared.guard.Guard.TheVariants.{Begins, Holds}
 use Rattle.rc_literals.specs.declared.guard.Start.{Start}
 
--- the needles that it goes by, in order
+-- The needles that it goes by, in order.
 abbrev pub guard_needles : Guard → List (List ℕ)
 guard_needles (Begins p) = needles_of p.now
 guard_needles (Holds n) = needles_of n.now.needles
 
--- it may be relied on in searches by the program
+-- It may be relied on in searches by the program.
 abbrev pub IsGuard : List Place → ℕ → Guard → Type 0
 IsGuard places terminator (Begins p) = Guards places terminator (needles_of p.now)
 IsGuard places terminator (Holds n) = Confines places terminator (needles_of n.now.needles) n.now.stops.table
 
--- no byte from the one position to the other is one of the set
+-- No byte from the first position to the second is one of the set.
 abbrev pub HasNoStop : List Bool → List ℕ → ℕ → ℕ → Type 0
 HasNoStop stops content from to = (x b : ℕ) → from ≤ x → x < to → slice_get content x ≡ Some b → is_stop stops b ≡ false
 
--- It is the least position at or above `at` from which no byte of the set stands before the needle.
+-- It is the least position, `at` or later, from which no byte of the set comes before the needle.
 pub record IsBehind (stops : List Bool) (content : List ℕ) (at needle from : ℕ) : Type 0 where
   pub none : HasNoStop stops content from needle
   pub least : (from ≡ at) ⊎ IsBehindStop stops content from
 
--- Where a search begins by a needle: there, or behind the last byte before it that no match has.
+-- Where a search begins for a needle: there, or behind the last byte before it that no match
+-- contains.
 abbrev pub BeginsFor : Guard → List ℕ → ℕ → Start → Type 0
 BeginsFor (Begins p) content at s = s.from ≡ s.needle
 BeginsFor (Holds n) content at s = IsBehind n.now.stops.table content at s.needle s.from

@@ -1,4 +1,4 @@
--- Patterns that are lists of needles.
+-- Exact literals: patterns that are lists of needles.
 use Rattle.std.specs.Prelude.{◌≡◌, ◌≢◌, ℕ, zero, suc, ◌+◌, ◌≤◌, List, [], ◌∷◌, Option, Some, None, option_map, slice_get, length}
 use Rattle.rc_text.specs.Text.{Searched}
 use Rattle.rc_pattern.specs.Re.{Re, literal, alt, none}
@@ -17,40 +17,41 @@ abbrev pub Covers : Text → List Re → List (List ℕ) → Type 0
 Covers t hs needles = (p i j : ℕ) → SpelledBy t 0 hs p i j →
     (k : ℕ) × (needle : List ℕ) × (slice_get needles k ≡ Some needle) × StandsAt t.content needle i × (i + length needle ≤ j)
 
--- Within the bounds a needle stands at a start exactly where a walk begins there, and the first needle that stands there is the text of
--- the first walk.
+-- Within the bounds, a needle stands at a start exactly if a walk begins there, and the first
+-- needle that stands there is the text of the first walk.
 pub record IsExact (s : Search) (needles : List (List ℕ)) : Type 0 where
   pub first : (x : ℕ) (h : Hit) → x ≤ s.hi → IsFirstAt needles s.text.content s.hi x h →
       (w : List Pair) × IsFirstFrom s x w × ((last_of w).1 ≡ h.end)
   pub none : (x : ℕ) → x ≤ s.hi → NoneAt needles s.text.content s.hi x → HasNoWalkFrom s x
 
--- the bytes of a literal that isn't empty
+-- The bytes of a literal that isn't empty.
 abbrev pub literal_bytes : Re → Option (List ℕ)
 literal_bytes (literal (b ∷ bs)) = Some (b ∷ bs)
 literal_bytes _ = None
 
--- one more needle, where there is one
+-- One more needle, if there is one.
 abbrev pub before : Option (List ℕ) → Option (List (List ℕ)) → Option (List (List ℕ))
 before None needles = None
 before (Some needle) needles = option_map (λ ws. needle ∷ ws) needles
 
--- the bytes of the members of an alternation, where each is a literal that isn't empty
+-- The bytes of the members of an alternation, if each is a literal that isn't empty.
 abbrev pub member_literals : Re → Option (List (List ℕ))
 member_literals none = Some []
 member_literals (alt a rest) = before (literal_bytes a) (member_literals rest)
 member_literals _ = None
 
--- the bytes of a literal that isn't empty, or of the members of an alternation of such literals; and nothing for other patterns
+-- The bytes of a literal that isn't empty, or of the members of an alternation of such literals;
+-- nothing for other patterns.
 abbrev pub literals_of : Re → Option (List (List ℕ))
 literals_of (literal (b ∷ bs)) = Some ((b ∷ bs) ∷ [])
 literals_of (alt a rest) = member_literals (alt a rest)
 literals_of _ = None
 
--- what holds of a pattern that is a literal, or an alternation of literals
+-- What holds of a pattern that is a literal, or an alternation of literals.
 pub record LiteralLaw : Type 0 where
   pub covers : (h : Re) (needles : List (List ℕ)) (t : Text) → literals_of h ≡ Some needles → Covers t (h ∷ []) needles
   pub exact : (h : Re) (needles : List (List ℕ)) (s : Search) → literals_of h ≡ Some needles → s.places ≡ program (h ∷ []) →
       ((p : ℕ) → only s.anchoring ≢ Some (suc p)) → IsExact s needles
-  -- its answers are those of a search for the needles
+  -- Its answers are those of a search for the needles.
   pub answers : (h : Re) (needles : List (List ℕ)) (q : Sought) (s : Searched) → literals_of h ≡ Some needles → q.patterns ≡ h ∷ [] →
       answer (search_for q s) ≡ literal_answer needles s

@@ -1,4 +1,4 @@
--- Lists of prefixes that cover patterns, and how one list stands for another.
+-- Prefix literals: lists of prefixes that cover patterns, and how one list replaces another.
 use Rattle.std.specs.Prelude.{◌≡◌, ◌≤◌, ℕ, List, ◌++◌, All, Bool, Some, length, slice_get}
 use Rattle.rc_pattern.specs.Re.{Re}
 use Rattle.rc_pattern.specs.Meaning.{alt_all}
@@ -10,31 +10,33 @@ use Rattle.rc_needles.specs.Guards.{Guards}
 use Rattle.rc_literals.specs.Extraction.{first_bytes, greatest_count}
 use Rattle.rc_needles.specs.Tables.{IsUsable}
 
--- These are the prefixes of the patterns: what may be read first in them, none of it empty, and no more than are kept.
+-- These are the prefixes of the patterns: what may be read first in them, none of it empty, and no
+-- more than are kept.
 pub record ArePrefixes (hs : List Re) (ws : List (List ℕ)) : Type 0 where
   pub are : first_bytes (alt_all hs) ≡ Some ws
   pub usable : IsUsable ws
   pub few : length ws ≤ greatest_count
 
--- the bytes begin with the needle
+-- The bytes begin with the needle.
 abbrev pub BeginsWith : List ℕ → List ℕ → Type 0
 BeginsWith bytes needle = (rest : List ℕ) × (bytes ≡ needle ++ rest)
 
--- the bytes begin with one of the needles
+-- The bytes begin with one of the needles.
 abbrev pub BeginsWithOne : List (List ℕ) → List ℕ → Type 0
 BeginsWithOne needles bytes = (k : ℕ) × (needle : List ℕ) × (slice_get needles k ≡ Some needle) × BeginsWith bytes needle
 
--- each of the prefixes begins with one of the needles
+-- Each of the prefixes begins with one of the needles.
 abbrev pub EachBegins : List (List ℕ) → List (List ℕ) → Type 0
 EachBegins prefixes needles = All (BeginsWithOne needles) prefixes
 
 -- What a list that covers patterns is good for.
 pub record CoverLaw : Type 0 where
-  -- no walk of their program begins where none of its needles stands, with their groups or without
+  -- No walk of their program begins at a position where none of its needles stands, with their
+  -- groups or without.
   pub guards : (hs : List Re) (grouped : Bool) (terminator : ℕ) (needles : List (List ℕ)) → All HasBounds hs →
       ((t : Text) → Covers t hs needles) → Guards (program (shown grouped hs)) terminator needles
-  -- it covers the patterns as they are shown, too
+  -- It covers the patterns with their groups or without.
   pub shown_too : (t : Text) (hs : List Re) (grouped : Bool) (needles : List (List ℕ)) → Covers t hs needles → Covers t (shown grouped hs) needles
-  -- and so does each list of needles with which its members begin
+  -- Each list of needles with which its members begin covers them too.
   pub by_beginnings : (t : Text) (hs : List Re) (prefixes needles : List (List ℕ)) → EachBegins prefixes needles →
       Covers t hs prefixes → Covers t hs needles

@@ -1,5 +1,5 @@
 -- Only proofs use this file.
--- The needles that are taken from a pattern of which each match holds one.
+-- Required literals: those that are extracted from a pattern.
 use Rattle.std.specs.Prelude.{◌≡◌, ℕ, zero, suc, Bool, ◌&&◌, List, [], ◌∷◌, ◌++◌, length, map, min, take, Option, Some, None, nat_lt, nat_le, if◌then◌else◌}
 use Rattle.rc_pattern.specs.Re.{Re, empty, literal, byte_in, char_in, look, repeat, capture, cat, alt, none}
 use Rattle.rc_pattern.specs.Meaning.{alt_all}
@@ -7,59 +7,62 @@ use Rattle.rc_literals.specs.Extraction.{greatest_count, greatest_length, first_
 use Rattle.rc_literals.specs.Literals.{literal_bytes}
 use Rattle.rc_needles.specs.Tables.{IsUsable}
 
--- how many bytes the shortest has; the most that are kept of a literal, where there is none
+-- How many bytes the shortest has, or, if there is none, the most bytes of a literal that are kept.
 abbrev pub shortest : List (List ℕ) → ℕ
 shortest [] = greatest_length
 shortest (w ∷ ws) = min (length w) (shortest ws)
 
--- of two members' needles those whose shortest is longer, and the first member's where they are alike
+-- Those of two members' needles whose shortest is longer, and the first member's if both are as
+-- long.
 abbrev pub better : Option (List (List ℕ)) → Option (List (List ℕ)) → Option (List (List ℕ))
 better None ws = ws
 better (Some vs) None = Some vs
 better (Some vs) (Some ws) = if nat_lt (shortest vs) (shortest ws) then Some ws else Some vs
 
--- the needles of both, where both have some, and where they are no more than are kept
+-- The needles of both, if both have some and these are no more than are kept.
 abbrev pub joined : Option (List (List ℕ)) → Option (List (List ℕ)) → Option (List (List ℕ))
 joined None ws = None
 joined (Some vs) None = None
 joined (Some vs) (Some ws) = if nat_le (length (vs ++ ws)) greatest_count then Some (vs ++ ws) else None
 
--- the first bytes of a literal, where it has some
+-- The first bytes of a literal, if it has some.
 abbrev pub literal_needle : List ℕ → Option (List (List ℕ))
 literal_needle [] = None
 literal_needle bs = Some (take greatest_length bs ∷ [])
 
--- how many needles a byte becomes at most with what is read behind it
+-- The most needles that a byte may become with what is read behind it.
 abbrev pub greatest_rest : ℕ
 greatest_rest = 16
 
--- the byte of a literal that has no other
+-- The byte of a literal that has no other.
 abbrev pub only_byte : Option (List ℕ) → Option ℕ
 only_byte (Some (b ∷ [])) = Some b
 only_byte _ = None
 
--- these, where there are some, they are few, and none of them is empty
+-- These, if there are some, they are few, and none of them is empty.
 abbrev pub few : Option (List (List ℕ)) → Option (List (List ℕ))
 few None = None
 few (Some ws) = if nat_lt 0 (length ws) && nat_le (length ws) greatest_rest && nat_lt 0 (shortest ws) then Some ws else None
 
--- the prefixes of a concatenation's first member, where they are few
+-- The prefixes of a concatenation's first member, if they are few.
 abbrev pub next_bytes : Re → Option (List (List ℕ))
 next_bytes (cat a rest) = few (first_bytes a)
 next_bytes _ = None
 
--- the byte with each of the others behind it, where both are known; else the needles
+-- The byte with each of the others behind it, if both are known; else the needles.
 abbrev pub with_each : Option ℕ → Option (List (List ℕ)) → Option (List (List ℕ)) → Option (List (List ℕ))
 with_each (Some b) (Some ws) needles = Some (map (λ w. b ∷ w) ws)
 with_each _ _ needles = needles
 
--- the needles of a concatenation's first member; of a literal of one byte, with what is read behind it, where that begins with few prefixes
+-- The needles of a concatenation's first member. A literal of one byte is lengthened by what is
+-- read behind it, if that begins with few prefixes.
 abbrev pub with_rest : Re → Re → Option (List (List ℕ)) → Option (List (List ℕ))
 with_rest a rest needles = with_each (only_byte (literal_bytes a)) (next_bytes rest) needles
 
--- needles of which each text holds one that the pattern spells: literals that have to be read, those of one member of a concatenation, and
--- those of each member of an alternation. None where no literal has to be read, and where they are too many. The longer ones have what is
--- read behind a single byte.
+-- Needles of which each text that the pattern spells contains one. They are literals that must be
+-- read: those of one member of a concatenation, and those of each member of an alternation. None if
+-- no literal must be read, or there are too many. The longer ones have what is read behind a single
+-- byte.
 abbrev pub needed : Bool → Re → Option (List (List ℕ))
 needed longer empty = None
 needed longer (literal bs) = literal_needle bs
@@ -73,7 +76,8 @@ needed longer (cat a rest) = better (if longer then with_rest a rest (needed lon
 needed longer (alt a rest) = joined (needed longer a) (needed longer rest)
 needed longer none = Some []
 
--- These are the needles that the patterns need, the longer ones or the others: there are some, and none of them is empty.
+-- These are the needles that the patterns need, the longer ones or the others: there are some, and
+-- none of them is empty.
 pub record AreNeeded (longer : Bool) (hs : List Re) (ws : List (List ℕ)) : Type 0 where
   pub are : needed longer (alt_all hs) ≡ Some ws
   pub usable : IsUsable ws

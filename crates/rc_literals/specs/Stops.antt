@@ -1,21 +1,22 @@
 -- Only proofs use this file.
--- The bytes that a pattern reads, and a set of those that none reads.
+-- Alphabet: the bytes that a pattern reads, and a set of those that none reads.
 use Rattle.std.specs.Prelude.{◌≡◌, ℕ, Bool, false, ◌&&◌, ◌||◌, not, List, [], ◌∷◌, nat_eq, nat_le, nat_lt, if◌then◌else◌}
 use Rattle.rc_pattern.specs.Re.{Re, Range, empty, literal, byte_in, char_in, look, repeat, capture, cat, alt, none}
 use Rattle.rc_program.specs.Program.{in_ranges}
 use Rattle.rc_literals.specs.Needs.{is_stop}
 
--- the byte is one of these
+-- The byte is one of these.
 abbrev pub among : List ℕ → ℕ → Bool
 among [] b = false
 among (c ∷ cs) b = nat_eq c b || among cs b
 
--- some range ends at a scalar that more than one byte encodes
+-- Some range ends at a scalar that takes more than one byte.
 abbrev pub reach_far : List Range → Bool
 reach_far [] = false
 reach_far (r ∷ rs) = nat_le 128 r.1 || reach_far rs
 
--- A text that the pattern spells may have the byte. A scalar below 128 is the byte, and the bytes of each other are 128 or more.
+-- A text that the pattern spells may have the byte. A scalar below 128 is the byte, and the bytes
+-- of each other scalar are 128 or more.
 abbrev pub reads : Re → ℕ → Bool
 reads empty b = false
 reads (literal bs) b = among bs b

@@ -8,8 +8,8 @@ ghost use Rattle.rc_needles.specs.Tables.{needles_in};
 use rc_pattern::hir::{Hir, HirKind};
 use std::alloc::{AllocError, Global};
 
-/// The bytes of a literal that isn't empty, or of the members of an alternation of such literals,
-/// however many there are; None for other patterns.
+/// Returns the bytes of a literal that isn't empty, or of the members of an alternation of such
+/// literals, however many there are. Returns None for other patterns. `Err` means out of memory.
 ///
 /// They are an exact list: the first of them at the least start is the pattern's match.
 pub fn exact_literals(alloc: Global, hir: &Hir) -> Result<Option<Vec<Vec<u8>>>, AllocError>
@@ -27,7 +27,7 @@ pub fn exact_literals(alloc: Global, hir: &Hir) -> Result<Option<Vec<Vec<u8>>>, 
     }
 }
 
-/// The bytes of a literal alone; None if there are none.
+/// Returns the bytes of a literal alone, or None if it is empty.
 fn one_literal(alloc: Global, bytes: &Vec<u8>) -> Result<Option<Vec<Vec<u8>>>, AllocError>
     ensures { IfOk result (λ found. option_map (λ v. needles_in v.items) found ≡ literals_of (literal bytes.now.items)) }
 {
@@ -39,7 +39,8 @@ fn one_literal(alloc: Global, bytes: &Vec<u8>) -> Result<Option<Vec<Vec<u8>>>, A
     Ok(Some(literals))
 }
 
-/// The bytes of the members; None if there is no member, or one is no literal or an empty one.
+/// Returns the bytes of the members. Returns None if there is no member, or one is no literal or an
+/// empty one.
 fn members(alloc: Global, subs: &Vec<Hir>) -> Result<Option<Vec<Vec<u8>>>, AllocError>
     ensures { IfOk result (λ found. option_map (λ v. needles_in v.items) found ≡ literals_of (alt_all (map meaning subs.now.items))) }
 {
@@ -56,7 +57,7 @@ fn members(alloc: Global, subs: &Vec<Hir>) -> Result<Option<Vec<Vec<u8>>>, Alloc
     Ok(Some(literals))
 }
 
-/// The bytes of a literal that isn't empty.
+/// Returns the bytes of a literal that isn't empty, or None for other patterns.
 fn literal_bytes(hir: &Hir) -> Option<&[u8]>
     ensures { option_map (λ b. b.now) result ≡ literal_bytes (meaning hir.now) }
 {

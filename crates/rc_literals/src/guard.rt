@@ -14,19 +14,20 @@ use rc_needles::prefilter::Prefilter;
 use rc_text::cursor::Cursor;
 use rc_text::input::{Input, piece_before};
 
-/// Needles of which each match holds one, and bytes of which it has none.
+/// Required literals: needles of which each match contains one, and bytes of which it contains
+/// none.
 #[derive(Drop)]
 pub struct Needs {
     pub needles: Prefilter,
     pub stops: Stops,
 }
 
-/// Needles by which a search may go.
+/// The needles by which a search goes.
 #[derive(Clone, Copy)]
 pub enum Guard<'a> {
-    /// No match begins but where one of these needles occurs.
+    /// No match begins at a position where none of these needles stands.
     Begins(&'a Prefilter),
-    /// Each match holds one of the needles, and has no byte of the set.
+    /// Each match contains one of the needles, and none of the stop bytes.
     Holds(&'a Needs),
 }
 
@@ -35,15 +36,16 @@ pub enum Guard<'a> {
 pub struct Start {
     /// No match begins before it.
     pub from: usize,
-    /// Where the needle occurs, at or above `from`.
+    /// Where the needle stands, at `from` or later.
     pub needle: usize,
 }
 
-/// Where a search is to go on that has come to `at`: at the next needle, or behind the last byte
-/// before it that no match has. None if no needle is left, and so no match.
+/// Returns where a search is to go on that has come to `at`. With prefix literals that is the next
+/// needle. With required literals it is behind the last byte before that needle which no match
+/// contains. Returns None if no needle is left, and so no match.
 ///
-/// `end` is where the input's bounds end. It reads on the uncut bytes, wherever the input stood
-/// before, none of them below `at`, takes no memory and copies nothing.
+/// `end` is where the input's bounds end. It reads the uncut bytes, none of them before `at`,
+/// wherever the input was before. It allocates and copies nothing.
 #[inline(always)]
 pub fn next_start<C: Cursor>(
     input: &mut Input<C>,
@@ -79,8 +81,7 @@ pub fn next_start<C: Cursor>(
     }
 }
 
-/// Where no byte of the set is left before the needle: behind the last one, or at `at` if there is
-/// none from there on.
+/// Returns the position behind the last stop byte before the needle, but at least `at`, in bytes.
 #[inline(always)]
 fn behind_stop<C: Cursor>(input: &mut Input<C>, stops: &Stops, at: usize, needle: usize) -> usize
     requires ordered { at ≤ needle }
@@ -102,7 +103,7 @@ fn behind_stop<C: Cursor>(input: &mut Input<C>, stops: &Stops, at: usize, needle
     at
 }
 
-/// How many bytes the piece has up to the last one of the set, and 0 if it has none of it.
+/// Returns the length of the piece up to and with its last stop byte, or 0 if it has none.
 #[inline(always)]
 fn stopped_len(piece: &[u8], stops: &Stops) -> usize
     ensures within { result ≤ length piece.now }

@@ -14,7 +14,7 @@ use rc_pattern::hir::Hir;
 use rc_text::frequency::is_common;
 use std::alloc::{AllocError, Global};
 
-/// Whether none of the needles is a single byte that stands close together in most texts.
+/// Whether no needle is a single common byte.
 fn are_rare(needles: &[Vec<u8>]) -> bool {
     for needle in needles {
         if needle.len() < 2 && needle.iter().all(|byte| is_common(*byte)) {
@@ -24,12 +24,13 @@ fn are_rare(needles: &[Vec<u8>]) -> bool {
     true
 }
 
-/// Whether one of the needles is a single byte.
+/// Whether some needle is a single byte.
 fn has_single(needles: &[Vec<u8>]) -> bool {
     needles.iter().any(|needle| needle.len() < 2)
 }
 
-/// The needles made ready for searches; None if they are not sought fast.
+/// Returns a prefilter for the needles, or None if its search isn't fast. `Err` means out of
+/// memory.
 fn fast_prefilter(alloc: Global, needles: Vec<Vec<u8>>) -> Result<Option<Prefilter>, AllocError>
     ensures { IfOk result (λ found. IfSome found (λ p. needles_of p ≡ needles_in needles.items)) }
 {
@@ -42,9 +43,10 @@ fn fast_prefilter(alloc: Global, needles: Vec<Vec<u8>>) -> Result<Option<Prefilt
     Ok(Some(prefilter))
 }
 
-/// The needles with what is read behind single bytes, made ready for searches; None if there are
-/// none, and if they are not sought by a sieve that is fast: by few first bytes they are sought no
-/// sooner than single bytes are, and then compared.
+/// Returns a prefilter for the required literals, each single byte lengthened by what is read
+/// behind it. Returns None if there are none, or if Teddy doesn't search for them, or not fast. A
+/// search by few first bytes is no faster than one for single bytes, and has to compare what
+/// follows. `Err` means out of memory.
 fn longer_prefilter(alloc: Global, hirs: &[Hir]) -> Result<Option<Prefilter>, AllocError>
     ensures { IfOk result (λ found. IfSome found (λ p. (t : Text) → Holds t (map meaning hirs.now) (needles_of p))) }
 {
@@ -60,8 +62,8 @@ fn longer_prefilter(alloc: Global, hirs: &[Hir]) -> Result<Option<Prefilter>, Al
     Ok(longer)
 }
 
-/// Needles of which each match of the patterns holds one, made ready for searches, if they are
-/// worth it.
+/// Returns a prefilter for the required literals, if a search for them pays. `Err` means out of
+/// memory.
 fn needed_prefilter(alloc: Global, hirs: &[Hir]) -> Result<Option<Prefilter>, AllocError>
     ensures { IfOk result (λ found. IfSome found (λ p. (t : Text) → Holds t (map meaning hirs.now) (needles_of p))) }
 {
@@ -80,11 +82,11 @@ fn needed_prefilter(alloc: Global, hirs: &[Hir]) -> Result<Option<Prefilter>, Al
     fast_prefilter(alloc, list)
 }
 
-/// Needles of which each match of the patterns holds one, and the bytes of which it has none. None
-/// if there are no such needles, and if a search for them isn't likely to pass over much: one of
-/// them is a single byte that is common in most texts, or they are so many that they are not sought
-/// fast. If one is a single byte, they have what is read behind it, as long as they are sought fast
-/// so. Which it is, is a matter of speed alone. An `Err` means out of memory.
+/// Returns the required literals of the patterns, and the bytes that no match contains. Returns
+/// None if there are no such literals, or if a search for them isn't likely to skip much: one of
+/// them is a single common byte, or they are so many that the search isn't fast. If one is a single
+/// byte, it is lengthened by what is read behind it, if the search stays fast then. All this
+/// affects speed only. `Err` means out of memory.
 pub fn needs_of(alloc: Global, hirs: &[Hir]) -> Result<Option<Needs>, AllocError>
     ensures holds { IfOk result (λ found. IfSome found (λ n. (t : Text) → Holds t (map meaning hirs.now) (needles_of n.needles))) }
     ensures leaves { IfOk result (λ found. IfSome found (λ n. (t : Text) → LeavesOut t (map meaning hirs.now) n.stops.table)) }

@@ -14,27 +14,29 @@ use rc_needles::prefilter::{Prefilter, is_usable};
 use rc_pattern::hir::{Class, ClassBytesRange, ClassUnicodeRange, Hir, HirKind};
 use std::alloc::{AllocError, Global};
 
-/// How many prefixes are kept at most.
+/// The most prefixes that are kept.
 const GREATEST_COUNT: usize = 64;
 
-/// How many bytes of a literal are kept at most.
+/// The most bytes of a literal that are kept.
 const GREATEST_LENGTH: usize = 32;
 
-/// Needles that are shorter are lengthened by what is read behind them.
+/// A shorter needle is lengthened by what is read behind it.
 const SHORT_LENGTH: usize = 3;
 
-/// How many needles lengthening makes at most.
+/// The most needles that lengthening may make.
 const GREATEST_VARIANTS: usize = 32;
 
-/// Prefixes with one of which each text begins that one of the patterns spells, none of them empty.
+/// Returns prefix literals: each text that one of the patterns spells begins with one of them, and
+/// none is empty.
 ///
-/// They are what may be read first: a literal, of which at most 32 bytes are taken, or each byte or
-/// character of a class. If one of these has fewer than 3 bytes, they are lengthened by the
-/// literals and classes behind it, in groups and alternations too, one after another, as long as
-/// that makes no more than 32 of them. None if in some pattern a body that may be left out, or
-/// nothing but assertions, is read first, if there are more than 64, and if there is none. An `Err`
-/// means out of memory. It takes time linear in the patterns' size, and calls itself as deep as a
-/// pattern is.
+/// They are what may be read first: a literal, of which at most 32 bytes are kept, or each byte or
+/// character of a class. If one has fewer than 3 bytes, all are lengthened by the literals and
+/// classes behind, also in groups and alternations, as long as that makes at most 32. So `[ab]cd`
+/// has `acd` and `bcd`.
+///
+/// Returns None if there is no prefix, if there are more than 64, or if in some pattern an optional
+/// body or nothing but assertions may come first. `Err` means out of memory. It takes time linear
+/// in the patterns' size, and recurses as deep as a pattern is nested.
 pub fn prefixes(alloc: Global, hirs: &[Hir]) -> Result<Option<Vec<Vec<u8>>>, AllocError>
     ensures usable { IfOk result (λ found. IfSome found (λ v. IsUsable (needles_in v.items))) }
     ensures exact { IfOk result (λ found. MatchOption found ((ws : List (List ℕ)) → ¬ ArePrefixes (map meaning hirs.now) ws)
@@ -48,7 +50,7 @@ pub fn prefixes(alloc: Global, hirs: &[Hir]) -> Result<Option<Vec<Vec<u8>>>, All
     Ok(Some(list))
 }
 
-/// Adds the prefixes of a pattern; false if it has none of use.
+/// Adds the prefixes of a pattern. Returns false if it has none of use.
 #[cycle(add)]
 fn add(alloc: Global, hir: &Hir, list: &mut Vec<Vec<u8>>) -> Result<bool, AllocError>
     ensures { IfOk result (λ done. Extends done (needles_in list.old.items) (needles_in list.new.items) (first_bytes (meaning hir.now))) }
@@ -75,7 +77,7 @@ fn add(alloc: Global, hir: &Hir, list: &mut Vec<Vec<u8>>) -> Result<bool, AllocE
     }
 }
 
-/// Adds the prefixes of each pattern; false if one has none of use.
+/// Adds the prefixes of each pattern. Returns false if one has none of use.
 #[cycle(add)]
 fn add_alternation(alloc: Global, subs: &[Hir], list: &mut Vec<Vec<u8>>) -> Result<bool, AllocError>
     ensures { IfOk result (λ done. Extends done (needles_in list.old.items) (needles_in list.new.items) (first_bytes (alt_all (map meaning subs.now)))) }
@@ -88,8 +90,8 @@ fn add_alternation(alloc: Global, subs: &[Hir], list: &mut Vec<Vec<u8>>) -> Resu
     Ok(true)
 }
 
-/// Adds the prefixes of what may be read first: if each text of it is known, and one is short, with
-/// what is read behind it. False if it has none of use.
+/// Adds the prefixes of what may be read first. If each text of it is known and one is short, they
+/// are lengthened by what is read behind it. Returns false if it has none of use.
 #[cycle(add)]
 fn add_begun(
     alloc: Global,
@@ -109,8 +111,9 @@ fn add_begun(
     }
 }
 
-/// Each text that a pattern spells: a literal, a class, a group of these and an alternation of
-/// these. None for other patterns, and if that is too much to be kept.
+/// Returns each text that a pattern spells, if that is a literal, a class, or a group or an
+/// alternation of these. Returns None for other patterns, and if the texts are too many or too long
+/// to be kept.
 fn whole_bytes(alloc: Global, hir: &Hir) -> Result<Option<Vec<Vec<u8>>>, AllocError>
     ensures { IfOk result (λ found. option_map (λ v. needles_in v.items) found ≡ whole_bytes (meaning hir.now)) }
 {
@@ -121,7 +124,7 @@ fn whole_bytes(alloc: Global, hir: &Hir) -> Result<Option<Vec<Vec<u8>>>, AllocEr
     Ok(None)
 }
 
-/// Adds each text that a pattern spells; false if that is not known, or there is no room.
+/// Adds each text that a pattern spells. Returns false if these aren't known, or there is no room.
 #[cycle(add_whole)]
 fn add_whole(alloc: Global, hir: &Hir, list: &mut Vec<Vec<u8>>) -> Result<bool, AllocError>
     ensures { IfOk result (λ done. Extends done (needles_in list.old.items) (needles_in list.new.items) (spelled_bytes (meaning hir.now))) }
@@ -137,8 +140,8 @@ fn add_whole(alloc: Global, hir: &Hir, list: &mut Vec<Vec<u8>>) -> Result<bool, 
     }
 }
 
-/// Adds each text that one of the patterns spells; false if that is not known of one, or there is
-/// no room.
+/// Adds each text that one of the patterns spells. Returns false if those of one aren't known, or
+/// there is no room.
 #[cycle(add_whole)]
 fn add_whole_alternation(
     alloc: Global,
@@ -155,7 +158,7 @@ fn add_whole_alternation(
     Ok(true)
 }
 
-/// Adds the bytes of a literal; false if they are too many.
+/// Adds the bytes of a literal. Returns false if they are too many.
 fn add_whole_literal(
     alloc: Global,
     bytes: &[u8],
@@ -169,7 +172,7 @@ fn add_whole_literal(
     add_needle(alloc, bytes, list)
 }
 
-/// The needles with what is read behind them.
+/// Returns the needles, lengthened by what is read behind them.
 fn lengthened(
     alloc: Global,
     needles: Vec<Vec<u8>>,
@@ -187,8 +190,8 @@ fn lengthened(
     Ok(longer)
 }
 
-/// Each needle with each text behind it that the pattern spells. None if no needle is short, the
-/// texts are not known, or they would be too many.
+/// Returns each needle with each text of the pattern behind it. Returns None if no needle is short,
+/// the texts aren't known, or there would be too many.
 fn crossed_with(
     alloc: Global,
     needles: &[Vec<u8>],
@@ -222,7 +225,7 @@ fn has_short(needles: &[Vec<u8>]) -> bool
     false
 }
 
-/// Each needle with each of the others behind it.
+/// Returns each needle with each of the others behind it.
 fn crossed(
     alloc: Global,
     needles: &[Vec<u8>],
@@ -254,7 +257,7 @@ fn add_joined(
     Ok(())
 }
 
-/// Adds each of the needles; false if there is no room for one.
+/// Adds each of the needles. Returns false if there is no room for one.
 fn add_needles(
     alloc: Global,
     needles: &[Vec<u8>],
@@ -270,7 +273,7 @@ fn add_needles(
     Ok(true)
 }
 
-/// How many members are before the first that may read.
+/// Returns how many members come before the first that may read.
 fn still_count(subs: &[Hir]) -> usize
     ensures first { IfSome (slice_get subs.now result) (λ first. first_bytes (cat_all (map meaning subs.now))
         ≡ begun_by (whole_bytes (meaning first)) (first_bytes (meaning first)) (cat_all (map meaning (drop (result + 1) subs.now)))) }
@@ -284,7 +287,7 @@ fn still_count(subs: &[Hir]) -> usize
     subs.len()
 }
 
-/// Whether it is an assertion or empty.
+/// Whether the pattern is an assertion or empty.
 fn is_still(hir: &Hir) -> bool
     ensures { result ≡ is_still (meaning hir.now) }
 {
@@ -299,14 +302,14 @@ fn is_still(hir: &Hir) -> bool
     }
 }
 
-/// Adds the first bytes of a literal.
+/// Adds the first bytes of a literal. Returns false if there is no room.
 fn add_literal(alloc: Global, bytes: &[u8], list: &mut Vec<Vec<u8>>) -> Result<bool, AllocError>
     ensures { IfOk result (λ done. Extends done (needles_in list.old.items) (needles_in list.new.items) (first_bytes (literal bytes.now))) }
 {
     add_needle(alloc, &bytes[..bytes.len().min(GREATEST_LENGTH)], list)
 }
 
-/// Adds each member of a class; false if there are too many.
+/// Adds each member of a class. Returns false if there are too many.
 fn add_class(alloc: Global, class: &Class, list: &mut Vec<Vec<u8>>) -> Result<bool, AllocError>
     ensures { IfOk result (λ done. Extends done (needles_in list.old.items) (needles_in list.new.items) (first_bytes (class_meaning class.now))) }
 {
@@ -316,7 +319,7 @@ fn add_class(alloc: Global, class: &Class, list: &mut Vec<Vec<u8>>) -> Result<bo
     }
 }
 
-/// Adds each byte of the ranges.
+/// Adds each byte of the ranges. Returns false if there is no room for one.
 fn add_byte_ranges(
     alloc: Global,
     ranges: &[ClassBytesRange],
@@ -332,7 +335,7 @@ fn add_byte_ranges(
     Ok(true)
 }
 
-/// Adds each character of the ranges.
+/// Adds each character of the ranges. Returns false if there is no room for one.
 fn add_char_ranges(
     alloc: Global,
     ranges: &[ClassUnicodeRange],
@@ -348,7 +351,7 @@ fn add_char_ranges(
     Ok(true)
 }
 
-/// Adds each byte of a range.
+/// Adds each byte of a range. Returns false if there is no room for one.
 fn add_bytes(
     alloc: Global,
     range: ClassBytesRange,
@@ -364,7 +367,7 @@ fn add_bytes(
     Ok(true)
 }
 
-/// Adds the UTF-8 bytes of each character of a range.
+/// Adds the UTF-8 bytes of each character of a range. Returns false if there is no room for one.
 fn add_chars(
     alloc: Global,
     range: ClassUnicodeRange,
@@ -383,7 +386,7 @@ fn add_chars(
     Ok(true)
 }
 
-/// Adds these bytes; false if the list is full.
+/// Adds these bytes. Returns false if the list is full.
 fn add_needle(alloc: Global, needle: &[u8], list: &mut Vec<Vec<u8>>) -> Result<bool, AllocError>
     ensures { IfOk result (λ done. Extends done (needles_in list.old.items) (needles_in list.new.items) (Some (needle.now ∷ []))) }
 {

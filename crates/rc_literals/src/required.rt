@@ -12,26 +12,29 @@ use rc_needles::prefilter::is_usable;
 use rc_pattern::hir::{Hir, HirKind};
 use std::alloc::{AllocError, Global};
 
-/// How many needles are kept at most.
+/// The most needles that are kept.
 const GREATEST_COUNT: usize = 64;
 
-/// How many bytes of a literal are kept at most.
+/// The most bytes of a literal that are kept.
 const GREATEST_LENGTH: usize = 32;
 
-/// How many needles a byte becomes at most with what is read behind it.
+/// The most needles that a byte may become with what is read behind it.
 const GREATEST_REST: usize = 16;
 
-/// Needles of which each text holds one, somewhere, that one of the patterns spells; none of them
-/// is empty.
+/// Returns required literals: each text that one of the patterns spells contains one of them,
+/// somewhere, and none is empty.
 ///
-/// They are literals that have to be read, of each at most its first 32 bytes: of a concatenation
-/// those of the member whose shortest is the longest, and of an alternation those of each member.
-/// An alternation has none if a member has none, or if they would be more than 64. With `longer` a
-/// literal of one byte in a concatenation has each of the prefixes of the next member behind it, as
-/// `rc_literals::prefixes` tells them, if these are at most 16: so those of `:[0-9]` are `:0` to
-/// `:9`. The patterns are taken as an alternation: None if that has none. An `Err` means out of
-/// memory. It takes time linear in the patterns' size, with at most 64 needles moved for each node,
-/// and calls itself as deep as a pattern is.
+/// They are literals that must be read, of each at most its first 32 bytes. Of a concatenation,
+/// they are those of the member whose shortest literal is the longest; of an alternation, those of
+/// each member. An alternation has none if a member has none, or if there would be more than 64.
+/// The patterns are taken as an alternation: the result is None if that has none.
+///
+/// With `longer`, a literal of one byte in a concatenation is followed by each prefix of the next
+/// member, as `rc_literals::prefixes` extracts them, if these are at most 16. So those of `:[0-9]`
+/// are `:0` to `:9`.
+///
+/// `Err` means out of memory. It takes time linear in the patterns' size, with at most 64 needles
+/// moved for each node, and recurses as deep as a pattern is nested.
 pub fn required(
     alloc: Global,
     hirs: &[Hir],
@@ -51,7 +54,7 @@ pub fn required(
     Ok(Some(needles))
 }
 
-/// The needles of a pattern; None if it has to read no literal, and if they are too many.
+/// Returns the needles of a pattern. Returns None if it needs no literal, or there are too many.
 #[cycle(needed)]
 fn needed(alloc: Global, hir: &Hir, longer: bool) -> Result<Option<Vec<Vec<u8>>>, AllocError>
     ensures { IfOk result (λ found. option_map (λ v. needles_in v.items) found ≡ needed longer (meaning hir.now)) }
@@ -71,8 +74,8 @@ fn needed(alloc: Global, hir: &Hir, longer: bool) -> Result<Option<Vec<Vec<u8>>>
     }
 }
 
-/// The needles of the member of a concatenation whose shortest is the longest; None if no member
-/// has some.
+/// Returns the needles of the member of a concatenation whose shortest is the longest. Returns None
+/// if no member has any.
 #[cycle(needed)]
 fn needed_by_one(
     alloc: Global,
@@ -92,7 +95,8 @@ fn needed_by_one(
     Ok(best)
 }
 
-/// The needles of each member of an alternation; None if one has none, and if they are too many.
+/// Returns the needles of each member of an alternation. Returns None if one has none, or there are
+/// too many.
 #[cycle(needed)]
 fn needed_by_each(
     alloc: Global,
@@ -114,7 +118,7 @@ fn needed_by_each(
     Ok(Some(list))
 }
 
-/// The first bytes of a literal; None if it has none.
+/// Returns the first bytes of a literal, or None if it is empty.
 fn literal_needle(alloc: Global, bytes: &[u8]) -> Result<Option<Vec<Vec<u8>>>, AllocError>
     ensures { IfOk result (λ found. option_map (λ v. needles_in v.items) found ≡ literal_needle bytes.now) }
 {
@@ -126,8 +130,8 @@ fn literal_needle(alloc: Global, bytes: &[u8]) -> Result<Option<Vec<Vec<u8>>>, A
     Ok(Some(list))
 }
 
-/// The needles of a member of a concatenation before the others; those of a literal of one byte
-/// with what is read behind it, if that begins with few prefixes.
+/// Returns the needles of a member of a concatenation, before the others. A literal of one byte is
+/// lengthened by what is read behind it, if that begins with few prefixes.
 fn with_rest(
     alloc: Global,
     member: &Hir,
@@ -146,7 +150,7 @@ fn with_rest(
     Ok(Some(with_each(alloc, byte, &behind)?))
 }
 
-/// The byte of a literal that has no other.
+/// Returns the byte of a literal that has no other.
 fn only_byte(hir: &Hir) -> Option<u8>
     ensures { result ≡ only_byte (literal_bytes (meaning hir.now)) }
 {
@@ -167,8 +171,8 @@ fn only_byte(hir: &Hir) -> Option<u8>
     }
 }
 
-/// The prefixes of a concatenation's first member; None if there is no member, or it has none or
-/// many.
+/// Returns the prefixes of a concatenation's first member. Returns None if there is no member, or
+/// it has none or many.
 fn next_bytes(alloc: Global, subs: &[Hir]) -> Result<Option<Vec<Vec<u8>>>, AllocError>
     ensures { IfOk result (λ found. option_map (λ v. needles_in v.items) found ≡ next_bytes (cat_all (map meaning subs.now))) }
 {
@@ -184,7 +188,7 @@ fn next_bytes(alloc: Global, subs: &[Hir]) -> Result<Option<Vec<Vec<u8>>>, Alloc
     Ok(Some(list))
 }
 
-/// The byte with each of the others behind it.
+/// Returns the byte with each of the others behind it.
 fn with_each(alloc: Global, byte: u8, behind: &[Vec<u8>]) -> Result<Vec<Vec<u8>>, AllocError>
     ensures { IfOk result (λ list. needles_in list.items ≡ map (λ w. byte ∷ w) (needles_in behind.now)) }
 {
@@ -198,8 +202,8 @@ fn with_each(alloc: Global, byte: u8, behind: &[Vec<u8>]) -> Result<Vec<Vec<u8>>
     Ok(list)
 }
 
-/// Of two members' needles those whose shortest is longer, and the first member's if they are
-/// alike.
+/// Returns those of two members' needles whose shortest is longer, and the first member's if both
+/// are as long.
 fn better(first: Option<Vec<Vec<u8>>>, rest: Option<Vec<Vec<u8>>>) -> Option<Vec<Vec<u8>>>
     ensures { option_map (λ v. needles_in v.items) result
         ≡ better (option_map (λ v. needles_in v.items) first) (option_map (λ v. needles_in v.items) rest) }
@@ -216,7 +220,7 @@ fn better(first: Option<Vec<Vec<u8>>>, rest: Option<Vec<Vec<u8>>>) -> Option<Vec
     Some(ours)
 }
 
-/// How many bytes the shortest needle has; 32 if there is none.
+/// Returns how many bytes the shortest needle has, or 32 if there is none.
 fn shortest(needles: &[Vec<u8>]) -> usize
     ensures { result ≡ shortest (needles_in needles.now) }
 {
@@ -227,7 +231,7 @@ fn shortest(needles: &[Vec<u8>]) -> usize
     least
 }
 
-/// The needles of both; None if they are too many.
+/// Returns the needles of both, or None if there are too many.
 fn joined(first: Vec<Vec<u8>>, rest: Vec<Vec<u8>>) -> Result<Option<Vec<Vec<u8>>>, AllocError>
     ensures { IfOk result (λ found. option_map (λ v. needles_in v.items) found ≡ joined (Some (needles_in first.items)) (Some (needles_in rest.items))) }
 {

@@ -8,16 +8,16 @@ ghost use Rattle.rc_literals.specs.Stops.{Leaves, among, reads};
 
 use rc_pattern::hir::{Class, ClassBytesRange, ClassUnicodeRange, Hir, HirKind};
 
-/// Bytes that no match has: for each byte, whether it is one of them.
+/// Stop bytes: for each byte, whether no match contains it.
 #[derive(Drop)]
 pub struct Stops {
     pub table: [bool; 256],
 }
 
-/// The bytes that none of the patterns reads.
+/// Returns the bytes that none of the patterns reads.
 ///
-/// A character above 127 of a class stands for each byte above 127. It takes time linear in the
-/// patterns' size, no memory, and calls itself as deep as a pattern is.
+/// If a class has a character above 127, each byte above 127 counts as read. It takes time linear
+/// in the patterns' size, allocates nothing, and recurses as deep as a pattern is nested.
 pub fn stops_of(hirs: &[Hir]) -> Stops
     ensures value { (b : ℕ) → is_stop result.table b ≡ (nat_lt b 256 && not (reads (alt_all (map meaning hirs.now)) b)) }
     ensures leaves { (t : Text) → LeavesOut t (map meaning hirs.now) result.table }
@@ -27,7 +27,7 @@ pub fn stops_of(hirs: &[Hir]) -> Stops
     Stops { table }
 }
 
-/// Takes the bytes that the pattern reads out of the set.
+/// Removes the bytes that the pattern reads from the set.
 #[cycle(pass)]
 fn pass(hir: &Hir, table: &mut [bool; 256])
     ensures { Leaves table.old table.new (reads (meaning hir.now)) }
@@ -42,7 +42,7 @@ fn pass(hir: &Hir, table: &mut [bool; 256])
     }
 }
 
-/// Takes the bytes that each of the patterns reads out of the set.
+/// Removes the bytes that each of the patterns reads from the set.
 #[cycle(pass)]
 fn pass_each(subs: &[Hir], table: &mut [bool; 256])
     ensures { Leaves table.old table.new (reads (alt_all (map meaning subs.now))) }
@@ -52,7 +52,7 @@ fn pass_each(subs: &[Hir], table: &mut [bool; 256])
     }
 }
 
-/// Takes the bytes of a literal out of the set.
+/// Removes the bytes of a literal from the set.
 fn pass_bytes(bytes: &[u8], table: &mut [bool; 256])
     ensures { Leaves table.old table.new (among bytes.now) }
 {
@@ -61,7 +61,7 @@ fn pass_bytes(bytes: &[u8], table: &mut [bool; 256])
     }
 }
 
-/// Takes the bytes of a class out of the set.
+/// Removes the bytes of a class from the set.
 fn pass_class(class: &Class, table: &mut [bool; 256])
     ensures { Leaves table.old table.new (reads (class_meaning class.now)) }
 {
@@ -71,7 +71,7 @@ fn pass_class(class: &Class, table: &mut [bool; 256])
     }
 }
 
-/// Takes each byte of the ranges out of the set.
+/// Removes each byte of the ranges from the set.
 fn pass_byte_ranges(ranges: &[ClassBytesRange], table: &mut [bool; 256])
     ensures { Leaves table.old table.new (reads (byte_in (map byte_range ranges.now))) }
 {
@@ -80,8 +80,8 @@ fn pass_byte_ranges(ranges: &[ClassBytesRange], table: &mut [bool; 256])
     }
 }
 
-/// Takes the bytes of each character of the ranges out of the set: the character itself below 128,
-/// else all bytes from 128 on.
+/// Removes the bytes of each character of the ranges from the set: the character itself if it is
+/// below 128, else all bytes from 128 on.
 fn pass_char_ranges(ranges: &[ClassUnicodeRange], table: &mut [bool; 256])
     ensures { Leaves table.old table.new (reads (char_in (map char_range ranges.now))) }
 {
@@ -96,7 +96,7 @@ fn pass_char_ranges(ranges: &[ClassUnicodeRange], table: &mut [bool; 256])
     }
 }
 
-/// Takes the bytes from `from` on and below `to` out of the set.
+/// Removes the bytes from `from` to `to`, excluded, from the set.
 fn pass_span(from: usize, to: usize, table: &mut [bool; 256])
     requires { to ≤ 256 }
     ensures { Leaves table.old table.new (λ b. nat_le from b && nat_lt b to) }

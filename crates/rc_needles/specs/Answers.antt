@@ -1,4 +1,4 @@
--- What a search finds of one pattern that is exactly some needles.
+-- Literal search: what a search finds for one pattern that is exactly some needles.
 use Rattle.std.specs.Prelude.{ℕ, zero, suc, List, Option, None, option_map}
 use Rattle.rc_text.specs.Found.{Found}
 use Rattle.rc_text.specs.Text.{Searched, low, high}
@@ -7,11 +7,11 @@ use Rattle.rc_text.specs.declared.types.Anchored.TheVariants.{No, Yes, Pattern}
 use Rattle.rc_needles.specs.declared.hit.Hit.{Hit}
 use Rattle.rc_needles.specs.Needles.{find_needle, prefix_needle}
 
--- the match that a needle is
+-- The match that a needle is.
 abbrev pub found_at : Hit → Found
 found_at h = record { pattern = 0; start = h.start; end = h.end }
 
--- what a search of one pattern finds that is exactly these needles
+-- What a search finds for one pattern that is exactly these needles.
 abbrev pub literal_answer_by : List (List ℕ) → List ℕ → ℕ → ℕ → Anchored → Option Found
 literal_answer_by needles content lo hi No = option_map found_at (find_needle needles content lo hi)
 literal_answer_by needles content lo hi Yes = option_map found_at (prefix_needle needles content lo hi)

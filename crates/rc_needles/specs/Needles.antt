@@ -1,18 +1,18 @@
--- Needles, and where they stand in a content.
+-- Literal search: needles, and where they stand in a content.
 use Rattle.std.specs.Prelude.{◌≡◌, ◌↔◌, ℕ, ◌+◌, ◌-◌, ◌<◌, ◌≤◌, Bool, ◌&&◌, List, [], ◌∷◌, length, max, Option, Some, None, nat_le, bytes_eq, slice_get, slice_range, if◌then◌else◌}
 use Rattle.rc_program.specs.Answer.{first_given}
 use Rattle.rc_program.specs.Spells.{Stands}
 use Rattle.rc_needles.specs.declared.hit.Hit.{Hit}
 
--- the needle's bytes stand in the content from i on
+-- The content has the needle's bytes from i on.
 abbrev pub StandsAt : List ℕ → List ℕ → ℕ → Type 0
 StandsAt content needle i = Stands content needle i (i + length needle)
 
--- it stands there, wholly at or below hi
+-- The needle stands there, and ends at hi or earlier.
 abbrev pub StandsWithin : List ℕ → ℕ → List ℕ → ℕ → Type 0
 StandsWithin content hi needle i = (i + length needle ≤ hi) × StandsAt content needle i
 
--- no needle stands at i
+-- No needle stands at i.
 abbrev pub NoneAt : List (List ℕ) → List ℕ → ℕ → ℕ → Type 0
 NoneAt needles content hi i = (k : ℕ) (needle : List ℕ) → slice_get needles k ≡ Some needle → ¬ StandsWithin content hi needle i
 
@@ -31,32 +31,32 @@ pub record IsFirstNeedle (needles : List (List ℕ)) (content : List ℕ) (lo hi
   pub is_first : IsFirstAt needles content hi h.start h
   pub none_before : (i : ℕ) → lo ≤ i → i < h.start → NoneAt needles content hi i
 
--- no needle stands from lo on
+-- No needle stands from lo on.
 abbrev pub HasNoNeedle : List (List ℕ) → List ℕ → ℕ → ℕ → Type 0
 HasNoNeedle needles content lo hi = (i : ℕ) → lo ≤ i → NoneAt needles content hi i
 
--- The same as functions. That they say the same is the law `NeedleLaw`.
+-- The same as functions. The law `NeedleLaw` says that these agree with the relations above.
 
--- the needle stands at i, wholly at or below hi
+-- The needle stands at i, and ends at hi or earlier.
 abbrev pub stands_within : List ℕ → ℕ → ℕ → List ℕ → Bool
 stands_within content hi i needle = nat_le (i + length needle) hi && bytes_eq (slice_range content i (i + length needle)) needle
 
--- the first of the needles that stands at i, where the first of them has the number n
+-- The first of the needles that stands at i, if the first of them has the number n.
 abbrev pub first_from : List ℕ → ℕ → ℕ → ℕ → List (List ℕ) → Option Hit
 first_from content hi i n [] = None
 first_from content hi i n (needle ∷ needles) =
     if stands_within content hi i needle then Some (record { start = i; end = i + length needle; number = n })
     else first_from content hi i (n + 1) needles
 
--- the first of the needles that stands at i
+-- The first of the needles that stands at i.
 abbrev pub needle_at : List (List ℕ) → List ℕ → ℕ → ℕ → Option Hit
 needle_at needles content hi i = first_from content hi i 0 needles
 
--- the least start from lo on at which a needle stands, and the first needle there
+-- The least start from lo on at which a needle stands, and the first needle there.
 unfoldable pub find_needle : List (List ℕ) → List ℕ → ℕ → ℕ → Option Hit
 find_needle needles content lo hi = first_given (needle_at needles content hi) (hi + 1 - lo) lo
 
--- the needle that stands at lo
+-- The needle that stands at lo.
 unfoldable pub prefix_needle : List (List ℕ) → List ℕ → ℕ → ℕ → Option Hit
 prefix_needle needles content lo hi = needle_at needles content hi lo
 
@@ -70,7 +70,7 @@ pub record NeedleLaw : Type 0 where
   pub not_prefixed : (needles : List (List ℕ)) (content : List ℕ) (lo hi : ℕ) →
       (prefix_needle needles content lo hi ≡ None) ↔ NoneAt needles content hi lo
 
--- how many bytes the longest has
+-- How many bytes the longest has.
 abbrev pub longest : List (List ℕ) → ℕ
 longest [] = 0
 longest (needle ∷ needles) = max (length needle) (longest needles)

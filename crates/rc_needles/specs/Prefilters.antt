@@ -1,8 +1,8 @@
--- What contracts see of a prefilter.
+-- Prefilters: what contracts see of one.
 use Rattle.std.specs.Prelude.{ℕ, List}
 use Rattle.rc_needles.specs.Tables.{needles_in}
 use Rattle.rc_needles.specs.declared.prefilter.Prefilter.{Prefilter}
 
--- its needles, in order
+-- Its needles, in order.
 abbrev pub needles_of : Prefilter → List (List ℕ)
 needles_of p = needles_in p.searcher.table.needles.items

@@ -1,5 +1,5 @@
 -- Only proofs use this file.
--- What a piece of a chunk is searched for.
+-- Choice of algorithm: what a piece of a chunk is searched for.
 use Rattle.std.specs.Prelude.{◌≡◌, ℕ, ◌<◌, ◌≤◌, Bool, true, List, length, drop, ⊤}
 use denote.Struct.Props.{props}
 use Rattle.memchr.specs.Find.{is_byte, is_byte2, is_byte3}
@@ -10,30 +10,30 @@ use Rattle.rc_needles.specs.declared.scan.Heads.TheVariants.{One, Two, Three, Ma
 use Rattle.rc_needles.specs.declared.scan.Scan.{Scan}
 use Rattle.rc_needles.specs.declared.scan.Scan.TheVariants as scan
 
--- each byte with which a needle begins passes the test
+-- Each byte with which a needle begins passes the test.
 abbrev pub AllBegin : List (List ℕ) → (ℕ → Bool) → Type 0
 AllBegin needles test = (k b : ℕ) → k < length needles → b < 256 → BeginsWithByte (numbered needles k) b → test b ≡ true
 
--- each needle begins with one of these bytes, or with one of the table's
+-- Each needle begins with one of these bytes, or with one of the table's.
 abbrev pub AreHeadsOf : List (List ℕ) → Heads → Type 0
 AreHeadsOf needles (One a) = AllBegin needles (is_byte a)
 AreHeadsOf needles (Two a b) = AllBegin needles (is_byte2 a b)
 AreHeadsOf needles (Three a b c) = AllBegin needles (is_byte3 a b c)
 AreHeadsOf needles Many = ⊤
 
--- these are the bytes of the only needle from the offset on, at least two
+-- These are the bytes of the only needle from the offset on, at least two.
 pub record IsRestOf (needles : List (List ℕ)) (offset : ℕ) (rest : List ℕ) : Type 0 where
   pub one : length needles ≡ 1
   pub long : 2 ≤ length rest
   pub is : rest ≡ drop offset (numbered needles 0)
 
--- the search misses none of the needles, each of which starts the offset before what it finds
+-- The search misses none of the needles, each of which starts `offset` bytes before what it finds.
 abbrev pub IsScanOf : List (List ℕ) → ℕ → Scan → Type 0
 IsScanOf needles offset (scan.Needle rest) = IsRestOf needles offset rest
 IsScanOf needles offset (scan.Heads heads) = (offset ≡ 0) × AreHeadsOf needles heads
 IsScanOf needles offset (scan.Sieve sieve) = (offset ≡ 0) × AreSifted sieve needles
 
--- it is a fact
+-- It is a fact: there is at most one proof of it.
 pub AreHeadsOf-is_fact : (needles : List (List ℕ)) (heads : Heads) → IsProp (AreHeadsOf needles heads)
 AreHeadsOf-is_fact needles (One a) = hlevel props
 AreHeadsOf-is_fact needles (Two a b) = hlevel props

@@ -15,16 +15,17 @@ use memchr::{memchr, memchr2, memchr3};
 use rc_text::cursor::Cursor;
 use rc_text::input::{Input, piece_from, takes_next};
 
-/// A chunk of fewer bytes is passed over if two bytes of the only needle are nowhere in it.
+/// In a chunk of fewer bytes, a quick look may show that two bytes of the only needle aren't there.
 const SHORT_PIECE: usize = 512;
 
-/// In a piece of fewer bytes the needle is compared at each place where these two bytes are.
+/// In a piece of fewer bytes, the packed pair is used; in longer ones, `memchr`'s memmem.
 const LONG_PIECE: usize = 8192;
 
-/// A needle with more bytes from the offset on is left to the library, whose search stays linear.
+/// If more bytes of the needle follow the offset, memmem is used, whose search is linear in the
+/// worst case.
 const LONG_REST: usize = 32;
 
-/// A place up to which chunks were passed over, and whether a needle may belong to it.
+/// The position up to which chunks were skipped, and whether a needle may stand there.
 #[derive(Clone, Copy)]
 struct Reached {
     at: usize,
@@ -36,22 +37,22 @@ trait Candidates {
     /// The needles.
     ghost needles: { Self → List (List ℕ) };
 
-    /// How many bytes behind a needle's start which is looked for.
+    /// How many bytes behind a needle's start the bytes are that are looked for.
     ghost offset: { Self → ℕ };
 
-    /// The first place of the piece to which a needle may belong that starts the offset before it,
-    /// or the piece's length.
+    /// Returns the first index of the piece at which a needle may stand, with its start `offset`
+    /// bytes earlier; or the piece's length.
     fn candidate(&self, piece: &[u8]) -> usize
         ensures within { result ≤ length piece.now }
         ensures passed { (k : ℕ) → k < result → IsRuledOut (needles self.now) (offset self.now) piece.now k };
 
-    /// The same, if a quick look tells it.
+    /// Returns what `candidate` does, or None if a quick look doesn't decide it.
     fn quick_candidate(&self, piece: &[u8]) -> Option<usize>
         ensures within { IfSome result (λ at. at ≤ length piece.now) }
         ensures passed { IfSome result (λ at. (k : ℕ) → k < at → IsRuledOut (needles self.now) (offset self.now) piece.now k) };
 }
 
-/// Looks for the only needle from the offset on.
+/// Looks for the only needle, from its bytes at the offset on.
 #[derive(Drop)]
 struct ByRest<'a> {
     searcher: &'a Searcher,
@@ -118,7 +119,7 @@ impl Candidates for ByHead<'_> {
     }
 }
 
-/// Looks for the first three bytes of needles.
+/// Looks for the first three bytes of needles, by Teddy.
 #[derive(Drop)]
 struct BySieve<'a> {
     searcher: &'a Searcher,
@@ -150,7 +151,8 @@ fn is_between(piece: &[u8], low: usize, high: usize) -> bool
     low < piece.len() && piece.len() < high
 }
 
-/// Where the finder's bytes are in the piece, else where they may begin at its end.
+/// Returns the index of the finder's bytes in the piece, or else the first index at which they may
+/// begin at its end.
 #[inline(never)]
 fn rest_candidate(finder: &Finder, piece: &[u8]) -> usize
     requires some { 0 < length finder.now }
@@ -168,7 +170,7 @@ fn rest_candidate(finder: &Finder, piece: &[u8]) -> usize
     }
 }
 
-/// The first place with a byte with which a needle begins.
+/// Returns the index of the first byte with which a needle begins, or the piece's length.
 fn head_candidate(table: &Table, piece: &[u8]) -> usize
     ensures within { result ≤ length piece.now }
     ensures passed { (k : ℕ) → k < result → length table.now.needles.items
@@ -182,8 +184,8 @@ fn head_candidate(table: &Table, piece: &[u8]) -> usize
     piece.len()
 }
 
-/// The first place if a bucket of the sieve takes three bytes. If the sieve reads too much, the
-/// first with a byte with which a needle begins.
+/// Returns the first index at which a bucket takes three bytes. Near the piece's end, where Teddy
+/// would read too far, it is the index of the first byte with which a needle begins.
 fn sieve_candidate(sieve: &Sieve, table: &Table, piece: &[u8]) -> usize
     requires { AreSifted sieve.now (needles_in table.now.needles.items) }
     ensures within { result ≤ length piece.now }
@@ -200,8 +202,8 @@ fn sieve_candidate(sieve: &Sieve, table: &Table, piece: &[u8]) -> usize
     last + head_candidate(table, &piece[last..])
 }
 
-/// The first place from one on to which a needle may belong that starts the offset before it. If
-/// there is none below `end`, it is at least `end`.
+/// Returns the first position from `from` on at which a needle may stand, with its start `offset`
+/// bytes earlier. If there is none below `end`, it is at least `end`. Positions are in bytes.
 #[inline(always)]
 fn look_from<C: Cursor, L: Candidates>(
     input: &mut Input<C>,
@@ -233,8 +235,8 @@ fn look_from<C: Cursor, L: Candidates>(
     at
 }
 
-/// If quick looks no longer pass over the chunks that follow one another from `from` on, at or
-/// below `end`.
+/// Skips chunks from `from` on, as long as quick looks allow it and `end` isn't passed. Returns the
+/// position that was reached, in bytes.
 #[inline(always)]
 fn chunks_passed<C: Cursor, L: Candidates>(
     input: &mut Input<C>,
@@ -269,7 +271,9 @@ fn chunks_passed<C: Cursor, L: Candidates>(
     }
 }
 
-/// The same, by the searcher's needles and offset.
+/// Returns the first position from `from` on at which a needle may stand, with its start `offset`
+/// bytes earlier, by the searcher's algorithm. If there is none below `end`, it is at least `end`.
+/// Positions are in bytes.
 #[inline(never)]
 pub fn place_from<C: Cursor>(
     input: &mut Input<C>,
@@ -293,7 +297,7 @@ pub fn place_from<C: Cursor>(
     }
 }
 
-/// The way to look for the only needle from the offset on.
+/// The way to look for the only needle, from its bytes at the offset on.
 #[inline(always)]
 fn by_rest<'a>(searcher: &'a Searcher, rest: &'a Finder<'static>) -> ByRest<'a>
     requires { IsRestOf (needles_in searcher.now.table.needles.items) searcher.now.offset rest.now }

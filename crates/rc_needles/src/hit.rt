@@ -1,6 +1,6 @@
 //! Hits: where a needle was found.
 
-/// A needle that stands in a content.
+/// A needle that was found in a content.
 #[derive(Clone, Copy, Debug, PartialEq, Eq)]
 pub struct Hit {
     /// Where it begins, in bytes of the content.

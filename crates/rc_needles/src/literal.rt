@@ -18,7 +18,7 @@ use rc_text::cursor::Cursor;
 use rc_text::input::{Input, byte_at, high, low, piece_from};
 use rc_text::types::{Anchored, Match, PatternID, Span};
 
-/// Whether the needle occurs from `at` to `to`, read a piece of a chunk at a time.
+/// Whether the needle stands from `at` to `to`, compared a piece of a chunk at a time.
 #[inline(always)]
 fn stands_by_pieces<C: Cursor>(input: &mut Input<C>, needle: &[u8], at: usize, to: usize) -> bool
     requires long { to ≡ at + length needle.now }
@@ -38,7 +38,7 @@ fn stands_by_pieces<C: Cursor>(input: &mut Input<C>, needle: &[u8], at: usize, t
     true
 }
 
-/// Whether the needle occurs from `at` to `to`, if its first byte does.
+/// Whether the needle stands from `at` to `to`, if its first byte does.
 #[inline(always)]
 fn stands<C: Cursor>(input: &mut Input<C>, needle: &[u8], at: usize, to: usize) -> bool
     requires long { to ≡ at + length needle.now }
@@ -53,8 +53,8 @@ fn stands<C: Cursor>(input: &mut Input<C>, needle: &[u8], at: usize, to: usize) 
     stands_by_pieces(input, needle, at, to)
 }
 
-/// The least number of a needle that may occur at `at`, as far as the trie shows. If none does, how
-/// many needles there are.
+/// Returns the least number of a needle that may stand at `at`, by the trie, or how many needles
+/// there are if none does.
 #[inline(always)]
 fn least_number<C: Cursor>(
     input: &mut Input<C>,
@@ -95,8 +95,8 @@ fn begins_with(needle: &[u8], byte: u8) -> bool
     }
 }
 
-/// A number below which no needle occurs at `at`, if the content has this byte: that of a needle
-/// that begins with it, or how many needles there are.
+/// Returns a number: no needle of a lesser one stands at `at`, where the content has this byte. It
+/// is that of a needle that begins with the byte, or how many needles there are.
 #[inline(always)]
 fn start_number<C: Cursor>(
     input: &mut Input<C>,
@@ -128,7 +128,7 @@ fn start_number<C: Cursor>(
     head
 }
 
-/// The first of the needles that is at `at`, wholly at or below `end`.
+/// Returns the first of the needles that stands at `at` and ends at `end` or earlier.
 #[inline(always)]
 fn needle_at<C: Cursor>(input: &mut Input<C>, table: &Table, at: usize, end: usize) -> Option<Hit>
     requires low { at < end }
@@ -156,7 +156,8 @@ fn needle_at<C: Cursor>(input: &mut Input<C>, table: &Table, at: usize, end: usi
     None
 }
 
-/// The same, out of line.
+/// Returns the first of the needles that stands at `at` and ends at `end` or earlier. It is not
+/// inlined.
 #[inline(never)]
 fn needle_there<C: Cursor>(
     input: &mut Input<C>,
@@ -172,7 +173,8 @@ fn needle_there<C: Cursor>(
     needle_at(input, table, at, end)
 }
 
-/// The trie by which needles are sought: if there is one, and they begin with many bytes.
+/// Returns the trie if needles are searched for by it: if they have one, and begin with many
+/// different bytes.
 #[inline(always)]
 fn trie_sought(searcher: &Searcher) -> Option<&Trie>
     ensures { IfSome result (λ trie. AreCarriedBy (Some trie.now) (needles_in searcher.now.table.needles.items)) }
@@ -183,7 +185,7 @@ fn trie_sought(searcher: &Searcher) -> Option<&Trie>
     }
 }
 
-/// What `find_from` finds, by the trie.
+/// Returns what `find_from` does, by the trie.
 #[inline(never)]
 fn find_by_trie<C: Cursor>(
     input: &mut Input<C>,
@@ -221,7 +223,7 @@ fn find_by_trie<C: Cursor>(
     None
 }
 
-/// What `find_from` finds, by places where a needle may occur.
+/// Returns what `find_from` does, by candidates.
 #[inline(never)]
 fn find_by_places<C: Cursor>(
     input: &mut Input<C>,
@@ -250,11 +252,11 @@ fn find_by_places<C: Cursor>(
     None
 }
 
-/// The least start from `from` on at which a needle occurs, wholly at or below `end`, and the first
-/// of the needles there, in bytes.
+/// Returns the first of the needles at the least start from `from` on at which one stands that ends
+/// at `end` or earlier, in bytes.
 ///
-/// It reads on the uncut bytes, wherever the input stood before, takes no memory and copies
-/// nothing. The input's bounds are not read.
+/// It reads the uncut bytes, wherever the input was before. It allocates and copies nothing. The
+/// input's bounds are not read.
 pub fn find_from<C: Cursor>(
     input: &mut Input<C>,
     prefilter: &Prefilter,
@@ -273,10 +275,9 @@ pub fn find_from<C: Cursor>(
     find_by_places(input, prefilter, from, end)
 }
 
-/// The least start at which a needle occurs, and the first of the needles there, within the bounds.
+/// Returns the first of the needles at the least start at which one stands within the bounds.
 ///
-/// It reads on the uncut bytes, wherever the input stood before, takes no memory and copies
-/// nothing.
+/// It reads the uncut bytes, wherever the input was before. It allocates and copies nothing.
 pub fn find<C: Cursor>(input: &mut Input<C>, prefilter: &Prefilter) -> Option<Hit>
     ensures keeps { Keeps input.old input.new }
     ensures value { result ≡ find_needle (needles_of prefilter.now) input.old.content (low input.old) (high input.old) }
@@ -287,7 +288,7 @@ pub fn find<C: Cursor>(input: &mut Input<C>, prefilter: &Prefilter) -> Option<Hi
     find_from(input, prefilter, from, end)
 }
 
-/// The first of the needles that is where the bounds begin.
+/// Returns the first of the needles that stands where the bounds begin, and within them.
 pub fn prefix<C: Cursor>(input: &mut Input<C>, prefilter: &Prefilter) -> Option<Hit>
     ensures keeps { Keeps input.old input.new }
     ensures value { result ≡ prefix_needle (needles_of prefilter.now) input.old.content (low input.old) (high input.old) }
@@ -301,8 +302,8 @@ pub fn prefix<C: Cursor>(input: &mut Input<C>, prefilter: &Prefilter) -> Option<
     None
 }
 
-/// The match of one pattern that is exactly the needles: its number is 0, and an anchored search
-/// for another pattern has none.
+/// Returns the match of a single pattern that is exactly the needles. Its pattern number is 0, and
+/// an anchored search for another pattern finds nothing.
 pub fn search<C: Cursor>(input: &mut Input<C>, prefilter: &Prefilter) -> Option<Match>
     ensures keeps { Keeps input.old input.new }
     ensures value { result ≡ literal_answer (needles_of prefilter.now) input.old }

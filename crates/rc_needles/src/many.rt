@@ -9,14 +9,14 @@ use crate::trie::Trie;
 /// What was seen in a piece.
 #[derive(Clone, Copy)]
 pub struct Seen {
-    /// How many places were passed over.
+    /// How many indices were skipped.
     pub passed: usize,
-    /// The number of the first needle that is behind them. If it isn't told whether one does, how
-    /// many needles there are.
+    /// The number of the first needle that stands behind them. If that isn't known, it is how many
+    /// needles there are.
     pub number: usize,
 }
 
-/// What is seen in the piece: the places are passed over at which no needle begins.
+/// Skips the indices of the piece at which no needle begins, and returns what comes behind them.
 #[inline(always)]
 pub fn seen_in(table: &Table, trie: &Trie, piece: &[u8]) -> Seen
     requires { AreCarriedBy (Some trie.now) (needles_in table.now.needles.items) }
@@ -45,7 +45,7 @@ pub fn seen_in(table: &Table, trie: &Trie, piece: &[u8]) -> Seen
     }
 }
 
-/// The number, if its needle occurs in the piece at the place; otherwise how many needles there
+/// Returns the number if its needle stands in the piece at the index, else how many needles there
 /// are.
 #[inline(always)]
 fn number_seen(table: &Table, piece: &[u8], at: usize, number: usize) -> usize

@@ -6,13 +6,13 @@ ghost use Rattle.rc_needles.specs.Tables.{needles_in};
 
 use std::alloc::{AllocError, Global};
 
-/// How many words of bits there are, if there are any.
+/// How many words the bits take, if there are any.
 const WORDS: usize = 2048;
 
-/// Fewer needles have no bits: a sieve is made for them.
+/// Fewer needles have no bits: Teddy serves them.
 const LEAST_COUNT: usize = 65;
 
-/// Which word has the bits of two bytes.
+/// Returns which word has the bits of two bytes.
 #[inline(always)]
 fn word_of(first: u8, second: u8) -> usize
     ensures small { result < 2048 }
@@ -21,7 +21,7 @@ fn word_of(first: u8, second: u8) -> usize
     first as usize % 64 * 32 + second as usize % 32
 }
 
-/// Whether the bit of three bytes is set, which some others share.
+/// Whether the bit of three bytes is set. Some other bytes share that bit.
 #[inline(always)]
 fn opens(words: &[u32], first: u8, second: u8, third: u8) -> bool
     requires { AreWhole words.now }
@@ -31,7 +31,7 @@ fn opens(words: &[u32], first: u8, second: u8, third: u8) -> bool
     (word >> (third % 32)) % 2 == 1
 }
 
-/// Whether the bits of two bytes and each third are set.
+/// Whether the bits of two bytes and each third byte are set.
 fn opens_each(words: &[u32], first: u8, second: u8) -> bool
     requires { AreWhole words.now }
     ensures { IsTrue result → (third : ℕ) → third < 256 → opens words.now first second third ≡ true }
@@ -44,7 +44,7 @@ fn opens_each(words: &[u32], first: u8, second: u8) -> bool
     true
 }
 
-/// Whether the bits allow a needle, whatever follows it.
+/// Whether the bits allow the needle, whatever follows it.
 fn takes(words: &[u32], needle: &[u8]) -> bool
     requires { AreWhole words.now }
     ensures { IsTrue result → IsOpened words.now needle.now }
@@ -58,8 +58,8 @@ fn takes(words: &[u32], needle: &[u8]) -> bool
     opens(words, needle[0], needle[1], needle[2])
 }
 
-/// The first place from one on whose three bytes have their bit. If there are no bits, it is that
-/// one.
+/// Returns the first index from `from` on whose three bytes have their bit set. Without any bits,
+/// that is `from`.
 #[inline(always)]
 pub fn opened_from(words: &[u32], piece: &[u8], from: usize) -> usize
     ensures low { from ≤ result }
@@ -72,8 +72,8 @@ pub fn opened_from(words: &[u32], piece: &[u8], from: usize) -> usize
     first_opened(words, piece, from)
 }
 
-/// The first place from one on whose three bytes have their bit. If there is none, the place of the
-/// last two bytes, or the one if it began.
+/// Returns the first index from `from` on whose three bytes have their bit set. If there is none,
+/// it is the index of the last two bytes, or `from`.
 #[inline(always)]
 fn first_opened(words: &[u32], piece: &[u8], from: usize) -> usize
     requires { AreWhole words.now }
@@ -90,8 +90,8 @@ fn first_opened(words: &[u32], piece: &[u8], from: usize) -> usize
     from.max(last)
 }
 
-/// The bits of the first three bytes of these needles. There are none of few needles, nor if one
-/// has a byte alone.
+/// Builds the bits of the first three bytes of these needles. It returns no bits if the needles are
+/// few, or one has a single byte. `Err` means out of memory.
 pub fn openings_of(alloc: Global, needles: &[Vec<u8>]) -> Result<Vec<u32>, AllocError>
     ensures { IfOk result (λ words. AreOpened words.items (needles_in needles.now)) }
 {
@@ -118,7 +118,7 @@ fn take_each(words: &[u32], needles: &[Vec<u8>]) -> bool
     true
 }
 
-/// The words with the bits of each of the needles.
+/// Builds the words with the bits of each of the needles. `Err` means out of memory.
 fn filled(alloc: Global, needles: &[Vec<u8>]) -> Result<Vec<u32>, AllocError> {
     let mut words = vec![in alloc; 0; WORDS]?;
     for needle in needles {
@@ -127,7 +127,7 @@ fn filled(alloc: Global, needles: &[Vec<u8>]) -> Result<Vec<u32>, AllocError> {
     Ok(words)
 }
 
-/// Sets the bit of the needle's first three bytes, or of its two and any third.
+/// Sets the bit of the needle's first three bytes, or of its two bytes and any third.
 fn open(words: &mut [u32], needle: &[u8]) {
     let Some(first) = needle.get(0) else {
         return;

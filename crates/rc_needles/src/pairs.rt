@@ -6,11 +6,11 @@ ghost use Rattle.rc_needles.specs.Tables.{Agrees};
 
 use std::simd::prelude::*;
 
-/// How many places a vector covers.
+/// How many indices a vector covers.
 pub const LANES: usize = 32;
 
-/// Whether it is seen that the two bytes are nowhere side by side, and the first of them not at the
-/// piece's end.
+/// Whether the two bytes are nowhere side by side, and the first of them isn't the piece's last
+/// byte.
 #[inline(always)]
 pub fn are_nowhere(piece: &[u8], first: u8, second: u8) -> bool
     requires { 33 ≤ length piece.now }
@@ -28,8 +28,8 @@ pub fn are_nowhere(piece: &[u8], first: u8, second: u8) -> bool
     pairs_from(piece, last, first, second) == 0 && piece[end] != first
 }
 
-/// The first place from which the piece has the bytes of the rest, as far as both go, or one before
-/// it near the piece's end. If there is none, the piece's length.
+/// Returns the first index at which the piece has the bytes of `rest`, as far as both go, or an
+/// earlier candidate near the piece's end. If there is none, it is the piece's length.
 #[inline(never)]
 pub fn first_place(piece: &[u8], rest: &[u8]) -> usize
     requires long { 33 ≤ length piece.now }
@@ -55,8 +55,8 @@ pub fn first_place(piece: &[u8], rest: &[u8]) -> usize
     place_at_end(piece, first, second)
 }
 
-/// The first of the piece's last 33 places where the two bytes are adjacent, or the first of them
-/// at its end. If there is none, the piece's length.
+/// Returns the first of the piece's last 33 indices at which the two bytes are side by side, or the
+/// first of them is the last byte. If there is none, it is the piece's length.
 #[inline(always)]
 fn place_at_end(piece: &[u8], first: u8, second: u8) -> usize
     requires { 33 ≤ length piece.now }
@@ -75,7 +75,7 @@ fn place_at_end(piece: &[u8], first: u8, second: u8) -> usize
     piece.len()
 }
 
-/// Whether both have the same bytes as far as both go.
+/// Whether both begin with the same bytes, as far as both go.
 fn begin_alike(piece: &[u8], rest: &[u8]) -> bool
     ensures { Agrees piece.now rest.now 0 → IsTrue result }
 {
@@ -83,8 +83,8 @@ fn begin_alike(piece: &[u8], rest: &[u8]) -> bool
     piece[..len] == rest[..len]
 }
 
-/// A number whose bit k is set where the two bytes are adjacent at the place `at + k`, for each k
-/// below 32.
+/// Returns a number whose bit k is set if the two bytes are side by side at the index `at + k`, for
+/// each k below 32.
 #[inline(always)]
 fn pairs_from(piece: &[u8], at: usize, first: u8, second: u8) -> u64
     requires { at + 33 ≤ length piece.now }
@@ -94,8 +94,8 @@ fn pairs_from(piece: &[u8], at: usize, first: u8, second: u8) -> u64
     marks(piece, at, first) & marks(piece, at + 1, second)
 }
 
-/// A number whose bit k is set where the piece has the byte at its place `at + k`, for each k below
-/// 32.
+/// Returns a number whose bit k is set if the piece has the byte at the index `at + k`, for each k
+/// below 32.
 #[inline(always)]
 fn marks(piece: &[u8], at: usize, byte: u8) -> u64
     requires { at + 32 ≤ length piece.now }
@@ -106,7 +106,7 @@ fn marks(piece: &[u8], at: usize, byte: u8) -> u64
     bytes.simd_eq(u8x32::splat(byte)).to_bitmask()
 }
 
-/// The lowest bit that is set.
+/// Returns the index of the lowest bit that is set.
 #[inline(always)]
 pub fn lowest(bits: u64) -> usize
     requires some { 0 < bits }

@@ -12,21 +12,27 @@ use std::fmt;
 
 /// A list of needles, none of them empty, made ready for searches.
 ///
-/// A search for one needle passes over short chunks by two of its bytes that are adjacent, and goes
-/// by those behind them too; one for needles that begin with at most three bytes goes by these.
-/// Several needles of at least three bytes, or of at least two if one begins with a byte that is
-/// common in typical text, and up to 64 others that begin with more than three bytes go by a sieve
-/// of their first three bytes; more go by a trie, so that the work at a place grows with the bytes
-/// that are read there, and not with how many needles there are. If each of more than 64 has two
-/// bytes, the trie is asked where a table of bits allows the first three. Fewer than 16 needles
-/// have no trie: of those alone are compared that begin with the byte there.
+/// How it searches depends on the needles; the first row that fits is taken:
+///
+/// - One needle of two bytes or more: by its two rarest neighbouring bytes, and those behind them.
+/// - Several needles of at least three bytes, or of at least two if one begins with a byte that is
+///   common in texts: by Teddy, if there are at most 64.
+/// - Needles that begin with at most three different bytes: by these.
+/// - Up to 64 others: by Teddy.
+/// - More: by a trie. So the work at an index depends on the bytes that are read there, and not on
+///   how many needles there are. If each needle has two bytes, a table of bits for the first three
+///   is asked before the trie.
+///
+/// Candidates are compared with the needles by the trie too. Fewer than 16 needles have no trie:
+/// those that begin with the byte there are compared one by one.
 #[derive(Drop)]
 pub struct Prefilter {
     pub searcher: Searcher,
 }
 
 impl Prefilter {
-    /// A search for these needles, in order; None if there is none, or one of them is empty.
+    /// A prefilter for these needles, in order. Returns None if there is no needle, or one is
+    /// empty. `Err` means out of memory.
     ///
     /// It is the same for each kind of match.
     pub fn new(
@@ -44,7 +50,7 @@ impl Prefilter {
         from_needles(alloc, copies)
     }
 
-    /// How many bytes the longest needle has.
+    /// Returns how many bytes the longest needle has.
     pub fn max_needle_len(&self) -> usize
         ensures { result ≡ longest (needles_of self.now) }
     {
@@ -55,13 +61,13 @@ impl Prefilter {
         most
     }
 
-    /// Whether a search goes by a sieve of the needles' first bytes.
+    /// Whether Teddy searches for the needles.
     pub fn goes_by_sieve(&self) -> bool {
         matches!(&self.searcher.scan, Scan::Sieve(_))
     }
 
-    /// Whether a search goes by a needle, by at most three bytes, or by a sieve of needles that
-    /// begin with at most three, or that have all the bytes that it reads.
+    /// Whether the search is fast: by one needle, by at most three first bytes, or by Teddy if the
+    /// needles begin with at most three bytes or have all three that it reads.
     pub fn is_fast(&self) -> bool {
         let table = &self.searcher.table;
         match &self.searcher.scan {
@@ -71,7 +77,7 @@ impl Prefilter {
         }
     }
 
-    /// About how many bytes of memory it takes, beyond its own.
+    /// Returns about how many bytes of memory it takes, beyond its own.
     pub fn memory_usage(&self) -> usize {
         let mut bytes: usize = 8 * 256;
         for needle in &self.searcher.table.needles {
@@ -94,7 +100,8 @@ impl fmt::Debug for Prefilter {
     }
 }
 
-/// A search for these needles, as `Prefilter::new` makes it.
+/// A prefilter for these needles, in order. Returns None if there is no needle, or one is empty.
+/// `Err` means out of memory.
 pub fn from_needles(alloc: Global, needles: Vec<Vec<u8>>) -> Result<Option<Prefilter>, AllocError>
     ensures { IfOk result (λ found. MatchOption found (¬ IsUsable (needles_in needles.items))
         (λ p. IsUsable (needles_in needles.items) × (needles_of p ≡ needles_in needles.items))) }
@@ -106,7 +113,7 @@ pub fn from_needles(alloc: Global, needles: Vec<Vec<u8>>) -> Result<Option<Prefi
     Ok(Some(Prefilter { searcher }))
 }
 
-/// There is a needle, and none is empty.
+/// Whether there is a needle, and none is empty.
 pub fn is_usable(needles: &Vec<Vec<u8>>) -> bool
     ensures { Decides result (IsUsable (needles_in needles.now.items)) }
 {
@@ -118,7 +125,7 @@ pub fn is_usable(needles: &Vec<Vec<u8>>) -> bool
     !needles.is_empty()
 }
 
-/// A copy.
+/// Returns a copy. `Err` means out of memory.
 pub fn copy_of(alloc: Global, prefilter: &Prefilter) -> Result<Prefilter, AllocError>
     ensures { IfOk result (λ p. needles_of p ≡ needles_of prefilter.now) }
 {

@@ -10,10 +10,10 @@ use memchr::arch::all::packedpair::{DefaultFrequencyRank, HeuristicFrequencyRank
 use memchr::memmem::Finder;
 use std::alloc::{AllocError, Global};
 
-/// A byte is common in typical text from this rank of the library's on.
+/// A byte is common in texts if `memchr`'s table ranks it at least this high.
 const LEAST_COMMON: u8 = 210;
 
-/// The bytes with which needles begin.
+/// The first bytes of needles.
 #[derive(Clone, Copy, Drop)]
 pub enum Heads {
     /// Each needle begins with this one.
@@ -22,23 +22,23 @@ pub enum Heads {
     Two(u8, u8),
     /// Each begins with one of these.
     Three(u8, u8, u8),
-    /// They are those of the table.
+    /// Those of the first-byte table.
     Many,
 }
 
 /// What a piece is searched for.
 #[derive(Drop)]
 pub enum Scan {
-    /// The only needle from the offset on.
+    /// The only needle, from its bytes at the offset on.
     Needle(Finder<'static>),
-    /// The bytes with which needles begin.
+    /// The first bytes of needles.
     Heads(Heads),
-    /// The first three bytes of needles.
+    /// The first three bytes of needles, by Teddy.
     Sieve(Sieve),
 }
 
-/// A table of needles, how a piece is searched for them, and how many bytes behind a needle's start
-/// which a piece is searched for.
+/// The needles, how a piece is searched for them, and how many bytes behind a needle's start the
+/// bytes are that are searched for.
 #[derive(Drop)]
 pub struct Searcher {
     pub table: Table,
@@ -47,7 +47,7 @@ pub struct Searcher {
     ghost is_scan: { IsScanOf (needles_in table.needles.items) offset scan } by { IsScanOf-is_fact (needles_in table.needles.items) offset scan },
 }
 
-/// A searcher of these needles.
+/// A searcher for these needles. `Err` means out of memory.
 pub fn searcher_of(alloc: Global, needles: Vec<Vec<u8>>) -> Result<Searcher, AllocError>
     requires { AreSome (needles_in needles.items) }
     ensures { IfOk result (λ s. s.table.needles ≡ needles) }
@@ -71,7 +71,7 @@ pub fn searcher_of(alloc: Global, needles: Vec<Vec<u8>>) -> Result<Searcher, All
     })
 }
 
-/// What a piece is searched for if there are several needles, or one of a byte.
+/// Returns what a piece is searched for, if there are several needles, or one of a single byte.
 fn scan_of(table: &Table) -> Scan
     ensures { IsScanOf (needles_in table.now.needles.items) 0 result }
 {
@@ -84,9 +84,8 @@ fn scan_of(table: &Table) -> Scan
     Scan::Heads(heads)
 }
 
-/// Whether several needles are sought sooner by a sieve than by few bytes with which they begin:
-/// each has the three bytes that it reads, or each has two, and one begins with a byte that is
-/// common.
+/// Whether Teddy is faster for several needles than a search for few first bytes: each needle has
+/// the three bytes that Teddy reads, or each has two and one begins with a common byte.
 fn suits_sieve(needles: &[Vec<u8>]) -> bool {
     if needles.len() < 2 {
         return false;
@@ -95,17 +94,17 @@ fn suits_sieve(needles: &[Vec<u8>]) -> bool {
     are_long(needles) || (have_two && needles.iter().any(|needle| begins_common(needle)))
 }
 
-/// Whether each of the needles has at least the three bytes that a sieve reads.
+/// Whether each of the needles has at least the three bytes that Teddy reads.
 pub fn are_long(needles: &[Vec<u8>]) -> bool {
     needles.iter().all(|needle| needle.len() >= 3)
 }
 
-/// Whether the needles begin with at most three bytes.
+/// Whether the needles begin with at most three different bytes.
 pub fn have_few_heads(table: &Table) -> bool {
     !matches!(heads_of(table), Heads::Many)
 }
 
-/// Whether the needle begins with a byte that is common in typical text.
+/// Whether the needle begins with a byte that is common in texts.
 fn begins_common(needle: &[u8]) -> bool {
     match needle.first() {
         Some(byte) => is_common_by_rank(*byte),
@@ -120,7 +119,7 @@ fn is_common_by_rank(byte: u8) -> bool {
     byte < 128 && ranks.rank(byte) >= LEAST_COMMON
 }
 
-/// Where in the needle its two bytes side by side are that are rarest in typical text.
+/// Returns the offset of the needle's two neighbouring bytes that are rarest in texts.
 fn rare_offset(needle: &[u8]) -> usize
     requires { 2 ≤ length needle.now }
     ensures { result + 2 ≤ length needle.now }
@@ -134,7 +133,7 @@ fn rare_offset(needle: &[u8]) -> usize
     rarest
 }
 
-/// How common the byte at a place and the next are believed to be, by the library's ranks.
+/// Returns how common the byte at an index and the next are, by `memchr`'s ranks.
 fn rank(needle: &[u8], at: usize) -> usize
     requires { at + 2 ≤ length needle.now }
 {
@@ -142,7 +141,7 @@ fn rank(needle: &[u8], at: usize) -> usize
     ranks.rank(needle[at]) as usize + ranks.rank(needle[at + 1]) as usize
 }
 
-/// The bytes with which needles begin.
+/// Returns the first bytes of the needles.
 fn heads_of(table: &Table) -> Heads
     ensures { AreHeadsOf (needles_in table.now.needles.items) result }
 {
@@ -161,7 +160,7 @@ fn heads_of(table: &Table) -> Heads
     }
 }
 
-/// The least byte from one on with which a needle begins.
+/// Returns the least byte from `from` on with which a needle begins.
 fn first_byte_from(table: &Table, from: usize) -> Option<u8>
     ensures { IsFirst (λ b. slice_index table.now.heads.items b
         < length table.now.needles.items) from 256 result }

@@ -17,27 +17,27 @@ ghost use Rattle.rc_needles.specs.Tables.{Agrees, needles_in};
 use crate::pairs::lowest;
 use std::simd::prelude::*;
 
-/// How many places a vector covers: half of those that are looked up at a time.
+/// How many indices a vector covers: half of those that are looked up at a time.
 const HALF: usize = 16;
 
-/// How many places are looked up at a time.
+/// How many indices are looked up at a time.
 const LANES: usize = 2 * HALF;
 
-/// How many bytes a piece has at least in which the sieve is used: those of a vector, and two that
-/// are read behind them.
+/// The shortest piece that Teddy searches: the bytes of a vector, and two that are read behind
+/// them.
 pub const LEAST_PIECE: usize = HALF + 2;
 
-/// How many bytes a piece has at least in which each is looked up once.
+/// The shortest piece in which each byte is looked up only once.
 const LEAST_BLOCKS: usize = LANES + 3;
 
-/// How many needles a sieve is made for at most.
+/// The most needles that Teddy serves.
 const GREATEST_COUNT: usize = 64;
 
 /// How many buckets there are.
 const BUCKETS: usize = 8;
 
-/// Which buckets take a byte, each of them a bit: those that take its low four bits and its high
-/// four.
+/// Two nibble tables: which buckets take a byte, one bit a bucket. A bucket takes it if it takes
+/// its low and its high four bits.
 #[derive(Clone, Copy)]
 pub struct Sift {
     pub low: [u8; 16],
@@ -46,8 +46,8 @@ pub struct Sift {
 
 /// Which buckets take a byte as the first, the second and the third of a needle.
 ///
-/// Each needle is in a bucket. It takes any byte past the needle's end. If no needle goes on behind
-/// its first byte, the second and the third aren't looked up.
+/// Each needle is in a bucket, which takes any byte behind the needle's end. If all needles have
+/// one byte, `is_set` is true, and the second and third bytes aren't looked up.
 #[derive(Clone, Copy)]
 pub struct Sieve {
     pub is_set: bool,
@@ -72,14 +72,14 @@ impl Sift {
         }
     }
 
-    /// The buckets of these bits take the byte too.
+    /// Lets the buckets of these bits take the byte too.
     fn add(&mut self, byte: u8, bits: u8) {
         self.low[(byte % 16) as usize] |= bits;
         self.high[(byte / 16) as usize] |= bits;
     }
 
-    /// The buckets of these bits take the byte of the needle at a place too, or any byte past its
-    /// end.
+    /// Lets the buckets of these bits take the needle's byte at an index too, or any byte if that
+    /// is behind its end.
     fn add_at(&mut self, needle: &[u8], at: usize, bits: u8) {
         match needle.get(at) {
             Some(byte) => self.add(*byte, bits),
@@ -91,14 +91,14 @@ impl Sift {
         }
     }
 
-    /// The buckets that take the byte.
+    /// Returns the buckets that take the byte.
     fn taken(&self, byte: u8) -> u8
         ensures { result ≡ buckets self.now byte }
     {
         self.low[(byte % 16) as usize] & self.high[(byte / 16) as usize]
     }
 
-    /// The buckets that take every byte.
+    /// Returns the buckets that take every byte.
     fn taken_always(&self) -> u8
         ensures { (k : ℕ) → bit_at result k ≡ 1 → (byte : ℕ) → byte < 256 → bit_at (buckets self.now byte) k ≡ 1 }
     {
@@ -109,7 +109,8 @@ impl Sift {
         bits
     }
 
-    /// The buckets that take the byte of the needle at a place, or every byte past its end.
+    /// Returns the buckets that take the needle's byte at an index, or every byte if that is behind
+    /// its end.
     fn taken_at(&self, needle: &[u8], at: usize) -> u8
         ensures { (k : ℕ) → bit_at result k ≡ 1 → (byte : ℕ) → byte < 256
             → (at < length needle.now → byte ≡ slice_index needle.now at) → bit_at (buckets self.now byte) k ≡ 1 }
@@ -120,7 +121,7 @@ impl Sift {
         }
     }
 
-    /// The buckets that take each of 16 bytes.
+    /// Returns the buckets that take each of the 16 bytes from `at` on.
     #[inline(always)]
     fn lanes(&self, piece: &[u8], at: usize) -> u8x16
         requires { at + 16 ≤ length piece.now }
@@ -136,7 +137,7 @@ impl Sift {
 }
 
 impl Begun {
-    /// What no bytes are taken as.
+    /// The buckets before any byte: none.
     #[inline(always)]
     fn new() -> Begun
         ensures { (s : Sieve) (piece : List ℕ) → HaveBegun s piece 0 result }
@@ -158,8 +159,8 @@ impl Sieve {
         bits != 0
     }
 
-    /// The buckets that take the three bytes from `at + k` on, or in a set the first of them, for
-    /// each k below 16.
+    /// Returns the buckets that take the three bytes from `at + k` on, for each k below 16. If all
+    /// needles have one byte, only the first is looked up.
     #[inline(always)]
     fn taken_from(&self, piece: &[u8], at: usize) -> u8x16
         requires { at + 18 ≤ length piece.now }
@@ -175,7 +176,7 @@ impl Sieve {
         first & (second & third)
     }
 
-    /// What each of the 16 bytes from a place on is taken as.
+    /// Looks up each of the 16 bytes from `at` on, as a first and as a second byte.
     #[inline(always)]
     fn begun(&self, piece: &[u8], at: usize) -> Begun
         requires { at + 16 ≤ length piece.now }
@@ -187,8 +188,8 @@ impl Sieve {
         }
     }
 
-    /// The buckets that take three bytes of which the last is at `at + k`, for each k below 16.
-    /// Given is what these 16 bytes and the 16 before them are taken as.
+    /// Returns the buckets that take three bytes of which the last is at `at + k`, for each k below
+    /// 16. `now` has the lookups of these 16 bytes, `before` those of the 16 bytes before them.
     #[inline(always)]
     fn taken_behind(&self, before: Begun, now: Begun, piece: &[u8], at: usize) -> u8x16
         requires inside { at + 16 ≤ length piece.now }
@@ -202,8 +203,8 @@ impl Sieve {
         first & (second & self.third.lanes(piece, at))
     }
 
-    /// The first place of the piece if a bucket takes three bytes. If there is none, the place of
-    /// the last two bytes.
+    /// Returns the first index of the piece at which a bucket takes three bytes. If there is none,
+    /// it is the index of the last two bytes.
     #[inline(never)]
     pub fn place(&self, piece: &[u8]) -> usize
         requires { LEAST_PIECE ≤ length piece.now }
@@ -216,7 +217,8 @@ impl Sieve {
         self.place_by_blocks(piece)
     }
 
-    /// The same, if the bytes of each place are looked up by themselves.
+    /// Returns the first index at which a bucket takes three bytes, or that of the last two bytes.
+    /// It looks up the three bytes of each index.
     #[inline(always)]
     fn place_by_places(&self, piece: &[u8]) -> usize
         requires { LEAST_PIECE ≤ length piece.now }
@@ -237,7 +239,8 @@ impl Sieve {
         self.place_at_end(piece, at)
     }
 
-    /// The same, if each byte is looked up once.
+    /// Returns the first index at which a bucket takes three bytes, or that of the last two bytes.
+    /// It looks up each byte once, and shifts the lookups of the vector before.
     #[inline(always)]
     fn place_by_blocks(&self, piece: &[u8]) -> usize
         requires { LEAST_BLOCKS ≤ length piece.now }
@@ -265,7 +268,8 @@ impl Sieve {
         self.place_at_end(piece, at.saturating_sub(2))
     }
 
-    /// The same from a place on, if at most 32 places are left to be looked up.
+    /// Returns the first index from `from` on at which a bucket takes three bytes, or that of the
+    /// last two bytes. At most 32 indices are left.
     #[inline(never)]
     fn place_at_end(&self, piece: &[u8], from: usize) -> usize
         requires long { LEAST_PIECE ≤ length piece.now }
@@ -288,7 +292,7 @@ impl Sieve {
     }
 }
 
-/// The 16 of two vectors side by side that end two before their end.
+/// Returns 16 of the 32 numbers of two vectors: those that end two before the end.
 #[inline(always)]
 fn two_back(before: u8x16, now: u8x16) -> u8x16
     ensures { AreLanes result (λ k. slice_index (before ++ now) (14 + k)) }
@@ -301,7 +305,7 @@ fn two_back(before: u8x16, now: u8x16) -> u8x16
     )
 }
 
-/// Those that end one before their end.
+/// Returns 16 of the 32 numbers of two vectors: those that end one before the end.
 #[inline(always)]
 fn one_back(before: u8x16, now: u8x16) -> u8x16
     ensures { AreLanes result (λ k. slice_index (before ++ now) (15 + k)) }
@@ -323,7 +327,7 @@ fn has_some(lanes: u8x16) -> bool
     lanes.simd_ne(u8x16::splat(0)).to_bitmask() != 0
 }
 
-/// A number whose bit k is set where the number at k isn't 0.
+/// Returns a number whose bit k is set if the number at k isn't 0.
 #[inline(always)]
 fn marks_of(lanes: u8x16) -> u64
     requires { length lanes ≡ 16 }
@@ -333,7 +337,7 @@ fn marks_of(lanes: u8x16) -> u64
     lanes.simd_ne(u8x16::splat(0)).to_bitmask()
 }
 
-/// The same of two vectors side by side.
+/// Returns a number whose bit k is set if the number at k of the two vectors isn't 0.
 #[inline(always)]
 fn marks_of_both(low: u8x16, high: u8x16) -> u64
     requires low { length low ≡ 16 }
@@ -348,7 +352,8 @@ fn marks_of_both(low: u8x16, high: u8x16) -> u64
     marks_of(low) | marks_of(high) << HALF
 }
 
-/// A sieve for these needles, if they are few enough.
+/// Builds the tables for these needles. Returns None if they are too many, or the tables don't take
+/// each of them.
 pub fn sieve_of(needles: &[Vec<u8>]) -> Option<Sieve>
     ensures { IfSome result (λ s. AreSifted s (needles_in needles.now)) }
 {
@@ -364,7 +369,7 @@ pub fn sieve_of(needles: &[Vec<u8>]) -> Option<Sieve>
     Some(sieve)
 }
 
-/// A sieve with each of the needles in a bucket: those that come one after another by their first
+/// Puts each of the needles into a bucket. Needles that are neighbours in the order of their first
 /// three bytes share one.
 fn filled(needles: &[Vec<u8>]) -> Sieve {
     let mut sieve = Sieve {
@@ -383,7 +388,7 @@ fn filled(needles: &[Vec<u8>]) -> Sieve {
     sieve
 }
 
-/// The bit of a needle's bucket.
+/// Returns the bit of a needle's bucket.
 fn bucket_of(needles: &[Vec<u8>], needle: &[u8]) -> u8 {
     let mut rank: usize = 0;
     for other in needles {
@@ -395,7 +400,7 @@ fn bucket_of(needles: &[Vec<u8>], needle: &[u8]) -> u8 {
     1 << (bucket % BUCKETS)
 }
 
-/// The first three bytes as one number, which orders needles by them.
+/// Returns the first three bytes, by which needles are ordered.
 fn beginning(needle: &[u8]) -> [u8; 3] {
     let mut bytes = [0; 3];
     for (i, byte) in needle.iter().take(3).enumerate() {

@@ -6,9 +6,9 @@ ghost use Rattle.rc_needles.specs.Tries.{AreCarriedBy, AreCarriedBy-is_fact};
 use crate::trie::{Trie, trie_of};
 use std::alloc::{AllocError, Global};
 
-/// The needles, for each byte the first that begins with it, and for each needle the next that
-/// begins with the same byte. If there is none, how many needles there are. Many needles have a
-/// trie too.
+/// The needles; for each byte the first needle that begins with it; and for each needle the next
+/// that begins with the same byte. If there is none, it is how many needles there are. Many needles
+/// have a trie too.
 #[derive(Drop)]
 pub struct Table {
     pub needles: Vec<Vec<u8>>,
@@ -23,7 +23,7 @@ pub struct Table {
     ghost carried: { AreCarriedBy trie (needles_in needles.items) } by { AreCarriedBy-is_fact trie (needles_in needles.items) },
 }
 
-/// The table of these needles.
+/// Builds the table of these needles. `Err` means out of memory.
 pub fn table_of(alloc: Global, needles: Vec<Vec<u8>>) -> Result<Table, AllocError>
     requires { AreSome (needles_in needles.items) }
     ensures { IfOk result (λ t. t.needles ≡ needles) }
@@ -47,7 +47,7 @@ pub fn table_of(alloc: Global, needles: Vec<Vec<u8>>) -> Result<Table, AllocErro
     })
 }
 
-/// The byte with which a needle begins.
+/// Returns the byte with which a needle begins.
 fn first_of(needle: &[u8]) -> usize
     requires { 0 < length needle.now }
     ensures small { result < 256 }

@@ -8,24 +8,25 @@ ghost use Rattle.rc_needles.specs.Tries.{AreCarriedBy, IsCarried, number_at, ste
 use crate::openings::{opened_from, openings_of};
 use std::alloc::{AllocError, Global};
 
-/// The node where each path begins. The node 0 stands for none.
+/// The node at which each path begins. Number 0 stands for no node.
 pub const ROOT: usize = 1;
 
 /// Fewer needles have no trie.
 const LEAST_COUNT: usize = 16;
 
-/// A node that no path has.
+/// A node of no path.
 const FREE: Node = Node {
     base: 0,
     parent: 0,
     number: u32::MAX,
 };
 
-/// How many places are tried for a node's children behind the one where the search begins.
+/// How far back the search for free nodes begins: so many nodes before the last ones that were laid
+/// out.
 const REACH: usize = 64;
 
-/// A node of paths. Its child by a byte is the node that this many places behind its base, if that
-/// one's parent is this.
+/// A node. Its child for a byte is the node at the index `base` plus that byte, if that node's
+/// parent is this one.
 #[derive(Clone, Copy)]
 pub struct Node {
     pub base: u32,
@@ -34,15 +35,15 @@ pub struct Node {
     pub number: u32,
 }
 
-/// Needles as paths of nodes, and if these are asked at each place the bits of their first bytes.
+/// The nodes, and the bits of first bytes that are asked before them.
 #[derive(Drop)]
 pub struct Trie {
     pub nodes: Vec<Node>,
     pub openings: Vec<u32>,
 }
 
-/// A node while paths are made: its byte, the first needle that ends there, its last child, and the
-/// child of its parent that was made before it. If there is none, 0.
+/// A node while paths are built: its byte, the first needle that ends there, its last child, and
+/// the child of its parent that was made before it. 0 stands for none.
 #[derive(Clone, Copy)]
 struct Branch {
     byte: u8,
@@ -52,7 +53,7 @@ struct Branch {
 }
 
 impl Trie {
-    /// The node to which a byte leads from a node, or 0.
+    /// Returns the node to which a byte leads from a node, or 0.
     #[inline(always)]
     pub fn step(&self, from: usize, byte: u8) -> usize
         ensures { result ≡ step self.now.nodes.items from byte }
@@ -67,7 +68,8 @@ impl Trie {
         }
     }
 
-    /// The number of the first needle that ends at the node, or a greater one if there is none.
+    /// Returns the number of the first needle that ends at the node, or a greater one if there is
+    /// none.
     #[inline(always)]
     pub fn number(&self, at: usize) -> usize
         ensures { result ≡ number_at self.now.nodes.items at }
@@ -78,7 +80,7 @@ impl Trie {
         }
     }
 
-    /// Whether the needle is a path, which ends if the first needle's number is at most this one.
+    /// Whether the needle is a path that ends at a node whose first needle has at most this number.
     fn carries(&self, needle: &[u8], number: usize) -> bool
         ensures { IsTrue result → IsCarried self.now.nodes.items needle.now number }
     {
@@ -92,8 +94,9 @@ impl Trie {
         self.number(at) <= number
     }
 
-    /// The least number of a needle that is where the bytes begin, as far as the paths show; the
-    /// count if none below it does. None if the bytes end on the way, or there is no path.
+    /// Returns the least number of a needle with which the bytes begin, by the paths, or `count` if
+    /// there is none below it. Returns None if the bytes end before the paths do, or there is no
+    /// path.
     #[inline(always)]
     pub fn lead(&self, bytes: &[u8], count: usize) -> Option<usize>
         ensures { IfSome result (λ number. (needle : List ℕ) (n : ℕ) → IsCarried self.now.nodes.items needle n → 0 < length needle
@@ -117,8 +120,8 @@ impl Trie {
         None
     }
 
-    /// The first place from one on where a needle may begin, as far as the bits of first bytes
-    /// show. If there are none, it is that one.
+    /// Returns the first index from `from` on at which a needle may begin, by the bits of first
+    /// bytes. Without any bits, that is `from`.
     #[inline(always)]
     pub fn opened_from(&self, piece: &[u8], from: usize) -> usize
         ensures low { from ≤ result }
@@ -128,7 +131,7 @@ impl Trie {
         opened_from(&self.openings, piece, from)
     }
 
-    /// Gives a node the children of its branch, and them their nodes.
+    /// Lays out the children of a branch at the node `base`.
     fn lay(
         &mut self,
         alloc: Global,
@@ -162,7 +165,8 @@ impl Trie {
         Ok(())
     }
 
-    /// If the children of a branch have room, from a node on. Behind the last node there is some.
+    /// Returns the first node from `from` on at which the children of a branch have room. Behind
+    /// the last node there is room.
     fn room_for(&self, branches: &[Branch], at: usize, from: usize) -> usize {
         for base in from..self.nodes.len() {
             if self.is_room(branches, at, base) {
@@ -172,7 +176,7 @@ impl Trie {
         self.nodes.len()
     }
 
-    /// Whether no path has a node where the children of a branch would come.
+    /// Whether all nodes are free that the children of a branch would take.
     fn is_room(&self, branches: &[Branch], at: usize, base: usize) -> bool {
         let mut next = first_child(branches, at);
         for _ in 0..256 {
@@ -190,7 +194,8 @@ impl Trie {
     }
 }
 
-/// The needles as paths, if there are many.
+/// Builds the trie of these needles. Returns None if they are few, or the trie doesn't have each of
+/// them. `Err` means out of memory.
 pub fn trie_of(alloc: Global, needles: &[Vec<u8>]) -> Result<Option<Trie>, AllocError>
     ensures { IfOk result (λ found. AreCarriedBy found (needles_in needles.now)) }
 {
@@ -208,7 +213,7 @@ pub fn trie_of(alloc: Global, needles: &[Vec<u8>]) -> Result<Option<Trie>, Alloc
     Ok(Some(trie))
 }
 
-/// The branches of the needles with their nodes.
+/// Builds the nodes of these needles. `Err` means out of memory.
 fn laid_out(alloc: Global, needles: &[Vec<u8>]) -> Result<Vec<Node>, AllocError> {
     let branches = branches_of(alloc, needles)?;
     let mut slots = vec![in alloc; ROOT; branches.len()]?;
@@ -224,7 +229,7 @@ fn laid_out(alloc: Global, needles: &[Vec<u8>]) -> Result<Vec<Node>, AllocError>
     Ok(trie.nodes)
 }
 
-/// The branches of the needles, each behind its parent.
+/// Builds the branches of these needles, each behind its parent. `Err` means out of memory.
 fn branches_of(alloc: Global, needles: &[Vec<u8>]) -> Result<Vec<Branch>, AllocError> {
     let mut branches = Vec::new(alloc);
     add_child(&mut branches, 0, 0)?;
@@ -235,7 +240,7 @@ fn branches_of(alloc: Global, needles: &[Vec<u8>]) -> Result<Vec<Branch>, AllocE
     Ok(branches)
 }
 
-/// Adds the branches of a needle that aren't there.
+/// Adds the branches of a needle that are missing.
 fn add_path(branches: &mut Vec<Branch>, needle: &[u8], number: u32) -> Result<(), AllocError> {
     let mut at = 0;
     for byte in needle {
@@ -250,7 +255,7 @@ fn add_path(branches: &mut Vec<Branch>, needle: &[u8], number: u32) -> Result<()
     Ok(())
 }
 
-/// Adds a branch to another. The answer is its place.
+/// Adds a branch to another, and returns its index.
 fn add_child(branches: &mut Vec<Branch>, at: usize, byte: u8) -> Result<usize, AllocError> {
     let child = branches.len();
     let sibling = first_child(branches, at);
@@ -266,7 +271,7 @@ fn add_child(branches: &mut Vec<Branch>, at: usize, byte: u8) -> Result<usize, A
     Ok(child)
 }
 
-/// The child of a branch by a byte.
+/// Returns the child of a branch for a byte.
 fn child_of(branches: &[Branch], at: usize, byte: u8) -> Option<usize> {
     let mut next = first_child(branches, at);
     for _ in 0..256 {
@@ -279,7 +284,7 @@ fn child_of(branches: &[Branch], at: usize, byte: u8) -> Option<usize> {
     None
 }
 
-/// The last child of a branch, or 0.
+/// Returns the last child of a branch, or 0.
 fn first_child(branches: &[Branch], at: usize) -> usize {
     match branches.get(at) {
         Some(branch) => branch.child,
@@ -287,7 +292,7 @@ fn first_child(branches: &[Branch], at: usize) -> usize {
     }
 }
 
-/// A branch that isn't the first.
+/// Returns the branch at an index, or None for index 0.
 fn branch_at(branches: &[Branch], at: usize) -> Option<Branch> {
     if at == 0 {
         return None;
@@ -298,7 +303,7 @@ fn branch_at(branches: &[Branch], at: usize) -> Option<Branch> {
     }
 }
 
-/// The number at a place, or 0.
+/// Returns the number at an index, or 0.
 fn number_in(numbers: &[usize], at: usize) -> usize {
     match numbers.get(at) {
         Some(number) => *number,

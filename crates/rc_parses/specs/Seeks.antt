@@ -1,5 +1,6 @@
 -- Only proofs use this file.
--- The least parse as a function: trees are tried in order, each handed on with its end to what is to follow.
+-- Least parses: the least parse as a function. Trees are tried in order, and each is handed on with
+-- its end to what follows.
 use Rattle.std.specs.Prelude.{ℕ, zero, suc, ◌+◌, ◌-◌, Bool, true, false, List, [], ◌∷◌, Option, Some, None, if◌then◌else◌}
 use Rattle.std.specs.Option.{option_or}
 use Rattle.rc_pattern.specs.Re.{Re, Range, empty, literal, byte_in, char_in, look, repeat, capture, cat, alt, none}
@@ -8,11 +9,11 @@ use Rattle.rc_program.specs.Program.{in_ranges}
 use Rattle.rc_program.specs.Scalars.{scalar_at}
 use Rattle.rc_parses.specs.Parses.{Tree, leaf, joined, this, other, stop, turn, group}
 
--- what follows a tree that ends at a position
+-- What follows a tree that ends at a position.
 abbrev pub Then : Type 0 → Type 0
 Then O = Tree → ℕ → Option O
 
--- from a position, with what follows
+-- From a position, with what follows.
 abbrev pub Seek : Type 0 → Type 0
 Seek O = ℕ → Then O → Option O
 
@@ -20,17 +21,17 @@ abbrev pub in_order : {O : Type 0} → Bool → Option O → Option O → Option
 in_order true body out = option_or body out
 in_order false body out = option_or out body
 
--- at most so many turns
+-- At most so many turns.
 abbrev pub may : {O : Type 0} → Seek O → Bool → ℕ → Seek O
 may F greedy zero i k = k stop i
 may F greedy (suc n) i k = in_order greedy (F i (λ x m. may F greedy n m (λ xs j. k (turn x xs) j))) (k stop i)
 
--- so many turns and then those of G
+-- So many turns, and then those of G.
 abbrev pub must : {O : Type 0} → Seek O → ℕ → Seek O → Seek O
 must F zero G i k = G i k
 must F (suc n) G i k = F i (λ x m. must F n G m (λ xs j. k (turn x xs) j))
 
--- one turn at least, where each turn reads a byte and none goes past hi
+-- One turn at least; each turn reads a byte, and none goes past hi.
 abbrev pub some_turns : {O : Type 0} → ℕ → Seek O → Bool → Seek O
 some_turns hi F greedy i k = F i (λ x m. may F greedy (suc (hi - m)) m (λ xs j. k (turn x xs) j))
 
@@ -39,26 +40,26 @@ all_turns hi F zero None greedy i k = may F greedy (suc (hi - i)) i k
 all_turns hi F (suc n) None greedy i k = must F n (some_turns hi F greedy) i k
 all_turns hi F min (Some max) greedy i k = must F min (may F greedy (max - min)) i k
 
--- over the first of the bytes, if it is in the ranges
+-- Over the first of the bytes, if it is in the ranges.
 abbrev pub on_byte : {O : Type 0} → List Range → List ℕ → (List ℕ → Option O) → Option O
 on_byte rs [] k = None
 on_byte rs (a ∷ ahead) k = if in_ranges rs a then k ahead else None
 
--- over these bytes
+-- Over these bytes.
 abbrev pub over_bytes : {O : Type 0} → List ℕ → List ℕ → ℕ → (ℕ → Option O) → Option O
 over_bytes [] ahead i k = k i
 over_bytes (b ∷ bs) ahead i k = on_byte ((b, b) ∷ []) ahead (λ rest. over_bytes bs rest (i + 1) k)
 
--- over one byte
+-- Over one byte.
 abbrev pub over_class : {O : Type 0} → List Range → List ℕ → ℕ → (ℕ → Option O) → Option O
 over_class rs ahead i k = on_byte rs ahead (λ rest. k (i + 1))
 
--- over one scalar
+-- Over one scalar.
 abbrev pub over_char : {O : Type 0} → List Range → Option (ℕ × ℕ) → ℕ → (ℕ → Option O) → Option O
 over_char rs None i k = None
 over_char rs (Some s) i k = if in_ranges rs s.0 then k (i + s.1) else None
 
--- the first parse from i that ends at hi or earlier and for which what follows succeeds
+-- The first parse from i that ends at hi or earlier and for which what follows succeeds.
 abbrev pub seek : {O : Type 0} → Text → ℕ → Re → Seek O
 seek t hi empty i k = k leaf i
 seek t hi (literal bs) i k = over_bytes bs (ahead t hi i) i (k leaf)

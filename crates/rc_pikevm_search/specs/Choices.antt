@@ -1,4 +1,4 @@
--- Which needles a search of patterns may go by.
+-- Prefilters: by which needles a search of patterns may go.
 use Rattle.std.specs.Prelude.{◌≡◌, ◌⊎◌, ℕ, List, [], ◌∷◌, Bool, true, false, Option, Some, None, IfSome}
 use Rattle.rc_pattern.specs.Re.{Re}
 use Rattle.rc_literals.specs.Literals.{literals_of}
@@ -9,35 +9,36 @@ use Rattle.rc_text.specs.declared.types.MatchKind.TheVariants.{All as all_matche
 use Rattle.rc_pikevm_search.specs.declared.strategy.Strategy.{Strategy}
 use Rattle.rc_pikevm_search.specs.declared.strategy.Strategy.TheVariants.{Pass, Guarded, Literal}
 
--- the texts of one pattern that is a literal, or an alternation of literals
+-- The texts of one pattern that is a literal, or an alternation of literals.
 abbrev pub exact_needles : List Re → Option (List (List ℕ))
 exact_needles (h ∷ []) = literals_of h
 exact_needles _ = None
 
--- the needles where walks begin
+-- The needles with which walks begin.
 abbrev pub guarding : Strategy → Option (List (List ℕ))
 guarding Pass = None
 guarding (Guarded p) = Some (needles_of p)
 guarding (Literal p) = Some (needles_of p)
 
--- the needles that alone tell answers
+-- The needles that alone decide answers.
 abbrev pub answering : Strategy → Option (List (List ℕ))
 answering Pass = None
 answering (Guarded p) = None
 answering (Literal p) = Some (needles_of p)
 
--- the needles that alone tell the answers to searches for a kind of match
+-- The needles that alone decide the answers to searches for a kind of match.
 abbrev pub answering_for : MatchKind → Strategy → Option (List (List ℕ))
 answering_for leftmost_first s = answering s
 answering_for all_matches s = None
 answering_for leftmost_longest s = None
 
--- none is asked for with which each of the prefixes begins
+-- No needles are asked for with one of which each of the prefixes begins.
 abbrev pub NoneServes : List (List ℕ) → Option (List (List ℕ)) → Type 0
 NoneServes prefixes asked = IfSome asked (λ needles. ¬ EachBegins prefixes needles)
 
--- The needles that guard a search of patterns: the ones asked for, where the patterns have prefixes and each of these begins with one of
--- them; or else the prefixes themselves, where others than the ones asked for may be used.
+-- The needles that guard a search of patterns. They are the ones asked for, if the patterns have
+-- prefixes and each of these begins with one of them; or else the prefixes themselves, if others
+-- than the ones asked for may be used.
 abbrev pub IsGuard : List Re → Option (List (List ℕ)) → Bool → Option (List (List ℕ)) → Type 0
 IsGuard hs asked is_auto (Some needles) =
     (prefixes : List (List ℕ)) × ArePrefixes hs prefixes

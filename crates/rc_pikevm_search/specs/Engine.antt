@@ -1,4 +1,4 @@
--- What an engine searches.
+-- The Pike VM as an engine: what it searches.
 use Rattle.std.specs.Prelude.{◌≡◌, ℕ, ◌+◌, ◌-◌, ◌*◌, ◌<◌, ◌≤◌, length, Option, IfSome, MatchOption}
 use Rattle.rc_text.specs.Found.{Found}
 use Rattle.rc_text.specs.Text.{Searched, high, low}
@@ -8,26 +8,27 @@ use Rattle.rc_pikevm.specs.Caches.{Made, IsCacheFor}
 use Rattle.rc_pikevm_search.specs.Choices.{answering_for}
 use Rattle.rc_pikevm_search.specs.declared.engine.Engine.{Engine}
 
--- the search of an input by an engine
+-- The search of an input by an engine.
 abbrev pub engine_search : Engine → Searched → Search
 engine_search e = search_of e.program
 
--- the cache was made for searches by this engine with so many slots
+-- The cache is made for searches by this engine with so many slots.
 abbrev pub IsEngineCache : Engine → ℕ → Made → Type 0
 IsEngineCache e slots cache = IsCacheFor (length e.program.places.items) slots cache
 
--- the cache is made for what it was made for before
+-- The cache is made for what it was made for before.
 abbrev pub IsSameCache : Made → Made → Type 0
 IsSameCache c d = d ≡ record c { insertions = d.insertions }
 
--- A pass over the input that found o entered so many places: none where its bounds cross, at least one for each position of the match and
--- one more, and at most all of them for each position of the bounds and two more.
+-- A pass over the input that found o entered n places: none if the bounds cross; at least one for
+-- each position of the match, and one more; and at most all of them for each position of the
+-- bounds, and for two more.
 pub record IsCount (e : Engine) (s : Searched) (o : Option Found) (n : ℕ) : Type 0 where
   pub none : high s < low s → n ≡ 0
   pub few : n ≤ length e.program.places.items * (high s - low s + 2)
   pub counted : IfSome o (λ m. m.end - m.start + 1 ≤ n)
 
--- What a search of the input that found o leaves in the cache: the count of its pass; or, where it goes by needles alone and makes no
--- pass, all as it was.
+-- What a search of the input that found o leaves in the cache: the count of its pass; or all as it
+-- was, if literals alone decide the match and no pass is made.
 abbrev pub Counts : Engine → Searched → Option Found → Made → Made → Type 0
 Counts e s o c d = MatchOption (answering_for e.kind e.strategy) (IsCount e s o d.insertions) (λ _. d ≡ c)

@@ -1,5 +1,5 @@
 -- Only proofs use this file.
--- What a search may go by.
+-- Prefilters: by which literals a search may go.
 use Rattle.std.specs.Prelude.{◌≡◌, ℕ, Bool, List}
 use denote.Struct.Props.{props}
 use Rattle.rc_text.specs.Text.{Searched}
@@ -12,7 +12,7 @@ use Rattle.rc_needles.specs.Prefilters.{needles_of}
 use Rattle.rc_pikevm_search.specs.declared.strategy.Strategy.{Strategy}
 use Rattle.rc_pikevm_search.specs.declared.strategy.Strategy.TheVariants.{Pass, Guarded, Literal}
 
--- a search for the needles finds the answer
+-- A search for the needles finds the answer.
 abbrev pub AreAnswers : List Place → ℕ → Bool → List (List ℕ) → Type 0
 AreAnswers places terminator over needles = (s : Searched) → answer (search_over places terminator over s) ≡ literal_answer needles s
 
@@ -22,7 +22,7 @@ MayGoBy places terminator over Pass = Unit {0}
 MayGoBy places terminator over (Guarded p) = Guards places terminator (needles_of p)
 MayGoBy places terminator over (Literal p) = Guards places terminator (needles_of p) × AreAnswers places terminator over (needles_of p)
 
--- it is a fact
+-- It is a fact: there is at most one proof of it.
 pub MayGoBy-is_fact : (places : List Place) (terminator : ℕ) (over : Bool) (strategy : Strategy) → IsProp (MayGoBy places terminator over strategy)
 MayGoBy-is_fact places terminator over Pass = hlevel props
 MayGoBy-is_fact places terminator over (Guarded p) = hlevel props

@@ -1,4 +1,4 @@
--- What captures hold after a search.
+-- Captures: what they hold after a search.
 use Rattle.std.specs.Prelude.{◌≡◌, ℕ, ◌+◌, ◌*◌, List, [], ◌∷◌, length, Option, Some, None, nat_eq, if◌then◌else◌}
 use Rattle.rc_text.specs.Found.{Found}
 use Rattle.rc_text.specs.declared.types.MatchKind.{MatchKind}
@@ -15,31 +15,31 @@ pub record KeepsAll (names : Names) (caps : Captures) : Type 0 where
   pub named : captures_names caps ≡ names
   pub sized : length (captures_slots caps) ≡ slot_len names
 
--- the match that a chosen walk is, with what stands in each of its pattern's slots
+-- The match that a chosen walk is, with the position in each of its pattern's slots.
 abbrev pub TellsOf : Search → Option Chosen → Captures → Type 0
 TellsOf s None caps = captures_pattern caps ≡ None
 TellsOf s (Some c) caps = HasMatch caps (pattern_of s c) (slot_of s c)
 
--- the match of a search, with its groups; no match where the search has no answer
+-- The match of a search, with its groups; no match if the search has no answer.
 abbrev pub Tells : Search → Captures → Type 0
 Tells s caps = TellsOf s (chosen s) caps
 
--- slot k of a match of which the whole alone is told
+-- Slot k of a match whose span alone is known.
 abbrev pub span_slot : Found → ℕ → Option ℕ
 span_slot m k = if nat_eq k (2 * m.pattern) then Some m.start else if nat_eq k (2 * m.pattern + 1) then Some m.end else None
 
--- the match, and no group of it
+-- The match, and no group of it.
 abbrev pub TellsSpan : Option Found → Captures → Type 0
 TellsSpan None caps = captures_pattern caps ≡ None
 TellsSpan (Some m) caps = HasMatch caps m.pattern (span_slot m)
 
--- the match of a kind; its groups where it is a walk
+-- The match of a kind, with its groups if it is a walk.
 abbrev pub TellsBy : MatchKind → Search → Captures → Type 0
 TellsBy all_matches s caps = TellsSpan (greatest s) caps
 TellsBy leftmost_first s caps = Tells s caps
 TellsBy leftmost_longest s caps = TellsOf s (longest_chosen s) caps
 
--- each of the captures holds the match of one of the walks, in order
+-- Each of the captures holds the match of one of the walks, in order.
 abbrev pub AllTell : Search → List Chosen → List Captures → Type 0
 AllTell s [] [] = Unit {0}
 AllTell s (c ∷ cs) (x ∷ xs) = TellsOf s (Some c) x × AllTell s cs xs

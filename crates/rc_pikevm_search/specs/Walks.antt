@@ -1,4 +1,4 @@
--- The walks of a list of matches.
+-- Lists of matches: the walks of one.
 use Rattle.std.specs.Prelude.{◌≡◌, ◌≢◌, ℕ, ◌+◌, ◌-◌, Bool, false, List, Option, Some, None, map, if◌then◌else◌}
 use Rattle.rc_text.specs.Found.{Found}
 use Rattle.rc_text.specs.declared.types.MatchKind.{MatchKind}
@@ -14,30 +14,31 @@ walk_start c = c.start
 abbrev pub walk_end : Chosen → ℕ
 walk_end c = (last_of c.walk).1
 
--- the walk of the match of a kind; of a greatest match the span alone is told
+-- The walk of the match of a kind; of a greatest match only the span is known.
 abbrev pub chosen_by : MatchKind → Search → Option Chosen
 chosen_by all_matches s = None
 chosen_by leftmost_first s = chosen s
 chosen_by leftmost_longest s = longest_chosen s
 
--- the walk that a search from k on chooses
+-- The walk that a search from k on chooses.
 abbrev pub chosen_from : MatchKind → Search → ℕ → Option Chosen
 chosen_from kind s k = chosen_by kind (from_on s k)
 
--- the walks of the matches that are left where the span starts at k, and the match before ended at `last`
+-- The walks of the matches that are left if the span starts at k, and the match before ended at
+-- `last`.
 unfoldable pub walks_left : MatchKind → Search → ℕ → Option ℕ → List Chosen
 walks_left kind s k last = matches_by walk_start walk_end (chosen_from kind s) (s.hi + 1 - k) k last
 
--- the match is empty, and ends where the one before ended
+-- The match is empty, and ends where the one before ended.
 abbrev pub again : Option ℕ → Option Found → Bool
 again last None = false
 again last (Some m) = is_again begin_of end_of last m
 
--- where the next match is looked for
+-- Where the next match is looked for.
 abbrev pub next_start : MatchKind → Search → ℕ → Option ℕ → ℕ
 next_start kind s k last = if again last (answer_by_from kind s k) then k + 1 else k
 
--- these walks are those of the list of matches of a kind, but for the greatest ones
+-- These walks are those of the list of matches of a kind, but for the greatest ones.
 abbrev pub WalksLaw : Type 0
 WalksLaw = (kind : MatchKind) (s : Search) (k : ℕ) (last : Option ℕ) → kind ≢ all_matches →
     map (found s) (walks_left kind s k last) ≡ matches_by_kind kind s k last

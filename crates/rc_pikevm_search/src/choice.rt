@@ -17,12 +17,12 @@ use rc_needles::prefilter::{Prefilter, copy_of, from_needles};
 use rc_pattern::hir::Hir;
 use std::alloc::{AllocError, Global};
 
-/// What searches for these patterns may go by. `asked` is the caller's own prefilter, and if
-/// `is_auto` is off, no other is used.
+/// Returns the literals by which searches for these patterns go. `asked` is the caller's own
+/// prefilter; if `is_auto` is off, no other is used.
 ///
 /// One pattern that is a literal, or an alternation of literals, goes by these literals. Other
-/// patterns go by a copy of `asked`, if each text that they match is known to begin with one of its
-/// needles, or else by prefixes of the patterns, if they have some of use. An `Err` means out of
+/// patterns go by a copy of `asked` if each text that they match is known to begin with one of its
+/// needles, or else by prefixes of the patterns if these have some of use. `Err` means out of
 /// memory.
 pub fn choose(
     alloc: Global,
@@ -50,7 +50,7 @@ pub fn choose(
     }
 }
 
-/// The texts of one pattern that is a literal, or an alternation of literals.
+/// Returns the texts of one pattern that is a literal, or an alternation of literals.
 fn exact_prefilter(alloc: Global, hirs: &[Hir]) -> Result<Option<Prefilter>, AllocError>
     ensures { IfOk result (λ found. option_map needles_of found ≡ exact_needles (map meaning hirs.now)) }
 {
@@ -61,7 +61,7 @@ fn exact_prefilter(alloc: Global, hirs: &[Hir]) -> Result<Option<Prefilter>, All
     }
 }
 
-/// Needles with one of which each text of the patterns begins: those asked for, or else the
+/// Returns needles with one of which each text of the patterns begins: those asked for, or else the
 /// patterns' prefixes.
 fn guard(
     alloc: Global,

@@ -15,7 +15,7 @@ use rc_text::input::{Input, advance_start};
 use rc_text::types::{Match, MatchKind, PatternID};
 use std::alloc::{AllocError, Global};
 
-/// A program, which kind of match is sought, and what a search may go by.
+/// A program, with its kind of match and the literals by which its searches go.
 #[derive(Drop)]
 pub struct Engine {
     pub program: Program,
@@ -37,16 +37,16 @@ impl Engine {
     ghost use Rattle.rc_pikevm_search.specs.Engine.{engine_search, Counts, IsEngineCache, IsSameCache};
     ghost use Rattle.rc_pikevm_search.specs.Moved.{IsMoved};
 
-    /// A cache for searches by this engine, with at most this many slots. An `Err` means out of
-    /// memory.
+    /// A cache for searches by this engine, with at most `slots` slots. `Err` means out of memory.
     pub fn create_cache(&self, alloc: Global, slots: usize) -> Result<Cache, AllocError>
         ensures { IfOk result (IsEngineCache self.now slots) }
     {
         Cache::new(alloc, self.program.places.len(), slots)
     }
 
-    /// The match that a search finds. It takes no memory. The cache counts the pass that it makes,
-    /// or, if needles alone decide the match, nothing anew.
+    /// Returns the match that a search finds. It allocates nothing. The cache counts the places
+    /// that the pass enters; if literals alone decide the match, no pass is made and the count
+    /// stays.
     pub fn find<C: Cursor>(&self, cache: &mut Cache, input: &mut Input<C>) -> Option<Match>
         requires made { IsEngineCache self.now 0 cache.old }
         ensures keeps { Keeps input.old input.new }
@@ -67,8 +67,8 @@ impl Engine {
         )
     }
 
-    /// Whether a search finds a match. It takes no memory. Unless matches are passed over, nothing
-    /// is read beyond the first position at which one ends.
+    /// Whether a search finds a match. It allocates nothing. Unless matches are passed over, the
+    /// pass ends at the first position at which a match does.
     pub fn is_match<C: Cursor>(&self, cache: &mut Cache, input: &mut Input<C>) -> bool
         requires made { IsEngineCache self.now 0 cache.old }
         ensures keeps { Keeps input.old input.new }
@@ -88,8 +88,8 @@ impl Engine {
         )
     }
 
-    /// The pattern that a search finds, with the first of its slots. Without a match the slots
-    /// stay. It takes no memory.
+    /// Returns the pattern that a search finds, and writes the first of its slots. Without a match
+    /// the slots stay as they are. It allocates nothing.
     pub fn find_slots<C: Cursor>(
         &self,
         cache: &mut Cache,
@@ -115,9 +115,9 @@ impl Engine {
         )
     }
 
-    /// The next match of a list: the match from where the span starts, and if that is empty and
-    /// ends at `last`, the match from a byte later. The span then starts where the match was looked
-    /// for. It takes no memory.
+    /// Returns the next match of a list: the match from the span's start on. If that is empty and
+    /// ends at `last`, it gives way to the match from one byte later. Then the span starts where
+    /// the match was looked for. It allocates nothing.
     pub fn next_match<C: Cursor>(
         &self,
         cache: &mut Cache,

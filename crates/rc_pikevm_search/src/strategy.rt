@@ -10,20 +10,19 @@ ghost use Rattle.rc_pikevm_search.specs.Strategies.{AreAnswers, MayGoBy};
 use rc_needles::prefilter::Prefilter;
 use rc_text::types::MatchKind;
 
-/// What a search may go by, beside its places.
+/// The literals by which a search goes, if any.
 #[derive(Drop)]
 pub enum Strategy {
-    /// By nothing.
+    /// No literals.
     Pass,
-    /// By needles: no walk begins where none of them occurs.
+    /// Needles: no walk begins at a position where none of them stands.
     Guarded(Prefilter),
-    /// By needles that are the pattern's texts, each before those that are less preferred.
+    /// Needles that are the pattern's texts, in order of preference.
     Literal(Prefilter),
 }
 
 impl Strategy {
-    /// Whether searches go by needles, and one for these goes by a needle or by at most three
-    /// bytes.
+    /// Whether there are needles, and the search for them is fast.
     pub fn is_fast(&self) -> bool
         ensures { guarding self.now ≡ None → result ≡ false }
     {
@@ -34,7 +33,7 @@ impl Strategy {
         }
     }
 
-    /// About how many bytes of memory the needles take, beyond the strategy's own.
+    /// Returns about how many bytes of memory the needles take, beyond the value's own.
     pub fn memory_usage(&self) -> usize
         ensures { guarding self.now ≡ None → result ≡ 0 }
     {
@@ -46,7 +45,7 @@ impl Strategy {
     }
 }
 
-/// The needles where walks begin.
+/// Returns the needles with which each walk begins, if there are any.
 pub fn guards_of(strategy: &Strategy) -> Option<&Prefilter>
     ensures value { option_map (λ p. needles_of p.now) result ≡ guarding strategy.now }
     ensures sound { (places : List PlaceOf) (terminator : ℕ) (over : Bool) → MayGoBy places terminator over strategy.now
@@ -59,7 +58,7 @@ pub fn guards_of(strategy: &Strategy) -> Option<&Prefilter>
     }
 }
 
-/// The needles that alone tell the answer to a search for this kind of match.
+/// Returns the needles that alone decide a search for this kind of match, if there are any.
 pub fn literals_of(strategy: &Strategy, kind: MatchKind) -> Option<&Prefilter>
     ensures value { option_map (λ p. needles_of p.now) result ≡ answering_for kind strategy.now }
     ensures sound { (places : List PlaceOf) (terminator : ℕ) (over : Bool) → MayGoBy places terminator over strategy.now

@@ -1,4 +1,4 @@
--- The answer of one search.
+-- Answers: what one search gives.
 use Rattle.std.specs.Prelude.{◌≡◌, ◌↔◌, ℕ, zero, suc, ◌+◌, ◌-◌, ◌*◌, ◌<◌, ◌≤◌, ◌⊎◌, Bool, true, false, not, ◌||◌, List, [], ◌∷◌, length, map, Option, Some, None, IsTrue, if◌then◌else◌, nat_eq, min}
 use Rattle.std.specs.List.{range_with_len}
 use Rattle.std.specs.Option.{option_or, option_map, option_and_then}
@@ -9,16 +9,17 @@ use Rattle.rc_walks.specs.Tries.{walk_by}
 use Rattle.rc_program.specs.Text.{Text}
 use Rattle.rc_program.specs.Program.{Place, slot, accept, place_at, ways, is_match_place}
 
--- Where walks may begin, and whose they are.
+-- Where walks may begin, and of which pattern.
 pub data Anchoring : Type 0 where
-  -- at each position
+  -- At each position.
   anywhere : Anchoring
-  -- at `lo` alone
+  -- At `lo` alone.
   at_start : Anchoring
-  -- at `lo` alone, and this pattern's walks alone
+  -- At `lo` alone, and of this pattern alone.
   by_pattern : ℕ → Anchoring
 
--- One search: the program, what it sees, its bounds, its anchoring, and whether passing over is in play.
+-- One search: the program, what it sees, its bounds, its anchoring, and whether matches may be
+-- passed over.
 pub record Search : Type 0 where
   pub places : List Place
   pub text : Text
@@ -27,7 +28,7 @@ pub record Search : Type 0 where
   pub anchoring : Anchoring
   pub passes_over : Bool
 
--- the only pattern allowed; `None` allows all
+-- The only pattern allowed; `None` allows all.
 abbrev pub only : Anchoring → Option ℕ
 only anywhere = None
 only at_start = None
@@ -38,39 +39,39 @@ is_anchored anywhere = false
 is_anchored at_start = true
 is_anchored (by_pattern p) = true
 
--- a walk may end here
+-- A walk may end here.
 abbrev pub ends : Search → Pair → Bool
 ends s n = is_match_place (only s.anchoring) (place_at s.places n.0)
 
 abbrev pub next_of : Search → Pair → List Pair
 next_of s = ways s.places s.text s.hi
 
--- w is the first of the walks from x
+-- w is the first of the walks from x.
 abbrev pub IsFirstFrom : Search → ℕ → List Pair → Type 0
 IsFirstFrom s x w = IsFirstWalk (next_of s) (λ n. IsTrue (ends s n)) [] ((0, x) ∷ []) w
 
 abbrev pub HasNoWalkFrom : Search → ℕ → Type 0
 HasNoWalkFrom s x = HasNoWalk (next_of s) (λ n. IsTrue (ends s n)) [] ((0, x) ∷ [])
 
--- the last pair of a walk
+-- The last pair of a walk.
 abbrev pub last_of : List Pair → Pair
 last_of [] = (0, 0)
 last_of (n ∷ []) = n
 last_of (n ∷ m ∷ w) = last_of (m ∷ w)
 
--- the walk ends where passing over, if it is in play, allows it: on a boundary
+-- The walk ends on a boundary, if matches that end off one are passed over.
 abbrev pub is_allowed : Search → List Pair → Bool
 is_allowed s w = not s.passes_over || is_boundary s.text.content (last_of w).1
 
--- a start that the search tries
+-- A start that the search tries.
 abbrev pub IsStart : Search → ℕ → Type 0
 IsStart s x = (s.lo ≤ x) × (x ≤ s.hi) × (IsTrue (is_anchored s.anchoring) → x ≡ s.lo)
 
--- the start x gives no answer: it has no walk, or the first walk is passed over
+-- The start x gives no answer: it has no walk, or the first walk is passed over.
 abbrev pub IsPassed : Search → ℕ → Type 0
 IsPassed s x = HasNoWalkFrom s x ⊎ ((w : List Pair) × IsFirstFrom s x w × (is_allowed s w ≡ false))
 
--- a start and a walk from there
+-- A start and a walk from there.
 pub record Chosen : Type 0 where
   pub start : ℕ
   pub walk : List Pair
@@ -82,30 +83,30 @@ pub record IsAnswer (s : Search) (c : Chosen) : Type 0 where
   pub allowed : IsTrue (is_allowed s c.walk)
   pub none_before : (y : ℕ) → IsStart s y → y < c.start → IsPassed s y
 
--- no start gives an answer
+-- No start gives an answer.
 abbrev pub HasNoAnswer : Search → Type 0
 HasNoAnswer s = (y : ℕ) → IsStart s y → IsPassed s y
 
--- the slot that a place names
+-- The slot that a place names.
 abbrev pub names : Place → ℕ → Bool
 names (slot j n) k = nat_eq j k
 names _ k = false
 
--- the position at the walk's last visit of a place that names the slot
+-- The position at the walk's last visit of a place that names the slot.
 abbrev pub last_visit : List Place → ℕ → List Pair → Option ℕ
 last_visit places k [] = None
 last_visit places k (n ∷ w) = option_or (last_visit places k w) (if names (place_at places n.0) k then Some n.1 else None)
 
--- the pattern of a match place
+-- The pattern of a match place.
 abbrev pub pattern_at : Place → ℕ
 pattern_at (accept p) = p
 pattern_at _ = 0
 
--- the pattern of a chosen walk
+-- The pattern of a chosen walk.
 abbrev pub pattern_of : Search → Chosen → ℕ
 pattern_of s c = pattern_at (place_at s.places (last_of c.walk).0)
 
--- the match that a chosen walk is
+-- The match that a chosen walk is.
 abbrev pub found : Search → Chosen → Found
 found s c = record {
   pattern = pattern_of s c;
@@ -113,48 +114,48 @@ found s c = record {
   end = (last_of c.walk).1;
 }
 
--- the slot k; the whole match of pattern p stands in the slots 2 * p and 2 * p + 1
+-- The slot k. The slots 2 * p and 2 * p + 1 have the whole match of pattern p.
 abbrev pub slot_of : Search → Chosen → ℕ → Option ℕ
 slot_of s c k =
     if nat_eq k (2 * pattern_of s c) then Some c.start
     else if nat_eq k (2 * pattern_of s c + 1) then Some (last_of c.walk).1
     else last_visit s.places k c.walk
 
--- the first n slots
+-- The first n slots.
 abbrev pub slots_of : Search → ℕ → Chosen → List (Option ℕ)
 slots_of s n c = map (slot_of s c) (range_with_len 0 n)
 
--- The answer as a function. That it is the answer is the law `AnswerLaw`.
+-- The answer as a function. The law `AnswerLaw` says that this is the answer.
 
 abbrev pub allowed_only : Search → ℕ → List Pair → Option Chosen
 allowed_only s x w = if is_allowed s w then Some (record { start = x; walk = w }) else None
 
--- what the start x gives; no walk has more pairs than there are
+-- What the start x gives; no walk has more pairs than there are.
 abbrev pub from_start : Search → ℕ → Option Chosen
 from_start s x = option_and_then (allowed_only s x) (walk_by (next_of s) (ends s) (length s.places * (s.hi + 1)) [] (0, x))
 
--- what the first of so many numbers from x on gives
+-- What the first of so many numbers from x on gives.
 abbrev pub first_given : {A : Type 0} → (ℕ → Option A) → ℕ → ℕ → Option A
 first_given gives zero x = None
 first_given gives (suc n) x = option_or (gives x) (first_given gives n (x + 1))
 
--- how many starts are tried
+-- How many starts are tried.
 abbrev pub start_count : Search → ℕ
 start_count s = if is_anchored s.anchoring then min 1 (s.hi + 1 - s.lo) else s.hi + 1 - s.lo
 
--- the start and the walk
+-- The start and the walk.
 unfoldable pub chosen : Search → Option Chosen
 chosen s = first_given (from_start s) (start_count s) s.lo
 
--- the match
+-- The match.
 unfoldable pub answer : Search → Option Found
 answer s = option_map (found s) (chosen s)
 
--- the first n slots of the match
+-- The first n slots of the match.
 unfoldable pub groups : Search → ℕ → Option (List (Option ℕ))
 groups s n = option_map (slots_of s n) (chosen s)
 
--- the functions give the answer, and nothing where there is none
+-- The functions give the answer, and nothing if there is none.
 pub record AnswerLaw : Type 0 where
   pub chosen_some : (s : Search) (c : Chosen) → (chosen s ≡ Some c) ↔ IsAnswer s c
   pub chosen_none : (s : Search) → (chosen s ≡ None) ↔ HasNoAnswer s

@@ -1,23 +1,23 @@
--- Over which bytes walks may go on from a place, as far as one byte tells.
+-- First-byte sets: over which bytes walks may go on from a place, as far as one byte shows.
 use Rattle.std.specs.Prelude.{◌≡◌, ◌↔◌, ℕ, ◌<◌, Bool, true, false, ◌||◌, List, [], ◌∷◌, IsTrue, Some, map, nat_le, length, slice_get, slice_index_or, Vec}
 use Rattle.std.specs.List.{Contains}
 use Rattle.rc_walks.specs.Walks.{Pair, HasNoWalk}
 use Rattle.rc_program.specs.Text.{Text, ahead}
 use Rattle.rc_program.specs.Program.{Place, choice, byte, branch, scalar, guard, slot, accept, in_ranges, place_at, ways}
 
--- the places to which ways lead that read nothing, whatever assertions say
+-- The places to which ways lead that read nothing, whatever assertions say.
 abbrev pub silent : Place → List ℕ
 silent (choice ns) = ns
 silent (guard l n) = n ∷ []
 silent (slot k n) = n ∷ []
 silent _ = []
 
--- q is reached from p by ways that read nothing
+-- q is reached from p by ways that read nothing.
 pub data Reaches (places : List Place) : ℕ → ℕ → Type 0 where
   here : {p : ℕ} → Reaches places p p
   on : {p q : ℕ} (m : ℕ) → Contains (silent (place_at places p)) m → Reaches places m q → Reaches places p q
 
--- a walk may go on there over the byte, as far as that byte alone tells, or ends there
+-- A walk may go on there over the byte, as far as that byte alone shows, or it ends there.
 abbrev pub may_take : Place → ℕ → Bool
 may_take (byte rs n) b = in_ranges rs b
 may_take (branch ts) b = true
@@ -25,25 +25,26 @@ may_take (scalar rs n) b = nat_le 128 b || in_ranges rs b
 may_take (accept p) b = true
 may_take _ b = false
 
--- a walk may go on from p over the byte b, or end before it
+-- A walk may go on from p over the byte b, or end before it.
 abbrev pub MayGoOn : List Place → ℕ → ℕ → Type 0
 MayGoOn places p b = ∥ ((q : ℕ) × Reaches places p q × IsTrue (may_take (place_at places q) b)) ∥₁
 
--- flag b of the 256 is set exactly where a walk may go on from p over the byte b
+-- Flag b of the 256 is set exactly if a walk may go on from p over the byte b.
 pub record TellsHeads (places : List Place) (p : ℕ) (flags : List Bool) : Type 0 where
   pub whole : length flags ≡ 256
   pub exact : (b : ℕ) → b < 256 → IsTrue (slice_index_or flags b false) ↔ MayGoOn places p b
 
--- each place has its flags, or none at all
+-- Each place has its flags, or none at all.
 pub record AreHeads (places : List Place) (tables : List (List Bool)) : Type 0 where
   pub count : length tables ≡ length places
   pub tell : (p : ℕ) → p < length places → 0 < length (slice_index_or tables p []) → TellsHeads places p (slice_index_or tables p [])
 
--- the flags that code has
+-- The flags that code has.
 abbrev pub flags_in : {Y : Type 0} → List (Vec Bool Y) → List (List Bool)
 flags_in vs = map (λ v. v.items) vs
 
--- no walk sets out from p at a position where a byte stands ahead over which none may go on, where walks end at match places alone
+-- If walks end at match places alone, none begins from p at a position at which none may go on over
+-- the byte ahead.
 abbrev pub HeadsLaw : Type 0
 HeadsLaw = (places : List Place) (t : Text) (hi p i b : ℕ) (ends : Pair → Bool) (passed : List Pair) →
     ((n : Pair) → IsTrue (ends n) → (k : ℕ) × (place_at places n.0 ≡ accept k)) → slice_get (ahead t hi i) 0 ≡ Some b → ¬ MayGoOn places p b →

@@ -1,4 +1,5 @@
--- The laws that tie programs to patterns: what the walks of a program spell, and that a program is closed and small.
+-- Laws that tie programs to patterns: what the walks of a program spell, and that a program is
+-- closed and small.
 use Rattle.std.specs.Prelude.{◌≡◌, ◌↔◌, ℕ, ◌+◌, ◌*◌, ◌<◌, ◌≤◌, Bool, List, [], ◌∷◌, ◌++◌, IsTrue, Some, None, All, map, length}
 use Rattle.rc_pattern.specs.Re.{Re, Range}
 use Rattle.std.specs.List.{range_with_len}
@@ -12,18 +13,18 @@ use Rattle.rc_program.specs.Program.{Place, choice, byte, branch, scalar, guard,
 use Rattle.rc_program.specs.Spells.{Spells, SpelledBy}
 use Rattle.rc_program.specs.Answer.{last_of}
 
--- a walk from i to the match place of pattern p, at j
+-- A walk from i to the match place of pattern p, at j.
 pub record IsWalkOf (hs : List Re) (t : Text) (hi p i j : ℕ) (w : List Pair) : Type 0 where
   pub is_walk : IsWalk (ways (program hs) t hi) (λ n. IsTrue (is_match_place None (place_at (program hs) n.0))) [] ((0, i) ∷ []) w
   pub pattern : place_at (program hs) (last_of w).0 ≡ accept p
   pub position : (last_of w).1 ≡ j
 
--- some walk of pattern p leads from i to j exactly where the pattern spells that
+-- Some walk of pattern p leads from i to j exactly if the pattern spells that.
 abbrev pub ProgramLaw : Type 0
 ProgramLaw = (hs : List Re) (t : Text) (hi p i j : ℕ) → All HasBounds hs → j ≤ hi →
     ((w : List Pair) × IsWalkOf hs t hi p i j w) ↔ SpelledBy t 0 hs p i j
 
--- the numbers of places that stand in a place
+-- The numbers of places that a place names.
 abbrev pub targets : Place → List ℕ
 targets (choice ns) = ns
 targets (byte rs n) = n ∷ []
@@ -33,12 +34,12 @@ targets (guard l n) = n ∷ []
 targets (slot k n) = n ∷ []
 targets (accept p) = []
 
--- each number of a place that stands in a place is that of one of the places
+-- Each place that is named exists.
 abbrev pub IsClosed : List Place → Type 0
 IsClosed places = All (λ q. All (λ n. n < length places) (targets q)) places
 
--- how many places of a byte program a place comes to at most: a range of scalars splits into at most 21 sequences of at most 4 ranges
--- of bytes each
+-- How many places of a byte program a place becomes at most: a range of scalars splits into at most
+-- 21 sequences of at most 4 ranges of bytes each.
 abbrev pub place_weight : Place → ℕ
 place_weight (scalar rs n) = 1 + 84 * length rs
 place_weight _ = 1
@@ -47,34 +48,34 @@ abbrev pub heaviness : List Place → ℕ
 heaviness [] = 0
 heaviness (q ∷ qs) = place_weight q + heaviness qs
 
--- the groups are numbered 1, 2, .. in the order of their opening
+-- The groups are numbered 1, 2, .. in the order of their opening.
 abbrev pub IsNumbered : Re → Type 0
 IsNumbered h = group_numbers h ≡ range_with_len 1 (group_count h)
 
--- how many groups the patterns have
+-- How many groups the patterns have.
 abbrev pub all_groups : List Re → ℕ
 all_groups [] = 0
 all_groups (h ∷ hs) = group_count h + all_groups hs
 
--- how many slots the patterns have: two for each pattern, and two for each group
+-- How many slots the patterns have: two for each pattern, and two for each group.
 abbrev pub slot_count : List Re → ℕ
 slot_count hs = 2 * length hs + 2 * all_groups hs
 
--- what holds of the program of each list of patterns
+-- What holds of the program of each list of patterns.
 pub record ClosedLaw : Type 0 where
-  -- place 0, where it is entered, is there
+  -- Place 0, at which it is entered, exists.
   pub rooted : (hs : List Re) → 0 < length (program hs)
   pub closed : (hs : List Re) → IsClosed (program hs)
   pub leads_inside : (hs : List Re) (t : Text) (hi : ℕ) (n m : Pair) → IsIn m (ways (program hs) t hi n) → m.0 < length (program hs)
   pub entered : (hs : List Re) (p : ℕ) → entry hs p < length (program hs)
   pub accepts : (hs : List Re) (n p : ℕ) → place_at (program hs) n ≡ accept p → p < length hs
-  -- a slot of a group is one of the patterns' slots, and none of the two of each pattern
+  -- A slot of a group is one of the patterns' slots, and none of the two of each pattern.
   pub names_slots : (hs : List Re) → All IsNumbered hs → (n k m : ℕ) → place_at (program hs) n ≡ slot k m →
       (2 * length hs ≤ k) × (k < slot_count hs)
   pub light : (hs : List Re) → All HasBounds hs → heaviness (program hs) ≤ list_weight hs
   pub small : (hs : List Re) → All HasBounds hs → length (program hs) ≤ list_weight hs
 
--- what holds of patterns without their groups
+-- What holds of patterns without their groups.
 pub record GroupLaw : Type 0 where
   pub spells : (t : Text) (h : Re) (i j : ℕ) → Spells t (without_groups h) i j ↔ Spells t h i j
   pub bounded : (h : Re) → HasBounds h → HasBounds (without_groups h)
@@ -86,35 +87,35 @@ pub record GroupLaw : Type 0 where
   pub shown_length : (groups : Bool) (hs : List Re) → length (shown groups hs) ≡ length hs
   pub shown_lighter : (groups : Bool) (hs : List Re) → list_weight (shown groups hs) ≤ list_weight hs
 
--- a choice stands at the pair's place
+-- The pair's place is a choice.
 abbrev pub IsChoice : List Place → Pair → Type 0
 IsChoice places n = (ns : List ℕ) × (place_at places n.0 ≡ choice ns)
 
--- a walk may end at the match place of pattern p
+-- A walk may end at the match place of pattern p.
 abbrev pub EndsFor : List Place → ℕ → Pair → Type 0
 EndsFor places p n = IsTrue (is_match_place (Some p) (place_at places n.0))
 
--- The entry of a pattern stands for the root where its walks alone count.
+-- The entry of a pattern stands for the root if only its walks count.
 pub record EntryLaw : Type 0 where
-  -- its first walk from the root is that from its entry, after choices alone
+  -- Its first walk from the root is that from its entry, after choices alone.
   pub first : (hs : List Re) (t : Text) (hi p x : ℕ) (v : List Pair) → p < length hs →
       IsFirstWalk (ways (program hs) t hi) (EndsFor (program hs) p) [] ((entry hs p, x) ∷ []) v →
       (u : List Pair) × All (IsChoice (program hs)) u × IsFirstWalk (ways (program hs) t hi) (EndsFor (program hs) p) [] ((0, x) ∷ []) (u ++ v)
   pub none : (hs : List Re) (t : Text) (hi p x : ℕ) → p < length hs →
       HasNoWalk (ways (program hs) t hi) (EndsFor (program hs) p) [] ((entry hs p, x) ∷ []) →
       HasNoWalk (ways (program hs) t hi) (EndsFor (program hs) p) [] ((0, x) ∷ [])
-  -- walks from the entry are its walks
+  -- Walks from the entry are its walks.
   pub own : (hs : List Re) (t : Text) (hi p x : ℕ) (w : List Pair) → p < length hs →
       IsWalk (ways (program hs) t hi) (λ n. IsTrue (is_match_place None (place_at (program hs) n.0))) [] ((entry hs p, x) ∷ []) w →
       place_at (program hs) (last_of w).0 ≡ accept p
 
 -- What the properties of a pattern say of each span that it spells.
 pub record PropertyLaw : Type 0 where
-  -- it has a least length, and the span is no shorter
+  -- It has a least length, and the span is no shorter.
   pub least : (t : Text) (h : Re) (i j : ℕ) → Spells t h i j → (n : ℕ) × (minimum_len h ≡ Some n) × (i + n ≤ j)
-  -- where it has a greatest length, the span is no longer
+  -- If it has a greatest length, the span is no longer.
   pub greatest : (t : Text) (h : Re) (i j n : ℕ) → Spells t h i j → maximum_len h ≡ Some n → j ≤ i + n
-  -- the assertions of its prefix set hold where the span begins
+  -- The assertions of its prefix set hold at the start of the span.
   pub begins : (t : Text) (h : Re) (i j : ℕ) (l : Look) → Spells t h i j → IsTrue (begins_with_look h l) → IsTrue (holds t l i)
-  -- those of its suffix set hold where it ends
+  -- Those of its suffix set hold at its end.
   pub ends : (t : Text) (h : Re) (i j : ℕ) (l : Look) → Spells t h i j → IsTrue (ends_with_look h l) → IsTrue (holds t l j)

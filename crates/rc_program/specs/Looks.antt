@@ -1,4 +1,4 @@
--- Where assertions hold: each by what stands on the two sides of a position.
+-- Look-around: where assertions hold, each by the two sides of a position.
 use Rattle.std.specs.Prelude.{ℕ, Bool, true, false, not, ◌&&◌, ◌||◌, ◌==◌, List, [], ◌∷◌, length, Option, Some, None, slice_index, nat_le}
 use Rattle.std.specs.Option.{option_map}
 use Rattle.unicode.specs.Binary.{is_alphabetic}
@@ -9,36 +9,36 @@ use Rattle.rc_pattern.specs.declared.hir.Look.{Look}
 use Rattle.rc_pattern.specs.declared.hir.Look.TheVariants.{Start, End, StartLF, EndLF, StartCRLF, EndCRLF, WordAscii, WordAsciiNegate, WordUnicode, WordUnicodeNegate, WordStartAscii, WordEndAscii, WordStartUnicode, WordEndUnicode, WordStartHalfAscii, WordEndHalfAscii, WordStartHalfUnicode, WordEndHalfUnicode}
 use Rattle.rc_program.specs.Scalars.{scalar_at, scalar_before}
 
--- What stands on one side of a position: nothing; or a byte, with the scalar whose bytes stand there, if one does.
+-- One side of a position: nothing; or a byte, with the scalar whose bytes are there, if one is.
 pub data Side : Type 0 where
   nothing : Side
   stands : (byte : ℕ) → (scalar : Option ℕ) → Side
 
--- what stands before a position that these bytes lead up to
+-- The side before a position, by the bytes that lead up to it.
 abbrev pub side_before : List ℕ → Side
 side_before [] = nothing
 side_before (b ∷ bs) = stands (slice_index (b ∷ bs) (length bs)) (scalar_before (b ∷ bs))
 
--- what stands after a position from which these bytes go on
+-- The side behind a position, by the bytes that go on from it.
 abbrev pub side_after : List ℕ → Side
 side_after [] = nothing
 side_after (b ∷ bs) = stands b (option_map (λ (s : ℕ × ℕ). s.0) (scalar_at (b ∷ bs)))
 
--- nothing stands there
+-- Nothing is there.
 abbrev pub is_edge : Side → Bool
 is_edge nothing = true
 is_edge (stands b c) = false
 
--- this byte stands there
+-- This byte is there.
 abbrev pub has_byte : ℕ → Side → Bool
 has_byte k nothing = false
 has_byte k (stands b c) = b == k
 
--- a letter, a digit or `_` of ASCII
+-- An ASCII letter, an ASCII digit or `_`.
 abbrev pub is_word_byte : ℕ → Bool
 is_word_byte b = (nat_le 48 b && nat_le b 57) || (nat_le 65 b && nat_le b 90) || b == 95 || (nat_le 97 b && nat_le b 122)
 
--- a mark, a decimal number or a connecting punctuation
+-- A mark, a decimal number or a connecting punctuation.
 abbrev pub joins_words : GeneralCategory → Bool
 joins_words NonspacingMark = true
 joins_words SpacingMark = true
@@ -47,7 +47,7 @@ joins_words DecimalNumber = true
 joins_words ConnectorPunctuation = true
 joins_words _ = false
 
--- a word character of Unicode: also U+200C and U+200D
+-- A word character of Unicode: also U+200C and U+200D.
 abbrev pub is_word_scalar : ℕ → Bool
 is_word_scalar c = is_alphabetic c || joins_words (general_category c) || c == 0x200C || c == 0x200D
 
@@ -60,7 +60,7 @@ is_unicode_word nothing = false
 is_unicode_word (stands b None) = false
 is_unicode_word (stands b (Some c)) = is_word_scalar c
 
--- bytes stand there, and no scalar
+-- Bytes are there, and no scalar.
 abbrev pub is_broken : Side → Bool
 is_broken nothing = false
 is_broken (stands b None) = true
@@ -70,8 +70,8 @@ abbrev pub differ : Bool → Bool → Bool
 differ true b = not b
 differ false b = b
 
--- The assertion holds between what stands before and what stands after. Lines end at the terminator, or with CRLF at a CR, an LF, or
--- both as one end.
+-- The assertion holds between the two sides. Lines end at the terminator; or with CRLF at a CR, an
+-- LF, or both as one end.
 abbrev pub holds_between : ℕ → Side → Side → Look → Bool
 holds_between terminator before after Start = is_edge before
 holds_between terminator before after End = is_edge after

@@ -1,4 +1,4 @@
--- The list of matches, and the pieces between them.
+-- Lists of matches: all matches of a search, and the pieces between them.
 use Rattle.std.specs.Prelude.{◌≡◌, ℕ, zero, suc, ◌+◌, ◌-◌, ◌<◌, ◌≤◌, Bool, false, ◌&&◌, List, [], ◌∷◌, length, take, Option, Some, None, if◌then◌else◌, nat_eq, min, max}
 use Rattle.rc_text.specs.Found.{Found}
 use Rattle.rc_text.specs.declared.types.Span.{Span}
@@ -6,12 +6,12 @@ use Rattle.rc_program.specs.Answer.{Search, answer}
 
 -- Over matches of any kind: `begin` and `end` give the span of one.
 module _ {X : Type 0} (begin end : X → ℕ) where
-  -- the match is empty, and ends where the one before ended
+  -- The match is empty, and ends where the one before ended.
   abbrev pub is_again : Option ℕ → X → Bool
   is_again None m = false
   is_again (Some last) m = nat_eq (begin m) (end m) && nat_eq (end m) last
 
-  -- each begins where the one before ended or later, and ends after it, and no later than `high`
+  -- Each begins where the one before ended or later, and ends after it, and no later than `high`.
   abbrev pub AreInOrder : ℕ → List X → Type 0
   AreInOrder high [] = Unit {0}
   AreInOrder high (m ∷ []) = (begin m ≤ end m) × (end m ≤ high)
@@ -23,11 +23,11 @@ module _ {X : Type 0} (begin end : X → ℕ) (find : ℕ → Option X) where
   unless_again k last None = None
   unless_again k last (Some m) = if is_again begin end last m then find (k + 1) else Some m
 
-  -- the match from k on, where the one before ended at `last`
+  -- The match from k on, if the one before ended at `last`.
   abbrev pub next_match : ℕ → Option ℕ → Option X
   next_match k last = unless_again k last (find k)
 
-  -- These are the matches from k on, where the one before ended at `last`.
+  -- These are the matches from k on, if the one before ended at `last`.
   pub data AreMatches : ℕ → Option ℕ → List X → Type 0 where
     ends : {k : ℕ} {last : Option ℕ} → next_match k last ≡ None → AreMatches k last []
     goes_on : {k : ℕ} {last : Option ℕ} {ms : List X} (m : X) → next_match k last ≡ Some m →
@@ -37,12 +37,12 @@ module _ {X : Type 0} (begin end : X → ℕ) (find : ℕ → Option X) where
   and_on rest None = []
   and_on rest (Some m) = m ∷ rest m
 
-  -- the first n of them
+  -- The first n of them.
   abbrev pub matches_by : ℕ → ℕ → Option ℕ → List X
   matches_by zero k last = []
   matches_by (suc n) k last = and_on (λ m. matches_by n (end m) (Some (end m))) (next_match k last)
 
-  -- a match from k on begins at k and at `low` or later, and ends at `high` or before
+  -- A match from k on begins at k and at `low` or later, and ends at `high` or before.
   abbrev pub LiesWithin : ℕ → ℕ → Type 0
   LiesWithin low high = (k : ℕ) (m : X) → find k ≡ Some m → (k ≤ begin m) × (low ≤ begin m) × (begin m ≤ end m) × (end m ≤ high)
 
@@ -52,47 +52,47 @@ begin_of m = m.start
 abbrev pub end_of : Found → ℕ
 end_of m = m.end
 
--- the same search, with the span's start at k
+-- The same search, with the span's start at k.
 abbrev pub from_on : Search → ℕ → Search
 from_on s k = record s { lo = max k s.text.slice_start }
 
 abbrev pub answer_from : Search → ℕ → Option Found
 answer_from s k = answer (from_on s k)
 
--- the matches that are left where the span starts at k, and the match before ended at `last`
+-- The matches that are left if the span starts at k, and the match before ended at `last`.
 unfoldable pub matches_left : Search → ℕ → Option ℕ → List Found
 matches_left s k last = matches_by begin_of end_of (answer_from s) (s.hi + 1 - k) k last
 
--- the pieces from `from` on
+-- The pieces from `from` on.
 abbrev pub pieces_from : ℕ → ℕ → List Found → List Span
 pieces_from from hi [] = record { start = from; end = hi } ∷ []
 pieces_from from hi (m ∷ ms) = record { start = from; end = m.start } ∷ pieces_from m.end hi ms
 
--- the pieces between the matches, from 0 to hi
+-- The pieces between the matches, from 0 to hi.
 abbrev pub pieces_of : ℕ → List Found → List Span
 pieces_of hi ms = pieces_from 0 hi ms
 
--- at most so many pieces from `from` on: the last one takes in what further matches would cut
+-- At most so many pieces from `from` on: the last one takes in what further matches would cut.
 abbrev pub pieces_left : ℕ → ℕ → ℕ → List Found → List Span
 pieces_left zero from hi ms = []
 pieces_left (suc n) from hi ms = pieces_from from hi (take n ms)
 
--- at most so many pieces, from 0 to hi
+-- At most so many pieces, from 0 to hi.
 abbrev pub pieces_at_most : ℕ → ℕ → List Found → List Span
 pieces_at_most n hi ms = pieces_left n 0 hi ms
 
--- a piece, a match, a piece, and so on
+-- A piece, a match, a piece, and so on.
 abbrev pub in_turn : List Span → List Found → List Span
 in_turn [] ms = []
 in_turn (p ∷ ps) [] = p ∷ ps
 in_turn (p ∷ ps) (m ∷ ms) = p ∷ record { start = m.start; end = m.end } ∷ in_turn ps ms
 
--- each begins where the one before ends, the first at `from`, and the last ends at `to`
+-- Each begins where the one before ends, the first at `from`, and the last ends at `to`.
 abbrev pub AreJoined : ℕ → ℕ → List Span → Type 0
 AreJoined from to [] = from ≡ to
 AreJoined from to (s ∷ spans) = (s.start ≡ from) × (s.start ≤ s.end) × AreJoined s.end to spans
 
--- what the list of matches is, where the span starts at k
+-- What the list of matches is, if the span starts at k.
 pub record MatchesLaw : Type 0 where
   pub are_matches : (s : Search) (k : ℕ) → AreMatches begin_of end_of (answer_from s) k None (matches_left s k None)
   pub alone : (s : Search) (k : ℕ) (ms : List Found) → AreMatches begin_of end_of (answer_from s) k None ms → ms ≡ matches_left s k None
@@ -100,13 +100,13 @@ pub record MatchesLaw : Type 0 where
   pub few : (s : Search) (k : ℕ) → length (matches_left s k None) ≤ s.hi + 1 - max k s.text.slice_start
   pub within : (s : Search) → LiesWithin begin_of end_of (answer_from s) s.text.slice_start s.hi
 
--- what the pieces are between matches in order, also where their number is limited
+-- What the pieces between matches in order are, also if their number is limited.
 pub record PiecesLaw : Type 0 where
   pub count : (hi : ℕ) (ms : List Found) → length (pieces_of hi ms) ≡ length ms + 1
   pub cover : (hi : ℕ) (ms : List Found) → AreInOrder begin_of end_of hi ms → AreJoined 0 hi (in_turn (pieces_of hi ms) ms)
-  -- there are as many as the limit allows, and they cover the same
+  -- There are as many as the limit allows, and they cover the same.
   pub limited_count : (n hi : ℕ) (ms : List Found) → length (pieces_at_most n hi ms) ≡ min n (length ms + 1)
   pub limited_cover : (n hi : ℕ) (ms : List Found) → AreInOrder begin_of end_of hi ms →
       AreJoined 0 hi (in_turn (pieces_at_most (suc n) hi ms) (take n ms))
-  -- a limit that isn't met changes nothing
+  -- A limit that isn't reached changes nothing.
   pub unlimited : (n hi : ℕ) (ms : List Found) → length ms < n → pieces_at_most n hi ms ≡ pieces_of hi ms

@@ -1,4 +1,4 @@
--- The program that places in code are.
+-- Conversions: the program that places in code are.
 use Rattle.std.specs.Prelude.{List, [], ◌∷◌, map}
 use Rattle.rc_pattern.specs.Meaning.{byte_range, char_range}
 use Rattle.rc_program.specs.Program.{Place, choice, byte, scalar, guard, slot, accept}

@@ -1,4 +1,4 @@
--- What a search over an input is.
+-- Searches: what a search over an input is.
 use Rattle.std.specs.Prelude.{◌≡◌, ℕ, ◌<◌, ◌≤◌, Bool, false, ◌&&◌, ◌||◌, List, [], ◌∷◌, length}
 use Rattle.rc_text.specs.declared.types.Anchored.{Anchored}
 use Rattle.rc_text.specs.declared.types.Anchored.TheVariants.{No, Yes, Pattern}
@@ -15,7 +15,7 @@ anchoring_of No = anywhere
 anchoring_of Yes = at_start
 anchoring_of (Pattern p) = by_pattern p
 
--- what a search sees of an input
+-- What a search sees of an input.
 abbrev pub text_of : ℕ → Searched → Text
 text_of terminator s = record {
   content = s.content;
@@ -24,7 +24,7 @@ text_of terminator s = record {
   terminator = terminator;
 }
 
--- the search of an input by a program
+-- The search of an input by a program.
 abbrev pub search_over : List Place → ℕ → Bool → Searched → Search
 search_over places terminator passes_over s = record {
   places = places;
@@ -35,28 +35,29 @@ search_over places terminator passes_over s = record {
   passes_over = passes_over;
 }
 
--- What a regex seeks: its patterns, whether its program has their groups, the line terminator, and whether empty matches stand on
--- boundaries alone.
+-- What a regex is for: its patterns, whether its program has their groups, the line terminator, and
+-- whether empty matches may only be on boundaries.
 pub record Sought : Type 0 where
   pub patterns : List Re
   pub grouped : Bool
   pub terminator : ℕ
   pub utf8_empty : Bool
 
--- the least length of some pattern is 0
+-- The least length of some pattern is 0.
 abbrev pub may_be_empty : List Re → Bool
 may_be_empty [] = false
 may_be_empty (h ∷ hs) = is_zero (minimum_len h) || may_be_empty hs
 
--- passing over is in play
+-- Matches may be passed over.
 abbrev pub passes_over : Sought → Bool
 passes_over q = q.utf8_empty && may_be_empty q.patterns
 
--- the search of an input by a regex
+-- The search of an input by a regex.
 abbrev pub search_for : Sought → Searched → Search
 search_for q s = search_over (program (shown q.grouped q.patterns)) q.terminator (passes_over q) s
 
--- An engine may run over the places: it is entered at place 0, no way leads out, and a pattern's number is one of `PatternID`.
+-- An engine may run over the places: it is entered at place 0, no way leads out, and a pattern's
+-- number is one of `PatternID`.
 pub record IsRunnable (places : List Place) : Type 0 where
   pub rooted : 0 < length places
   pub closed : IsClosed places

@@ -1,16 +1,16 @@
--- Where a pattern spells the content from i to j, with no word of places or ways.
+-- Pattern semantics: when a pattern spells the content from i to j, without places or ways.
 use Rattle.std.specs.Prelude.{◌≡◌, ℕ, zero, suc, ◌+◌, ◌≤◌, ◌⊎◌, List, [], ◌∷◌, Option, Some, None, IsTrue, slice_get, encode_utf8}
 use Rattle.std.specs.Char.{IsScalar}
 use Rattle.rc_pattern.specs.Re.{Re, empty, literal, byte_in, char_in, look, repeat, capture, cat, alt, none}
 use Rattle.rc_program.specs.Text.{Text, holds}
 use Rattle.rc_program.specs.Program.{in_ranges}
 
--- n turns of R, end to end
+-- n turns of R, end to end.
 abbrev pub Turns : (ℕ → ℕ → Type 0) → ℕ → ℕ → ℕ → Type 0
 Turns R zero i j = i ≡ j
 Turns R (suc n) i j = (k : ℕ) × R i k × Turns R n k j
 
--- these bytes stand from i to j
+-- The content has these bytes from i to j.
 abbrev pub Stands : List ℕ → List ℕ → ℕ → ℕ → Type 0
 Stands content [] i j = i ≡ j
 Stands content (b ∷ bs) i j = (slice_get content i ≡ Some b) × Stands content bs (i + 1) j
@@ -31,7 +31,7 @@ Spells t (cat a rest) i j = (k : ℕ) × Spells t a i k × Spells t rest k j
 Spells t (alt a rest) i j = Spells t a i j ⊎ Spells t rest i j
 Spells t none i j = ⊥
 
--- p is the number of a pattern that spells i to j, where the first has the number n
+-- p is the number of a pattern that spells i to j, if the first has the number n.
 abbrev pub SpelledBy : Text → ℕ → List Re → ℕ → ℕ → ℕ → Type 0
 SpelledBy t n [] p i j = ⊥
 SpelledBy t n (h ∷ hs) p i j = ((p ≡ n) × Spells t h i j) ⊎ SpelledBy t (n + 1) hs p i j

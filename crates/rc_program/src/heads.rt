@@ -11,15 +11,15 @@ use crate::place::Place;
 use rc_pattern::hir::{ClassBytesRange, ClassUnicodeRange};
 use std::alloc::{AllocError, Global};
 
-/// The greatest number of places that may be reached from a place without reading, if it is to get
-/// flags. So a build stays linear.
+/// A place gets no set if more places than these are reached from it without reading. So a build
+/// stays linear.
 const MOST_REACHED: usize = 62;
 
-/// The number of the first place that gets no flags. So the flags stay within 4 MiB.
+/// Places from this number on get no set. So all sets take at most 4 MiB.
 const MOST_PLACES: usize = 16_384;
 
-/// Returns for each place the bytes over which a walk may go on from there, as `Program` keeps
-/// them.
+/// Returns the first-byte set of each place, as `Program` keeps it: 256 flags, or none. `Err` means
+/// out of memory.
 pub fn heads_of(alloc: Global, places: &[Place]) -> Result<Vec<Vec<bool>>, AllocError>
     ensures { IfOk result (λ tables. AreHeads (places_of places.now) (flags_in tables.items)) }
 {
@@ -33,8 +33,9 @@ pub fn heads_of(alloc: Global, places: &[Place]) -> Result<Vec<Vec<bool>>, Alloc
     Ok(tables)
 }
 
-/// The flags of a place. `None` if one byte is to be compared, if no walk goes on at all or one
-/// ends, or if too many places are reached. `opened` and `spots` are scratch space.
+/// Returns the first-byte set of the place. It has no flags if the place compares a single byte, if
+/// it is a match or a dead end, and if too many places are reached. `opened` and `spots` are
+/// scratch memory. `Err` means out of memory.
 fn flags_of(
     alloc: Global,
     places: &[Place],
@@ -61,8 +62,8 @@ fn flags_of(
     Ok(flags)
 }
 
-/// Marks as open the places that are reached from this one without reading. Returns false if there
-/// are too many.
+/// Lists the places that are reached from this one without reading. Returns false if there are too
+/// many.
 fn open_all(
     opened: &mut Vec<usize>,
     spots: &mut [usize],
@@ -86,7 +87,7 @@ fn open_all(
     Ok(false)
 }
 
-/// Marks as open the places to which a place leads without reading.
+/// Lists the places to which epsilon ways lead from one.
 fn open_from(
     opened: &mut Vec<usize>,
     spots: &mut [usize],
@@ -108,8 +109,8 @@ fn open_from(
     }
 }
 
-/// Marks a place as open, unless it is. `spots` has the index in `opened` at which it was put last,
-/// so one look shows whether it is open.
+/// Lists a place unless it is there. `spots` has the index at which it was listed last, so one
+/// lookup tells whether it still is.
 fn open(opened: &mut Vec<usize>, spots: &mut [usize], place: usize) -> Result<(), AllocError>
     ensures { OnOk result (Opens (place ∷ []) opened.old.items opened.new.items) }
 {
@@ -124,7 +125,7 @@ fn open(opened: &mut Vec<usize>, spots: &mut [usize], place: usize) -> Result<()
     Ok(())
 }
 
-/// The bytes that these places take.
+/// Returns 256 flags: which bytes these places take.
 fn joined(alloc: Global, places: &[Place], opened: &[usize]) -> Result<Vec<bool>, AllocError>
     ensures { IfOk result (λ flags. AreFlags (places_of places.now) opened.now flags.items) }
 {
@@ -145,7 +146,7 @@ fn join_at(flags: &mut [bool], places: &[Place], number: usize)
     }
 }
 
-/// Sets the flags of the bytes that the place takes, or of all if a walk ends there.
+/// Sets the flags of the bytes that the place takes, or all flags if a walk ends there.
 fn join(flags: &mut [bool], place: &Place)
     requires { length flags.old ≡ 256 }
     ensures { AreJoined 256 (may_take (place_of place.now)) flags.old flags.new }
@@ -172,7 +173,7 @@ fn fill_bytes(flags: &mut [bool], ranges: &[ClassBytesRange])
     }
 }
 
-/// Sets the flags of the characters of the ranges that are one byte.
+/// Sets the flags of the ASCII characters of the ranges.
 fn fill_scalars(flags: &mut [bool], ranges: &[ClassUnicodeRange])
     requires { length flags.old ≡ 256 }
     ensures { AreJoined 128 (in_ranges (map char_range ranges.now)) flags.old flags.new }
@@ -184,7 +185,7 @@ fn fill_scalars(flags: &mut [bool], ranges: &[ClassUnicodeRange])
     }
 }
 
-/// Sets the flags from `low` to `high`.
+/// Sets the flags from `low` to `high`, both included.
 fn fill(flags: &mut [bool], low: usize, high: usize)
     requires whole { length flags.old ≡ 256 }
     requires within { high < 256 }

@@ -6,11 +6,11 @@ ghost use Rattle.rc_program.specs.Looks.{side_before, side_after, has_byte, is_w
 use rc_pattern::hir::Look;
 use unicode::properties::{GeneralCategory, is_alphabetic};
 
-/// Whether the assertion holds at a position: `before` are the bytes that lead up to it, and
-/// `after` those that follow. Lines end at the byte `terminator`; for `StartCRLF` and `EndCRLF`
-/// they end at CR, LF, or both together.
+/// Whether the assertion holds at a position: `before` are the bytes before it, and `after` those
+/// behind it. Lines end at the byte `terminator`, except that `StartCRLF` and `EndCRLF` take CR,
+/// LF, and both together as one line end.
 ///
-/// The four bytes next to the position are enough on each side.
+/// Of longer bytes, the four next to the position are enough.
 pub fn holds(look: Look, terminator: u8, before: &[u8], after: &[u8]) -> bool
     ensures { result ≡ holds_between terminator (side_before before.now) (side_after after.now) look }
 {
@@ -39,8 +39,8 @@ pub fn holds(look: Look, terminator: u8, before: &[u8], after: &[u8]) -> bool
     }
 }
 
-/// The character whose UTF-8 bytes begin these, and how many bytes it has, from 1 to 4. `None` if
-/// no character begins the bytes.
+/// Returns the scalar with whose UTF-8 bytes these begin, and its length in bytes, from 1 to 4.
+/// Returns None if the bytes begin with no scalar.
 pub fn scalar_at(bytes: &[u8]) -> Option<(char, usize)>
     ensures { result ≡ scalar_at bytes.now }
 {
@@ -59,7 +59,8 @@ pub fn scalar_at(bytes: &[u8]) -> Option<(char, usize)>
     }
 }
 
-/// The character whose UTF-8 bytes end these. `None` if no character ends the bytes.
+/// Returns the scalar with whose UTF-8 bytes these end. Returns None if the bytes end with no
+/// scalar.
 pub fn scalar_before(bytes: &[u8]) -> Option<char>
     ensures { result ≡ scalar_before bytes.now }
 {
@@ -75,7 +76,7 @@ pub fn scalar_before(bytes: &[u8]) -> Option<char>
     scalar_of_last(4, bytes)
 }
 
-/// Whether the character is a word character: it is alphabetic, a mark, a decimal number or a
+/// Whether the character belongs to words: it is alphabetic, a mark, a decimal number or a
 /// connecting punctuation, or one of the two joiners U+200C and U+200D.
 pub fn is_word_char(c: char) -> bool
     ensures { result ≡ is_word_scalar c }
@@ -90,12 +91,14 @@ pub fn is_word_char(c: char) -> bool
         || code == 0x200D
 }
 
+/// Whether the byte is an ASCII letter, an ASCII digit or `_`.
 fn is_word_byte(byte: u8) -> bool
     ensures { result ≡ is_word_byte byte }
 {
     matches!(byte, b'0'..=b'9' | b'A'..=b'Z' | b'_' | b'a'..=b'z')
 }
 
+/// Whether characters of the category belong to words though they aren't alphabetic.
 fn joins_words(category: GeneralCategory) -> bool
     ensures { result ≡ joins_words category }
 {
@@ -109,18 +112,21 @@ fn joins_words(category: GeneralCategory) -> bool
     )
 }
 
+/// Whether the last byte is this one.
 fn ends_with(bytes: &[u8], byte: u8) -> bool
     ensures { result ≡ has_byte byte (side_before bytes.now) }
 {
     !bytes.is_empty() && bytes[bytes.len() - 1] == byte
 }
 
+/// Whether the first byte is this one.
 fn begins_with(bytes: &[u8], byte: u8) -> bool
     ensures { result ≡ has_byte byte (side_after bytes.now) }
 {
     !bytes.is_empty() && bytes[0] == byte
 }
 
+/// Whether a line begins at the position, if lines end at CR, LF, or both together.
 fn begins_line(before: &[u8], after: &[u8]) -> bool
     ensures { result ≡ holds_between 10 (side_before before.now) (side_after after.now) Look.StartCRLF }
 {
@@ -129,6 +135,7 @@ fn begins_line(before: &[u8], after: &[u8]) -> bool
         || (ends_with(before, b'\r') && !begins_with(after, b'\n'))
 }
 
+/// Whether a line ends at the position, if lines end at CR, LF, or both together.
 fn ends_line(before: &[u8], after: &[u8]) -> bool
     ensures { result ≡ holds_between 10 (side_before before.now) (side_after after.now) Look.EndCRLF }
 {
@@ -137,18 +144,21 @@ fn ends_line(before: &[u8], after: &[u8]) -> bool
         || (begins_with(after, b'\n') && !ends_with(before, b'\r'))
 }
 
+/// Whether the last byte is an ASCII word byte.
 fn ascii_word_before(before: &[u8]) -> bool
     ensures { result ≡ is_ascii_word (side_before before.now) }
 {
     !before.is_empty() && is_word_byte(before[before.len() - 1])
 }
 
+/// Whether the first byte is an ASCII word byte.
 fn ascii_word_after(after: &[u8]) -> bool
     ensures { result ≡ is_ascii_word (side_after after.now) }
 {
     !after.is_empty() && is_word_byte(after[0])
 }
 
+/// Whether it is known that no word character is there.
 fn is_no_word(word: Option<bool>) -> bool
     ensures { result ≡ (not (is_none word) && not (unwrap_or word false)) }
 {
@@ -158,6 +168,7 @@ fn is_no_word(word: Option<bool>) -> bool
     }
 }
 
+/// Whether both are known, and are the same.
 fn are_same(before: Option<bool>, after: Option<bool>) -> bool
     ensures { result ≡ (not (is_none before) && not (is_none after) && not (differ (unwrap_or before false) (unwrap_or after false))) }
 {
@@ -168,7 +179,7 @@ fn are_same(before: Option<bool>, after: Option<bool>) -> bool
     }
 }
 
-// Whether a word character is before a position; `None` if there are bytes and no character.
+// Whether a word character is before the position. Returns None if bytes are there, but no scalar.
 fn word_before(before: &[u8]) -> Option<bool>
     ensures word { unwrap_or result false ≡ is_unicode_word (side_before before.now) }
     ensures broken { is_none result ≡ is_broken (side_before before.now) }
@@ -180,7 +191,7 @@ fn word_before(before: &[u8]) -> Option<bool>
     Some(is_word_char(c))
 }
 
-// Whether a word character is after a position; `None` if there are bytes and no character.
+// Whether a word character is behind the position. Returns None if bytes are there, but no scalar.
 fn word_after(after: &[u8]) -> Option<bool>
     ensures word { unwrap_or result false ≡ is_unicode_word (side_after after.now) }
     ensures broken { is_none result ≡ is_broken (side_after after.now) }
@@ -192,7 +203,7 @@ fn word_after(after: &[u8]) -> Option<bool>
     Some(is_word_char(c))
 }
 
-// The character that the last `count` bytes are, if they are exactly one.
+// Returns the scalar of the last `count` bytes, if it takes all of them.
 fn scalar_of_last(count: usize, bytes: &[u8]) -> Option<char>
     ensures { result ≡ scalar_of_last count bytes.now }
 {
@@ -201,13 +212,14 @@ fn scalar_of_last(count: usize, bytes: &[u8]) -> Option<char>
     if taken == last.len() { Some(c) } else { None }
 }
 
+/// Whether the byte is a continuation byte of UTF-8.
 fn continues(byte: u8) -> bool
     ensures { result ≡ continues byte }
 {
     byte >= 128 && byte < 192
 }
 
-// The character with this code, and its number of bytes. `None` if the code is below `least`.
+// Returns the scalar with its length in bytes, unless it is less than `least`, and so overlong.
 fn in_bytes(count: usize, least: u32, code: u32) -> Option<(char, usize)>
     ensures { result ≡ in_bytes count least code }
 {
@@ -218,6 +230,7 @@ fn in_bytes(count: usize, least: u32, code: u32) -> Option<(char, usize)>
     Some((c, count))
 }
 
+/// Returns the scalar of two bytes, by its first byte's low five bits and the bytes behind.
 fn of_two(lead: u8, rest: &[u8]) -> Option<(char, usize)>
     requires { lead < 32 }
     ensures { result ≡ of_two lead rest.now }
@@ -228,6 +241,7 @@ fn of_two(lead: u8, rest: &[u8]) -> Option<(char, usize)>
     in_bytes(2, 0x80, u32::from(lead) * 64 + u32::from(rest[0] - 128))
 }
 
+/// Returns the scalar of three bytes, by its first byte's low four bits and the bytes behind.
 fn of_three(lead: u8, rest: &[u8]) -> Option<(char, usize)>
     requires { lead < 16 }
     ensures { result ≡ of_three lead rest.now }
@@ -239,6 +253,7 @@ fn of_three(lead: u8, rest: &[u8]) -> Option<(char, usize)>
     in_bytes(3, 0x800, code)
 }
 
+/// Returns the scalar of four bytes, by its first byte's low three bits and the bytes behind.
 fn of_four(lead: u8, rest: &[u8]) -> Option<(char, usize)>
     requires { lead < 8 }
     ensures { result ≡ of_four lead rest.now }

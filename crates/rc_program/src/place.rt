@@ -17,9 +17,9 @@ pub enum Place {
     Bytes(Vec<ClassBytesRange>, usize),
     /// One way out, over the bytes of one scalar of the ranges.
     Scalar(Vec<ClassUnicodeRange>, usize),
-    /// One way out, if the assertion holds.
+    /// One way out, which reads nothing, if the assertion holds.
     Guard(Look, usize),
-    /// One way out, and the slot that a visit here fills.
+    /// One way out, which reads nothing, and the slot that is set here.
     Slot(usize, usize),
     /// The match place of a pattern.
     Accept(usize),

@@ -7,26 +7,25 @@ ghost use Rattle.rc_program.specs.Places.{places_of};
 
 use crate::place::Place;
 
-/// A program that is ready for searches: it is entered at place 0, no way leads outside, and the
-/// number of each pattern is a valid `PatternID`.
+/// A program that is ready to be searched with: it is entered at place 0, no way leads out of it,
+/// and each pattern's number is one of `PatternID`.
 #[derive(Drop)]
 pub struct Program {
     /// The places. Walks enter at place 0.
     pub places: Vec<Place>,
-    /// The byte at which lines end, if an assertion asks for lines.
+    /// The byte at which lines end, for assertions on lines.
     pub terminator: u8,
     /// Whether matches that end off a character boundary are passed over.
     pub passes_over: bool,
-    /// For each place 256 flags: over which bytes a walk may go on from there. It is empty if that
-    /// wasn't computed.
+    /// For each place its first-byte set: 256 flags, or none if it has no set.
     pub heads: Vec<Vec<bool>>,
     ghost runnable: { IsRunnable (places_of places.items) },
     ghost closed_over: { AreHeads (places_of places.items) (flags_in heads.items) },
 }
 
 impl Program {
-    /// The 256 flags of a place: over which bytes a walk may go on from there, whatever assertions
-    /// say. `None` if that wasn't computed.
+    /// Returns the first-byte set of the place: for each of 256 bytes, whether a walk may go on
+    /// from there over it, whatever assertions say. Returns None if the place has no set.
     #[inline(always)]
     #[tactic(auto, using(crate::proofs::HeadsLemmas::flags_tell))]
     pub fn head_table(&self, place: usize) -> Option<&[bool]>
@@ -37,8 +36,8 @@ impl Program {
         if flags.is_empty() { None } else { Some(flags) }
     }
 
-    /// Whether a walk may go on from the place over the byte, whatever assertions say. `None` if
-    /// that wasn't computed.
+    /// Whether a walk may go on from the place over the byte, whatever assertions say. Returns None
+    /// if the place has no first-byte set.
     #[inline(always)]
     pub fn may_go_on(&self, place: usize, byte: u8) -> Option<bool>
         requires { place < length self.now.places.items }

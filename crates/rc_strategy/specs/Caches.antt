@@ -1,4 +1,4 @@
--- What caches are made for, and what searches leave of them.
+-- Caches: what they are made for, and what searches leave of them.
 use Rattle.std.specs.Prelude.{◌≡◌, ℕ, Option, Some, None, IfSome}
 use Rattle.rc_pikevm.specs.Caches.{IsCacheFor}
 use Rattle.rc_lazy_dfa.specs.Caches.{IsCacheOf, usage_of}
@@ -9,7 +9,7 @@ use Rattle.rc_strategy.specs.Plans.{LazyPlan, ServesLazy}
 use Rattle.rc_strategy.specs.declared.cache.Cache.{Cache}
 use Rattle.rc_strategy.specs.declared.engines.Engines.{Engines}
 
--- where there are both, the cache was made for the tables
+-- If there are both, the cache was made for the lazy DFA.
 abbrev pub IsCacheOfBoth : Option Lazy → Option made.Cache → Type 0
 IsCacheOfBoth None c = Unit {0}
 IsCacheOfBoth (Some l) None = Unit {0}
@@ -20,7 +20,8 @@ pub record IsCacheIn (e : Engines) (slots : ℕ) (c : Cache) : Type 0 where
   pub pass : IsEngineCache e.engine slots c.pass
   pub lazy : IsCacheOfBoth e.lazy c.lazy
 
--- what was the one cache is the other: one that was made for the tables, or, where there are none, as it was
+-- What was the first cache is the second: one that was made for the lazy DFA, or, without one, as
+-- it was.
 abbrev pub KeepsStates : Option Lazy → Option made.Cache → Option made.Cache → Type 0
 KeepsStates None c d = d ≡ c
 KeepsStates (Some l) None d = d ≡ None
@@ -32,12 +33,13 @@ pub record IsSameCacheIn (e : Engines) (c d : Cache) : Type 0 where
   pub pass : IsSameCache c.pass d.pass
   pub lazy : KeepsStates e.lazy c.lazy d.lazy
 
--- The cache was made for programs of so many places, searches with so many slots, and whatever tables are made by the plan.
+-- The cache was made for programs of so many places, searches with so many slots, and any lazy DFA
+-- that is built by the plan.
 pub record IsCacheBy (places slots : ℕ) (plan : LazyPlan) (c : Cache) : Type 0 where
   pub pass : IsCacheFor places slots c.pass
   pub lazy : IfSome c.lazy (ServesLazy plan)
 
--- how many bytes hold the states that were met, in both directions
+-- How many bytes the states take that were reached, in both directions.
 abbrev pub states_taken : Option made.Cache → ℕ
 states_taken None = 0
 states_taken (Some c) = usage_of c

@@ -1,5 +1,6 @@
 -- Only proofs use this file.
--- What runs from needles tell of where a match is to be sought, if any is enough.
+-- Prefilters: what runs from needles find out about where a match is to be looked for, if any is
+-- enough.
 use Rattle.std.specs.Prelude.{◌≡◌, ℕ, ◌<◌, ◌≤◌, ◌&&◌, true, false, nat_lt, nat_le, Option, Some, None, Result, Ok, Err, if◌then◌else◌}
 use Rattle.rc_text.specs.declared.types.Anchored.{Anchored}
 use Rattle.rc_text.specs.declared.types.Anchored.TheVariants.{No}
@@ -17,7 +18,8 @@ use Rattle.rc_dfa_search.specs.declared.search.Aim.{Aim}
 use Rattle.rc_strategy.specs.declared.needles.Leg.{Leg}
 use Rattle.rc_strategy.specs.declared.needles.Leg.TheVariants.{Nowhere, Here, Later}
 
--- The search goes from needle to needle: it isn't anchored, any match of these is enough, and none is passed over.
+-- The search goes from needle to needle: it isn't anchored, it is leftmost, any match is enough,
+-- and none is passed over.
 pub record GoesEarly (aim : Aim) (anchored : Anchored) : Type 0 where
   pub kind : IsLeftmost aim.kind
   pub early : aim.earliest ≡ true
@@ -31,7 +33,7 @@ met_leg None = Nowhere
 abbrev pub idle_leg : ℕ → ℕ → ℕ → Leg
 idle_leg i from hi = if nat_lt from i && nat_le i hi then Later i else Here
 
--- what the end of a run tells
+-- What the end of a run says.
 abbrev pub leg_of : Ended → ℕ → ℕ → Result Leg error.MatchError
 leg_of (endings.Found met) from hi = Ok (met_leg met)
 leg_of (endings.Idle i) from hi = Ok (idle_leg i from hi)
@@ -44,7 +46,7 @@ Tells kind m s from Nowhere = StartsGive kind m s from None
 Tells kind m s from Here = Unit {0}
 Tells kind m s from (Later i) = GivesToo kind m s i from
 
--- a later position lies behind
+-- A later position is behind.
 abbrev pub ComesOn : ℕ → ℕ → Leg → Type 0
 ComesOn from hi (Later i) = (from < i) × (i ≤ hi)
 ComesOn from hi leg = Unit {0}

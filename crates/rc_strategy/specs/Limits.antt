@@ -1,5 +1,5 @@
 -- Only proofs use this file.
--- Whether tables are made.
+-- DFA choice: whether a DFA is built.
 use Rattle.std.specs.Prelude.{◌≡◌, ◌⊎◌, ℕ, ◌<◌, false, List, length, Option, IsSome, IsSomeAnd}
 use Rattle.rc_pattern.specs.Re.{Re}
 use Rattle.rc_program.specs.Program.{program}
@@ -13,20 +13,23 @@ use Rattle.rc_pikevm_search.specs.Choices.{answering_for}
 use Rattle.rc_pikevm_search.specs.declared.engine.Engine.{Engine}
 use Rattle.rc_strategy.specs.declared.engines.Limits.{Limits}
 
--- None of all states may be made: they are switched off, or the byte program has more places than the limit allows.
+-- The DFA may not be built: it is switched off, or the byte program has more places than the limit
+-- allows.
 abbrev pub AreOff : List Re → Limits → Type 0
 AreOff hs limits = (limits.dfa ≡ false) ⊎ IsSomeAnd limits.state_limit (λ most. most < length (bytes_of (program hs)))
 
--- No tables serve: needles alone tell each answer.
+-- No DFA serves: literals alone decide each answer.
 abbrev pub NoneServe : Engine → Type 0
 NoneServe e = IsSome (answering_for e.kind e.strategy)
 
--- None of all states may be made of the patterns: they are switched off, or none serve, or the byte program has more places than the limit allows.
+-- The DFA of the patterns may not be built: it is switched off, or none serves, or the byte program
+-- has more places than the limit allows.
 abbrev pub AreBarred : Engine → List Re → Limits → Type 0
 AreBarred e hs limits =
     (limits.dfa ≡ false) ⊎ (NoneServe e ⊎ IsSomeAnd limits.state_limit (λ most. most < length (bytes_of (program hs))))
 
--- In one of the directions what holds some of the states that searches can reach, none twice, weighs more than the limit.
+-- In one of the directions, some of the states that searches can reach, none of them twice, weigh
+-- more than the limit.
 pub record AreTooHeavy (e : Engine) (hs : List Re) (limits : Limits) : Type 0 where
   pub ahead : Machine
   pub behind : Machine
@@ -37,6 +40,6 @@ pub record AreTooHeavy (e : Engine) (hs : List Re) (limits : Limits) : Type 0 wh
   pub classed_behind : IsClassing behind classes samples
   pub heavy : IsRefused ahead (length samples) limits.size_limit TooBig ⊎ IsRefused behind (length samples) limits.size_limit TooBig
 
--- None are made whose states are made as they are met: they are switched off, or there are tables of all states, or none serve.
+-- The lazy DFA is not built: it is switched off, or there is a DFA, or none serves.
 abbrev pub IsLazyBarred : Engine → Limits → Option Dense → Type 0
 IsLazyBarred e limits tables = (limits.hybrid ≡ false) ⊎ (IsSome tables ⊎ NoneServe e)

@@ -1,5 +1,5 @@
 -- Only proofs use this file.
--- Which tables are made.
+-- DFA choice: which DFAs are built.
 use Rattle.std.specs.Prelude.{◌≡◌, ◌⊎◌, ℕ, List, Option, None, IfSome}
 use Rattle.rc_pattern.specs.Re.{Re}
 use Rattle.rc_lazy_dfa.specs.declared.lazy.Lazy.{Lazy}
@@ -10,7 +10,7 @@ use Rattle.rc_strategy.specs.Plans.{IsLazyFor, IsShortFor, plan_of}
 use Rattle.rc_strategy.specs.Tables.{MayBeLazyFor, MayBeTablesFor}
 use Rattle.rc_strategy.specs.declared.engines.Limits.{Limits}
 
--- They are those of the engine's patterns, and none are left out but where the limits say so.
+-- They are those of the engine's patterns, and none is missing unless the limits say so.
 pub record AreMade (e : Engine) (patterns : ℕ) (hs : List Re) (limits : Limits) (dense : Option Dense) (met : Option Lazy) : Type 0 where
   pub fit : MayBeTablesFor e patterns dense
   pub barred : AreBarred e hs limits → dense ≡ None

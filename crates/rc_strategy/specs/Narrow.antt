@@ -1,20 +1,20 @@
--- The search over the span of a match alone.
+-- Narrowing: the search over the span of a match alone.
 use Rattle.std.specs.Prelude.{◌≡◌, ℕ, Some}
 use Rattle.rc_text.specs.Found.{Found}
 use Rattle.rc_program.specs.Answer.{Search, Chosen, IsAnswer, by_pattern, found, answer, groups}
 use Rattle.rc_program.specs.Longest.{longest, longest_groups}
 
--- the same search over the span of a match, for the match's pattern alone
+-- The same search over the span of a match, for the match's pattern alone.
 abbrev pub narrowed : Search → Found → Search
 narrowed s m = record s { lo = m.start; hi = m.end; anchoring = by_pattern m.pattern }
 
--- what it answers, where the match is the search's answer
+-- What it answers, if the match is the search's answer.
 pub record NarrowLaw : Type 0 where
-  -- the same walk
+  -- The same walk,
   pub walk : (s : Search) (c : Chosen) → IsAnswer s c → IsAnswer (narrowed s (found s c)) c
   pub match : (s : Search) (m : Found) → answer s ≡ Some m → answer (narrowed s m) ≡ Some m
-  -- with the same groups
+  -- with the same groups,
   pub groups : (s : Search) (m : Found) (n : ℕ) → answer s ≡ Some m → groups (narrowed s m) n ≡ groups s n
-  -- and so where it is the longest match of the least start
+  -- and the same if it is the leftmost-longest match.
   pub longest_match : (s : Search) (m : Found) → longest s ≡ Some m → longest (narrowed s m) ≡ Some m
   pub longest_slots : (s : Search) (m : Found) (n : ℕ) → longest s ≡ Some m → longest_groups (narrowed s m) n ≡ longest_groups s n

@@ -1,4 +1,4 @@
--- What tables are made from whose states are made as they are met.
+-- Lazy DFA: what it is built from.
 use Rattle.std.specs.Prelude.{◌≡◌, ℕ, ◌+◌, ◌<◌, Bool, List, length}
 use Rattle.rc_pattern.specs.Re.{Re}
 use Rattle.rc_text.specs.declared.types.MatchKind.{MatchKind}
@@ -15,8 +15,8 @@ use Rattle.rc_dfa_search.specs.Machines.{AreMachines}
 use Rattle.rc_pikevm_search.specs.declared.engine.Engine.{Engine}
 use Rattle.rc_strategy.specs.declared.engines.Limits.{Limits}
 
--- The patterns, the byte that ends lines, the kind of match, whether bytes that no step tells apart are of one class, and how many bytes the
--- states of each direction may weigh.
+-- The patterns, the byte that ends lines, the kind of match, whether bytes that no step tells apart
+-- are one class, and how many bytes the states of each direction may take.
 pub record LazyPlan : Type 0 where
   pub patterns : List Re
   pub terminator : ℕ
@@ -24,7 +24,7 @@ pub record LazyPlan : Type 0 where
   pub byte_classes : Bool
   pub capacity : ℕ
 
--- the plan by which tables are made for an engine's patterns
+-- The plan by which the lazy DFA of an engine's patterns is built.
 abbrev pub plan_of : Engine → List Re → Limits → LazyPlan
 plan_of e hs limits = record {
   patterns = hs;
@@ -34,17 +34,17 @@ plan_of e hs limits = record {
   capacity = limits.capacity;
 }
 
--- The tables were made by the plan.
+-- The lazy DFA was built by the plan.
 pub record IsLazyFor (plan : LazyPlan) (l : Lazy) : Type 0 where
   pub machines : AreMachines plan.patterns plan.terminator plan.kind (machine_of l.automaton Forwards) (machine_of l.automaton Backwards)
   pub classes : AreClassesOf plan.byte_classes plan.patterns plan.terminator (classes_of l.automaton)
   pub capacity_is : l.capacity ≡ plan.capacity
 
--- the cache was made for whatever tables are made by the plan
+-- The cache was made for any lazy DFA that is built by the plan.
 abbrev pub ServesLazy : LazyPlan → made.Cache → Type 0
 ServesLazy plan c = (l : Lazy) → ∥ IsLazyFor plan l ∥₁ → IsCacheOf l c
 
--- The least capacity that serves is more than the plan's.
+-- The least capacity that suffices is more than the plan's.
 pub record IsShortFor (plan : LazyPlan) : Type 0 where
   pub ahead : Machine
   pub behind : Machine

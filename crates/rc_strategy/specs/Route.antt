@@ -1,5 +1,5 @@
 -- Only proofs use this file.
--- By what a search goes, and how a search by tables does.
+-- Meta strategy: which DFA a search uses, and how it goes.
 use Rattle.std.specs.Prelude.{◌≡◌, ◌⊎◌, ⊤, Bool, true, false, Option, Some, None, MatchOption}
 use Rattle.rc_text.specs.Text.{Searched}
 use Rattle.rc_program.specs.Places.{places_of}
@@ -13,26 +13,27 @@ use Rattle.rc_strategy.specs.declared.route.Route.TheVariants.{FromEnd, Greatest
 use Rattle.rc_strategy.specs.declared.route.Way.{Way}
 use Rattle.rc_strategy.specs.declared.route.Way.TheVariants.{AllStates, MetStates, NoTables}
 
--- what guards, if anything does, may be relied on in searches by the engine's program
+-- What guards, if anything does, may be relied on in searches by the engine's program.
 abbrev pub MayGuard : Engine → Option Guard → Type 0
 MayGuard e guard = MatchOption guard ⊤ (IsGuard (places_of e.program.places.items) e.program.terminator)
 
--- What each choice of the tables relies on, where a cache holds states or none does.
+-- What each choice of a DFA relies on, if a cache has the lazy DFA's states or not.
 abbrev pub GoesBy : Engines → Bool → Way → Type 0
--- there are tables of all states
+-- There is a DFA.
 GoesBy e has_states (AllStates d) = e.tables ≡ Some d.now
--- there are none, but others, and a cache holds their states
+-- There is none, but a lazy DFA, and a cache has its states.
 GoesBy e has_states (MetStates l) = (e.tables ≡ None) × (e.lazy ≡ Some l.now) × (has_states ≡ true)
--- there are none of all states, and no others or no states of theirs
+-- There is no DFA, and either no lazy DFA or no cache with its states.
 GoesBy e has_states NoTables = (e.tables ≡ None) × ((e.lazy ≡ None) ⊎ (has_states ≡ false))
 
 -- What each route relies on.
 abbrev pub Relies : Engines → Searched → Route → Type 0
--- the match of the least start is sought, not anchored, and each ends where the slice does
+-- The kind is leftmost, the search isn't anchored, and each match ends where the slice does.
 Relies e s FromEnd = SeeksFromEnd e.engine.kind e.spans s
--- so it is with the greatest match
+-- The kind is `MatchKind::All`, the search isn't anchored, and each match ends where the slice
+-- does.
 Relies e s GreatestFromEnd = SeeksGreatestFromEnd e.engine.kind e.spans s
--- the match of the least start is sought, and each is of this length
+-- The kind is leftmost, and each match has this length.
 Relies e s (OfLength n guard) = (is_leftmost e.engine.kind ≡ true) × IsOneLength e.spans n × MayGuard e.engine guard
--- nothing but the needles
+-- Nothing but the literals.
 Relies e s (Along guard) = MayGuard e.engine guard

@@ -1,5 +1,5 @@
 -- Only proofs use this file.
--- What is known of matches before any search.
+-- Match lengths and anchors: what is known of matches before any search.
 use Rattle.std.specs.Prelude.{◌≡◌, ℕ, ◌+◌, ◌-◌, ◌≤◌, Bool, true, false, ◌&&◌, ◌||◌, List, Option, Some, None, IsTrue, nat_lt, min, max}
 use Rattle.rc_text.specs.Found.{Found}
 use Rattle.rc_text.specs.Plain.{is_anchored}
@@ -17,22 +17,23 @@ use Rattle.rc_program.specs.Answer.{Search}
 use Rattle.rc_program.specs.Greatest.{IsSpelledIn}
 use Rattle.rc_strategy.specs.declared.spans.Spans.{Spans}
 
--- The span from i to j of a text keeps to what is known: no shorter, no longer, and where each begins or ends with the slice, so does it.
+-- What is known holds of the span from i to j of a text: it is no shorter and no longer, and if
+-- each begins or ends with the slice, it does.
 pub record KeepsTo (k : Spans) (t : Text) (i j : ℕ) : Type 0 where
   pub least : i + k.least ≤ j
   pub greatest : (n : ℕ) → k.greatest ≡ Some n → j ≤ i + n
   pub begins : k.begins ≡ true → IsTrue (holds t Start i)
   pub ends : k.ends ≡ true → IsTrue (holds t End j)
 
--- each span that the pattern spells does
+-- It holds of each span that the pattern spells.
 abbrev pub Bounds : Spans → Re → Type 0
 Bounds k h = (t : Text) (i j : ℕ) → Spells t h i j → KeepsTo k t i j
 
--- each span that walks of the places spell does
+-- It holds of each span that walks of the places spell.
 abbrev pub BoundsWalks : Spans → List Place → Type 0
 BoundsWalks k places = (s : Search) (m : Found) → s.places ≡ places → IsSpelledIn s m → KeepsTo k s.text m.start m.end
 
--- what spans keep to that keep to one or the other
+-- What holds of spans if one of the two does.
 abbrev pub either : Spans → Spans → Spans
 either a b = record {
   least = min a.least b.least;
@@ -43,11 +44,11 @@ either a b = record {
 
 -- Whether there can be no match of such a span.
 
--- each begins with the slice, and the search later
+-- Each begins with the slice, and the search begins later.
 abbrev pub begin_early : Spans → Searched → Bool
 begin_early k s = k.begins && nat_lt s.slice.start (low s)
 
--- each ends with the slice, and the search before
+-- Each ends with the slice, and the search ends earlier.
 abbrev pub end_late : Spans → Searched → Bool
 end_late k s = k.ends && nat_lt (high s) (slice_end s)
 
@@ -61,34 +62,35 @@ are_shorter k n = is_below k.greatest
     is_below None = false
     is_below (Some greatest) = nat_lt greatest n
 
--- a match reaches from bound to bound
+-- A match reaches from bound to bound.
 abbrev pub must_fill : Spans → Searched → Bool
 must_fill k s = k.ends && (k.begins || is_anchored s.anchored)
 
--- each begins or ends outside the bounds, or is longer than these are apart, or, where it reaches from one to the other, shorter
+-- Each begins or ends outside the bounds, or is longer than these are apart, or must reach from one
+-- to the other and is shorter.
 abbrev pub leave_none : Spans → Searched → Bool
 leave_none k s =
     begin_early k s || ((nat_lt (high s) (low s) || end_late k s)
     || (are_longer k (high s - low s) || (must_fill k s && are_shorter k (high s - low s))))
 
--- each ends with the slice, and not each begins with it
+-- Each ends with the slice, and not each begins with it.
 abbrev pub EndAlone : Spans → Type 0
 EndAlone k = (k.ends ≡ true) × (k.begins ≡ false)
 
--- matches of the kind begin at the least start: the preferred match does, and the longest one
+-- Matches of the kind begin at the least start: leftmost-first and leftmost-longest ones do.
 abbrev pub is_leftmost : MatchKind → Bool
 is_leftmost All = false
 is_leftmost LeftmostFirst = true
 is_leftmost LeftmostLongest = true
 
--- the match of the least start is sought from the upper bound
+-- The leftmost match is searched for backwards from the upper bound.
 abbrev pub SeeksFromEnd : MatchKind → Spans → Searched → Type 0
 SeeksFromEnd kind k s = (is_leftmost kind ≡ true) × (s.anchored ≡ No) × EndAlone k
 
--- so is the greatest one
+-- The greatest match is searched for backwards from the upper bound.
 abbrev pub SeeksGreatestFromEnd : MatchKind → Spans → Searched → Type 0
 SeeksGreatestFromEnd kind k s = (kind ≡ All) × (s.anchored ≡ No) × EndAlone k
 
--- each is of this length
+-- Each has this length.
 abbrev pub IsOneLength : Spans → ℕ → Type 0
 IsOneLength k n = (k.least ≡ n) × (k.greatest ≡ Some n)

@@ -1,5 +1,5 @@
 -- Only proofs use this file.
--- The tables by which an engine's program may be searched.
+-- DFA choice: the DFAs by which an engine's program may be searched.
 use Rattle.std.specs.Prelude.{◌≡◌, ℕ, ◌+◌, ◌*◌, Bool, true, false, List, length, Option, Some, None, IfSome, min}
 use Rattle.rc_pattern.specs.Re.{Re}
 use Rattle.rc_program.specs.Places.{places_of}
@@ -13,7 +13,7 @@ use Rattle.rc_dfa_search.specs.Aims.{AreHalvesOf}
 use Rattle.rc_dfa_search.specs.declared.search.Aim.{Aim}
 use Rattle.rc_pikevm_search.specs.declared.engine.Engine.{Engine}
 
--- what a search by tables seeks: the match of the engine's kind
+-- What a DFA search is for: the match of the engine's kind.
 abbrev pub aim_of : Engine → ℕ → Aim
 aim_of engine patterns = record {
   kind = engine.kind;
@@ -22,21 +22,22 @@ aim_of engine patterns = record {
   earliest = false;
 }
 
--- They are halves of searches for so many patterns, whose program is the engine's, and find matches of its kind.
+-- They are halves of searches for so many patterns, whose program is the engine's, and find matches
+-- of its kind.
 pub record AreHalvesFor (engine : Engine) (patterns : ℕ) (AreOf : Machine → Machine → Type 0) : Type 0 where
   pub hs : List Re
   pub program : places_of engine.program.places.items ≡ program hs
   pub halves : AreHalvesOf AreOf (aim_of engine patterns) hs engine.program.terminator
 
--- tables of all states that are such halves, where there are some
+-- If there is a DFA, it has such halves.
 abbrev pub MayBeTablesFor : Engine → ℕ → Option Dense → Type 0
 MayBeTablesFor engine patterns tables = IfSome tables (λ d. AreHalvesFor engine patterns (AreHalves d))
 
--- and tables whose states are made as they are met
+-- If there is a lazy DFA, it has such halves.
 abbrev pub MayBeLazyFor : Engine → ℕ → Option Lazy → Type 0
 MayBeLazyFor engine patterns tables = IfSome tables (λ l. AreHalvesFor engine patterns (lazy.AreHalves l))
 
--- how many bytes the tables of all states take, and no more than `usize` has numbers for
+-- How many bytes the DFA takes, at most `usize.MAX`.
 abbrev pub bytes_taken : Option Dense → ℕ
 bytes_taken None = 0
 bytes_taken (Some d) = min (bytes_of d.forward + bytes_of d.reverse + 8 * length d.patterns.items) 18446744073709551615

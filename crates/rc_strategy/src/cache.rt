@@ -3,13 +3,13 @@
 use rc_lazy_dfa::lazy;
 use rc_pikevm::cache;
 
-/// What searches by engines work in: the lists of the ordered pass, and the states that searches by
-/// tables built so far, with what is known of their steps.
+/// The memory of a search: the Pike VM's lists, and the states that searches by the lazy DFA
+/// reached so far.
 #[derive(Drop)]
 pub struct Cache {
-    /// What the ordered pass works in.
+    /// The Pike VM's cache.
     pub pass: cache::Cache,
-    /// The states built so far. With None no search goes by them.
+    /// The lazy DFA's cache. With None, no search uses the lazy DFA.
     pub(crate) lazy: Option<lazy::Cache>,
 }
 
@@ -17,8 +17,8 @@ impl Cache {
     ghost use Rattle.std.specs.Prelude.{◌≤◌, min};
     ghost use Rattle.rc_strategy.specs.Caches.{states_taken};
 
-    /// About how many bytes of memory the cache takes, or the greatest number if that is more: what
-    /// the pass has taken for its lists, and what the states weigh.
+    /// Returns about how many bytes of memory the cache takes, or `usize::MAX` if that is more: the
+    /// Pike VM's lists, and the lazy DFA's states.
     pub fn memory_usage(&self) -> usize
         ensures states { min (states_taken self.now.lazy) usize.MAX ≤ result }
     {

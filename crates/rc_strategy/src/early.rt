@@ -37,7 +37,7 @@ fn is_early<C: Cursor>(engine: &Engine, input: &Input<C>) -> bool
     input.get_earliest() && !engine.program.passes_over
 }
 
-/// The match that a search finds up to `end`, in bytes. The input's span stays.
+/// Returns the match of a search that ends at `end`, in bytes. The input's span stays as it is.
 fn find_up_to<C: Cursor>(
     engine: &Engine,
     cache: &mut cache::Cache,
@@ -58,8 +58,8 @@ fn find_up_to<C: Cursor>(
     found
 }
 
-/// Some match, if any is enough: a pass ends at the first position at which one ends, and a search
-/// up to there finds it. If needles alone decide the match, no pass is made.
+/// Returns some match by the Pike VM. A pass ends at the first position at which a match does, and
+/// a search up to there finds it. If literals alone decide the match, no pass is made.
 fn find_by_pass<C: Cursor>(
     engine: &Engine,
     cache: &mut cache::Cache,
@@ -85,8 +85,8 @@ fn find_by_pass<C: Cursor>(
     engine.find(cache, input)
 }
 
-/// A match that the tables find, under the input's flag: forwards, from needle to needle if some
-/// are given, and then backwards. An `Err` says why they find none.
+/// Returns a match by a DFA, under the input's earliest flag: forwards, from literal to literal if
+/// there is a guard, and then backwards. An `Err` says why the DFA has no answer.
 fn find_along<H: Halves, C: Cursor>(
     engines: &Engines,
     halves: &H,
@@ -112,8 +112,8 @@ fn find_along<H: Halves, C: Cursor>(
     }
 }
 
-/// A match that the tables find by the route of the search, under the input's flag. An `Err` says
-/// why they find none.
+/// Returns a match by a DFA, by the route of the search and under the input's earliest flag. An
+/// `Err` says why the DFA has no answer.
 fn find_by_tables<H: Halves, C: Cursor>(
     engines: &Engines,
     halves: &H,
@@ -136,8 +136,8 @@ fn find_by_tables<H: Halves, C: Cursor>(
     }
 }
 
-/// A match that tables find, under the input's flag: those of all states, or else those whose
-/// states the cache holds. With None there are neither, or they find none.
+/// Returns a match by the DFA, or else by the lazy DFA if the cache has its states. Returns None if
+/// there is neither, or it has no answer.
 fn find_in<C: Cursor>(
     engines: &Engines,
     cache: &mut Option<lazy::Cache>,
@@ -161,11 +161,11 @@ fn find_in<C: Cursor>(
     }
 }
 
-/// The match that a search finds, under the input's flag: with the flag off, or if matches are
-/// passed over, that of `Engines::find`; otherwise some match, and nothing is read beyond the first
-/// position at which one ends, unless each ends where the slice does or needles alone decide the
-/// match. There it is read once more, and by tables backwards. It takes memory as `Engines::find`
-/// does.
+/// Returns the match of a search, under the input's earliest flag. If the flag is off, or matches
+/// are passed over, that is the one of `Engines::find`. Else it is some match, and nothing is read
+/// beyond the first position at which a match ends, unless each match ends where the slice does, or
+/// literals alone decide. Up to there the text is read once more, and by a DFA backwards. It
+/// allocates only what `Engines::find` does.
 pub fn search<C: Cursor>(
     engines: &Engines,
     cache: &mut Cache,
@@ -189,7 +189,7 @@ pub fn search<C: Cursor>(
     find_by_pass(&engines.engine, &mut cache.pass, input)
 }
 
-/// The end of the match that `search` finds, and its pattern.
+/// Returns the end of the match that `search` returns, and its pattern.
 pub fn search_end<C: Cursor>(
     engines: &Engines,
     cache: &mut Cache,
@@ -207,8 +207,8 @@ pub fn search_end<C: Cursor>(
     engines.find_end(cache, input)
 }
 
-/// The match that `search` finds, in a cache that is made for this search, as by
-/// `Engines::find_once`. An `Err` means out of memory.
+/// Returns the match that `search` returns, with a cache that is made for this search as in
+/// `Engines::find_once`. `Err` means out of memory.
 pub fn search_once<C: Cursor>(
     engines: &Engines,
     alloc: Global,
@@ -236,7 +236,8 @@ pub fn search_once<C: Cursor>(
     Ok(found)
 }
 
-/// The end of the match that `search_once` finds, and its pattern. An `Err` means out of memory.
+/// Returns the end of the match that `search_once` returns, and its pattern. `Err` means out of
+/// memory.
 pub fn search_end_once<C: Cursor>(
     engines: &Engines,
     alloc: Global,

@@ -34,41 +34,38 @@ use rc_text::input::{Input, advance_start};
 use rc_text::types::{HalfMatch, Match, MatchError, MatchKind, PatternID, Span};
 use std::alloc::{AllocError, Global};
 
-/// Up to this many patterns the pass seeks a match with its groups.
+/// Up to so many patterns, the Pike VM searches for a match together with its groups.
 const FEW_PATTERNS: usize = 8;
 
-/// Which tables may be made.
+/// Which DFAs may be built.
 #[derive(Clone, Copy, Debug, PartialEq, Eq)]
 pub struct Limits {
-    /// Whether the full DFA may.
+    /// Whether the DFA may be built.
     pub dfa: bool,
-    /// How many places the byte program may have at most for the full DFA. With None it may have
-    /// any number.
+    /// How many places the byte program may have for the DFA. None sets no limit.
     pub state_limit: Option<usize>,
-    /// How many bytes what holds all states of one direction may weigh at most. With None it may
-    /// weigh anything.
+    /// How many bytes the DFA's states may weigh in each direction. None sets no limit.
     pub size_limit: Option<usize>,
-    /// Whether tables may whose states are made as they are found.
+    /// Whether the lazy DFA may be built.
     pub hybrid: bool,
-    /// How many bytes the states built so far may weigh in each direction, before all are dropped.
+    /// How many bytes the lazy DFA's states may take in each direction, before all are dropped.
     pub capacity: usize,
-    /// Whether bytes that no step distinguishes are of one class.
+    /// Whether bytes that no step tells apart are one class.
     pub byte_classes: bool,
 }
 
-/// The engines by which some patterns are searched for: the full DFA or the lazy DFA, if there are
-/// some, and the ordered pass.
+/// The engines of some patterns: the DFA or the lazy DFA, if there is one, and the Pike VM.
 #[derive(Drop)]
 pub struct Engines {
-    /// The ordered pass, and the needles.
+    /// The Pike VM, with its literals.
     pub engine: Engine,
     pub(crate) tables: Option<Dense>,
     pub(crate) lazy: Option<Lazy>,
     pub(crate) patterns: usize,
     pub(crate) spans: Spans,
-    /// Needles that each match holds, if searches go by them.
+    /// Literals of which each match contains one, if searches go by them.
     pub(crate) needs: Option<Needs>,
-    /// Whether needles with which walks begin are sought fast.
+    /// Whether the search for the prefix literals is fast.
     pub(crate) sought_fast: bool,
     ghost fit: { ∥ MayBeTablesFor engine patterns tables ∥₁ },
     ghost lazy_fit: { ∥ MayBeLazyFor engine patterns lazy ∥₁ },
@@ -108,15 +105,14 @@ impl Engines {
     ghost use Rattle.rc_strategy.specs.Spans.{BoundsWalks, IsOneLength, SeeksFromEnd, is_leftmost};
     ghost use Rattle.rc_strategy.specs.Tables.{AreHalvesFor, aim_of, bytes_taken};
 
-    /// The engines of this many patterns, whose program `engine` searches, with tables if the
-    /// limits allow some. An `Err` means out of memory.
+    /// The engines of `patterns` patterns, whose program is that of `engine`. `Err` means out of
+    /// memory.
     ///
-    /// Tables of all states are made if `dfa` is set, the byte program has no more places than
-    /// `state_limit`, and in each direction what holds the states weighs no more than `size_limit`;
-    /// and none if needles alone decide each answer. If none are, the lazy DFA is there if `hybrid`
-    /// is set and `capacity` is no less than the least that serves. `spans` is what the patterns'
-    /// spans keep to, and `needs` what each match holds, by which searches go if no needles guard
-    /// them that are sought fast.
+    /// The DFA is built if `dfa` is set, the byte program has at most `state_limit` places, and its
+    /// states weigh at most `size_limit` bytes in each direction. Without it, the lazy DFA is built
+    /// if `hybrid` is set and `capacity` suffices. Neither is built if literals alone decide each
+    /// answer. `spans` has the lengths and anchors of the patterns' matches. `needs` has their
+    /// required literals, by which searches go unless fast prefix literals guard them.
     pub fn new(
         alloc: Global,
         engine: Engine,
@@ -151,8 +147,7 @@ impl Engines {
         })
     }
 
-    /// How many bytes the tables of all states take, or `usize::MAX` where that is more; 0 where
-    /// there are none.
+    /// Returns how many bytes the DFA takes, or `usize::MAX` if that is more; 0 if there is none.
     pub fn memory_usage(&self) -> usize
         ensures { result ≡ bytes_taken self.now.tables }
     {
@@ -162,8 +157,8 @@ impl Engines {
         }
     }
 
-    /// A cache for searches by these engines, with at most this many slots: for the pass, and for
-    /// the the lazy DFA, if there are some. An `Err` means out of memory.
+    /// A cache for searches by these engines, with at most `slots` slots: for the Pike VM, and for
+    /// the lazy DFA if there is one. `Err` means out of memory.
     pub fn create_cache(&self, alloc: Global, slots: usize) -> Result<Cache, AllocError>
         ensures made { IfOk result (IsCacheIn self.now slots) }
         ensures both { IfOk result (λ cache. is_some cache.lazy ≡ is_some self.now.lazy) }
@@ -179,7 +174,7 @@ impl Engines {
         })
     }
 
-    /// What a search by tables seeks.
+    /// Returns what a DFA search is for.
     #[inline(always)]
     pub(crate) fn aim(&self) -> Aim
         ensures { result ≡ aim_of self.now.engine self.now.patterns }
@@ -192,8 +187,8 @@ impl Engines {
         }
     }
 
-    /// The match of the least start, sought from where the search ends. An `Err` says why the
-    /// tables find none.
+    /// Returns the match of the least start, by a search backwards from the end of the search. An
+    /// `Err` says why the DFA has no answer.
     pub(crate) fn find_from_end<H: Halves, C: Cursor>(
         &self,
         halves: &H,
@@ -211,8 +206,8 @@ impl Engines {
         search::find_to_end(halves, cache, input, self.aim())
     }
 
-    /// The match that the tables find, by the route of the search. An `Err` says why they find
-    /// none.
+    /// Returns the match by a DFA, by the route of the search. An `Err` says why the DFA has no
+    /// answer.
     #[inline(always)]
     fn find_by_tables<H: Halves, C: Cursor>(
         &self,
@@ -237,8 +232,8 @@ impl Engines {
         }
     }
 
-    /// The match that the tables find, from needle to needle if some are given. An `Err` says why
-    /// they find none.
+    /// Returns the match by a DFA, from literal to literal if there is a guard. An `Err` says why
+    /// the DFA has no answer.
     #[inline(always)]
     fn find_along<H: Halves, C: Cursor>(
         &self,
@@ -264,9 +259,9 @@ impl Engines {
         }
     }
 
-    /// The match that the tables find by needles that are sought fast. If each match begins with
-    /// one, the first is asked first whether a match begins there. An `Err` says why they find
-    /// none.
+    /// Returns the match by a DFA and by literals whose search is fast. If each match begins with
+    /// one, the first literal is tried first by an anchored run. An `Err` says why the DFA has no
+    /// answer.
     #[inline(always)]
     fn find_by_needles<H: Halves, C: Cursor>(
         &self,
@@ -290,10 +285,10 @@ impl Engines {
         }
     }
 
-    /// The match that the tables tell where each walk begins with a needle: it is sought where the
-    /// first may begin, and then along. Where the tables quit, they go once more, from needle to
-    /// needle: fewer bytes are read then, and so fewer that they don't read. An `Err` says why they
-    /// tell none.
+    /// Returns the match by a DFA and by slow prefix literals: an anchored run is tried where the
+    /// first match may begin, and then the search goes on from there. If the DFA quits, it searches
+    /// once more, from literal to literal: then it reads fewer bytes, and may not come to one that
+    /// it may not read. An `Err` says why the DFA has no answer.
     #[inline(always)]
     fn find_past_quit<H: Halves, C: Cursor>(
         &self,
@@ -318,9 +313,8 @@ impl Engines {
         found
     }
 
-    /// The end of the match of the least start, the preferred one or the longest, and its pattern,
-    /// which the tables find by searches forwards alone, from needle to needle if some are given.
-    /// An `Err` says why they find none.
+    /// Returns the end of the leftmost match and its pattern, by DFA searches forwards alone, from
+    /// literal to literal if there is a guard. An `Err` says why the DFA has no answer.
     fn find_first_end<H: Halves, C: Cursor>(
         &self,
         halves: &H,
@@ -344,8 +338,8 @@ impl Engines {
         }
     }
 
-    /// The match of the least start, if each is of this length: from where it ends nothing is
-    /// searched backwards. An `Err` says why the tables find none.
+    /// Returns the leftmost match, if each match has this length in bytes: its start is its end
+    /// less the length, so nothing is searched backwards. An `Err` says why the DFA has no answer.
     fn find_of_length<H: Halves, C: Cursor>(
         &self,
         halves: &H,
@@ -372,9 +366,9 @@ impl Engines {
         Ok(Some(Match::new(half.pattern(), Span { start, end })))
     }
 
-    /// The end of the match that the tables find, and its pattern. An `Err` says why they find
-    /// none. If each match counts, the pattern is known once the start is; and if each match ends
-    /// where the search does, the end once there is a start.
+    /// Returns the end of the match by a DFA, and its pattern. With `MatchKind::All`, the pattern
+    /// is known only with the start. If each match ends where the search does, a start must be
+    /// found to know that there is a match. An `Err` says why the DFA has no answer.
     fn find_end_by_tables<H: Halves, C: Cursor>(
         &self,
         halves: &H,
@@ -398,8 +392,8 @@ impl Engines {
         }
     }
 
-    /// The end of the match that `find_along` tells, and its pattern. That of the least start is
-    /// told by searches forwards alone.
+    /// Returns the end of the match that `find_along` returns, and its pattern. For a leftmost
+    /// match, it only searches forwards.
     fn find_end_along<H: Halves, C: Cursor>(
         &self,
         halves: &H,
@@ -423,9 +417,9 @@ impl Engines {
         }
     }
 
-    /// Whether the tables find a match, from needle to needle if needles guard the patterns. An
-    /// `Err` says why they find nothing. Unless matches are passed over, nothing is read beyond the
-    /// first position at which some match ends.
+    /// Whether a DFA finds a match, from literal to literal if literals guard the patterns. An
+    /// `Err` says why the DFA has no answer. Unless matches are passed over, nothing is read beyond
+    /// the first position at which some match ends.
     fn any_by_tables<H: Halves, C: Cursor>(
         &self,
         halves: &H,
@@ -449,8 +443,8 @@ impl Engines {
         }
     }
 
-    /// Whether the tables find a match, forwards, from needle to needle if some are given. An `Err`
-    /// says why they find nothing.
+    /// Whether a DFA finds a match forwards, from literal to literal if there is a guard. An `Err`
+    /// says why the DFA has no answer.
     fn any_along<H: Halves, C: Cursor>(
         &self,
         halves: &H,
@@ -477,8 +471,8 @@ impl Engines {
         Ok(half.is_some())
     }
 
-    /// Whether tables find a match: those of all states, or else those whose states the cache
-    /// holds. With None there are neither, or they find nothing.
+    /// Whether the DFA finds a match, or else the lazy DFA if the cache has its states. Returns
+    /// None if there is neither, or it has no answer.
     pub(crate) fn any_in<C: Cursor>(
         &self,
         cache: &mut Option<lazy::Cache>,
@@ -501,8 +495,8 @@ impl Engines {
         }
     }
 
-    /// The match that tables find: those of all states, or else those whose states the cache holds.
-    /// With None there are neither, or they find none.
+    /// Returns the match by the DFA, or else by the lazy DFA if the cache has its states. Returns
+    /// None if there is neither, or it has no answer.
     pub(crate) fn find_in<C: Cursor>(
         &self,
         cache: &mut Option<lazy::Cache>,
@@ -526,7 +520,8 @@ impl Engines {
         }
     }
 
-    /// The end of the match that tables find, and its pattern, as `find_in`.
+    /// Returns the end of the match and its pattern by the DFA, or else by the lazy DFA if the
+    /// cache has its states. Returns None if there is neither, or it has no answer.
     pub(crate) fn find_end_in<C: Cursor>(
         &self,
         cache: &mut Option<lazy::Cache>,
@@ -550,8 +545,8 @@ impl Engines {
         }
     }
 
-    /// Whether a search finds a match. It takes no memory but for states. Nothing is read beyond
-    /// the first position at which some match ends, unless matches are passed over.
+    /// Whether a search finds a match. It allocates nothing but states of the lazy DFA. Unless
+    /// matches are passed over, the search ends at the first position at which some match does.
     pub fn is_match<C: Cursor>(&self, cache: &mut Cache, input: &mut Input<C>) -> bool
         requires made { IsCacheIn self.now 0 cache.old }
         ensures keeps { Keeps input.old input.new }
@@ -567,11 +562,11 @@ impl Engines {
         self.engine.is_match(&mut cache.pass, input)
     }
 
-    /// The match that a search finds. If what is known of the patterns' spans leaves none between
-    /// its bounds, nothing is searched. Otherwise, needles decide it if they alone can, else the
-    /// tables, and if there are none, or they quit or give up, the pass. The earliest flag is not
-    /// read. It takes no memory but for states that are found for the first time, within the
-    /// cache's capacity; if that is refused, the pass tells the match.
+    /// Returns the match of a search. If the lengths and anchors of the patterns rule a match out
+    /// between the bounds, nothing is searched. Else literals decide the match if they alone can,
+    /// else a DFA. If there is no DFA, or it quits or gives up, the Pike VM searches. The earliest
+    /// flag is not read. It allocates nothing but states that the lazy DFA reaches for the first
+    /// time, within the cache's capacity. If that is refused, the Pike VM searches.
     pub fn find<C: Cursor>(&self, cache: &mut Cache, input: &mut Input<C>) -> Option<Match>
         requires made { IsCacheIn self.now 0 cache.old }
         ensures keeps { Keeps input.old input.new }
@@ -588,8 +583,8 @@ impl Engines {
         self.engine.find(&mut cache.pass, input)
     }
 
-    /// The end of the match that `find` finds, and its pattern. It takes memory as `find` does. If
-    /// tables find the preferred match, nothing is searched backwards.
+    /// Returns the end of the match that `find` returns, and its pattern. It allocates only what
+    /// `find` does. For a leftmost match that a DFA finds, nothing is searched backwards.
     pub fn find_end<C: Cursor>(&self, cache: &mut Cache, input: &mut Input<C>) -> Option<HalfMatch>
         requires made { IsCacheIn self.now 0 cache.old }
         ensures keeps { Keeps input.old input.new }
@@ -606,18 +601,17 @@ impl Engines {
         half_of(self.engine.find(&mut cache.pass, input))
     }
 
-    /// Whether the pass seeks the match alone before its groups: each of its threads has the slots
-    /// of all patterns, and if these are many, they would be handed on at each byte for each
-    /// pattern.
+    /// Whether the Pike VM searches for the match alone before its groups. Each of its threads has
+    /// the slots of all patterns, and if these are many, they would be copied at each byte.
     fn finds_first(&self) -> bool {
         self.patterns > FEW_PATTERNS
     }
 
-    /// The pattern that a search finds, with the first of its slots. Without a match the slots
-    /// stay. It takes memory as `find` does.
+    /// Returns the pattern that a search finds, and writes the first of its slots. Without a match
+    /// the slots stay as they are. It allocates only what `find` does.
     ///
-    /// If tables find the match and its groups are asked for, a pass over its span alone tells
-    /// them. So it goes too if there are no tables but many patterns.
+    /// If a DFA finds the match and its groups are asked for, a pass of the Pike VM over its span
+    /// finds them. So do searches without a DFA if there are many patterns.
     pub fn find_slots<C: Cursor>(
         &self,
         cache: &mut Cache,
@@ -652,9 +646,9 @@ impl Engines {
         self.engine.find_slots(&mut cache.pass, input, slots)
     }
 
-    /// The next match of a list: the match from where the span starts, and if that is empty and
-    /// ends at `last`, the match from a byte later. The span then starts where the match was looked
-    /// for. It takes memory as `find` does.
+    /// Returns the next match of a list: the match from the span's start on. If that is empty and
+    /// ends at `last`, it gives way to the match from one byte later. Then the span starts where
+    /// the match was looked for. It allocates only what `find` does.
     pub fn next_match<C: Cursor>(
         &self,
         cache: &mut Cache,
@@ -679,8 +673,8 @@ impl Engines {
         self.find(cache, input)
     }
 
-    /// Writes the match that a search finds, with its groups, into captures of the patterns of
-    /// these names. Without a match they hold none. It takes memory as `find` does.
+    /// Writes the match that a search finds, with its groups, into captures of the program's
+    /// patterns. Without a match they hold none. It allocates only what `find` does.
     pub fn find_captures<C: Cursor>(
         &self,
         cache: &mut Cache,
@@ -700,7 +694,7 @@ impl Engines {
     }
 }
 
-/// The half of a match, if there is one: its pattern, and its end.
+/// Returns the pattern and the end of a match, if there is one.
 pub(crate) fn half_of(found: Option<Match>) -> Option<HalfMatch>
     ensures { result ≡ option_map half_of found }
 {

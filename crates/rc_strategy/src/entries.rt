@@ -6,7 +6,7 @@ ghost use Rattle.rc_program.specs.Program.{choice, entry, place_at, program as p
 
 use rc_program::place::Place;
 
-/// The two ways of the choice at a place; None if there is another place, or none.
+/// Returns the two branches of the choice at a place, or None if there is no choice.
 fn choice_at(program: &[Place], at: usize) -> Option<(usize, usize)>
     ensures { (first next : ℕ) → place_at (places_of program.now) at ≡ choice (first ∷ next ∷ []) → result ≡ Some (first, next) }
 {
@@ -16,7 +16,7 @@ fn choice_at(program: &[Place], at: usize) -> Option<(usize, usize)>
     }
 }
 
-/// The place by which the pattern of this number is entered, if the program is that of some
+/// Returns the place at which the pattern of this number is entered, in the program of some
 /// patterns: each choice, from place 0 on, leads to a pattern or on to the next choice.
 pub(crate) fn entry_of(program: &[Place], pattern: usize) -> usize
     ensures { (hs : List Re) → places_of program.now ≡ program_by hs → pattern < length hs → result ≡ entry hs pattern }

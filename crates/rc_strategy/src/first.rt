@@ -23,12 +23,12 @@ use rc_text::cursor::Cursor;
 use rc_text::input::{Input, high, low, piece_from};
 use rc_text::types::{Anchored, Match, MatchError, MatchKind, Span};
 
-/// This many bytes are looked at one by one, before the next needle is sought.
+/// How many bytes are checked one by one, before the next needle is looked for.
 const NEAR: usize = 16;
 
-/// Whether a search asks first whether a match begins where the first one may: it isn't anchored,
-/// and seeks the match of the least start alone, the preferred one or the longest, none of which is
-/// passed over.
+/// Whether a search tries an anchored run first. It must not be anchored, its kind must be
+/// leftmost-first or leftmost-longest, the earliest flag must be off, and no match may be passed
+/// over.
 #[inline(always)]
 fn asks_first(aim: Aim, anchored: Anchored) -> bool
     ensures { IsTrue result ↔ AsksFirst aim anchored }
@@ -41,7 +41,8 @@ fn asks_first(aim: Aim, anchored: Anchored) -> bool
     }
 }
 
-/// How many bytes of a piece are passed over: those before the first with which a needle begins.
+/// Returns how many bytes of a piece are skipped: those before the first with which a needle
+/// begins.
 #[inline(always)]
 fn begin_none(needles: &Prefilter, piece: &[u8]) -> usize
     ensures within { result ≤ length piece.now }
@@ -57,8 +58,8 @@ fn begin_none(needles: &Prefilter, piece: &[u8]) -> usize
     piece.len()
 }
 
-/// Where the first match may begin from a position on, if each begins with a needle: none begins
-/// before. With None there is none at all.
+/// Returns the first position from `from` on at which a match may begin, if each match begins with
+/// a needle. Returns None if there is no match.
 #[inline(always)]
 fn first_start<C: Cursor>(
     input: &mut Input<C>,
@@ -88,7 +89,8 @@ fn first_start<C: Cursor>(
     Some(start.from)
 }
 
-/// The same by needles that are sought fast: where the first of them occurs.
+/// Returns where the next needle stands, by a fast search: no match begins earlier. Returns None if
+/// there is no match.
 #[inline(always)]
 fn needle_start<C: Cursor>(
     input: &mut Input<C>,
@@ -107,7 +109,8 @@ fn needle_start<C: Cursor>(
     Some(start.from)
 }
 
-/// Where the first match may begin, by needles that are sought fast or not.
+/// Returns where the first match may begin, by needles whose search is fast or not. Returns None if
+/// there is no match.
 #[inline(always)]
 fn start_by<C: Cursor>(
     input: &mut Input<C>,
@@ -130,8 +133,8 @@ fn start_by<C: Cursor>(
     first_start(input, needles, from, end)
 }
 
-/// The match of the kind that begins at the position, if one does. An `Err` says why the tables
-/// find nothing.
+/// Returns the match that begins at the position `from`, if one does, by an anchored run. An `Err`
+/// says why the DFA has no answer.
 #[inline(always)]
 fn find_here<H: Halves, C: Cursor>(
     halves: &H,
@@ -159,7 +162,8 @@ fn find_here<H: Halves, C: Cursor>(
     Ok(Some(Match::new(pattern, Span { start: from, end })))
 }
 
-/// The match that `find` finds if the span begins later. The input's span stays.
+/// Returns the match that `find` returns if the span begins at `from`. The input's span stays as it
+/// is.
 #[inline(never)]
 pub(crate) fn find_later<H: Halves, C: Cursor>(
     halves: &H,
@@ -184,8 +188,8 @@ pub(crate) fn find_later<H: Halves, C: Cursor>(
     found
 }
 
-/// The match that `find_later` finds, if each begins with a needle: from needle to needle if these
-/// are sought fast.
+/// Returns the match that `find_later` returns, if each match begins with a needle. If the search
+/// for these is fast, it goes from needle to needle.
 #[inline(never)]
 fn find_on<H: Halves, C: Cursor>(
     halves: &H,
@@ -215,8 +219,8 @@ fn find_on<H: Halves, C: Cursor>(
     found
 }
 
-/// The match of the least start, if each begins with a needle: a run from where the first may begin
-/// tells it, if one begins there; otherwise it is sought from there on.
+/// Returns the leftmost match, if each match begins with a needle. It first tries an anchored run
+/// where the first match may begin. If none begins there, it searches on from there.
 #[inline(always)]
 fn find_by_first<H: Halves, C: Cursor>(
     halves: &H,
@@ -248,10 +252,10 @@ fn find_by_first<H: Halves, C: Cursor>(
     find_on(halves, cache, input, aim, needles, are_fast, from)
 }
 
-/// The match that `find` finds, if each begins with a needle. A search for that of the least start,
-/// which isn't anchored and passes none over, asks first whether one begins where the first may; if
-/// none does, it goes on from needle to needle if these are sought fast. Each other search is that
-/// of `find`.
+/// Returns the match that `find` returns, if each match begins with a needle. A leftmost search
+/// that isn't anchored and passes no match over first tries an anchored run where the first match
+/// may begin. If none begins there, it goes on, from needle to needle if the search for these is
+/// fast. Every other search is that of `find`.
 #[inline(always)]
 pub(crate) fn find_first<H: Halves, C: Cursor>(
     halves: &H,

@@ -14,8 +14,8 @@ use rc_text::cursor::Cursor;
 use rc_text::input::Input;
 use rc_text::types::{Match, MatchError};
 
-/// The greatest match, sought from where the search ends: the one from the least start that leads
-/// there. An `Err` says why the tables find none.
+/// Returns the greatest match, if it ends where the search does: the one from the least start that
+/// leads there. It only searches backwards. An `Err` says why the DFA has no answer.
 pub(crate) fn find_greatest_from_end<H: Halves, C: Cursor>(
     engines: &Engines,
     halves: &H,

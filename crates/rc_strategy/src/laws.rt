@@ -2,8 +2,8 @@
 //! nothing: its contract is the law.
 ghost use Rattle.rc_strategy.specs.Narrow.{NarrowLaw};
 
-/// Over the span of the match that a search finds, a search for the match's pattern alone finds the
-/// same walk, with the same groups.
+/// Over the span of a search's match, a search for that match's pattern alone finds the same walk,
+/// with the same groups.
 pub fn narrowed_searches_answer_alike()
     ensures { NarrowLaw }
 {}

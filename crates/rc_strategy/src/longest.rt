@@ -11,8 +11,8 @@ use rc_text::cursor::Cursor;
 use rc_text::input::Input;
 use rc_text::types::{Anchored, Match};
 
-/// The slots of the longest match of the least start, which passes over its span alone tell, for
-/// its pattern alone. The input's span and anchoring stay.
+/// Writes the slots of the leftmost-longest match `found`, by passes over its span for its pattern
+/// alone. The input's span and anchoring stay as they are.
 pub(crate) fn search_longest_span<C: Cursor>(
     engine: &Engine,
     cache: &mut Cache,

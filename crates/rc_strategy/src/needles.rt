@@ -22,18 +22,19 @@ use rc_text::cursor::Cursor;
 use rc_text::input::{Input, high, low};
 use rc_text::types::{Anchored, Match, MatchError, MatchKind};
 
-/// What a run from a needle tells of where a match is to be sought.
+/// What a run from a needle finds out about where a match is to be looked for.
 #[derive(Clone, Copy)]
 enum Leg {
-    /// None begins from the needle on.
+    /// No match begins from the needle on.
     Nowhere,
     /// From the needle on.
     Here,
-    /// From this position on, which lies behind the needle.
+    /// From this position on, which is behind the needle.
     Later(usize),
 }
 
-/// What is told by what was found.
+/// Returns what a run found out that came to its end: from the needle on if it found a match,
+/// nowhere if it found none.
 fn met_leg(met: Option<Met>) -> Leg
     ensures { result ≡ met_leg met }
 {
@@ -43,7 +44,8 @@ fn met_leg(met: Option<Met>) -> Leg
     }
 }
 
-/// What is told if a run rests that began at `from`.
+/// Returns what a run found out that began at `from` and rests at `at`: a later position, if that
+/// is behind `from` and at most `bound`.
 fn idle_leg(at: usize, from: usize, bound: usize) -> Leg
     ensures { result ≡ idle_leg at from bound }
 {
@@ -53,7 +55,8 @@ fn idle_leg(at: usize, from: usize, bound: usize) -> Leg
     Leg::Here
 }
 
-/// What the end of a run from `from` on tells, or why it tells nothing.
+/// Returns what a run found out that began at `from`, by how it ended. An `Err` says why it has no
+/// answer.
 fn leg_of(ended: Ended, from: usize, bound: usize) -> Result<Leg, MatchError>
     ensures { result ≡ leg_of ended from bound }
 {
@@ -65,8 +68,8 @@ fn leg_of(ended: Ended, from: usize, bound: usize) -> Result<Leg, MatchError>
     }
 }
 
-/// What a run from one position on tells, which stops at the first position at which a match ends.
-/// It may rest, from `rest_from` on.
+/// Runs forwards from the position `from` to the first position at which a match ends, and returns
+/// what it found out. It may rest, from `rest_from` on.
 fn run_leg<H: Halves, C: Cursor>(
     halves: &H,
     cache: &mut H::Cache,
@@ -93,7 +96,8 @@ fn run_leg<H: Halves, C: Cursor>(
     )
 }
 
-/// From where on a match is to be sought: none begins before. With None there is none at all.
+/// Returns from where on a match is to be looked for: none begins earlier. Returns None if there is
+/// no match.
 fn start_by_needles<H: Halves, C: Cursor>(
     halves: &H,
     cache: &mut H::Cache,
@@ -131,8 +135,9 @@ fn start_by_needles<H: Halves, C: Cursor>(
     }
 }
 
-/// Whether such a search goes from needle to needle: it isn't anchored, any match is enough, and
-/// none is passed over.
+/// Whether a search for any match goes from needle to needle. It must not be anchored, its kind
+/// must be leftmost-first or leftmost-longest, the earliest flag must be on, and no match may be
+/// passed over.
 fn goes_early(aim: Aim, anchored: Anchored) -> bool
     ensures { IsTrue result ↔ GoesEarly aim anchored }
 {
@@ -144,7 +149,7 @@ fn goes_early(aim: Aim, anchored: Anchored) -> bool
     }
 }
 
-/// Some match, from needle to needle. The input's span stays.
+/// Returns some match, from needle to needle. The input's span stays as it is.
 fn find_by_needles<H: Halves, C: Cursor>(
     halves: &H,
     cache: &mut H::Cache,
@@ -171,10 +176,10 @@ fn find_by_needles<H: Halves, C: Cursor>(
     find_later(halves, cache, input, aim, from)
 }
 
-/// The match that `find` finds, by needles that guard the patterns: each match begins with one of
-/// them, or holds one. A search that isn't anchored goes from needle to needle wherever nothing is
-/// under way, if any match is enough, none is passed over, and not each match counts. Each other
-/// search is that of `find`.
+/// Returns the match that `find` returns, by needles that guard the patterns: each match begins
+/// with one of them, or contains one. The search goes from needle to needle while nothing is under
+/// way, if it isn't anchored, is leftmost, any match is enough, and none is passed over. Every
+/// other search is that of `find`.
 pub(crate) fn find_early_guarded<H: Halves, C: Cursor>(
     halves: &H,
     cache: &mut H::Cache,

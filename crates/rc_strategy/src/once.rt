@@ -8,8 +8,8 @@ use rc_text::input::{Input, high, low};
 use rc_text::types::{HalfMatch, Match};
 use std::alloc::{AllocError, Global};
 
-/// A text whose bounds lie fewer bytes apart is searched by the ordered pass if a cache would have
-/// to be made for tables: to meet their states takes longer than to pass over so few bytes.
+/// If a lazy DFA's cache would have to be made, the Pike VM searches instead if the bounds are
+/// fewer bytes apart: building states takes longer than a pass over so few bytes.
 const SHORT: usize = 1024;
 
 impl Engines {
@@ -22,8 +22,8 @@ impl Engines {
     ghost use Rattle.rc_pikevm_search.specs.Engine.{engine_search};
     ghost use Rattle.rc_strategy.specs.Caches.{IsCacheOfBoth};
 
-    /// A cache for the the lazy DFA, if a search of the input is to go by them: there are none of
-    /// all states, and its bounds lie `SHORT` bytes apart, or more. An `Err` means out of memory.
+    /// A cache for the lazy DFA, if a search of the input is to use it: there is no DFA, and its
+    /// bounds are at least `SHORT` bytes apart. `Err` means out of memory.
     pub(crate) fn states_for<C: Cursor>(
         &self,
         alloc: Global,
@@ -44,9 +44,9 @@ impl Engines {
         Ok(Some(states))
     }
 
-    /// The match that `find` finds, in a cache that is made for this search. What the search
-    /// doesn't need isn't made: nothing for the full DFA, and for the pass only if no tables find
-    /// the match. An `Err` means out of memory.
+    /// Returns the match that `find` returns, with a cache that is made for this search. Only what
+    /// the search needs is made: nothing for the DFA, and the Pike VM's lists only if no DFA has an
+    /// answer. `Err` means out of memory.
     pub fn find_once<C: Cursor>(
         &self,
         alloc: Global,
@@ -71,8 +71,8 @@ impl Engines {
         Ok(found)
     }
 
-    /// The end of the match that `find_once` finds, and its pattern, in a cache that is made as
-    /// there. An `Err` means out of memory.
+    /// Returns the end of the match that `find_once` returns, and its pattern, with a cache that is
+    /// made for this search. `Err` means out of memory.
     pub fn find_end_once<C: Cursor>(
         &self,
         alloc: Global,
@@ -97,8 +97,8 @@ impl Engines {
         Ok(found)
     }
 
-    /// Whether `find_once` finds a match, in a cache that is made as there. An `Err` means out of
-    /// memory.
+    /// Whether `find_once` finds a match, with a cache that is made for this search. `Err` means
+    /// out of memory.
     pub fn is_match_once<C: Cursor>(
         &self,
         alloc: Global,

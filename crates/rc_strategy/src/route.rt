@@ -9,28 +9,28 @@ use rc_text::cursor::Cursor;
 use rc_text::input::Input;
 use rc_text::types::{Anchored, MatchKind};
 
-/// By what tables a search goes, if by any.
+/// Which DFA a search uses, if any.
 #[derive(Clone, Copy)]
 pub(crate) enum Way<'a> {
-    /// By those of all states.
+    /// The DFA.
     AllStates(&'a Dense),
-    /// By the lazy DFA.
+    /// The lazy DFA.
     MetStates(&'a Lazy),
-    /// By none: needles alone decide the answer, or the pass does.
+    /// Neither: literals alone decide, or the Pike VM searches.
     NoTables,
 }
 
-/// How a search by tables goes.
+/// How a DFA search goes.
 #[derive(Clone, Copy)]
 pub(crate) enum Route<'a> {
-    /// Backwards from where the search ends, for the match of the least start.
+    /// Backwards from the end of the search, for the leftmost match.
     FromEnd,
-    /// The same for the greatest match.
+    /// Backwards from the end of the search, for the greatest match.
     GreatestFromEnd,
-    /// Forwards, from needle to needle if something guards the search, to the end of a match of
-    /// this length in bytes. Nothing is searched backwards.
+    /// Forwards to the end of a match of this length in bytes, from literal to literal if there is
+    /// a guard. Nothing is searched backwards.
     OfLength(usize, Option<Guard<'a>>),
-    /// Forwards, from needle to needle if something guards the search, and then backwards.
+    /// Forwards, from literal to literal if there is a guard, and then backwards.
     Along(Option<Guard<'a>>),
 }
 
@@ -39,8 +39,8 @@ impl Engines {
     ghost use Rattle.rc_strategy.specs.Route.{GoesBy, MayGuard, Relies};
     ghost use Rattle.rc_strategy.specs.Spans.{IsOneLength, SeeksFromEnd, SeeksGreatestFromEnd, is_leftmost};
 
-    /// By what a search goes: by the full DFA, if there are some; otherwise by the lazy DFA, if
-    /// there are some and a cache holds their states, as `has_states` says.
+    /// Returns which DFA a search uses: the DFA if there is one; else the lazy DFA, if there is one
+    /// and `has_states` says that a cache has its states.
     #[inline(always)]
     pub(crate) fn way(&self, has_states: bool) -> Way
         ensures { GoesBy self.now has_states result }
@@ -57,7 +57,7 @@ impl Engines {
         }
     }
 
-    /// How a search of this input by tables goes: the first route that fits.
+    /// Returns how a DFA search of this input goes: the first route that fits.
     #[inline(always)]
     pub(crate) fn route<C: Cursor>(&self, input: &Input<C>) -> Route
         ensures { Relies self.now input.now result }
@@ -74,8 +74,8 @@ impl Engines {
         }
     }
 
-    /// Whether the match of the least start is sought from where the search ends: each match ends
-    /// where the slice does, not each begins where it does, and the search isn't anchored.
+    /// Whether the leftmost match is searched for backwards from the end: each match ends where the
+    /// slice does, not each begins where it does, and the search isn't anchored.
     #[inline(always)]
     fn seeks_from_end<C: Cursor>(&self, input: &Input<C>) -> bool
         ensures { IsTrue result ↔ SeeksFromEnd self.now.engine.kind self.now.spans input.now }
@@ -88,7 +88,8 @@ impl Engines {
         }
     }
 
-    /// Whether the greatest match is sought from there.
+    /// Whether the greatest match is searched for backwards from the end: each match ends where the
+    /// slice does, not each begins where it does, and the search isn't anchored.
     #[inline(always)]
     fn seeks_greatest_from_end<C: Cursor>(&self, input: &Input<C>) -> bool
         ensures { IsTrue result ↔ SeeksGreatestFromEnd self.now.engine.kind self.now.spans input.now }
@@ -99,7 +100,7 @@ impl Engines {
         }
     }
 
-    /// The length of each match, if all are of one and that of the least start is sought.
+    /// Returns the length of each match in bytes, if all have the same and the kind is leftmost.
     #[inline(always)]
     fn only_length(&self) -> Option<usize>
         ensures { IfSome result (λ n. (is_leftmost self.now.engine.kind ≡ true) × IsOneLength self.now.spans n) }
@@ -110,8 +111,8 @@ impl Engines {
         }
     }
 
-    /// By what a search goes from needle to needle: by the needles where walks begin, if these are
-    /// sought fast, else by those that each match holds.
+    /// Returns the literals by which a search goes from literal to literal: prefix literals if the
+    /// search for them is fast, else required ones.
     #[inline(always)]
     fn guard(&self) -> Option<Guard>
         ensures { MayGuard self.now.engine result }

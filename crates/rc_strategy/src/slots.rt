@@ -17,7 +17,7 @@ use rc_text::cursor::Cursor;
 use rc_text::input::Input;
 use rc_text::types::{Anchored, Match, MatchKind};
 
-/// Puts the whole match into its two slots, as far as these are there, and None into the others.
+/// Writes the whole match to its two slots, as far as these exist, and None to all others.
 fn put_span(found: Match, slots: &mut [Option<usize>])
     ensures { slots.new ≡ span_slots (length slots.old) found }
 {
@@ -31,8 +31,9 @@ fn put_span(found: Match, slots: &mut [Option<usize>])
     }
 }
 
-/// The slots of the preferred match, which a pass over its span alone tells. It enters at the place
-/// of the match's pattern, and so at no other pattern's. The input's span and anchoring stay.
+/// Writes the slots of the leftmost-first match `found`, by a pass over its span. It enters at the
+/// place of the match's pattern, and so at no other pattern's. The input's span and anchoring stay
+/// as they are.
 fn search_span<C: Cursor>(
     engine: &Engine,
     cache: &mut Cache,
@@ -59,8 +60,8 @@ fn search_span<C: Cursor>(
     input.set_span(span);
 }
 
-/// The first slots of the match that a search of the input finds, as many as are passed in. If
-/// these are but those of whole matches, no pass is made. `patterns` is how many patterns there
+/// Writes the first slots of the match that a search of the input found, as many as are handed in.
+/// If these are only slots of whole matches, no pass is made. `patterns` is how many patterns there
 /// are.
 pub(crate) fn fill_slots<C: Cursor>(
     engine: &Engine,

@@ -6,20 +6,20 @@ use rc_pattern::hir::{Hir, Look};
 use rc_text::cursor::Cursor;
 use rc_text::input::{Input, byte_at, high, low};
 
-/// What each span that some patterns spell keeps to, whatever the text. Lengths are in bytes.
+/// What holds of each span that some patterns spell, whatever the text. Lengths are in bytes.
 #[derive(Clone, Copy, Debug, PartialEq, Eq)]
 pub struct Spans {
     /// No span is shorter.
     least: usize,
-    /// No span is longer. With None no bound is known.
+    /// No span is longer. None means that no bound is known.
     greatest: Option<usize>,
-    /// Whether each begins where the slice does.
+    /// Whether each span begins where the slice does.
     begins: bool,
-    /// Whether each ends where the slice does.
+    /// Whether each span ends where the slice does.
     ends: bool,
 }
 
-/// The greater of two bounds, if both are known.
+/// Returns the greater of two bounds, if both are known.
 fn greater(left: Option<usize>, right: Option<usize>) -> Option<usize>
     ensures { result ≡ both (λ m n. Some (max m n)) left right }
 {
@@ -36,7 +36,7 @@ impl Spans {
     ghost use Rattle.rc_pattern.specs.Meaning.{meaning};
     ghost use Rattle.rc_strategy.specs.Spans.{Bounds, EndAlone, IsOneLength, either, are_longer, are_shorter, begin_early, end_late, leave_none, must_fill};
 
-    /// What the spans of this pattern keep to.
+    /// What holds of the spans of this pattern.
     fn of_one(hir: &Hir) -> Spans
         ensures { Bounds result (meaning hir.now) }
     {
@@ -49,7 +49,7 @@ impl Spans {
         }
     }
 
-    /// What spans keep to that keep to one or the other.
+    /// What holds of spans if one of the two does.
     fn either(self, other: Spans) -> Spans
         ensures { result ≡ either self other }
     {
@@ -61,7 +61,7 @@ impl Spans {
         }
     }
 
-    /// What the spans of these patterns keep to.
+    /// What holds of the spans of these patterns.
     pub fn of(hirs: &[Hir]) -> Spans
         ensures { All (Bounds result) (map meaning hirs.now) }
     {
@@ -77,7 +77,7 @@ impl Spans {
         spans
     }
 
-    /// Whether each span begins where the slice does, and the search later.
+    /// Whether each span begins where the slice does, but the search begins later.
     #[inline(always)]
     fn begin_early<C: Cursor>(&self, input: &Input<C>) -> bool
         ensures { result ≡ begin_early self.now input.now }
@@ -85,7 +85,7 @@ impl Spans {
         self.begins && input.get_slice_span().start < low(input)
     }
 
-    /// Whether each span ends where the slice does, and the search, at `end`, before.
+    /// Whether each span ends where the slice does, but the search ends earlier, at `end`.
     #[inline(always)]
     fn end_late<C: Cursor>(&self, input: &mut Input<C>, end: usize) -> bool
         requires end { end ≡ high input.old }
@@ -95,7 +95,7 @@ impl Spans {
         self.ends && end < input.get_slice_span().end && byte_at(input, end).is_some()
     }
 
-    /// Whether each span is longer than this many bytes.
+    /// Whether each span is longer than `length` bytes.
     #[inline(always)]
     fn are_longer(&self, length: usize) -> bool
         ensures { result ≡ are_longer self.now length }
@@ -103,7 +103,7 @@ impl Spans {
         length < self.least
     }
 
-    /// Whether each span is shorter than this many bytes.
+    /// Whether each span is shorter than `length` bytes.
     #[inline(always)]
     fn are_shorter(&self, length: usize) -> bool
         ensures { result ≡ are_shorter self.now length }
@@ -114,7 +114,7 @@ impl Spans {
         }
     }
 
-    /// Whether a match reaches from where the search begins to where it ends, if there is one.
+    /// Whether a match, if there is one, reaches from the beginning of the search to its end.
     #[inline(always)]
     fn must_fill<C: Cursor>(&self, input: &Input<C>) -> bool
         ensures { result ≡ must_fill self.now input.now }
@@ -122,7 +122,7 @@ impl Spans {
         self.ends && (self.begins || input.get_anchored().is_anchored())
     }
 
-    /// The length of each span, if all are known to be of one.
+    /// Returns the length of each span in bytes, if all are known to have the same.
     #[inline(always)]
     pub fn only_length(&self) -> Option<usize>
         ensures { IfSome result (λ n. IsOneLength self.now n) }
@@ -141,10 +141,10 @@ impl Spans {
         self.ends && !self.begins
     }
 
-    /// Whether there can be no match: each would begin before the search or end behind it, or be
-    /// longer than what is searched, or, if it has to fill that, shorter.
+    /// Whether there can be no match. Each would begin before the search or end behind it, or be
+    /// longer than what is searched; or it would have to fill that, and be shorter.
     ///
-    /// If the cursor knows no total, this goes where the content ends.
+    /// If the cursor doesn't know the content's length, this goes to where the content ends.
     #[inline(always)]
     pub fn leave_none<C: Cursor>(&self, input: &mut Input<C>) -> bool
         ensures keeps { Keeps input.old input.new }

@@ -24,7 +24,7 @@ use rc_pikevm_search::engine::Engine;
 use rc_pikevm_search::strategy::{Strategy, guards_of, literals_of};
 use std::alloc::{AllocError, Global};
 
-/// Tables of all states, or the lazy DFA, or neither.
+/// The DFA, or the lazy DFA, or neither.
 #[derive(Drop)]
 pub(crate) struct Tables {
     pub(crate) dense: Option<Dense>,
@@ -41,9 +41,9 @@ fn exceeds(places: usize, limit: Option<usize>) -> bool
     }
 }
 
-/// Whether needles with which walks begin are sought fast, so that searches by tables go from one
-/// to the next. If a search for them would go by a table of first bytes, the tables of states read
-/// a byte as fast, and need not begin anew at each needle.
+/// Whether the search for prefix literals is fast, so that DFA searches go from one to the next. If
+/// that search went by a table of first bytes, a DFA would read a byte as fast, and need not begin
+/// anew at each literal.
 pub(crate) fn are_fast(strategy: &Strategy) -> bool {
     match guards_of(strategy) {
         Some(needles) => needles.is_fast(),
@@ -51,9 +51,9 @@ pub(crate) fn are_fast(strategy: &Strategy) -> bool {
     }
 }
 
-/// Whether searches by the full DFA are to rest between needles: if each match holds one, if those
-/// with which each begins are sought fast, and if some byte isn't read, since a search that found
-/// one goes from needle to needle.
+/// Whether DFA searches are to rest between literals: if there are required literals, if the search
+/// for prefix literals is fast, or if some byte may not be read, since a search that came to one
+/// goes from literal to literal.
 fn are_to_rest(strategy: &Strategy, needed: bool, automaton: &Automaton) -> bool {
     if needed {
         return true;
@@ -64,9 +64,8 @@ fn are_to_rest(strategy: &Strategy, needed: bool, automaton: &Automaton) -> bool
     }
 }
 
-/// The the full DFA of the automaton, which is that of this many patterns by their engine's
-/// program, if the limits allow some; with `needed` searches go by needles that each match holds.
-/// An `Err` means out of memory.
+/// Builds the DFA from the determinizer of `patterns` patterns, if the limits allow it. `needed`
+/// says that searches go by required literals. `Err` means out of memory.
 fn dense_of(
     alloc: Global,
     engine: &Engine,
@@ -98,7 +97,7 @@ fn dense_of(
     }
 }
 
-/// The tables of the lazy DFA, if they are switched on and their capacity serves.
+/// Builds the lazy DFA from the determinizer, if it is switched on and its capacity suffices.
 fn lazy_of(automaton: Automaton, limits: Limits) -> Option<Lazy>
     ensures made { IfSome result (IsLazyOf automaton limits.capacity) }
     ensures off { limits.hybrid ≡ false → result ≡ None }
@@ -114,9 +113,9 @@ fn lazy_of(automaton: Automaton, limits: Limits) -> Option<Lazy>
     }
 }
 
-/// The tables of this many patterns by their engine's program, if the limits allow some. If needles
-/// alone decide each answer, none are made. With `needed` searches go by needles that each match
-/// holds. An `Err` means out of memory.
+/// Builds the DFA or the lazy DFA of `patterns` patterns from their engine's program, as the limits
+/// allow. If literals alone decide each answer, neither is built. `needed` says that searches go by
+/// required literals. `Err` means out of memory.
 pub(crate) fn tables_of(
     alloc: Global,
     engine: &Engine,

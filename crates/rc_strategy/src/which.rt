@@ -19,8 +19,8 @@ use rc_text::cursor::Cursor;
 use rc_text::input::{Input, low};
 use rc_text::types::{Match, MatchKind, PatternID};
 
-/// Puts into the set each of this many patterns that has a match, as far as the set can hold it: a
-/// pass from the start on before which no walk begins tells all. The input's span stays.
+/// Inserts each of `patterns` patterns that has a match, as far as the set can hold it, by a pass
+/// from `start` on: no walk begins earlier. The input's span stays as it is.
 fn mark_from<C: Cursor>(
     engine: &Engine,
     cache: &mut cache::Cache,
@@ -67,8 +67,8 @@ impl Engines {
     ghost use Rattle.rc_strategy.specs.Starts.{IsFirstStart};
     ghost use Rattle.rc_pikevm.specs.PatternSpans.{AddsSpelled, AreOfFirst};
 
-    /// The match that needles alone tell, or tables. With None there are neither, or they find
-    /// none.
+    /// Returns the match by literals alone, or by a DFA. Returns None if there is neither, or it
+    /// has no answer.
     fn find_told<C: Cursor>(&self, cache: &mut Cache, input: &mut Input<C>) -> Option<Option<Match>>
         requires made { IsCacheIn self.now 0 cache.old }
         ensures keeps { Keeps input.old input.new }
@@ -81,10 +81,11 @@ impl Engines {
         self.find_in(&mut cache.lazy, input)
     }
 
-    /// From where on a pass tells each walk: none begins before. With None there is none at all.
+    /// Returns from where on a pass finds each walk: none begins earlier. Returns None if there is
+    /// no walk.
     ///
-    /// The preferred match begins at the least start of all walks, and so does the longest. If each
-    /// match counts, tables tell no more than whether there is one.
+    /// The leftmost-first match begins at the least start of all walks, and so does the
+    /// leftmost-longest. With `MatchKind::All`, a DFA only finds out whether there is a match.
     fn least_start<C: Cursor>(&self, cache: &mut Cache, input: &mut Input<C>) -> Option<usize>
         requires made { IsCacheIn self.now 0 cache.old }
         requires ordered { low input.old ≤ high input.old }
@@ -108,15 +109,14 @@ impl Engines {
         }
     }
 
-    /// Puts into the set each of this many patterns, all that there are, that has a match within
-    /// the bounds, as far as the set can hold it. What the set has stays. It takes no memory but
-    /// for states, as `find` does.
+    /// Inserts each pattern, of `patterns` that there are, that has a match within the bounds, as
+    /// far as the set can hold it. The set keeps what it has. It allocates only what `find` does.
     ///
-    /// If the set has each pattern that it can hold, or what is known of the patterns' spans leaves
-    /// none between the bounds, nothing is searched. Otherwise, a search as that of `find` tells
-    /// where the first match begins, if there is one, and a pass from there on tells which patterns
-    /// have one; of one pattern the search alone tells. If matches are passed over, which count
-    /// here, the pass tells all.
+    /// If the set has each pattern that it can hold, or the lengths and anchors of the patterns
+    /// rule a match out between the bounds, nothing is searched. Else a search finds where the
+    /// first match begins, if there is one, and a pass from there on finds all patterns with a
+    /// match. With one pattern, the search alone decides. If matches are passed over, which count
+    /// here, the pass does all.
     pub fn which_patterns<C: Cursor>(
         &self,
         cache: &mut Cache,

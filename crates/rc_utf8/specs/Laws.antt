@@ -1,4 +1,5 @@
--- The law of byte programs: their walks are those of the programs that they stand for, and each edge of theirs reads one byte.
+-- Law of byte programs: they have the walks of their programs, and each of their edges reads one
+-- byte at most.
 use Rattle.std.specs.Prelude.{◌≡◌, ◌↔◌, ℕ, ◌≤◌, ◌<◌, ◌+◌, ◌*◌, List, [], ◌∷◌, length, Bool, IsTrue, None, All}
 use Rattle.rc_pattern.specs.Re.{Re}
 use Rattle.rc_pattern.specs.WellFormed.{HasBounds}
@@ -15,16 +16,16 @@ use Rattle.std.specs.Option.{option_map}
 use Rattle.rc_program.specs.Greatest.{IsSpelledIn, greatest}
 use Rattle.rc_utf8.specs.Bytes.{bytes_of}
 
--- the same search over the byte program
+-- The same search over the byte program.
 abbrev pub by_bytes : Search → Search
 by_bytes s = record s { places = bytes_of s.places }
 
--- the way reads at most one byte
+-- The way reads at most one byte.
 abbrev pub IsOfOneByte : Way → Type 0
 IsOfOneByte (stays q) = Unit {0}
 IsOfOneByte (reads n q) = n ≡ 1
 
--- the place reads no scalars
+-- The place reads no scalars.
 abbrev pub IsBytePlace : Place → Type 0
 IsBytePlace (scalar rs n) = ⊥
 IsBytePlace _ = Unit {0}
@@ -35,37 +36,39 @@ pub record IsWalkFrom (s : Search) (k x p j : ℕ) (w : List Pair) : Type 0 wher
   pub pattern : place_at s.places (last_of w).0 ≡ accept p
   pub position : (last_of w).1 ≡ j
 
--- what holds of byte programs
+-- What holds of byte programs.
 pub record ByteProgramLaw : Type 0 where
-  -- a search over the byte program gives the same match
+  -- A search over the byte program gives the same match,
   pub same_answer : (s : Search) → IsClosed s.places → answer (by_bytes s) ≡ answer s
-  -- with the same slots
+  -- with the same slots,
   pub same_groups : (s : Search) (n : ℕ) → IsClosed s.places → groups (by_bytes s) n ≡ groups s n
-  -- and the same greatest span
+  -- and the same greatest span,
   pub same_greatest : (s : Search) → IsClosed s.places → greatest (by_bytes s) ≡ greatest s
-  -- and the same spans are spelled
+  -- and the same spans are spelled.
   pub same_spans : (s : Search) (m : Found) → IsClosed s.places → IsSpelledIn (by_bytes s) m ↔ IsSpelledIn s m
-  -- from each place of the program, as a pattern's entry, its walks lead to the same match places at the same positions
+  -- From each place of the program, as a pattern's entry, its walks lead to the same match places
+  -- at the same positions,
   pub same_walks : (s : Search) → IsClosed s.places → (k x p j : ℕ) → k < length s.places → x ≤ s.hi →
       ((w : List Pair) × IsWalkFrom (by_bytes s) k x p j w) ↔ ((w : List Pair) × IsWalkFrom s k x p j w)
-  -- and the first of those that may end ends where the program's does
+  -- and the first of those that may end ends where the program's does.
   pub same_from : (s : Search) → IsClosed s.places → (k x : ℕ) → k < length s.places → x ≤ s.hi →
       option_map last_of (walk_by (next_of (by_bytes s)) (ends (by_bytes s)) (length (bytes_of s.places) * (s.hi + 1)) [] (k, x))
       ≡ option_map last_of (walk_by (next_of s) (ends s) (length s.places * (s.hi + 1)) [] (k, x))
-  -- a place that reads no scalars stands at its number
+  -- A place that reads no scalars keeps its number.
   pub kept : (places : List Place) (k : ℕ) → k < length places → IsBytePlace (place_at places k) → place_at (bytes_of places) k ≡ place_at places k
-  -- the match places are those of the program
+  -- The match places are those of the program.
   pub match_places : (places : List Place) (k p : ℕ) → (place_at (bytes_of places) k ≡ accept p) ↔ (place_at places k ≡ accept p)
-  -- no place reads scalars
+  -- No place reads scalars.
   pub no_scalars : (places : List Place) → All IsBytePlace (bytes_of places)
-  -- no way out of a place reads more than one byte
+  -- No way out of a place reads more than one byte.
   pub by_one : (places : List Place) (test : Look → Bool) (bytes : List ℕ) →
       All (λ q. All IsOfOneByte (ways_out test bytes q)) (bytes_of places)
   pub closed : (places : List Place) → IsClosed places → IsClosed (bytes_of places)
-  -- an engine may run over it where one may run over the program: it is entered at place 0 too
+  -- If an engine may run over the program, it may run over the byte program: that is entered at
+  -- place 0 too.
   pub runnable : (places : List Place) → IsRunnable places → IsRunnable (bytes_of places)
-  -- no place is lost
+  -- No place is lost.
   pub longer : (places : List Place) → length places ≤ length (bytes_of places)
-  -- it is no longer than the program is heavy
+  -- It has no more places than the program weighs.
   pub light : (places : List Place) → length (bytes_of places) ≤ heaviness places
   pub small : (hs : List Re) → All HasBounds hs → length (bytes_of (program hs)) ≤ list_weight hs

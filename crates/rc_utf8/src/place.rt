@@ -2,7 +2,7 @@
 
 use rc_pattern::hir::{ClassBytesRange, Look};
 
-/// A way out of a branch: over one byte of a range, both ends included, to the place with this
+/// A transition of a branch: over one byte of a range, both ends included, to the place of this
 /// index.
 #[derive(Clone, Copy, Debug, PartialEq, Eq)]
 pub struct ByteWay {
@@ -27,9 +27,9 @@ pub enum BytePlace {
     Bytes(Vec<ClassBytesRange>, usize),
     /// A way out over each range of bytes.
     Branch(Vec<ByteWay>),
-    /// One way out, if the assertion holds.
+    /// One way out, which reads nothing, if the assertion holds.
     Guard(Look, usize),
-    /// One way out, and the slot that a visit here fills.
+    /// One way out, which reads nothing, and the slot that is set here.
     Slot(usize, usize),
     /// The match place of a pattern.
     Accept(usize),

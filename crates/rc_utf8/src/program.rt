@@ -19,7 +19,7 @@ use sequence::class_sequences;
 use std::alloc::{AllocError, Global};
 use tree::{Exits, add_tails, add_tree, append, longest};
 
-/// Adds a place for characters and its block.
+/// Appends a place of scalars as a branch, and its block. `Err` means out of memory.
 fn add_scalars(
     alloc: Global,
     places: &mut Vec<BytePlace>,
@@ -46,7 +46,8 @@ fn add_scalars(
     append(places, BytePlace::Branch(ways))
 }
 
-/// Adds a place and its block, where `blocks` begin at place number `first`.
+/// Appends a place, and its block if it has one. `blocks` begin at place number `first`. `Err`
+/// means out of memory.
 fn add_place(
     alloc: Global,
     places: &mut Vec<BytePlace>,
@@ -77,12 +78,12 @@ fn add_place(
     }
 }
 
-/// Returns the byte program of a program. Each place keeps its number, and the places that read the
-/// bytes of characters come behind.
+/// Returns the byte program of a program: each place keeps its number, and behind them are the
+/// places that read scalars byte by byte.
 ///
-/// It has no more places than the weight of the program: 1 for each place, and 84 more for each
-/// range of a place for characters. So a program of patterns that may be built is light enough. An
-/// `Err` means out of memory.
+/// It has no more places than the program weighs: 1 for each place, and 84 more for each range of a
+/// place of scalars. So patterns whose weight allows their program have a byte program too. `Err`
+/// means out of memory, and nothing else.
 pub fn byte_program(alloc: Global, program: &[Place]) -> Result<Vec<BytePlace>, AllocError>
     requires light { heaviness (sources_of program.now) ≤ greatest_weight }
     ensures { IfOk result (λ places. places_of places.items ≡ bytes_of (sources_of program.now)) }

@@ -7,7 +7,7 @@
 
 ghost use Rattle.rc_walks.specs.Walks.{FirstWalkLaw};
 
-/// Of the walks from some pairs at most one is the first.
+/// At most one of the walks from some pairs is the first.
 pub fn first_walks_are_one()
     ensures { FirstWalkLaw }
 {}

@@ -11,7 +11,7 @@ use rc_pattern::hir::{Capture, Class, Hir, HirKind, Repetition};
 use rc_program::place::Place;
 use std::alloc::AllocError;
 
-/// The greatest number of a group in a pattern that is light enough for a program.
+/// The greatest group number. Patterns that are light enough for a program have none above it.
 const GREATEST_GROUP: usize = 2147483647;
 
 /// Appends one place.
@@ -23,7 +23,7 @@ pub(super) fn append(places: &mut Vec<Place>, place: Place) -> Result<(), AllocE
     Ok(())
 }
 
-/// The choice between a body and the way out: greedy prefers the body.
+/// Returns the choice of a body and the way out: the body comes first if greedy.
 fn choice_of(greedy: bool, body: usize, out: usize) -> Place
     ensures { place_of result ≡ body_or_out greedy body out }
 {
@@ -33,7 +33,7 @@ fn choice_of(greedy: bool, body: usize, out: usize) -> Place
     Place::Choice(out, body)
 }
 
-/// Emits the part of a literal, which leads to `next`.
+/// Appends the places of a literal, which leads to `next`.
 fn emit_literal(places: &mut Vec<Place>, bytes: &Vec<u8>, next: usize) -> Result<(), AllocError>
     requires { vec_len places.old + vec_len bytes.now < 2 ^ 62 }
     ensures long { IfOk result (λ _. vec_len places.new ≡ vec_len places.old + (literal_part bytes.now.items).size) }
@@ -51,7 +51,7 @@ fn emit_literal(places: &mut Vec<Place>, bytes: &Vec<u8>, next: usize) -> Result
     append(places, Place::Byte(bytes[last], next))
 }
 
-/// Emits the part of a class, which leads to `next`.
+/// Appends the place of a class, which leads to `next`.
 fn emit_class(places: &mut Vec<Place>, class: &Class, next: usize) -> Result<(), AllocError>
     ensures long { IfOk result (λ _. vec_len places.new ≡ vec_len places.old + (part (class_meaning class.now)).size) }
     ensures more { IfOk result (λ _. places_of places.new.items
@@ -69,8 +69,9 @@ fn emit_class(places: &mut Vec<Place>, class: &Class, next: usize) -> Result<(),
     }
 }
 
-/// Emits the part of the pattern, which leads to `next`. It has its groups, of which group 1 has
-/// the slot `slots`, or has each group as its body.
+/// Appends the places of the pattern, which leads to `next`. Groups are emitted with their slots,
+/// of which group 1 has the slot `slots`; or, without `groups`, each group as its body. `Err` means
+/// out of memory.
 #[cycle(emit)]
 pub(super) fn emit(
     places: &mut Vec<Place>,
@@ -99,6 +100,8 @@ pub(super) fn emit(
     }
 }
 
+/// Appends the places of a group: a slot for its start, the body, and a slot for its end. Without
+/// `groups`, only the body is emitted.
 #[cycle(emit)]
 fn emit_capture(
     places: &mut Vec<Place>,
@@ -125,6 +128,7 @@ fn emit_capture(
     append(places, Place::Slot(slot + 1, next))
 }
 
+/// Appends the places of each member, one behind another, and a place that leads to `next`.
 #[cycle(emit)]
 fn emit_concat(
     places: &mut Vec<Place>,
@@ -146,6 +150,8 @@ fn emit_concat(
     append(places, Place::Pass(next))
 }
 
+/// Appends for each member a choice of it or the later ones, and its places, which lead to `next`.
+/// The last choice's second branch is a dead end.
 #[cycle(emit)]
 fn emit_alternation(
     places: &mut Vec<Place>,
@@ -169,6 +175,9 @@ fn emit_alternation(
     append(places, Place::Dead)
 }
 
+/// Appends the places of a repetition. With a maximum, these are `min` copies of the body, and `max
+/// - min` optional ones, each nested in the one before. Without a maximum, the last copy is in a
+/// loop, and the whole is optional if `min` is 0.
 #[cycle(emit)]
 fn emit_repetition(
     places: &mut Vec<Place>,

@@ -6,8 +6,7 @@ ghost use Rattle.rc_compile.specs.Shown.{laid};
 
 use rc_pattern::hir::{Hir, HirKind, Repetition};
 
-/// The number of places of the part of the pattern: with its groups, or with each group as its
-/// body.
+/// Returns how many places the pattern takes: with its groups, or with each group as its body.
 #[cycle(size)]
 pub(super) fn size(hir: &Hir, groups: bool) -> usize
     requires { (laid groups (meaning hir.now)).size < 2 ^ 62 }
@@ -28,6 +27,7 @@ pub(super) fn size(hir: &Hir, groups: bool) -> usize
     }
 }
 
+/// Returns how many places a repetition takes.
 #[cycle(size)]
 fn size_of_repetition(repetition: &Repetition, groups: bool) -> usize
     requires { (laid groups (repetition_meaning repetition.now)).size < 2 ^ 62 }
@@ -54,6 +54,7 @@ fn size_of_repetition(repetition: &Repetition, groups: bool) -> usize
     }
 }
 
+/// Returns how many places a concatenation takes.
 #[cycle(size)]
 #[tactic(auto, using(crate::proofs::SizeLemmas::cat_member))]
 fn size_of_concat(subs: &[Hir], groups: bool) -> usize
@@ -67,6 +68,7 @@ fn size_of_concat(subs: &[Hir], groups: bool) -> usize
     total
 }
 
+/// Returns how many places an alternation takes.
 #[cycle(size)]
 #[tactic(auto, using(crate::proofs::SizeLemmas::alt_member))]
 fn size_of_alternation(subs: &[Hir], groups: bool) -> usize

@@ -8,15 +8,15 @@ ghost use Rattle.rc_utf8.specs.Places.{sequences_of};
 use rc_pattern::hir::{ClassBytesRange, ClassUnicodeRange};
 use std::alloc::{AllocError, Global};
 
-/// A UTF-8 sequence: one byte of each of the ranges in turn, and then some number of continuation
-/// bytes.
+/// A sequence: one byte of each of the ranges in turn, and then `rest` continuation bytes of any
+/// value.
 #[derive(Drop)]
 pub(super) struct Sequence {
     pub(super) ranges: Vec<ClassBytesRange>,
     pub(super) rest: usize,
 }
 
-/// The ranges, and one more that contains only the byte.
+/// Returns the ranges with one more, which is the byte alone.
 fn extended(
     alloc: Global,
     ranges: &[ClassBytesRange],
@@ -32,7 +32,7 @@ fn extended(
     Ok(longer)
 }
 
-/// Adds the sequence of the ranges, one more, and `rest` continuation bytes.
+/// Adds the sequence of the ranges, one more range, and `rest` continuation bytes.
 fn add_range(
     alloc: Global,
     list: &mut Vec<Sequence>,
@@ -50,8 +50,8 @@ fn add_range(
     Ok(())
 }
 
-/// Adds the sequence of the ranges, then a byte above `byte` up to `end`, if there is one, and
-/// `rest` continuation bytes.
+/// Adds the sequence of the ranges, a byte above `byte` up to `end`, if there is one, and `rest`
+/// continuation bytes.
 fn add_above(
     alloc: Global,
     list: &mut Vec<Sequence>,
@@ -69,8 +69,8 @@ fn add_above(
     add_range(alloc, list, ranges, byte + 1, end, rest)
 }
 
-/// Adds the sequence of the ranges, then a continuation byte below `byte`, if there is one, and
-/// `rest` continuation bytes.
+/// Adds the sequence of the ranges, a continuation byte below `byte`, if there is one, and `rest`
+/// continuation bytes.
 fn add_below(
     alloc: Global,
     list: &mut Vec<Sequence>,
@@ -99,7 +99,7 @@ fn all_are(byte: u8, bytes: &[u8]) -> bool
     true
 }
 
-/// Whether the bytes from `first` and `left` on, with a first byte of at most `last`, are all that
+/// Whether the bytes from `first` and `left` on, with a first byte up to `last`, are all those that
 /// begin with a byte from `first` to `last`.
 fn reach_all_from(first: u8, left: &[u8], last: u8) -> bool
     ensures { result ≡ (all_are 128 left.now && nat_le first last) }
@@ -107,8 +107,8 @@ fn reach_all_from(first: u8, left: &[u8], last: u8) -> bool
     all_are(128, left) && first <= last
 }
 
-/// Whether the bytes from a lesser first byte up to `last` and `left` are all that begin with a
-/// byte up to `last`.
+/// Whether the bytes up to `last` and `left`, with a lesser first byte, are all those that begin
+/// with a byte up to `last`.
 fn reach_all_to(first: u8, last: u8, left: &[u8]) -> bool
     ensures { result ≡ (all_are 191 left.now && nat_lt first last) }
 {
@@ -122,8 +122,8 @@ fn are_any(low: &[u8], high: &[u8]) -> bool
     all_are(128, low) && all_are(191, high)
 }
 
-/// Adds the sequences over the bytes that are at least those of `low`, with a first byte of at most
-/// `last`, behind the ranges.
+/// Adds the sequences over the bytes that are at least `low`, with a first byte up to `last`,
+/// behind the ranges.
 fn add_from(
     alloc: Global,
     list: &mut Vec<Sequence>,
@@ -146,8 +146,7 @@ fn add_from(
     add_above(alloc, list, ranges, first, last, left.len())
 }
 
-/// Adds the sequences over the continuation bytes that are at most those of `high`, behind the
-/// ranges.
+/// Adds the sequences over the continuation bytes that are at most `high`, behind the ranges.
 fn add_to(
     alloc: Global,
     list: &mut Vec<Sequence>,
@@ -169,8 +168,8 @@ fn add_to(
     add_to(alloc, list, &longer, left)
 }
 
-/// Adds the sequences over the bytes from those of `low` to `last` and those of `high`, behind the
-/// ranges, if the first of `low` is not `last`.
+/// Adds the sequences over the bytes from `low` to those of `last` and `high`, behind the ranges.
+/// The first byte of `low` isn't `last`.
 fn add_both(
     alloc: Global,
     list: &mut Vec<Sequence>,
@@ -191,7 +190,7 @@ fn add_both(
     add_to(alloc, list, &longer, high)
 }
 
-/// Adds the sequences over as many bytes from those of `low` to those of `high`, behind the ranges.
+/// Adds the sequences over the bytes from `low` to `high`, which are as many, behind the ranges.
 fn add_within(
     alloc: Global,
     list: &mut Vec<Sequence>,
@@ -222,7 +221,7 @@ fn add_within(
     add_within(alloc, list, &longer, low_left, high_left)
 }
 
-/// The later of two characters.
+/// Returns the later of two scalars.
 fn later(one: char, other: char) -> char
     ensures { result ≡ max one other }
 {
@@ -232,7 +231,7 @@ fn later(one: char, other: char) -> char
     one
 }
 
-/// The earlier of two characters.
+/// Returns the earlier of two scalars.
 fn earlier(one: char, other: char) -> char
     ensures { result ≡ min one other }
 {
@@ -242,8 +241,8 @@ fn earlier(one: char, other: char) -> char
     one
 }
 
-/// Adds the sequences of the characters of a range between `least` and `most`, which have equally
-/// many bytes.
+/// Adds the sequences of the scalars of a range from `least` to `most`, all of which take the same
+/// number of bytes.
 fn add_between(
     alloc: Global,
     list: &mut Vec<Sequence>,
@@ -282,7 +281,7 @@ fn add_scalars(
     add_between(alloc, list, range, '\u{10000}', char::MAX)
 }
 
-/// The sequences of the characters of the ranges.
+/// Returns the sequences of the scalars of the ranges. `Err` means out of memory.
 pub(super) fn class_sequences(
     alloc: Global,
     ranges: &[ClassUnicodeRange],

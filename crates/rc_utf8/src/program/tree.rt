@@ -12,8 +12,8 @@ use crate::place::{BytePlace, ByteWay};
 use rc_pattern::hir::ClassBytesRange;
 use std::alloc::{AllocError, Global};
 
-/// Where a class leads: behind `count` places that read continuation bytes, as many as each one's
-/// turn from `count` down to 1. The first of them is at `tail`, and the last leads to `next`.
+/// Where a class leads: to `next`, behind `count` places for continuation bytes. The first of these
+/// is place `tail` and reads `count` bytes of any value; each of the others reads one less.
 #[derive(Clone, Copy)]
 pub(super) struct Exits {
     pub(super) count: usize,
@@ -42,7 +42,7 @@ fn add_way(ways: &mut Vec<ByteWay>, range: ClassBytesRange, next: usize) -> Resu
     Ok(())
 }
 
-/// The place that reads `rest` continuation bytes.
+/// Returns the place that reads any `rest` continuation bytes.
 fn rest_of(exits: Exits, rest: usize) -> usize
     requires few { rest ≤ exits.count }
     requires room { exits.tail + exits.count < 2 ^ 62 }
@@ -54,7 +54,7 @@ fn rest_of(exits: Exits, rest: usize) -> usize
     exits.tail + (exits.count - rest)
 }
 
-/// Appends the places that read continuation bytes.
+/// Appends the places that read continuation bytes of any value.
 pub(super) fn add_tails(
     alloc: Global,
     blocks: &mut Vec<BytePlace>,
@@ -77,7 +77,7 @@ pub(super) fn add_tails(
     Ok(())
 }
 
-/// The greatest number of continuation bytes with which a sequence ends.
+/// Returns the most continuation bytes of any value with which a sequence ends.
 pub(super) fn longest(sequences: &[Sequence]) -> usize
     ensures { result ≡ longest (sequences_of sequences.now) }
 {
@@ -90,7 +90,7 @@ pub(super) fn longest(sequences: &[Sequence]) -> usize
     longest
 }
 
-/// Whether the sequence goes on with this range, behind `level` ranges, and then with others.
+/// Whether the sequence goes on with this range behind `level` ranges, and then with others.
 fn begins_with(sequence: &Sequence, level: usize, range: ClassBytesRange) -> bool
     requires { level < 4 }
     ensures { result ≡ begins_with (byte_range range) (left_at level (sequence_of sequence.now)).0 }
@@ -102,8 +102,8 @@ fn begins_with(sequence: &Sequence, level: usize, range: ClassBytesRange) -> boo
     here.start == range.start && here.end == range.end
 }
 
-/// The number of first sequences that go on with this range, behind `level` ranges, and then with
-/// others.
+/// Returns how many of the first sequences go on with this range behind `level` ranges, and then
+/// with others.
 fn group_len(sequences: &[Sequence], level: usize, range: ClassBytesRange) -> usize
     requires { level < 4 }
     ensures within { result ≤ length sequences.now }
@@ -118,8 +118,8 @@ fn group_len(sequences: &[Sequence], level: usize, range: ClassBytesRange) -> us
     sequences.len()
 }
 
-/// Adds the first way over sequences behind `level` ranges, and the places below it; `blocks` begin
-/// at the place with the number `first`. Returns the number of sequences over that way.
+/// Appends the first way over sequences behind `level` ranges, and the places below it. `blocks`
+/// begin at place number `first`. Returns how many sequences go by that way.
 #[cycle(tree)]
 fn add_group(
     alloc: Global,
@@ -155,8 +155,8 @@ fn add_group(
     Ok(count)
 }
 
-/// The ways over sequences behind `level` ranges. The places below them are added to `blocks`,
-/// which begin at the place with the number `first`.
+/// Returns the ways over sequences behind `level` ranges, and appends the places below them to
+/// `blocks`, which begin at place number `first`.
 #[cycle(tree)]
 pub(super) fn add_tree(
     alloc: Global,
