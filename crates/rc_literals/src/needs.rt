@@ -55,7 +55,7 @@ fn longer_prefilter(alloc: Global, hirs: &[Hir]) -> Result<Option<Prefilter>, Al
     };
     let longer = fast_prefilter(alloc, list)?;
     if let Some(needles) = &longer {
-        if !needles.goes_by_sieve() {
+        if !needles.goes_by_teddy() {
             return Ok(None);
         }
     }

@@ -1,7 +1,7 @@
 pub mod RangeLemmas
 pub mod StandLemmas
 pub mod ScanLemmas
-pub mod SieveLemmas
+pub mod TeddyLemmas
 pub mod OpeningLemmas
 pub mod TableLemmas
 pub mod FindLemmas

@@ -2,7 +2,7 @@
 use Rattle.std.proofs.Common.{◌≡◌, ℕ, ◌+◌, ◌<◌, List, length, true, false, slice_index, ap, ◌∙◌, arith}
 use Rattle.std.proofs.lemmas.Bool.Decides.{nat_tests}
 use Rattle.rc_needles.specs.Openings.{IsOpened, opens}
-use Rattle.rc_needles.specs.Sieves.{MayStand}
+use Rattle.rc_needles.specs.Teddies.{MayStand}
 use Rattle.rc_needles.specs.Tables.{Agrees}
 
 -- no needle stands there

@@ -5,6 +5,6 @@ pub mod Openings
 pub mod Pairs
 pub mod Prefilters
 pub mod Scans
-pub mod Sieves
+pub mod Teddies
 pub mod Tables
 pub mod Tries

@@ -1,7 +1,7 @@
 -- Only proofs use this file.
 -- Bloom filter: bits for the first three bytes of needles.
 use Rattle.std.specs.Prelude.{◌≡◌, ℕ, ◌+◌, ◌*◌, ◌/◌, ◌%◌, ◌^◌, ◌<◌, ◌≤◌, ◌==◌, Bool, true, List, length, slice_index}
-use Rattle.rc_needles.specs.Sieves.{MayStand}
+use Rattle.rc_needles.specs.Teddies.{MayStand}
 use Rattle.rc_needles.specs.Tables.{Agrees, numbered}
 
 -- Which word has the bits of two bytes.

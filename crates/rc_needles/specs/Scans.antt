@@ -3,7 +3,7 @@
 use Rattle.std.specs.Prelude.{◌≡◌, ℕ, ◌<◌, ◌≤◌, Bool, true, List, length, drop, ⊤}
 use denote.Struct.Props.{props}
 use Rattle.memchr.specs.Find.{is_byte, is_byte2, is_byte3}
-use Rattle.rc_needles.specs.Sieves.{AreSifted}
+use Rattle.rc_needles.specs.Teddies.{AreSifted}
 use Rattle.rc_needles.specs.Tables.{numbered, BeginsWithByte}
 use Rattle.rc_needles.specs.declared.scan.Heads.{Heads}
 use Rattle.rc_needles.specs.declared.scan.Heads.TheVariants.{One, Two, Three, Many}
@@ -31,7 +31,7 @@ pub record IsRestOf (needles : List (List ℕ)) (offset : ℕ) (rest : List ℕ)
 abbrev pub IsScanOf : List (List ℕ) → ℕ → Scan → Type 0
 IsScanOf needles offset (scan.Needle rest) = IsRestOf needles offset rest
 IsScanOf needles offset (scan.Heads heads) = (offset ≡ 0) × AreHeadsOf needles heads
-IsScanOf needles offset (scan.Sieve sieve) = (offset ≡ 0) × AreSifted sieve needles
+IsScanOf needles offset (scan.Teddy teddy) = (offset ≡ 0) × AreSifted teddy needles
 
 -- It is a fact: there is at most one proof of it.
 pub AreHeadsOf-is_fact : (needles : List (List ℕ)) (heads : Heads) → IsProp (AreHeadsOf needles heads)
@@ -46,4 +46,4 @@ IsScanOf-is_fact needles offset (scan.Heads (One a)) = hlevel props
 IsScanOf-is_fact needles offset (scan.Heads (Two a b)) = hlevel props
 IsScanOf-is_fact needles offset (scan.Heads (Three a b c)) = hlevel props
 IsScanOf-is_fact needles offset (scan.Heads Many) = hlevel props
-IsScanOf-is_fact needles offset (scan.Sieve sieve) = hlevel props
+IsScanOf-is_fact needles offset (scan.Teddy teddy) = hlevel props

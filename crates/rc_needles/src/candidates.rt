@@ -3,13 +3,13 @@ ghost use Rattle.std.specs.Prelude.{◌≡◌, ◌+◌, ◌<◌, ◌≤◌, ℕ,
 ghost use Rattle.rc_text.specs.Text.{Keeps};
 ghost use Rattle.rc_needles.specs.Needles.{needle_at};
 ghost use Rattle.rc_needles.specs.Scans.{AreHeadsOf, AreHeadsOf-is_fact, IsRestOf};
-ghost use Rattle.rc_needles.specs.Sieves.{AreSifted};
+ghost use Rattle.rc_needles.specs.Teddies.{AreSifted};
 ghost use Rattle.rc_needles.specs.Tables.{Agrees, IsRuledOut, needles_in};
 
 use crate::pairs::{LANES, are_nowhere, first_place};
 use crate::scan::{Heads, Scan, Searcher};
-use crate::sieve::{LEAST_PIECE, Sieve};
 use crate::table::Table;
+use crate::teddy::{LEAST_PIECE, Teddy};
 use memchr::memmem::Finder;
 use memchr::{memchr, memchr2, memchr3};
 use rc_text::cursor::Cursor;
@@ -121,21 +121,21 @@ impl Candidates for ByHead<'_> {
 
 /// Looks for the first three bytes of needles, by Teddy.
 #[derive(Drop)]
-struct BySieve<'a> {
+struct ByTeddy<'a> {
     searcher: &'a Searcher,
-    sieve: &'a Sieve,
+    teddy: &'a Teddy,
     ghost from_start: { searcher.now.offset ≡ 0 },
-    ghost are: { AreSifted sieve.now (needles_in searcher.now.table.needles.items) },
+    ghost are: { AreSifted teddy.now (needles_in searcher.now.table.needles.items) },
 }
 
-impl Candidates for BySieve<'_> {
+impl Candidates for ByTeddy<'_> {
     ghost needles = { λ s. needles_in s.searcher.now.table.needles.items };
 
     ghost offset = { λ s. s.searcher.now.offset };
 
     #[inline(always)]
     fn candidate(&self, piece: &[u8]) -> usize {
-        sieve_candidate(self.sieve, &self.searcher.table, piece)
+        teddy_candidate(self.teddy, &self.searcher.table, piece)
     }
 
     #[inline(always)]
@@ -186,15 +186,15 @@ fn head_candidate(table: &Table, piece: &[u8]) -> usize
 
 /// Returns the first index at which a bucket takes three bytes. Near the piece's end, where Teddy
 /// would read too far, it is the index of the first byte with which a needle begins.
-fn sieve_candidate(sieve: &Sieve, table: &Table, piece: &[u8]) -> usize
-    requires { AreSifted sieve.now (needles_in table.now.needles.items) }
+fn teddy_candidate(teddy: &Teddy, table: &Table, piece: &[u8]) -> usize
+    requires { AreSifted teddy.now (needles_in table.now.needles.items) }
     ensures within { result ≤ length piece.now }
     ensures passed { (k : ℕ) → k < result → IsRuledOut (needles_in table.now.needles.items) 0 piece.now k }
 {
     if piece.len() < LEAST_PIECE {
         return head_candidate(table, piece);
     }
-    let at = sieve.place(piece);
+    let at = teddy.place(piece);
     let last = piece.len() - 2;
     if at < last {
         return at;
@@ -293,7 +293,7 @@ pub fn place_from<C: Cursor>(
             let heads = *heads;
             look_from(input, &ByHead { searcher, heads }, from, end)
         }
-        Scan::Sieve(sieve) => look_from(input, &BySieve { searcher, sieve }, from, end),
+        Scan::Teddy(teddy) => look_from(input, &ByTeddy { searcher, teddy }, from, end),
     }
 }
 

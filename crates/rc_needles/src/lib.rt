@@ -14,6 +14,6 @@ mod openings;
 mod pairs;
 pub mod prefilter;
 mod scan;
-mod sieve;
 mod table;
+mod teddy;
 mod trie;

@@ -62,8 +62,8 @@ impl Prefilter {
     }
 
     /// Whether Teddy searches for the needles.
-    pub fn goes_by_sieve(&self) -> bool {
-        matches!(&self.searcher.scan, Scan::Sieve(_))
+    pub fn goes_by_teddy(&self) -> bool {
+        matches!(&self.searcher.scan, Scan::Teddy(_))
     }
 
     /// Whether the search is fast: by one needle, by at most three first bytes, or by Teddy if the
@@ -72,7 +72,7 @@ impl Prefilter {
         let table = &self.searcher.table;
         match &self.searcher.scan {
             Scan::Heads(Heads::Many) => false,
-            Scan::Sieve(_) => are_long(&table.needles) || have_few_heads(table),
+            Scan::Teddy(_) => are_long(&table.needles) || have_few_heads(table),
             _ => true,
         }
     }

@@ -4,8 +4,8 @@ ghost use Rattle.memchr.specs.Find.{IsFirst};
 ghost use Rattle.rc_needles.specs.Tables.{AreSome, needles_in};
 ghost use Rattle.rc_needles.specs.Scans.{AreHeadsOf, IsScanOf, IsScanOf-is_fact};
 
-use crate::sieve::{Sieve, sieve_of};
 use crate::table::{Table, table_of};
+use crate::teddy::{Teddy, teddy_of};
 use memchr::arch::all::packedpair::{DefaultFrequencyRank, HeuristicFrequencyRank};
 use memchr::memmem::Finder;
 use std::alloc::{AllocError, Global};
@@ -34,7 +34,7 @@ pub enum Scan {
     /// The first bytes of needles.
     Heads(Heads),
     /// The first three bytes of needles, by Teddy.
-    Sieve(Sieve),
+    Teddy(Teddy),
 }
 
 /// The needles, how a piece is searched for them, and how many bytes behind a needle's start the
@@ -76,9 +76,9 @@ fn scan_of(table: &Table) -> Scan
     ensures { IsScanOf (needles_in table.now.needles.items) 0 result }
 {
     let heads = heads_of(table);
-    if matches!(heads, Heads::Many) || suits_sieve(&table.needles) {
-        if let Some(sieve) = sieve_of(&table.needles) {
-            return Scan::Sieve(sieve);
+    if matches!(heads, Heads::Many) || suits_teddy(&table.needles) {
+        if let Some(teddy) = teddy_of(&table.needles) {
+            return Scan::Teddy(teddy);
         }
     }
     Scan::Heads(heads)
@@ -86,7 +86,7 @@ fn scan_of(table: &Table) -> Scan
 
 /// Whether Teddy is faster for several needles than a search for few first bytes: each needle has
 /// the three bytes that Teddy reads, or each has two and one begins with a common byte.
-fn suits_sieve(needles: &[Vec<u8>]) -> bool {
+fn suits_teddy(needles: &[Vec<u8>]) -> bool {
     if needles.len() < 2 {
         return false;
     }

@@ -1,7 +1,0 @@
-use Rattle.std.proofs.Common.{ℕ, ◌<◌}
-use Rattle.rc_needles.specs.Sieves.{IsSifted}
-use Rattle.rc_needles.specs.Tables.{needles_in, numbered}
-use Rattle.rc_needles.proofs.sieve.sieve_of.Given as goal
-
-abbrev pub invariant-loop-needle : goal.invariant-loop-needle
-invariant-loop-needle l = (n : ℕ) → n < l.needle-index → IsSifted l.sieve (numbered (needles_in l.needles) n)

@@ -1,6 +1,0 @@
-use Rattle.std.proofs.Common.{◌++◌}
-use Rattle.rc_needles.proofs.SieveLemmas.{picked}
-use Rattle.rc_needles.proofs.sieve.two_back.Goals as goal
-
-pub returns : goal.returns
-returns c = picked (c.args.before ++ c.args.now) 14
