@@ -1,4 +1,4 @@
-//! NFA compiler: one part for each pattern, behind a choice among them.
+//! NFA compiler: one part for each pattern, after a choice among them.
 
 ghost use Rattle.std.specs.Prelude.{◌≡◌, ◌+◌, ◌-◌, ◌<◌, ◌≤◌, ◌^◌, [], ◌∷◌, ◌++◌, All, IfOk, map, min, vec_len};
 ghost use Rattle.rc_pattern.specs.Limits.{greatest_weight};

@@ -12,7 +12,7 @@ pub record AreStates (m : Machine) (states : List State) : Type 0 where
   pub reached : (id : ℕ) (s : State) → slice_get states id ≡ Some s → IsReached m s
   pub once : (i j : ℕ) (s : State) → slice_get states i ≡ Some s → slice_get states j ≡ Some s → i ≡ j
 
--- What these states weigh, in bytes, for so many byte classes.
+-- The weight of these states in bytes, for so many byte classes.
 abbrev pub weight_by : Machine → ℕ → List State → ℕ
 weight_by m classes states = weight_of (classes + 1) ((length m.entries + 2) * (classes + 1)) states
 

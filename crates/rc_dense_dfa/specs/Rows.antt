@@ -49,7 +49,7 @@ abbrev pub IsCellOf : Machine → List ℕ → List State → ℕ → ℕ → �
 IsCellOf m samples states id class cell = (s : State) (b : ℕ) → slice_get states id ≡ Some s → slice_get samples class ≡ Some b →
     IsCell m (length samples) states (Some b) (Leads m s (Some b)) cell
 
--- What is beside the start of a search: a byte of the class, or nothing in the last column.
+-- The byte beside the start of a search: one of the class, or none in the last column.
 abbrev pub IsBeside : List ℕ → ℕ → Option ℕ → Type 0
 IsBeside samples column None = column ≡ length samples
 IsBeside samples column (Some b) = slice_get samples column ≡ Some b
@@ -59,7 +59,7 @@ abbrev pub IsStartOf : Machine → List ℕ → List State → ℕ → ℕ → �
 IsStartOf m samples states mode column cell = (anchored : Anchored) (beside : Option ℕ) → mode_of anchored ≡ mode → IsAsked m anchored → IsBeside samples column beside →
     IsCell m (length samples) states beside (Begins m anchored beside) cell
 
--- What is found at the end, for the first states.
+-- The codes of what is found at the end, for the first states.
 abbrev pub AreEnds : Machine → List State → List ℕ → Type 0
 AreEnds m states ends = (id : ℕ) (s : State) → id < length ends → slice_get states id ≡ Some s →
     (t : State) × Leads m s None t × (slice_get ends id ≡ Some (code_of t.stop))
@@ -76,11 +76,11 @@ pub record AreStarts (m : Machine) (samples : List ℕ) (states : List State) (m
   pub filled : AreFilled (length samples + 1) (IsStartOf m samples states) starts
   pub len : length starts ≡ mode * (length samples + 1) + column
 
--- What is found at the end, from the state of this number on.
+-- The code of what is found at the end, from the state of this number on.
 abbrev pub IsEndOf : Machine → List State → ℕ → ℕ → Type 0
 IsEndOf m states number code = (s : State) → slice_get states number ≡ Some s → (t : State) × Leads m s None t × (code ≡ code_of t.stop)
 
--- What was found before, for the first states.
+-- The codes of what was found before, for the first states.
 abbrev pub AreTells : List State → List ℕ → Type 0
 AreTells states tells = (id : ℕ) (s : State) → id < length tells → slice_get states id ≡ Some s → slice_get tells id ≡ Some (code_of s.stop)
 

@@ -38,17 +38,17 @@ InRow d row = row + d.width ≤ length d.cells.items
 abbrev pub has_died : ℕ → Bool
 has_died cell = if nat_le met cell then nat_le dead (cell - met) else nat_le dead cell
 
--- The note of a run behind a cell at the position: its row, if the cell has the mark `MET`, else
--- the earlier note.
+-- The note of a run after a cell at the position: its row, if the cell has the mark `MET`, else the
+-- earlier note.
 abbrev pub noted_by : ℕ → ℕ → Option (ℕ × ℕ) → Option (ℕ × ℕ)
 noted_by cell at noted = if nat_le met cell then Some (row_of cell, at) else noted
 
--- What was found, from its code, or else the other.
+-- The find with this code, or else the other.
 abbrev pub met_by : ℕ → ℕ → Option (ℕ × ℕ) → Option (ℕ × ℕ)
 met_by zero at other = other
 met_by (suc k) at other = Some (k, at)
 
--- What was found last, by the table.
+-- The last find, by the table.
 abbrev pub told : Table → Option (ℕ × ℕ) → Option (ℕ × ℕ)
 told d None = None
 told d (Some n) = met_by (slice_index_or d.tells.items (n.0 / d.width) 0) n.1 None

@@ -21,7 +21,7 @@ IsRow d states row s = (id : ℕ) × (slice_get states id ≡ Some s) × (row �
 abbrev pub Names : Table → List State → ℕ → State → Type 0
 Names d states cell s = (row : ℕ) × IsRow d states row s × (skips : Bool) × (cell ≡ row + marks s + (if skips then skip else 0))
 
--- What was found, as a number.
+-- A find, as a number.
 abbrev pub code_of : Option ℕ → ℕ
 code_of None = 0
 code_of (Some k) = k + 1
@@ -53,10 +53,10 @@ pub record IsTable (m : Machine) (states : List State) (d : Table) : Type 0 wher
   pub leads : (row b : ℕ) (s : State) → b < 256 → IsRow d states row s →
       ((cell_at d (row + class_at d b) ≡ quit) × (¬ IsReadable m.setting.needs (Some b)))
       ⊎ (IsReadable m.setting.needs (Some b) × ((t : State) × Leads m s (Some b) t × Names d states (cell_at d (row + class_at d b)) t))
-  -- What is found at the end.
+  -- The codes of what is found at the end.
   pub ends : (id : ℕ) (s : State) → slice_get states id ≡ Some s →
       (t : State) × Leads m s None t × (slice_get d.ends.items id ≡ Some (code_of t.stop))
-  -- What was found before.
+  -- The codes of what was found before.
   pub tells : (id : ℕ) (s : State) → slice_get states id ≡ Some s → slice_get d.tells.items id ≡ Some (code_of s.stop)
   -- Where a search may rest.
   pub idles : (id : ℕ) (s : State) → slice_get states id ≡ Some s → slice_get d.idles.items id ≡ Some (is_idle s)
@@ -89,8 +89,8 @@ abbrev pub listed_by : List State → ℕ
 listed_by [] = 0
 listed_by (s ∷ ss) = length s.list + listed_by ss
 
--- What states weigh: 8 bytes for each cell of a row and each start cell, and for each state 32
--- bytes and 8 for each entry of its list. Two more states are counted, with no entries: those that
--- stand for a row not known yet, and for a byte that may not be read.
+-- The weight of states: 8 bytes for each cell of a row and each start cell, and for each state 32
+-- bytes and 8 for each entry of its list. Two more states are counted, with no entries: those for a
+-- row not known yet, and for a byte that may not be read.
 abbrev pub weight_of : ℕ → ℕ → List State → ℕ
 weight_of width starts states = 8 * width * (length states + 2) + 8 * starts + 32 * (length states + 2) + 8 * listed_by states

@@ -234,7 +234,7 @@ fn cross<C: Cursor>(
     Leg::Through(stand)
 }
 
-/// Begins a search at the position: the byte ahead of it decides the start state.
+/// Begins a search at the position: the byte after it decides the start state.
 #[inline(always)]
 fn begin(table: &Table, anchored: Anchored, beside: Option<u8>, from: usize) -> Leg
     ghost course: { Course }

@@ -31,7 +31,7 @@ fn looks_from(may_rest: bool, rest_from: usize) -> usize {
 }
 
 /// Returns the cell to which a byte of a piece leads. If it has no mark, it is the row of the run
-/// behind that byte.
+/// after that byte.
 #[inline(always)]
 fn cell_at(
     table: &Table,
@@ -58,7 +58,7 @@ fn cell_at(
 }
 
 /// Runs over bytes whose cells have no mark, four at a time. Returns how many bytes were read, and
-/// the row behind them. Fewer than four are left, or the next cell has a mark.
+/// the row after them. Fewer than four are left, or the next cell has a mark.
 #[inline(always)]
 fn stride(table: &Table, piece: &[u8], from: usize, start: usize, stand: Stand) -> (usize, usize)
     ghost course: { Course }
@@ -135,10 +135,10 @@ fn stride(table: &Table, piece: &[u8], from: usize, start: usize, stand: Stand) 
     (index, row)
 }
 
-/// Leaps over the bytes of a piece behind a cell with the mark `SKIP`, up to the first that may
-/// leave the two rows. Returns how many bytes were read, and the row behind them. No byte is read
-/// if the row has no leap. Returns None if that cell needs a look: the search may rest there, from
-/// the position `looks` on, or the row has no leap and some row has few exits.
+/// Leaps over the bytes of a piece after a cell with the mark `SKIP`, up to the first that may
+/// leave the two rows. Returns how many bytes were read, and the row after them. No byte is read if
+/// the row has no leap. Returns None if that cell needs a look: the search may rest there, from the
+/// position `looks` on, or the row has no leap and some row has few exits.
 #[inline(always)]
 fn leap(
     table: &Table,
@@ -239,7 +239,7 @@ fn run(
     (index, Stand { row, noted })
 }
 
-/// Reads one byte, whatever its cell. With `may_rest`, the search rests behind it if it may, from
+/// Reads one byte, whatever its cell. With `may_rest`, the search rests after it if it may, from
 /// the position `rest_from` on.
 #[inline(always)]
 fn step(
@@ -347,7 +347,7 @@ fn cross<C: Cursor>(
     Leg::Through(stand)
 }
 
-/// Begins a search at the position: the byte behind it decides the start state.
+/// Begins a search at the position: the byte before it decides the start state.
 #[inline(always)]
 fn begin(table: &Table, anchored: Anchored, beside: Option<u8>, from: usize) -> Leg
     ghost course: { Course }
@@ -439,8 +439,8 @@ fn search<C: Cursor>(
 /// Searches forwards from the position `from` up to the end of the input's bounds, in bytes of the
 /// whole content, wherever chunks are cut. Returns what was found last, with its position. With
 /// `earliest`, it returns what was found first, and reads nothing beyond it. With `may_rest`, it
-/// may end behind a byte, from `rest_from` on, if nothing was found and nothing is under way. A
-/// byte that may not be read ends the search. Nothing is copied or allocated.
+/// may end after a byte, from `rest_from` on, if nothing was found and nothing is under way. A byte
+/// that may not be read ends the search. Nothing is copied or allocated.
 #[inline(always)]
 pub fn run_forwards<C: Cursor>(
     table: &Table,

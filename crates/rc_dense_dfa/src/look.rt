@@ -36,8 +36,8 @@ pub(crate) fn cell_of(table: &Table, row: usize, byte: u8) -> usize
     table.cells[row + table.classes[byte as usize] as usize]
 }
 
-/// Returns the note of a run behind a cell: its row and the position if the cell has `MET`, else
-/// the earlier note.
+/// Returns the note of a run after a cell: its row and the position if the cell has `MET`, else the
+/// earlier note.
 #[inline(always)]
 pub(crate) fn noted_by(
     cell: usize,

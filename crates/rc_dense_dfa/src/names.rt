@@ -14,7 +14,7 @@ use rc_determinize::state::State;
 use rc_dfa::states::States;
 use std::alloc::{AllocError, Global};
 
-/// The states of a table that is being built. Each has a row, and rows come one behind another.
+/// The states of a table that is being built. Each has a row, and rows come one after another.
 #[derive(Drop)]
 pub(crate) struct Names {
     pub states: States,

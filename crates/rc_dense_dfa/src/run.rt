@@ -14,7 +14,7 @@ pub enum Ended {
     Quit(u8, usize),
 }
 
-/// What a run keeps between two bytes.
+/// A run between two bytes: its row, and its last find.
 #[derive(Clone, Copy)]
 pub(crate) struct Stand {
     /// The row of its state.
@@ -23,10 +23,10 @@ pub(crate) struct Stand {
     pub noted: Option<(usize, usize)>,
 }
 
-/// What became of a run over some bytes.
+/// The outcome of a run over some bytes.
 #[derive(Clone, Copy)]
 pub(crate) enum Leg {
-    /// It goes on behind them.
+    /// It goes on after them.
     Through(Stand),
     /// The search ended among them.
     Over(Ended),

@@ -16,7 +16,7 @@ pub struct Table {
     pub classes: Vec<u8>,
     /// How many classes there are, and so how many cells a row has.
     pub width: usize,
-    /// The rows, one behind another. Each cell names a row, or is `QUIT`.
+    /// The rows, one after another. Each cell names a row, or is `QUIT`.
     pub cells: Vec<usize>,
     /// For each row, the code of what is found at the end of what the search sees: 0 for nothing,
     /// else one more.

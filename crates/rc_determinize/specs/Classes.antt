@@ -49,7 +49,7 @@ abbrev pub TellsAlike : List Place → Needs → ℕ → List ℕ → Type 0
 TellsAlike places needs terminator classes =
     (b c : ℕ) → b < 256 → c < 256 → slice_index classes b ≡ slice_index classes c → AreAlike places needs terminator b c
 
--- What holds of byte classes.
+-- The law of byte classes.
 pub record ClassLaw : Type 0 where
   pub alike : (places : List Place) (needs : Needs) (terminator : ℕ) (classes : List ℕ) → IsByBytes places →
       AreClasses places needs terminator classes → TellsAlike places needs terminator classes

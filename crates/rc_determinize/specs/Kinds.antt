@@ -34,7 +34,7 @@ IsListOf leftmost_first places list = AreOnce list × AreBelow places list
 IsListOf all_matches places list = AreOnce list × AreBelow places list
 IsListOf leftmost_longest places list = IsMarkedList places list
 
--- What holds of the steps of each kind.
+-- The law of the steps of each kind.
 pub record KindLaw : Type 0 where
   -- one byte stands for each that is alike
   pub alike : (kind : MatchKind) (g : Setting) (root b c : ℕ) (s t : State) → AreAlike g.places g.needs g.terminator b c →

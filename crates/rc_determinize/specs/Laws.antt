@@ -57,12 +57,12 @@ pub record BackwardLaw : Type 0 where
   pub inside : (g : Setting) (roots : List ℕ) (s s2 : State) (before : Option ℕ) → IsPrior g roots s before s2 →
       AreOnce s2.list × AreBelow (length g.places) s2.list
   pub short : (g : Setting) (roots : List ℕ) (s s2 : State) (before : Option ℕ) → IsPrior g roots s before s2 → length s2.list ≤ length g.places
-  -- What is found on the way down is the least so far.
+  -- The root found on the way down is the least so far.
   pub lowers : (g : Setting) (t : Text) (hi end i : ℕ) (roots : List ℕ) (stop : Option ℕ) (least : Option (ℕ × ℕ)) → i ≤ end →
       IsFirstRoot (ReachesEnd g t hi end i) roots stop → IsLeastSoFar g t hi end roots (i + 1) least →
       IsLeastSoFar g t hi end roots i (least_at i stop least)
 
--- What has been passed over before `from`.
+-- All starts before `from` were passed over.
 pub record IsRaised (s : Search) (from : ℕ) : Type 0 where
   pub start : IsStart s from
   pub passed : (y : ℕ) → IsStart s y → y < from → IsPassed s y

@@ -52,7 +52,7 @@ pub data Closes (out : ℕ → List Way) (ends : ℕ → Bool) : List ℕ → Li
       Closes out ends visited (stays q ∷ from) (onward ++ onward2) (option_or stop stop2) visited3
 
 -- `GroupSteps out ends visited groups onward stop`: each group is closed over in turn, and a place
--- that was visited for a lesser start is skipped. A match of one group drops the groups behind it,
+-- that was visited for a lesser start is skipped. A match of one group drops the groups after it,
 -- which are of later starts, and nothing of its own.
 pub data GroupSteps (out : ℕ → List Way) (ends : ℕ → Bool) : List ℕ → List (List ℕ) → List (List ℕ) → Option ℕ → Type 0 where
   over : {visited : List ℕ} → GroupSteps out ends visited [] [] None

@@ -19,7 +19,7 @@ use Rattle.rc_determinize.specs.Longest.{parted, flat, IsNextOfLongest}
 abbrev pub ReachesLongest : (Pair → List Pair) → (Pair → Type 0) → Pair → Pair → Type 0
 ReachesLongest ways Ends n e = (w : List Pair) × IsLongestWalk ways Ends [] (n ∷ []) w × EndsAt w e
 
--- The same, of the first of the pairs from which a walk leads.
+-- Of the first of the pairs from which a walk leads, the longest walk ends at e.
 abbrev pub FirstReaches : (Pair → List Pair) → (Pair → Type 0) → List Pair → Pair → Type 0
 FirstReaches ways Ends [] e = ⊥
 FirstReaches ways Ends (n ∷ from) e =
@@ -64,9 +64,9 @@ AreCarried ways Ends i origin places (h ∷ hs) =
     ((e : ℕ) → i ≤ e → CarriesTo ways Ends e (origin ++ h.0 ∷ []) (at i (places ++ h.1)))
     × AreCarried ways Ends i (origin ++ h.0 ∷ []) (places ++ h.1) hs
 
--- What is known of the ends before i, if these starts count. A match found last is of the last of
--- them: no lesser start has a walk to an end before i, its own start has none that is longer, and
--- its first walk to that end ends at the place that was found.
+-- The facts about the ends before i, if these starts count. A match found last is of the last of
+-- them, and no lesser start has a walk to an end before i. Its own start has none that is longer,
+-- and its first walk to that end ends at the place that was found.
 abbrev pub IsKnown : (Pair → List Pair) → (Pair → Type 0) → ℕ → List Pair → Option Pair → Type 0
 IsKnown ways Ends i starts None = (e : ℕ) → e < i → IsQuiet ways Ends e starts
 IsKnown ways Ends i starts (Some b) =
@@ -126,7 +126,7 @@ pub record IsMarkedList (mark : ℕ) (list : List ℕ) : Type 0 where
   pub once : AreOnce (flat groups)
   pub below : AreBelow mark (flat groups)
 
--- What holds of the steps, as `KindLaw` says it of the other kinds.
+-- The law of the steps for leftmost-longest, like `KindLaw` for the other kinds.
 pub record LongestStepLaw : Type 0 where
   pub alike : (g : Setting) (root b c : ℕ) (s t : State) → AreAlike g.places g.needs g.terminator b c →
       IsNextOfLongest g root s (Some b) t → IsNextOfLongest g root s (Some c) t
@@ -140,7 +140,7 @@ pub record LongestStepLaw : Type 0 where
       IsNextOfLongest g root s after t → IsNextOfLongest g root (record s { stop = stop }) after t
   pub tells : (g : Setting) (root : ℕ) (s t : State) (after : Option ℕ) → IsNextOfLongest g root s after t → t.beside ≡ told g.needs g.terminator after
 
--- What has been passed over before `from`.
+-- All starts before `from` were passed over.
 pub record IsLongestRaised (s : Search) (from : ℕ) : Type 0 where
   pub start : IsStart s from
   pub passed : (y : ℕ) → IsStart s y → y < from → IsPassedOf s (IsLongestFrom s) y

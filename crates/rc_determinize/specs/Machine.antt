@@ -74,7 +74,7 @@ first_with met (Some p) q = Some p
 first_with true None q = Some q
 first_with false None q = None
 
--- The group behind those of the list, with a mark between.
+-- The group after those of the list, with a mark between.
 abbrev pub with_group : ℕ → List ℕ → List ℕ → List ℕ
 with_group mark list [] = list
 with_group mark [] (q ∷ g) = q ∷ g

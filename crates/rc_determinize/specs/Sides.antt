@@ -98,7 +98,7 @@ pub record Covers (needs : Needs) (places : List Place) : Type 0 where
   pub facts : (q : ℕ) (l : Look) → HasLook l (place_at places q) → asks l needs.facts
   pub unicode : (q : ℕ) (l : Look) → HasLook l (place_at places q) → IsTrue (is_unicode l) → IsTrue needs.unicode
 
--- What the first asks for, the second asks for too.
+-- The second asks for all that the first asks for.
 pub record AsksNoMore (fewer more : Needs) : Type 0 where
   pub edge : IsTrue fewer.facts.edge → IsTrue more.facts.edge
   pub terminator : IsTrue fewer.facts.terminator → IsTrue more.facts.terminator

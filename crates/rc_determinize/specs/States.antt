@@ -10,7 +10,8 @@ use Rattle.rc_determinize.specs.declared.sides.Seen.{Seen}
 use Rattle.rc_determinize.specs.declared.sides.Needs.{Needs}
 use Rattle.rc_determinize.specs.Sides.{Covers, told, out_seen, byte_of, IsReadable}
 
--- What a DFA needs of a program: its places, what its assertions ask for, and the line terminator.
+-- The setting of a DFA: the places of its program, the facts for which its assertions ask, and the
+-- line terminator.
 pub record Setting : Type 0 where
   pub places : List Place
   pub needs : Needs
@@ -39,7 +40,7 @@ abbrev pub root_if : Bool → ℕ → List ℕ
 root_if true root = root ∷ []
 root_if false root = []
 
--- The state to which this byte leads, or the end. A match ends all that comes behind it in order,
+-- The state to which this byte leads, or the end. A match ends all that comes after it in order,
 -- later starts too.
 pub record IsNext (g : Setting) (root : ℕ) (s : State) (after : Option ℕ) (t : State) : Type 0 where
   pub next : List ℕ

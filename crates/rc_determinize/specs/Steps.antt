@@ -18,7 +18,7 @@ abbrev pub AreOnce : List ℕ → Type 0
 AreOnce [] = Unit {0}
 AreOnce (q ∷ qs) = (¬ HasPlace q qs) × AreOnce qs
 
--- Each is less than those behind it.
+-- Each is less than those after it.
 abbrev pub IsRising : List ℕ → Type 0
 IsRising [] = Unit {0}
 IsRising (q ∷ qs) = ((p : ℕ) → HasPlace p qs → q < p) × IsRising qs
@@ -28,7 +28,7 @@ abbrev pub HasWay : Way → List Way → Type 0
 HasWay w [] = ⊥
 HasWay w (v ∷ vs) = (v ≡ w) ⊎ HasWay w vs
 
--- `Steps out ends visited from onward stop visited2`: the search at one position. Places behind a
+-- `Steps out ends visited from onward stop visited2`: the search at one position. Places after a
 -- byte are handed on in the order in which they are reached, and a place that was visited is
 -- skipped. At the first place where a walk may end, all that is left is dropped.
 pub data Steps (out : ℕ → List Way) (ends : ℕ → Bool) : List ℕ → List Way → List ℕ → Option ℕ → List ℕ → Type 0 where

@@ -22,7 +22,7 @@ use rc_pattern::hir::{ClassBytesRange, Look};
 use rc_utf8::place::{BytePlace, ByteWay};
 use std::alloc::{AllocError, Global};
 
-/// What an edge asks for.
+/// The condition of an edge.
 #[derive(Clone, Copy)]
 pub enum Over {
     /// Nothing: an epsilon edge.
@@ -243,7 +243,7 @@ fn go_back(
 
 /// Makes `to` the state to which the byte `before` leads back from a state. If `before` is None, it
 /// is the state at the beginning of what the search sees. The `stop` of `to` is the index of the
-/// first root from which a walk leads to the end, from the position behind that byte. Lines end at
+/// first root from which a walk leads to the end, from the position after that byte. Lines end at
 /// the byte `terminator`, `needs` is what the program's assertions ask for, and `reversed` has its
 /// edges.
 ///

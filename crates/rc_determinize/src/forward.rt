@@ -43,7 +43,7 @@ pub fn stack_up(list: &[usize], stack: &mut Vec<usize>) -> Result<(), AllocError
 
 /// Follows epsilon ways from the places on the stack, the top one first, and adds the places to
 /// which the byte leads to `listed`, in that order. Returns the first match place that it comes to,
-/// and follows nothing behind it; or None once the stack is empty.
+/// and follows nothing after it; or None once the stack is empty.
 fn follow(
     places: &[BytePlace],
     behind: Seen,
@@ -110,7 +110,8 @@ pub fn goes_on(from: &State, stop: Option<usize>) -> bool
     from.goes_on && stop.is_none()
 }
 
-/// The step for leftmost-first.
+/// Makes `to` the state to which the byte `after` leads, for leftmost-first. `Err` means out of
+/// memory; then `to` is some state.
 fn next_preferred(
     places: &[BytePlace],
     needs: Needs,
@@ -150,7 +151,8 @@ fn next_preferred(
     Ok(())
 }
 
-/// The step for `MatchKind::All`.
+/// Makes `to` the state to which the byte `after` leads, for `MatchKind::All`. `Err` means out of
+/// memory; then `to` is some state.
 fn next_of_all(
     places: &[BytePlace],
     needs: Needs,
@@ -190,7 +192,7 @@ fn next_of_all(
 }
 
 /// Makes `to` the state to which the byte `after` leads from a state. If `after` is None, it is the
-/// state behind the end of what the search sees. States are those for matches of this kind, walks
+/// state after the end of what the search sees. States are those for matches of this kind, walks
 /// begin at the place `root`, and lines end at the byte `terminator`. `needs` is what the program's
 /// assertions ask for.
 ///

@@ -106,7 +106,7 @@ fn close_groups(
 }
 
 /// Makes `to` the state to which the byte `after` leads from a state, for leftmost-longest. A match
-/// drops the groups behind its own, and nothing of its own. `Err` means out of memory; then `to` is
+/// drops the groups after its own, and nothing of its own. `Err` means out of memory; then `to` is
 /// some state.
 pub fn next_longest(
     places: &[BytePlace],

@@ -28,7 +28,7 @@ samples_of a = a.samples.items
 
 -- It is that of these places.
 pub record IsMadeOf (places : List Place) (entries : List ℕ) (terminator : ℕ) (kind : MatchKind) (byte_classes : Bool) (a : Automaton) : Type 0 where
-  -- What the program's assertions ask for.
+  -- The facts for which the program's assertions ask.
   pub needs : Needs
   pub are_needs : AreNeeds needs places
   pub machine : (d : code.Direction) → machine_of a d

@@ -9,8 +9,8 @@ use Rattle.rc_dfa.specs.Runs.{met_last, stopped_at, idle_at, SearchEnds, SearchE
 use Rattle.rc_dfa.specs.declared.ended.Ended.{Ended}
 use Rattle.rc_dfa.specs.declared.ended.Ended.TheVariants.{Found, Idle, Quit, GaveUp}
 
--- A search forwards may end so. What was found last is at a match place of the pattern. The search
--- rests only if it may. If it gave up, the result has nothing but a position.
+-- A search forwards may end so. If it found something, the last find is at a match place of the
+-- pattern. The search rests only if it may. If it gave up, the result has nothing but a position.
 abbrev pub HasEnded : Machine → Text → ℕ → ℕ → Anchored → Bool → Bool → Ended → Type 0
 HasEnded m t hi from anchored earliest may_rest (Found None) = SearchEnds m t hi from anchored earliest (met_last None)
 HasEnded m t hi from anchored earliest may_rest (Found (Some h)) =
@@ -19,8 +19,8 @@ HasEnded m t hi from anchored earliest may_rest (Idle i) = IsTrue may_rest × Se
 HasEnded m t hi from anchored earliest may_rest (Quit b p) = (slice_get t.content p ≡ Some b) × SearchEnds m t hi from anchored earliest (stopped_at p)
 HasEnded m t hi from anchored earliest may_rest (GaveUp p memory) = (from ≤ p) × (p ≤ hi)
 
--- A search backwards may end so. What was found last is at the entry of the pattern. It never
--- rests.
+-- A search backwards may end so. If it found something, the last find is at the entry of the
+-- pattern. It never rests.
 abbrev pub HasEndedDown : Machine → Text → ℕ → ℕ → Anchored → Bool → Ended → Type 0
 HasEndedDown m t lo end anchored earliest (Found None) = SearchEndsDown m t lo end anchored earliest (met_last None)
 HasEndedDown m t lo end anchored earliest (Found (Some h)) = SearchEndsDown m t lo end anchored earliest (met_last (Some (h.at, h.pattern)))

@@ -33,7 +33,7 @@ number_of numbers key = get_by (λ k. slice_cmp nat_cmp key k.items) numbers
 abbrev pub IsAbsent : List State → State → Type 0
 IsAbsent states s = (id : ℕ) → slice_get states id ≡ Some s → ⊥
 
--- What was found is its number, or it isn't there.
+-- The result is the state's number, or the state isn't there.
 abbrev pub IsFound : List State → State → Option ℕ → Type 0
 IsFound states s None = IsAbsent states s
 IsFound states s (Some id) = slice_get states id ≡ Some s

@@ -27,7 +27,7 @@ pub record IsWithin (m : Machine) (s : State) : Type 0 where
   pub below : AreBelow (entry_bound m.direction (length m.setting.places)) s.list
   pub short : length s.list ≤ longest_in m.direction (length m.setting.places)
 
--- What holds of the states of a determinizer.
+-- The law of the states of a determinizer.
 pub record MachineLaw : Type 0 where
   pub begins : (m : Machine) (anchored : Anchored) (beside : Option ℕ) (s : State) → IsMachine m → Begins m anchored beside s → IsWithin m s
   pub leads : (m : Machine) (s t : State) (beside : Option ℕ) → IsMachine m → Leads m s beside t → IsWithin m t
@@ -63,7 +63,7 @@ pub record IsUnread (m : Machine) (t : Text) (IsRead : ℕ → Type 0) (p : ℕ)
   pub byte : (b : ℕ) × (slice_get t.content p ≡ Some b) × (128 ≤ b)
   pub first : (y b : ℕ) → IsRead y → t.slice_start ≤ y → y < t.slice_end → slice_get t.content y ≡ Some b → b < 128
 
--- What runs find.
+-- The law of what runs find.
 pub record RunLaw : Type 0 where
   -- Forwards, for leftmost-first: where the first walk ends.
   pub first : (m : Machine) (t : Text) (hi from : ℕ) (anchored : Anchored) (r : Option Pair) → IsMachine m → m.direction ≡ forwards leftmost_first →

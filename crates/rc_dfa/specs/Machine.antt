@@ -95,8 +95,8 @@ is_root_alone (q ∷ p ∷ qs) = false
 abbrev pub is_idle : State → Bool
 is_idle s = is_root_alone s.list && s.goes_on
 
--- What makes it a machine: its places read bytes alone, no way leads out of it, and place 0 and the
--- entries are within it.
+-- It is a machine: its places read bytes alone, no way leads out of it, and place 0 and the entries
+-- are within it.
 pub record IsMachine (m : Machine) : Type 0 where
   pub setting : IsSetting m.setting
   pub closed : IsClosed m.setting.places

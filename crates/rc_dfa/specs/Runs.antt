@@ -29,9 +29,9 @@ pub data Runs (m : Machine) (t : Text) (hi from : ℕ) (first : State) : ℕ →
   goes_on : {met : Option (ℕ × ℕ)} (i : ℕ) (s next : State) → Runs m t hi from first i s met → i < hi → MayRead m (ahead_at t i) →
       Leads m s (ahead_at t i) next → Runs m t hi from first (i + 1) next (best_at i next.stop met)
 
--- How a search forwards ended: with what was found last, if anything, and its position; at the
--- offset of a byte that may not be read; or at a position before which nothing was found, and at
--- which nothing is under way but walks that begin there or later.
+-- How a search forwards ended. It may be with the last find, if there is one, and its position. It
+-- may be at the offset of a byte that may not be read. Or it is at a position before which nothing
+-- was found, and at which nothing is under way but walks that begin there or later.
 pub data RunEnd : Type 0 where
   met_last : Option (ℕ × ℕ) → RunEnd
   stopped_at : ℕ → RunEnd

@@ -1,6 +1,6 @@
 //! Search results: how a DFA search ended. Positions are in bytes of the whole content.
 
-/// What a DFA search found.
+/// A pattern, and the position at which a DFA search found it.
 #[derive(Clone, Copy)]
 pub struct Met {
     /// The number of the pattern.

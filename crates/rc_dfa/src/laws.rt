@@ -6,9 +6,9 @@ pub fn machines_keep_places()
     ensures { MachineLaw }
 {}
 
-/// What a DFA search finds: forwards where the first walk ends, or the last position at which a
-/// walk ends; backwards the least position from which a walk leads to the end. And at which byte it
-/// stops, if that may not be read.
+/// Forwards, a DFA search finds where the first walk ends, or the last position at which a walk
+/// ends; backwards, it finds the least position from which a walk leads to the end. It stops at the
+/// first byte that may not be read.
 pub fn runs_meet_walks()
     ensures { RunLaw }
 {}

@@ -29,7 +29,7 @@ abbrev pub Asks : ℕ → Anchored → Type 0
 Asks patterns (Pattern p) = p < patterns
 Asks patterns _ = Unit {0}
 
--- What was found, or why there is no answer.
+-- The find of a run, or why there is no answer.
 abbrev pub told_of : Ended → Result (Option Met) error.MatchError
 told_of (Found met) = Ok met
 told_of (Idle i) = Ok None

@@ -31,7 +31,7 @@ abbrev pub met_from : Machine → ℕ → ℕ → ℕ → Found
 met_from m q x e = record { pattern = pattern_met m q; start = x; end = e }
 
 -- The match of the least start: leftmost-first, or leftmost-longest. `from` is where the search
--- begins, behind all starts that were passed over.
+-- begins, after all starts that were passed over.
 pub record LeftmostLaw : Type 0 where
   pub begins : (hs : List Re) (kind : MatchKind) (m n : Machine) (anchored : Anchored) (s : Search) → IsCase hs kind m n anchored s → IsRaisedBy kind (by_bytes s) s.lo
   -- the end that is met is the answer's, and so is the pattern
@@ -101,6 +101,6 @@ pub record UnreadLaw : Type 0 where
   -- an assertion of the patterns speaks of Unicode's words, if the program's do
   pub unicode : (hs : List Re) (kind : MatchKind) (m n : Machine) (anchored : Anchored) (s : Search) → IsCase hs kind m n anchored s →
       m.setting.needs.unicode ≡ true → SpeaksOfUnicode hs
-  -- What was read forwards up to an end may be read backwards.
+  -- Bytes that were read forwards up to an end may be read backwards.
   pub read : (m n : Machine) (s : Search) (from q e p : ℕ) (anchored back : Anchored) (earliest early : Bool) → n.setting ≡ m.setting → IsInside s.text s.lo s.hi →
       SearchEnds m s.text s.hi from anchored earliest (met_last (Some (q, e))) → ¬ SearchEndsDown n s.text from e back early (stopped_at p)

@@ -27,8 +27,8 @@ abbrev pub IsStartWhere : Bool → Search → HalfFound → Type 0
 IsStartWhere true s h = IsSpelledToEnd s h
 IsStartWhere false s h = IsLeastStart s h
 
--- What a search backwards from the upper bound returns. If matches may be passed over, none may end
--- off a boundary.
+-- A search backwards from the upper bound may return this. If matches may be passed over, none may
+-- end off a boundary.
 abbrev pub IsReverseHalf : Bool → Search → Option HalfFound → Type 0
 IsReverseHalf earliest s None = HasNoStart s ⊎ ((s.passes_over ≡ true) × (is_boundary s.text.content s.hi ≡ false))
 IsReverseHalf earliest s (Some h) = IsStartWhere (is_early earliest s) s h × ((not s.passes_over || is_boundary s.text.content s.hi) ≡ true)
@@ -37,7 +37,7 @@ IsReverseHalf earliest s (Some h) = IsStartWhere (is_early earliest s) s h × ((
 abbrev pub start_of : Found → HalfFound
 start_of m = record { pattern = m.pattern; offset = m.start }
 
--- The match from what such a search returns to the upper bound.
+-- The match from the start that such a search returns to the upper bound.
 abbrev pub IsMatchToEnd : Bool → Search → Option Found → Type 0
 IsMatchToEnd earliest s o = IsReverseHalf earliest s (option_map start_of o) × IfSome o (λ m. m.end ≡ s.hi)
 

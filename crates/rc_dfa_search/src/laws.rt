@@ -14,8 +14,8 @@ pub fn starts_are_reversed()
     ensures { ReverseLaw }
 {}
 
-/// If a DFA search quits, it is at a byte that may not be read. What was read forwards may be read
-/// backwards.
+/// If a DFA search quits, it is at a byte that may not be read. Bytes that were read forwards may
+/// be read backwards.
 pub fn unread_bytes()
     ensures { UnreadLaw }
 {}
@@ -32,7 +32,8 @@ pub fn last_ends_are_greatest()
     ensures { LastLaw }
 {}
 
-/// What forward runs find that rest while nothing is under way, and begin anew further on.
+/// Forward runs may rest while nothing is under way, and begin anew further on: they find what all
+/// starts give.
 pub fn runs_may_rest()
     ensures { RestLaw }
 {}

@@ -23,7 +23,7 @@ use rc_text::cursor::Cursor;
 use rc_text::input::{Input, high, is_boundary_at, low};
 use rc_text::types::{Anchored, HalfMatch, Match, MatchError, MatchKind, PatternID, Span};
 
-/// What a search is for.
+/// The aim of a search.
 #[derive(Clone, Copy)]
 pub struct Aim {
     /// Which match is the answer.
@@ -47,7 +47,7 @@ pub(crate) struct Bounds {
 /// The end of a match.
 #[derive(Clone, Copy)]
 struct End {
-    /// The start of the search that found it, behind all starts that were passed over.
+    /// The start of the search that found it, after all starts that were passed over.
     from: usize,
     /// The pattern whose match place was reached.
     pattern: usize,

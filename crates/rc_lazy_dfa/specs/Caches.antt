@@ -29,8 +29,8 @@ IsNone a capacity (TooSmall minimum given) = (minimum ≡ least_of a) × (given 
 abbrev pub AreHalves : Lazy → Machine → Machine → Type 0
 AreHalves l m n = (machine_of l.automaton Forwards ≡ m) × (machine_of l.automaton Backwards ≡ n)
 
--- The cache was made for these searches. What its cells say is true of their machines, and each
--- direction takes no more than the capacity.
+-- The cache was made for these searches. Its cells are true of their machines, and each direction
+-- takes no more than the capacity.
 pub record IsCacheOf (l : Lazy) (c : Cache) : Type 0 where
   pub forward_is : IsHalf (frame_of l.automaton Forwards) c.forward
   pub reverse_is : IsHalf (frame_of l.automaton Backwards) c.reverse

@@ -17,7 +17,7 @@ use Rattle.rc_lazy_dfa.specs.declared.run.Stand.{Stand}
 use Rattle.rc_lazy_dfa.specs.declared.run.Leg.{Leg}
 use Rattle.rc_lazy_dfa.specs.declared.run.Leg.TheVariants.{Through, Over}
 
--- What was found last: on the way to the noted row, or else before.
+-- The last find: on the way to the noted row, or else before.
 abbrev pub IsNoted : ℕ → List State → Option (ℕ × ℕ) → Option (ℕ × ℕ) → Option (ℕ × ℕ) → Type 0
 IsNoted width states None before met = met ≡ before
 IsNoted width states (Some n) before met = (s : State) × (k : ℕ) × IsRow width states n.0 s × (s.stop ≡ Some k) × (met ≡ Some (k, n.1))

@@ -24,7 +24,7 @@ spends_within f a b n k le s = record {
   ];
 }
 
--- What was spent before counts too.
+-- The states added before count too.
 pub short_after : (f : Frame) (a b : Store) (n k : ℕ) → Spends f a b n → IsShort f b k → IsShort f a (n + k)
 short_after f a b n k s short =
     let sum = add-mul n k (minimum_of f) in

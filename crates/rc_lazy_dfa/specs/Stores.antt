@@ -14,7 +14,7 @@ use Rattle.rc_lazy_dfa.specs.declared.store.Store.{Store}
 use Rattle.rc_lazy_dfa.specs.declared.error.Refusal.{Refusal}
 use Rattle.rc_lazy_dfa.specs.declared.error.Refusal.TheVariants.{Memory, Short}
 
--- What the rows are of: a machine, the class of each byte, and how many cells a row has, one for
+-- The frame of the rows: a machine, the class of each byte, and how many cells a row has, one for
 -- each class and one for the end.
 pub record Frame : Type 0 where
   pub machine : Machine
@@ -33,7 +33,7 @@ pub record IsFrame (f : Frame) : Type 0 where
 
 -- THE COUNT
 
--- What a state weighs with its row, in bytes.
+-- The weight of a state with its row, in bytes.
 abbrev pub weight_of : ℕ → State → ℕ
 weight_of width s = 8 * width + 32 + 8 * length s.list
 
@@ -106,8 +106,8 @@ pub record AreStarts (f : Frame) (states : List State) (starts : List ℕ) : Typ
 pub record AreWithin (f : Frame) (states : List State) : Type 0 where
   pub each : (id : ℕ) (s : State) → slice_get states id ≡ Some s → IsWithin f.machine s
 
--- It was made for this machine and these classes. What its cells say is true, whatever numbers its
--- states have, and it takes no more than its capacity.
+-- It was made for this machine and these classes. Its cells are true, whatever numbers its states
+-- have, and it takes no more than its capacity.
 pub record Held (f : Frame) (s : Store) : Type 0 where
   pub frame : IsFrame f
   pub width : s.width ≡ f.width
@@ -121,7 +121,7 @@ pub record Held (f : Frame) (s : Store) : Type 0 where
 
 -- WHAT IS SPENT
 
--- What so many states may weigh exceeds the capacity.
+-- So many states may weigh more than the capacity.
 abbrev pub IsShort : Frame → Store → ℕ → Type 0
 IsShort f s n = s.capacity < s.used + n * minimum_of f
 

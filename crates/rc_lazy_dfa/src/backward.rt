@@ -290,7 +290,7 @@ fn cross<C: Cursor>(
     Leg::Through(stand)
 }
 
-/// Begins a search at the position: the byte ahead of it decides the start state.
+/// Begins a search at the position: the byte after it decides the start state.
 #[inline(always)]
 fn begin(
     automaton: &Automaton,

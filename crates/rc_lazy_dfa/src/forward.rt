@@ -49,7 +49,7 @@ fn is_idle_at(half: &Half, stand: Stand) -> bool
 }
 
 /// Returns the cell to which a byte of a piece leads. If it is known and has no mark, it is the row
-/// of the run behind that byte.
+/// of the run after that byte.
 #[inline(always)]
 fn cell_at(
     store: &Store,
@@ -77,7 +77,7 @@ fn cell_at(
 }
 
 /// Runs over bytes whose cells are known and have no mark, four at a time. Returns how many bytes
-/// were read, and the row behind them. Fewer than four are left, or the next cell is unknown or has
+/// were read, and the row after them. Fewer than four are left, or the next cell is unknown or has
 /// a mark.
 #[inline(always)]
 fn stride(
@@ -231,7 +231,7 @@ fn run(
     (index, Stand { row, met })
 }
 
-/// Reads one byte, whatever its cell. With `may_rest`, the search rests behind it if it may, from
+/// Reads one byte, whatever its cell. With `may_rest`, the search rests after it if it may, from
 /// the position `rest_from` on.
 #[inline(always)]
 fn step(
@@ -338,7 +338,7 @@ fn cross<C: Cursor>(
     Leg::Through(stand)
 }
 
-/// Begins a search at the position: the byte behind it decides the start state.
+/// Begins a search at the position: the byte before it decides the start state.
 #[inline(always)]
 fn begin(
     automaton: &Automaton,

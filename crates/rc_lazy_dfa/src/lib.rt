@@ -7,7 +7,7 @@
 //!     row 0,  [0],     a: to [2, 0], which becomes row 5
 //!     row 5,  [2, 0],  a: to [2, 0], so the cell becomes 5
 //!     row 5,  [2, 0],  b: to [4, 0], which becomes row 10
-//!     row 10, [4, 0],  .: to [] behind a match, row 15 with `MET` and `DEAD`
+//!     row 10, [4, 0],  .: to [] after a match, row 15 with `MET` and `DEAD`
 #![tactic(auto)]
 
 mod backward;

@@ -11,17 +11,16 @@ use crate::store::Store;
 use rc_dfa::automaton::Automaton;
 use rc_dfa::ended::{Ended, Met};
 
-/// What a run keeps between two bytes.
+/// A run between two bytes: its row, and its last find.
 #[derive(Clone, Copy)]
 pub(crate) struct Stand {
     /// The row of its state.
     pub row: usize,
-    /// What was found last, and its position: forwards a match place, backwards the index of an
-    /// entry.
+    /// The last find, and its position: forwards a match place, backwards the index of an entry.
     pub met: Option<(usize, usize)>,
 }
 
-/// What a run over a piece keeps between two bytes.
+/// A run over a piece, between two bytes: its row, and its last finds in the piece and before.
 #[derive(Clone, Copy)]
 pub(crate) struct Noted {
     /// The row of its state.
@@ -29,14 +28,14 @@ pub(crate) struct Noted {
     /// The row that has what was found last in the piece, and the position of that; None if nothing
     /// was found.
     pub noted: Option<(usize, usize)>,
-    /// What was found before the piece, and its position.
+    /// The last find before the piece, and its position.
     pub before: Option<(usize, usize)>,
 }
 
-/// What became of a search over some bytes.
+/// The outcome of a search over some bytes.
 #[derive(Clone, Copy)]
 pub(crate) enum Leg {
-    /// It goes on behind them.
+    /// It goes on after them.
     Through(Stand),
     /// It ended among them.
     Over(Ended),

@@ -19,7 +19,7 @@ use std::alloc::{AllocError, Global};
 #[derive(Drop)]
 pub(crate) struct Store {
     pub states: States,
-    /// The rows, one behind another.
+    /// The rows, one after another.
     pub cells: Vec<usize>,
     /// The start cells: for each kind of anchoring, one for each class of the byte beside, and one
     /// for an end.

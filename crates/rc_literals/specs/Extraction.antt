@@ -8,7 +8,7 @@ use Rattle.rc_pattern.specs.Re.{Re, Range, empty, literal, byte_in, char_in, loo
 abbrev pub greatest_count : ℕ
 greatest_count = 64
 
--- A shorter needle is lengthened by what is read behind it.
+-- A shorter needle is lengthened by what is read after it.
 abbrev pub short_length : ℕ
 short_length = 3
 
@@ -69,7 +69,7 @@ spelled_bytes _ = None
 abbrev pub whole_bytes : Re → Option (List (List ℕ))
 whole_bytes a = grown [] (spelled_bytes a)
 
--- Each of the first list with each of the second behind it.
+-- Each of the first list with each of the second after it.
 abbrev pub crossed : List (List ℕ) → List (List ℕ) → List (List ℕ)
 crossed ws vs = flat_map (λ w. map (λ v. w ++ v) vs) ws
 
@@ -78,19 +78,19 @@ abbrev pub has_short : List (List ℕ) → Bool
 has_short [] = false
 has_short (w ∷ ws) = nat_lt (length w) short_length || has_short ws
 
--- One of them is short, and there are few enough once each has each of the others behind it.
+-- One of them is short, and there are few enough once each has each of the others after it.
 abbrev pub may_cross : List (List ℕ) → Option (List (List ℕ)) → Bool
 may_cross ws None = false
 may_cross ws (Some vs) = has_short ws && nat_le (length ws * length vs) greatest_variants
 
--- The needles with what is read behind them: one part after another that is kept whole, as long as
+-- The needles with what is read after them: one part after another that is kept whole, as long as
 -- one needle is short and there are few enough.
 abbrev pub lengthened : List (List ℕ) → Re → List (List ℕ)
 lengthened ws (cat a rest) =
     if may_cross ws (whole_bytes a) then lengthened (crossed ws (unwrap_or (whole_bytes a) [])) rest else ws
 lengthened ws _ = ws
 
--- The needles of what is read first with what is read behind them; or the prefixes of what is read
+-- The needles of what is read first with what is read after them; or the prefixes of what is read
 -- first, if that isn't kept whole.
 abbrev pub begun_by : Option (List (List ℕ)) → Option (List (List ℕ)) → Re → Option (List (List ℕ))
 begun_by None first rest = first

@@ -28,7 +28,7 @@ pub record IsBehind (stops : List Bool) (content : List ℕ) (at needle from : �
   pub none : HasNoStop stops content from needle
   pub least : (from ≡ at) ⊎ IsBehindStop stops content from
 
--- Where a search begins for a needle: there, or behind the last byte before it that no match
+-- Where a search begins for a needle: there, or after the last byte before it that no match
 -- contains.
 abbrev pub BeginsFor : Guard → List ℕ → ℕ → Start → Type 0
 BeginsFor (Begins p) content at s = s.from ≡ s.needle

@@ -17,8 +17,8 @@ abbrev pub Covers : Text → List Re → List (List ℕ) → Type 0
 Covers t hs needles = (p i j : ℕ) → SpelledBy t 0 hs p i j →
     (k : ℕ) × (needle : List ℕ) × (slice_get needles k ≡ Some needle) × StandsAt t.content needle i × (i + length needle ≤ j)
 
--- Within the bounds, a needle stands at a start exactly if a walk begins there, and the first
--- needle that stands there is the text of the first walk.
+-- Within the bounds, a needle occurs at a start exactly if a walk begins there, and the first
+-- needle that occurs there is the text of the first walk.
 pub record IsExact (s : Search) (needles : List (List ℕ)) : Type 0 where
   pub first : (x : ℕ) (h : Hit) → x ≤ s.hi → IsFirstAt needles s.text.content s.hi x h →
       (w : List Pair) × IsFirstFrom s x w × ((last_of w).1 ≡ h.end)
@@ -47,7 +47,7 @@ literals_of (literal (b ∷ bs)) = Some ((b ∷ bs) ∷ [])
 literals_of (alt a rest) = member_literals (alt a rest)
 literals_of _ = None
 
--- What holds of a pattern that is a literal, or an alternation of literals.
+-- The law of patterns that are a literal, or an alternation of literals.
 pub record LiteralLaw : Type 0 where
   pub covers : (h : Re) (needles : List (List ℕ)) (t : Text) → literals_of h ≡ Some needles → Covers t (h ∷ []) needles
   pub exact : (h : Re) (needles : List (List ℕ)) (s : Search) → literals_of h ≡ Some needles → s.places ≡ program (h ∷ []) →

@@ -26,7 +26,7 @@ LeavesOut t hs stops = (p i j x b : ℕ) → SpelledBy t 0 hs p i j → i ≤ x 
 abbrev pub IsBehindStop : List Bool → List ℕ → ℕ → Type 0
 IsBehindStop stops content y = (b : ℕ) × (slice_get content (y - 1) ≡ Some b) × IsTrue (is_stop stops b)
 
--- No walk of the program begins at x if no needle stands from x on and before y, and y is behind a
+-- No walk of the program begins at x if no needle occurs from x on and before y, and y is after a
 -- byte of the set, or beyond the end of the search.
 abbrev pub Confines : List Place → ℕ → List (List ℕ) → List Bool → Type 0
 Confines places terminator needles stops = (over : Bool) (s : Searched) (x y : ℕ) → x < y → x ≤ high s →

@@ -29,9 +29,9 @@ BeginsWithOne needles bytes = (k : ℕ) × (needle : List ℕ) × (slice_get nee
 abbrev pub EachBegins : List (List ℕ) → List (List ℕ) → Type 0
 EachBegins prefixes needles = All (BeginsWithOne needles) prefixes
 
--- What a list that covers patterns is good for.
+-- The law of lists that cover patterns.
 pub record CoverLaw : Type 0 where
-  -- No walk of their program begins at a position where none of its needles stands, with their
+  -- No walk of their program begins at a position where none of its needles occurs, with their
   -- groups or without.
   pub guards : (hs : List Re) (grouped : Bool) (terminator : ℕ) (needles : List (List ℕ)) → All HasBounds hs →
       ((t : Text) → Covers t hs needles) → Guards (program (shown grouped hs)) terminator needles

@@ -30,7 +30,7 @@ abbrev pub literal_needle : List ℕ → Option (List (List ℕ))
 literal_needle [] = None
 literal_needle bs = Some (take greatest_length bs ∷ [])
 
--- The most needles that a byte may become with what is read behind it.
+-- The most needles that a byte may become with what is read after it.
 abbrev pub greatest_rest : ℕ
 greatest_rest = 16
 
@@ -49,19 +49,19 @@ abbrev pub next_bytes : Re → Option (List (List ℕ))
 next_bytes (cat a rest) = few (first_bytes a)
 next_bytes _ = None
 
--- The byte with each of the others behind it, if both are known; else the needles.
+-- The byte with each of the others after it, if both are known; else the needles.
 abbrev pub with_each : Option ℕ → Option (List (List ℕ)) → Option (List (List ℕ)) → Option (List (List ℕ))
 with_each (Some b) (Some ws) needles = Some (map (λ w. b ∷ w) ws)
 with_each _ _ needles = needles
 
 -- The needles of a concatenation's first member. A literal of one byte is lengthened by what is
--- read behind it, if that begins with few prefixes.
+-- read after it, if that begins with few prefixes.
 abbrev pub with_rest : Re → Re → Option (List (List ℕ)) → Option (List (List ℕ))
 with_rest a rest needles = with_each (only_byte (literal_bytes a)) (next_bytes rest) needles
 
 -- Needles of which each text that the pattern spells contains one. They are literals that must be
 -- read: those of one member of a concatenation, and those of each member of an alternation. None if
--- no literal must be read, or there are too many. The longer ones have what is read behind a single
+-- no literal must be read, or there are too many. The longer ones have what is read after a single
 -- byte.
 abbrev pub needed : Bool → Re → Option (List (List ℕ))
 needed longer empty = None

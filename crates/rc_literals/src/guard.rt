@@ -25,7 +25,7 @@ pub struct Needs {
 /// The needles by which a search goes.
 #[derive(Clone, Copy)]
 pub enum Guard<'a> {
-    /// No match begins at a position where none of these needles stands.
+    /// No match begins at a position where none of these needles occurs.
     Begins(&'a Prefilter),
     /// Each match contains one of the needles, and none of the stop bytes.
     Holds(&'a Needs),
@@ -36,12 +36,12 @@ pub enum Guard<'a> {
 pub struct Start {
     /// No match begins before it.
     pub from: usize,
-    /// Where the needle stands, at `from` or later.
+    /// Where the needle occurs, at `from` or later.
     pub needle: usize,
 }
 
 /// Returns where a search is to go on that has come to `at`. With prefix literals that is the next
-/// needle. With required literals it is behind the last byte before that needle which no match
+/// needle. With required literals it is after the last byte before that needle which no match
 /// contains. Returns None if no needle is left, and so no match.
 ///
 /// `end` is where the input's bounds end. It reads the uncut bytes, none of them before `at`,
@@ -81,7 +81,7 @@ pub fn next_start<C: Cursor>(
     }
 }
 
-/// Returns the position behind the last stop byte before the needle, but at least `at`, in bytes.
+/// Returns the position after the last stop byte before the needle, but at least `at`, in bytes.
 #[inline(always)]
 fn behind_stop<C: Cursor>(input: &mut Input<C>, stops: &Stops, at: usize, needle: usize) -> usize
     requires ordered { at ≤ needle }

@@ -10,14 +10,14 @@ pub fn literals_are_exact()
 {}
 
 /// If needles cover patterns, no walk of their program begins at a position where none of the
-/// needles stands, with their groups or without. If each of a covering list begins with one of some
+/// needles occurs, with their groups or without. If each of a covering list begins with one of some
 /// needles, these cover the patterns too.
 pub fn covering_needles_guard()
     ensures { CoverLaw }
 {}
 
 /// If each match of patterns contains a needle and no byte of a set, a walk of their program begins
-/// only where a needle stands before the next byte of the set, or before the end.
+/// only where a needle occurs before the next byte of the set, or before the end.
 pub fn needles_confine()
     ensures { NeedLaw }
 {}

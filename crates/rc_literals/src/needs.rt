@@ -43,10 +43,10 @@ fn fast_prefilter(alloc: Global, needles: Vec<Vec<u8>>) -> Result<Option<Prefilt
     Ok(Some(prefilter))
 }
 
-/// Returns a prefilter for the required literals, each single byte lengthened by what is read
-/// behind it. Returns None if there are none, or if Teddy doesn't search for them, or not fast. A
-/// search by few first bytes is no faster than one for single bytes, and has to compare what
-/// follows. `Err` means out of memory.
+/// Returns a prefilter for the required literals, each single byte lengthened by what is read after
+/// it. Returns None if there are none, or if Teddy doesn't search for them, or not fast. A search
+/// by few first bytes is no faster than one for single bytes, and has to compare what follows.
+/// `Err` means out of memory.
 fn longer_prefilter(alloc: Global, hirs: &[Hir]) -> Result<Option<Prefilter>, AllocError>
     ensures { IfOk result (λ found. IfSome found (λ p. (t : Text) → Holds t (map meaning hirs.now) (needles_of p))) }
 {
@@ -85,8 +85,8 @@ fn needed_prefilter(alloc: Global, hirs: &[Hir]) -> Result<Option<Prefilter>, Al
 /// Returns the required literals of the patterns, and the bytes that no match contains. Returns
 /// None if there are no such literals, or if a search for them isn't likely to skip much: one of
 /// them is a single common byte, or they are so many that the search isn't fast. If one is a single
-/// byte, it is lengthened by what is read behind it, if the search stays fast then. All this
-/// affects speed only. `Err` means out of memory.
+/// byte, it is lengthened by what is read after it, if the search stays fast then. All this affects
+/// speed only. `Err` means out of memory.
 pub fn needs_of(alloc: Global, hirs: &[Hir]) -> Result<Option<Needs>, AllocError>
     ensures holds { IfOk result (λ found. IfSome found (λ n. (t : Text) → Holds t (map meaning hirs.now) (needles_of n.needles))) }
     ensures leaves { IfOk result (λ found. IfSome found (λ n. (t : Text) → LeavesOut t (map meaning hirs.now) n.stops.table)) }

@@ -20,7 +20,7 @@ const GREATEST_COUNT: usize = 64;
 /// The most bytes of a literal that are kept.
 const GREATEST_LENGTH: usize = 32;
 
-/// A shorter needle is lengthened by what is read behind it.
+/// A shorter needle is lengthened by what is read after it.
 const SHORT_LENGTH: usize = 3;
 
 /// The most needles that lengthening may make.
@@ -31,8 +31,8 @@ const GREATEST_VARIANTS: usize = 32;
 ///
 /// They are what may be read first: a literal, of which at most 32 bytes are kept, or each byte or
 /// character of a class. If one has fewer than 3 bytes, all are lengthened by the literals and
-/// classes behind, also in groups and alternations, as long as that makes at most 32. So `[ab]cd`
-/// has `acd` and `bcd`.
+/// classes that follow, also in groups and alternations, as long as that makes at most 32. So
+/// `[ab]cd` has `acd` and `bcd`.
 ///
 /// Returns None if there is no prefix, if there are more than 64, or if in some pattern an optional
 /// body or nothing but assertions may come first. `Err` means out of memory. It takes time linear
@@ -91,7 +91,7 @@ fn add_alternation(alloc: Global, subs: &[Hir], list: &mut Vec<Vec<u8>>) -> Resu
 }
 
 /// Adds the prefixes of what may be read first. If each text of it is known and one is short, they
-/// are lengthened by what is read behind it. Returns false if it has none of use.
+/// are lengthened by what is read after it. Returns false if it has none of use.
 #[cycle(add)]
 fn add_begun(
     alloc: Global,
@@ -172,7 +172,7 @@ fn add_whole_literal(
     add_needle(alloc, bytes, list)
 }
 
-/// Returns the needles, lengthened by what is read behind them.
+/// Returns the needles, lengthened by what is read after them.
 fn lengthened(
     alloc: Global,
     needles: Vec<Vec<u8>>,
@@ -190,7 +190,7 @@ fn lengthened(
     Ok(longer)
 }
 
-/// Returns each needle with each text of the pattern behind it. Returns None if no needle is short,
+/// Returns each needle with each text of the pattern after it. Returns None if no needle is short,
 /// the texts aren't known, or there would be too many.
 fn crossed_with(
     alloc: Global,
@@ -225,7 +225,7 @@ fn has_short(needles: &[Vec<u8>]) -> bool
     false
 }
 
-/// Returns each needle with each of the others behind it.
+/// Returns each needle with each of the others after it.
 fn crossed(
     alloc: Global,
     needles: &[Vec<u8>],
@@ -240,7 +240,7 @@ fn crossed(
     Ok(list)
 }
 
-/// Adds the needle with each of the others behind it.
+/// Adds the needle with each of the others after it.
 fn add_joined(
     alloc: Global,
     needle: &[u8],

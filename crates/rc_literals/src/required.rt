@@ -18,7 +18,7 @@ const GREATEST_COUNT: usize = 64;
 /// The most bytes of a literal that are kept.
 const GREATEST_LENGTH: usize = 32;
 
-/// The most needles that a byte may become with what is read behind it.
+/// The most needles that a byte may become with what is read after it.
 const GREATEST_REST: usize = 16;
 
 /// Returns required literals: each text that one of the patterns spells contains one of them,
@@ -131,7 +131,7 @@ fn literal_needle(alloc: Global, bytes: &[u8]) -> Result<Option<Vec<Vec<u8>>>, A
 }
 
 /// Returns the needles of a member of a concatenation, before the others. A literal of one byte is
-/// lengthened by what is read behind it, if that begins with few prefixes.
+/// lengthened by what is read after it, if that begins with few prefixes.
 fn with_rest(
     alloc: Global,
     member: &Hir,
@@ -188,7 +188,7 @@ fn next_bytes(alloc: Global, subs: &[Hir]) -> Result<Option<Vec<Vec<u8>>>, Alloc
     Ok(Some(list))
 }
 
-/// Returns the byte with each of the others behind it.
+/// Returns the byte with each of the others after it.
 fn with_each(alloc: Global, byte: u8, behind: &[Vec<u8>]) -> Result<Vec<Vec<u8>>, AllocError>
     ensures { IfOk result (λ list. needles_in list.items ≡ map (λ w. byte ∷ w) (needles_in behind.now)) }
 {

@@ -11,7 +11,7 @@ use Rattle.rc_needles.specs.Needles.{find_needle, prefix_needle}
 abbrev pub found_at : Hit → Found
 found_at h = record { pattern = 0; start = h.start; end = h.end }
 
--- What a search finds for one pattern that is exactly these needles.
+-- The match of a search for one pattern that is exactly these needles.
 abbrev pub literal_answer_by : List (List ℕ) → List ℕ → ℕ → ℕ → Anchored → Option Found
 literal_answer_by needles content lo hi No = option_map found_at (find_needle needles content lo hi)
 literal_answer_by needles content lo hi Yes = option_map found_at (prefix_needle needles content lo hi)

@@ -1,4 +1,4 @@
--- Literal search: needles, and where they stand in a content.
+-- Literal search: needles, and where they occur in a content.
 use Rattle.std.specs.Prelude.{◌≡◌, ◌↔◌, ℕ, ◌+◌, ◌-◌, ◌<◌, ◌≤◌, Bool, ◌&&◌, List, [], ◌∷◌, length, max, Option, Some, None, nat_le, bytes_eq, slice_get, slice_range, if◌then◌else◌}
 use Rattle.rc_program.specs.Answer.{first_given}
 use Rattle.rc_program.specs.Spells.{Stands}
@@ -8,15 +8,15 @@ use Rattle.rc_needles.specs.declared.hit.Hit.{Hit}
 abbrev pub StandsAt : List ℕ → List ℕ → ℕ → Type 0
 StandsAt content needle i = Stands content needle i (i + length needle)
 
--- The needle stands there, and ends at hi or earlier.
+-- The needle occurs there, and ends at hi or earlier.
 abbrev pub StandsWithin : List ℕ → ℕ → List ℕ → ℕ → Type 0
 StandsWithin content hi needle i = (i + length needle ≤ hi) × StandsAt content needle i
 
--- No needle stands at i.
+-- No needle occurs at i.
 abbrev pub NoneAt : List (List ℕ) → List ℕ → ℕ → ℕ → Type 0
 NoneAt needles content hi i = (k : ℕ) (needle : List ℕ) → slice_get needles k ≡ Some needle → ¬ StandsWithin content hi needle i
 
--- It is the first of the needles that stand at i.
+-- It is the first of the needles that occur at i.
 pub record IsFirstAt (needles : List (List ℕ)) (content : List ℕ) (hi i : ℕ) (h : Hit) : Type 0 where
   pub needle : List ℕ
   pub is : slice_get needles h.number ≡ Some needle
@@ -25,38 +25,38 @@ pub record IsFirstAt (needles : List (List ℕ)) (content : List ℕ) (hi i : �
   pub end : h.end ≡ i + length needle
   pub none_earlier : (k : ℕ) (other : List ℕ) → k < h.number → slice_get needles k ≡ Some other → ¬ StandsWithin content hi other i
 
--- It is the first of the needles that stand at the least start from lo on at which one stands.
+-- It is the first of the needles that occur at the least start from lo on at which one occurs.
 pub record IsFirstNeedle (needles : List (List ℕ)) (content : List ℕ) (lo hi : ℕ) (h : Hit) : Type 0 where
   pub low : lo ≤ h.start
   pub is_first : IsFirstAt needles content hi h.start h
   pub none_before : (i : ℕ) → lo ≤ i → i < h.start → NoneAt needles content hi i
 
--- No needle stands from lo on.
+-- No needle occurs from lo on.
 abbrev pub HasNoNeedle : List (List ℕ) → List ℕ → ℕ → ℕ → Type 0
 HasNoNeedle needles content lo hi = (i : ℕ) → lo ≤ i → NoneAt needles content hi i
 
--- The same as functions. The law `NeedleLaw` says that these agree with the relations above.
+-- These relations as functions. The law `NeedleLaw` says that both agree.
 
--- The needle stands at i, and ends at hi or earlier.
+-- The needle occurs at i, and ends at hi or earlier.
 abbrev pub stands_within : List ℕ → ℕ → ℕ → List ℕ → Bool
 stands_within content hi i needle = nat_le (i + length needle) hi && bytes_eq (slice_range content i (i + length needle)) needle
 
--- The first of the needles that stands at i, if the first of them has the number n.
+-- The first of the needles that occurs at i, if the first of them has the number n.
 abbrev pub first_from : List ℕ → ℕ → ℕ → ℕ → List (List ℕ) → Option Hit
 first_from content hi i n [] = None
 first_from content hi i n (needle ∷ needles) =
     if stands_within content hi i needle then Some (record { start = i; end = i + length needle; number = n })
     else first_from content hi i (n + 1) needles
 
--- The first of the needles that stands at i.
+-- The first of the needles that occurs at i.
 abbrev pub needle_at : List (List ℕ) → List ℕ → ℕ → ℕ → Option Hit
 needle_at needles content hi i = first_from content hi i 0 needles
 
--- The least start from lo on at which a needle stands, and the first needle there.
+-- The least start from lo on at which a needle occurs, and the first needle there.
 unfoldable pub find_needle : List (List ℕ) → List ℕ → ℕ → ℕ → Option Hit
 find_needle needles content lo hi = first_given (needle_at needles content hi) (hi + 1 - lo) lo
 
--- The needle that stands at lo.
+-- The needle that occurs at lo.
 unfoldable pub prefix_needle : List (List ℕ) → List ℕ → ℕ → ℕ → Option Hit
 prefix_needle needles content lo hi = needle_at needles content hi lo
 

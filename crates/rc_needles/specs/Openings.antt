@@ -21,7 +21,7 @@ pub record IsOpened (words : List ℕ) (needle : List ℕ) : Type 0 where
 abbrev pub AreWhole : List ℕ → Type 0
 AreWhole words = length words ≡ 2048
 
--- If there is a word for each two bytes, a needle that has its bits stands at no index from the
+-- If there is a word for each two bytes, a needle that has its bits occurs at no index from the
 -- first up to the second, excluded.
 abbrev pub ArePassed : List ℕ → List ℕ → ℕ → ℕ → Type 0
 ArePassed words piece from to = (needle : List ℕ) → (AreWhole words → IsOpened words needle) → (k : ℕ) → from ≤ k → k < to → ¬ Agrees piece needle k

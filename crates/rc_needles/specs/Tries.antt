@@ -51,7 +51,7 @@ pub AreCarriedBy-is_fact : (trie : Option Trie) (needles : List (List ℕ)) → 
 AreCarriedBy-is_fact None needles = hlevel props
 AreCarriedBy-is_fact (Some trie) needles = hlevel props
 
--- The needle of the number stands in the piece at an index, and none of a smaller number agrees
+-- The needle of the number occurs in the piece at an index, and none of a smaller number agrees
 -- there.
 pub record IsFirstIn (needles : List (List ℕ)) (piece : List ℕ) (at number : ℕ) : Type 0 where
   pub fits : at + length (numbered needles number) ≤ length piece

@@ -1,4 +1,4 @@
-//! Candidates: where a needle may stand, in a piece of a chunk and in the content.
+//! Candidates: where a needle may occur, in a piece of a chunk and in the content.
 ghost use Rattle.std.specs.Prelude.{◌≡◌, ◌+◌, ◌<◌, ◌≤◌, ℕ, IfSome, IsTrue, List, None, length, slice_index};
 ghost use Rattle.rc_text.specs.Text.{Keeps};
 ghost use Rattle.rc_needles.specs.Needles.{needle_at};
@@ -21,11 +21,11 @@ const SHORT_PIECE: usize = 512;
 /// In a piece of fewer bytes, the packed pair is used; in longer ones, `memchr`'s memmem.
 const LONG_PIECE: usize = 8192;
 
-/// If more bytes of the needle follow the offset, memmem is used, whose search is linear in the
+/// If the needle has more bytes from the offset on, memmem is used, whose search is linear in the
 /// worst case.
 const LONG_REST: usize = 32;
 
-/// The position up to which chunks were skipped, and whether a needle may stand there.
+/// The position up to which chunks were skipped, and whether a needle may occur there.
 #[derive(Clone, Copy)]
 struct Reached {
     at: usize,
@@ -37,10 +37,10 @@ trait Candidates {
     /// The needles.
     ghost needles: { Self → List (List ℕ) };
 
-    /// How many bytes behind a needle's start the bytes are that are looked for.
+    /// How many bytes after a needle's start the bytes are that are looked for.
     ghost offset: { Self → ℕ };
 
-    /// Returns the first index of the piece at which a needle may stand, with its start `offset`
+    /// Returns the first index of the piece at which a needle may occur, with its start `offset`
     /// bytes earlier; or the piece's length.
     fn candidate(&self, piece: &[u8]) -> usize
         ensures within { result ≤ length piece.now }
@@ -202,7 +202,7 @@ fn teddy_candidate(teddy: &Teddy, table: &Table, piece: &[u8]) -> usize
     last + head_candidate(table, &piece[last..])
 }
 
-/// Returns the first position from `from` on at which a needle may stand, with its start `offset`
+/// Returns the first position from `from` on at which a needle may occur, with its start `offset`
 /// bytes earlier. If there is none below `end`, it is at least `end`. Positions are in bytes.
 #[inline(always)]
 fn look_from<C: Cursor, L: Candidates>(
@@ -271,7 +271,7 @@ fn chunks_passed<C: Cursor, L: Candidates>(
     }
 }
 
-/// Returns the first position from `from` on at which a needle may stand, with its start `offset`
+/// Returns the first position from `from` on at which a needle may occur, with its start `offset`
 /// bytes earlier, by the searcher's algorithm. If there is none below `end`, it is at least `end`.
 /// Positions are in bytes.
 #[inline(never)]

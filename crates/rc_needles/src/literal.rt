@@ -18,7 +18,7 @@ use rc_text::cursor::Cursor;
 use rc_text::input::{Input, byte_at, high, low, piece_from};
 use rc_text::types::{Anchored, Match, PatternID, Span};
 
-/// Whether the needle stands from `at` to `to`, compared a piece of a chunk at a time.
+/// Whether the needle occurs from `at` to `to`, compared a piece of a chunk at a time.
 #[inline(always)]
 fn stands_by_pieces<C: Cursor>(input: &mut Input<C>, needle: &[u8], at: usize, to: usize) -> bool
     requires long { to ≡ at + length needle.now }
@@ -38,7 +38,7 @@ fn stands_by_pieces<C: Cursor>(input: &mut Input<C>, needle: &[u8], at: usize, t
     true
 }
 
-/// Whether the needle stands from `at` to `to`, if its first byte does.
+/// Whether the needle occurs from `at` to `to`, if its first byte does.
 #[inline(always)]
 fn stands<C: Cursor>(input: &mut Input<C>, needle: &[u8], at: usize, to: usize) -> bool
     requires long { to ≡ at + length needle.now }
@@ -53,7 +53,7 @@ fn stands<C: Cursor>(input: &mut Input<C>, needle: &[u8], at: usize, to: usize) 
     stands_by_pieces(input, needle, at, to)
 }
 
-/// Returns the least number of a needle that may stand at `at`, by the trie, or how many needles
+/// Returns the least number of a needle that may occur at `at`, by the trie, or how many needles
 /// there are if none does.
 #[inline(always)]
 fn least_number<C: Cursor>(
@@ -95,7 +95,7 @@ fn begins_with(needle: &[u8], byte: u8) -> bool
     }
 }
 
-/// Returns a number: no needle of a lesser one stands at `at`, where the content has this byte. It
+/// Returns a number: no needle of a lesser one occurs at `at`, where the content has this byte. It
 /// is that of a needle that begins with the byte, or how many needles there are.
 #[inline(always)]
 fn start_number<C: Cursor>(
@@ -128,7 +128,7 @@ fn start_number<C: Cursor>(
     head
 }
 
-/// Returns the first of the needles that stands at `at` and ends at `end` or earlier.
+/// Returns the first of the needles that occurs at `at` and ends at `end` or earlier.
 #[inline(always)]
 fn needle_at<C: Cursor>(input: &mut Input<C>, table: &Table, at: usize, end: usize) -> Option<Hit>
     requires low { at < end }
@@ -156,7 +156,7 @@ fn needle_at<C: Cursor>(input: &mut Input<C>, table: &Table, at: usize, end: usi
     None
 }
 
-/// Returns the first of the needles that stands at `at` and ends at `end` or earlier. It is not
+/// Returns the first of the needles that occurs at `at` and ends at `end` or earlier. It is not
 /// inlined.
 #[inline(never)]
 fn needle_there<C: Cursor>(
@@ -252,7 +252,7 @@ fn find_by_places<C: Cursor>(
     None
 }
 
-/// Returns the first of the needles at the least start from `from` on at which one stands that ends
+/// Returns the first of the needles at the least start from `from` on at which one occurs that ends
 /// at `end` or earlier, in bytes.
 ///
 /// It reads the uncut bytes, wherever the input was before. It allocates and copies nothing. The
@@ -275,7 +275,7 @@ pub fn find_from<C: Cursor>(
     find_by_places(input, prefilter, from, end)
 }
 
-/// Returns the first of the needles at the least start at which one stands within the bounds.
+/// Returns the first of the needles at the least start at which one occurs within the bounds.
 ///
 /// It reads the uncut bytes, wherever the input was before. It allocates and copies nothing.
 pub fn find<C: Cursor>(input: &mut Input<C>, prefilter: &Prefilter) -> Option<Hit>
@@ -288,7 +288,7 @@ pub fn find<C: Cursor>(input: &mut Input<C>, prefilter: &Prefilter) -> Option<Hi
     find_from(input, prefilter, from, end)
 }
 
-/// Returns the first of the needles that stands where the bounds begin, and within them.
+/// Returns the first of the needles that occurs where the bounds begin, and within them.
 pub fn prefix<C: Cursor>(input: &mut Input<C>, prefilter: &Prefilter) -> Option<Hit>
     ensures keeps { Keeps input.old input.new }
     ensures value { result ≡ prefix_needle (needles_of prefilter.now) input.old.content (low input.old) (high input.old) }

@@ -6,17 +6,17 @@ ghost use Rattle.rc_needles.specs.Tries.{AreCarriedBy, IsFirstIn};
 use crate::table::Table;
 use crate::trie::Trie;
 
-/// What was seen in a piece.
+/// The result of a look at a piece.
 #[derive(Clone, Copy)]
 pub struct Seen {
     /// How many indices were skipped.
     pub passed: usize,
-    /// The number of the first needle that stands behind them. If that isn't known, it is how many
+    /// The number of the first needle that occurs after them. If that isn't known, it is how many
     /// needles there are.
     pub number: usize,
 }
 
-/// Skips the indices of the piece at which no needle begins, and returns what comes behind them.
+/// Skips the indices of the piece at which no needle begins, and returns what comes after them.
 #[inline(always)]
 pub fn seen_in(table: &Table, trie: &Trie, piece: &[u8]) -> Seen
     requires { AreCarriedBy (Some trie.now) (needles_in table.now.needles.items) }
@@ -45,7 +45,7 @@ pub fn seen_in(table: &Table, trie: &Trie, piece: &[u8]) -> Seen
     }
 }
 
-/// Returns the number if its needle stands in the piece at the index, else how many needles there
+/// Returns the number if its needle occurs in the piece at the index, else how many needles there
 /// are.
 #[inline(always)]
 fn number_seen(table: &Table, piece: &[u8], at: usize, number: usize) -> usize

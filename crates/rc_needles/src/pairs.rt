@@ -1,4 +1,4 @@
-//! Packed pair: two neighbouring bytes, sought at 32 indices of a piece at a time.
+//! Packed pair: two neighbouring bytes, searched for at 32 indices of a piece at a time.
 ghost use Rattle.std.specs.Prelude.{◌≡◌, ◌+◌, ◌<◌, ◌≤◌, ◌^◌, ℕ, IsTrue, length, slice_index};
 ghost use Rattle.std.specs.Int.{bit_at};
 ghost use Rattle.rc_needles.specs.Pairs.{HasBegun, HasPair};

@@ -14,7 +14,7 @@ use std::fmt;
 ///
 /// How it searches depends on the needles; the first row that fits is taken:
 ///
-/// - One needle of two bytes or more: by its two rarest neighbouring bytes, and those behind them.
+/// - One needle of two bytes or more: by its two rarest neighbouring bytes, and those after them.
 /// - Several needles of at least three bytes, or of at least two if one begins with a byte that is
 ///   common in texts: by Teddy, if there are at most 64.
 /// - Needles that begin with at most three different bytes: by these.

@@ -26,7 +26,7 @@ pub enum Heads {
     Many,
 }
 
-/// What a piece is searched for.
+/// The bytes for which a piece is searched.
 #[derive(Drop)]
 pub enum Scan {
     /// The only needle, from its bytes at the offset on.
@@ -37,7 +37,7 @@ pub enum Scan {
     Teddy(Teddy),
 }
 
-/// The needles, how a piece is searched for them, and how many bytes behind a needle's start the
+/// The needles, how a piece is searched for them, and how many bytes after a needle's start the
 /// bytes are that are searched for.
 #[derive(Drop)]
 pub struct Searcher {

@@ -229,7 +229,7 @@ fn laid_out(alloc: Global, needles: &[Vec<u8>]) -> Result<Vec<Node>, AllocError>
     Ok(trie.nodes)
 }
 
-/// Builds the branches of these needles, each behind its parent. `Err` means out of memory.
+/// Builds the branches of these needles, each after its parent. `Err` means out of memory.
 fn branches_of(alloc: Global, needles: &[Vec<u8>]) -> Result<Vec<Branch>, AllocError> {
     let mut branches = Vec::new(alloc);
     add_child(&mut branches, 0, 0)?;

@@ -9,7 +9,7 @@ use Rattle.rc_program.specs.Program.{in_ranges}
 use Rattle.rc_program.specs.Scalars.{scalar_at}
 use Rattle.rc_parses.specs.Parses.{Tree, leaf, joined, this, other, stop, turn, group}
 
--- What follows a tree that ends at a position.
+-- The continuation after a tree that ends at a position.
 abbrev pub Then : Type 0 → Type 0
 Then O = Tree → ℕ → Option O
 

@@ -21,7 +21,7 @@ abbrev pub tried_at : ℕ → Option ℕ → List Pair
 tried_at at None = []
 tried_at at (Some p) = (p, at) ∷ []
 
--- What a thread at q gives, a thread at p gives too; in a pass for the longest walk, a thread at p
+-- A thread at p gives all that a thread at q gives. In a pass for the longest walk, a thread at p
 -- may go on at q instead.
 pub record LeadsTo (s : Sight) (at p q : ℕ) : Type 0 where
   pub carries : (h : Trace) (resting : List Thread) (below : List (Trace × Pair)) (best o : Option Trace) →

@@ -56,7 +56,7 @@ entering at last = entries at (last + 1 - at)
 abbrev pub KeepsMarks : List Bool → List Bool → Type 0
 KeepsMarks set0 set = (p : ℕ) → Has set0 p → Has set p
 
--- What the closure of a thread adds.
+-- The threads, places and marks that the closure of a thread adds.
 pub record IsMarked (s : Sight) (n hi start at root : ℕ) (threads0 : ThreadList) (entered0 : Members) (set0 : List Bool)
     (threads : ThreadList) (entered : Members) (set : List Bool) (frames : List Frame) : Type 0 where
   pub same : (below : List Pair) → AreSame (length set0) (Owed s at threads0.items entered0.items ((root, at) ∷ below) set0)
@@ -95,7 +95,7 @@ pub record IsMarkingFrom (s : Sight) (n hi from last at insertions : ℕ) (curr 
 abbrev pub HasAll : ℕ → ℕ → List Bool → Type 0
 HasAll first last set = (p : ℕ) → first ≤ p → p < last → Has set p
 
--- What a pass over the starts from `from` to `last` marks: only patterns to which these lead, and
+-- A pass over the starts from `from` to `last` marks only patterns to which these lead. It marks
 -- all of them, unless each pattern from `first` up to `end`, excluded, is marked.
 pub record MarksFrom (s : Sight) (from last first end : ℕ) (set0 set : List Bool) : Type 0 where
   pub long : length set ≡ length set0

@@ -18,7 +18,7 @@ use Rattle.rc_pikevm.specs.declared.moves.Move.TheVariants.{Fork, Save, Matches,
 abbrev pub seen : Program → Searched → Search
 seen p input = search_over (places_of p.places.items) p.terminator false input
 
--- What a pass by the course sees of an input.
+-- The view that a pass by the course has of an input.
 abbrev pub seen_by : Course → Searched → Sight
 seen_by course input = sight_of (seen course.program.now input)
 

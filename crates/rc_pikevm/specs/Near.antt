@@ -23,7 +23,7 @@ pub record IsNear (s : Search) (at : ℕ) (before after : List ℕ) : Type 0 whe
 abbrev pub size : Course → ℕ
 size course = length course.program.now.places.items
 
--- What a pass sees of an input at the spot.
+-- The view that a pass has of an input at the spot.
 abbrev pub seen_from : Spot → Searched → Sight
 seen_from spot = seen_by spot.course
 

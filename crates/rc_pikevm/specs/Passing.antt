@@ -33,7 +33,7 @@ AllInside n width [] = Unit {0}
 AllInside n width (Explore p ∷ rest) = (p < n) × AllInside n width rest
 AllInside n width (Restore k old ∷ rest) = (k < width) × AllInside n width rest
 
--- What a move adds: the thread of a later position,
+-- A move adds the thread of a later position,
 abbrev pub resting_of : ℕ → List (Option ℕ) → Move → List Thread
 resting_of start slots (Reads m to) = record { place = m; at = to; start = start; slots = slots } ∷ []
 resting_of start slots move = []
@@ -59,7 +59,7 @@ IsMoveInside n (Stays m) = m < n
 IsMoveInside n (Reads m to) = m < n
 IsMoveInside n Stops = Unit {0}
 
--- What is under way at a position: the threads of later positions, the places entered, and the
+-- All that is under way at a position: the threads of later positions, the places entered, and the
 -- threads still to come, in order.
 abbrev pub Carries : Sight → ℕ → List Thread → List ℕ → List (Trace × Pair) → Option Trace → Option Trace → Type 0
 Carries s at resting entered waiting best o =
@@ -87,7 +87,8 @@ pub record HasRoom (n hi at : ℕ) (threads : ThreadList) (entered : Members) : 
   pub room : length threads.items + n ≤ threads.room + length entered.items
   pub inside : AllIn n (at + 1) (min hi (at + 4)) threads.items
 
--- What the closure of a thread that began at `start` adds at the position `at`.
+-- The threads and places that the closure of a thread that began at `start` adds at the position
+-- `at`.
 pub record IsGrown (n hi start at : ℕ) (threads0 : ThreadList) (entered0 : Members) (threads : ThreadList) (entered : Members) : Type 0 where
   pub sound : HasRoom n hi at threads entered
   pub same_room : threads.room ≡ threads0.room
@@ -124,8 +125,8 @@ pub record IsStepping (s : Sight) (n hi at : ℕ) (all left : List Thread) (thre
 abbrev pub waiting_starts : Bool → ℕ → ℕ → ℕ → List (Trace × Pair)
 waiting_starts is_open width at last = if is_open then starts width at (last + 1 - at) else []
 
--- What is noted along the first walk of the least start in from..=last that has one; None if there
--- is no such start.
+-- The trace of the first walk of the least start in from..=last that has one; None if there is no
+-- such start.
 abbrev pub GivesTrace : Sight → ℕ → ℕ → ℕ → Option Trace → Type 0
 GivesTrace s width from last o =
     ((o ≡ None) × ((y : ℕ) → from ≤ y → y ≤ last → HasNoWalkFrom s y))
@@ -137,11 +138,11 @@ abbrev pub Tells : Sight → ℕ → ℕ → Option Ending → Type 0
 Tells s from last None = (y : ℕ) → from ≤ y → y ≤ last → HasNoWalkFrom s y
 Tells s from last (Some r) = (x : ℕ) × (w : List Pair) × (from ≤ x) × (x ≤ last) × IsFirstFrom s x w
 
--- What was noted along the best walk so far.
+-- The trace of the best walk so far.
 abbrev pub best_of : Option Ending → List (Option ℕ) → Option Trace
 best_of best found = option_map (λ (r : Ending). done r.pattern r.start r.end found) best
 
--- What is under way before the position `at`.
+-- All that is under way before the position `at`.
 abbrev pub Pending : Sight → ℕ → ℕ → ℕ → List Thread → Option Ending → List (Option ℕ) → Option Trace → Type 0
 Pending s width last at curr best found o =
     Carries s at [] [] (map pending curr ++ waiting_starts (is_none best) width at last) (best_of best found) o

@@ -17,8 +17,8 @@ use Rattle.rc_pikevm.specs.declared.pass.Ending.{Ending}
 abbrev pub EndsThere : (Pair → Type 0) → ℕ → Pair → Type 0
 EndsThere Ends e n = Ends n × (n.1 ≡ e)
 
--- Of the threads in order, the first from which a walk leads on gives what is noted along its
--- longest walk.
+-- Of the threads in order, the first from which a walk leads on gives the trace of its longest
+-- walk.
 pub data IsLongestOf (ways : Pair → List Pair) (Ends : Pair → Type 0) (H : Type 0) (note : H → Pair → H) : List (H × Pair) → Option H → Type 0 where
   ended : IsLongestOf ways Ends H note [] None
   longest : {ts : List (H × Pair)} (t : H × Pair) (w : List Pair) → IsLongestWalk ways Ends [] (t.1 ∷ []) w →
@@ -66,9 +66,9 @@ abbrev pub IsOpen : {H : Type 0} → (H → ℕ) → ℕ → Option (H × ℕ) �
 IsOpen start at None y e = at ≤ e
 IsOpen start at (Some b) y e = (at ≤ e) × (b.1 < e) × (y ≤ start b.0)
 
--- What is known of the positions passed. The best walk so far, as what it noted and where it ended,
--- is of the least start that has a walk to one of them. It is the first of that start's walks to
--- the greatest of them.
+-- The facts about the positions passed. The best walk so far, as its trace and its end, is of the
+-- least start that has a walk to one of them. It is the first of that start's walks to the greatest
+-- of them.
 abbrev pub IsKnown : (Pair → List Pair) → (Pair → Type 0) → (H : Type 0) → (H → Pair → H) → (H → ℕ) → List (H × Pair) → ℕ → Option (H × ℕ) → Type 0
 IsKnown ways Ends H note start all at None = (y e : ℕ) → e < at → IsQuiet ways Ends H note start all y e
 IsKnown ways Ends H note start all at (Some b) =
@@ -99,7 +99,7 @@ pub record IsRacing (ways : Pair → List Pair) (Ends : Pair → Type 0) (H : Ty
 abbrev pub began : Trace → ℕ
 began h = h.start
 
--- The best walk so far, as what was noted along it and where it ended.
+-- The best walk so far, as its trace and its end.
 abbrev pub leading : Option Ending → List (Option ℕ) → Option (Trace × ℕ)
 leading best found = option_map (λ (r : Ending). (done r.pattern r.start r.end found, r.end)) best
 
@@ -140,15 +140,15 @@ IsRecorded best0 found0 new slots best found =
 abbrev pub starts_to : ℕ → ℕ → ℕ → List (Trace × Pair)
 starts_to width at last = starts width at (last + 1 - at)
 
--- What is noted along the longest walk of the least start in from..=last that has one; None if
--- there is no such start.
+-- The trace of the longest walk of the least start in from..=last that has one; None if there is no
+-- such start.
 abbrev pub GivesLongest : Sight → ℕ → ℕ → ℕ → Option Trace → Type 0
 GivesLongest s width from last o =
     ((o ≡ None) × ((y : ℕ) → from ≤ y → y ≤ last → HasNoWalkFrom s y))
     ⊎ ((x : ℕ) × (w : List Pair) × (from ≤ x) × (x ≤ last) × IsLongestWalk (next_of s) (λ n. IsTrue (ends s n)) [] ((0, x) ∷ []) w
     × ((y : ℕ) → from ≤ y → y < x → HasNoWalkFrom s y) × (o ≡ Some (noted (note s.places) (sets_out width x).0 w)))
 
--- What the closure of a thread adds.
+-- The threads, places and matches that the closure of a thread adds.
 pub record IsRun (s : Sight) (n hi start at : ℕ) (waiting0 : List (Trace × Pair)) (threads0 : ThreadList) (entered0 : Members) (best0 : Option Ending)
     (found0 : List (Option ℕ)) (threads : ThreadList) (entered : Members) (frames : List Frame) (slots : List (Option ℕ)) (best : Option Ending)
     (found : List (Option ℕ)) : Type 0 where

@@ -14,7 +14,7 @@ StandsFor s root = (x : ℕ) →
     ∥ ((u : List Pair) × All (IsChoice s.places) u × IsFirstFrom s x (u ++ v)) ∥₁)
     × (HasNoWalk (next_of s) (λ n. IsTrue (ends s n)) [] ((root, x) ∷ []) → HasNoWalkFrom s x)
 
--- The same of a search: the first walk from place 0 is, after choices alone, the one from `root`;
--- and place 0 has no walk if `root` has none.
+-- In a search too, the first walk from place 0 is, after choices alone, the one from `root`; and
+-- place 0 has no walk if `root` has none.
 abbrev pub StandsIn : Search → ℕ → Type 0
 StandsIn s = StandsFor (sight_of s)

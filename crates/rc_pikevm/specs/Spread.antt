@@ -97,7 +97,7 @@ setting_out x (suc count) = (x, (0, x)) ∷ setting_out (x + 1) count
 abbrev pub starting : ℕ → ℕ → List Runner
 starting at last = setting_out at (last + 1 - at)
 
--- What the closure of a thread adds.
+-- The threads, places and matches that the closure of a thread adds.
 pub record IsSpread (s : Sight) (n hi start at root : ℕ) (threads0 : ThreadList) (entered0 : Members) (best0 : Option Ending)
     (threads : ThreadList) (entered : Members) (best : Option Ending) (frames : List Frame) : Type 0 where
   pub seeks : (below : List Runner) (o : Option Found) → BeginFrom start below →

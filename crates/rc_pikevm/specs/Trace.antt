@@ -1,5 +1,5 @@
 -- Only proofs use this file.
--- Capture slots: what is noted along a walk.
+-- Capture slots: the trace of a walk.
 use Rattle.std.specs.Prelude.{ℕ, zero, suc, ◌+◌, List, [], ◌∷◌, Option, Some, None, slice_set, replicate}
 use Rattle.rc_walks.specs.Walks.{Pair}
 use Rattle.rc_program.specs.Program.{Place, slot, accept, place_at}
@@ -18,11 +18,11 @@ note_at _ h i = h
 abbrev pub note : List Place → Trace → Pair → Trace
 note places h n = note_at (place_at places n.0) h n.1
 
--- What was noted by a thread that hasn't ended.
+-- The trace of a thread that hasn't ended.
 abbrev pub trace : ℕ → List (Option ℕ) → Trace
 trace start slots = record { start = start; slots = slots; ended = None }
 
--- What is known once a walk of the pattern has ended.
+-- The trace of a walk of the pattern that has ended.
 abbrev pub done : ℕ → ℕ → ℕ → List (Option ℕ) → Trace
 done pattern start stop slots = record { start = start; slots = slots; ended = Some (pattern, stop) }
 

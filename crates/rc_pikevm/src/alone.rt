@@ -86,7 +86,7 @@ fn leads_nowhere(spot: &Spot, from: usize, tried: Option<usize>) -> bool
     false
 }
 
-/// Returns the place behind this one if this one fills a slot, else the place itself.
+/// Returns the place after this one if this one fills a slot, else the place itself.
 #[inline(always)]
 fn past_slot(spot: &Spot, place: usize) -> usize
     requires place_in { place < size spot.now.course }
@@ -99,7 +99,7 @@ fn past_slot(spot: &Spot, place: usize) -> usize
     }
 }
 
-/// Whether no walk leads on from the place, or from behind it if it fills a slot, as far as
+/// Whether no walk leads on from the place, or from the one after it if it fills a slot, as far as
 /// `is_shut` sees.
 #[inline(always)]
 fn is_closed(spot: &Spot, place: usize) -> bool

@@ -14,7 +14,7 @@ pub enum Frame {
     Restore(usize, Option<usize>),
 }
 
-/// What a pass builds at one position.
+/// The data that a pass builds at one position.
 #[derive(Drop)]
 pub struct Growth {
     /// The threads of later positions.

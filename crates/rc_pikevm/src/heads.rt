@@ -78,8 +78,9 @@ fn barred_before(program: &Program, place: usize, bytes: &[u8]) -> usize
     }
 }
 
-/// Returns the first position from `at` on, but at most `end`, at which the next byte lets a walk
-/// lead on from the place. Positions are in bytes.
+/// Skips positions from `at` on at which the next byte lets no walk lead on from the place. Returns
+/// the first position that is left, in bytes, and at most `end`. Nothing is skipped if the place
+/// has no first-byte set and doesn't read a single byte.
 #[inline(always)]
 pub(crate) fn pass_over(
     course: Course,

@@ -105,7 +105,7 @@ fn put_span(found: Match, slots: &mut [Option<usize>])
 }
 
 /// Returns the greatest match of a search, and writes its slots: the two of the whole match, as far
-/// as these are handed in, and None to all others. Without a match the slots stay as they are.
+/// as `slots` has them, and None to all others. Without a match the slots stay as they are.
 fn search_span<C: Cursor>(
     cache: &mut Cache,
     input: &mut Input<C>,
@@ -127,7 +127,7 @@ fn search_span<C: Cursor>(
 }
 
 /// Returns the pattern of the match of the given kind, and writes the first of its slots, as many
-/// as are handed in. Without a match the slots stay as they are. The earliest flag is not read. The
+/// as `slots` has. Without a match the slots stay as they are. The earliest flag is not read. The
 /// program says whether matches that end off a boundary are passed over. A search for the greatest
 /// match passes none over. Of its slots only the two of the whole match are set; all others are
 /// None.

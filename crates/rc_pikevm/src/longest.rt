@@ -1,5 +1,5 @@
 //! Leftmost-longest search: one pass of the Pike VM finds the longest match of the least start. If
-//! that match is passed over, another pass begins behind its start.
+//! that match is passed over, another pass begins after its start.
 ghost use Rattle.std.specs.Prelude.{◌≡◌, ℕ, ◌+◌, ◌-◌, ◌*◌, ◌<◌, ◌≤◌, ⊤, length, Option, Some, MatchOption, IfNone};
 ghost use Rattle.std.specs.Option.{option_map};
 ghost use Rattle.rc_text.specs.Found.{Found};
@@ -28,7 +28,7 @@ use rc_text::input::{Input, is_boundary_at};
 use rc_text::types::{Match, PatternID, Span};
 
 /// Returns the longest walk of the least start, with its slots in `found`, or None if there is
-/// none. As long as that match is passed over, another pass begins at the start behind it.
+/// none. As long as that match is passed over, another pass begins at the start after it.
 fn outlast<C: Cursor>(
     input: &mut Input<C>,
     program: &Program,
@@ -100,9 +100,9 @@ fn choose_longest<C: Cursor>(
 }
 
 /// Returns the pattern of the longest match of the least start, and writes the first of its slots,
-/// as many as are handed in. They are those of the preferred walk of that length. Without a match
-/// the slots stay as they are. The earliest flag is not read. The program says whether matches that
-/// end off a boundary are passed over.
+/// as many as `slots` has. They are those of the preferred walk of that length. Without a match the
+/// slots stay as they are. The earliest flag is not read. The program says whether matches that end
+/// off a boundary are passed over.
 ///
 /// The cache must be made for programs of as many places, and for searches with as many slots or
 /// more. It stays so. Nothing is allocated.

@@ -77,7 +77,7 @@ fn reading(place: usize, to: Option<usize>) -> Move
     Move::Reads(place, at)
 }
 
-/// Returns the position behind the next byte if that byte is `byte`.
+/// Returns the position after the next byte if that byte is `byte`.
 #[inline(always)]
 pub fn after_byte(spot: &Spot, byte: u8) -> Option<usize>
     ghost text: { Searched }
@@ -93,7 +93,7 @@ pub fn after_byte(spot: &Spot, byte: u8) -> Option<usize>
     Some(spot.at + 1)
 }
 
-/// Returns the position behind the next byte if one of the place's ranges contains it.
+/// Returns the position after the next byte if one of the place's ranges contains it.
 #[inline(always)]
 pub fn after_one_of(spot: &Spot, place: usize, ranges: &Vec<ClassBytesRange>) -> Option<usize>
     ghost text: { Searched }
@@ -110,7 +110,7 @@ pub fn after_one_of(spot: &Spot, place: usize, ranges: &Vec<ClassBytesRange>) ->
     Some(spot.at + 1)
 }
 
-/// Returns the position behind the next scalar if one of the place's ranges contains it.
+/// Returns the position after the next scalar if one of the place's ranges contains it.
 #[inline(always)]
 pub fn after_scalar(spot: &Spot, place: usize, ranges: &Vec<ClassUnicodeRange>) -> Option<usize>
     ghost text: { Searched }

@@ -58,7 +58,7 @@ pub struct Ending {
 /// appended to `growth` as they are.
 ///
 /// Returns the pattern and the start of the first thread that comes to a match. Then `growth.slots`
-/// are that walk's, and all threads behind it are dropped.
+/// are that walk's, and all threads after it are dropped.
 fn step(spot: &Spot, curr: &Threads, growth: &mut Growth) -> Option<(usize, usize)>
     ghost text: { Searched }
     requires here { IsHere spot.now text }
@@ -136,7 +136,7 @@ fn set_out(spot: &Spot, root: usize, is_open: bool, growth: &mut Growth) -> Opti
 /// Advances the threads of `curr` at the spot. Then, if `is_open` and the spot isn't past the last
 /// start, a new thread sets out. If it is the only one, it enters at the place `root`, which stands
 /// for place 0. Returns the pattern and the start of the first thread that comes to a match. Then
-/// `growth.slots` are that walk's, and all threads behind it are dropped.
+/// `growth.slots` are that walk's, and all threads after it are dropped.
 fn advance(
     spot: &Spot,
     root: usize,
@@ -384,7 +384,7 @@ pub(crate) fn next_position<C: Cursor>(
 /// has one, with its slots in `found`. Without a match, `found` stays as it is.
 ///
 /// A place is entered once at a position, and `insertions` counts how many are. With a prefilter,
-/// starts at which no needle stands are skipped while no thread is under way. With `earliest`, the
+/// starts at which no needle occurs are skipped while no thread is under way. With `earliest`, the
 /// pass ends at the first position at which some walk ends, and returns that walk.
 #[tactic(auto, using(crate::proofs::RootLemmas::stands_itself))]
 pub fn pass<C: Cursor>(

@@ -170,7 +170,7 @@ fn is_spent(curr: &Threads, best: Option<Ending>, at: usize) -> bool
 /// that has one, with its slots in `found`. Without a match, `found` stays as it is.
 ///
 /// A place is entered once at a position, and `insertions` counts how many are. With a prefilter,
-/// starts at which no needle stands are skipped while no thread is under way.
+/// starts at which no needle occurs are skipped while no thread is under way.
 pub fn race<C: Cursor>(
     input: &mut Input<C>,
     course: Course,

@@ -13,7 +13,7 @@ use std::alloc::{AllocError, Global};
 pub struct Scratch {
     /// The threads of the position.
     pub curr: Threads,
-    /// What is built there, with the threads of the next position.
+    /// The data that is built there, with the threads of the next position.
     pub next: Growth,
     /// The slots of the match that was found.
     pub found: Vec<Option<usize>>,

@@ -69,8 +69,8 @@ pub(crate) fn put_match(end: Ending, slots: &mut [Option<usize>])
 }
 
 /// Returns the walk that a search chooses, with its slots in `found`, or None if there is none. As
-/// long as that match is passed over, another pass begins at the start behind it. Walks enter at
-/// the place `root`, which stands for place 0.
+/// long as that match is passed over, another pass begins at the start after it. Walks enter at the
+/// place `root`, which stands for place 0.
 fn choose<C: Cursor>(
     input: &mut Input<C>,
     program: &Program,
@@ -148,7 +148,7 @@ fn choose_in<C: Cursor>(
 }
 
 /// Returns the pattern of the leftmost-first match, and writes the first of its slots, as many as
-/// are handed in. Without a match the slots stay as they are. The earliest flag is not read. The
+/// `slots` has. Without a match the slots stay as they are. The earliest flag is not read. The
 /// program says whether matches that end off a boundary are passed over. With a prefilter, the
 /// search goes from needle to needle while no thread is under way.
 ///

@@ -3,7 +3,7 @@ ghost use Rattle.std.specs.Prelude.{◌+◌, ◌<◌, ◌≤◌, ◌^◌};
 
 use rc_program::program::Program;
 
-/// What stays fixed during a pass.
+/// The parameters that stay fixed during a pass.
 #[derive(Clone, Copy)]
 pub struct Course<'a> {
     /// The program.
@@ -21,7 +21,7 @@ pub struct Course<'a> {
 /// A position of a pass, and the bytes around it.
 #[derive(Clone, Copy)]
 pub struct Spot<'a> {
-    /// What stays fixed during the pass.
+    /// The parameters of the pass.
     pub course: Course<'a>,
     /// The position, in bytes.
     pub at: usize,

@@ -46,7 +46,7 @@ pub fn open<C: Cursor>(input: &mut Input<C>, at: usize) -> Window
     Window { bytes, start, len }
 }
 
-/// Writes a piece behind the first `len` bytes.
+/// Writes a piece after the first `len` bytes.
 fn append(bytes: &mut [u8; 64], len: usize, piece: &[u8])
     requires { len + length piece.now ≤ 64 }
     ensures { take (len + length piece.now) bytes.new ≡ take len bytes.old ++ piece.now }

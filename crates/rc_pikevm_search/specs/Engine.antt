@@ -20,15 +20,15 @@ IsEngineCache e slots cache = IsCacheFor (length e.program.places.items) slots c
 abbrev pub IsSameCache : Made → Made → Type 0
 IsSameCache c d = d ≡ record c { insertions = d.insertions }
 
--- A pass over the input that found o entered n places: none if the bounds cross; at least one for
--- each position of the match, and one more; and at most all of them for each position of the
--- bounds, and for two more.
+-- A pass over the input that found o entered n places. That is none if the bounds cross, and else
+-- at most all of them for each position of the bounds, and for two more. It is at least one for
+-- each position of the match, and one more.
 pub record IsCount (e : Engine) (s : Searched) (o : Option Found) (n : ℕ) : Type 0 where
   pub none : high s < low s → n ≡ 0
   pub few : n ≤ length e.program.places.items * (high s - low s + 2)
   pub counted : IfSome o (λ m. m.end - m.start + 1 ≤ n)
 
--- What a search of the input that found o leaves in the cache: the count of its pass; or all as it
+-- A search of the input that found o leaves this in the cache: the count of its pass; or all as it
 -- was, if literals alone decide the match and no pass is made.
 abbrev pub Counts : Engine → Searched → Option Found → Made → Made → Type 0
 Counts e s o c d = MatchOption (answering_for e.kind e.strategy) (IsCount e s o d.insertions) (λ _. d ≡ c)

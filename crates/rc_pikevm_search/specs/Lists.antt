@@ -1,4 +1,4 @@
--- Lists of matches: what is left of one behind a match.
+-- Lists of matches: what is left of one after a match.
 use Rattle.std.specs.Prelude.{◌≡◌, ℕ, ◌+◌, ◌-◌, ◌≤◌, List, length, Option}
 use Rattle.rc_text.specs.Found.{Found}
 use Rattle.rc_text.specs.declared.types.MatchKind.{MatchKind}
@@ -7,8 +7,8 @@ use Rattle.rc_program.specs.Answer.{Search}
 use Rattle.rc_program.specs.Kinds.{answer_by_from, matches_by_kind}
 use Rattle.rc_program.specs.Matches.{AreInOrder, AreMatches, begin_of, end_of, matches_left}
 
--- What the list of matches of a kind is that is left if the span starts at k, and a match before it
--- ended at `last`, wherever that is.
+-- The law of the list of matches of a kind that is left if the span starts at k, and a match before
+-- it ended at `last`, wherever that is.
 pub record LeftLaw : Type 0 where
   pub are_matches : (kind : MatchKind) (s : Search) (k : ℕ) (last : Option ℕ) →
       AreMatches begin_of end_of (answer_by_from kind s) k last (matches_by_kind kind s k last)

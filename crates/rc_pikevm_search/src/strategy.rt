@@ -15,7 +15,7 @@ use rc_text::types::MatchKind;
 pub enum Strategy {
     /// No literals.
     Pass,
-    /// Needles: no walk begins at a position where none of them stands.
+    /// Needles: no walk begins at a position where none of them occurs.
     Guarded(Prefilter),
     /// Needles that are the pattern's texts, in order of preference.
     Literal(Prefilter),

@@ -130,11 +130,11 @@ slots_of s n c = map (slot_of s c) (range_with_len 0 n)
 abbrev pub allowed_only : Search → ℕ → List Pair → Option Chosen
 allowed_only s x w = if is_allowed s w then Some (record { start = x; walk = w }) else None
 
--- What the start x gives; no walk has more pairs than there are.
+-- The answer of the start x; no walk has more pairs than there are.
 abbrev pub from_start : Search → ℕ → Option Chosen
 from_start s x = option_and_then (allowed_only s x) (walk_by (next_of s) (ends s) (length s.places * (s.hi + 1)) [] (0, x))
 
--- What the first of so many numbers from x on gives.
+-- The result of the first of so many numbers from x on that has one.
 abbrev pub first_given : {A : Type 0} → (ℕ → Option A) → ℕ → ℕ → Option A
 first_given gives zero x = None
 first_given gives (suc n) x = option_or (gives x) (first_given gives n (x + 1))

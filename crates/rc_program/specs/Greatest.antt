@@ -50,7 +50,7 @@ span_by s e x p =
     option_map (λ (w : List Pair). let m : Found = record { pattern = p; start = x; end = e } in m)
     (walk_by (next_of s) (ends_for s p e) (length s.places * (s.hi + 1)) [] (0, x))
 
--- What the last of the numbers below n gives.
+-- The result of the last of the numbers below n that has one.
 abbrev pub last_below : (ℕ → Option Found) → ℕ → Option Found
 last_below gives zero = None
 last_below gives (suc n) = option_or (gives n) (last_below gives n)
@@ -77,7 +77,7 @@ greatest s = last_below (to_end s) (s.hi + 1)
 pub record GreatestLaw : Type 0 where
   pub some : (s : Search) (m : Found) → (greatest s ≡ Some m) ↔ IsGreatest s m
   pub none : (s : Search) → (greatest s ≡ None) ↔ HasNoSpan s
-  -- What a search by the program of some patterns spells is what the patterns spell.
+  -- A search by the program of some patterns spells what the patterns spell.
   pub by_program : (hs : List Re) (s : Search) (m : Found) → All HasBounds hs → s.places ≡ program hs →
       IsSpelledIn s m ↔ (IsStart s m.start × AllowsPattern s m.pattern × (m.end ≤ s.hi) × SpelledBy s.text 0 hs m.pattern m.start m.end)
   -- The answer is spelled.

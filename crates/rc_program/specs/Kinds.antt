@@ -28,8 +28,8 @@ abbrev pub IsAnswerWhere : Bool → MatchKind → Search → Option Found → Ty
 IsAnswerWhere true kind s o = IsEarlyAnswer kind s o
 IsAnswerWhere false kind s o = o ≡ answer_by kind s
 
--- What a search may answer: the match of the kind; with the earliest flag on any that is spelled,
--- unless matches may be passed over.
+-- The answers that a search may give: the match of the kind; with the earliest flag on any that is
+-- spelled, unless matches may be passed over.
 abbrev pub IsAnswerBy : MatchKind → Bool → Search → Option Found → Type 0
 IsAnswerBy kind earliest s o = IsAnswerWhere (is_early earliest s) kind s o
 
@@ -42,7 +42,7 @@ answer_by_from kind s k = answer_by kind (from_on s k)
 unfoldable pub matches_by_kind : MatchKind → Search → ℕ → Option ℕ → List Found
 matches_by_kind kind s k last = matches_by begin_of end_of (answer_by_from kind s) (s.hi + 1 - k) k last
 
--- What holds of each kind.
+-- The law of each kind.
 pub record KindsLaw : Type 0 where
   -- The match of the kind is an answer, with the earliest flag on or off.
   pub best : (kind : MatchKind) (earliest : Bool) (s : Search) → IsAnswerBy kind earliest s (answer_by kind s)

@@ -61,7 +61,7 @@ all_groups (h ∷ hs) = group_count h + all_groups hs
 abbrev pub slot_count : List Re → ℕ
 slot_count hs = 2 * length hs + 2 * all_groups hs
 
--- What holds of the program of each list of patterns.
+-- The law of the program of each list of patterns.
 pub record ClosedLaw : Type 0 where
   -- Place 0, at which it is entered, exists.
   pub rooted : (hs : List Re) → 0 < length (program hs)
@@ -75,7 +75,7 @@ pub record ClosedLaw : Type 0 where
   pub light : (hs : List Re) → All HasBounds hs → heaviness (program hs) ≤ list_weight hs
   pub small : (hs : List Re) → All HasBounds hs → length (program hs) ≤ list_weight hs
 
--- What holds of patterns without their groups.
+-- The law of patterns without their groups.
 pub record GroupLaw : Type 0 where
   pub spells : (t : Text) (h : Re) (i j : ℕ) → Spells t (without_groups h) i j ↔ Spells t h i j
   pub bounded : (h : Re) → HasBounds h → HasBounds (without_groups h)
@@ -109,7 +109,7 @@ pub record EntryLaw : Type 0 where
       IsWalk (ways (program hs) t hi) (λ n. IsTrue (is_match_place None (place_at (program hs) n.0))) [] ((entry hs p, x) ∷ []) w →
       place_at (program hs) (last_of w).0 ≡ accept p
 
--- What the properties of a pattern say of each span that it spells.
+-- The law of the properties of a pattern, for each span that it spells.
 pub record PropertyLaw : Type 0 where
   -- It has a least length, and the span is no shorter.
   pub least : (t : Text) (h : Re) (i j : ℕ) → Spells t h i j → (n : ℕ) × (minimum_len h ≡ Some n) × (i + n ≤ j)

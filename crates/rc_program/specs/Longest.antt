@@ -55,7 +55,7 @@ ends_at s e n = ends s n && nat_eq n.1 e
 abbrev pub walk_to : Search → ℕ → ℕ → Option (List Pair)
 walk_to s x e = walk_by (next_of s) (ends_at s e) (length s.places * (s.hi + 1)) [] (0, x)
 
--- What the last of the numbers below n gives.
+-- The result of the last of the numbers below n that has one.
 abbrev pub furthest : (ℕ → Option (List Pair)) → ℕ → Option (List Pair)
 furthest gives zero = None
 furthest gives (suc n) = option_or (gives n) (furthest gives n)

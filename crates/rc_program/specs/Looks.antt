@@ -19,7 +19,7 @@ abbrev pub side_before : List ℕ → Side
 side_before [] = nothing
 side_before (b ∷ bs) = stands (slice_index (b ∷ bs) (length bs)) (scalar_before (b ∷ bs))
 
--- The side behind a position, by the bytes that go on from it.
+-- The side after a position, by the bytes that go on from it.
 abbrev pub side_after : List ℕ → Side
 side_after [] = nothing
 side_after (b ∷ bs) = stands b (option_map (λ (s : ℕ × ℕ). s.0) (scalar_at (b ∷ bs)))

@@ -92,7 +92,7 @@ abbrev pub AreJoined : ℕ → ℕ → List Span → Type 0
 AreJoined from to [] = from ≡ to
 AreJoined from to (s ∷ spans) = (s.start ≡ from) × (s.start ≤ s.end) × AreJoined s.end to spans
 
--- What the list of matches is, if the span starts at k.
+-- The law of the list of matches, if the span starts at k.
 pub record MatchesLaw : Type 0 where
   pub are_matches : (s : Search) (k : ℕ) → AreMatches begin_of end_of (answer_from s) k None (matches_left s k None)
   pub alone : (s : Search) (k : ℕ) (ms : List Found) → AreMatches begin_of end_of (answer_from s) k None ms → ms ≡ matches_left s k None
@@ -100,7 +100,7 @@ pub record MatchesLaw : Type 0 where
   pub few : (s : Search) (k : ℕ) → length (matches_left s k None) ≤ s.hi + 1 - max k s.text.slice_start
   pub within : (s : Search) → LiesWithin begin_of end_of (answer_from s) s.text.slice_start s.hi
 
--- What the pieces between matches in order are, also if their number is limited.
+-- The law of the pieces between matches in order, also if their number is limited.
 pub record PiecesLaw : Type 0 where
   pub count : (hi : ℕ) (ms : List Found) → length (pieces_of hi ms) ≡ length ms + 1
   pub cover : (hi : ℕ) (ms : List Found) → AreInOrder begin_of end_of hi ms → AreJoined 0 hi (in_turn (pieces_of hi ms) ms)

@@ -25,9 +25,9 @@ pub data Place : Type 0 where
   -- The match place of a pattern.
   accept : ℕ → Place
 
--- A part of a program: how many places it has, and the places themselves, once three things are
--- known: the slot of group 1, the number of the part's first place, at which it is entered, and the
--- place to which it leads.
+-- A part of a program: how many places it has, and the places themselves. These depend on the slot
+-- of group 1, on the number of the part's first place, at which it is entered, and on the place to
+-- which it leads.
 pub record Part : Type 0 where
   pub size : ℕ
   pub places : ℕ → ℕ → ℕ → List Place
@@ -132,7 +132,7 @@ abbrev pub choice_of_patterns : ℕ → ℕ → List Re → Part
 choice_of_patterns p s [] = dead
 choice_of_patterns p s (h ∷ hs) = either (pattern_part p s h) (choice_of_patterns (p + 1) (s + 2 * group_count h) hs)
 
--- The program of a list of patterns, entered at place 0. The slots of groups come behind two for
+-- The program of a list of patterns, entered at place 0. The slots of groups come after two for
 -- each pattern.
 abbrev pub program : List Re → List Place
 program hs = (choice_of_patterns 0 (2 * length hs) hs).places 0 0 0

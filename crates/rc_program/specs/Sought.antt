@@ -15,7 +15,7 @@ anchoring_of No = anywhere
 anchoring_of Yes = at_start
 anchoring_of (Pattern p) = by_pattern p
 
--- What a search sees of an input.
+-- The view that a search has of an input.
 abbrev pub text_of : ℕ → Searched → Text
 text_of terminator s = record {
   content = s.content;
@@ -35,8 +35,8 @@ search_over places terminator passes_over s = record {
   passes_over = passes_over;
 }
 
--- What a regex is for: its patterns, whether its program has their groups, the line terminator, and
--- whether empty matches may only be on boundaries.
+-- A regex, as a search needs it: its patterns, whether its program has their groups, the line
+-- terminator, and whether empty matches may only be on boundaries.
 pub record Sought : Type 0 where
   pub patterns : List Re
   pub grouped : Bool

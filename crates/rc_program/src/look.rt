@@ -7,8 +7,8 @@ use rc_pattern::hir::Look;
 use unicode::properties::{GeneralCategory, is_alphabetic};
 
 /// Whether the assertion holds at a position: `before` are the bytes before it, and `after` those
-/// behind it. Lines end at the byte `terminator`, except that `StartCRLF` and `EndCRLF` take CR,
-/// LF, and both together as one line end.
+/// after it. Lines end at the byte `terminator`, except that `StartCRLF` and `EndCRLF` take CR, LF,
+/// and both together as one line end.
 ///
 /// Of longer bytes, the four next to the position are enough.
 pub fn holds(look: Look, terminator: u8, before: &[u8], after: &[u8]) -> bool
@@ -191,7 +191,7 @@ fn word_before(before: &[u8]) -> Option<bool>
     Some(is_word_char(c))
 }
 
-// Whether a word character is behind the position. Returns None if bytes are there, but no scalar.
+// Whether a word character is after the position. Returns None if bytes are there, but no scalar.
 fn word_after(after: &[u8]) -> Option<bool>
     ensures word { unwrap_or result false ≡ is_unicode_word (side_after after.now) }
     ensures broken { is_none result ≡ is_broken (side_after after.now) }
@@ -230,7 +230,7 @@ fn in_bytes(count: usize, least: u32, code: u32) -> Option<(char, usize)>
     Some((c, count))
 }
 
-/// Returns the scalar of two bytes, by its first byte's low five bits and the bytes behind.
+/// Returns the scalar of two bytes, by its first byte's low five bits and the bytes after it.
 fn of_two(lead: u8, rest: &[u8]) -> Option<(char, usize)>
     requires { lead < 32 }
     ensures { result ≡ of_two lead rest.now }
@@ -241,7 +241,7 @@ fn of_two(lead: u8, rest: &[u8]) -> Option<(char, usize)>
     in_bytes(2, 0x80, u32::from(lead) * 64 + u32::from(rest[0] - 128))
 }
 
-/// Returns the scalar of three bytes, by its first byte's low four bits and the bytes behind.
+/// Returns the scalar of three bytes, by its first byte's low four bits and the bytes after it.
 fn of_three(lead: u8, rest: &[u8]) -> Option<(char, usize)>
     requires { lead < 16 }
     ensures { result ≡ of_three lead rest.now }
@@ -253,7 +253,7 @@ fn of_three(lead: u8, rest: &[u8]) -> Option<(char, usize)>
     in_bytes(3, 0x800, code)
 }
 
-/// Returns the scalar of four bytes, by its first byte's low three bits and the bytes behind.
+/// Returns the scalar of four bytes, by its first byte's low three bits and the bytes after it.
 fn of_four(lead: u8, rest: &[u8]) -> Option<(char, usize)>
     requires { lead < 8 }
     ensures { result ≡ of_four lead rest.now }

@@ -20,8 +20,7 @@ pub record IsCacheIn (e : Engines) (slots : ℕ) (c : Cache) : Type 0 where
   pub pass : IsEngineCache e.engine slots c.pass
   pub lazy : IsCacheOfBoth e.lazy c.lazy
 
--- What was the first cache is the second: one that was made for the lazy DFA, or, without one, as
--- it was.
+-- The second cache replaces the first: it was made for the lazy DFA, or, without one, is as it was.
 abbrev pub KeepsStates : Option Lazy → Option made.Cache → Option made.Cache → Type 0
 KeepsStates None c d = d ≡ c
 KeepsStates (Some l) None d = d ≡ None

@@ -33,7 +33,7 @@ met_leg None = Nowhere
 abbrev pub idle_leg : ℕ → ℕ → ℕ → Leg
 idle_leg i from hi = if nat_lt from i && nat_le i hi then Later i else Here
 
--- What the end of a run says.
+-- The result of a run, by how it ended.
 abbrev pub leg_of : Ended → ℕ → ℕ → Result Leg error.MatchError
 leg_of (endings.Found met) from hi = Ok (met_leg met)
 leg_of (endings.Idle i) from hi = Ok (idle_leg i from hi)
@@ -46,7 +46,7 @@ Tells kind m s from Nowhere = StartsGive kind m s from None
 Tells kind m s from Here = Unit {0}
 Tells kind m s from (Later i) = GivesToo kind m s i from
 
--- A later position is behind.
+-- A later position comes after.
 abbrev pub ComesOn : ℕ → ℕ → Leg → Type 0
 ComesOn from hi (Later i) = (from < i) × (i ≤ hi)
 ComesOn from hi leg = Unit {0}

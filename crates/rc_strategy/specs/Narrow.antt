@@ -8,7 +8,7 @@ use Rattle.rc_program.specs.Longest.{longest, longest_groups}
 abbrev pub narrowed : Search → Found → Search
 narrowed s m = record s { lo = m.start; hi = m.end; anchoring = by_pattern m.pattern }
 
--- What it answers, if the match is the search's answer.
+-- The law of its answer, if the match is the search's answer.
 pub record NarrowLaw : Type 0 where
   -- The same walk,
   pub walk : (s : Search) (c : Chosen) → IsAnswer s c → IsAnswer (narrowed s (found s c)) c

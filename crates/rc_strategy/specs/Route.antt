@@ -13,11 +13,11 @@ use Rattle.rc_strategy.specs.declared.route.Route.TheVariants.{FromEnd, Greatest
 use Rattle.rc_strategy.specs.declared.route.Way.{Way}
 use Rattle.rc_strategy.specs.declared.route.Way.TheVariants.{AllStates, MetStates, NoTables}
 
--- What guards, if anything does, may be relied on in searches by the engine's program.
+-- Searches by the engine's program may rely on the guard, if there is one.
 abbrev pub MayGuard : Engine → Option Guard → Type 0
 MayGuard e guard = MatchOption guard ⊤ (IsGuard (places_of e.program.places.items) e.program.terminator)
 
--- What each choice of a DFA relies on, if a cache has the lazy DFA's states or not.
+-- The facts on which each choice of a DFA relies, if a cache has the lazy DFA's states or not.
 abbrev pub GoesBy : Engines → Bool → Way → Type 0
 -- There is a DFA.
 GoesBy e has_states (AllStates d) = e.tables ≡ Some d.now
@@ -26,7 +26,7 @@ GoesBy e has_states (MetStates l) = (e.tables ≡ None) × (e.lazy ≡ Some l.no
 -- There is no DFA, and either no lazy DFA or no cache with its states.
 GoesBy e has_states NoTables = (e.tables ≡ None) × ((e.lazy ≡ None) ⊎ (has_states ≡ false))
 
--- What each route relies on.
+-- The facts on which each route relies.
 abbrev pub Relies : Engines → Searched → Route → Type 0
 -- The kind is leftmost, the search isn't anchored, and each match ends where the slice does.
 Relies e s FromEnd = SeeksFromEnd e.engine.kind e.spans s

@@ -4,7 +4,7 @@ use Rattle.std.specs.Prelude.{◌≡◌, ℕ, ◌*◌, ◌≤◌, List}
 use Rattle.rc_pattern.specs.Re.{Re}
 use Rattle.rc_program.specs.Program.{Place, slot, place_at, program}
 
--- They only name slots of groups, which come behind two for each of so many patterns.
+-- They only name slots of groups, which come after two for each of so many patterns.
 abbrev pub NamesGroups : ℕ → List Place → Type 0
 NamesGroups patterns places = (q k n : ℕ) → place_at places q ≡ slot k n → 2 * patterns ≤ k
 

@@ -17,23 +17,23 @@ use Rattle.rc_program.specs.Answer.{Search}
 use Rattle.rc_program.specs.Greatest.{IsSpelledIn}
 use Rattle.rc_strategy.specs.declared.spans.Spans.{Spans}
 
--- What is known holds of the span from i to j of a text: it is no shorter and no longer, and if
--- each begins or ends with the slice, it does.
+-- The span from i to j of a text is as described: it is no shorter and no longer, and if each
+-- begins or ends with the slice, it does.
 pub record KeepsTo (k : Spans) (t : Text) (i j : ℕ) : Type 0 where
   pub least : i + k.least ≤ j
   pub greatest : (n : ℕ) → k.greatest ≡ Some n → j ≤ i + n
   pub begins : k.begins ≡ true → IsTrue (holds t Start i)
   pub ends : k.ends ≡ true → IsTrue (holds t End j)
 
--- It holds of each span that the pattern spells.
+-- Each span that the pattern spells is as described.
 abbrev pub Bounds : Spans → Re → Type 0
 Bounds k h = (t : Text) (i j : ℕ) → Spells t h i j → KeepsTo k t i j
 
--- It holds of each span that walks of the places spell.
+-- Each span that walks of the places spell is as described.
 abbrev pub BoundsWalks : Spans → List Place → Type 0
 BoundsWalks k places = (s : Search) (m : Found) → s.places ≡ places → IsSpelledIn s m → KeepsTo k s.text m.start m.end
 
--- What holds of spans if one of the two does.
+-- The lengths and anchors of spans that are of one kind or the other.
 abbrev pub either : Spans → Spans → Spans
 either a b = record {
   least = min a.least b.least;

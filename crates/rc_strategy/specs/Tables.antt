@@ -13,7 +13,7 @@ use Rattle.rc_dfa_search.specs.Aims.{AreHalvesOf}
 use Rattle.rc_dfa_search.specs.declared.search.Aim.{Aim}
 use Rattle.rc_pikevm_search.specs.declared.engine.Engine.{Engine}
 
--- What a DFA search is for: the match of the engine's kind.
+-- The aim of a DFA search: the match of the engine's kind.
 abbrev pub aim_of : Engine → ℕ → Aim
 aim_of engine patterns = record {
   kind = engine.kind;

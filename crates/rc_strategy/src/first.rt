@@ -89,7 +89,7 @@ fn first_start<C: Cursor>(
     Some(start.from)
 }
 
-/// Returns where the next needle stands, by a fast search: no match begins earlier. Returns None if
+/// Returns where the next needle occurs, by a fast search: no match begins earlier. Returns None if
 /// there is no match.
 #[inline(always)]
 fn needle_start<C: Cursor>(

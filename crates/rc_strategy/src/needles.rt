@@ -22,14 +22,14 @@ use rc_text::cursor::Cursor;
 use rc_text::input::{Input, high, low};
 use rc_text::types::{Anchored, Match, MatchError, MatchKind};
 
-/// What a run from a needle finds out about where a match is to be looked for.
+/// The result of a run from a needle: where a match is to be looked for.
 #[derive(Clone, Copy)]
 enum Leg {
     /// No match begins from the needle on.
     Nowhere,
     /// From the needle on.
     Here,
-    /// From this position on, which is behind the needle.
+    /// From this position on, which is after the needle.
     Later(usize),
 }
 
@@ -45,7 +45,7 @@ fn met_leg(met: Option<Met>) -> Leg
 }
 
 /// Returns what a run found out that began at `from` and rests at `at`: a later position, if that
-/// is behind `from` and at most `bound`.
+/// is after `from` and at most `bound`.
 fn idle_leg(at: usize, from: usize, bound: usize) -> Leg
     ensures { result ≡ idle_leg at from bound }
 {

@@ -60,9 +60,9 @@ fn search_span<C: Cursor>(
     input.set_span(span);
 }
 
-/// Writes the first slots of the match that a search of the input found, as many as are handed in.
-/// If these are only slots of whole matches, no pass is made. `patterns` is how many patterns there
-/// are.
+/// Writes the first slots of the match that a search of the input found, as many as `slots` has. If
+/// these are only slots of whole matches, no pass is made. With `MatchKind::All`, no group has a
+/// slot set. `patterns` is how many patterns there are.
 pub(crate) fn fill_slots<C: Cursor>(
     engine: &Engine,
     cache: &mut Cache,

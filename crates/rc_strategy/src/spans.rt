@@ -6,7 +6,8 @@ use rc_pattern::hir::{Hir, Look};
 use rc_text::cursor::Cursor;
 use rc_text::input::{Input, byte_at, high, low};
 
-/// What holds of each span that some patterns spell, whatever the text. Lengths are in bytes.
+/// The lengths and anchors of the spans that some patterns spell, whatever the text. Lengths are in
+/// bytes.
 #[derive(Clone, Copy, Debug, PartialEq, Eq)]
 pub struct Spans {
     /// No span is shorter.
@@ -36,7 +37,7 @@ impl Spans {
     ghost use Rattle.rc_pattern.specs.Meaning.{meaning};
     ghost use Rattle.rc_strategy.specs.Spans.{Bounds, EndAlone, IsOneLength, either, are_longer, are_shorter, begin_early, end_late, leave_none, must_fill};
 
-    /// What holds of the spans of this pattern.
+    /// Returns the lengths and anchors of this pattern's spans.
     fn of_one(hir: &Hir) -> Spans
         ensures { Bounds result (meaning hir.now) }
     {
@@ -49,7 +50,7 @@ impl Spans {
         }
     }
 
-    /// What holds of spans if one of the two does.
+    /// Returns the lengths and anchors of spans that are of one kind or the other.
     fn either(self, other: Spans) -> Spans
         ensures { result ≡ either self other }
     {
@@ -61,7 +62,7 @@ impl Spans {
         }
     }
 
-    /// What holds of the spans of these patterns.
+    /// Returns the lengths and anchors of these patterns' spans.
     pub fn of(hirs: &[Hir]) -> Spans
         ensures { All (Bounds result) (map meaning hirs.now) }
     {
@@ -141,7 +142,7 @@ impl Spans {
         self.ends && !self.begins
     }
 
-    /// Whether there can be no match. Each would begin before the search or end behind it, or be
+    /// Whether there can be no match. Each would begin before the search or end after it, or be
     /// longer than what is searched; or it would have to fill that, and be shorter.
     ///
     /// If the cursor doesn't know the content's length, this goes to where the content ends.

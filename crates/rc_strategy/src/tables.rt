@@ -51,9 +51,9 @@ pub(crate) fn are_fast(strategy: &Strategy) -> bool {
     }
 }
 
-/// Whether DFA searches are to rest between literals: if there are required literals, if the search
-/// for prefix literals is fast, or if some byte may not be read, since a search that came to one
-/// goes from literal to literal.
+/// Whether DFA searches are to rest between literals. They are if there are required literals, or
+/// if the search for prefix literals is fast. They are too if some byte may not be read, since a
+/// search that came to one goes from literal to literal.
 fn are_to_rest(strategy: &Strategy, needed: bool, automaton: &Automaton) -> bool {
     if needed {
         return true;

@@ -1,5 +1,5 @@
 -- UTF-8 automata: the byte program of a program. Each place of scalars becomes a branch over bytes,
--- with a block of places of its own behind the program's.
+-- with a block of places of its own after the program's.
 use Rattle.std.specs.Prelude.{ℕ, zero, suc, ◌+◌, ◌-◌, Bool, true, false, ◌&&◌, List, [], ◌∷◌, ◌++◌, length, map, max, min, nat_le, nat_lt, nat_eq, if◌then◌else◌, encode_utf8}
 use Rattle.rc_pattern.specs.Re.{Range}
 use Rattle.rc_program.specs.Program.{Place, branch, scalar}
@@ -135,8 +135,7 @@ size none = 0
 size (ends a b n others) = size others
 size (goes a b below others) = 1 + (size below + size others)
 
--- The ways of a tree, if the places of the trees below begin at `start`, each behind those below
--- it.
+-- The ways of a tree, if the places of the trees below begin at `start`, each after those below it.
 abbrev pub tree_ways : ℕ → ℕ → ℕ → Tree → ℕ → Ways
 tree_ways count tail next none start = []
 tree_ways count tail next (ends a b n others) start = ((a, b), rest_of count tail next n) ∷ tree_ways count tail next others start
@@ -169,7 +168,7 @@ abbrev pub block : ℕ → Place → List Place
 block start (scalar rs n) = class_block start n rs
 block start q = []
 
--- The places, whose blocks come one behind another.
+-- The places, whose blocks come one after another.
 abbrev pub byte_places : ℕ → List Place → List Place
 byte_places start [] = []
 byte_places start (q ∷ qs) = byte_place start q ∷ byte_places (start + length (block start q)) qs
@@ -178,6 +177,6 @@ abbrev pub blocks : ℕ → List Place → List Place
 blocks start [] = []
 blocks start (q ∷ qs) = block start q ++ blocks (start + length (block start q)) qs
 
--- The byte program: each place keeps its number, and the blocks come behind.
+-- The byte program: each place keeps its number, and the blocks come after.
 abbrev pub bytes_of : List Place → List Place
 bytes_of places = byte_places (length places) places ++ blocks (length places) places

@@ -36,7 +36,7 @@ pub record IsWalkFrom (s : Search) (k x p j : ℕ) (w : List Pair) : Type 0 wher
   pub pattern : place_at s.places (last_of w).0 ≡ accept p
   pub position : (last_of w).1 ≡ j
 
--- What holds of byte programs.
+-- The law of byte programs.
 pub record ByteProgramLaw : Type 0 where
   -- A search over the byte program gives the same match,
   pub same_answer : (s : Search) → IsClosed s.places → answer (by_bytes s) ≡ answer s

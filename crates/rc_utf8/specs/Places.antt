@@ -42,7 +42,7 @@ abbrev pub longest : List Sequence → ℕ
 longest [] = 0
 longest (s ∷ ss) = max s.1 (longest ss)
 
--- What is left of sequences behind so many ranges.
+-- The rest of sequences after so many ranges.
 abbrev pub left_at : ℕ → Sequence → Sequence
 left_at level s = (drop level s.0, s.1)
 
@@ -50,7 +50,7 @@ abbrev pub all_left_at : ℕ → List Sequence → List Sequence
 all_left_at level = map (left_at level)
 
 -- The sequence has more than so many ranges, but no more than 4, and at most `count` continuation
--- bytes behind them.
+-- bytes after them.
 pub record IsDeep (level count : ℕ) (s : Sequence) : Type 0 where
   pub ranges : level < length s.0
   pub few : length s.0 ≤ 4

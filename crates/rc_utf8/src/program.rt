@@ -78,7 +78,7 @@ fn add_place(
     }
 }
 
-/// Returns the byte program of a program: each place keeps its number, and behind them are the
+/// Returns the byte program of a program: each place keeps its number, and after them are the
 /// places that read scalars byte by byte.
 ///
 /// It has no more places than the program weighs: 1 for each place, and 84 more for each range of a

@@ -3,7 +3,7 @@
 use Rattle.std.specs.Prelude.{◌≡◌, ℕ, ◌<◌, List, [], ◌∷◌, map, Option, Some}
 use Rattle.rc_walks.specs.Walks.{Pair, IsFirstWalk, HasNoWalk}
 
--- What is noted along a walk, pair by pair.
+-- The notes along a walk, pair by pair.
 abbrev pub noted : {H : Type 0} → (H → Pair → H) → H → List Pair → H
 noted note h [] = h
 noted note h (n ∷ w) = noted note (note h n) w
@@ -28,8 +28,8 @@ abbrev pub AllPast : {H : Type 0} → ℕ → List (H × Pair) → Type 0
 AllPast at [] = Unit {0}
 AllPast at (t ∷ ts) = (at < t.1.1) × AllPast at ts
 
--- What is under way: the threads that wait for later positions, the pairs entered at this one, the
--- threads still to come, in order, and the best result so far.
+-- All that is under way: the threads that wait for later positions, the pairs entered at this one,
+-- the threads still to come, in order, and the best result so far.
 abbrev pub Pends : (Pair → List Pair) → (Pair → Type 0) → (H : Type 0) → (H → Pair → H) →
     List (H × Pair) → List Pair → List (H × Pair) → Option H → Option H → Type 0
 Pends ways Ends H note resting entered waiting best o =

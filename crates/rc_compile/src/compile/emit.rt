@@ -128,7 +128,7 @@ fn emit_capture(
     append(places, Place::Slot(slot + 1, next))
 }
 
-/// Appends the places of each member, one behind another, and a place that leads to `next`.
+/// Appends the places of each member, one after another, and a place that leads to `next`.
 #[cycle(emit)]
 fn emit_concat(
     places: &mut Vec<Place>,

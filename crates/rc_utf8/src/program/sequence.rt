@@ -122,8 +122,8 @@ fn are_any(low: &[u8], high: &[u8]) -> bool
     all_are(128, low) && all_are(191, high)
 }
 
-/// Adds the sequences over the bytes that are at least `low`, with a first byte up to `last`,
-/// behind the ranges.
+/// Adds the sequences over the bytes that are at least `low`, with a first byte up to `last`, after
+/// the ranges.
 fn add_from(
     alloc: Global,
     list: &mut Vec<Sequence>,
@@ -146,7 +146,7 @@ fn add_from(
     add_above(alloc, list, ranges, first, last, left.len())
 }
 
-/// Adds the sequences over the continuation bytes that are at most `high`, behind the ranges.
+/// Adds the sequences over the continuation bytes that are at most `high`, after the ranges.
 fn add_to(
     alloc: Global,
     list: &mut Vec<Sequence>,
@@ -168,7 +168,7 @@ fn add_to(
     add_to(alloc, list, &longer, left)
 }
 
-/// Adds the sequences over the bytes from `low` to those of `last` and `high`, behind the ranges.
+/// Adds the sequences over the bytes from `low` to those of `last` and `high`, after the ranges.
 /// The first byte of `low` isn't `last`.
 fn add_both(
     alloc: Global,
@@ -190,7 +190,7 @@ fn add_both(
     add_to(alloc, list, &longer, high)
 }
 
-/// Adds the sequences over the bytes from `low` to `high`, which are as many, behind the ranges.
+/// Adds the sequences over the bytes from `low` to `high`, which are as many, after the ranges.
 fn add_within(
     alloc: Global,
     list: &mut Vec<Sequence>,

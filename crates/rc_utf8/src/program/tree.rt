@@ -12,7 +12,7 @@ use crate::place::{BytePlace, ByteWay};
 use rc_pattern::hir::ClassBytesRange;
 use std::alloc::{AllocError, Global};
 
-/// Where a class leads: to `next`, behind `count` places for continuation bytes. The first of these
+/// Where a class leads: to `next`, after `count` places for continuation bytes. The first of these
 /// is place `tail` and reads `count` bytes of any value; each of the others reads one less.
 #[derive(Clone, Copy)]
 pub(super) struct Exits {
@@ -90,7 +90,7 @@ pub(super) fn longest(sequences: &[Sequence]) -> usize
     longest
 }
 
-/// Whether the sequence goes on with this range behind `level` ranges, and then with others.
+/// Whether the sequence goes on with this range after `level` ranges, and then with others.
 fn begins_with(sequence: &Sequence, level: usize, range: ClassBytesRange) -> bool
     requires { level < 4 }
     ensures { result ≡ begins_with (byte_range range) (left_at level (sequence_of sequence.now)).0 }
@@ -102,7 +102,7 @@ fn begins_with(sequence: &Sequence, level: usize, range: ClassBytesRange) -> boo
     here.start == range.start && here.end == range.end
 }
 
-/// Returns how many of the first sequences go on with this range behind `level` ranges, and then
+/// Returns how many of the first sequences go on with this range after `level` ranges, and then
 /// with others.
 fn group_len(sequences: &[Sequence], level: usize, range: ClassBytesRange) -> usize
     requires { level < 4 }
@@ -118,7 +118,7 @@ fn group_len(sequences: &[Sequence], level: usize, range: ClassBytesRange) -> us
     sequences.len()
 }
 
-/// Appends the first way over sequences behind `level` ranges, and the places below it. `blocks`
+/// Appends the first way over sequences after `level` ranges, and the places below it. `blocks`
 /// begin at place number `first`. Returns how many sequences go by that way.
 #[cycle(tree)]
 fn add_group(
@@ -155,7 +155,7 @@ fn add_group(
     Ok(count)
 }
 
-/// Returns the ways over sequences behind `level` ranges, and appends the places below them to
+/// Returns the ways over sequences after `level` ranges, and appends the places below them to
 /// `blocks`, which begin at place number `first`.
 #[cycle(tree)]
 pub(super) fn add_tree(
