@@ -164,7 +164,7 @@ fn run(table: &Table, piece: &[u8], start: usize, stand: Stand, limit: usize) ->
     (0, Stand { row, noted })
 }
 
-/// Reads the byte at a position, whatever its cell.
+/// Reads the byte at a position, whatever its cell is.
 #[inline(always)]
 fn step(table: &Table, byte: u8, at: usize, stand: Stand, earliest: bool) -> Leg
     ghost course: { Course }

@@ -119,7 +119,7 @@ fn tells_of(alloc: Global, states: &States) -> Result<Vec<usize>, TableError>
     Ok(tells)
 }
 
-/// Whether nothing is under way in the state but walks that begin there or later.
+/// Whether the only walks in the state are those that begin there or later.
 fn is_idle(state: &State) -> bool
     ensures { result ≡ is_idle (state_of state.now) }
 {

@@ -10,16 +10,16 @@ use crate::table::{DEAD, QUIT};
 use rc_text::frequency::{MOST_COMMON, per_thousand};
 use std::alloc::{AllocError, Global};
 
-/// A table has at most so many leaps.
+/// A table has at most this many leaps.
 const MOST: usize = 4;
 
-/// Of a thousand bytes of most texts, at most so many may leave the rows of a leap.
+/// Of a thousand bytes of most texts, at most this many may leave the rows of a leap.
 const LEAVING: usize = 60;
 
 /// Two rows among which a run stays for most bytes of most texts.
 #[derive(Clone, Copy)]
 pub struct Leap {
-    /// A row.
+    /// One row.
     pub row: usize,
     /// Another row, or the same one.
     pub other: usize,

@@ -52,7 +52,7 @@ pub(crate) fn noted_by(
     noted
 }
 
-/// Whether nothing is under way in the row's state but walks that begin there or later.
+/// Whether the only walks in the state of the row are those that begin there or later.
 #[inline(always)]
 pub(crate) fn is_idle(table: &Table, row: usize) -> bool
     ensures { result ≡ slice_index_or table.now.idles.items (row / table.now.width) false }

@@ -23,7 +23,7 @@ use std::alloc::AllocError;
 pub(crate) struct Maker {
     pub names: Names,
     pub scratch: Scratch,
-    /// The state that was made last.
+    /// The state that was built last.
     pub to: State,
 }
 

@@ -18,7 +18,7 @@ use std::alloc::{AllocError, Global};
 #[derive(Drop)]
 pub(crate) struct Names {
     pub states: States,
-    /// How many cells a row has.
+    /// The number of cells of a row.
     pub width: usize,
     /// How many bytes the states may weigh.
     pub limit: Option<usize>,

@@ -44,15 +44,15 @@ pub struct Table {
     ghost small: { length cells.items < skip },
 }
 
-/// Added to the name of a row where something was met on the way to it.
+/// Added to the name of a row if something was found on the way to it.
 pub const MET: usize = 1 << 63;
 
-/// Added to the name of a row from which nothing goes on.
+/// Added to the name of a dead row.
 pub const DEAD: usize = 1 << 62;
 
 /// Added to the name of a row at which a search may have more to do than to read on. It is a hint:
-/// a search that heeds it not is slower alone.
+/// a search that ignores it is only slower.
 pub const SKIP: usize = 1 << 61;
 
-/// In place of a row, where a byte stands that isn't read.
+/// The cell of a byte that isn't read, instead of a row.
 pub const QUIT: usize = usize::MAX;

@@ -1,4 +1,4 @@
-//! Byte classes: bytes that no step tells apart, so that they share a column of a DFA's table.
+//! Byte classes: bytes that no step distinguishes, so that they share a column of a DFA's table.
 ghost use Rattle.std.specs.Prelude.{ℕ, ◌≡◌, ◌+◌, ◌<◌, ◌≤◌, ◌||◌, IfOk, length, map, Some, slice_index, slice_index_or, false};
 ghost use Rattle.std.specs.List.{list_any};
 ghost use Rattle.rc_pattern.specs.Meaning.{byte_range};

@@ -17,8 +17,8 @@ pub fn states_tell_starts()
     ensures { BackwardLaw }
 {}
 
-/// The end that is found forwards and the least start that is found backwards from it are the
-/// answer's.
+/// The end that is found forwards, and the least start that is found backwards from it, are those
+/// of the answer.
 pub fn ends_and_starts_are_answers()
     ensures { SpanLaw }
 {}
@@ -35,7 +35,7 @@ pub fn steps_are_of_a_kind()
     ensures { KindLaw }
 {}
 
-/// No step tells bytes of one class apart.
+/// No step distinguishes bytes of one class.
 pub fn classes_are_alike()
     ensures { ClassLaw }
 {}

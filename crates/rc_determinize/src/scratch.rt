@@ -25,7 +25,7 @@ impl Model for Scratch {
 }
 
 impl Scratch {
-    /// Scratch memory for programs of so many places. `Err` means out of memory.
+    /// Scratch memory for programs of this many places. `Err` means out of memory.
     pub fn new(alloc: Global, places: usize) -> Result<Scratch, AllocError>
         ensures { IfOk result (λ scratch. scratch ≡ places) }
     {

@@ -27,7 +27,7 @@ pub struct Seen {
 pub struct Needs {
     /// The facts that some assertion asks for.
     pub facts: Seen,
-    /// Some assertion depends on Unicode's words, so that bytes of at least 128 can't be read.
+    /// Some assertion depends on Unicode words, so that bytes of at least 128 can't be read.
     pub unicode: bool,
 }
 
@@ -99,7 +99,7 @@ pub(crate) fn holds_by(before: Seen, after: Seen, look: Look) -> bool
     }
 }
 
-/// Whether the assertion depends on Unicode's words.
+/// Whether the assertion depends on Unicode words.
 fn is_unicode(look: Look) -> bool
     ensures { result ≡ is_unicode look }
 {

@@ -52,7 +52,7 @@ pub struct Automaton {
     ghost sampled: { AreSamples classes.items samples.items },
 }
 
-/// Returns the class of each byte: by what the program tells apart if `byte_classes` is set, else
+/// Returns the class of each byte: by what the program distinguishes if `byte_classes` is set, else
 /// each byte as a class of its own.
 fn classes_by(
     alloc: Global,
@@ -149,7 +149,7 @@ impl Automaton {
         self.entries.len()
     }
 
-    /// Returns the class of each of the 256 bytes. No step tells bytes of one class apart.
+    /// Returns the class of each of the 256 bytes. No step distinguishes bytes of one class.
     pub fn classes(&self) -> &[u8]
         ensures value { result.now ≡ classes_of self.now }
         ensures machine { (direction : Direction) → IsMachine (machine_of self.now direction) }
@@ -166,7 +166,7 @@ impl Automaton {
     }
 
     /// Whether a search may read the byte; the end may always be read. If some assertion depends on
-    /// Unicode's words, bytes of at least 128 may not.
+    /// Unicode words, bytes of at least 128 may not.
     pub fn may_read(&self, byte: Option<u8>) -> bool
         ensures { (direction : Direction) → IsTrue result ↔ IsReadable (machine_of self.now direction).setting.needs byte }
     {

@@ -5,7 +5,7 @@
 pub struct Met {
     /// The number of the pattern.
     pub pattern: usize,
-    /// Where it was found: forwards the position at which the match ends, backwards the one at
+    /// Where it was found: the position at which the match ends, or in a reverse search the one at
     /// which it begins.
     pub at: usize,
 }
@@ -13,10 +13,10 @@ pub struct Met {
 /// How a DFA search ended.
 #[derive(Clone, Copy)]
 pub enum Ended {
-    /// With what was found last, if anything was.
+    /// At the end, with what it found last, if anything.
     Found(Option<Met>),
-    /// At this position: nothing was found before it, and nothing is under way there but walks that
-    /// begin there or later.
+    /// At this position, where it rests: it found nothing before, and the only walks are those that
+    /// begin here or later.
     Idle(usize),
     /// At a byte that the search may not read: the byte and its offset.
     Quit(u8, usize),

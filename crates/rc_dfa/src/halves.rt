@@ -13,17 +13,17 @@ use rc_text::types::Anchored;
 /// The two halves of a DFA search: forwards from a start to an end, and backwards from an end to a
 /// start. The DFA has all states, the lazy DFA those that were reached so far.
 pub trait Halves {
-    /// The cache: all that a search changes.
+    /// What a search changes: its cache.
     type Cache;
 
     // They search by the first machine forwards, and by the second backwards.
     ghost AreOf: { Self → Machine → Machine → Type 0 };
     // The cache was made for these halves.
     ghost IsCache: { Self → Self.Cache → Type 0 };
-    // From the first cache to the second, at most so many states were added.
+    // From the first cache to the second, at most this many states were added.
     ghost Spends: { Self → Self.Cache → Self.Cache → ℕ → Type 0 };
-    // A search that found the first cache and left the second added at most so many states, and may
-    // have given up, out of memory or not.
+    // A search that found the first cache and left the second added at most this many states, and
+    // may have given up, out of memory or not.
     ghost GivesUp: { Self → Self.Cache → Self.Cache → ℕ → Bool → Type 0 };
 
     /// Searches forwards from the position `from` up to the end of the input's bounds, in bytes of

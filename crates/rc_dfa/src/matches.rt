@@ -11,7 +11,7 @@ use rc_determinize::state::State;
 use rc_utf8::place::BytePlace;
 use std::alloc::AllocError;
 
-/// Whether it is the match place of the pattern.
+/// Whether the place is the match place of the pattern.
 fn is_match_of(place: &BytePlace, pattern: usize) -> bool
     ensures { result ≡ is_match_place (Some pattern) (place_of place.now) }
 {

@@ -7,7 +7,7 @@ ghost use Rattle.rc_dfa.specs.Runs.{IsByte, ahead_at, behind_at};
 use rc_text::cursor::Cursor;
 use rc_text::input::{Input, byte_at};
 
-/// The byte before the position, or None if the slice begins.
+/// The byte before the position, or `None` if the slice begins there.
 #[inline(always)]
 pub fn byte_behind<C: Cursor>(input: &mut Input<C>, at: usize) -> Option<u8>
     requires low { input.old.slice.start ≤ at }
@@ -23,7 +23,7 @@ pub fn byte_behind<C: Cursor>(input: &mut Input<C>, at: usize) -> Option<u8>
     None
 }
 
-/// The byte at the position, or None if the slice or the content ends.
+/// The byte at the position, or `None` if the slice or the content ends there.
 #[inline(always)]
 pub fn byte_ahead<C: Cursor>(input: &mut Input<C>, at: usize) -> Option<u8>
     requires { at ≤ slice_end input.old }

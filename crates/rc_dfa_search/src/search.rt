@@ -26,9 +26,9 @@ use rc_text::types::{Anchored, HalfMatch, Match, MatchError, MatchKind, PatternI
 /// The aim of a search.
 #[derive(Clone, Copy)]
 pub struct Aim {
-    /// Which match is the answer.
+    /// The kind of match.
     pub kind: MatchKind,
-    /// How many patterns there are.
+    /// The number of patterns.
     pub patterns: usize,
     /// Whether matches that end off a character boundary are passed over. With `MatchKind::All`,
     /// none is.
@@ -55,7 +55,7 @@ struct End {
     at: usize,
 }
 
-/// Whether any match is enough.
+/// Whether any match will do.
 #[inline(always)]
 fn is_early(aim: Aim) -> bool
     ensures { result ≡ is_early aim }
@@ -63,7 +63,7 @@ fn is_early(aim: Aim) -> bool
     aim.earliest && !aim.passes_over
 }
 
-/// Whether the pattern that is asked for, if any, is one of this many.
+/// Whether the pattern that the search asks for, if any, is one of this many.
 #[inline(always)]
 fn asks(anchored: Anchored, patterns: usize) -> bool
     ensures { IsTrue result ↔ Asks patterns anchored }
@@ -236,7 +236,7 @@ fn begins_there(aim: Aim, anchored: Anchored) -> bool
     }
 }
 
-/// Whether the pattern that was found with the end is the match's.
+/// Whether the pattern that was found with the end is the pattern of the match.
 #[inline(always)]
 fn keeps_pattern(aim: Aim) -> bool
     ensures { result ≡ keeps_pattern aim.kind (is_early aim) }
@@ -321,8 +321,8 @@ pub fn id_of(pattern: usize, offset: usize) -> Result<PatternID, MatchError>
 /// start, unless that is known. If any match is enough, it is some match. If a match is passed over
 /// that ends off a boundary, another forward run begins at the next start.
 ///
-/// It fails if the patterns depend on Unicode's words and a byte above 127 would have to be read,
-/// or if the lazy DFA gives up.
+/// It fails if the patterns depend on Unicode words and a byte above 127 would have to be read, or
+/// if the lazy DFA gives up.
 #[inline(always)]
 pub fn find<H: Halves, C: Cursor>(
     halves: &H,

@@ -207,7 +207,7 @@ fn run(
     (0, Stand { row, met })
 }
 
-/// Reads the byte at a position, whatever its cell.
+/// Reads the byte at a position, whatever its cell is.
 #[inline(always)]
 fn step(
     automaton: &Automaton,

@@ -9,17 +9,17 @@ ghost use Rattle.rc_lazy_dfa.specs.Stores.{mode_of};
 use rc_determinize::state::State;
 use rc_text::types::Anchored;
 
-/// It isn't known where the byte leads.
+/// The cell of a byte whose next state isn't known yet.
 pub(crate) const UNKNOWN: usize = 1 << 61;
 
-/// Nothing goes on. Added to the name of a row where something was met on the way to it; alone
-/// where nothing was.
+/// The mark of a dead state. It is added to the name of a row if something was found on the way to
+/// it, and is a cell of its own if nothing was.
 pub(crate) const DEAD: usize = 1 << 62;
 
-/// Added to the name of a row where something was met on the way to it.
+/// The mark of a state on the way to which something was found, added to the name of its row.
 pub(crate) const MET: usize = 1 << 63;
 
-/// The byte isn't read.
+/// The cell of a byte that can't be read.
 pub(crate) const QUIT: usize = usize::MAX;
 
 /// Returns the row to which a cell leads, without its marks.
@@ -30,7 +30,7 @@ pub(crate) fn row_of(cell: usize) -> usize
     cell % UNKNOWN
 }
 
-/// Whether nothing goes on where a cell leads.
+/// Whether a cell leads to a dead state.
 #[inline(always)]
 pub(crate) fn has_died(cell: usize) -> bool
     ensures { result ≡ has_died cell }

@@ -13,7 +13,7 @@ pub enum LazyError {
     TooSmall { minimum: usize, given: usize },
 }
 
-/// Why a state isn't added.
+/// Why a state can't be added.
 #[derive(Clone, Copy)]
 pub(crate) enum Refusal {
     /// Out of memory.

@@ -23,7 +23,7 @@ use rc_text::cursor::Cursor;
 use rc_text::input::{Input, high, piece_from};
 use rc_text::types::Anchored;
 
-/// How many bytes a search that may rest reads before it looks whether it does.
+/// The number of bytes that a search that may rest reads before it checks whether it rests.
 const REACH: usize = 128;
 
 /// Returns the position up to which a search reads before it looks whether it rests.
@@ -38,7 +38,7 @@ fn reach(at: usize, end: usize, may_rest: bool, rest_from: usize) -> usize
     at.max(rest_from).saturating_add(REACH).min(end)
 }
 
-/// Whether nothing was found, and nothing is under way but walks that begin there or later.
+/// Whether nothing was found, and the only walks are those that begin there or later.
 #[inline(always)]
 fn is_idle_at(half: &Half, stand: Stand) -> bool
     ghost f: { Frame }

@@ -25,13 +25,13 @@ use std::alloc::{AllocError, Global};
 pub(crate) struct Half {
     pub store: Store,
     pub scratch: Scratch,
-    /// The state that was made last.
+    /// The state that was built last.
     pub to: State,
     /// How many bytes were read since the cache was cleared last.
     pub served: usize,
 }
 
-/// A state of no places.
+/// A state with no places.
 fn no_places(alloc: Global) -> State {
     State {
         list: Vec::new(alloc),

@@ -37,7 +37,7 @@ pub(crate) struct Noted {
 pub(crate) enum Leg {
     /// It goes on after them.
     Through(Stand),
-    /// It ended among them.
+    /// The search ended among them.
     Over(Ended),
 }
 

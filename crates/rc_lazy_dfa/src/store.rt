@@ -49,7 +49,7 @@ fn weight(width: usize, state: &State) -> usize
     8 * width + 32 + 8 * state.list.len()
 }
 
-/// Whether nothing is under way in the state but walks that begin there or later.
+/// Whether the only walks in the state are those that begin there or later.
 fn is_idle(state: &State) -> bool
     ensures { result ≡ is_idle (state_of state.now) }
 {
@@ -188,7 +188,7 @@ impl Store {
         None
     }
 
-    /// Whether nothing is under way in the row's state but walks that begin there or later.
+    /// Whether the only walks in the state of the row are those that begin there or later.
     #[inline(always)]
     pub(crate) fn idles_at(&self, row: usize) -> bool
         ghost f: { Frame }

@@ -31,7 +31,8 @@ pub enum Guard<'a> {
     Holds(&'a Needs),
 }
 
-/// Where a search is to begin, and the needle for which it does, in bytes of the whole content.
+/// The position at which a search is to begin, and the needle for which it does, in bytes of the
+/// whole content.
 #[derive(Clone, Copy)]
 pub struct Start {
     /// No match begins before it.

@@ -3,8 +3,8 @@ ghost use Rattle.rc_literals.specs.Laws.{NeedLaw};
 ghost use Rattle.rc_literals.specs.Literals.{LiteralLaw};
 ghost use Rattle.rc_literals.specs.Prefixes.{CoverLaw};
 
-/// A literal that isn't empty, and an alternation of such literals, are exactly their needles: what
-/// a search for the needles finds is the answer.
+/// A literal that isn't empty, and an alternation of such literals, are exactly their needles: the
+/// answer is what a search for the needles finds.
 pub fn literals_are_exact()
     ensures { LiteralLaw }
 {}

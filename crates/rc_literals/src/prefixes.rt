@@ -240,7 +240,7 @@ fn crossed(
     Ok(list)
 }
 
-/// Adds the needle with each of the others after it.
+/// Adds the needle followed by each of the others.
 fn add_joined(
     alloc: Global,
     needle: &[u8],
@@ -397,9 +397,9 @@ fn add_needle(alloc: Global, needle: &[u8], list: &mut Vec<Vec<u8>>) -> Result<b
     Ok(true)
 }
 
-/// Whether each of the prefixes begins with one of the prefilter's needles.
+/// Whether each of the prefixes begins with one of the needles of the prefilter.
 ///
-/// If the prefixes cover patterns, the needles cover them then.
+/// If so, and if the prefixes cover patterns, the needles cover them too.
 pub fn begins_with_one_of(prefixes: &[Vec<u8>], prefilter: &Prefilter) -> bool
     ensures { Decides result (EachBegins (needles_in prefixes.now) (needles_of prefilter.now)) }
 {
@@ -411,7 +411,7 @@ pub fn begins_with_one_of(prefixes: &[Vec<u8>], prefilter: &Prefilter) -> bool
     true
 }
 
-/// Whether the bytes begin with one of the prefilter's needles.
+/// Whether the bytes begin with one of the needles of the prefilter.
 fn begins_with_needle(bytes: &[u8], prefilter: &Prefilter) -> bool
     ensures { Decides result (BeginsWithOne (needles_of prefilter.now) bytes.now) }
 {

@@ -16,17 +16,17 @@ const LEAST_COMMON: u8 = 210;
 /// The first bytes of needles.
 #[derive(Clone, Copy, Drop)]
 pub enum Heads {
-    /// Each needle begins with this one.
+    /// All needles begin with this byte.
     One(u8),
-    /// Each begins with one of these.
+    /// Each needle begins with one of these bytes.
     Two(u8, u8),
-    /// Each begins with one of these.
+    /// Each needle begins with one of these bytes.
     Three(u8, u8, u8),
     /// Those of the first-byte table.
     Many,
 }
 
-/// The bytes for which a piece is searched.
+/// The search within a piece.
 #[derive(Drop)]
 pub enum Scan {
     /// The only needle, from its bytes at the offset on.
@@ -112,8 +112,8 @@ fn begins_common(needle: &[u8]) -> bool {
     }
 }
 
-/// Whether the byte is common in typical text. The library ranks most bytes past ASCII as common,
-/// which they are in few texts; here none is.
+/// Whether the byte is common in most texts. `memchr` ranks most bytes past ASCII as common, which
+/// they are in few texts; here none is.
 fn is_common_by_rank(byte: u8) -> bool {
     let ranks = DefaultFrequencyRank;
     byte < 128 && ranks.rank(byte) >= LEAST_COMMON

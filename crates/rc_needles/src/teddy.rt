@@ -32,7 +32,7 @@ const LEAST_BLOCKS: usize = LANES + 3;
 /// The most needles that Teddy serves.
 const GREATEST_COUNT: usize = 64;
 
-/// How many buckets there are.
+/// The number of buckets.
 const BUCKETS: usize = 8;
 
 /// Two nibble tables: which buckets take a byte, one bit a bucket. A bucket takes it if it takes
@@ -55,7 +55,8 @@ pub struct Teddy {
     pub third: Sift,
 }
 
-/// Which buckets take each of 16 bytes as the first of a needle, and which as the second.
+/// The buckets that take each of 16 bytes as the first byte of a needle, and those that take it as
+/// the second.
 #[derive(Clone, Copy)]
 struct Begun {
     first: u8x16,
@@ -63,7 +64,7 @@ struct Begun {
 }
 
 impl Sift {
-    /// No bucket takes any byte.
+    /// Returns tables by which no bucket takes any byte.
     fn new() -> Sift {
         Sift {
             low: [0; 16],
@@ -317,7 +318,7 @@ fn one_back(before: u8x16, now: u8x16) -> u8x16
     )
 }
 
-/// Whether one of the numbers isn't 0.
+/// Whether one of the lanes isn't 0.
 #[inline(always)]
 fn has_some(lanes: u8x16) -> bool
     requires { length lanes ≡ 16 }

@@ -11,7 +11,7 @@ use std::alloc::{AllocError, Global};
 /// The node at which each path begins. Number 0 stands for no node.
 pub const ROOT: usize = 1;
 
-/// Fewer needles have no trie.
+/// The least number of needles that have a trie.
 const LEAST_COUNT: usize = 16;
 
 /// A node of no path.
@@ -21,8 +21,8 @@ const FREE: Node = Node {
     number: u32::MAX,
 };
 
-/// How far back the search for free nodes begins: so many nodes before the last ones that were laid
-/// out.
+/// How far back the search for free nodes begins: this many nodes before the last ones that were
+/// laid out.
 const REACH: usize = 64;
 
 /// A node. Its child for a byte is the node at the index `base` plus that byte, if that node's

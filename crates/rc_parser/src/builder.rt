@@ -290,7 +290,7 @@ impl Work {
         Ok(())
     }
 
-    /// Makes a token that stands alone the last item.
+    /// Makes the pattern of an atom the last item.
     fn put(&mut self, item: Result<Nested, Refusal>) -> Result<(), Refusal>
         requires { self.old.last ≡ None }
         ensures value { MatchResult item (λ n. IsOk result × (state self.new ≡ work (state self.old).level (Some (part n)) (state self.old).outer)) (λ e. result ≡ Err e) }

@@ -1,4 +1,4 @@
-//! Atoms: what a token that stands alone parses as.
+//! Atoms: the patterns of tokens that stand alone.
 
 ghost use Rattle.std.specs.Prelude.{◌≡◌, ◌⊎◌, ◌+◌, ◌<◌, ◌∷◌, ◌++◌, true, false, None, Some, [], map, option_map, MatchResult, OnOk, IfOk, IsTrue, encode_utf8_all, length, drop};
 ghost use Rattle.rc_pattern.specs.Meaning.{meaning, literal_of, byte_range, char_range};

@@ -4,7 +4,7 @@
 
 ghost use Rattle.rc_parses.specs.Laws.{OrderLaw, PreferenceLaw, SamenessLaw};
 
-/// For plain patterns, which repeat nothing that may be empty, a search answers the least parse of
+/// For plain patterns, which repeat nothing that may be empty, a search finds the least parse of
 /// the least start that gives a match, with its groups.
 pub fn answers_are_least_parses()
     ensures { PreferenceLaw }

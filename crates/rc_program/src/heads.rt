@@ -110,7 +110,7 @@ fn open_from(
 }
 
 /// Lists a place unless it is there. `spots` has the index at which it was listed last, so one
-/// lookup tells whether it still is.
+/// lookup shows whether it still is.
 fn open(opened: &mut Vec<usize>, spots: &mut [usize], place: usize) -> Result<(), AllocError>
     ensures { OnOk result (Opens (place ∷ []) opened.old.items opened.new.items) }
 {

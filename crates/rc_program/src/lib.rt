@@ -1,4 +1,4 @@
-//! Thompson NFA: a program, and what a search over it answers. Here are the definitions that
+//! Thompson NFA: a program, and what a search over it finds. Here are the definitions that
 //! contracts cite, and the laws that tie them.
 //!
 //! Module `place` has the NFA's states, and `program` an NFA that is ready to be searched with.

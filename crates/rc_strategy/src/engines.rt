@@ -34,7 +34,7 @@ use rc_text::input::{Input, advance_start};
 use rc_text::types::{HalfMatch, Match, MatchError, MatchKind, PatternID, Span};
 use std::alloc::{AllocError, Global};
 
-/// Up to so many patterns, the Pike VM searches for a match together with its groups.
+/// Up to this many patterns, the Pike VM searches for a match together with its groups.
 const FEW_PATTERNS: usize = 8;
 
 /// Which DFAs may be built.
@@ -50,7 +50,7 @@ pub struct Limits {
     pub hybrid: bool,
     /// How many bytes the lazy DFA's states may take in each direction, before all are dropped.
     pub capacity: usize,
-    /// Whether bytes that no step tells apart are one class.
+    /// Whether bytes that no step distinguishes are one class.
     pub byte_classes: bool,
 }
 

@@ -1,5 +1,6 @@
 //! Row checker: reads rows from the standard input, each some patterns, a text and the expected
-//! answer, and reports those that some engine answers otherwise over some cutting of the text.
+//! answer, and reports those to which some engine gives another answer over some cutting of the
+//! text.
 #![tactic(auto)]
 
 use engines_alike::faults::Fault;
