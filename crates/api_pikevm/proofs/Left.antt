@@ -1,5 +1,5 @@
 -- The first of the matches that are left, wherever the one before ended, and what runs of an iterator give.
-use Rattle.std.proofs.Common.{◌≡◌, ◌∙◌, ℕ, ◌+◌, ◌-◌, ◌*◌, ◌≤◌, Bool, true, false, List, [], ◌∷◌, Option, Some, None, MatchOption, if◌then◌else◌, length, ap, subst, refl, arith}
+use Rattle.std.proofs.Common.{◌≡◌, ◌∙◌, ℕ, ◌+◌, ◌-◌, ◌*◌, ◌<◌, ◌≤◌, Bool, true, false, List, [], ◌∷◌, Option, Some, None, IfSome, MatchOption, if◌then◌else◌, length, ap, subst, refl, arith}
 use Rattle.std.specs.Iterator.Runs.{YieldsInOrder}
 use Rattle.std.proofs.iter.runs.Sources.{from_front, as_is}
 use Rattle.rc_text.specs.Found.{Found}
@@ -53,17 +53,21 @@ few_places places many n a b same less few =
 
 -- what the pass for the next match counted, by the bounds before the search
 pub counted : {q : Settings} {kind : MatchKind} {hs : List Re} {e : Engine} {info : GroupInfo} → Fits q kind hs e info → (i j : Searched) (last : Option ℕ)
-    (m : Found) (c d : Made) → {o : Option Found} → answering e.strategy ≡ None → IsMoved i j → j.span.start ≡ next_start e.kind (engine_search e i) i.span.start last → o ≡ Some m →
+    (item : Option Found) (c d : Made) → {o : Option Found} → answering e.strategy ≡ None → IsMoved i j → j.span.start ≡ next_start e.kind (engine_search e i) i.span.start last → o ≡ item →
     Counts e j o c d →
-    (m.end - m.start + 1 ≤ d.insertions) × (d.insertions ≤ length (program (shown (sought_by q hs).grouped hs)) * (high i - low i + 2))
-counted {hs = hs} {e = e} f i j last m c d {o = o} unanswered moved at is counts =
+    (high i < low i → d.insertions ≡ 0) × (d.insertions ≤ length (program (shown (sought_by q hs).grouped hs)) * (high i - low i + 2))
+    × IfSome item (λ m. m.end - m.start + 1 ≤ d.insertions)
+counted {hs = hs} {e = e} f i j last item c d {o = o} unanswered moved at is counts =
     let s = subst (λ x. Counts e j x c d) is counts in
     let count = by_pass (answering_for e.kind e.strategy) _ _ (no_needles e.kind e.strategy unanswered) s in
     let ahead = from_start (again last (answer_by_from e.kind (engine_search e i) i.span.start)) i.span.start in
     let lower : low i ≤ low j = rw moved.slice (omega (arith, ahead, at)) in
     let top : high j ≡ high i = rw (moved.content, moved.end, moved.slice) refl in
-    let less : high j - low j ≤ high i - low i = omega (arith, lower, top) in
-    (count.counted, few_places (length e.program.places.items) _ d.insertions (high j - low j) (high i - low i) (same_places e.program.places.items f.placed) less count.few)
+    let less : high j - low j ≤ high i - low i = omega (arith, lower, top) in (
+      λ cross. count.none (omega (arith, lower, top, cross)),
+      few_places (length e.program.places.items) _ d.insertions (high j - low j) (high i - low i) (same_places e.program.places.items f.placed) less count.few,
+      count.counted,
+    )
 
 still : (i : Searched) → IsMoved i i
 still i = record {

@@ -1,5 +1,5 @@
 -- What an iterator of matches has still to give, and what its calls keep.
-use Rattle.std.specs.Prelude.{◌≡◌, ◌≤◌, ◌+◌, ◌-◌, ◌*◌, ℕ, List, [], Option, IsTrue, IfNone, IfSome, if◌then◌else◌}
+use Rattle.std.specs.Prelude.{◌≡◌, ◌<◌, ◌≤◌, ◌+◌, ◌-◌, ◌*◌, ℕ, List, [], Option, IsTrue, IfNone, IfSome, if◌then◌else◌}
 use Rattle.std.specs.Borrow.{GName}
 use Rattle.std.specs.Iterator.{Yields, YieldsFirst}
 use Rattle.rc_text.specs.Found.{Found}
@@ -18,9 +18,11 @@ use Rattle.api_pikevm.specs.declared.iterators.FindMatches.{FindMatches}
 abbrev pub matches_in : PikeVM → Searched → Option ℕ → List Found
 matches_in vm i last = matches_by_kind (match_kind_of (vm_settings vm)) (search_for (sought vm) i) i.span.start last
 
--- so many places were entered in the pass that found the match in the input
-abbrev pub IsCounted : PikeVM → Searched → Found → ℕ → Type 0
-IsCounted vm i m n = (m.end - m.start + 1 ≤ n) × (n ≤ states_of (sought vm) * (high i - low i + 2))
+-- The last pass for the next match in the input, which is the match told or none, entered so many places: none if the bounds cross, at most all
+-- for each position of the bounds and two more, and at least a place for each position of the match and one more.
+abbrev pub IsCounted : PikeVM → Searched → Option Found → ℕ → Type 0
+IsCounted vm i item n =
+    (high i < low i → n ≡ 0) × (n ≤ states_of (sought vm) * (high i - low i + 2)) × IfSome item (λ m. m.end - m.start + 1 ≤ n)
 
 module _ {C : Type 0} {cursor : Ghosts C} where
   -- the matches that are left
@@ -56,10 +58,11 @@ module _ {C : Type 0} {cursor : Ghosts C} where
   abbrev pub find_count : FindMatches C cursor → ℕ
   find_count s = insertions_of s.cache.now
 
-  -- The last pass of a call that gave a match entered at least a place for each position of the match and one more, and at most all for
-  -- each position of the bounds before the call and two more.
+  -- What the last pass of a call entered is counted by the bounds before the call, whether it gave a match or none. Once it is over, a call
+  -- makes no pass, and the count stays.
   abbrev pub FindCounts : FindMatches C cursor → Option Found → FindMatches C cursor → Type 0
-  FindCounts old item new = IfSome item (λ m. IsCounted (find_vm old) (find_input old) m (find_count new))
+  FindCounts old item new =
+      (IsOver old → find_count new ≡ find_count old) × (¬ IsOver old → IsCounted (find_vm old) (find_input old) item (find_count new))
 
   -- `next` took old to new, and gave the first of the matches left; without one it is over
   abbrev pub FindSteps : FindMatches C cursor → Option Found → FindMatches C cursor → Type 0

@@ -136,7 +136,8 @@ pub fn search_slots<C: Cursor>(
 /// ahead, and neither this call nor an item takes memory. The cache has to be made for this
 /// `PikeVM`; it stays so, even if you drop the iterator before its end.
 ///
-/// `Cache::insertions` counts the last pass for an item, as it does for a search.
+/// The cache counts the last pass for an item as for a search, also if no match is left. Once the
+/// iterator has given none, a call makes no pass.
 ///
 /// Each search starts where the last match ended, and finds the match that `search` finds. If that
 /// match is empty and ends there again, the search begins a byte later. So under `MatchKind::All`
@@ -179,7 +180,7 @@ pub(crate) fn next_match<C: Cursor>(
         (matches_in vm.now input.old last ≡ [])
         (λ m. matches_in vm.now input.old last ≡ m ∷ matches_in vm.now input.new (Some m.end)) }
     ensures moves { IsMoved input.old input.new }
-    ensures counted { IfSome result (λ m. IsCounted vm.now input.old m (insertions_of cache.new)) }
+    ensures counted { IsCounted vm.now input.old result (insertions_of cache.new) }
 {
     let Some(found) = vm.built.engine.next_match(&mut cache.inner, input, last) else {
         return None;
