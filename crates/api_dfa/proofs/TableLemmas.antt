@@ -18,6 +18,7 @@ use Rattle.rc_dense_dfa.specs.declared.error.TableError.{TableError}
 use Rattle.rc_dense_dfa.specs.declared.error.TableError.TheVariants.{Memory, TooBig}
 use Rattle.rc_build.specs.Refusals.{IsBuildable}
 use Rattle.rc_build.proofs.Runnable.{bounded}
+use Rattle.rc_dfa_search.specs.Classes.{AreClassesOf}
 use Rattle.rc_dfa_search.specs.Machines.{AreMachines}
 use Rattle.rc_dfa_search.proofs.PatternLemmas.{few_by_weight}
 use Rattle.api_dfa.specs.Makes.{IsTablesRefusal, refusal_of}
@@ -32,16 +33,6 @@ program_light limit grouped hs ok =
     omega (arith, weighs, lighter, placed)
 
 module _ (q : Sought) (kind : MatchKind) (a : Automaton) (of : AreMachines (shown q.grouped q.patterns) q.terminator kind (machine_of a Forwards) (machine_of a Backwards)) where
-  sources : AreSources q kind (machine_of a Forwards) (machine_of a Backwards) (length (samples_of a))
-  sources = record {
-    machines = of;
-    classes = classes_of a;
-    samples = samples_of a;
-    classed_ahead = is_classing a Forwards;
-    classed_behind = is_classing a Backwards;
-    counted = refl;
-  }
-
   pub made_by : (d : Dense) → AreHalves d (machine_of a Forwards) (machine_of a Backwards) → heaviness (program (shown q.grouped q.patterns)) ≤ 2147483646 → AreTables q kind d
   made_by d h light = record {
     ahead = machine_of a Forwards;
@@ -54,28 +45,41 @@ module _ (q : Sought) (kind : MatchKind) (a : Automaton) (of : AreMachines (show
         omega (arith, few, same);
   }
 
-  pub light_by : (limit : Option ℕ) (d : Dense) → AreTablesOf a limit d → AreLight q kind limit d
-  light_by limit d h = record {
-    ahead = machine_of a Forwards;
-    behind = machine_of a Backwards;
-    count = length (samples_of a);
-    sources = sources;
-    forward = h.forward;
-    reverse = h.reverse;
-  }
+  module _ (byte_classes : Bool) (classed : AreClassesOf byte_classes (shown q.grouped q.patterns) q.terminator (classes_of a)) where
+    sources : AreSources q kind byte_classes (machine_of a Forwards) (machine_of a Backwards) (length (samples_of a))
+    sources = record {
+      machines = of;
+      classes = classes_of a;
+      are_classes = classed;
+      samples = samples_of a;
+      are_samples = a.sampled;
+      classed_ahead = is_classing a Forwards;
+      classed_behind = is_classing a Backwards;
+      counted = refl;
+    }
 
-  too_big : (n : ℕ) → IsRefused (machine_of a Forwards) (length (samples_of a)) (Some n) TooBig
-      ⊎ IsRefused (machine_of a Backwards) (length (samples_of a)) (Some n) TooBig → IsTooBig q kind n
-  too_big n h = record {
-    ahead = machine_of a Forwards;
-    behind = machine_of a Backwards;
-    count = length (samples_of a);
-    sources = sources;
-    big = h;
-  }
+    pub light_by : (limit : Option ℕ) (d : Dense) → AreTablesOf a limit d → AreLight q kind byte_classes limit d
+    light_by limit d h = record {
+      ahead = machine_of a Forwards;
+      behind = machine_of a Backwards;
+      count = length (samples_of a);
+      sources = sources;
+      forward = h.forward;
+      reverse = h.reverse;
+    }
 
-  pub refused_by : (limit : Option ℕ) (e : TableError) → IsRefused (machine_of a Forwards) (length (samples_of a)) limit e
-      ⊎ IsRefused (machine_of a Backwards) (length (samples_of a)) limit e → IsTablesRefusal q kind limit (refusal_of e limit)
-  refused_by limit Memory h = tt
-  refused_by None TooBig h = tt
-  refused_by (Some n) TooBig h = (refl, too_big n h)
+    too_big : (n : ℕ) → IsRefused (machine_of a Forwards) (length (samples_of a)) (Some n) TooBig
+        ⊎ IsRefused (machine_of a Backwards) (length (samples_of a)) (Some n) TooBig → IsTooBig q kind byte_classes n
+    too_big n h = record {
+      ahead = machine_of a Forwards;
+      behind = machine_of a Backwards;
+      count = length (samples_of a);
+      sources = sources;
+      big = h;
+    }
+
+    pub refused_by : (limit : Option ℕ) (e : TableError) → IsRefused (machine_of a Forwards) (length (samples_of a)) limit e
+        ⊎ IsRefused (machine_of a Backwards) (length (samples_of a)) limit e → IsTablesRefusal q kind byte_classes limit (refusal_of e limit)
+    refused_by limit Memory h = tt
+    refused_by None TooBig h = tt
+    refused_by (Some n) TooBig h = (refl, too_big n h)

@@ -3,7 +3,7 @@ use Rattle.std.specs.Prelude.{◌≡◌, ℕ, List, Option, Some, None, unwrap_o
 use Rattle.rc_pattern.specs.Re.{Re}
 use Rattle.rc_parser.specs.Settings.{Settings as SyntaxSettings}
 use Rattle.rc_settings.specs.SearchSettings.{match_kind_of}
-use Rattle.rc_settings.specs.StateSettings.{StateSettings, no_state_setting}
+use Rattle.rc_settings.specs.StateSettings.{StateSettings, byte_classes_of, no_state_setting}
 use Rattle.rc_settings.specs.Thompson.{Settings, nfa_size_limit_of}
 use Rattle.rc_settings.specs.declared.error.BuildError.{BuildError}
 use Rattle.rc_settings.specs.declared.error.BuildError.TheVariants.{DfaSizeLimit}
@@ -25,7 +25,7 @@ dfa_size_limit_of s = unwrap_or s.limit None
 -- the tables of the patterns are too big for the limit that is set
 abbrev pub AreTooBig : Settings → StateSettings (Option ℕ) → List Re → ℕ → Type 0
 AreTooBig program states hs n =
-    (dfa_size_limit_of states ≡ Some n) × IsTooBig (sought_by program hs) (match_kind_of states.search) n
+    (dfa_size_limit_of states ≡ Some n) × IsTooBig (sought_by program hs) (match_kind_of states.search) (byte_classes_of states) n
 
 -- The refusal is the first one that applies to the patterns. Want of memory may come at any time.
 abbrev pub IsDfaRefusal : Settings → StateSettings (Option ℕ) → List Re → BuildError → Type 0
@@ -38,6 +38,6 @@ IsDfaTextRefusal program states syntax texts (DfaSizeLimit n) =
     (hs : List Re) × AllRead syntax texts hs × IsDfaRefusal program states hs (DfaSizeLimit n)
 IsDfaTextRefusal program states syntax texts e = IsTextRefusal (nfa_size_limit_of program) syntax texts e
 
--- each direction of what was built is within the limit
+-- each direction of what was built is within the limit, by the classes that are set
 abbrev pub IsWithinLimit : StateSettings (Option ℕ) → Regex → Type 0
-IsWithinLimit states re = AreLight (sought (dfa_of re)) (dfa_kind (dfa_of re)) (dfa_size_limit_of states) (dfa_of re).tables
+IsWithinLimit states re = AreLight (sought (dfa_of re)) (dfa_kind (dfa_of re)) (byte_classes_of states) (dfa_size_limit_of states) (dfa_of re).tables

@@ -81,8 +81,8 @@ pub(crate) fn tables_of(
     requires places { places_of places.now ≡ program (shown q.grouped q.patterns) }
     requires light { heaviness (places_of places.now) ≤ greatest_weight }
     ensures made { IfOk result (AreTables q kind) }
-    ensures light { IfOk result (AreLight q kind limit) }
-    ensures refused { IfErr result (IsTablesRefusal q kind limit) }
+    ensures light { IfOk result (AreLight q kind byte_classes limit) }
+    ensures refused { IfErr result (IsTablesRefusal q kind byte_classes limit) }
 {
     let terminator = settings.get_line_terminator();
     let automaton = automaton_of(alloc, places, hirs.len(), terminator, kind, byte_classes)?;
