@@ -1,11 +1,17 @@
 -- Only proofs use this file.
 -- Lines that were skipped, one after another.
-use Rattle.std.proofs.Common.{ℕ, ◌≡◌, ◌+◌, ◌∙◌, ◌++◌, ◌∷◌, [], Bool, false, true, List, Option, Some, None, IfSome, ap, arith, append_assoc, cond, refl, sym, subst, length-append}
+use Rattle.std.proofs.Common.{ℕ, ◌≡◌, ◌+◌, ◌∙◌, ◌++◌, ◌∷◌, [], Bool, false, true, List, Option, Some, None, IfSome, Ok, Err, OnErr, Result, ap, arith, append_assoc, cond, refl, sym, subst, length-append}
 use Rattle.std.specs.List.{filter}
+use Rattle.std.specs.Io.KnownBytes.{Consumes}
 use Rattle.std.proofs.lemmas.List.{append-nil}
 use Rattle.std.proofs.lemmas.List.Elements.{filter-append}
 use Rattle.grep_lines.specs.Lines.{lines}
-use Rattle.grep_lines.specs.Selected.{AreSkipped, IsNextSelected, TakesLine}
+use Rattle.grep_lines.specs.Selected.{AreSkipped, IsNextSelected, IsStopped, TakesLine}
+
+-- what holds holds of an error
+pub on_err : {T E : Type 0} (r : Result T E) {P : Type 0} → P → OnErr r P
+on_err (Ok v) h = tt
+on_err (Err e) h = h
 
 module _ (p : List ℕ → Bool) where
   pub skipped_none : (old : Option (List ℕ)) → IfSome old (λ text. AreSkipped p text 0 old)
@@ -66,3 +72,29 @@ module _ (p : List ℕ → Bool) where
         IfSome old (λ text. AreSkipped p text (n + m) new)
     skip_both None s t = tt
     skip_both (Some xs) s t = both xs s t
+
+  module _ (n : ℕ) (mid new : Option (List ℕ)) (line : List ℕ) where
+    part_known : (xs : List ℕ) (s : AreSkipped p xs n mid) → (new : Option (List ℕ)) → Consumes (Some s.rest) new line → IsStopped p xs line new
+    part_known xs s None e = absurd e
+    part_known xs s (Some left) e =
+        record { rest = left; known = refl; skipped = s.skipped; parts = s.parts ∙ ap (λ ys. s.skipped ++ lines ys) e; unselected = s.unselected }
+
+    -- a fault came behind lines that were skipped and a part of a line
+    pub stopped_behind : (old : Option (List ℕ)) → IfSome old (λ text. AreSkipped p text n mid) → Consumes mid new line →
+        IfSome old (λ text. IsStopped p text line new)
+    stopped_behind None s e = tt
+    stopped_behind (Some xs) s e = part_known xs s new (subst (λ o. Consumes o new line) s.known e)
+
+    -- a fault came between lines
+    pub stopped_between : (old : Option (List ℕ)) → IfSome old (λ text. AreSkipped p text n new) → line ≡ [] → IfSome old (λ text. IsStopped p text line new)
+    stopped_between None s e = tt
+    stopped_between (Some xs) s e =
+        subst (λ items. IsStopped p xs items new) (sym e)
+        (subst (λ o. IsStopped p xs [] o) (sym s.known)
+        (record { rest = s.rest; known = refl; skipped = s.skipped; parts = s.parts; unselected = s.unselected }))
+
+  -- so it did behind lines that were skipped last
+  pub stopped_after : (n m : ℕ) (mid then new : Option (List ℕ)) (line : List ℕ) (old : Option (List ℕ)) → IfSome old (λ text. AreSkipped p text n mid) →
+      IfSome mid (λ text. AreSkipped p text m then) → new ≡ then → line ≡ [] → IfSome old (λ text. IsStopped p text line new)
+  stopped_after n m mid then new line old s t same empty =
+      stopped_between (n + m) mid new line old (subst (λ o. IfSome old (λ text. AreSkipped p text (n + m) o)) (sym same) (skip_both n m mid then old s t)) empty

@@ -25,3 +25,11 @@ pub record IsNextSelected (picks : List ℕ → Bool) (text line : List ℕ) (le
   pub counted : n ≡ length skipped + 1
   pub unselected : filter picks skipped ≡ []
   pub selected : picks line ≡ true
+
+-- Reading stopped where the bytes of the line were read, and `left` holds those after them; none of the lines before is selected.
+pub record IsStopped (picks : List ℕ → Bool) (text line : List ℕ) (left : Option (List ℕ)) : Type 0 where
+  pub rest : List ℕ
+  pub known : left ≡ Some rest
+  pub skipped : List (List ℕ)
+  pub parts : lines text ≡ skipped ++ lines (line ++ rest)
+  pub unselected : filter picks skipped ≡ []

@@ -1,8 +1,11 @@
 //! Line selection: lines one after another, and which of them are selected.
-ghost use Rattle.std.specs.Prelude.{◌≡◌, ◌≤◌, ◌<◌, ℕ, Bool, List, [], IfOk, IfSome, MatchOption, false, filter, length, slice_range};
+ghost use Rattle.std.specs.Prelude.{◌≡◌, ◌≢◌, ◌≤◌, ◌<◌, ℕ, Bool, List, [], IfErr, IfNone, IfOk, IfSome, MatchOption, OnErr, false, filter, length, slice_range};
+ghost use Rattle.std.specs.Io.{StopsAt};
+ghost use Rattle.std.specs.Io.KnownBytes.{Consumes, Keeps};
+ghost use Rattle.std.specs.IoError.{error_kind};
 ghost use Rattle.grep_lines.specs.Lines.{AreLinesOf, lines};
 ghost use Rattle.grep_lines.specs.Pages.{MayTake};
-ghost use Rattle.grep_lines.specs.Selected.{AreSkipped, IsNextSelected, TakesLine};
+ghost use Rattle.grep_lines.specs.Selected.{AreSkipped, IsNextSelected, IsStopped, TakesLine};
 
 use crate::pages::lines_before;
 use memchr::memchr;
@@ -34,7 +37,10 @@ pub trait LineSelector {
 /// the reader contains the line and its newline. Returns whether it does; otherwise nothing is
 /// consumed, and `line` is empty.
 fn take_line<R: BufRead>(reader: &mut R, line: &mut Vec<u8>) -> io::Result<bool>
-    ensures { IfOk result (λ taken. MayTake taken (R.remaining reader.old) (R.remaining reader.new) line.new.items) }
+    ensures err { OnErr result (Keeps (R.remaining reader.old) (R.remaining reader.new)) }
+    ensures err_empty { OnErr result (line.new.items ≡ []) }
+    ensures retried { IfErr result (λ e. error_kind e ≢ ErrorKind.Interrupted) }
+    ensures taken { IfOk result (λ taken. MayTake taken (R.remaining reader.old) (R.remaining reader.new) line.new.items) }
 {
     line.clear();
     let page = match reader.fill_buf() {
@@ -54,9 +60,14 @@ fn take_line<R: BufRead>(reader: &mut R, line: &mut Vec<u8>) -> io::Result<bool>
 /// the end, and then `line` is empty. The bytes after the last newline are a line, if there are
 /// any.
 ///
-/// After an `Err` some bytes of the line may have been read, and are lost.
+/// An `Err` is one of the reader, or out of memory for the line. What was read of the line is in
+/// `line` then: no byte is lost.
 pub fn next_line<R: BufRead>(reader: &mut R, line: &mut Vec<u8>) -> io::Result<bool>
-    ensures { IfOk result (λ more. IfSome (R.remaining reader.old) (λ text. TakesLine text more line.new.items (R.remaining reader.new))) }
+    ensures empty { IfOk result (λ more. more ≡ false → line.new.items ≡ []) }
+    ensures none_lost { OnErr result (Consumes (R.remaining reader.old) (R.remaining reader.new) line.new.items) }
+    ensures one_line { OnErr result (StopsAt line.new.items 10) }
+    ensures retried { IfErr result (λ e. error_kind e ≢ ErrorKind.Interrupted) }
+    ensures taken { IfOk result (λ more. IfSome (R.remaining reader.old) (λ text. TakesLine text more line.new.items (R.remaining reader.new))) }
 {
     if take_line(reader, line)? {
         return Ok(true);
@@ -78,6 +89,8 @@ fn skip_lines<R: BufRead, S: LineSelector>(reader: &mut R, selector: &mut S) -> 
     ensures skipped { IfOk result (λ count. IfSome (R.remaining reader.old) (λ text.
         AreSkipped (S.selects selector.old) text count (R.remaining reader.new))) }
     ensures same { S.selects selector.new ≡ S.selects selector.old }
+    ensures err { OnErr result (Keeps (R.remaining reader.old) (R.remaining reader.new)) }
+    ensures retried { IfErr result (λ e. error_kind e ≢ ErrorKind.Interrupted) }
 {
     let page = match reader.fill_buf() {
         Ok(page) => page,
@@ -91,10 +104,12 @@ fn skip_lines<R: BufRead, S: LineSelector>(reader: &mut R, selector: &mut S) -> 
 }
 
 /// Reads lines up to the next one that is selected, and leaves that one in `line`. Returns how many
-/// lines were read, that one among them, or `None` if no line is selected up to the end.
+/// lines were read, that one among them, or `None` if no line is selected up to the end: then
+/// `line` is empty.
 ///
 /// It keeps one line at a time. An `Err` is one of the reader, or out of memory for a line, or
-/// comes after 2^64 - 2 lines.
+/// comes after 2^64 - 2 lines. What was read of a line is in `line` then, and no line before it is
+/// selected.
 pub fn next_selected<R: BufRead, S: LineSelector>(
     reader: &mut R,
     selector: &mut S,
@@ -104,22 +119,29 @@ pub fn next_selected<R: BufRead, S: LineSelector>(
         (filter (S.selects selector.old) (lines text) ≡ [])
         (IsNextSelected (S.selects selector.old) text line.new.items (R.remaining reader.new)))) }
     ensures same { S.selects selector.new ≡ S.selects selector.old }
+    ensures empty { IfOk result (λ o. IfNone o (line.new.items ≡ [])) }
+    ensures stopped { OnErr result (IfSome (R.remaining reader.old)
+        (λ text. IsStopped (S.selects selector.old) text line.new.items (R.remaining reader.new))) }
+    ensures one_line { OnErr result (StopsAt line.new.items 10) }
+    ensures retried { IfErr result (λ e. error_kind e ≢ ErrorKind.Interrupted) }
 {
     let mut before: u64 = 0;
     for _ in 0..u64::MAX {
+        line.clear();
         let Some(passed) = before.checked_add(skip_lines(reader, selector)?) else {
+            break;
+        };
+        let Some(number) = passed.checked_add(1) else {
             break;
         };
         if !next_line(reader, line)? {
             return Ok(None);
         }
-        let Some(number) = passed.checked_add(1) else {
-            break;
-        };
         if selector.selects(line) {
             return Ok(Some(number));
         }
         before = number;
     }
+    line.clear();
     Err(io::Error::from(ErrorKind::Other))
 }

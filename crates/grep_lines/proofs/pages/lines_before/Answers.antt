@@ -1,5 +1,5 @@
 use Rattle.std.proofs.Common.{◌≡◌, ◌+◌, ◌∙◌, ap, arith, get_or, get_or-take, length, length-take-le, sym, take}
-use Rattle.std.proofs.lemmas.Bool.{eqb-true}
+use Rattle.std.proofs.lemmas.Bool.{eqb-true, eq-eqb}
 use Rattle.grep_lines.specs.Pages.{IsWhole}
 use Rattle.grep_lines.proofs.PageLemmas.{count_lines}
 use Rattle.grep_lines.proofs.pages.lines_before.Goals as goal
@@ -21,4 +21,7 @@ returns c =
       within = omega (arith, found.0.high, place_sized);
       whole = ended;
       counted = c.count_newlines.ensures ∙ count_lines shown ended;
+      furthest = λ k from before is.
+          found.0.after k (omega arith) (omega (arith, before, place_sized))
+          (eq-eqb (get_or (take c.args.place page) k 0) 10 (get_or-take c.args.place page k 0 before ∙ is));
     }

@@ -8,8 +8,8 @@ use Rattle.grep_lines.specs.Selected.{TakesLine}
 use Rattle.grep_lines.proofs.LineLemmas.{kept_some, takes_cut, takes_whole}
 use Rattle.grep_lines.proofs.select.next_line.Goals as goal
 
-pub returns-then-index-eq10 : goal.returns-then-index-eq10
-returns-then-index-eq10 g c =
+pub returns-then-index-eq10-clause-taken : goal.returns-then-index-eq10-clause-taken
+returns-then-index-eq10-clause-taken g c =
     let old = g.R.Read.remaining c.args.reader.now in
     let new = g.R.Read.remaining c.read_until.new.self in
     let items = c.read_until.new.buf.items in
@@ -18,7 +18,7 @@ returns-then-index-eq10 g c =
     let some : 0 < length items = omega (arith, read.ok, c.if-branch-eq0.false, c.read_until.new.buf.ok.0) in
     let mid = g.R.Read.remaining c.take_line.new.reader in
     let untaken : (c.take_line.new.line.items ≡ []) × Keeps old mid =
-    subst (λ b. MayTake b old mid c.take_line.new.line.items) c.if-branch.false c.in_ok-take_line.ensures in
+    subst (λ b. MayTake b old mid c.take_line.new.line.items) c.if-branch.false c.in_ok-take_line.ensures.taken in
     let told : IfSome old (λ xs. items ≡ take_through 10 xs) =
     kept_some (λ xs. items ≡ take_through 10 xs) old mid untaken.1
     (subst (λ zs. IfSome mid (λ xs. items ≡ zs ++ take_through 10 xs)) untaken.0 read.bytes) in
@@ -28,8 +28,8 @@ returns-then-index-eq10 g c =
     let kept : take (length items - 1) items ≡ c.truncate.new.self.items = sym (c.truncate.ensures.items ∙ ap (λ n. take (n - 1) items) sized) in
     subst (λ line. IfSome old (λ xs. TakesLine xs true line new)) kept (takes_cut new items some old told dropped last)
 
-pub returns : goal.returns
-returns g c =
+pub returns-clause-taken : goal.returns-clause-taken
+returns-clause-taken g c =
     let old = g.R.Read.remaining c.args.reader.now in
     let new = g.R.Read.remaining c.read_until.new.self in
     let items = c.read_until.new.buf.items in
@@ -38,7 +38,7 @@ returns g c =
     let some : 0 < length items = omega (arith, read.ok, c.if-branch-eq0.false, c.read_until.new.buf.ok.0) in
     let mid = g.R.Read.remaining c.take_line.new.reader in
     let untaken : (c.take_line.new.line.items ≡ []) × Keeps old mid =
-    subst (λ b. MayTake b old mid c.take_line.new.line.items) c.if-branch.false c.in_ok-take_line.ensures in
+    subst (λ b. MayTake b old mid c.take_line.new.line.items) c.if-branch.false c.in_ok-take_line.ensures.taken in
     let told : IfSome old (λ xs. items ≡ take_through 10 xs) =
     kept_some (λ xs. items ≡ take_through 10 xs) old mid untaken.1
     (subst (λ zs. IfSome mid (λ xs. items ≡ zs ++ take_through 10 xs)) untaken.0 read.bytes) in

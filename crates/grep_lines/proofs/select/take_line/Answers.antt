@@ -8,8 +8,8 @@ use Rattle.grep_lines.proofs.LineLemmas.{HasNo, takes_shown}
 use Rattle.grep_lines.proofs.select.take_line.Goals as goal
 
 -- the page's first line was taken
-pub returns : goal.returns
-returns g c =
+pub returns-clause-taken : goal.returns-clause-taken
+returns-clause-taken g c =
     let shown = c.in-Ok.page.now in
     let end = c.in-Some.end in
     let found = c.in-Some.ensures in
