@@ -1,5 +1,5 @@
 //! Paged cursor: a cursor over a file that is read a page at a time.
-ghost use Rattle.std.specs.Prelude.{◌≡◌, ◌+◌, ◌<◌, ◌≤◌, IfOk, IfSome, MatchBool, None, Some, drop, false, length, max, take};
+ghost use Rattle.std.specs.Prelude.{◌≡◌, ◌+◌, ◌<◌, ◌≤◌, IfOk, IfSome, MatchBool, None, Some, drop, false, length, max, take, true};
 ghost use Rattle.paged_file.specs.Kept.{IsEnd, IsMet, IsStart, Paged, Same, Shown};
 ghost use Rattle.paged_file.specs.Stored.{fault_of};
 ghost use Rattle.rc_text.specs.Piece.{GoesBack, GoesOn, Shows};
@@ -30,8 +30,8 @@ pub struct PagedCursor<P: Pages> {
 }
 
 impl<P: Pages> Model for PagedCursor<P> {
-    ghost use Rattle.std.specs.Prelude.{◌+◌, take, vec_len};
-    ghost use Rattle.paged_file.specs.Kept.{AreHeld, IsMet, IsShown, Paged};
+    ghost use Rattle.std.specs.Prelude.{◌+◌, take, vec_capacity, vec_len};
+    ghost use Rattle.paged_file.specs.Kept.{AreHeld, IsMet, IsShown, Paged, room_of};
 
     ghost Value = { Paged };
 
@@ -42,10 +42,11 @@ impl<P: Pages> Model for PagedCursor<P> {
       chunk = take c.shown.len c.shown.bytes.items;
       offset = c.shown.offset;
       failure = c.failure;
+      room = record { bytes = vec_capacity c.shown.bytes + room_of c.spares.pages.items; entries = vec_capacity c.spares.pages };
     } };
 
     ghost invariant = { λ c. IsShown (P.stored c.file) c.page_len c.shown
-        × AreHeld (P.stored c.file).bytes c.page_len c.spares.pages.items c.spares.oldest
+        × AreHeld (P.stored c.file).bytes c.page_len c.spares.pages.items
         × IsMet (P.stored c.file) c.failure };
 }
 
@@ -157,6 +158,7 @@ impl<P: Pages> Cursor for PagedCursor<P> {
         ensures shows { Shows self.old.stored.bytes self.new.offset self.new.chunk }
         ensures same { Same self.old self.new }
         ensures failure { result ≡ false → self.new.failure ≡ fault_of self.old.stored }
+        ensures kept { result ≡ true → self.new.failure ≡ self.old.failure }
     {
         self.show(self.shown.offset + self.shown.len)
     }
@@ -167,6 +169,7 @@ impl<P: Pages> Cursor for PagedCursor<P> {
         ensures was { Shows self.old.stored.bytes self.old.offset self.old.chunk }
         ensures shows { Shows self.old.stored.bytes self.new.offset self.new.chunk }
         ensures same { Same self.old self.new }
+        ensures kept { self.new.failure ≡ self.old.failure }
     {
         if self.shown.offset == 0 {
             return false;
