@@ -52,9 +52,12 @@ fn last_of(matches: &mut FindMatches<'_, GapCursor<'_>>, at: usize) -> Option<Ma
     last
 }
 
-/// Returns the matches with a byte in the window, also those that begin before it: each begins
-/// before the end of the window, and ends after its start. The matches are those of
-/// `Regex::find_iter` over the whole text, in order. An `Err` means out of memory.
+/// Returns the matches that the window shows: each begins before the window's end, and ends after
+/// its start. So each has a byte in the window, also one that begins before it, or is empty and
+/// lies between the window's ends. One that is empty at either end of the window isn't listed.
+///
+/// The matches are those of `Regex::find_iter` over the whole text, in order. An `Err` means out of
+/// memory.
 pub fn matches_on_screen(
     alloc: Global,
     text: &GapBuffer,
