@@ -159,6 +159,7 @@ speaks_shown false hs x = speaks_bare hs x
 pub fault_had : (grouped : Bool) (hs : List Re) (s : Search) (e : MatchError) → ∥ IsFault (shown grouped hs) s (λ memory. ⊥) e ∥₁ → HasQuit hs s e
 fault_had grouped hs s (Quit b p) t = record {
   unicode = had (speaks_decided hs) (∥∥₁_map t (λ (q : MayQuit (shown grouped hs) s b p). speaks_shown grouped hs q.unicode));
+  placed = ∥∥₁_elim t (hlevel props) (λ (q : MayQuit (shown grouped hs) s b p). q.placed);
   large = ∥∥₁_elim t (hlevel props) (λ (q : MayQuit (shown grouped hs) s b p). q.large);
   there = ∥∥₁_elim t (hlevel props) (λ (q : MayQuit (shown grouped hs) s b p). q.there);
   inside = ∥∥₁_elim t (hlevel props) (λ (q : MayQuit (shown grouped hs) s b p). q.inside);

@@ -1,5 +1,5 @@
 -- What one run of a half tells.
-use Rattle.std.proofs.Common.{◌≡◌, ℕ, ◌+◌, ◌<◌, ◌≤◌, Bool, true, false, true≢false, List, length, Option, Some, None, Result, IfOk, IfErr, sym, subst, ap, ◌∙◌, refl, arith, slice_get}
+use Rattle.std.proofs.Common.{◌≡◌, ℕ, ◌+◌, ◌<◌, ◌≤◌, Bool, true, false, true≢false, IsTrue, List, length, Option, Some, None, Result, IfOk, IfErr, sym, subst, ap, ◌∙◌, refl, arith, slice_get}
 use Rattle.std.proofs.lemmas.Result.{IfErr-weaker}
 use Rattle.rc_text.specs.Text.{Searched, Keeps, low, high}
 use Rattle.rc_text.specs.declared.types.Anchored.{Anchored}
@@ -20,7 +20,7 @@ use Rattle.rc_dfa.specs.declared.ended.Ended.TheVariants.{Found, Idle, Quit, Gav
 use Rattle.rc_dfa.proofs.RunLemmas.{run_law}
 use Rattle.rc_dfa_search.specs.declared.search.Aim.{Aim}
 use Rattle.rc_dfa_search.specs.Machines.{IsCase, entries_of}
-use Rattle.rc_dfa_search.specs.Faults.{SpeaksOfUnicode, MayQuit, IsFault}
+use Rattle.rc_dfa_search.specs.Faults.{SpeaksOfUnicode, speaks_of_unicode, MayQuit, IsFault}
 use Rattle.rc_dfa_search.specs.Aims
 use Rattle.rc_dfa_search.specs.Aims.{AreHalvesOf, is_early, search_for}
 use Rattle.rc_dfa_search.specs.Ends.{Asks, HasMet, HasMetDown, told_of}
@@ -99,12 +99,13 @@ same_byte : (bytes : List ℕ) (p b c : ℕ) → slice_get bytes p ≡ Some b �
 same_byte bytes p b c e f = cc
 
 may_quit : (hs : List Re) (s : Search) (m : Machine) (IsRead : ℕ → Type 0) (b p : ℕ) → (m.setting.needs.unicode ≡ true → SpeaksOfUnicode hs) →
+    (m.setting.needs.unicode ≡ true → IsTrue (speaks_of_unicode s.places)) →
     slice_get s.text.content p ≡ Some b → (s.lo ≤ p + 1) × (p ≤ s.hi) → IsUnread m s.text IsRead p → MayQuit hs s b p
-may_quit hs s m IsRead b p speaks there near u =
+may_quit hs s m IsRead b p speaks placed there near u =
     let byte = u.byte in
     let large = byte.2 in
     let same = same_byte s.text.content p b byte.0 there byte.1 in
-    record { unicode = speaks u.unicode; large = omega (arith, large, same); there = there; inside = u.inside; near = near }
+    record { unicode = speaks u.unicode; placed = placed u.unicode; large = omega (arith, large, same); there = there; inside = u.inside; near = near }
 
 pub told_fault : (hs : List Re) (aim : Aim) (m n : Machine) (anchored : Anchored) (s : Search) (from : ℕ) (early : Bool) (G : Bool → Type 0) (e : Ended) →
     IsCase hs aim.kind m n anchored s → s.lo ≤ from → from ≤ s.hi → HasEnded m s.text s.hi from anchored early false e → IfGivenUp e G →
@@ -116,7 +117,8 @@ told_fault hs aim m n anchored s from early G (Quit b p) c low high h full =
     let inside : IsInside s.text from s.hi = record { low = let l = i.low in omega (arith, l, low); high = i.high; bounded = i.bounded } in
     let stops = run_law.stops m s.text s.hi from anchored early p inside high h.1 in
     let near = stops.0 in
-    may_quit hs s m (λ y. (from ≤ y + 1) × (y < p)) b p (unread_law.unicode hs aim.kind m n anchored s c) h.0 (omega (arith, near, low), stops.1) stops.2
+    may_quit hs s m (λ y. (from ≤ y + 1) × (y < p)) b p (unread_law.unicode hs aim.kind m n anchored s c)
+    (unread_law.placed hs aim.kind m n anchored s c) h.0 (omega (arith, near, low), stops.1) stops.2
 told_fault hs aim m n anchored s from early G (GaveUp p memory) c low high h full =
     (let near = h.0 in omega (arith, near, low), h.1, full memory refl)
 
@@ -132,7 +134,8 @@ told_fault_down hs aim m n anchored s from end early G (Quit b p) c low ordered 
     let near = stops.0 in
     let far = stops.1 in
     may_quit hs s n (λ y. (p < y) × (y ≤ end)) b p
-    (λ is. unread_law.unicode hs aim.kind m n anchored s c (ap (λ g. g.needs.unicode) (same_setting c) ∙ is)) h.0
+    (λ is. unread_law.unicode hs aim.kind m n anchored s c (ap (λ g. g.needs.unicode) (same_setting c) ∙ is))
+    (λ is. unread_law.placed hs aim.kind m n anchored s c (ap (λ g. g.needs.unicode) (same_setting c) ∙ is)) h.0
     (omega (arith, near, low), omega (arith, far, high)) stops.2
 told_fault_down hs aim m n anchored s from end early G (GaveUp p memory) c low ordered high h full =
     (let near = h.0 in omega (arith, near, low), let far = h.1 in omega (arith, far, high), full memory refl)

@@ -1,5 +1,5 @@
 -- Where bytes aren't read.
-use Rattle.std.proofs.Common.{◌≡◌, ℕ, zero, suc, ◌+◌, ◌-◌, ◌*◌, ◌<◌, ◌≤◌, ◌⊎◌, Bool, true, false, true≢false, IsTrue, List, [], ◌∷◌, length, take, drop, Option, Some, None, inl, inr, ⊎_elim, sym, subst, ap, ◌∙◌, refl, arith, eq-eqb}
+use Rattle.std.proofs.Common.{◌≡◌, ℕ, zero, suc, ◌+◌, ◌-◌, ◌*◌, ◌<◌, ◌≤◌, ◌⊎◌, Bool, true, false, ◌||◌, true≢false, IsTrue, List, [], ◌∷◌, length, take, drop, Option, Some, None, inl, inr, ⊎_elim, sym, subst, ap, ◌∙◌, refl, arith, eq-eqb}
 use Rattle.std.specs.List.{AllByRecursion}
 use Rattle.std.proofs.lemmas.Bool.{cases_lt, cases_eq, cases_Bool, or_left, or_right}
 use Rattle.rc_pattern.specs.declared.hir.Look.{Look}
@@ -25,7 +25,7 @@ use Rattle.rc_dfa.specs.Runs as runs
 use Rattle.rc_dfa.proofs.StartLemmas.{stop_no_met}
 use Rattle.rc_dfa.proofs.MetLemmas.{end_met}
 use Rattle.rc_dfa_search.specs.Machines.{IsCase}
-use Rattle.rc_dfa_search.specs.Faults.{SpeaksOfUnicode}
+use Rattle.rc_dfa_search.specs.Faults.{SpeaksOfUnicode, speaks_at, speaks_of_unicode}
 use Rattle.rc_dfa_search.specs.Laws.{UnreadLaw}
 
 -- ASSERTIONS
@@ -174,23 +174,54 @@ module _ (Goal : Type 0) where
       both zero here rest l h = here l h
       both (suc q) here rest l h = rest q l h
 
--- what asks for Unicode's words, has an assertion that does
-needs_unicode : (hs : List Re) (needs : Needs) → AreNeeds needs (bytes_of (program hs)) → needs.unicode ≡ true → SpeaksOfUnicode hs
-needs_unicode hs needs are is =
+-- what follows from each assertion of the program that speaks of Unicode's words, follows where they are asked for
+asked_for : (Goal : Type 0) (qs : List Place) (needs : Needs) → AreNeeds needs (bytes_of qs) → needs.unicode ≡ true → AllByRecursion (Tells Goal) qs → Goal
+asked_for Goal qs needs are is each =
     ⊎_elim (λ g. g)
     (λ silent. let c = are.covers in
-    let less : Covers (record needs { unicode = false }) (bytes_of (program hs)) =
+    let less : Covers (record needs { unicode = false }) (bytes_of qs) =
     record { facts = c.facts; unicode = λ q l h u. absurd (silent q l h u) } in
     let l = are.least (record needs { unicode = false }) less in
     absurd (true≢false (sym (l.unicode is))))
-    (all_silent (SpeaksOfUnicode hs) (bytes_of (program hs))
-    (bytes_of_each (SpeaksOfUnicode hs) (program hs) (choice_each (SpeaksOfUnicode hs) 0 (2 * length hs) hs (λ t. t) 0 0 0)))
+    (all_silent Goal (bytes_of qs) (bytes_of_each Goal qs each))
 
-pub speaks_of_unicode : (hs : List Re) (kind : MatchKind) (m n : Machine) (anchored : Anchored) (s : Search) → IsCase hs kind m n anchored s →
-    m.setting.needs.unicode ≡ true → SpeaksOfUnicode hs
-speaks_of_unicode hs kind m n anchored s c is =
-    let k = c.machines in
-    needs_unicode hs k.needs k.are_needs (sym (ap (λ (x : Machine). x.setting.needs.unicode) k.ahead) ∙ is)
+-- what asks for Unicode's words, has an assertion that does
+needs_unicode : (hs : List Re) (needs : Needs) → AreNeeds needs (bytes_of (program hs)) → needs.unicode ≡ true → SpeaksOfUnicode hs
+needs_unicode hs needs are is =
+    asked_for (SpeaksOfUnicode hs) (program hs) needs are is (choice_each (SpeaksOfUnicode hs) 0 (2 * length hs) hs (λ t. t) 0 0 0)
+
+speaks_here : (q : Place) (l : Look) → HasLook l q → IsTrue (is_unicode l) → IsTrue (speaks_at q)
+speaks_here (choice ns) l h u = absurd h
+speaks_here (byte rs n) l h u = absurd h
+speaks_here (branch ts) l h u = absurd h
+speaks_here (scalar rs n) l h u = absurd h
+speaks_here (guard k n) l h u = ap is_unicode h ∙ u
+speaks_here (slot k n) l h u = absurd h
+speaks_here (accept p) l h u = absurd h
+
+each_speaks : (Goal : Type 0) (qs : List Place) → (IsTrue (speaks_of_unicode qs) → Goal) → AllByRecursion (Tells Goal) qs
+each_speaks Goal [] f = tt
+each_speaks Goal (q ∷ qs) f = (
+  λ l h u. f (or_left (speaks_at q) (speaks_of_unicode qs) (speaks_here q l h u)),
+  each_speaks Goal qs (λ t. f (or_right (speaks_at q) (speaks_of_unicode qs) t)),
+)
+
+-- and it stands at a place of the program
+needs_placed : (qs : List Place) (needs : Needs) → AreNeeds needs (bytes_of qs) → needs.unicode ≡ true → IsTrue (speaks_of_unicode qs)
+needs_placed qs needs are is =
+    asked_for (IsTrue (speaks_of_unicode qs)) qs needs are is (each_speaks (IsTrue (speaks_of_unicode qs)) qs (λ t. t))
+
+module _ (hs : List Re) (kind : MatchKind) (m n : Machine) (anchored : Anchored) (s : Search) (c : IsCase hs kind m n anchored s) (is : m.setting.needs.unicode ≡ true) where
+  needed : c.machines.needs.unicode ≡ true
+  needed = let k = c.machines in sym (ap (λ (x : Machine). x.setting.needs.unicode) k.ahead) ∙ is
+
+  pub patterns_speak : SpeaksOfUnicode hs
+  patterns_speak = let k = c.machines in needs_unicode hs k.needs k.are_needs needed
+
+  pub places_speak : IsTrue (speaks_of_unicode s.places)
+  places_speak =
+      let k = c.machines in
+      subst (λ qs. IsTrue (speaks_of_unicode qs)) (sym c.places) (needs_placed (program hs) k.needs k.are_needs needed)
 
 -- BYTES
 
@@ -266,7 +297,8 @@ module _ (m n : Machine) (same : n.setting ≡ m.setting) (t : Text) (hi from en
 
 pub unread_law : UnreadLaw
 unread_law = record {
-  unicode = speaks_of_unicode;
+  unicode = patterns_speak;
+  placed = places_speak;
   read = λ m n s from q e p anchored back earliest early same inside ahead down.
       no_search_stop m n same s.text s.hi from e
       (are_read m s.text s.hi from q e anchored earliest (met_last (Some (q, e))) inside.high inside.bounded ahead refl) back early (stopped_at p) p down refl;

@@ -1,6 +1,6 @@
 -- Laws of DFA searches: what runs over the byte program of patterns find of the matches of a
 -- search.
-use Rattle.std.specs.Prelude.{◌≡◌, ℕ, ◌+◌, ◌<◌, ◌≤◌, ◌⊎◌, Bool, true, false, List, Option, Some, None}
+use Rattle.std.specs.Prelude.{◌≡◌, ℕ, ◌+◌, ◌<◌, ◌≤◌, ◌⊎◌, Bool, true, false, IsTrue, List, Option, Some, None}
 use Rattle.rc_pattern.specs.Re.{Re}
 use Rattle.rc_text.specs.Found.{Found}
 use Rattle.rc_text.specs.declared.types.MatchKind.{MatchKind}
@@ -20,7 +20,7 @@ use Rattle.rc_dfa.specs.Runs.{met_last, stopped_at, SearchEnds, SearchEndsDown}
 use Rattle.rc_dfa_search.specs.Leftmost.{IsLeftmost, IsRaisedBy}
 use Rattle.rc_dfa_search.specs.Machines.{IsCase}
 use Rattle.rc_dfa_search.specs.Reverse.{EndsAtBound, IsMatchToEnd, IsSpelledToEnd, IsLeastStart, HasNoStart}
-use Rattle.rc_dfa_search.specs.Faults.{SpeaksOfUnicode}
+use Rattle.rc_dfa_search.specs.Faults.{SpeaksOfUnicode, speaks_of_unicode}
 
 -- The pattern whose match place was reached.
 abbrev pub pattern_met : Machine → ℕ → ℕ
@@ -98,9 +98,11 @@ pub record ReverseEndLaw : Type 0 where
 
 -- Where bytes may not be read.
 pub record UnreadLaw : Type 0 where
-  -- an assertion of the patterns speaks of Unicode's words, if the program's do
+  -- an assertion of the patterns speaks of Unicode's words, and so does one of the program, if some byte may be left unread
   pub unicode : (hs : List Re) (kind : MatchKind) (m n : Machine) (anchored : Anchored) (s : Search) → IsCase hs kind m n anchored s →
       m.setting.needs.unicode ≡ true → SpeaksOfUnicode hs
-  -- Bytes that were read forwards up to an end may be read backwards.
+  pub placed : (hs : List Re) (kind : MatchKind) (m n : Machine) (anchored : Anchored) (s : Search) → IsCase hs kind m n anchored s →
+      m.setting.needs.unicode ≡ true → IsTrue (speaks_of_unicode s.places)
+  -- What was read forwards up to an end may be read backwards.
   pub read : (m n : Machine) (s : Search) (from q e p : ℕ) (anchored back : Anchored) (earliest early : Bool) → n.setting ≡ m.setting → IsInside s.text s.lo s.hi →
       SearchEnds m s.text s.hi from anchored earliest (met_last (Some (q, e))) → ¬ SearchEndsDown n s.text from e back early (stopped_at p)
