@@ -3,7 +3,7 @@ use Rattle.std.specs.Prelude.{ℕ, List, unwrap_or}
 use Rattle.rc_pattern.specs.Re.{Re}
 use Rattle.rc_parser.specs.Settings.{Settings as SyntaxSettings}
 use Rattle.rc_settings.specs.SearchSettings.{match_kind_of}
-use Rattle.rc_settings.specs.StateSettings.{StateSettings, no_state_setting}
+use Rattle.rc_settings.specs.StateSettings.{StateSettings, byte_classes_of, no_state_setting}
 use Rattle.rc_settings.specs.Thompson.{Settings, nfa_size_limit_of}
 use Rattle.rc_settings.specs.declared.error.BuildError.{BuildError}
 use Rattle.rc_settings.specs.declared.error.BuildError.TheVariants.{CacheTooSmall}
@@ -25,7 +25,8 @@ cache_capacity_of s = unwrap_or s.limit 2097152
 -- The refusal is the first one that applies to the patterns. Want of memory may come at any time.
 abbrev pub IsHybridRefusal : Settings → StateSettings ℕ → List Re → BuildError → Type 0
 IsHybridRefusal program states hs (CacheTooSmall m n) =
-    IsBuildable (nfa_size_limit_of program) hs × IsTooSmall (sought_by program hs) (match_kind_of states.search) (cache_capacity_of states) m n
+    IsBuildable (nfa_size_limit_of program) hs
+    × IsTooSmall (sought_by program hs) (match_kind_of states.search) (byte_classes_of states) (cache_capacity_of states) m n
 IsHybridRefusal program states hs e = IsRefusal (nfa_size_limit_of program) hs e
 
 -- The refusal is the first one that applies to the texts. Want of memory may come at any time.
@@ -34,6 +35,6 @@ IsHybridTextRefusal program states syntax texts (CacheTooSmall m n) =
     (hs : List Re) × AllRead syntax texts hs × IsHybridRefusal program states hs (CacheTooSmall m n)
 IsHybridTextRefusal program states syntax texts e = IsTextRefusal (nfa_size_limit_of program) syntax texts e
 
--- what was built has the capacity that is set, and that serves
+-- what was built has the capacity that is set, and that serves, by the classes that are set
 abbrev pub IsWithinCapacity : StateSettings ℕ → Regex → Type 0
-IsWithinCapacity states re = HasCapacity (sought re) (regex_kind re) (cache_capacity_of states) re.lazy
+IsWithinCapacity states re = HasCapacity (sought re) (regex_kind re) (byte_classes_of states) (cache_capacity_of states) re.lazy

@@ -38,8 +38,8 @@ pub(crate) fn lazy_of(
     requires places { places_of places.now ≡ program (shown q.grouped q.patterns) }
     requires light { heaviness (places_of places.now) ≤ greatest_weight }
     ensures made { IfOk result (IsLazyFor q kind) }
-    ensures roomy { IfOk result (HasCapacity q kind capacity) }
-    ensures refused { IfErr result (IsLazyRefusal q kind capacity) }
+    ensures roomy { IfOk result (HasCapacity q kind byte_classes capacity) }
+    ensures refused { IfErr result (IsLazyRefusal q kind byte_classes capacity) }
 {
     let terminator = settings.get_line_terminator();
     let automaton = automaton_of(alloc, places, hirs.len(), terminator, kind, byte_classes)?;

@@ -2,8 +2,9 @@ use Rattle.std.proofs.Common.{◌∙◌, ◌≤◌, ap, subst, sym}
 use Rattle.rc_program.specs.Laws.{heaviness}
 use Rattle.rc_program.specs.Program.{shown}
 use Rattle.rc_program.specs.Sought.{Sought}
-use Rattle.rc_dfa.specs.Automata.{machine_of}
+use Rattle.rc_dfa.specs.Automata.{classes_of, machine_of}
 use Rattle.rc_dfa.specs.declared.automaton.Direction.TheVariants.{Backwards, Forwards}
+use Rattle.rc_dfa_search.specs.Classes.{AreClassesOf}
 use Rattle.rc_dfa_search.specs.Machines.{AreMachines}
 use Rattle.api_hybrid.specs.Makes.{IsLazyRefusal}
 use Rattle.api_hybrid.proofs.LazyLemmas.{made_by, refused_by, roomy_by}
@@ -19,6 +20,14 @@ of g c =
     subst (λ t. AreMachines (shown g.q.grouped g.q.patterns) t c.args.kind (machine_of a Forwards) (machine_of a Backwards))
     (c.get_line_terminator-terminator.ensures ∙ sym (ap (λ (q : Sought). q.terminator) c.requires.0)) c.in_ok-automaton.ensures.machines
 
+-- and its classes of bytes are those of what is sought
+classed : (g : Over) (c : In_ok-automaton g) → AreClassesOf c.args.byte_classes (shown g.q.grouped g.q.patterns) g.q.terminator
+    (classes_of c.in_ok-automaton.automaton)
+classed g c =
+    let a = c.in_ok-automaton.automaton in
+    subst (λ t. AreClassesOf c.args.byte_classes (shown g.q.grouped g.q.patterns) t (classes_of a))
+    (c.get_line_terminator-terminator.ensures ∙ sym (ap (λ (q : Sought). q.terminator) c.requires.0)) c.in_ok-automaton.ensures.classes
+
 pub returns-in-Ok-clause-made : goal.returns-in-Ok-clause-made
 returns-in-Ok-clause-made g c =
     made_by g.q c.args.kind c.in_ok-automaton.automaton (of g (goal.at.returns-in-Ok-clause-made g c).In_ok-automaton) c.args.capacity c.in-Ok.lazy c.in-Ok.ensures.made
@@ -26,9 +35,11 @@ returns-in-Ok-clause-made g c =
 
 pub returns-in-Ok-clause-roomy : goal.returns-in-Ok-clause-roomy
 returns-in-Ok-clause-roomy g c =
-    roomy_by g.q c.args.kind c.in_ok-automaton.automaton (of g (goal.at.returns-in-Ok-clause-roomy g c).In_ok-automaton) c.args.capacity c.in-Ok.lazy c.in-Ok.ensures.made
+    roomy_by g.q c.args.kind c.in_ok-automaton.automaton (of g (goal.at.returns-in-Ok-clause-roomy g c).In_ok-automaton) c.args.byte_classes
+    (classed g (goal.at.returns-in-Ok-clause-roomy g c).In_ok-automaton) c.args.capacity c.in-Ok.lazy c.in-Ok.ensures.made
 
 pub returns-in-Err-clause-refused : goal.returns-in-Err-clause-refused
 returns-in-Err-clause-refused g c =
-    subst (IsLazyRefusal g.q c.args.kind c.args.capacity) (sym c.refusal_of.ensures)
-    (refused_by g.q c.args.kind c.in_ok-automaton.automaton (of g (goal.at.returns-in-Err-clause-refused g c).In_ok-automaton) c.args.capacity c.in-Err.error c.in-Err.ensures.refused)
+    subst (IsLazyRefusal g.q c.args.kind c.args.byte_classes c.args.capacity) (sym c.refusal_of.ensures)
+    (refused_by g.q c.args.kind c.in_ok-automaton.automaton (of g (goal.at.returns-in-Err-clause-refused g c).In_ok-automaton) c.args.byte_classes
+    (classed g (goal.at.returns-in-Err-clause-refused g c).In_ok-automaton) c.args.capacity c.in-Err.error c.in-Err.ensures.refused)
