@@ -15,10 +15,16 @@ use Rattle.rc_lazy_dfa.proofs.MakeLemmas.{serves_both}
 use Rattle.rc_dfa_search.specs.Faults.{IsFault}
 use Rattle.api_dfa.proofs.Had.{fault_had as quit_had}
 use Rattle.api_hybrid.specs.Caches.{IsCacheFor, capacity_of}
-use Rattle.api_hybrid.specs.Faults.{ClearsWhereShort, GrowsWhereRoomy, IsFaultOf, MayBeShort, MayGiveUp}
+use Rattle.api_hybrid.specs.Faults.{ClearsWhereShort, GrowsWhereRoomy, IsFaultOf, MayBeShort, MayGiveUp, RisesBy}
 use Rattle.api_hybrid.specs.Views.{least_of, sought}
 use Rattle.api_hybrid.specs.declared.cache.Cache.{Cache}
 use Rattle.api_hybrid.specs.declared.regex.Regex.{Regex}
+
+max_rises : (a b x y : ℕ) → a ≤ x → b ≤ y → max a b ≤ max x y
+max_rises a b x y low high = omega (arith, low, high)
+
+max_within : (a b x y n : ℕ) → x ≤ a + n → y ≤ b + n → max x y ≤ max a b + n
+max_within a b x y n low high = omega (arith, low, high)
 
 module _ (re : Regex) (i : Searched) (old new : Cache) where
   abbrev pub cost : ℕ
@@ -60,14 +66,23 @@ module _ (re : Regex) (i : Searched) (old new : Cache) where
   fault_had made (GaveUp p true) t = ∥∥₁_elim t (hlevel props) (λ h. (h.0, h.1, tt))
   fault_had made (GaveUp p false) t = ∥∥₁_elim t (hlevel props) (λ h. (h.0, h.1, given_up made false h.2))
 
+  rises : SpendsBoth re.lazy old.inner new.inner cost → RisesBy cost old new
+  rises s = (
+    max_rises _ _ _ _ s.ahead.rises s.behind.rises,
+    max_within _ _ _ _ cost s.ahead.counted s.behind.counted,
+  )
+
   pub clears_had : IsCacheFor re old → SpendsBoth re.lazy old.inner new.inner cost → ClearsWhereShort re i old new
-  clears_had made s = ⊎_elim
-      (λ a. ⊎_elim
-      (λ b. inl (ap₂ max a.0 b.0))
-      (λ h. inr (short_behind made h))
-      s.behind.added)
-      (λ h. inr (short_ahead h))
-      s.ahead.added
+  clears_had made s = (
+    rises s,
+    ⊎_elim
+        (λ a. ⊎_elim
+        (λ b. inl (ap₂ max a.0 b.0))
+        (λ h. inr (short_behind made h))
+        s.behind.added)
+        (λ h. inr (short_ahead h))
+        s.ahead.added,
+  )
 
   -- what is added in both directions
   pub growth_had : IsCacheFor re old → SpendsBoth re.lazy old.inner new.inner cost → GrowsWhereRoomy re i old new

@@ -32,13 +32,17 @@ module _ (re : Regex) (i : Searched) where
   short_soon : (a : Cache) → MayBeShort re i a → MayBeShortNext re i a
   short_soon a h = let g : capacity_of a < usage_of a + weight i = h in omega (arith, g)
 
-  -- a search further on is no heavier
-  lighter : (j : Searched) → IsMoved i j → i.span.start ≤ j.span.start → weight j ≤ weight i
-  lighter j moved on =
+  -- a search further on adds no more states, and is no heavier
+  fewer_states : (j : Searched) → IsMoved i j → i.span.start ≤ j.span.start →
+      (high j - low j + 4) * (high j - low j + 4) ≤ (high i - low i + 4) * (high i - low i + 4)
+  fewer_states j moved on =
       let lower : low i ≤ low j = rw moved.slice (omega (arith, on)) in
       let top : high j ≡ high i = rw (moved.content, moved.end, moved.slice) refl in
       let less : high j - low j + 4 ≤ high i - low i + 4 = omega (arith, lower, top) in
-      mul-le-mul_right (least_of re) (mul-le (high j - low j + 4) (high j - low j + 4) (high i - low i + 4) (high i - low i + 4) less less)
+      mul-le (high j - low j + 4) (high j - low j + 4) (high i - low i + 4) (high i - low i + 4) less less
+
+  lighter : (j : Searched) → IsMoved i j → i.span.start ≤ j.span.start → weight j ≤ weight i
+  lighter j moved on = mul-le-mul_right (least_of re) (fewer_states j moved on)
 
   same_capacity : (a b : Cache) → IsCacheFor re a → IsCacheFor re b → capacity_of b ≡ capacity_of a
   same_capacity a b made still = still.forward_capacity ∙ sym made.forward_capacity
@@ -58,14 +62,24 @@ module _ (re : Regex) (i : Searched) where
   -- STATES THAT ARE LET GO
 
   pub clears_soon : (a b : Cache) → ClearsWhereShort re i a b → ClearsWhereShortNext re i a b
-  clears_soon a b h = ⊎_elim (λ e. inl e) (λ s. inr (short_soon a s)) h
+  clears_soon a b h =
+      let few = h.0.1 in
+      ((h.0.0, omega (arith, few)), ⊎_elim (λ e. inl e) (λ s. inr (short_soon a s)) h.1)
 
   pub clears_later : (j : Searched) (a b c : Cache) → IsMoved i j → j.span.start ≡ i.span.start + 1 → IsCacheFor re a → IsCacheFor re b →
       GrowsWhereRoomy re i a b → ClearsWhereShort re i a b → ClearsWhereShort re j b c → ClearsWhereShortNext re i a c
-  clears_later j a b c moved at made still grows first second = ⊎_elim
-      (λ e. ⊎_elim (λ f. inl (f ∙ e)) (λ s. inr (short_later j a b moved (omega (arith, at)) made still grows s)) second)
-      (λ s. inr (short_soon a s))
-      first
+  clears_later j a b c moved at made still grows first second =
+      let low_first = first.0.0 in
+      let few_first = first.0.1 in
+      let low_second = second.0.0 in
+      let few_second = second.0.1 in
+      let fewer = fewer_states j moved (omega (arith, at)) in (
+        (omega (arith, low_first, low_second), omega (arith, few_first, few_second, fewer)),
+        ⊎_elim
+            (λ e. ⊎_elim (λ f. inl (f ∙ e)) (λ s. inr (short_later j a b moved (omega (arith, at)) made still grows s)) second.1)
+            (λ s. inr (short_soon a s))
+            first.1,
+      )
 
   -- FAULTS
 

@@ -15,9 +15,14 @@ use Rattle.api_hybrid.specs.declared.regex.Regex.{Regex}
 abbrev pub MayBeShort : Regex → Searched → Cache → Type 0
 MayBeShort re i c = capacity_of c < usage_of c + (high i - low i + 4) * (high i - low i + 4) * least_of re
 
--- all states were let go only where a table may have been short
+-- the count never falls, and rises by so many at most
+abbrev pub RisesBy : ℕ → Cache → Cache → Type 0
+RisesBy n old new = (clears_of old ≤ clears_of new) × (clears_of new ≤ clears_of old + n)
+
+-- all states were let go only where a table may have been short, and at most once for each state that the search may add
 abbrev pub ClearsWhereShort : Regex → Searched → Cache → Cache → Type 0
-ClearsWhereShort re i old new = (clears_of new ≡ clears_of old) ⊎ MayBeShort re i old
+ClearsWhereShort re i old new =
+    RisesBy ((high i - low i + 4) * (high i - low i + 4)) old new × ((clears_of new ≡ clears_of old) ⊎ MayBeShort re i old)
 
 -- why a search was given up: memory was refused; or all states were let go three times before, and a table may have been short
 abbrev pub MayGiveUp : Regex → Searched → Cache → Cache → Bool → Type 0
@@ -39,9 +44,11 @@ GrowsWhereRoomy re i old new =
 abbrev pub MayBeShortNext : Regex → Searched → Cache → Type 0
 MayBeShortNext re i c = capacity_of c < usage_of c + 3 * ((high i - low i + 4) * (high i - low i + 4) * least_of re)
 
--- all states were let go in a search for a next match only where a table may have been short
+-- all states were let go in a search for a next match only where a table may have been short, and at most once for each state that its two searches
+-- may add
 abbrev pub ClearsWhereShortNext : Regex → Searched → Cache → Cache → Type 0
-ClearsWhereShortNext re i old new = (clears_of new ≡ clears_of old) ⊎ MayBeShortNext re i old
+ClearsWhereShortNext re i old new =
+    RisesBy (2 * ((high i - low i + 4) * (high i - low i + 4))) old new × ((clears_of new ≡ clears_of old) ⊎ MayBeShortNext re i old)
 
 -- why a search for a next match was given up: memory was refused; or all states were let go three times before, and a table may have been short
 abbrev pub MayGiveUpNext : Regex → Searched → Cache → Cache → Bool → Type 0

@@ -14,6 +14,7 @@ pub record IsReset (old new : Store) : Type 0 where
   pub width : new.width ≡ old.width
   pub capacity : new.capacity ≡ old.capacity
   pub clears : new.clears ≡ min (old.clears + 1) 18446744073709551615
+  pub rises : old.clears ≤ new.clears
 
 -- Only cells are written.
 pub record Writes (old new : Store) : Type 0 where

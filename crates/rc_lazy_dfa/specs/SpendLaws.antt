@@ -7,7 +7,7 @@ use Rattle.rc_lazy_dfa.specs.Courses.{MayGiveUp}
 use Rattle.rc_lazy_dfa.specs.declared.store.Store.{Store}
 
 pub spends_nothing : (f : Frame) (a : Store) (n : ℕ) → Spends f a a n
-spends_nothing f a n = record { capacity = refl; added = inl (refl, omega arith) }
+spends_nothing f a n = record { capacity = refl; rises = omega arith; counted = omega arith; added = inl (refl, omega arith) }
 
 more_times : (n k x : ℕ) → n ≤ k → n * x ≤ k * x
 more_times n k x le = mul-le-mul_right x le
@@ -18,6 +18,8 @@ short_within f a n k le h = let m = more_times n k (minimum_of f) le in omega (a
 pub spends_within : (f : Frame) (a b : Store) (n k : ℕ) → n ≤ k → Spends f a b n → Spends f a b k
 spends_within f a b n k le s = record {
   capacity = s.capacity;
+  rises = s.rises;
+  counted = let c = s.counted in omega (arith, c, le);
   added = elim s.added [
     | inl h ↦ let u = h.1 in let m = more_times n k (minimum_of f) le in inl (h.0, omega (arith, u, m))
     | inr h ↦ inr (short_within f a n k le h)
@@ -38,6 +40,8 @@ pub spends_both : (f : Frame) (a b c : Store) (n k : ℕ) → Spends f a b n →
 spends_both f a b c n k s r =
     let sum = add-mul n k (minimum_of f) in record {
       capacity = r.capacity ∙ s.capacity;
+      rises = let a = s.rises in let b = r.rises in omega (arith, a, b);
+      counted = let a = s.counted in let b = r.counted in omega (arith, a, b);
       added = elim r.added [
         | inr short ↦ inr (short_after f a b n k s short)
         | inl h ↦

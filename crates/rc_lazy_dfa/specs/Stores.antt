@@ -126,9 +126,12 @@ abbrev pub IsShort : Frame → Store → ℕ → Type 0
 IsShort f s n = s.capacity < s.used + n * minimum_of f
 
 -- From the first to the second at most so many states were added, and it was cleared only if it may
--- have been short.
+-- have been short. Each state that was added cleared it at most once, so the count of clears rose by
+-- no more, and it never falls.
 pub record Spends (f : Frame) (old new : Store) (n : ℕ) : Type 0 where
   pub capacity : new.capacity ≡ old.capacity
+  pub rises : old.clears ≤ new.clears
+  pub counted : new.clears ≤ old.clears + n
   pub added : ((new.clears ≡ old.clears) × (new.used ≤ old.used + n * minimum_of f)) ⊎ IsShort f old n
 
 -- Why a state wasn't added: memory was refused, or the cache was cleared three times before and may

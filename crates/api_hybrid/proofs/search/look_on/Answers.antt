@@ -1,12 +1,16 @@
 use Rattle.std.proofs.Common.{◌≡◌, ◌+◌, rules}
 use Rattle.rc_pikevm_search.specs.Moved.{IsMoved}
 use Rattle.api_hybrid.specs.Faults.{IsFaultOf, IsNextFault}
-use Rattle.api_hybrid.proofs.Nexts.{clears_later, err_as, fault_later, fault_soon}
+use Rattle.api_hybrid.proofs.Nexts.{clears_later, clears_soon, err_as, fault_later, fault_soon}
 use Rattle.api_hybrid.proofs.search.look_on.Goals as goal
 
 pub returns-in-Err-clause-fault : goal.returns-in-Err-clause-fault
 returns-in-Err-clause-fault g c =
     fault_soon c.args.re.now c.args.input.now c.args.cache.now c.find_by.new.cache c.in-Err.error c.in-Err.ensures.fault
+
+pub returns-in-Err-clause-clears : goal.returns-in-Err-clause-clears
+returns-in-Err-clause-clears g c =
+    clears_soon c.args.re.now c.args.input.now c.args.cache.now c.find_by.new.cache c.find_by.ensures.clears
 
 pub returns-else-not-is_again-clause-fault : goal.returns-else-not-is_again-clause-fault
 returns-else-not-is_again-clause-fault g c =
