@@ -10,25 +10,26 @@ use Rattle.rc_determinize.specs.Sets.{IsNextOfAll}
 use Rattle.rc_determinize.specs.Longest.{IsNextOfLongest}
 use Rattle.rc_determinize.specs.LongestLaws.{IsMarkedList}
 
--- The state to which this byte leads, or the end, where matches of this kind are sought.
+-- The state to which this byte leads, or the end, for matches of this kind.
 abbrev pub IsNextBy : MatchKind → Setting → ℕ → State → Option ℕ → State → Type 0
 IsNextBy leftmost_first = IsNext
 IsNextBy all_matches = IsNextOfAll
 IsNextBy leftmost_longest = IsNextOfLongest
 
--- how long a list of this kind is at most, where the program has so many places
+-- How long a list of this kind is at most, for a program of so many places.
 abbrev pub longest : MatchKind → ℕ → ℕ
 longest leftmost_first places = places
 longest all_matches places = places
 longest leftmost_longest places = 2 * places
 
--- below which number the entries of a list are: those of this last kind are places and marks
+-- The bound below which all entries of a list are. For leftmost-longest, entries are places and
+-- marks.
 abbrev pub bound_of : MatchKind → ℕ → ℕ
 bound_of leftmost_first places = places
 bound_of all_matches places = places
 bound_of leftmost_longest places = places + 1
 
--- the list has places of the program, each once; of the last kind with marks between them
+-- The list has places of the program, each once; for leftmost-longest with marks between them.
 abbrev pub IsListOf : MatchKind → ℕ → List ℕ → Type 0
 IsListOf leftmost_first places list = AreOnce list × AreBelow places list
 IsListOf all_matches places list = AreOnce list × AreBelow places list
@@ -36,16 +37,17 @@ IsListOf leftmost_longest places list = IsMarkedList places list
 
 -- The law of the steps of each kind.
 pub record KindLaw : Type 0 where
-  -- one byte stands for each that is alike
+  -- A byte stands for all bytes that are alike.
   pub alike : (kind : MatchKind) (g : Setting) (root b c : ℕ) (s t : State) → AreAlike g.places g.needs g.terminator b c →
       IsNextBy kind g root s (Some b) t → IsNextBy kind g root s (Some c) t
-  -- a state has places of the program, each once, so it is no longer than the program, or than twice the program where it has marks
+  -- A state has places of the program, each once. So it is no longer than the program, or than
+  -- twice the program if it has marks.
   pub inside : (kind : MatchKind) (g : Setting) (root : ℕ) (s t : State) (after : Option ℕ) → IsClosed g.places → root < length g.places →
       IsNextBy kind g root s after t → IsListOf kind (length g.places) t.list
   pub below : (kind : MatchKind) (places : ℕ) (list : List ℕ) → IsListOf kind places list → AreBelow (bound_of kind places) list
   pub short : (kind : MatchKind) (g : Setting) (root : ℕ) (s t : State) (after : Option ℕ) → IsClosed g.places → root < length g.places →
       IsNextBy kind g root s after t → length t.list ≤ longest kind (length g.places)
-  -- what was met before plays no part
+  -- The match found before plays no part.
   pub forgets : (kind : MatchKind) (g : Setting) (root : ℕ) (s t : State) (after stop : Option ℕ) →
       IsNextBy kind g root s after t → IsNextBy kind g root (record s { stop = stop }) after t
   pub tells : (kind : MatchKind) (g : Setting) (root : ℕ) (s t : State) (after : Option ℕ) →

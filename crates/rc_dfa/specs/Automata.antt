@@ -26,7 +26,7 @@ classes_of a = a.classes.items
 abbrev pub samples_of : Automaton → List ℕ
 samples_of a = a.samples.items
 
--- It is that of these places.
+-- It is made of these places.
 pub record IsMadeOf (places : List Place) (entries : List ℕ) (terminator : ℕ) (kind : MatchKind) (byte_classes : Bool) (a : Automaton) : Type 0 where
   -- The facts for which the program's assertions ask.
   pub needs : Needs

@@ -77,11 +77,11 @@ pub record RunLaw : Type 0 where
   pub longest : (m : Machine) (t : Text) (hi from : ℕ) (anchored : Anchored) (r : Option Pair) → IsMachine m → m.direction ≡ forwards leftmost_longest →
       m.setting.terminator ≡ t.terminator → IsInside t from hi → SearchEnds m t hi from anchored false (met_last r) →
       GivesLongest (ways m.setting.places t hi) (Stops m.setting.places) (starts_of m anchored from hi) r
-  -- forwards, whether or not the first match that is met is enough: what is met is the end of a walk
+  -- Forwards, whether or not the first match is enough: what is found is the end of a walk.
   pub met : (kind : MatchKind) (m : Machine) (t : Text) (hi from : ℕ) (anchored : Anchored) (earliest : Bool) (n : Pair) → IsMachine m →
       m.direction ≡ forwards kind → m.setting.terminator ≡ t.terminator → IsInside t from hi → SearchEnds m t hi from anchored earliest (met_last (Some n)) →
       Comes (ways m.setting.places t hi) (starts_of m anchored from hi) n × Stops m.setting.places n
-  -- and where nothing is met, no walk ends
+  -- If nothing is found, no walk ends.
   pub none : (kind : MatchKind) (m : Machine) (t : Text) (hi from : ℕ) (anchored : Anchored) (earliest : Bool) → IsMachine m →
       m.direction ≡ forwards kind → m.setting.terminator ≡ t.terminator → IsInside t from hi → SearchEnds m t hi from anchored earliest (met_last None) →
       (n : Pair) → Comes (ways m.setting.places t hi) (starts_of m anchored from hi) n → ¬ Stops m.setting.places n

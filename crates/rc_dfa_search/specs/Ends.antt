@@ -43,20 +43,22 @@ HasMet m t hi from anchored earliest met = HasEnded m t hi from anchored earlies
 abbrev pub HasMetDown : Machine → Text → ℕ → ℕ → Anchored → Bool → Option Met → Type 0
 HasMetDown m t lo end anchored earliest met = HasEndedDown m t lo end anchored earliest (Found met)
 
--- a match of the kind may end here, where matches off a boundary are passed over
+-- A match of the kind may end here, if matches off a boundary are passed over.
 abbrev pub may_end : MatchKind → Bool → List ℕ → ℕ → Bool
 may_end all_matches passes_over content at = true
 may_end leftmost_first passes_over content at = not passes_over || is_boundary content at
 may_end leftmost_longest passes_over content at = not passes_over || is_boundary content at
 
--- The search stands here: what begins before was passed over; and where nothing is passed over, it stands where it begins.
+-- The search begins here: all earlier starts were passed over. If nothing is passed over, this is
+-- its first start.
 pub record Stands (hs : List Re) (kind : MatchKind) (early : Bool) (m n : Machine) (anchored : Anchored) (s : Search) (from : ℕ) : Type 0 where
   pub case : IsCase hs kind m n anchored s
   pub bounded : (s.lo ≤ from) × (from ≤ s.hi)
   pub raised : IsRaisedBy kind (by_bytes s) from
   pub alone : (kind ≡ all_matches) ⊎ (early ≡ true) → from ≡ s.lo
 
--- Forwards from where the search stands this end was met, where a match of the search may end.
+-- Forwards from where the search begins, this end was found, and a match of the search may end
+-- there.
 pub record IsEnd (hs : List Re) (kind : MatchKind) (early : Bool) (m n : Machine) (anchored : Anchored) (s : Search) (end : End) : Type 0 where
   pub stands : Stands hs kind early m n anchored s end.from
   pub place : ℕ
@@ -64,19 +66,19 @@ pub record IsEnd (hs : List Re) (kind : MatchKind) (early : Bool) (m n : Machine
   pub ends : SearchEnds m s.text s.hi end.from anchored early (met_last (Some (place, end.at)))
   pub allowed : may_end kind s.passes_over s.text.content end.at ≡ true
 
--- a match begins where the run forwards did that met its end
+-- A match begins where the forward run did that found its end.
 abbrev pub begins_there : MatchKind → Bool → Bool → Bool
 begins_there all_matches early anchored = early && anchored
 begins_there leftmost_first early anchored = anchored
 begins_there leftmost_longest early anchored = anchored
 
--- the pattern that was met with the end is the match's
+-- The pattern that was found with the end is the match's.
 abbrev pub keeps_pattern : MatchKind → Bool → Bool
 keeps_pattern all_matches early = false
 keeps_pattern leftmost_first early = not early
 keeps_pattern leftmost_longest early = not early
 
--- the start and the pattern of the match with this end, by what a run backwards met
+-- The start and the pattern of the match with this end, by what a reverse run found.
 abbrev pub start_by : MatchKind → Bool → End → Met → Met
 start_by kind early end met = record {
   pattern = (if keeps_pattern kind early then end.pattern else met.pattern);

@@ -34,22 +34,22 @@ met_from m q x e = record { pattern = pattern_met m q; start = x; end = e }
 -- begins, after all starts that were passed over.
 pub record LeftmostLaw : Type 0 where
   pub begins : (hs : List Re) (kind : MatchKind) (m n : Machine) (anchored : Anchored) (s : Search) → IsCase hs kind m n anchored s → IsRaisedBy kind (by_bytes s) s.lo
-  -- the end that is met is the answer's, and so is the pattern
+  -- The end that is found is the answer's, and so is the pattern.
   pub ends : (hs : List Re) (kind : MatchKind) (m n : Machine) (anchored : Anchored) (s : Search) (from q e : ℕ) → IsLeftmost kind → IsCase hs kind m n anchored s → IsRaisedBy kind (by_bytes s) from →
       SearchEnds m s.text s.hi from anchored false (met_last (Some (q, e))) → may_end_at s e ≡ true →
       (x : ℕ) × (from ≤ x) × (x ≤ e) × (e ≤ s.hi) × (answer_by kind s ≡ Some (met_from m q x e))
-  -- anchored, the start is known
+  -- If the search is anchored, the start is known.
   pub at_start : (hs : List Re) (kind : MatchKind) (m n : Machine) (anchored : Anchored) (s : Search) (from q e : ℕ) → IsLeftmost kind → IsCase hs kind m n anchored s → IsRaisedBy kind (by_bytes s) from →
       SearchEnds m s.text s.hi from anchored false (met_last (Some (q, e))) → may_end_at s e ≡ true → anchors anchored ≡ true →
       (s.lo ≤ e) × (e ≤ s.hi) × (answer_by kind s ≡ Some (met_from m q s.lo e))
-  -- else it is the least from which an entry leads to that end
+  -- Else it is the least from which an entry leads to that end.
   pub starts : (hs : List Re) (kind : MatchKind) (m n : Machine) (s : Search) (from q e x k : ℕ) → IsLeftmost kind → IsCase hs kind m n No s → IsRaisedBy kind (by_bytes s) from →
       SearchEnds m s.text s.hi from No false (met_last (Some (q, e))) → may_end_at s e ≡ true →
       SearchEndsDown n s.text from e No false (met_last (Some (x, k))) →
       (from ≤ x) × (x ≤ e) × (e ≤ s.hi) × (answer_by kind s ≡ Some (met_from m q x e))
   pub some_start : (hs : List Re) (kind : MatchKind) (m n : Machine) (s : Search) (from q e : ℕ) → IsLeftmost kind → IsCase hs kind m n No s → IsRaisedBy kind (by_bytes s) from →
       SearchEnds m s.text s.hi from No false (met_last (Some (q, e))) → may_end_at s e ≡ true → ¬ SearchEndsDown n s.text from e No false (met_last None)
-  -- an end that is passed over
+  -- An end that is passed over.
   pub raises : (hs : List Re) (kind : MatchKind) (m n : Machine) (anchored : Anchored) (s : Search) (from q e : ℕ) → IsLeftmost kind → IsCase hs kind m n anchored s → IsRaisedBy kind (by_bytes s) from →
       SearchEnds m s.text s.hi from anchored false (met_last (Some (q, e))) → may_end_at s e ≡ false →
       (from < s.hi → anchors anchored ≡ false → IsRaisedBy kind (by_bytes s) (from + 1)) × ((s.hi ≤ from) ⊎ (anchors anchored ≡ true) → answer_by kind s ≡ None)
@@ -67,17 +67,17 @@ pub record LastLaw : Type 0 where
 
 -- For every kind, and whether or not the first match is enough.
 pub record MetLaw : Type 0 where
-  -- what is met is the end of a walk of that pattern
+  -- The end that is found is that of a walk of that pattern.
   pub ends : (hs : List Re) (kind : MatchKind) (m n : Machine) (anchored : Anchored) (s : Search) (earliest : Bool) (q e : ℕ) → IsCase hs kind m n anchored s →
       SearchEnds m s.text s.hi s.lo anchored earliest (met_last (Some (q, e))) →
       (x : ℕ) × IsSpelledIn s (met_from m q x e) × (anchors anchored ≡ true → x ≡ s.lo)
-  -- from where an entry is met a walk of its pattern leads there
+  -- From where an entry is reached, a walk of its pattern leads there.
   pub starts : (hs : List Re) (kind : MatchKind) (m n : Machine) (anchored : Anchored) (s : Search) (earliest early : Bool) (q e x k : ℕ) → IsCase hs kind m n anchored s →
       anchors anchored ≡ false → SearchEnds m s.text s.hi s.lo anchored earliest (met_last (Some (q, e))) →
       SearchEndsDown n s.text s.lo e anchored early (met_last (Some (x, k))) → IsSpelledIn s (record { pattern = k; start = x; end = e })
   pub some_start : (hs : List Re) (kind : MatchKind) (m n : Machine) (anchored : Anchored) (s : Search) (earliest early : Bool) (q e : ℕ) → IsCase hs kind m n anchored s →
       SearchEnds m s.text s.hi s.lo anchored earliest (met_last (Some (q, e))) → ¬ SearchEndsDown n s.text s.lo e anchored early (met_last None)
-  -- where nothing is met, nothing is spelled
+  -- If nothing is found, nothing is spelled.
   pub none : (hs : List Re) (kind : MatchKind) (m n : Machine) (anchored : Anchored) (s : Search) (earliest : Bool) → IsCase hs kind m n anchored s →
       SearchEnds m s.text s.hi s.lo anchored earliest (met_last None) → HasNoSpan s × (answer s ≡ None) × (greatest s ≡ None)
 
@@ -98,7 +98,8 @@ pub record ReverseEndLaw : Type 0 where
 
 -- Where bytes may not be read.
 pub record UnreadLaw : Type 0 where
-  -- an assertion of the patterns speaks of Unicode's words, and so does one of the program, if some byte may be left unread
+  -- If some byte may not be read, an assertion of the patterns depends on Unicode's words, and so
+  -- does one of the program.
   pub unicode : (hs : List Re) (kind : MatchKind) (m n : Machine) (anchored : Anchored) (s : Search) → IsCase hs kind m n anchored s →
       m.setting.needs.unicode ≡ true → SpeaksOfUnicode hs
   pub placed : (hs : List Re) (kind : MatchKind) (m n : Machine) (anchored : Anchored) (s : Search) → IsCase hs kind m n anchored s →

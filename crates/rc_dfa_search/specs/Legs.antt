@@ -47,7 +47,7 @@ abbrev pub ComesOn : ℕ → ℕ → Leg → Type 0
 ComesOn from hi (Ended met) = Unit {0}
 ComesOn from hi (Rested i) = (from ≤ i) × (i ≤ hi)
 
--- what was met is what all starts of the search give
+-- The find is what all starts of the search give.
 abbrev pub IsGiven : MatchKind → Machine → Search → Option Met → Type 0
 IsGiven kind m s None = StartsGive kind m s s.lo None
 IsGiven kind m s (Some met) = (q : ℕ) × (pattern_met m q ≡ met.pattern) × StartsGive kind m s s.lo (Some (q, met.at))

@@ -28,14 +28,16 @@ machine_by hs needs terminator direction = record {
   direction = direction;
 }
 
--- The machines of some patterns: their byte program forwards, for matches of the kind, and backwards.
+-- The machines of some patterns: their byte program forwards, for matches of the kind, and
+-- backwards.
 pub record AreMachines (hs : List Re) (terminator : ℕ) (kind : MatchKind) (m n : Machine) : Type 0 where
   pub needs : Needs
   pub are_needs : AreNeeds needs (bytes_of (program hs))
   pub ahead : m ≡ machine_by hs needs terminator (forwards kind)
   pub back : n ≡ machine_by hs needs terminator backwards
 
--- The search s, anchored so, is one for these patterns that the machines may run: it has a position, and the pattern asked for, if any, is one of them.
+-- The search s, anchored so, is one for these patterns that the machines may run: it has a
+-- position, and the pattern asked for, if any, is one of them.
 pub record IsCase (hs : List Re) (kind : MatchKind) (m n : Machine) (anchored : Anchored) (s : Search) : Type 0 where
   pub machines : AreMachines hs s.text.terminator kind m n
   pub places : s.places ≡ program hs

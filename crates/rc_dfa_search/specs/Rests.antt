@@ -17,7 +17,7 @@ use Rattle.rc_dfa_search.specs.Leftmost.{IsLeftmost, GivesBy, IsRaisedBy}
 use Rattle.rc_dfa_search.specs.Machines.{IsCase}
 use Rattle.rc_dfa_search.specs.Laws.{met_from}
 
--- what the starts from this position on give: where the walk over the bytes ends that counts
+-- The starts from this position on give this: where the walk over the bytes ends that counts.
 abbrev pub StartsGive : MatchKind → Machine → Search → ℕ → Option Pair → Type 0
 StartsGive kind m s from r = GivesBy kind (ways m.setting.places s.text s.hi) (Stops m.setting.places) (starts_of m No from s.hi) r
 
@@ -25,18 +25,18 @@ StartsGive kind m s from r = GivesBy kind (ways m.setting.places s.text s.hi) (S
 abbrev pub HasNoWalkBetween : Search → ℕ → ℕ → Type 0
 HasNoWalkBetween s x y = (z : ℕ) → x ≤ z → z < y → HasNoWalkFrom s z
 
--- what the starts from i on give, those from `from` on give
+-- The starts from `from` on give all that those from i on give.
 abbrev pub GivesToo : MatchKind → Machine → Search → ℕ → ℕ → Type 0
 GivesToo kind m s i from = (r : Option Pair) → StartsGive kind m s i r → StartsGive kind m s from r
 
 pub record RestLaw : Type 0 where
-  -- what a run met
+  -- The find of a run.
   pub met : (hs : List Re) (kind : MatchKind) (m n : Machine) (s : Search) (from : ℕ) (r : Option Pair) → IsLeftmost kind → IsCase hs kind m n No s → s.lo ≤ from →
       SearchEnds m s.text s.hi from No false (met_last r) → StartsGive kind m s from r
-  -- where it rests, no walk that began before ends
+  -- If it rests, no walk that began earlier ends.
   pub rests : (hs : List Re) (kind : MatchKind) (m n : Machine) (s : Search) (from i : ℕ) (earliest : Bool) → IsLeftmost kind → IsCase hs kind m n No s → s.lo ≤ from →
       SearchEnds m s.text s.hi from No earliest (idle_at i) → (from ≤ i) × (i ≤ s.hi) × GivesToo kind m s i from
-  -- starts without a walk are left out
+  -- Starts without a walk may be skipped.
   pub jumps : (hs : List Re) (kind : MatchKind) (m n : Machine) (s : Search) (i x : ℕ) → IsLeftmost kind → IsCase hs kind m n No s → i ≤ x → x ≤ s.hi →
       HasNoWalkBetween s i x → GivesToo kind m s x i
   pub nowhere : (hs : List Re) (kind : MatchKind) (m n : Machine) (s : Search) (i : ℕ) → IsLeftmost kind → IsCase hs kind m n No s → i ≤ s.hi →

@@ -1,4 +1,4 @@
--- A table of states in one direction.
+-- Lazy determinization: the states of one direction.
 use Rattle.std.specs.Prelude.{◌≡◌, ℕ, ◌*◌, ◌<◌, [], length}
 use Rattle.rc_lazy_dfa.specs.Stores.{Frame, Held}
 use Rattle.rc_lazy_dfa.specs.declared.store.Store.{Store}

@@ -184,8 +184,8 @@ fn head_candidate(table: &Table, piece: &[u8]) -> usize
     piece.len()
 }
 
-/// Returns the first index at which a bucket takes three bytes. Near the piece's end, where Teddy
-/// would read too far, it is the index of the first byte with which a needle begins.
+/// Returns the first index at which a bucket takes three bytes. In a piece that is too short for
+/// Teddy, and in the last two bytes, it is the index of the first byte with which a needle begins.
 fn teddy_candidate(teddy: &Teddy, table: &Table, piece: &[u8]) -> usize
     requires { AreSifted teddy.now (needles_in table.now.needles.items) }
     ensures within { result ≤ length piece.now }

@@ -11,7 +11,7 @@ use crate::trie::Trie;
 pub struct Seen {
     /// How many indices were skipped.
     pub passed: usize,
-    /// The number of the first needle that occurs behind them. If that isn't known, it is how many
+    /// The number of the first needle that occurs after them. If that isn't known, it is how many
     /// needles there are.
     pub number: usize,
 }

@@ -22,8 +22,7 @@ const HALF: usize = 16;
 /// How many indices are looked up at a time.
 const LANES: usize = 2 * HALF;
 
-/// The shortest piece that Teddy searches: the bytes of a vector, and two that are read behind
-/// them.
+/// The shortest piece that Teddy searches: the bytes of a vector, and two that are read after them.
 pub const LEAST_PIECE: usize = HALF + 2;
 
 /// The shortest piece in which each byte is looked up only once.
@@ -45,8 +44,8 @@ pub struct Sift {
 
 /// Which buckets take a byte as the first, the second and the third of a needle.
 ///
-/// Each needle is in a bucket, which takes any byte behind the needle's end. If all needles have
-/// one byte, `is_set` is true, and the second and third bytes aren't looked up.
+/// Each needle is in a bucket, which takes any byte after the needle's end. If all needles have one
+/// byte, `is_set` is true, and the second and third bytes aren't looked up.
 #[derive(Clone, Copy)]
 pub struct Teddy {
     pub is_set: bool,
@@ -79,7 +78,7 @@ impl Sift {
     }
 
     /// Lets the buckets of these bits take the needle's byte at an index too, or any byte if that
-    /// is behind its end.
+    /// is after its end.
     fn add_at(&mut self, needle: &[u8], at: usize, bits: u8) {
         match needle.get(at) {
             Some(byte) => self.add(*byte, bits),
@@ -109,7 +108,7 @@ impl Sift {
         bits
     }
 
-    /// Returns the buckets that take the needle's byte at an index, or every byte if that is behind
+    /// Returns the buckets that take the needle's byte at an index, or every byte if that is after
     /// its end.
     fn taken_at(&self, needle: &[u8], at: usize) -> u8
         ensures { (k : ℕ) → bit_at result k ≡ 1 → (byte : ℕ) → byte < 256

@@ -1,4 +1,5 @@
-//! Where a thread enters.
+//! Epsilon shortcuts: if the next byte shuts all branches of a choice but one, a thread enters at
+//! that branch instead.
 ghost use Rattle.std.specs.Prelude.{◌≡◌, ◌<◌, IsTrue};
 ghost use Rattle.rc_text.specs.Text.{Searched};
 ghost use Rattle.rc_pikevm.specs.Entrances.{IsOnWay, IsShut, IsWayIn};

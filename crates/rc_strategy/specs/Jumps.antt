@@ -40,7 +40,7 @@ leg_of (endings.Idle i) from hi = Ok (idle_leg i from hi)
 leg_of (endings.Quit b p) from hi = Err (errors.Quit b p)
 leg_of (endings.GaveUp p memory) from hi = Err (errors.GaveUp p memory)
 
--- what that means for the starts from there on
+-- The meaning of a result for the starts from there on.
 abbrev pub Tells : MatchKind → Machine → Search → ℕ → Leg → Type 0
 Tells kind m s from Nowhere = StartsGive kind m s from None
 Tells kind m s from Here = Unit {0}

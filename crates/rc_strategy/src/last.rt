@@ -1,4 +1,4 @@
-//! The greatest match, sought from where the search ends.
+//! Reverse search: the match of `MatchKind::All`, found backwards from where the search ends.
 ghost use Rattle.std.specs.Prelude.{◌≡◌, IfOk, IfSome};
 ghost use Rattle.rc_text.specs.Bounds.{IsWithinBounds};
 ghost use Rattle.rc_text.specs.Text.{Keeps};
