@@ -14,7 +14,7 @@ ahead_at t i = byte_of (after_at t i)
 abbrev pub behind_at : Text → ℕ → Option ℕ
 behind_at t i = byte_of (before_at t i)
 
--- what stands beside a position is a byte, if anything does
+-- The byte beside a position, if there is one, is less than 256.
 abbrev pub IsByte : Option ℕ → Type 0
 IsByte None = Unit {0}
 IsByte (Some b) = b < 256

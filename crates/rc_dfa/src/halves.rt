@@ -13,7 +13,7 @@ use rc_text::types::Anchored;
 /// The two halves of a DFA search: forwards from a start to an end, and backwards from an end to a
 /// start. The DFA has all states, the lazy DFA those that were reached so far.
 pub trait Halves {
-    /// What a search changes: its cache.
+    /// The cache: all that a search changes.
     type Cache;
 
     // They search by the first machine forwards, and by the second backwards.

@@ -1,5 +1,5 @@
 -- Only proofs use this file.
--- What a pass sees of a search: all but the starts and what is passed over.
+-- Search parameters: all that a pass sees of a search, without its starts and what is passed over.
 use Rattle.std.specs.Prelude.{ℕ, Bool, List, [], ◌∷◌, IsTrue}
 use Rattle.rc_walks.specs.Walks.{Pair, IsFirstWalk, HasNoWalk}
 use Rattle.rc_program.specs.Text.{Text}

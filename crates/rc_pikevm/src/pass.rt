@@ -48,7 +48,7 @@ pub(crate) const PATIENCE: u32 = 4;
 pub struct Ending {
     /// The number of its pattern.
     pub pattern: usize,
-    /// If it began, in bytes.
+    /// Where it began, in bytes.
     pub start: usize,
     /// Where it ended, in bytes.
     pub end: usize,

@@ -13,7 +13,7 @@ pub struct Head {
     pub place: usize,
     /// The position at which it enters that place, in bytes.
     pub at: usize,
-    /// If its walk began, in bytes.
+    /// Where its walk began, in bytes.
     pub start: usize,
 }
 
