@@ -1,0 +1,165 @@
+/* Calls an export of the library at its statuses, and frees what was compiled. Each export is a run of its own, so that valgrind tells by
+ * name which one leaks. No contract says that memory is given back.
+ *
+ * usage: leaks              prints the names of the exports
+ *        leaks NAME         calls that one
+ *        leaks forgotten    frees nothing: valgrind has to see it */
+#include "../../include/zorfelith.h"
+#include <stdio.h>
+#include <stdlib.h>
+#include <string.h>
+
+static const struct zf_bytes text[2] = {{(const uint8_t *)"xxa", 3}, {(const uint8_t *)"bc abc", 6}};
+static const struct zf_bytes short_text[1] = {{(const uint8_t *)"x", 1}};
+
+static void wanted(const char *what, uint32_t status, uint32_t wants) {
+    if (status != wants) {
+        fprintf(stderr, "%s: status %u, not %u\n", what, status, wants);
+        exit(1);
+    }
+}
+
+static uint32_t compile(struct zf_handle *handle, const char *pattern, uint8_t kind) {
+    const struct zf_bytes patterns[1] = {{(const uint8_t *)pattern, strlen(pattern)}};
+    const struct zf_settings settings = {.kind = kind};
+    struct zf_refused refused;
+    return zf_compile(handle, patterns, 1, &settings, &refused);
+}
+
+static const char compiled[] = "a(?P<abc>b)c";
+
+static void call_compile(struct zf_handle *handle) {
+    wanted("again", compile(handle, compiled, ZF_ALL), ZF_DONE);
+    wanted("no kind", compile(handle, compiled, 9), ZF_NO_KIND);
+    wanted("from empty", compile(handle, compiled, ZF_LEFTMOST_FIRST), ZF_DONE);
+    wanted("not UTF-8", compile(handle, "a\xff", ZF_LEFTMOST_FIRST), ZF_NOT_UTF8);
+    wanted("from empty", compile(handle, compiled, ZF_LEFTMOST_FIRST), ZF_DONE);
+    wanted("not in the grammar", compile(handle, "ab(c", ZF_LEFTMOST_FIRST), ZF_SYNTAX);
+    wanted("from empty", compile(handle, compiled, ZF_LEFTMOST_FIRST), ZF_DONE);
+    wanted("too large", compile(handle, "(a{1000}){1000}", ZF_LEFTMOST_FIRST), ZF_TOO_LARGE);
+    wanted("from empty", compile(handle, compiled, ZF_LEFTMOST_FIRST), ZF_DONE);
+}
+
+static void call_free(struct zf_handle *handle) {
+    zf_free(handle);
+    zf_free(handle);
+    wanted("from empty", compile(handle, compiled, ZF_LEFTMOST_FIRST), ZF_DONE);
+}
+
+static void call_is_match(struct zf_handle *handle) {
+    wanted("a match", zf_is_match(handle, text, 2, 0, ZF_NONE), ZF_FOUND);
+    wanted("no match", zf_is_match(handle, text, 2, 0, 4), ZF_DONE);
+    wanted("behind the end", zf_is_match(handle, text, 2, 3, 2), ZF_OUTSIDE);
+    wanted("behind the text", zf_is_match(handle, text, 2, 10, ZF_NONE), ZF_OUTSIDE);
+}
+
+static void call_find(struct zf_handle *handle) {
+    struct zf_match found;
+    wanted("a match", zf_find(handle, text, 2, 0, ZF_NONE, &found), ZF_FOUND);
+    wanted("no match", zf_find(handle, text, 2, 0, 4, &found), ZF_DONE);
+    wanted("behind the end", zf_find(handle, text, 2, 3, 2, &found), ZF_OUTSIDE);
+    wanted("behind the text", zf_find(handle, text, 2, 10, ZF_NONE, &found), ZF_OUTSIDE);
+}
+
+static void call_find_groups(struct zf_handle *handle) {
+    struct zf_match found;
+    struct zf_group groups[3];
+    wanted("a match", zf_find_groups(handle, text, 2, 0, ZF_NONE, &found, groups, 3), ZF_FOUND);
+    wanted("no match", zf_find_groups(handle, text, 2, 0, 4, &found, groups, 3), ZF_DONE);
+    wanted("behind the end", zf_find_groups(handle, text, 2, 3, 2, &found, groups, 3), ZF_OUTSIDE);
+    wanted("behind the text", zf_find_groups(handle, text, 2, 10, ZF_NONE, &found, groups, 3), ZF_OUTSIDE);
+}
+
+static void call_which_patterns(struct zf_handle *handle) {
+    uint8_t marks[3];
+    wanted("marks", zf_which_patterns(handle, text, 2, 0, ZF_NONE, marks, 3), ZF_DONE);
+    wanted("behind the end", zf_which_patterns(handle, text, 2, 3, 2, marks, 3), ZF_OUTSIDE);
+    wanted("behind the text", zf_which_patterns(handle, text, 2, 10, ZF_NONE, marks, 3), ZF_OUTSIDE);
+}
+
+static void call_restart(struct zf_handle *handle) {
+    wanted("begun", zf_restart(handle, 3, 0), ZF_DONE);
+    wanted("begun behind a match", zf_restart(handle, 3, 1), ZF_DONE);
+}
+
+static void call_next(struct zf_handle *handle) {
+    struct zf_match batch[1];
+    struct zf_progress progress;
+    wanted("a batch", zf_next(handle, text, 2, ZF_NONE, batch, 1, &progress), ZF_DONE);
+    wanted("a text too short", zf_next(handle, short_text, 1, ZF_NONE, batch, 1, &progress), ZF_OUTSIDE);
+    wanted("a batch", zf_next(handle, text, 2, ZF_NONE, batch, 1, &progress), ZF_DONE);
+    wanted("the last batch", zf_next(handle, text, 2, ZF_NONE, batch, 1, &progress), ZF_DONE);
+}
+
+static void call_pattern_count(struct zf_handle *handle) {
+    size_t count;
+    wanted("a count", zf_pattern_count(handle, &count), ZF_DONE);
+}
+
+static void call_group_count(struct zf_handle *handle) {
+    size_t count;
+    wanted("a count", zf_group_count(handle, 0, &count), ZF_DONE);
+    wanted("no such number", zf_group_count(handle, SIZE_MAX, &count), ZF_ABSENT);
+}
+
+static void call_group_name(struct zf_handle *handle) {
+    uint8_t name[4];
+    size_t len;
+    wanted("a name", zf_group_name(handle, 0, 1, name, 4, &len), ZF_DONE);
+    wanted("too short a place", zf_group_name(handle, 0, 1, name, 2, &len), ZF_SHORT);
+    wanted("no name", zf_group_name(handle, 0, 0, name, 4, &len), ZF_ABSENT);
+}
+
+static void call_group_number(struct zf_handle *handle) {
+    size_t number;
+    wanted("a number", zf_group_number(handle, 0, (const uint8_t *)"abc", 3, &number), ZF_DONE);
+    wanted("no such name", zf_group_number(handle, 0, (const uint8_t *)"x", 1, &number), ZF_ABSENT);
+    wanted("no such pattern", zf_group_number(handle, SIZE_MAX, (const uint8_t *)"x", 1, &number), ZF_ABSENT);
+    wanted("not UTF-8", zf_group_number(handle, 0, (const uint8_t *)"\xff", 1, &number), ZF_NOT_UTF8);
+}
+
+static void call_memory(struct zf_handle *handle) {
+    size_t bytes;
+    wanted("bytes", zf_memory(handle, &bytes), ZF_DONE);
+}
+
+static const struct {
+    const char *name;
+    void (*call)(struct zf_handle *);
+} calls[] = {
+    {"zf_compile", call_compile},
+    {"zf_free", call_free},
+    {"zf_is_match", call_is_match},
+    {"zf_find", call_find},
+    {"zf_find_groups", call_find_groups},
+    {"zf_which_patterns", call_which_patterns},
+    {"zf_restart", call_restart},
+    {"zf_next", call_next},
+    {"zf_pattern_count", call_pattern_count},
+    {"zf_group_count", call_group_count},
+    {"zf_group_name", call_group_name},
+    {"zf_group_number", call_group_number},
+    {"zf_memory", call_memory},
+};
+
+int main(int argc, char **argv) {
+    const char *name = argc > 1 ? argv[1] : NULL;
+    for (size_t i = 0; i < sizeof calls / sizeof *calls; i++) {
+        if (name == NULL) {
+            puts(calls[i].name);
+        } else if (strcmp(name, calls[i].name) == 0) {
+            struct zf_handle handle = {0};
+            wanted("compiled", compile(&handle, compiled, ZF_LEFTMOST_FIRST), ZF_DONE);
+            calls[i].call(&handle);
+            wanted("the handle is full", handle.full, 1);
+            zf_free(&handle);
+            wanted("the handle is empty", handle.full, 0);
+            return 0;
+        }
+    }
+    if (name != NULL && strcmp(name, "forgotten") == 0) {
+        struct zf_handle handle = {0};
+        return compile(&handle, compiled, ZF_LEFTMOST_FIRST) != ZF_DONE;
+    }
+    return name != NULL;
+}
