@@ -1,6 +1,6 @@
 //! Why a row is told of.
 
-use std::alloc::{AllocError, AllocFailed};
+use std::alloc::AllocError;
 
 /// Why a row is told of: a part of it that isn't read, want of memory, or an answer that isn't the one wanted.
 #[derive(Clone, Copy, Debug)]
@@ -91,19 +91,55 @@ pub enum Part {
     Clear,
 }
 
-impl From<AllocError> for Fault {
-    fn from(_: AllocError) -> Fault {
-        Fault::Memory
-    }
+/// The first fault that was noted.
+#[derive(Clone, Copy)]
+pub struct Verdict {
+    fault: Option<Fault>,
 }
 
-impl<T: Drop> From<AllocFailed<T>> for Fault {
-    fn from(_: AllocFailed<T>) -> Fault {
-        Fault::Memory
+impl Verdict {
+    /// No fault.
+    pub fn new() -> Verdict {
+        Verdict { fault: None }
     }
-}
 
-/// This fault, where an answer isn't the same.
-pub fn same(is_same: bool, fault: Fault) -> Result<(), Fault> {
-    if is_same { Ok(()) } else { Err(fault) }
+    /// Notes a fault, unless one was noted before.
+    pub fn note(&mut self, fault: Fault) {
+        if self.fault.is_none() {
+            self.fault = Some(fault);
+        }
+    }
+
+    /// Notes this fault, where an answer isn't the same.
+    pub fn expect(&mut self, is_same: bool, fault: Fault) {
+        if !is_same {
+            self.note(fault);
+        }
+    }
+
+    /// What was made. Else this in its place, and that memory was refused is noted.
+    pub fn made<T: Drop>(&mut self, made: Result<T, AllocError>, otherwise: T) -> T {
+        match made {
+            Ok(made) => made,
+            Err(_) => {
+                self.note(Fault::Memory);
+                otherwise
+            }
+        }
+    }
+
+    /// Adds an item to a list, or notes that memory was refused.
+    pub fn push<T: Drop>(&mut self, list: &mut Vec<T>, item: T) {
+        if list.push(item).is_err() {
+            self.note(Fault::Memory);
+        }
+    }
+
+    /// The fault, where one was noted.
+    pub fn result(self) -> Result<(), Fault> {
+        match self.fault {
+            None => Ok(()),
+            Some(fault) => Err(fault),
+        }
+    }
 }

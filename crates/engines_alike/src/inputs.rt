@@ -1,7 +1,6 @@
 //! Inputs of rows.
 
-use crate::faults::Fault;
-use crate::row::{Pair, Row, span_of};
+use crate::row::{Pair, Row};
 use rc_text::cursor::Cursor;
 use rc_text::input::Input;
 use rc_text::types::{Anchored, Match, Span};
@@ -28,17 +27,21 @@ impl Request {
 }
 
 /// The input that a row asks for over a cursor, which may begin in the middle.
-pub fn input<C: Cursor + Drop>(row: &Row, cursor: C) -> Result<Input<C>, Fault> {
+pub fn input<C: Cursor + Drop>(row: &Row, cursor: C) -> Input<C> {
     let mut input = Input::new(cursor);
     input.set_start(0);
-    if let Some(slice) = row.slice {
-        input.slice_span(span_of(slice)?);
+    if let Some((start, end)) = row.slice {
+        if start.saturating_sub(1) <= end {
+            input.slice_span(Span { start, end });
+        }
     }
-    if let Some(span) = row.span {
-        input.set_span(span_of(span)?);
+    if let Some((start, end)) = row.span {
+        if start.saturating_sub(1) <= end {
+            input.set_range(start, end);
+        }
     }
     input.set_anchored(row.anchored);
-    Ok(input)
+    input
 }
 
 /// Sets where the span begins, at most one above its end.
@@ -56,15 +59,9 @@ pub fn end_at<C: Cursor>(input: &mut Input<C>, end: usize) {
 }
 
 /// The span of a match.
-pub fn pair_of(found: Option<Match>) -> Option<Pair> {
-    let found = found?;
-    Some((found.start(), found.end()))
-}
-
-/// The span of a match is empty and stands where the last one ended.
-pub fn is_again(last: Option<usize>, found: Option<Pair>) -> bool {
-    match (last, found) {
-        (Some(end), Some(span)) => span == (end, end),
-        _ => false,
+pub fn pair_of(found: &Option<Match>) -> Option<Pair> {
+    match found {
+        Some(found) => Some((found.start(), found.end())),
+        None => None,
     }
 }

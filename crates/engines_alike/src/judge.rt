@@ -1,69 +1,169 @@
 //! Rows that every engine answers.
 ghost use Rattle.std.specs.Prelude.{◌≤◌, length};
 
-use crate::cursors::Cutting;
-use crate::cut::{Cut, chunks_of};
+use crate::calls::{Call, List, spans_by, told_by};
+use crate::cursors::{CUTTINGS, Recut, chunks_of};
 use crate::engines::{Engines, MOST_PATTERNS};
-use crate::faults::{Fault, same};
-use crate::row::{Row, Want, is_refused};
-use crate::{alike, parses, searches};
+use crate::faults::{Fault, Verdict};
+use crate::inputs::input;
+use crate::row::{Quits, Row, Want, is_refused};
+use crate::slots::Asker;
+use crate::{parses, searches};
 use rc_settings::error::BuildError;
+use rc_text::chunks::ChunkCursor;
+use rc_text::cursor::Cursor;
 use std::alloc::Global;
 
-/// Every way in which a text is cut.
-pub const CUTTINGS: [Cutting; 6] = [
-    Cutting::Whole,
-    Cutting::Bytes,
-    Cutting::Ring,
-    Cutting::Untold,
-    Cutting::Listed,
-    Cutting::Middle,
-];
+/// Where engines are to answer alike, a DFA's tables for a direction are left out where they are larger than this, in bytes.
+const TABLES_LIMIT: usize = 65536;
+
+/// The walker goes there through programs of at most so many places.
+const WALKER_PLACES: usize = 30;
+
+/// The walker goes there through texts of at most so many bytes.
+const WALKER_BYTES: usize = 8;
 
 /// The row is answered as it wants to be. Where it wants that engines answer alike, what is wanted is set to what they find.
 pub fn judge(alloc: Global, row: &mut Row) -> Result<(), Fault> {
     if row.patterns.len() > MOST_PATTERNS {
         return Err(Fault::UnreadPattern);
     }
+    let mut asker = Asker {
+        alloc,
+        verdict: Verdict::new(),
+    };
     if matches!(row.want, Want::Alike) {
-        return alike::judge(alloc, row);
+        judge_alike(&mut asker, row);
+    } else {
+        judge_wanted(&mut asker, row);
     }
-    match Engines::build(alloc, &row.patterns, &row.settings) {
+    asker.verdict.result()
+}
+
+/// The engines answer the row as it wants, or its patterns are refused so.
+fn judge_wanted(asker: &mut Asker, row: &mut Row)
+    requires { length row.old.patterns.items ≤ 2147483647 }
+{
+    match Engines::build(asker.alloc, &row.patterns, &row.settings) {
         Ok(mut engines) => {
-            let answered = over_all_cuttings(alloc, &mut engines, row);
+            over_all_cuttings(asker, &mut engines, row);
             drop(engines);
-            answered
         }
-        Err(BuildError::Memory) => Err(Fault::Memory),
-        Err(error) => same(is_refused(&error, row.want), Fault::Refusal),
+        Err(BuildError::Memory) => asker.verdict.note(Fault::Memory),
+        Err(error) => {
+            let is_refused = is_refused(&error, row.want);
+            asker.verdict.expect(is_refused, Fault::Refusal);
+        }
     }
+}
+
+/// The engines answer the row alike, or its patterns are refused. Where its tables are too large it is answered without the DFA.
+fn judge_alike(asker: &mut Asker, row: &mut Row)
+    requires { length row.old.patterns.items ≤ 2147483647 }
+{
+    row.settings.dfa_limit = Some(TABLES_LIMIT);
+    if let Some(BuildError::DfaSizeLimit { .. }) = answer_alike(asker, row) {
+        row.settings.tables = false;
+        let _ = answer_alike(asker, row);
+    }
+}
+
+/// The engines answer the row alike, or this is why its patterns are refused.
+fn answer_alike(asker: &mut Asker, row: &mut Row) -> Option<BuildError>
+    requires { length row.old.patterns.items ≤ 2147483647 }
+    ensures { length row.new.patterns.items ≤ 2147483647 }
+{
+    match Engines::build(asker.alloc, &row.patterns, &row.settings) {
+        Ok(mut engines) => {
+            agree(asker, &mut engines, row);
+            drop(engines);
+            None
+        }
+        Err(error) => {
+            let is_refused = !matches!(error, BuildError::Memory);
+            asker.verdict.expect(is_refused, Fault::Memory);
+            Some(error)
+        }
+    }
+}
+
+/// The engines answer the row over every cutting as the pass does over one chunk: all matches, and the groups of the first.
+fn agree(asker: &mut Asker, engines: &mut Engines, row: &mut Row)
+    requires { length row.old.patterns.items ≤ 2147483647 }
+    ensures { length row.new.patterns.items ≤ 2147483647 }
+{
+    row.settings.walker = engines.vm.states_len() <= WALKER_PLACES
+        && row.text.len() <= WALKER_BYTES;
+    if engines.known.has_words {
+        row.quits = Quits::Anywhere;
+    }
+    want_found(asker, engines, row, List::Matches);
+    row.want = Want::All;
+    over_all_cuttings(asker, engines, row);
+    want_found(asker, engines, row, List::Groups);
+    row.want = Want::Captured;
+    over_each_cutting(asker, engines, row);
+}
+
+/// Has the row want what the pass finds in one chunk.
+fn want_found(asker: &mut Asker, engines: &Engines, row: &mut Row, list: List)
+    requires { length row.old.patterns.items ≤ 2147483647 }
+    ensures { length row.new.patterns.items ≤ 2147483647 }
+{
+    let regex = &engines.unfiltered;
+    let over = input(row, Recut::whole(&row.text));
+    let told = told_by(asker.alloc, regex, Call::Find, over, &mut asker.verdict);
+    let over = input(row, Recut::whole(&row.text));
+    let spans = spans_by(asker.alloc, regex, list, over);
+    asker.verdict.expect(spans.is_whole, Fault::Memory);
+    row.number = match told.found() {
+        Some(found) => Some(found.pattern().as_usize()),
+        None => None,
+    };
+    row.spans = spans.list;
 }
 
 /// The engines answer the row over every cutting of its text, and as the least parse says.
-fn over_all_cuttings(alloc: Global, engines: &mut Engines, row: &Row) -> Result<(), Fault>
+fn over_all_cuttings(asker: &mut Asker, engines: &mut Engines, row: &Row)
     requires { length row.now.patterns.items ≤ 2147483647 }
 {
-    parses::agree(alloc, engines, row)?;
-    over_each_cutting(alloc, engines, row)
+    parses::agree(asker, engines, row);
+    over_each_cutting(asker, engines, row);
 }
 
 /// The engines answer the row over each cutting of its text.
-pub fn over_each_cutting(alloc: Global, engines: &mut Engines, row: &Row) -> Result<(), Fault> {
-    let chunks = chunks_of(alloc, &row.text)?;
-    for cutting in CUTTINGS {
-        over(alloc, engines, row, Cut::new(&row.text, &chunks, cutting)?)?;
+fn over_each_cutting(asker: &mut Asker, engines: &mut Engines, row: &Row) {
+    for cutting in &CUTTINGS {
+        over(asker, engines, row, Recut::new(&row.text, *cutting));
     }
-    Ok(())
+    let chunks = chunks_of(asker, &row.text);
+    over_chunks(asker, engines, row, &chunks, 0);
+    over_chunks(asker, engines, row, &chunks, row.text.len() / 2);
+}
+
+/// The engines answer the row over its text as a list of chunks, from this byte on.
+fn over_chunks<'a>(
+    asker: &mut Asker,
+    engines: &mut Engines,
+    row: &Row,
+    chunks: &'a [&'a [u8]],
+    at: usize,
+) {
+    match ChunkCursor::at(chunks, at) {
+        Ok(cursor) => over(asker, engines, row, cursor),
+        Err(_) => asker.verdict.note(Fault::Chunks),
+    }
 }
 
 /// The engines answer the row over this cursor.
-fn over(alloc: Global, engines: &mut Engines, row: &Row, cursor: Cut) -> Result<(), Fault> {
+fn over<C: Cursor + Copy + Drop>(asker: &mut Asker, engines: &mut Engines, row: &Row, cursor: C) {
     match row.want {
-        Want::First => searches::first(alloc, engines, row, cursor),
-        Want::All => searches::all(alloc, engines, row, cursor),
-        Want::Groups => searches::groups(alloc, engines, row, cursor),
-        Want::Pieces => searches::pieces(alloc, engines, row, cursor),
-        Want::Refused(word) => same(word == "no", Fault::Refusal),
-        Want::Nothing | Want::Alike => Err(Fault::UnreadWant),
+        Want::First => searches::first(asker, engines, row, cursor),
+        Want::All => searches::all(asker, engines, row, cursor),
+        Want::Groups => searches::groups(asker, engines, row, cursor),
+        Want::Captured => searches::captured(asker, engines, row, cursor),
+        Want::Pieces => searches::pieces(asker, engines, row, cursor),
+        Want::Refused(word) => asker.verdict.expect(word == "no", Fault::Refusal),
+        Want::Nothing | Want::Alike => asker.verdict.note(Fault::UnreadWant),
     }
 }

@@ -1,11 +1,9 @@
 //! The fields of a row, between tabs, each a name and a value.
 
-ghost use Rattle.std.specs.Prelude.{◌≤◌, ◌+◌, IfOk};
-
-use crate::faults::Fault;
+use crate::faults::{Fault, Verdict};
 use crate::settings::Settings;
 use rc_settings::error::BuildError;
-use rc_text::types::{Anchored, PatternID, Span};
+use rc_text::types::{Anchored, PatternID};
 use std::alloc::Global;
 
 /// A start and an end.
@@ -22,6 +20,8 @@ pub enum Want<'a> {
     All,
     /// The groups of the first match.
     Groups,
+    /// The same, by calls that give groups alone. No field says so.
+    Captured,
     /// The pieces between matches.
     Pieces,
     /// That the patterns are refused so, or by `no` that they aren't.
@@ -64,6 +64,8 @@ pub struct Row<'a> {
     pub spans: Vec<Option<Pair>>,
     /// Where searches by tables may quit.
     pub quits: Quits,
+    /// The text, as it stands.
+    escaped: &'a str,
     /// How many bytes stand before the text, each `a` where its offset has an even number of binary ones, else `b`.
     parities: usize,
 }
@@ -71,7 +73,22 @@ pub struct Row<'a> {
 impl<'a> Row<'a> {
     /// The row that a line is read as.
     pub fn read(alloc: Global, line: &'a str) -> Result<Row<'a>, Fault> {
-        let mut row = Row {
+        let mut row = Row::new(alloc);
+        let mut verdict = Verdict::new();
+        for field in line.split('\t') {
+            row.read_field(field, &mut verdict);
+        }
+        put_parities(row.parities, &mut row.text, &mut verdict);
+        put_unescaped(row.escaped, &mut row.text, &mut verdict);
+        match verdict.result() {
+            Ok(()) => Ok(row),
+            Err(fault) => Err(fault),
+        }
+    }
+
+    /// What holds where no field says anything.
+    fn new(alloc: Global) -> Row<'a> {
+        Row {
             patterns: Vec::new(alloc),
             settings: Settings::new(),
             text: Vec::new(alloc),
@@ -82,101 +99,131 @@ impl<'a> Row<'a> {
             number: None,
             spans: Vec::new(alloc),
             quits: Quits::Nowhere,
+            escaped: "",
             parities: 0,
-        };
-        for field in line.split('\t') {
-            let (name, value) = field.split_once('=').ok_or(Fault::UnreadField)?;
-            row.set(alloc, name, value)?;
         }
-        row.text = after_parities(alloc, row.parities, &row.text)?;
-        Ok(row)
+    }
+
+    /// Reads a field.
+    fn read_field(&mut self, field: &'a str, verdict: &mut Verdict) {
+        if self.settings.set_to(field) {
+            return;
+        }
+        match field.split_once('=') {
+            Some((name, value)) => self.set(name, value, verdict),
+            None => verdict.note(Fault::UnreadField),
+        }
     }
 
     /// Sets the field of this name.
-    fn set(&mut self, alloc: Global, name: &str, value: &'a str) -> Result<(), Fault> {
+    fn set(&mut self, name: &str, value: &'a str, verdict: &mut Verdict) {
         match name {
-            "pattern" => self.patterns.push(value)?,
-            "text" => self.text = unescaped(alloc, value)?,
-            "slice" => self.slice = Some(pair(value)?),
-            "span" => self.span = Some(pair(value)?),
-            "anchored" => self.anchored = anchoring(value)?,
-            "quit" => self.quits = Quits::At(pair(value)?),
-            "first" => self.wants(alloc, Want::First, value)?,
-            "all" => self.wants(alloc, Want::All, value)?,
-            "groups" => self.wants(alloc, Want::Groups, value)?,
-            "pieces" => self.wants(alloc, Want::Pieces, value)?,
-            "refused" => self.wants(alloc, Want::Refused(value), "none")?,
-            "alike" => self.wants(alloc, Want::Alike, "none")?,
-            "parities" => self.parities = number(value)?,
-            _ => self.settings.set(name, value)?,
+            "pattern" => verdict.push(&mut self.patterns, value),
+            "text" => self.escaped = value,
+            "slice" => self.slice = range(value, verdict),
+            "span" => self.span = range(value, verdict),
+            "anchored" => self.anchored = anchoring(value, verdict),
+            "quit" => self.quits = quitting(value, verdict),
+            "first" => self.wants(Want::First, value, verdict),
+            "all" => self.wants(Want::All, value, verdict),
+            "groups" => self.wants(Want::Groups, value, verdict),
+            "pieces" => self.wants(Want::Pieces, value, verdict),
+            "refused" => self.wants(Want::Refused(value), "none", verdict),
+            "alike" => self.wants(Want::Alike, "none", verdict),
+            "parities" => self.parities = number(value, verdict),
+            _ => self.settings.set(name, value, verdict),
         }
-        Ok(())
     }
 
     /// Sets what is wanted, where nothing was: a number or none, and spans or none.
-    fn wants(&mut self, alloc: Global, want: Want<'a>, value: &str) -> Result<(), Fault> {
-        if !matches!(self.want, Want::Nothing) {
-            return Err(Fault::UnreadWant);
-        }
+    fn wants(&mut self, want: Want<'a>, value: &str, verdict: &mut Verdict) {
+        verdict.expect(matches!(self.want, Want::Nothing), Fault::UnreadWant);
         self.want = want;
         match value.split_once(": ") {
-            None => self.spans = spans(alloc, value)?,
+            None => put_spans(value, &mut self.spans, verdict),
             Some((before, after)) => {
-                self.number = Some(number(before)?);
-                self.spans = spans(alloc, after)?;
+                self.number = Some(number(before, verdict));
+                put_spans(after, &mut self.spans, verdict);
             }
         }
-        Ok(())
     }
 }
 
 /// A number.
-pub fn number(word: &str) -> Result<usize, Fault> {
+pub fn number(word: &str, verdict: &mut Verdict) -> usize {
     match word.parse::<usize>() {
-        Ok(number) => Ok(number),
-        Err(_) => Err(Fault::UnreadNumber),
-    }
-}
-
-/// A pair `3-7`.
-fn pair(word: &str) -> Result<Pair, Fault> {
-    let (start, end) = word.split_once('-').ok_or(Fault::UnreadSpan)?;
-    Ok((number(start)?, number(end)?))
-}
-
-/// Spans between blanks, `.` for one that isn't there, or `none`.
-fn spans(alloc: Global, text: &str) -> Result<Vec<Option<Pair>>, Fault> {
-    let mut spans = Vec::new(alloc);
-    if text == "none" {
-        return Ok(spans);
-    }
-    for word in text.split(' ') {
-        spans.push(if word == "." { None } else { Some(pair(word)?) })?;
-    }
-    Ok(spans)
-}
-
-/// `no`, `yes`, or the number of a pattern.
-fn anchoring(word: &str) -> Result<Anchored, Fault> {
-    match word {
-        "no" => Ok(Anchored::No),
-        "yes" => Ok(Anchored::Yes),
-        _ => {
-            let id = PatternID::new(number(word)?).ok_or(Fault::UnreadPattern)?;
-            Ok(Anchored::Pattern(id))
+        Ok(number) => number,
+        Err(_) => {
+            verdict.note(Fault::UnreadNumber);
+            0
         }
     }
 }
 
-/// The span of a pair, where an input takes it: it starts at most one above its end.
-pub fn span_of(pair: Pair) -> Result<Span, Fault>
-    ensures { IfOk result (λ s. s.start ≤ s.end + 1) }
-{
-    let (start, end) = pair;
-    if start.saturating_sub(1) <= end {
-        Ok(Span { start, end })
+/// A pair `3-7`.
+fn pair(word: &str, verdict: &mut Verdict) -> Option<Pair> {
+    match word.split_once('-') {
+        Some((start, end)) => {
+            let start = number(start, verdict);
+            let end = number(end, verdict);
+            Some((start, end))
+        }
+        None => {
+            verdict.note(Fault::UnreadSpan);
+            None
+        }
+    }
+}
+
+/// A pair that an input takes: it starts at most one above its end.
+fn range(word: &str, verdict: &mut Verdict) -> Option<Pair> {
+    let pair = pair(word, verdict);
+    if let Some((start, end)) = pair {
+        verdict.expect(start.saturating_sub(1) <= end, Fault::UnreadSpan);
+    }
+    pair
+}
+
+/// Where searches by tables quit: a byte, and its offset.
+fn quitting(word: &str, verdict: &mut Verdict) -> Quits {
+    match pair(word, verdict) {
+        Some(pair) => Quits::At(pair),
+        None => Quits::Nowhere,
+    }
+}
+
+/// Adds spans between blanks, `.` for one that isn't there, or `none`.
+fn put_spans(text: &str, spans: &mut Vec<Option<Pair>>, verdict: &mut Verdict) {
+    if text == "none" {
+        return;
+    }
+    for word in text.split(' ') {
+        let span = span(word, verdict);
+        verdict.push(spans, span);
+    }
+}
+
+/// A pair, or `.` for one that isn't there.
+fn span(word: &str, verdict: &mut Verdict) -> Option<Pair> {
+    if word == "." {
+        None
     } else {
-        Err(Fault::UnreadSpan)
+        pair(word, verdict)
+    }
+}
+
+/// `no`, `yes`, or the number of a pattern.
+fn anchoring(word: &str, verdict: &mut Verdict) -> Anchored {
+    match word {
+        "no" => Anchored::No,
+        "yes" => Anchored::Yes,
+        _ => match PatternID::new(number(word, verdict)) {
+            Some(id) => Anchored::Pattern(id),
+            None => {
+                verdict.note(Fault::UnreadPattern);
+                Anchored::No
+            }
+        },
     }
 }
 
@@ -198,51 +245,28 @@ pub fn is_refused(error: &BuildError, want: Want) -> bool {
 fn is_numbered(text: &str, word: &str, wanted: usize) -> bool {
     match text.strip_prefix(word) {
         None => false,
-        Some(rest) => matches!(number(rest), Ok(found) if found == wanted),
+        Some(rest) => matches!(rest.parse::<usize>(), Ok(found) if found == wanted),
     }
 }
 
-/// So many bytes, `a` at an offset with an even number of binary ones and else `b`, and then the text.
-fn after_parities(alloc: Global, count: usize, text: &[u8]) -> Result<Vec<u8>, Fault> {
-    let mut made = Vec::new(alloc);
+/// Adds so many bytes, `a` at an offset with an even number of binary ones and else `b`.
+fn put_parities(count: usize, text: &mut Vec<u8>, verdict: &mut Verdict) {
     for offset in 0..count {
-        made.push(if offset.count_ones() % 2 == 0 {
-            b'a'
-        } else {
-            b'b'
-        })?;
+        verdict.push(text, b'a' + (offset.count_ones() % 2) as u8);
     }
-    made.extend_from_slice(text)?;
-    Ok(made)
 }
 
-/// The bytes of a text, where `\n`, `\r`, `\t`, `\\` and `\x00` to `\xFF` stand for one byte each.
-fn unescaped(alloc: Global, text: &str) -> Result<Vec<u8>, Fault> {
-    let mut made = Vec::new(alloc);
+/// Adds the bytes of a text, where `\n`, `\r`, `\t`, `\\` and `\x00` to `\xFF` stand for one byte each.
+fn put_unescaped(escaped: &str, text: &mut Vec<u8>, verdict: &mut Verdict) {
     let mut state = State::Plain;
-    for next in text.as_bytes() {
-        state = match (state, *next) {
-            (State::Plain, b'\\') => State::Escape,
-            (State::Plain, plain) => {
-                made.push(plain)?;
-                State::Plain
-            }
-            (State::Escape, b'x') => State::Hex,
-            (State::Escape, letter) => {
-                made.push(escape(letter)?)?;
-                State::Plain
-            }
-            (State::Hex, letter) => State::Low(digit(letter)?),
-            (State::Low(high), letter) => {
-                made.push(high.wrapping_mul(16).wrapping_add(digit(letter)?))?;
-                State::Plain
-            }
-        };
+    for byte in escaped.as_bytes() {
+        let (after, made) = step(state, *byte);
+        if let Some(made) = made {
+            verdict.push(text, made);
+        }
+        state = after;
     }
-    match state {
-        State::Plain => Ok(made),
-        _ => Err(Fault::UnreadEscape),
-    }
+    verdict.expect(matches!(state, State::Plain), Fault::UnreadEscape);
 }
 
 /// What stands before a byte of an escaped text.
@@ -252,25 +276,54 @@ enum State {
     Escape,
     Hex,
     Low(u8),
+    /// An escape that stands for nothing.
+    Unread,
+}
+
+/// What stands before the next byte, and the byte that this one makes, if it makes one.
+fn step(state: State, byte: u8) -> (State, Option<u8>) {
+    match (state, byte) {
+        (State::Plain, b'\\') => (State::Escape, None),
+        (State::Plain, plain) => (State::Plain, Some(plain)),
+        (State::Escape, b'x') => (State::Hex, None),
+        (State::Escape, letter) => plain(escape(letter)),
+        (State::Hex, letter) => match digit(letter) {
+            Some(high) => (State::Low(high), None),
+            None => plain(None),
+        },
+        (State::Low(high), letter) => match digit(letter) {
+            Some(low) => plain(Some(high.wrapping_mul(16).wrapping_add(low))),
+            None => plain(None),
+        },
+        (State::Unread, _) => plain(None),
+    }
+}
+
+/// The byte that an escape made, if it stands for one.
+fn plain(made: Option<u8>) -> (State, Option<u8>) {
+    match made {
+        Some(made) => (State::Plain, Some(made)),
+        None => (State::Unread, None),
+    }
 }
 
 /// The byte that a letter after `\` stands for.
-fn escape(letter: u8) -> Result<u8, Fault> {
+fn escape(letter: u8) -> Option<u8> {
     match letter {
-        b'n' => Ok(b'\n'),
-        b'r' => Ok(b'\r'),
-        b't' => Ok(b'\t'),
-        b'\\' => Ok(b'\\'),
-        _ => Err(Fault::UnreadEscape),
+        b'n' => Some(b'\n'),
+        b'r' => Some(b'\r'),
+        b't' => Some(b'\t'),
+        b'\\' => Some(b'\\'),
+        _ => None,
     }
 }
 
 /// A hexadecimal digit.
-fn digit(letter: u8) -> Result<u8, Fault> {
+fn digit(letter: u8) -> Option<u8> {
     match letter {
-        b'0'..=b'9' => Ok(letter - b'0'),
-        b'a'..=b'f' => Ok(letter - b'a' + 10),
-        b'A'..=b'F' => Ok(letter - b'A' + 10),
-        _ => Err(Fault::UnreadEscape),
+        b'0'..=b'9' => Some(letter - b'0'),
+        b'a'..=b'f' => Some(letter - b'a' + 10),
+        b'A'..=b'F' => Some(letter - b'A' + 10),
+        _ => None,
     }
 }

@@ -1,11 +1,14 @@
 //! The settings of a row, under which its patterns are built.
 
-use crate::faults::{Fault, same};
+ghost use Rattle.std.specs.Prelude.{◌≤◌, length};
+
+use crate::faults::{Fault, Verdict};
 use crate::row::number;
-use api_pikevm::builder::Builder;
+use api_meta::regex::Regex;
 use api_pikevm::vm::PikeVM;
 use rc_needles::prefilter::Prefilter;
 use rc_parser::Config as Syntax;
+use rc_settings::error::BuildError;
 use rc_settings::meta::Config;
 use rc_settings::pikevm::Config as Searches;
 use rc_settings::states::Config as States;
@@ -56,17 +59,18 @@ pub enum Capacity {
 
 impl Capacity {
     /// What a word says: a number of bytes, or `least`, perhaps with `+` or `-` and a number.
-    fn read(word: &str) -> Result<Capacity, Fault> {
+    fn read(word: &str, verdict: &mut Verdict) -> Capacity {
         let Some(rest) = word.strip_prefix("least") else {
-            return Ok(Capacity::Bytes(number(word)?));
+            return Capacity::Bytes(number(word, verdict));
         };
         if let Some(more) = rest.strip_prefix('+') {
-            return Ok(Capacity::Least(number(more)?, 0));
+            return Capacity::Least(number(more, verdict), 0);
         }
-        match rest.strip_prefix('-') {
-            Some(less) => Ok(Capacity::Least(0, number(less)?)),
-            None => same(rest.is_empty(), Fault::UnreadSetting).map(|()| Capacity::Least(0, 0)),
+        if let Some(less) = rest.strip_prefix('-') {
+            return Capacity::Least(0, number(less, verdict));
         }
+        verdict.expect(rest.is_empty(), Fault::UnreadSetting);
+        Capacity::Least(0, 0)
     }
 
     /// The bytes, where this is the least that serves.
@@ -82,11 +86,34 @@ impl Capacity {
 const DFA_LIMIT: usize = 1048576;
 
 /// What a word says of a limit: `none`, or a number.
-fn limit(word: &str) -> Result<Option<usize>, Fault> {
+fn limit(word: &str, verdict: &mut Verdict) -> Option<usize> {
     if word == "none" {
-        return Ok(None);
+        None
+    } else {
+        Some(number(word, verdict))
     }
-    Ok(Some(number(word)?))
+}
+
+/// The byte that a word says as a number.
+fn byte(word: &str, verdict: &mut Verdict) -> u8 {
+    match word.parse::<u8>() {
+        Ok(byte) => byte,
+        Err(_) => {
+            verdict.note(Fault::UnreadSetting);
+            0
+        }
+    }
+}
+
+/// What a regex is asked of beside the settings.
+#[derive(Clone, Copy)]
+pub enum Asked {
+    /// This capacity, and no tables; or nothing.
+    Capacity(Option<usize>),
+    /// No needles of its own, and no tables.
+    Unfiltered,
+    /// No needles of its own, and tables.
+    Tabled,
 }
 
 impl<'a> Settings<'a> {
@@ -110,43 +137,56 @@ impl<'a> Settings<'a> {
     }
 
     /// Sets what has this name.
-    pub fn set(&mut self, name: &str, value: &'a str) -> Result<(), Fault> {
+    pub fn set(&mut self, name: &str, value: &'a str, verdict: &mut Verdict) {
         match name {
-            "limit" => self.limit = limit(value)?,
-            "terminator" => {
-                self.terminator = value.parse().ok().ok_or(Fault::UnreadSetting)?;
-            }
+            "limit" => self.limit = limit(value, verdict),
+            "terminator" => self.terminator = byte(value, verdict),
             "needle" => self.needle = Some(value),
-            "capacity" => self.capacity = Some(Capacity::read(value)?),
-            "dfa_limit" => self.dfa_limit = Some(number(value)?),
-            _ => return same(self.set_to(name, value), Fault::UnreadSetting),
+            "capacity" => self.capacity = Some(Capacity::read(value, verdict)),
+            "dfa_limit" => self.dfa_limit = Some(number(value, verdict)),
+            _ => verdict.note(Fault::UnreadSetting),
         }
-        Ok(())
     }
 
-    /// Sets what has this name to one of the words that it may have. Answers whether there is such a word.
-    fn set_to(&mut self, name: &str, word: &str) -> bool {
-        match (name, word) {
-            ("utf8", "no") => self.syntax = self.syntax.utf8(false),
-            ("unicode", "no") => self.syntax = self.syntax.unicode(false),
-            ("nocase", "yes") => self.syntax = self.syntax.case_insensitive(true),
-            ("lines", "yes") => self.syntax = self.syntax.multi_line(true),
-            ("kind", "all") => self.kind = MatchKind::All,
-            ("kind", "longest") => self.kind = MatchKind::LeftmostLongest,
-            ("utf8_empty", "no") => self.utf8_empty = false,
-            ("captures", "implicit") => self.which = WhichCaptures::Implicit,
-            ("captures", "none") => self.which = WhichCaptures::None,
-            ("walker", "no") => self.walker = false,
-            ("tables", "no") => self.tables = false,
-            ("clears", "may") => self.clears = true,
-            ("byte_classes", "no") => self.byte_classes = false,
+    /// Sets what a whole field says, where it is one of these. Answers whether it is.
+    pub fn set_to(&mut self, field: &str) -> bool {
+        match field {
+            "utf8=no" => self.syntax = self.syntax.utf8(false),
+            "unicode=no" => self.syntax = self.syntax.unicode(false),
+            "nocase=yes" => self.syntax = self.syntax.case_insensitive(true),
+            "lines=yes" => self.syntax = self.syntax.multi_line(true),
+            "kind=all" => self.kind = MatchKind::All,
+            "kind=longest" => self.kind = MatchKind::LeftmostLongest,
+            "utf8_empty=no" => self.utf8_empty = false,
+            "captures=implicit" => self.which = WhichCaptures::Implicit,
+            "captures=none" => self.which = WhichCaptures::None,
+            "walker=no" => self.walker = false,
+            "tables=no" => self.tables = false,
+            "clears=may" => self.clears = true,
+            "byte_classes=no" => self.byte_classes = false,
             _ => return false,
         }
         true
     }
 
-    /// The settings of a regex.
-    pub fn config(&self, alloc: Global) -> Result<Config, AllocError> {
+    /// A regex of these patterns, of which this is asked too.
+    pub fn regex(&self, alloc: Global, patterns: &[&str], asked: Asked) -> Result<Regex, BuildError>
+        requires { length patterns.now ≤ 2147483647 }
+    {
+        match self.with_needle(alloc, self.config(asked)) {
+            Ok(config) => {
+                let mut builder = Regex::builder();
+                builder.syntax(self.syntax).configure(config);
+                let built = builder.build_many(alloc, patterns);
+                drop(builder);
+                built
+            }
+            Err(_) => Err(BuildError::Memory),
+        }
+    }
+
+    /// The settings of a regex, but for the caller's prefilter.
+    fn config(&self, asked: Asked) -> Config {
         let config = Config::new()
             .match_kind(self.kind)
             .utf8_empty(self.utf8_empty)
@@ -154,12 +194,28 @@ impl<'a> Settings<'a> {
             .nfa_size_limit(self.limit)
             .line_terminator(self.terminator)
             .byte_classes(self.byte_classes);
+        match asked {
+            Asked::Capacity(None) => config,
+            Asked::Capacity(Some(bytes)) => config.dfa(false).hybrid_cache_capacity(bytes),
+            Asked::Unfiltered => config.auto_prefilter(false).dfa(false),
+            Asked::Tabled => config
+                .auto_prefilter(false)
+                .dfa(true)
+                .dfa_state_limit(None)
+                .dfa_size_limit(self.regex_dfa_limit()),
+        }
+    }
+
+    /// These settings, with the prefilter of the needle, where there is one.
+    fn with_needle(&self, alloc: Global, config: Config) -> Result<Config, AllocError> {
         match self.needle {
             None => Ok(config),
             Some(needle) => {
                 let needles = [needle.as_bytes()];
-                let prefilter = Prefilter::new(alloc, MatchKind::LeftmostFirst, &needles)?;
-                Ok(config.prefilter(prefilter))
+                match Prefilter::new(alloc, MatchKind::LeftmostFirst, &needles) {
+                    Ok(prefilter) => Ok(config.prefilter(prefilter)),
+                    Err(error) => Err(error),
+                }
             }
         }
     }
@@ -174,12 +230,17 @@ impl<'a> Settings<'a> {
     }
 
     /// The limit on all tables of a regex: four times that of each direction.
-    pub fn regex_dfa_limit(&self) -> Option<usize> {
-        self.dfa_limit.map(|limit| limit.saturating_mul(4))
+    fn regex_dfa_limit(&self) -> Option<usize> {
+        match self.dfa_limit {
+            Some(limit) => Some(limit.saturating_mul(4)),
+            None => None,
+        }
     }
 
-    /// A builder of a DFA.
-    pub fn dfa_builder(&self) -> api_dfa::builder::Builder {
+    /// The DFA of these patterns.
+    pub fn dfa(&self, alloc: Global, patterns: &[&str]) -> Result<api_dfa::regex::Regex, BuildError>
+        requires { length patterns.now ≤ 2147483647 }
+    {
         let tables = States::new()
             .match_kind(self.kind)
             .byte_classes(self.byte_classes)
@@ -189,11 +250,20 @@ impl<'a> Settings<'a> {
             .thompson(self.program())
             .dense(tables)
             .syntax(self.syntax);
-        builder
+        let built = builder.build_many(alloc, patterns);
+        drop(builder);
+        built
     }
 
-    /// A builder of a hybrid, with this capacity of a cache, or with the one that it has by default.
-    pub fn hybrid_builder(&self, capacity: Option<usize>) -> api_hybrid::builder::Builder {
+    /// The hybrid of these patterns, with this capacity of a cache, or with the one that it has by default.
+    pub fn hybrid(
+        &self,
+        alloc: Global,
+        patterns: &[&str],
+        capacity: Option<usize>,
+    ) -> Result<api_hybrid::regex::Regex, BuildError>
+        requires { length patterns.now ≤ 2147483647 }
+    {
         let mut tables = States::new()
             .match_kind(self.kind)
             .byte_classes(self.byte_classes);
@@ -205,18 +275,22 @@ impl<'a> Settings<'a> {
             .thompson(self.program())
             .dfa(tables)
             .syntax(self.syntax);
-        builder
+        let built = builder.build_many(alloc, patterns);
+        drop(builder);
+        built
     }
 
-    /// A builder of the `PikeVM`.
-    pub fn vm_builder(&self) -> Builder {
-        let program = self.program();
-        let searches = Searches::new().match_kind(self.kind);
+    /// The `PikeVM` of these patterns.
+    pub fn vm(&self, alloc: Global, patterns: &[&str]) -> Result<PikeVM, BuildError>
+        requires { length patterns.now ≤ 2147483647 }
+    {
         let mut builder = PikeVM::builder();
         builder
-            .thompson(program)
-            .configure(searches)
+            .thompson(self.program())
+            .configure(Searches::new().match_kind(self.kind))
             .syntax(self.syntax);
-        builder
+        let built = builder.build_many(alloc, patterns);
+        drop(builder);
+        built
     }
 }

@@ -3,31 +3,79 @@
 ghost use Rattle.std.specs.Prelude.{ℕ};
 ghost use Rattle.api_hybrid.specs.Caches.{IsCacheFor, capacity_of};
 
+use crate::calls::Spans;
 use crate::faults::{Fault, Part};
-use crate::inputs::pair_of;
-use crate::row::{Pair, Quits};
+use crate::told::Told;
 use api_dfa::search as dfa;
 use api_hybrid::cache::Cache;
+use api_hybrid::regex::Regex;
 use api_hybrid::search as hybrid;
+use rc_settings::error::BuildError;
 use rc_text::cursor::Cursor;
 use rc_text::input::Input;
 use rc_text::types::{HalfMatch, Match, MatchError};
-use std::alloc::{AllocError, Global};
+use std::alloc::Global;
 use std::marker::Model;
 
+/// What a search by tables seeks.
+#[derive(Clone, Copy)]
+pub enum Seek {
+    /// The match.
+    Match,
+    /// Where it ends.
+    End,
+    /// Where the longest match begins that ends where the input does.
+    Start,
+}
+
+/// Which engine searches by tables.
+#[derive(Clone, Copy)]
+pub enum Kind {
+    /// A DFA.
+    Dfa,
+    /// A hybrid.
+    Hybrid,
+    /// A hybrid whose cache may be too small for a search.
+    SmallHybrid,
+}
+
+impl Kind {
+    /// This fault of a search by such an engine.
+    pub fn fault(self, part: Part) -> Fault {
+        match self {
+            Kind::Dfa => Fault::Dfa(part),
+            Kind::Hybrid => Fault::Hybrid(part),
+            Kind::SmallHybrid => Fault::SmallHybrid(part),
+        }
+    }
+}
+
 /// An engine that searches by tables of states.
-#[derive(Drop)]
-pub enum TableEngine {
-    /// All tables are made at the build.
-    Dfa(api_dfa::regex::Regex),
-    /// States are made as they are met.
-    Hybrid(Hybrid),
+pub trait Tables {
+    /// Which one it is.
+    fn kind(&self) -> Kind;
+
+    /// It has let no states go, unless its cache is small.
+    fn keeps_states(&self) -> bool {
+        true
+    }
+
+    /// What a search tells.
+    fn told<C: Cursor>(&mut self, seek: Seek, input: &mut Input<C>) -> Result<Told, MatchError>;
+
+    /// Adds the matches one after another, and tells the error that they end in.
+    fn list<C: Cursor + Drop>(
+        &self,
+        alloc: Global,
+        input: Input<C>,
+        spans: &mut Spans,
+    ) -> Option<MatchError>;
 }
 
 /// A regex whose states are made as they are met, and one cache for all its searches.
 #[derive(Drop)]
 pub struct Hybrid {
-    regex: api_hybrid::regex::Regex,
+    regex: Regex,
     cache: Cache,
     is_small: bool,
 }
@@ -42,192 +90,126 @@ impl Model for Hybrid {
 
 impl Hybrid {
     /// The regex with a cache; a small one may be too small for a search.
-    pub fn new(
-        alloc: Global,
-        regex: api_hybrid::regex::Regex,
-        is_small: bool,
-    ) -> Result<Hybrid, AllocError> {
+    pub fn new(alloc: Global, regex: Regex, is_small: bool) -> Result<Hybrid, BuildError> {
         match regex.create_cache(alloc) {
             Ok(cache) => Ok(Hybrid {
                 regex,
                 cache,
                 is_small,
             }),
-            Err(refused) => {
+            Err(_) => {
                 drop(regex);
-                Err(refused)
+                Err(BuildError::Memory)
             }
         }
     }
 
-    /// The match that a search of the input finds.
-    fn find<C: Cursor>(&mut self, input: &mut Input<&mut C>) -> Result<Option<Match>, MatchError> {
-        hybrid::find(&self.regex, &mut self.cache, input)
-    }
-
-    /// Where that match ends.
-    fn find_end<C: Cursor>(
-        &mut self,
-        input: &mut Input<&mut C>,
-    ) -> Result<Option<HalfMatch>, MatchError> {
-        hybrid::try_search_fwd(&self.regex, &mut self.cache, input)
-    }
-
-    /// Where the longest match begins that ends where the input does.
-    fn find_start<C: Cursor>(
-        &mut self,
-        input: &mut Input<&mut C>,
-    ) -> Result<Option<HalfMatch>, MatchError> {
-        hybrid::try_search_rev(&self.regex, &mut self.cache, input)
+    /// The least capacity of a cache.
+    pub fn least(&self) -> usize {
+        self.regex.minimum_cache_capacity()
     }
 }
 
-/// The spans of the matches that were found one after another, and why no more were looked for, unless there are none.
-#[derive(Drop)]
-pub struct Listed {
-    pub spans: Vec<Option<Pair>>,
-    pub error: Option<MatchError>,
+/// What a search tells that finds a match.
+fn of_match(found: Result<Option<Match>, MatchError>) -> Result<Told, MatchError> {
+    match found {
+        Ok(found) => Ok(Told::Match(found)),
+        Err(error) => Err(error),
+    }
 }
 
-impl TableEngine {
-    /// The match that a search of the input finds.
-    pub fn find<C: Cursor>(
-        &mut self,
-        input: &mut Input<&mut C>,
-    ) -> Result<Option<Match>, MatchError> {
-        match self {
-            TableEngine::Dfa(regex) => dfa::find(regex, input),
-            TableEngine::Hybrid(hybrid) => hybrid.find(input),
+/// What a search tells that finds one end of a match.
+fn of_half(found: Result<Option<HalfMatch>, MatchError>) -> Result<Told, MatchError> {
+    match found {
+        Ok(half) => Ok(Told::Half(half)),
+        Err(error) => Err(error),
+    }
+}
+
+impl Tables for api_dfa::regex::Regex {
+    fn kind(&self) -> Kind {
+        Kind::Dfa
+    }
+
+    fn told<C: Cursor>(&mut self, seek: Seek, input: &mut Input<C>) -> Result<Told, MatchError> {
+        match seek {
+            Seek::Match => of_match(dfa::find(self, input)),
+            Seek::End => of_half(dfa::try_search_fwd(self.forward(), input)),
+            Seek::Start => of_half(dfa::try_search_rev(self.reverse(), input)),
         }
     }
 
-    /// Where that match ends.
-    pub fn find_end<C: Cursor>(
-        &mut self,
-        input: &mut Input<&mut C>,
-    ) -> Result<Option<HalfMatch>, MatchError> {
-        match self {
-            TableEngine::Dfa(regex) => dfa::try_search_fwd(regex.forward(), input),
-            TableEngine::Hybrid(hybrid) => hybrid.find_end(input),
+    fn list<C: Cursor + Drop>(
+        &self,
+        _: Global,
+        input: Input<C>,
+        spans: &mut Spans,
+    ) -> Option<MatchError> {
+        for item in dfa::find_iter(self, input) {
+            match item {
+                Ok(found) => spans.push(found.start(), found.end()),
+                Err(error) => return Some(error),
+            }
+        }
+        None
+    }
+}
+
+impl Tables for Hybrid {
+    fn kind(&self) -> Kind {
+        if self.is_small {
+            Kind::SmallHybrid
+        } else {
+            Kind::Hybrid
         }
     }
 
-    /// Where the longest match begins that ends where the input does.
-    pub fn find_start<C: Cursor>(
-        &mut self,
-        input: &mut Input<&mut C>,
-    ) -> Result<Option<HalfMatch>, MatchError> {
-        match self {
-            TableEngine::Dfa(regex) => dfa::try_search_rev(regex.reverse(), input),
-            TableEngine::Hybrid(hybrid) => hybrid.find_start(input),
+    fn keeps_states(&self) -> bool {
+        self.is_small || self.cache.clear_count() == 0
+    }
+
+    fn told<C: Cursor>(&mut self, seek: Seek, input: &mut Input<C>) -> Result<Told, MatchError> {
+        match seek {
+            Seek::Match => of_match(hybrid::find(&self.regex, &mut self.cache, input)),
+            Seek::End => of_half(hybrid::try_search_fwd(&self.regex, &mut self.cache, input)),
+            Seek::Start => of_half(hybrid::try_search_rev(&self.regex, &mut self.cache, input)),
         }
     }
 
-    /// The matches one after another.
-    pub fn list<C: Cursor + Drop>(
-        &mut self,
+    fn list<C: Cursor + Drop>(
+        &self,
         alloc: Global,
-        input: Input<&mut C>,
-    ) -> Result<Listed, AllocError> {
-        match self {
-            TableEngine::Dfa(regex) => listed_by_dfa(alloc, regex, input),
-            TableEngine::Hybrid(hybrid) => listed_by_hybrid(alloc, hybrid, input),
-        }
-    }
-
-    /// This fault of a search by it.
-    pub fn fault(&self, part: Part) -> Fault {
-        match self {
-            TableEngine::Dfa(_) => Fault::Dfa(part),
-            TableEngine::Hybrid(hybrid) => {
-                if hybrid.is_small {
-                    Fault::SmallHybrid(part)
-                } else {
-                    Fault::Hybrid(part)
-                }
+        input: Input<C>,
+        spans: &mut Spans,
+    ) -> Option<MatchError> {
+        match self.regex.create_cache(alloc) {
+            Ok(mut cache) => {
+                let error = list_in(&self.regex, &mut cache, input, spans);
+                drop(cache);
+                error
+            }
+            Err(_) => {
+                spans.is_whole = false;
+                None
             }
         }
     }
-
-    /// It may end a search by this error, which may also be want of memory.
-    pub fn may_end_by(&self, error: MatchError, quits: Quits) -> Result<bool, Fault> {
-        Ok(match error {
-            MatchError::Quit { byte, offset } => match quits {
-                Quits::Nowhere => false,
-                Quits::At(at) => at == (usize::from(byte), offset),
-                Quits::Anywhere => true,
-            },
-            MatchError::GaveUp { memory: true, .. } => return Err(Fault::Memory),
-            MatchError::GaveUp { memory: false, .. } => self.may_give_up(),
-        })
-    }
-
-    /// It has let no states go, unless its cache is small.
-    pub fn keeps_states(&self) -> bool {
-        match self {
-            TableEngine::Dfa(_) => true,
-            TableEngine::Hybrid(hybrid) => hybrid.is_small || hybrid.cache.clear_count() == 0,
-        }
-    }
-
-    /// Its tables may be too small for a search.
-    fn may_give_up(&self) -> bool {
-        match self {
-            TableEngine::Dfa(_) => false,
-            TableEngine::Hybrid(hybrid) => hybrid.is_small,
-        }
-    }
 }
 
-/// The matches that the DFA's iterator gives.
-fn listed_by_dfa<C: Cursor + Drop>(
-    alloc: Global,
-    regex: &api_dfa::regex::Regex,
-    input: Input<&mut C>,
-) -> Result<Listed, AllocError> {
-    let mut listed = Listed {
-        spans: Vec::new(alloc),
-        error: None,
-    };
-    for item in dfa::find_iter(regex, input) {
-        match item {
-            Ok(found) => listed.spans.push(pair_of(Some(found)))?,
-            Err(error) => listed.error = Some(error),
-        }
-    }
-    Ok(listed)
-}
-
-/// The matches that the hybrid's iterator gives, in a cache of its own.
-fn listed_by_hybrid<C: Cursor + Drop>(
-    alloc: Global,
-    hybrid: &Hybrid,
-    input: Input<&mut C>,
-) -> Result<Listed, AllocError> {
-    let mut cache = hybrid.regex.create_cache(alloc)?;
-    let listed = listed_in(alloc, &hybrid.regex, &mut cache, input);
-    drop(cache);
-    listed
-}
-
-/// The matches that the iterator of a hybrid's regex gives, in this cache.
-fn listed_in<C: Cursor + Drop>(
-    alloc: Global,
-    regex: &api_hybrid::regex::Regex,
+/// Adds the matches that the iterator of a hybrid's regex gives in this cache, and tells the error that they end in.
+fn list_in<C: Cursor + Drop>(
+    regex: &Regex,
     cache: &mut Cache,
-    input: Input<&mut C>,
-) -> Result<Listed, AllocError>
+    input: Input<C>,
+    spans: &mut Spans,
+) -> Option<MatchError>
     requires { IsCacheFor regex.now cache.old }
 {
-    let mut listed = Listed {
-        spans: Vec::new(alloc),
-        error: None,
-    };
     for item in hybrid::find_iter(regex, cache, input) {
         match item {
-            Ok(found) => listed.spans.push(pair_of(Some(found)))?,
-            Err(error) => listed.error = Some(error),
+            Ok(found) => spans.push(found.start(), found.end()),
+            Err(error) => return Some(error),
         }
     }
-    Ok(listed)
+    None
 }
