@@ -4,25 +4,29 @@ use regex_cursor::Cursor;
 use regex_cursor::cursor::ChunkCursor;
 use std::test::Fail;
 
-/// What the cursor shows: where it begins, and the bytes.
-fn shows(cursor: &ChunkCursor, offset: usize, bytes: &str) -> bool {
-    cursor.offset() == offset && cursor.chunk() == bytes.as_bytes()
-}
+/// For each move, on or back, whether it is made, and where the chunk that is shown then begins and ends.
+const MOVES: [(bool, bool, usize, usize); 6] = [
+    (false, false, 0, 2),
+    (true, true, 2, 3),
+    (true, true, 3, 6),
+    (true, false, 3, 6),
+    (false, true, 2, 3),
+    (false, true, 0, 2),
+];
 
 /// Empty chunks are passed over, and a move that isn't made changes nothing.
 #[test]
 fn on_and_back(rt: HostRuntime) -> Result<(), Fail> {
-    let chunks: [&[u8]; 6] = [b"", b"ab", b"", b"", b"c", b""];
+    let chunks: [&[u8]; 7] = [b"", b"ab", b"", b"", b"c", b"def", b""];
     let mut cursor = ChunkCursor::new(&chunks)?;
-    assert!(rt; shows(&cursor, 0, "ab") && !cursor.backtrack() && shows(&cursor, 0, "ab"));
-    assert!(rt; cursor.advance() && shows(&cursor, 2, "c"));
-    assert!(rt; !cursor.advance() && shows(&cursor, 2, "c"));
-    assert!(rt; cursor.backtrack() && shows(&cursor, 0, "ab") && cursor.total_bytes() == Some(3));
-    for (at, offset, bytes) in [(0, 0, "ab"), (1, 0, "ab"), (2, 2, "c"), (3, 2, "c")] {
-        assert!(rt;
-            shows(&ChunkCursor::at(&chunks, at)?, offset, bytes),
-            "at {at}"
-        );
+    for (on, is_made, start, end) in MOVES {
+        let moved = if on {
+            cursor.advance()
+        } else {
+            cursor.backtrack()
+        };
+        let last = cursor.offset().saturating_add(cursor.chunk().len());
+        assert!(rt; moved == is_made && cursor.offset() == start && last == end);
     }
     Ok(())
 }

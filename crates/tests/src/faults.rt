@@ -1,10 +1,8 @@
 //! What is said of texts that are no patterns.
 
-use regex_cursor::syntax::{Config, Error, Explained, explain, parse};
-use std::alloc::Global;
-use std::fmt::Write;
-use std::process::Abort;
-use std::test::Fail;
+use crate::words::is_text;
+use regex_cursor::syntax::{Config, Explained, explain};
+use std::alloc::{AllocError, Global};
 
 /// Texts, each with what is wrong, and with which bytes.
 const FAULTS: &str = r"(→unclosed group 0..1
@@ -115,92 +113,89 @@ a\→nothing is escaped 1..2
 a→none
 (?i)[]a-]\x41|→none";
 
+/// The same where what is no UTF-8 may match, and without `u`.
+const BYTES: &str = "[a-é]→a character past ASCII in a list of bytes 3..5";
+
+/// The same where the byte 200 ends lines.
+const PAST_ASCII: &str = "a.→a line terminator past ASCII is no character 1..2
+(?-u:.)→bytes past ASCII where UTF-8 is asked for 5..6";
+
+/// The same where patterns may have no level.
+const LEVEL_0: &str = "a→none
+ab→patterns nest too deeply 0..2
+a*→patterns nest too deeply 0..2
+x[a]→patterns nest too deeply 0..4";
+
+/// The same where they may have one.
+const LEVEL_1: &str = "ab→none
+[a]→none
+(ab)→patterns nest too deeply 0..4
+ab|c→patterns nest too deeply 0..4
+x(?:a*)→patterns nest too deeply 1..7";
+
 /// What is said of the text: the fault and its bytes, or `none`.
-fn said(alloc: Global, config: &Config, text: &str) -> Result<String, Fail> {
-    let mut said = String::new(alloc);
-    match explain(alloc, text, config)? {
-        Some(fault) => {
-            let kind = fault.kind;
-            let start = fault.span.start;
-            let end = fault.span.end;
-            write!(said, "{kind} {start}..{end}")?;
-        }
-        None => write!(said, "none")?,
-    }
-    Ok(said)
+fn said(alloc: Global, config: &Config, text: &str) -> Result<String, AllocError> {
+    let Some(fault) = explain(alloc, text, config)? else {
+        return String::from_str(alloc, "none");
+    };
+    let kind = fault.kind;
+    let start = fault.span.start;
+    let end = fault.span.end;
+    format!(in alloc; "{kind} {start}..{end}")
 }
 
-/// Of each text is said what stands behind its arrow.
-fn are_explained(rt: &impl Abort, alloc: Global, config: &Config, rows: &str) -> Result<(), Fail> {
+/// The first text of which something else is said than what stands behind its arrow.
+fn first_other<'a>(
+    alloc: Global,
+    config: &Config,
+    rows: &'a str,
+) -> Result<Option<&'a str>, AllocError> {
     for row in rows.lines() {
-        let (text, want) = row.split_once('→').ok_or("no arrow")?;
-        let said = said(alloc, config, text)?;
-        assert!(rt; said.as_str() == want, "{text}: {said}");
+        let Some((text, wanted)) = row.split_once('→') else {
+            return Ok(Some(row));
+        };
+        if said(alloc, config, text)?.as_str() != wanted {
+            return Ok(Some(row));
+        }
     }
-    Ok(())
+    Ok(None)
 }
 
-/// The text and its fault are shown so.
-fn is_shown(rt: &impl Abort, alloc: Global, text: &str, want: &str) -> Result<(), Fail> {
-    let fault = explain(alloc, text, &Config::new())?.ok_or("no fault")?;
-    let shown = Explained { text, fault };
-    let mut all = String::new(alloc);
-    write!(all, "{shown}")?;
-    assert!(rt; all.as_str() == want, "{all}");
-    Ok(())
-}
-
-/// Each kind of fault in a row or more, with the opener for what isn't closed; carets below, also behind a tab and a character of
-/// two bytes, and the line alone in which the fault stands.
+/// Each kind of fault in a row or more, with the opener for what isn't closed.
 #[test]
-fn faults_are_explained(rt: HostRuntime) -> Result<(), Fail> {
+fn faults_are_explained(rt: HostRuntime) {
     let plain = Config::new();
     for (config, rows) in [
         (plain, FAULTS),
-        (
-            plain.utf8(false).unicode(false),
-            "[a-é]→a character past ASCII in a list of bytes 3..5",
-        ),
-        (
-            plain.line_terminator(200),
-            "a.→a line terminator past ASCII is no character 1..2\n(?-u:.)→bytes past ASCII where UTF-8 is asked for 5..6",
-        ),
-        (
-            plain.nest_limit(0),
-            "a→none\nab→patterns nest too deeply 0..2\na*→patterns nest too deeply 0..2\nx[a]→patterns nest too deeply 0..4",
-        ),
-        (
-            plain.nest_limit(1),
-            "ab→none\n[a]→none\n(ab)→patterns nest too deeply 0..4\nab|c→patterns nest too deeply 0..4\nx(?:a*)→patterns nest too deeply 1..7",
-        ),
+        (plain.utf8(false).unicode(false), BYTES),
+        (plain.line_terminator(200), PAST_ASCII),
+        (plain.nest_limit(0), LEVEL_0),
+        (plain.nest_limit(1), LEVEL_1),
     ] {
-        are_explained(&rt, rt.alloc(), &config, rows)?;
-    }
-    is_shown(
-        &rt,
-        rt.alloc(),
-        "é[z-a]b",
-        "range out of order:\n    é[z-a]b\n      ^^^",
-    )?;
-    is_shown(
-        &rt,
-        rt.alloc(),
-        "a\n\t(b\nc",
-        "unclosed group in line 2:\n    \t(b\n    \t^",
-    )
-}
-
-/// Where a text is found not to be a pattern: at a byte, or at its end.
-fn place_of(alloc: Global, text: &str) -> Option<usize> {
-    match parse(alloc, text, &Config::new()) {
-        Ok(_) | Err(Error::Memory) => None,
-        Err(Error::Syntax { at }) => Some(at),
+        let other = first_other(rt.alloc(), &config, rows);
+        assert!(rt; other == Ok(None), "{other:?}");
     }
 }
 
+/// How the fault of the text is shown.
+fn shown(alloc: Global, text: &str) -> Result<String, AllocError> {
+    let Some(fault) = explain(alloc, text, &Config::new())? else {
+        return Ok(String::new(alloc));
+    };
+    let shown = Explained { text, fault };
+    format!(in alloc; "{shown}")
+}
+
+/// Carets below, also behind a tab and a character of two bytes, and the line alone in which the fault stands.
 #[test]
-fn places_of_faults(rt: HostRuntime) {
-    for (text, at) in [("é)", 2), ("(a", 2), ("*", 0)] {
-        assert!(rt; place_of(rt.alloc(), text) == Some(at), "{text}");
-    }
+fn faults_are_shown(rt: HostRuntime) {
+    let shown_below = shown(rt.alloc(), "é[z-a]b");
+    assert!(rt; is_text(shown_below, "range out of order:\n    é[z-a]b\n      ^^^"));
+    let shown_in_a_line = shown(rt.alloc(), "a\n\t(b\nc");
+    assert!(rt;
+        is_text(
+            shown_in_a_line,
+            "unclosed group in line 2:\n    \t(b\n    \t^"
+        )
+    );
 }

@@ -22,8 +22,6 @@ mod searches;
 #[cfg(test)]
 mod states;
 #[cfg(test)]
-mod trees;
-#[cfg(test)]
 mod values;
 #[cfg(test)]
 mod words;

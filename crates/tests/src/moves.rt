@@ -7,14 +7,8 @@ use regex_cursor::{Cursor, Input};
 use std::alloc::{AllocError, Global};
 use std::test::Fail;
 
-/// What the chunks of a long text hold, all but the first or the last.
+/// What the chunks of a long text hold, but for the first and the last.
 const CHUNK: &[u8] = &[b'x'; 64];
-
-/// How many such chunks there are: 16 MiB.
-const LONG: usize = 262_144;
-
-/// How many bytes these have.
-const END: usize = 16_777_216;
 
 /// A cursor over a list of chunks, and how often it was asked for another one.
 #[derive(Drop)]
@@ -56,96 +50,94 @@ impl Cursor for Counted<'_> {
 }
 
 /// `first`, then so many chunks of `x`, then `last`.
-fn long_text<'a>(
+fn long_text(
     alloc: Global,
-    first: &'a [u8],
+    first: &'static [u8],
     count: usize,
-    last: &'a [u8],
-) -> Result<Vec<&'a [u8]>, AllocError> {
+    last: &'static [u8],
+) -> Result<Vec<&'static [u8]>, AllocError> {
     let mut chunks = vec![in alloc; CHUNK; count]?;
     chunks.insert(0, first)?;
     chunks.push(last)?;
     Ok(chunks)
 }
 
-/// Whether there is a match in the text from `start` on, where it lies, and how often a search asked for another chunk at most.
-fn told(
+/// The match that a search from `start` on finds.
+fn found<C: Cursor + Drop>(
     alloc: Global,
     regex: &Regex,
-    cursor: &mut Counted,
+    cursor: &mut C,
     start: usize,
-) -> Result<(bool, Option<Match>, u64), AllocError> {
-    let first = cursor.moves;
-    let input = Input::new(&mut *cursor).range(start, usize::MAX);
-    let is_match = regex.is_match(alloc, input)?;
-    let second = cursor.moves;
-    let input = Input::new(&mut *cursor).range(start, usize::MAX);
-    let found = regex.find(alloc, input)?;
-    let last = cursor.moves;
-    let moves = second
-        .saturating_sub(first)
-        .max(last.saturating_sub(second));
-    Ok((is_match, found, moves))
+) -> Result<Option<Match>, AllocError> {
+    regex.find(alloc, Input::new(cursor).range(start, usize::MAX))
 }
 
-/// The same of a pattern, in chunks over which a cursor begins at this place.
-fn told_of(
+/// Whether there is a match from `start` on.
+fn is_match<C: Cursor + Drop>(
+    alloc: Global,
+    regex: &Regex,
+    cursor: &mut C,
+    start: usize,
+) -> Result<bool, AllocError> {
+    regex.is_match(alloc, Input::new(cursor).range(start, usize::MAX))
+}
+
+/// Where a search begins with its cursor, and from where on it seeks.
+type Places = (usize, usize);
+
+/// Whether there is a match in the chunks, where it ends, and how often both searches asked for another chunk.
+fn told(
     alloc: Global,
     pattern: &str,
     chunks: &[&[u8]],
-    at: usize,
-    start: usize,
-) -> Result<(bool, Option<Match>, u64), Fail> {
+    places: Places,
+) -> Result<(bool, Option<usize>, u64), Fail> {
+    let (at, start) = places;
     let chunks = ChunkCursor::at(chunks, at)?;
-    let mut cursor = Counted { chunks, moves: 0 };
     let regex = Regex::new(alloc, pattern)?;
-    let told = told(alloc, &regex, &mut cursor, start);
+    let mut cursor = Counted { chunks, moves: 0 };
+    let is_match = is_match(alloc, &regex, &mut cursor, start);
+    let found = found(alloc, &regex, &mut cursor, start);
     drop(regex);
-    Ok(told?)
+    Ok((is_match?, found?.map(|found| found.end()), cursor.moves))
 }
 
-/// A pattern, the first chunk, the number of long ones, and the last; where the cursor begins, and the span; where the match lies, and how
-/// often another chunk is asked for at least, and at most.
+/// How many chunks of `x` stand in a text of 16 MiB, and how many bytes these have.
+const LONG: usize = 262_144;
+
+const END: usize = 16_777_216;
+
+/// A pattern; the first chunk of a text, how many are between, and the last; the places; and where the match ends.
 type Row = (
     &'static str,
     (&'static [u8], usize, &'static [u8]),
-    (usize, usize),
-    Option<(usize, usize)>,
-    (u64, u64),
+    Places,
+    Option<usize>,
 );
 
-/// A search that has to read all of 1,025 chunks asks for each of them. A pattern whose matches end where the text does is sought from
-/// there. That there is a match is known where the first one ends. Where the bounds leave no match, nothing is read.
+/// A pattern whose matches end where the text does is sought from there. That there is a match is known where the first one ends. Where
+/// the bounds leave no match, nothing is read. All of a text is read for the last row alone.
+const ROWS: [Row; 7] = [
+    ("foo$", (b"", LONG, b"foo"), (END, 0), Some(16_777_219)),
+    ("a", (b"a", LONG, b""), (0, 0), Some(1)),
+    ("a+", (b"a", LONG, b""), (0, 0), Some(1)),
+    ("[a-c]", (b"a", LONG, b""), (0, 0), Some(1)),
+    ("^foo$", (b"", LONG, b"foo"), (END, 1), None),
+    ("^foo$", (b"", LONG, b"foo"), (END, END), None),
+    ("foo", (b"", 1024, b"foo"), (0, 0), Some(65_539)),
+];
+
 #[test]
 fn moves_of_searches(rt: HostRuntime) -> Result<(), Fail> {
-    let ended: (&[u8], usize, &[u8]) = (b"", LONG, b"foo");
-    let begun: (&[u8], usize, &[u8]) = (b"a", LONG, b"");
-    let rows: [Row; 7] = [
-        (
-            "foo",
-            (b"", 1024, b"foo"),
-            (0, 0),
-            Some((65536, 65539)),
-            (1024, 4096),
-        ),
-        ("foo$", ended, (END, 0), Some((END, END + 3)), (0, 8)),
-        ("a", begun, (0, 0), Some((0, 1)), (0, 1)),
-        ("a+", begun, (0, 0), Some((0, 1)), (0, 1)),
-        ("[a-c]", begun, (0, 0), Some((0, 1)), (0, 1)),
-        ("^foo$", ended, (END, 1), None, (0, 1)),
-        ("^foo$", ended, (END, END), None, (0, 1)),
-    ];
-    for (pattern, (first, count, last), (at, start), wanted, (least, most)) in rows {
-        let chunks = long_text(rt.alloc(), first, count, last)?;
-        let (is_match, found, moves) = told_of(rt.alloc(), pattern, &chunks, at, start)?;
-        let bounds = found.map(|found| (found.start(), found.end()));
+    for (pattern, (first, count, last), places, end) in &ROWS {
+        let chunks = long_text(rt.alloc(), first, *count, last)?;
+        let (is_match, found, moves) = told(rt.alloc(), pattern, &chunks, *places)?;
+        assert!(rt; is_match == end.is_some() && found == *end, "{pattern}");
+        let is_little = moves < 8;
+        let is_all = moves >= 1024;
         assert!(rt;
-            bounds == wanted && is_match == wanted.is_some(),
-            "{pattern}"
-        );
-        assert!(rt;
-            least <= moves && moves <= most,
-            "{moves} moves of {pattern}"
+            if *count == LONG { is_little } else { is_all },
+            "{moves} of {pattern}"
         );
     }
     Ok(())

@@ -41,105 +41,68 @@ impl Read for Broken {
 }
 
 /// A program, its words, whether its input can be read, its status, and its line.
-type Row<'w> = (Program, &'w [&'w str], bool, u8, &'w str);
+type Row = (Program, &'static [&'static str], bool, u8, &'static str);
+
+const FIND: Program = Program::Find;
+
+const REPLACE: Program = Program::Replace;
+
+const FIND_USAGE: &str = "usage: rcfind PATTERN CHUNK\n";
+
+const REPLACE_USAGE: &str = "usage: rcsub PATTERN TEMPLATE CHUNK\n";
+
+const NO_PATTERN: &str = "error parsing pattern 0\n";
+
+const NO_TEMPLATE: &str = "error parsing template at byte 2\n";
+
+const NOT_READ: &str = "read failed\n";
 
 /// The words are read first, then the template, then the input, and then the pattern.
+const ROWS: [Row; 13] = [
+    (FIND, &["ab", "2"], true, 0, ""),
+    (FIND, &["abcd", "1048576"], true, 1, ""),
+    (FIND, &["*", "3"], true, 2, NO_PATTERN),
+    (FIND, &["(", "+3"], false, 2, FIND_USAGE),
+    (FIND, &["a", "1", "1"], false, 2, FIND_USAGE),
+    (FIND, &["(", "1"], false, 2, NOT_READ),
+    (REPLACE, &["ab", "-", "2"], true, 0, ""),
+    (REPLACE, &["z", "-", "2"], true, 1, ""),
+    (REPLACE, &["(", "-", "1"], true, 2, NO_PATTERN),
+    (REPLACE, &["b", "$", "0"], false, 2, REPLACE_USAGE),
+    (REPLACE, &["b", "1"], false, 2, REPLACE_USAGE),
+    (REPLACE, &["(", "é${é}", "1"], false, 2, NO_TEMPLATE),
+    (REPLACE, &["(", "-", "1"], false, 2, NOT_READ),
+];
+
 #[test]
 fn lines_of_faults(rt: HostRuntime) {
-    let rows: [Row; 13] = [
-        (Program::Find, &["ab", "2"], true, 0, ""),
-        (Program::Find, &["abcd", "1048576"], true, 1, ""),
-        (
-            Program::Find,
-            &["*", "3"],
-            true,
-            2,
-            "error parsing pattern 0\n",
-        ),
-        (
-            Program::Find,
-            &["(", "+3"],
-            false,
-            2,
-            "usage: rcfind PATTERN CHUNK\n",
-        ),
-        (
-            Program::Find,
-            &["a", "1", "1"],
-            false,
-            2,
-            "usage: rcfind PATTERN CHUNK\n",
-        ),
-        (Program::Find, &["(", "1"], false, 2, "read failed\n"),
-        (Program::Replace, &["ab", "-", "2"], true, 0, ""),
-        (Program::Replace, &["z", "-", "2"], true, 1, ""),
-        (
-            Program::Replace,
-            &["(", "-", "1"],
-            true,
-            2,
-            "error parsing pattern 0\n",
-        ),
-        (
-            Program::Replace,
-            &["b", "$", "0"],
-            false,
-            2,
-            "usage: rcsub PATTERN TEMPLATE CHUNK\n",
-        ),
-        (
-            Program::Replace,
-            &["b", "1"],
-            false,
-            2,
-            "usage: rcsub PATTERN TEMPLATE CHUNK\n",
-        ),
-        (
-            Program::Replace,
-            &["(", "é${é}", "1"],
-            false,
-            2,
-            "error parsing template at byte 2\n",
-        ),
-        (
-            Program::Replace,
-            &["(", "-", "1"],
-            false,
-            2,
-            "read failed\n",
-        ),
-    ];
-    for (called, words, is_read, status, line) in rows {
-        let answer = if is_read {
-            told(rt.alloc(), called, words, &mut b"abcab".as_slice(), 64)
+    for (called, words, is_read, status, line) in &ROWS {
+        let answer = if *is_read {
+            told(rt.alloc(), *called, words, &mut b"abcab".as_slice(), 64)
         } else {
-            told(rt.alloc(), called, words, &mut Broken, 64)
+            told(rt.alloc(), *called, words, &mut Broken, 64)
         };
-        assert!(rt;
-            answer.0 == status && answer.1.as_slice() == line.as_bytes(),
-            "{line}"
-        );
+        let is_told = answer.0 == *status && answer.1.as_slice() == line.as_bytes();
+        assert!(rt; is_told, "{line}");
     }
 }
+
+/// A program, its words, and what it puts out.
+const PUT: [(Program, &[&str], &str); 2] = [
+    (FIND, &["ab", "2"], "0..2\n3..5\n"),
+    (REPLACE, &["(a)(b)", "<${2}-${1}>", "2"], "<b-a>c<b-a>"),
+];
 
 /// Into a writer without room for all that is wanted goes what it has room for, and then the fault is told.
 #[test]
 fn failed_writes(rt: HostRuntime) {
-    let rows: [(Program, &[&str], &str); 2] = [
-        (Program::Find, &["ab", "2"], "0..2\n3..5\n"),
-        (
-            Program::Replace,
-            &["(a)(b)", "<${2}-${1}>", "2"],
-            "<b-a>c<b-a>",
-        ),
-    ];
-    for (called, words, wanted) in rows {
+    for (called, words, wanted) in &PUT {
         for room in 0..wanted.len() {
             let input = &mut b"abcab".as_slice();
-            let (status, line, bytes) = told(rt.alloc(), called, words, input, room);
-            assert!(rt; status == 2 && line.as_slice() == b"write failed\n".as_slice());
+            let (_, line, bytes) = told(rt.alloc(), *called, words, input, room);
+            let is_put = wanted.as_bytes().starts_with(&bytes[..room.min(64)]);
             assert!(rt;
-                wanted.as_bytes().starts_with(&bytes[..room.min(64)]),
+                is_put && line.as_slice() == b"write failed\n".as_slice(),
                 "{room}"
             );
         }

@@ -8,7 +8,6 @@ use regex_cursor::run::RunError;
 use regex_cursor::syntax;
 use regex_cursor::types::{MatchError, PatternID};
 use std::alloc::{AllocError, Global};
-use std::test::Fail;
 
 /// The lines of errors that searches and replacements end with.
 fn lines_of_searches(alloc: Global) -> Result<String, AllocError> {
@@ -24,10 +23,7 @@ fn lines_of_searches(alloc: Global) -> Result<String, AllocError> {
     )
 }
 
-#[test]
-fn errors_of_searches(rt: HostRuntime) -> Result<(), Fail> {
-    let lines = lines_of_searches(rt.alloc())?;
-    let wanted = "the content is too long
+const LINES_OF_SEARCHES: &str = "the content is too long
 the content is too long
 the place is past the end of the content
 the search quit at the byte 195, at offset 2
@@ -36,60 +32,66 @@ input too long
 input too long
 out of memory
 write failed";
-    assert!(rt; lines.as_str() == wanted, "{lines}");
-    Ok(())
-}
 
-/// The lines of errors of texts and of builds.
-fn lines_of_builds(alloc: Global) -> Result<String, AllocError> {
-    let pattern = PatternID::ZERO;
-    let error = syntax::Error::Syntax { at: 3 };
+/// The lines of errors of texts: the place of a fault is a byte, behind `é` the third.
+fn lines_of_texts(alloc: Global) -> Result<String, AllocError> {
+    let Err(error) = syntax::parse(alloc, "é)", &syntax::Config::new()) else {
+        return Ok(String::new(alloc));
+    };
     let template = TemplateError::Syntax { at: 3 };
     let (memory, refused) = (syntax::Error::Memory, TemplateError::Memory);
-    let texts = format!(in alloc; "{error}\n{template}\n{memory}\n{refused}")?;
+    let pattern = PatternID::ZERO;
     let read = BuildError::Syntax { pattern, error };
+    format!(in alloc; "{error}\n{template}\n{memory}\n{refused}\n{read}")
+}
+
+const LINES_OF_TEXTS: &str = "syntax error at byte 2
+error parsing template at byte 3
+out of memory
+out of memory
+error parsing pattern 0";
+
+/// The lines of errors of builds.
+fn lines_of_builds(alloc: Global) -> Result<String, AllocError> {
+    let pattern = PatternID::ZERO;
     let formed = BuildError::IllFormed { pattern };
     let (size, places) = (BuildError::SizeLimit { limit: 7 }, BuildError::PlaceLimit);
     let tables = BuildError::DfaSizeLimit { limit: 5 };
     let (minimum, given) = (9, 8);
     let cache = BuildError::CacheTooSmall { minimum, given };
     let memory = BuildError::Memory;
-    format!(in alloc; "{texts}\n{read}\n{formed}\n{size}\n{places}\n{tables}\n{cache}\n{memory}")
+    format!(in alloc; "{formed}\n{size}\n{places}\n{tables}\n{cache}\n{memory}")
 }
 
-#[test]
-fn errors_of_builds(rt: HostRuntime) -> Result<(), Fail> {
-    let lines = lines_of_builds(rt.alloc())?;
-    let wanted = "syntax error at byte 3
-error parsing template at byte 3
-out of memory
-out of memory
-error parsing pattern 0
-error building NFA
+const LINES_OF_BUILDS: &str = "error building NFA
 error building NFA
 error building NFA
 the DFA is larger than its limit of 5 bytes
 the cache needs 9 bytes and was given 8
 out of memory";
-    assert!(rt; lines.as_str() == wanted, "{lines}");
-    Ok(())
-}
 
 /// The assertions of a pattern, and of the empty one.
-fn looks_of(alloc: Global, text: &str) -> Result<String, Fail> {
+fn looks_of(alloc: Global, text: &str) -> Result<String, syntax::Error> {
     let tree = syntax::parse(alloc, text, &syntax::Config::new())?;
     let looks = tree.properties().look_set();
-    let none = Hir::empty().properties().look_set();
     drop(tree);
+    let none = Hir::empty().properties().look_set();
     Ok(format!(in alloc; "{looks:?} {none:?}")?)
 }
 
+/// Whether the text was made, and is this one.
+pub fn is_text<E: Drop>(made: Result<String, E>, wanted: &str) -> bool {
+    match made {
+        Ok(text) => text.as_str() == wanted,
+        Err(_) => false,
+    }
+}
+
 #[test]
-fn sets_of_assertions(rt: HostRuntime) -> Result<(), Fail> {
-    let shown = looks_of(rt.alloc(), r"(?m:\b$)^a")?;
-    assert!(rt;
-        shown.as_str() == "{Start, EndLF, WordUnicode} {}",
-        "{shown}"
-    );
-    Ok(())
+fn lines(rt: HostRuntime) {
+    assert!(rt; is_text(lines_of_searches(rt.alloc()), LINES_OF_SEARCHES));
+    assert!(rt; is_text(lines_of_texts(rt.alloc()), LINES_OF_TEXTS));
+    assert!(rt; is_text(lines_of_builds(rt.alloc()), LINES_OF_BUILDS));
+    let looks = looks_of(rt.alloc(), r"(?m:\b$)^a");
+    assert!(rt; is_text(looks, "{Start, EndLF, WordUnicode} {}"));
 }
