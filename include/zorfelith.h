@@ -27,7 +27,8 @@
 extern "C" {
 #endif
 
-/* Statuses. After any but ZF_DONE and ZF_FOUND nothing was written but what the call says. */
+/* Statuses. After any but ZF_DONE and ZF_FOUND nothing was written but what the call says: what was lent to it is as it was. ZF_EMPTY is
+ * returned exactly if the handle is empty. A full handle stays full, whatever the status is, but for zf_compile and zf_free. */
 enum {
     ZF_DONE = 0,      /* It is done. Of a search: there is no match. */
     ZF_FOUND = 1,     /* There is a match. */
@@ -113,8 +114,8 @@ struct zf_progress {
 
 /* Compiles patterns into the handle, and frees what it held before. There may be none, and then there is never a match.
  *
- * ZF_DONE; or ZF_NO_KIND, ZF_TOO_LARGE for too many, ZF_NOT_UTF8, ZF_SYNTAX, ZF_TOO_LARGE, ZF_MEMORY: the first of these that applies, want of
- * memory at any time. Then the handle is empty, and `refused` tells the status and where. */
+ * ZF_DONE, and `refused` is as it was; or ZF_NO_KIND, ZF_TOO_LARGE for too many, ZF_NOT_UTF8, ZF_SYNTAX, ZF_TOO_LARGE, ZF_MEMORY: the first
+ * of these that applies, want of memory at any time. Then the handle is empty, and `refused` tells the status and where. */
 uint32_t zf_compile(struct zf_handle *handle, const struct zf_bytes *patterns, size_t pattern_count, const struct zf_settings *settings,
                     struct zf_refused *refused);
 
@@ -125,14 +126,15 @@ void zf_free(struct zf_handle *handle);
  * whole text. ZF_FOUND or ZF_DONE; or ZF_EMPTY, ZF_TOO_LONG, ZF_OUTSIDE. The iteration stays as it was. */
 uint32_t zf_is_match(struct zf_handle *handle, const struct zf_bytes *chunks, size_t chunk_count, size_t start, size_t end);
 
-/* The match there: with ZF_FOUND it is written to `found`. Statuses as zf_is_match. The iteration stays as it was. */
+/* The match there: with ZF_FOUND it is written to `found`, which else stays as it was. Statuses as zf_is_match. The iteration stays as it
+ * was. */
 uint32_t zf_find(struct zf_handle *handle, const struct zf_bytes *chunks, size_t chunk_count, size_t start, size_t end,
                  struct zf_match *found);
 
-/* The same match with its groups. With ZF_FOUND and with ZF_DONE each of the `group_count` places is written: groups[i] is group i of the
- * pattern that matched, groups[0] the whole match; a group that took no part, or that the pattern doesn't have, is ZF_NONE, and so is each
- * where there is no match. Under ZF_LEFTMOST_LONGEST they are those of the way that is preferred of the ways to match that much. Under ZF_ALL
- * the groups but for the whole match are ZF_NONE. Statuses as zf_is_match. The iteration stays as it was. */
+/* The same match with its groups, and `found` as there. With ZF_FOUND and with ZF_DONE each of the `group_count` places is written: groups[i]
+ * is group i of the pattern that matched, groups[0] the whole match; a group that took no part, or that the pattern doesn't have, is ZF_NONE,
+ * and so is each where there is no match. Under ZF_LEFTMOST_LONGEST they are those of the way that is preferred of the ways to match that
+ * much. Under ZF_ALL the groups but for the whole match are ZF_NONE. Statuses as zf_is_match. The iteration stays as it was. */
 uint32_t zf_find_groups(struct zf_handle *handle, const struct zf_bytes *chunks, size_t chunk_count, size_t start, size_t end,
                         struct zf_match *found, struct zf_group *groups, size_t group_count);
 

@@ -1,6 +1,6 @@
 -- What a search's status tells: 0, there is no match, or a batch is filled; 1, there is one; 3, the chunks are too long; 4, the range is
 -- outside of the text. No other comes where the handle is full.
-use Rattle.std.specs.Prelude.{◌≡◌, ℕ, zero, suc, ◌<◌, List, length, min, Option, Some, None, is_some, true, IfSome}
+use Rattle.std.specs.Prelude.{◌≡◌, ℕ, zero, suc, ◌<◌, List, length, min, Option, Some, None, is_some, true, MatchOption}
 use Rattle.std.specs.Borrow.{Bor}
 use Rattle.rc_text.specs.Joined.{IsTooLong, joined}
 use Rattle.rc_pikevm_search.specs.Tells.{KeepsAll, TellsBy}
@@ -44,15 +44,22 @@ pub record HoldsGroups (s : Searching) (chunks : List (Bor (List ℕ))) (start e
   pub written : AreGroups t.captures groups
   pub same : IsSame s t
 
+-- What a search for groups leaves in the handle and in the places for groups: what `HoldsGroups` says if it was made, and else what was there.
+abbrev pub LeavesGroups : Searching → List (Bor (List ℕ)) → ℕ → ℕ → ℕ → (old new : List GroupAt) → Option Searching → Type 0
+LeavesGroups s chunks start end zero old new t = MatchOption t ⊥ (HoldsGroups s chunks start end new)
+LeavesGroups s chunks start end (suc zero) old new t = MatchOption t ⊥ (HoldsGroups s chunks start end new)
+LeavesGroups s chunks start end (suc (suc n)) old new t = (t ≡ Some s) × (new ≡ old)
+
 -- The batch holds the first of the matches that were left, and the others are left.
 pub record IsBatch (s : Searching) (text : List ℕ) (end : ℕ) (batch : List MatchAt) (p : Progress) (t : Searching) : Type 0 where
   pub filled : IsFilled (left_in s text end) (left_in t text end) batch p.count
   pub next : p.next ≡ t.from
   pub regex : t.regex ≡ s.regex
+  pub captures : t.captures ≡ s.captures
 
--- what a call for a batch tells: else the state of the iteration is as before
+-- what a call for a batch tells, and what it leaves in the handle: after a fault what was there
 abbrev pub TellsBatch : Searching → List (Bor (List ℕ)) → ℕ → ℕ → List MatchAt → Progress → Option Searching → Type 0
-TellsBatch s chunks end zero batch p t = IfSome t (IsBatch s (joined chunks) end batch p)
+TellsBatch s chunks end zero batch p t = MatchOption t ⊥ (IsBatch s (joined chunks) end batch p)
 TellsBatch s chunks end (suc zero) batch p t = ⊥
 TellsBatch s chunks end (suc (suc zero)) batch p t = ⊥
 TellsBatch s chunks end (suc (suc (suc zero))) batch p t = IsTooLong chunks × (t ≡ Some s)

@@ -65,6 +65,7 @@ pub extern "C" fn zf_compile(
 ) -> u32
     ensures built { MatchOption handle.new.held.value (result ≢ done) (λ s. (result ≡ done) × IsBuilt settings.now patterns.now s) }
     ensures refused { result ≢ done → IsToldRefusal settings.now patterns.now result refused.new }
+    ensures unwritten { result ≡ done → refused.new ≡ refused.old }
 {
     zf_free(alloc, handle);
     match Searcher::boxed(alloc, patterns, settings) {

@@ -1,8 +1,8 @@
 //! Numbers and names of patterns and groups.
-ghost use Rattle.std.specs.Prelude.{◌≡◌, MatchOption, length};
+ghost use Rattle.std.specs.Prelude.{◌≡◌, ◌≢◌, MatchOption, length};
 ghost use Rattle.api_meta.specs.Views.{regex_patterns};
 ghost use Rattle.zorfelith_c.specs.Names.{TellsCount, TellsName, TellsNumber};
-ghost use Rattle.zorfelith_c.specs.Statuses.{done, empty};
+ghost use Rattle.zorfelith_c.specs.Statuses.{done, empty, short};
 
 use crate::handle::Handle;
 use crate::status::{ABSENT, DONE, EMPTY, NOT_UTF8, SHORT};
@@ -14,6 +14,7 @@ use std::alloc::Global;
 #[unsafe(no_mangle)]
 pub extern "C" fn zf_pattern_count(alloc: Global, handle: &mut Handle, count: &mut usize) -> u32
     ensures answered { MatchOption handle.old.held.value (result ≡ empty) (λ s. (result ≡ done) × (count.new ≡ length (regex_patterns s.regex))) }
+    ensures unwritten { result ≢ done → count.new ≡ count.old }
     ensures kept { handle.new.held.value ≡ handle.old.held.value }
 {
     if !handle.is_full() {
@@ -35,6 +36,7 @@ pub extern "C" fn zf_group_count(
     count: &mut usize,
 ) -> u32
     ensures answered { MatchOption handle.old.held.value (result ≡ empty) (λ s. TellsCount s.regex pattern result count.new) }
+    ensures unwritten { result ≢ done → count.new ≡ count.old }
     ensures kept { handle.new.held.value ≡ handle.old.held.value }
 {
     if !handle.is_full() {
@@ -65,6 +67,8 @@ pub extern "C" fn zf_group_name(
     length: &mut usize,
 ) -> u32
     ensures answered { MatchOption handle.old.held.value (result ≡ empty) (λ s. TellsName s.regex pattern group result name.new length.new) }
+    ensures unwritten { result ≢ done → name.new ≡ name.old }
+    ensures unmeasured { result ≢ done → result ≢ short → length.new ≡ length.old }
     ensures kept { handle.new.held.value ≡ handle.old.held.value }
 {
     if !handle.is_full() {
@@ -88,6 +92,7 @@ pub extern "C" fn zf_group_number(
     number: &mut usize,
 ) -> u32
     ensures answered { MatchOption handle.old.held.value (result ≡ empty) (λ s. TellsNumber s.regex pattern name.now result number.new) }
+    ensures unwritten { result ≢ done → number.new ≡ number.old }
     ensures kept { handle.new.held.value ≡ handle.old.held.value }
 {
     if !handle.is_full() {
@@ -109,7 +114,9 @@ fn group_count(regex: &Regex, pattern: usize) -> Option<usize>
 
 /// Writes the name of a group, and returns the status.
 fn put_name(regex: &Regex, pattern: usize, group: usize, name: &mut [u8], length: &mut usize) -> u32
-    ensures { TellsName regex.now pattern group result name.new length.new }
+    ensures answered { TellsName regex.now pattern group result name.new length.new }
+    ensures unwritten { result ≢ done → name.new ≡ name.old }
+    ensures unmeasured { result ≢ done → result ≢ short → length.new ≡ length.old }
 {
     let Some(pattern) = PatternID::new(pattern) else {
         return ABSENT;
@@ -128,7 +135,8 @@ fn put_name(regex: &Regex, pattern: usize, group: usize, name: &mut [u8], length
 
 /// Writes the number of a group, and returns the status.
 fn put_number(regex: &Regex, pattern: usize, name: &[u8], number: &mut usize) -> u32
-    ensures { TellsNumber regex.now pattern name.now result number.new }
+    ensures answered { TellsNumber regex.now pattern name.now result number.new }
+    ensures unwritten { result ≢ done → number.new ≡ number.old }
 {
     let Some(pattern) = PatternID::new(pattern) else {
         return ABSENT;

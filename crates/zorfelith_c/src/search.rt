@@ -1,8 +1,8 @@
 //! Search calls.
-ghost use Rattle.std.specs.Prelude.{◌≡◌, ◌≤◌, IfSome, MatchOption, None, Some, if◌then◌else◌, option_map};
+ghost use Rattle.std.specs.Prelude.{◌≡◌, ◌≢◌, MatchOption, None, Some, if◌then◌else◌, option_map};
 ghost use Rattle.searcher.specs.Flags.{is_on};
 ghost use Rattle.searcher.specs.Searching.{Searching};
-ghost use Rattle.zorfelith_c.specs.Tells.{HoldsGroups, TellsBatch, TellsMarks, TellsMatch, TellsWhether};
+ghost use Rattle.zorfelith_c.specs.Tells.{LeavesGroups, TellsBatch, TellsMarks, TellsMatch, TellsWhether};
 ghost use Rattle.zorfelith_c.specs.Statuses.{done, empty};
 
 use crate::handle::Handle;
@@ -57,6 +57,7 @@ pub extern "C" fn zf_find(
     found: &mut MatchAt,
 ) -> u32
     ensures answered { MatchOption handle.old.held.value (result ≡ empty) (λ s. TellsMatch s.regex chunks.now start end result found.new) }
+    ensures unwritten { result ≢ 1 → found.new ≡ found.old }
     ensures kept { handle.new.held.value ≡ handle.old.held.value }
 {
     if !handle.is_full() {
@@ -89,7 +90,9 @@ pub extern "C" fn zf_find_groups(
     groups: &mut [GroupAt],
 ) -> u32
     ensures answered { MatchOption handle.old.held.value (result ≡ empty) (λ s. TellsMatch s.regex chunks.now start end result found.new) }
-    ensures groups { IfSome handle.old.held.value (λ s. result ≤ 1 → IfSome handle.new.held.value (HoldsGroups s chunks.now start end groups.new)) }
+    ensures unwritten { result ≢ 1 → found.new ≡ found.old }
+    ensures groups { MatchOption handle.old.held.value ((handle.new.held.value ≡ None) × (groups.new ≡ groups.old))
+        (λ s. LeavesGroups s chunks.now start end result groups.old groups.new handle.new.held.value) }
 {
     if !handle.is_full() {
         return EMPTY;
@@ -125,6 +128,7 @@ pub extern "C" fn zf_which_patterns(
     marks: &mut [u8],
 ) -> u32
     ensures answered { MatchOption handle.old.held.value (result ≡ empty) (λ s. TellsMarks s.regex chunks.now start end result marks.new) }
+    ensures unwritten { result ≢ done → marks.new ≡ marks.old }
     ensures kept { handle.new.held.value ≡ handle.old.held.value }
 {
     if !handle.is_full() {
@@ -169,8 +173,9 @@ pub extern "C" fn zf_next(
     batch: &mut [MatchAt],
     progress: &mut Progress,
 ) -> u32
-    ensures { MatchOption handle.old.held.value (result ≡ empty)
+    ensures answered { MatchOption handle.old.held.value ((result ≡ empty) × (handle.new.held.value ≡ None))
         (λ s. TellsBatch s chunks.now end result batch.new progress.new handle.new.held.value) }
+    ensures unwritten { result ≢ done → progress.new ≡ progress.old }
 {
     if !handle.is_full() {
         return EMPTY;
@@ -193,6 +198,7 @@ pub extern "C" fn zf_next(
 #[unsafe(no_mangle)]
 pub extern "C" fn zf_memory(alloc: Global, handle: &mut Handle, bytes: &mut usize) -> u32
     ensures answered { MatchOption handle.old.held.value (result ≡ empty) (λ _. result ≡ done) }
+    ensures unwritten { result ≢ done → bytes.new ≡ bytes.old }
     ensures kept { handle.new.held.value ≡ handle.old.held.value }
 {
     if !handle.is_full() {
