@@ -1,3 +1,4 @@
 pub mod Picked
 pub mod Selecting
 pub mod Local
+pub mod Unread

@@ -1,6 +1,7 @@
 -- Which lines a regex selects.
-use Rattle.std.specs.Prelude.{◌≡◌, ℕ, Bool, not, List, if◌then◌else◌}
+use Rattle.std.specs.Prelude.{◌≡◌, ℕ, Bool, not, List, Option, length, if◌then◌else◌}
 use Rattle.std.specs.Option.{is_some}
+use Rattle.rc_text.specs.Found.{Found}
 use Rattle.rc_text.specs.Text.{Searched}
 use Rattle.rc_program.specs.Kinds.{answer_by}
 use Rattle.rc_program.specs.Sought.{Sought, search_for}
@@ -15,6 +16,18 @@ has_match r line = is_some (answer_by (regex_kind r) (search_for (sought r) (who
 -- a search of the input is one of the line
 abbrev pub IsLine : List ℕ → Searched → Type 0
 IsLine line s = (q : Sought) → search_for q s ≡ search_for q (whole line)
+
+-- the line, searched from the place on
+abbrev pub from_place : List ℕ → ℕ → Searched
+from_place line from = record (whole line) { span = record { start = from; end = length line } }
+
+-- a search of the input is one of the line from the place on
+abbrev pub IsLineFrom : List ℕ → ℕ → Searched → Type 0
+IsLineFrom line from s = (q : Sought) → search_for q s ≡ search_for q (from_place line from)
+
+-- the match that a search of the line from the place on finds
+abbrev pub found_from : Regex → List ℕ → ℕ → Option Found
+found_from r line from = answer_by (regex_kind r) (search_for (sought r) (from_place line from))
 
 -- the lines with a match, or the others
 abbrev pub is_picked : Bool → Bool → Bool

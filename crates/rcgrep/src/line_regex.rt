@@ -1,11 +1,11 @@
 //! Line matching: patterns that select lines.
-ghost use Rattle.std.specs.Prelude.{◌≡◌, ◌≤◌, false, length};
+ghost use Rattle.std.specs.Prelude.{◌≡◌, ◌<◌, ◌≤◌, IfOk, None, false, length};
 ghost use Rattle.rc_program.specs.Kinds.{answer_by};
 ghost use Rattle.rc_program.specs.Sought.{search_for};
 ghost use Rattle.api_meta.specs.Views.{regex_kind, sought};
 ghost use Rattle.regex_cursor.specs.Output.{whole};
 ghost use Rattle.rcgrep.specs.Local.{start_or};
-ghost use Rattle.rcgrep.specs.Picked.{IsLine, has_match, is_picked};
+ghost use Rattle.rcgrep.specs.Picked.{IsLine, IsLineFrom, found_from, has_match, is_picked};
 
 use crate::patterns::Patterns;
 use grep_lines::LineSelector;
@@ -62,7 +62,10 @@ impl<'p> LineRegex<'p> {
         alloc: Global,
         patterns: &'p Patterns,
         is_inverted: bool,
-    ) -> Result<LineRegex<'p>, AllocError> {
+    ) -> Result<LineRegex<'p>, AllocError>
+        ensures regex { IfOk result (λ s. s.regex ≡ patterns.now.regex) }
+        ensures inverted { IfOk result (λ s. s.is_inverted ≡ is_inverted) }
+    {
         let cache = patterns.regex.create_cache(alloc)?;
         Ok(LineRegex {
             patterns,
@@ -124,11 +127,16 @@ impl<'p> LineRegex<'p> {
     }
 
     /// The match that a search of the line from a position on finds.
-    pub fn find_from(&mut self, line: &[u8], from: usize) -> Option<Match> {
+    pub fn find_from(&mut self, line: &[u8], from: usize) -> Option<Match>
+        ensures found { from ≤ length line.now → result ≡ found_from self.old.regex line.now from }
+        ensures past { length line.now < from → result ≡ None }
+        ensures regex { self.new.regex ≡ self.old.regex }
+        ensures inverted { self.new.is_inverted ≡ self.old.is_inverted }
+    {
         if from > line.len() {
             return None;
         }
-        let mut input = Input::new(line).range(from, line.len());
+        let mut input = input_from(line, from);
         self.patterns.regex.search_with(&mut self.cache, &mut input)
     }
 }
@@ -161,6 +169,15 @@ fn input_over(line: &[u8]) -> Input<&[u8]>
     ensures late { result.earliest ≡ false }
 {
     Input::new(line)
+}
+
+/// The line, to be searched from a place on.
+fn input_from(line: &[u8], from: usize) -> Input<&[u8]>
+    requires { from ≤ length line.now }
+    ensures line { IsLineFrom line.now from result }
+    ensures late { result.earliest ≡ false }
+{
+    Input::new(line).range(from, line.len())
 }
 
 impl LineSelector for LineRegex<'_> {

@@ -1,7 +1,13 @@
 //! Pattern setup: the patterns by which lines are selected.
-ghost use Rattle.std.specs.Prelude.{◌≡◌, ◌≤◌, All, IsTrue, length, map, true};
+ghost use Rattle.std.specs.Prelude.{◌≡◌, ◌≤◌, All, IfErr, IfOk, IsTrue, length, map, true};
 ghost use Rattle.rc_pattern.specs.Meaning.{meaning};
+ghost use Rattle.rc_parser.specs.Settings.{settings_of};
+ghost use Rattle.rc_settings.specs.Settings.{nfa_size_limit_of, unset};
+ghost use Rattle.rc_build.specs.Refusals.{IsRefusal};
+ghost use Rattle.rc_build.specs.TextRefusals.{AllRead, texts_of};
+ghost use Rattle.api_meta.specs.Views.{regex_patterns, regex_settings};
 ghost use Rattle.rcgrep.specs.Local.{HasLineLooks, IsLocalPattern, IsLocalRegex};
+ghost use Rattle.rcgrep.specs.Unread.{IsUnread};
 
 use regex_cursor::engines::meta::{BuildError, Regex};
 use regex_cursor::hir::{Hir, Look};
@@ -21,13 +27,22 @@ pub enum Unread {
 }
 
 impl<T: Drop> From<AllocFailed<T>> for Unread {
+    ghost use Rattle.std.specs.Prelude.{◌≡◌};
+    ghost use Rattle.rcgrep.specs.declared.patterns.Unread.TheVariants.{Memory};
+
+    ghost from_gives = { λ _ r. r ≡ Memory };
+
     fn from(_: AllocFailed<T>) -> Unread {
         Unread::Memory
     }
 }
 
-/// Parses the texts as patterns.
-pub fn read_patterns(alloc: Global, texts: &[&str], config: &Config) -> Result<Vec<Hir>, Unread> {
+/// Parses the texts as patterns, in their order. An `Err` is the first text that isn't a pattern, or
+/// out of memory.
+pub fn read_patterns(alloc: Global, texts: &[&str], config: &Config) -> Result<Vec<Hir>, Unread>
+    ensures read { IfOk result (λ hirs. AllRead (settings_of config.now) (texts_of texts.now) (map meaning hirs.items)) }
+    ensures unread { IfErr result (IsUnread (settings_of config.now) (texts_of texts.now)) }
+{
     let mut hirs = Vec::new(alloc);
     for (number, text) in texts.iter().enumerate() {
         match parse(alloc, text, config) {
@@ -53,9 +68,12 @@ pub struct Patterns {
     ghost local: { is_local ≡ true → ∥ IsLocalRegex regex ∥₁ },
 }
 
-/// Builds the patterns.
+/// Builds the patterns, by settings of which none is set. An `Err` is the first refusal that applies to them, or want of memory.
 pub fn build(alloc: Global, hirs: &[Hir]) -> Result<Patterns, BuildError>
     requires { length hirs.now ≤ 2147483647 }
+    ensures patterns { IfOk result (λ p. regex_patterns p.regex ≡ map meaning hirs.now) }
+    ensures settings { IfOk result (λ p. regex_settings p.regex ≡ unset) }
+    ensures refused { IfErr result (λ e. IsRefusal (nfa_size_limit_of unset) (map meaning hirs.now) e) }
 {
     let regex = Regex::builder().build_many_from_hir(alloc, hirs)?;
     let is_local = are_local(hirs);
