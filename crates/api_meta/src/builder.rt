@@ -32,7 +32,7 @@ use rc_pikevm_search::engine::Engine;
 use rc_settings::error::BuildError;
 use rc_settings::meta::Config;
 use rc_strategy::engines::{Engines, Limits};
-use rc_strategy::spans::Spans;
+use rc_strategy::lengths::Lengths;
 use std::alloc::{AllocError, Global};
 
 /// A builder of regexes. It has the settings of the regex, and the settings of the pattern syntax.
@@ -176,7 +176,7 @@ fn engines_of(
         alloc,
         engine,
         hirs.len(),
-        Spans::of(hirs),
+        Lengths::of(hirs),
         needs,
         limits_of(config),
     )

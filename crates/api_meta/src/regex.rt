@@ -45,7 +45,7 @@ pub struct Regex {
     ghost planned: { ∥ IfSome engines.lazy (IsLazyFor (plan_by (map meaning hirs.items) (settings_of config))) ∥₁ },
     ghost well_formed: { ∥ All IsWellFormed (map meaning hirs.items) ∥₁ },
     // No needles, if none are asked for.
-    ghost unguarded: { auto_prefilter_of (settings_of config) ≡ false → prefilter_of (settings_of config) ≡ None → guarding engines.engine.strategy ≡ None },
+    ghost unguarded: { auto_prefilter_of (settings_of config) ≡ false → prefilter_of (settings_of config) ≡ None → guarding engines.engine.literals ≡ None },
 }
 
 impl Regex {
@@ -299,7 +299,7 @@ impl Regex {
         ensures { auto_prefilter_of (regex_settings self.now) ≡ false → prefilter_of (regex_settings self.now) ≡ None
             → result ≡ false }
     {
-        self.engines.engine.strategy.is_fast()
+        self.engines.engine.literals.is_fast()
     }
 
     /// Roughly the number of bytes that the program, the groups, the needles and the DFAs take.
@@ -317,7 +317,7 @@ impl Regex {
             .saturating_mul(size_of::<Option<usize>>());
         places
             .saturating_add(slots)
-            .saturating_add(self.engines.engine.strategy.memory_usage())
+            .saturating_add(self.engines.engine.literals.memory_usage())
             .saturating_add(self.engines.memory_usage())
     }
 

@@ -21,7 +21,7 @@ use Rattle.rc_program.specs.Program.{Place, program, shown}
 use Rattle.rc_program.specs.declared.place.Place as code
 use Rattle.rc_pikevm_search.specs.Choices.{answering, answering_for}
 use Rattle.rc_pikevm_search.specs.Walks.{again, next_start}
-use Rattle.rc_pikevm_search.specs.declared.strategy.Strategy.{Strategy}
+use Rattle.rc_pikevm_search.specs.declared.literals.Literals.{Literals}
 use Rattle.rc_build.specs.Fits.{Fits, sought_by}
 use Rattle.rc_settings.specs.Thompson.{Settings}
 use Rattle.api_pikevm.specs.Left.{FindKeeps, FindKeepsAlong, FindSteps, find_left}
@@ -31,7 +31,7 @@ same_places : {ps : List Place} (places : List code.Place) → places_of places 
 same_places places e = let many = length-map places place_of in let same = ap length e in omega (arith, many, same)
 
 -- no needles alone tell the matches of an engine that fits
-no_needles : (kind : MatchKind) (s : Strategy) → answering s ≡ None → answering_for kind s ≡ None
+no_needles : (kind : MatchKind) (s : Literals) → answering s ≡ None → answering_for kind s ≡ None
 no_needles leftmost_first s e = e
 no_needles all_matches s e = refl
 no_needles leftmost_longest s e = refl
@@ -53,13 +53,13 @@ few_places places many n a b same less few =
 
 -- what the pass for the next match counted, by the bounds before the search
 pub counted : {q : Settings} {kind : MatchKind} {hs : List Re} {e : Engine} {info : GroupInfo} → Fits q kind hs e info → (i j : Searched) (last : Option ℕ)
-    (item : Option Found) (c d : Made) → {o : Option Found} → answering e.strategy ≡ None → IsMoved i j → j.span.start ≡ next_start e.kind (engine_search e i) i.span.start last → o ≡ item →
+    (item : Option Found) (c d : Made) → {o : Option Found} → answering e.literals ≡ None → IsMoved i j → j.span.start ≡ next_start e.kind (engine_search e i) i.span.start last → o ≡ item →
     Counts e j o c d →
     (high i < low i → d.insertions ≡ 0) × (d.insertions ≤ length (program (shown (sought_by q hs).grouped hs)) * (high i - low i + 2))
     × IfSome item (λ m. m.end - m.start + 1 ≤ d.insertions)
 counted {hs = hs} {e = e} f i j last item c d {o = o} unanswered moved at is counts =
     let s = subst (λ x. Counts e j x c d) is counts in
-    let count = by_pass (answering_for e.kind e.strategy) _ _ (no_needles e.kind e.strategy unanswered) s in
+    let count = by_pass (answering_for e.kind e.literals) _ _ (no_needles e.kind e.literals unanswered) s in
     let ahead = from_start (again last (answer_by_from e.kind (engine_search e i) i.span.start)) i.span.start in
     let lower : low i ≤ low j = rw moved.slice (omega (arith, ahead, at)) in
     let top : high j ≡ high i = rw (moved.content, moved.end, moved.slice) refl in

@@ -24,7 +24,7 @@ use crate::vm::PikeVM;
 use rc_captures::captures;
 use rc_captures::captures::Captures;
 use rc_pikevm::kinds::{find_by_kind, search_slots_by_kind};
-use rc_pikevm_search::strategy::guards_of;
+use rc_pikevm_search::literals::guards_of;
 use rc_text::cursor::Cursor;
 use rc_text::input::Input;
 use rc_text::types::{Match, PatternID};
@@ -49,7 +49,7 @@ pub fn is_match<C: Cursor>(vm: &PikeVM, cache: &mut Cache, input: &mut Input<C>)
         &mut cache.inner,
         input,
         &vm.built.engine.program,
-        guards_of(&vm.built.engine.strategy),
+        guards_of(&vm.built.engine.literals),
         vm.built.engine.kind,
     )
     .is_some()
@@ -86,7 +86,7 @@ pub fn search<C: Cursor>(vm: &PikeVM, cache: &mut Cache, input: &mut Input<C>, c
         &mut cache.inner,
         input,
         &vm.built.engine.program,
-        guards_of(&vm.built.engine.strategy),
+        guards_of(&vm.built.engine.literals),
         vm.built.engine.kind,
         caps.slots_mut(),
     );
@@ -126,7 +126,7 @@ pub fn search_slots<C: Cursor>(
         &mut cache.inner,
         input,
         &vm.built.engine.program,
-        guards_of(&vm.built.engine.strategy),
+        guards_of(&vm.built.engine.literals),
         vm.built.engine.kind,
         slots,
     )

@@ -26,7 +26,7 @@ pub struct PikeVM {
     pub(crate) thompson: thompson::Config,
     pub(crate) built: Built,
     ghost fits: { Fits (settings_of thompson) (match_kind_of (search_settings_of config)) (map meaning built.hirs.items) built.engine built.info },
-    ghost unanswered: { answering built.engine.strategy ≡ None },
+    ghost unanswered: { answering built.engine.literals ≡ None },
 }
 
 impl PikeVM {

@@ -8,7 +8,7 @@ ghost use Rattle.rc_program.specs.Places.{places_of};
 ghost use Rattle.rc_program.specs.Sought.{IsRunnable, may_be_empty, passes_over};
 ghost use Rattle.rc_needles.specs.Prefilters.{needles_of};
 ghost use Rattle.rc_pikevm_search.specs.Choices.{answering, guarding};
-ghost use Rattle.rc_pikevm_search.specs.Strategies.{MayGoBy};
+ghost use Rattle.rc_pikevm_search.specs.Literals.{MayGoBy};
 ghost use Rattle.rc_settings.specs.Thompson.{settings_of, nfa_size_limit_of, line_terminator_of};
 ghost use Rattle.rc_build.specs.Fits.{Fits, sought_by};
 ghost use Rattle.rc_build.specs.Refusals.{IsBuildable, IsRefusal};
@@ -20,7 +20,7 @@ use rc_pattern::check::copies_of;
 use rc_pattern::hir::Hir;
 use rc_pikevm_search::choice::choose;
 use rc_pikevm_search::engine::Engine;
-use rc_pikevm_search::strategy::Strategy;
+use rc_pikevm_search::literals::Literals;
 use rc_program::heads::heads_of;
 use rc_program::place::Place;
 use rc_program::program::Program;
@@ -61,9 +61,9 @@ pub fn build_all(
     ensures patterns { IfOk result (λ b. map meaning b.hirs.items ≡ map meaning hirs.now) }
     ensures buildable { IfOk result (λ _. IsBuildable (nfa_size_limit_of (settings_of settings)) (map meaning hirs.now)) }
     ensures fits { IfOk result (λ b. Fits (settings_of settings) kind (map meaning b.hirs.items) b.engine b.info) }
-    ensures unanswered { is_auto ≡ false → IfOk result (λ b. answering b.engine.strategy ≡ None) }
+    ensures unanswered { is_auto ≡ false → IfOk result (λ b. answering b.engine.literals ≡ None) }
     ensures unguarded { is_auto ≡ false → option_map (λ p. needles_of p.now) prefilter.entry ≡ None
-        → IfOk result (λ b. guarding b.engine.strategy ≡ None) }
+        → IfOk result (λ b. guarding b.engine.literals ≡ None) }
     ensures refused { IfErr result (λ e. IsRefusal (nfa_size_limit_of (settings_of settings)) (map meaning hirs.now) e) }
 {
     let compiled = compile_all(
@@ -72,9 +72,9 @@ pub fn build_all(
         settings.get_nfa_size_limit(),
         settings.get_which_captures(),
     )?;
-    let strategy = choose(alloc, hirs, prefilter, is_auto)?;
+    let literals = choose(alloc, hirs, prefilter, is_auto)?;
     let heads = heads_of(alloc, &compiled.places)?;
-    let engine = engine_of(settings, kind, hirs, compiled.places, heads, strategy);
+    let engine = engine_of(settings, kind, hirs, compiled.places, heads, literals);
     let hirs = copies_of(alloc, hirs)?;
     Ok(Built {
         hirs,
@@ -83,24 +83,24 @@ pub fn build_all(
     })
 }
 
-/// The engine of these patterns, with their program, its first-byte sets and the literal strategy.
+/// The engine of these patterns, with their program, its first-byte sets and its literals.
 fn engine_of(
     settings: thompson::Config,
     kind: MatchKind,
     hirs: &[Hir],
     places: Vec<Place>,
     heads: Vec<Vec<bool>>,
-    strategy: Strategy,
+    literals: Literals,
 ) -> Engine
     requires runnable { IsRunnable (places_of places.items) }
     requires closed_over { AreHeads (places_of places.items) (flags_in heads.items) }
     requires sound { MayGoBy (places_of places.items) (line_terminator_of (settings_of settings))
-        (passes_over (sought_by (settings_of settings) (map meaning hirs.now))) strategy }
+        (passes_over (sought_by (settings_of settings) (map meaning hirs.now))) literals }
     ensures places { result.program.places ≡ places }
     ensures terminator { result.program.terminator ≡ line_terminator_of (settings_of settings) }
     ensures passes_over { result.program.passes_over ≡ passes_over (sought_by (settings_of settings) (map meaning hirs.now)) }
     ensures kind { result.kind ≡ kind }
-    ensures strategy { result.strategy ≡ strategy }
+    ensures literals { result.literals ≡ literals }
 {
     let passes_over = settings.get_utf8() && may_be_empty(hirs);
     let program = Program {
@@ -112,7 +112,7 @@ fn engine_of(
     Engine {
         program,
         kind,
-        strategy,
+        literals,
     }
 }
 

@@ -10,18 +10,18 @@ use Rattle.rc_dfa.specs.Machine.{Machine, Leads, IsAsked, is_dead}
 use Rattle.rc_dfa.specs.Runs.{IsByte, MayRead, ahead_at, behind_at, RunsDown, RunEnd, met_last, stopped_at, EndsDown, SearchEndsDown}
 use Rattle.rc_dense_dfa.specs.Cells.{met, skip, quit, row_of}
 use Rattle.rc_dense_dfa.specs.Tables.{Names, cell_at, class_at, column, mode_of, start_at, IsTable}
-use Rattle.rc_dense_dfa.specs.Searches.{InRow, has_died, noted_by, met_by, told, Course, swapped, IsStandingDown, StandsDown, EndsDownSo}
+use Rattle.rc_dense_dfa.specs.Searches.{InRow, has_died, noted_by, met_by, told, Request, swapped, IsStandingDown, StandsDown, EndsDownSo}
 use Rattle.rc_dense_dfa.specs.declared.table.Table.{Table}
-use Rattle.rc_dense_dfa.specs.declared.run.Ended.TheVariants.{Met, Quit}
+use Rattle.rc_dense_dfa.specs.declared.run.Outcome.TheVariants.{Met, Quit}
 use Rattle.rc_dfa.proofs.SideLemmas.{byte_of_piece}
 use Rattle.rc_dense_dfa.proofs.MarkLemmas.{named_state, died_or_not, is_read, noted_more, told_is, met_at_end, plain_row, plain_note, met_row, met_note, here_is, named_here}
 
 -- what was met here, on the way down
-least_as_best : (i : ℕ) (stop : Option ℕ) (found : Option (ℕ × ℕ)) → least_at i stop (swapped found) ≡ swapped (best_at i stop found)
+least_as_best : (i : ℕ) (matched : Option ℕ) (found : Option (ℕ × ℕ)) → least_at i matched (swapped found) ≡ swapped (best_at i matched found)
 least_as_best i None found = refl
 least_as_best i (Some k) found = refl
 
-module _ (m : Machine) (states : List State) (d : Table) (t : Text) (q : Course) (ok : IsTable m states d) where
+module _ (m : Machine) (states : List State) (d : Table) (t : Text) (q : Request) (ok : IsTable m states d) where
   abbrev EndsHere : RunEnd → Type 0
   EndsHere = SearchEndsDown m t q.bound q.from q.anchored q.earliest
 
@@ -54,9 +54,9 @@ module _ (m : Machine) (states : List State) (d : Table) (t : Text) (q : Course)
             begins = x.begins;
             state = s;
             named = named_state m states d cell s ok l.1.2;
-            found = best_at (i + 1) s.stop x.found;
+            found = best_at (i + 1) s.matched x.found;
             tells = noted_more m states d cell (i + 1) s noted x.found ok l.1.2 x.tells;
-            runs = subst (λ o. RunsDown m t q.bound q.from x.first i s o) (least_as_best (i + 1) s.stop x.found)
+            runs = subst (λ o. RunsDown m t q.bound q.from x.first i s o) (least_as_best (i + 1) s.matched x.found)
                 (RunsDown.goes_down i x.state s x.runs le l.0 l.1.1);
           },
           died_or_not m states d cell s ok l.1.2,
@@ -73,10 +73,10 @@ module _ (m : Machine) (states : List State) (d : Table) (t : Text) (q : Course)
       let cell = cell_at d (row + class_at d b) in
       let l = leads q.bound row b noted x byte behind ne in
       let s = l.1.0 in
-      let is = told_is m states d (noted_by cell q.bound noted) (best_at q.bound s.stop x.found) ok
+      let is = told_is m states d (noted_by cell q.bound noted) (best_at q.bound s.matched x.found) ok
       (noted_more m states d cell q.bound s noted x.found ok l.1.2 x.tells) in
       SearchEndsDown.ran x.first x.read x.begins
-      (subst (λ o. EndsDown m t q.bound q.from x.first q.earliest (met_last o)) (least_as_best q.bound s.stop x.found ∙ ap swapped (sym is))
+      (subst (λ o. EndsDown m t q.bound q.from x.first q.earliest (met_last o)) (least_as_best q.bound s.matched x.found ∙ ap swapped (sym is))
       (EndsDown.at_bound x.state s x.runs l.0 l.1.1))
 
   -- or at the beginning of what the search sees
@@ -86,9 +86,9 @@ module _ (m : Machine) (states : List State) (d : Table) (t : Text) (q : Course)
       let named = x.named in
       let e = ok.ends named.0 x.state named.1 in
       let s = e.0 in
-      let is = met_at_end m states d row named.0 q.bound s.stop noted x.found ok named.2 x.tells e.2 in
+      let is = met_at_end m states d row named.0 q.bound s.matched noted x.found ok named.2 x.tells e.2 in
       SearchEndsDown.ran x.first x.read x.begins
-      (subst (λ o. EndsDown m t q.bound q.from x.first q.earliest (met_last o)) (least_as_best q.bound s.stop x.found ∙ ap swapped (sym is))
+      (subst (λ o. EndsDown m t q.bound q.from x.first q.earliest (met_last o)) (least_as_best q.bound s.matched x.found ∙ ap swapped (sym is))
       (EndsDown.at_bound x.state s x.runs (subst (λ o. MayRead m o) (sym behind) tt) (subst (λ o. Leads m x.state o s) (sym behind) e.1)))
 
   -- where nothing goes on
@@ -148,7 +148,7 @@ module _ (m : Machine) (states : List State) (d : Table) (t : Text) (q : Course)
 
 -- WHATEVER MACHINE THE TABLE IS OF
 
-module _ (d : Table) (q : Course) (i row b : ℕ) (noted : Option (ℕ × ℕ)) (x : StandsDown d q (i + 1) (record { row = row; noted = noted })) (byte : b < 256)
+module _ (d : Table) (q : Request) (i row b : ℕ) (noted : Option (ℕ × ℕ)) (x : StandsDown d q (i + 1) (record { row = row; noted = noted })) (byte : b < 256)
     (here : slice_get q.seen.content i ≡ Some b) (inside : q.seen.slice.start ≤ q.bound) (le : q.bound ≤ i) (cell : ℕ)
     (is : cell ≡ cell_at d (row + class_at d b)) where
   behind_here : (terminator : ℕ) → behind_at (text_of terminator q.seen) (i + 1) ≡ Some b
@@ -199,7 +199,7 @@ module _ (d : Table) (q : Course) (i row b : ℕ) (noted : Option (ℕ × ℕ)) 
 
 -- AT THE BOUNDS
 
-module _ (d : Table) (q : Course) (row : ℕ) (noted : Option (ℕ × ℕ)) (x : StandsDown d q q.bound (record { row = row; noted = noted })) where
+module _ (d : Table) (q : Request) (row : ℕ) (noted : Option (ℕ × ℕ)) (x : StandsDown d q q.bound (record { row = row; noted = noted })) where
   pub bound_met : (b : ℕ) → b < 256 → behind_at (text_of 0 q.seen) q.bound ≡ Some b → cell_at d (row + class_at d b) ≢ quit →
       EndsDownSo d q (Met (swapped (told d (noted_by (cell_at d (row + class_at d b)) q.bound noted))))
   bound_met b byte behind ne m states terminator ok asked =
@@ -216,7 +216,7 @@ module _ (d : Table) (q : Course) (row : ℕ) (noted : Option (ℕ × ℕ)) (x :
       EndsDownSo d q (Met (swapped (met_by (slice_index_or d.ends.items (row / d.width) 0) q.bound (told d noted))))
   end_met behind m states terminator ok asked = ended m states d (text_of terminator q.seen) q ok row noted (x m states terminator ok asked) behind
 
-module _ (d : Table) (q : Course) (cell : ℕ) (beside : Option ℕ) (byte : IsByte beside) (ahead : beside ≡ ahead_at (text_of 0 q.seen) q.from)
+module _ (d : Table) (q : Request) (cell : ℕ) (beside : Option ℕ) (byte : IsByte beside) (ahead : beside ≡ ahead_at (text_of 0 q.seen) q.from)
     (is : cell ≡ start_at d (mode_of q.anchored * (d.width + 1) + column d beside)) where
   byte_here : IsByte (ahead_at (text_of 0 q.seen) q.from)
   byte_here = subst IsByte ahead byte
@@ -248,7 +248,7 @@ module _ (d : Table) (q : Course) (cell : ℕ) (beside : Option ℕ) (byte : IsB
 
 -- OVER A PIECE
 
-module _ (d : Table) (q : Course) (cells classes piece : List ℕ) (start index row : ℕ) (noted : Option (ℕ × ℕ)) (same_cells : cells ≡ d.cells.items)
+module _ (d : Table) (q : Request) (cells classes piece : List ℕ) (start index row : ℕ) (noted : Option (ℕ × ℕ)) (same_cells : cells ≡ d.cells.items)
     (same_classes : classes ≡ d.classes.items) (in_row : InRow d row) (x : StandsDown d q (start + (index + 1)) (record { row = row; noted = noted }))
     (inside : q.seen.slice.start ≤ q.bound) (is : piece ≡ slice_range q.seen.content start (start + length piece)) (within : q.bound ≤ start)
     (lt : index < length piece) (byte : slice_index_or piece index 0 < 256) where

@@ -34,7 +34,7 @@ ends_kept m old new ends k few a = λ id s lt at.
     a id s lt (there ∙ ap Some same)
 
 pub tell_more : (states : List State) (tells : List ℕ) (s : State) (number code : ℕ) → length tells ≡ number → AreTells states tells →
-    slice_get states number ≡ Some s → code ≡ code_of s.stop → AreTells states (tells ++ code ∷ [])
+    slice_get states number ≡ Some s → code ≡ code_of s.matched → AreTells states (tells ++ code ∷ [])
 tell_more states tells s number code len a there e = λ id t lt at. elim (cases_lt id (length tells)) [
   | inl old ↦ get_more tells (code ∷ []) id _ (a id t old at)
   | inr past ↦
@@ -42,7 +42,7 @@ tell_more states tells s number code len a there e = λ id t lt at. elim (cases_
       let last : id ≡ length tells = omega (arith, past, lt, grown) in
       let same_at : slice_get states number ≡ Some t = ap (λ i. slice_get states i) (sym (last ∙ len)) ∙ at in
       let same : s ≡ t = cc in
-      at_end tells code id last ∙ ap Some (e ∙ ap (λ (u : State). code_of u.stop) same)
+      at_end tells code id last ∙ ap Some (e ∙ ap (λ (u : State). code_of u.matched) same)
 ]
 
 -- there are no more rows than the cells below the marks

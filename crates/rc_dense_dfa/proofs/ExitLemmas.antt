@@ -7,7 +7,7 @@ use Rattle.rc_text.specs.Text.{slice_end}
 use Rattle.rc_dense_dfa.specs.Cells.{met, dead, row_of, IsMarkedAs, AreMarked}
 use Rattle.rc_dense_dfa.specs.Exits.{AreExitsOf, Stays, is_exit}
 use Rattle.rc_dense_dfa.specs.Tables.{cell_at, class_at}
-use Rattle.rc_dense_dfa.specs.Searches.{Course, Stands, noted_by}
+use Rattle.rc_dense_dfa.specs.Searches.{Request, Stands, noted_by}
 use Rattle.rc_dense_dfa.specs.declared.exits.Exits.{Exits}
 use Rattle.rc_dense_dfa.specs.declared.exits.Exits.TheVariants.{Many}
 use Rattle.rc_dense_dfa.specs.declared.table.Table.{Table}
@@ -51,7 +51,7 @@ marked_exits shown shown_cells classes cells after row e same same_cells marked 
 
 -- OVER A PIECE
 
-module _ (d : Table) (q : Course) (start row : ℕ) (noted : Option (ℕ × ℕ)) (piece : List ℕ) (inside : q.bound ≤ slice_end q.seen)
+module _ (d : Table) (q : Request) (start row : ℕ) (noted : Option (ℕ × ℕ)) (piece : List ℕ) (inside : q.bound ≤ slice_end q.seen)
     (is : piece ≡ slice_range q.seen.content start (start + length piece)) (within : start + length piece ≤ q.bound)
     (bytes : (k : ℕ) → slice_index_or piece k 0 < 256) (x : Stands d q start (record { row = row; noted = noted })) where
   stay : (n : ℕ) → n ≤ length piece → ((k : ℕ) → k < n → Stays met d.classes.items d.cells.items row (slice_index_or piece k 0)) →

@@ -10,9 +10,9 @@ use Rattle.rc_dfa.specs.Machine.{Machine, Leads, IsAsked, is_dead}
 use Rattle.rc_dfa.specs.Runs.{IsByte, MayRead, ahead_at, behind_at, Runs, RunEnd, met_last, stopped_at, idle_at, EndsSo, SearchEnds}
 use Rattle.rc_dense_dfa.specs.Cells.{met, dead, skip, quit, row_of}
 use Rattle.rc_dense_dfa.specs.Tables.{Names, cell_at, class_at, column, mode_of, start_at, IsTable}
-use Rattle.rc_dense_dfa.specs.Searches.{InRow, has_died, noted_by, met_by, told, Course, IsNoted, IsStanding, Stands, Ends}
+use Rattle.rc_dense_dfa.specs.Searches.{InRow, has_died, noted_by, met_by, told, Request, IsNoted, IsStanding, Stands, Ends}
 use Rattle.rc_dense_dfa.specs.declared.table.Table.{Table}
-use Rattle.rc_dense_dfa.specs.declared.run.Ended.TheVariants.{Met, Idle, Quit}
+use Rattle.rc_dense_dfa.specs.declared.run.Outcome.TheVariants.{Met, Idle, Quit}
 use Rattle.rc_dfa.proofs.SideLemmas.{byte_of_piece}
 use Rattle.rc_dense_dfa.proofs.MarkLemmas.{named_state, died_or_not, idle_row, is_read, noted_more, told_is, met_at_end, plain_row, plain_note, skip_row, skip_note, met_row, met_note, here_is, named_here}
 
@@ -20,7 +20,7 @@ none_of : (noted : Option (ℕ × ℕ)) → is_some noted ≡ false → noted �
 none_of None e = refl
 none_of (Some n) e = cc e
 
-module _ (m : Machine) (states : List State) (d : Table) (t : Text) (q : Course) (ok : IsTable m states d) where
+module _ (m : Machine) (states : List State) (d : Table) (t : Text) (q : Request) (ok : IsTable m states d) where
   abbrev EndsHere : RunEnd → Type 0
   EndsHere = SearchEnds m t q.bound q.from q.anchored q.earliest
 
@@ -46,7 +46,7 @@ module _ (m : Machine) (states : List State) (d : Table) (t : Text) (q : Course)
             begins = x.begins;
             state = s;
             named = named_state m states d cell s ok l.1.2;
-            found = best_at i s.stop x.found;
+            found = best_at i s.matched x.found;
             tells = noted_more m states d cell i s noted x.found ok l.1.2 x.tells;
             runs = Runs.goes_on i x.state s x.runs lt l.0 l.1.1;
           },
@@ -67,7 +67,7 @@ module _ (m : Machine) (states : List State) (d : Table) (t : Text) (q : Course)
       let cell = cell_at d (row + class_at d b) in
       let l = leads q.bound row b noted x byte ahead ne in
       let s = l.1.0 in
-      let is = told_is m states d (noted_by cell q.bound noted) (best_at q.bound s.stop x.found) ok
+      let is = told_is m states d (noted_by cell q.bound noted) (best_at q.bound s.matched x.found) ok
       (noted_more m states d cell q.bound s noted x.found ok l.1.2 x.tells) in
       SearchEnds.ran x.first x.read x.begins
       (subst (λ o. EndsSo m t q.bound q.from x.first q.earliest (met_last o)) (sym is) (EndsSo.at_bound x.state s x.runs l.0 l.1.1))
@@ -79,7 +79,7 @@ module _ (m : Machine) (states : List State) (d : Table) (t : Text) (q : Course)
       let named = x.named in
       let e = ok.ends named.0 x.state named.1 in
       let s = e.0 in
-      let is = met_at_end m states d row named.0 q.bound s.stop noted x.found ok named.2 x.tells e.2 in
+      let is = met_at_end m states d row named.0 q.bound s.matched noted x.found ok named.2 x.tells e.2 in
       SearchEnds.ran x.first x.read x.begins
       (subst (λ o. EndsSo m t q.bound q.from x.first q.earliest (met_last o)) (sym is)
       (EndsSo.at_bound x.state s x.runs (subst (λ o. MayRead m o) (sym ahead) tt) (subst (λ o. Leads m x.state o s) (sym ahead) e.1)))
@@ -146,7 +146,7 @@ module _ (m : Machine) (states : List State) (d : Table) (t : Text) (q : Course)
 
 -- WHATEVER MACHINE THE TABLE IS OF
 
-module _ (d : Table) (q : Course) (i row b : ℕ) (noted : Option (ℕ × ℕ)) (x : Stands d q i (record { row = row; noted = noted })) (byte : b < 256)
+module _ (d : Table) (q : Request) (i row b : ℕ) (noted : Option (ℕ × ℕ)) (x : Stands d q i (record { row = row; noted = noted })) (byte : b < 256)
     (here : slice_get q.seen.content i ≡ Some b) (inside : q.bound ≤ slice_end q.seen) where
   ahead_here : (terminator : ℕ) → i < q.bound → ahead_at (text_of terminator q.seen) i ≡ Some b
   ahead_here terminator lt = byte_ahead (text_of terminator q.seen) i b (omega (arith, lt, inside)) here
@@ -216,7 +216,7 @@ module _ (d : Table) (q : Course) (i row b : ℕ) (noted : Option (ℕ × ℕ)) 
 
 -- AT THE BOUNDS
 
-module _ (d : Table) (q : Course) (row : ℕ) (noted : Option (ℕ × ℕ)) (x : Stands d q q.bound (record { row = row; noted = noted })) where
+module _ (d : Table) (q : Request) (row : ℕ) (noted : Option (ℕ × ℕ)) (x : Stands d q q.bound (record { row = row; noted = noted })) where
   module _ (b : ℕ) (byte : b < 256) (ahead : ahead_at (text_of 0 q.seen) q.bound ≡ Some b) where
     pub bound_quits : cell_at d (row + class_at d b) ≡ quit → Ends d q (Quit b q.bound)
     bound_quits e m states terminator ok asked =
@@ -230,7 +230,7 @@ module _ (d : Table) (q : Course) (row : ℕ) (noted : Option (ℕ × ℕ)) (x :
       Ends d q (Met (met_by (slice_index_or d.ends.items (row / d.width) 0) q.bound (told d noted)))
   end_met ahead m states terminator ok asked = ended m states d (text_of terminator q.seen) q ok row noted (x m states terminator ok asked) ahead
 
-module _ (d : Table) (q : Course) (cell : ℕ) (beside : Option ℕ) (byte : IsByte beside) (behind : beside ≡ behind_at (text_of 0 q.seen) q.from)
+module _ (d : Table) (q : Request) (cell : ℕ) (beside : Option ℕ) (byte : IsByte beside) (behind : beside ≡ behind_at (text_of 0 q.seen) q.from)
     (is : cell ≡ start_at d (mode_of q.anchored * (d.width + 1) + column d beside)) where
   byte_here : IsByte (behind_at (text_of 0 q.seen) q.from)
   byte_here = subst IsByte behind byte
@@ -262,7 +262,7 @@ module _ (d : Table) (q : Course) (cell : ℕ) (beside : Option ℕ) (byte : IsB
 
 -- OVER A PIECE
 
-module _ (d : Table) (q : Course) (cells classes piece : List ℕ) (start index row : ℕ) (noted : Option (ℕ × ℕ)) (same_cells : cells ≡ d.cells.items)
+module _ (d : Table) (q : Request) (cells classes piece : List ℕ) (start index row : ℕ) (noted : Option (ℕ × ℕ)) (same_cells : cells ≡ d.cells.items)
     (same_classes : classes ≡ d.classes.items) (in_row : InRow d row) (x : Stands d q (start + index) (record { row = row; noted = noted }))
     (inside : q.bound ≤ slice_end q.seen) (is : piece ≡ slice_range q.seen.content start (start + length piece)) (within : start + length piece ≤ q.bound)
     (lt : index < length piece) (byte : slice_index_or piece index 0 < 256) where

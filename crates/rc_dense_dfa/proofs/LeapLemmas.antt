@@ -7,7 +7,7 @@ use Rattle.rc_text.proofs.Ranges.{length-slice_range, get_or-slice_range}
 use Rattle.rc_dense_dfa.specs.Cells.{met, dead, row_of, IsMarkedAs, AreMarked}
 use Rattle.rc_dense_dfa.specs.Exits.{AllStay, AreLeaps, AreStays, StaysAmong}
 use Rattle.rc_dense_dfa.specs.Tables.{cell_at, class_at}
-use Rattle.rc_dense_dfa.specs.Searches.{Course, Stands, noted_by}
+use Rattle.rc_dense_dfa.specs.Searches.{Request, Stands, noted_by}
 use Rattle.rc_dense_dfa.specs.declared.leaps.Leap.{Leap}
 use Rattle.rc_dense_dfa.specs.declared.table.Table.{Table}
 use Rattle.rc_dense_dfa.proofs.ExitLemmas.{marked_stays}
@@ -58,7 +58,7 @@ one_or_other at row other among = elim (cases_eq at row) [ inl e ↦ inl e | inr
 
 -- OVER BYTES THAT STAY AMONG TWO ROWS
 
-module _ (d : Table) (q : Course) (row other : ℕ) (noted : Option (ℕ × ℕ)) (inside : q.bound ≤ slice_end q.seen) where
+module _ (d : Table) (q : Request) (row other : ℕ) (noted : Option (ℕ × ℕ)) (inside : q.bound ≤ slice_end q.seen) where
   abbrev Stays : ℕ → Type 0
   Stays b = StaysAmong met d.classes.items d.cells.items row other b
 
@@ -103,7 +103,7 @@ module _ (d : Table) (q : Course) (row other : ℕ) (noted : Option (ℕ × ℕ)
         (byte_of_piece q.seen.content piece start (suc n) is lt) (omega (arith, lt, within)))
 
 -- over a part of a piece
-module _ (d : Table) (q : Course) (start from end at row other : ℕ) (noted : Option (ℕ × ℕ)) (piece : List ℕ) (stays : List Bool)
+module _ (d : Table) (q : Request) (start from end at row other : ℕ) (noted : Option (ℕ × ℕ)) (piece : List ℕ) (stays : List Bool)
     (inside : q.bound ≤ slice_end q.seen) (is : piece ≡ slice_range q.seen.content start (start + length piece)) (within : start + length piece ≤ q.bound)
     (bytes : (k : ℕ) → slice_index_or piece k 0 < 256) (ordered : from ≤ end) (short : end ≤ length piece) (here : (at ≡ row) ⊎ (at ≡ other))
     (are : AreStays met d.classes.items d.cells.items row other stays) (x : Stands d q (start + from) (record { row = at; noted = noted })) where

@@ -131,7 +131,7 @@ module _ (m : Machine) (states : List State) (d : Table) (cell : ℕ) (s : State
   abbrev hint : ℕ
   hint = if n.2 then skip else 0
 
-  named : IsName (n.0 + hint) cell (is_some s.stop) (is_dead s)
+  named : IsName (n.0 + hint) cell (is_some s.matched) (is_dead s)
   named =
       let low = below in
       let h : hint ≤ skip = hint_small n.2 in
@@ -141,22 +141,22 @@ module _ (m : Machine) (states : List State) (d : Table) (cell : ℕ) (s : State
   pub named_state : IsRow d states (row_of cell) s
   named_state =
       let low = below in
-      subst (λ r. IsRow d states r s) (sym (name_row n.0 cell (is_some s.stop) (is_dead s) n.2 (omega (arith, low)) n.3)) n.1
+      subst (λ r. IsRow d states r s) (sym (name_row n.0 cell (is_some s.matched) (is_dead s) n.2 (omega (arith, low)) n.3)) n.1
 
   pub died_or_not : has_died cell ≡ is_dead s
-  died_or_not = name_died (n.0 + hint) cell (is_some s.stop) (is_dead s) named
+  died_or_not = name_died (n.0 + hint) cell (is_some s.matched) (is_dead s) named
 
-  pub was_met : nat_le met cell ≡ is_some s.stop
-  was_met = name_met (n.0 + hint) cell (is_some s.stop) (is_dead s) named
+  pub was_met : nat_le met cell ≡ is_some s.matched
+  was_met = name_met (n.0 + hint) cell (is_some s.matched) (is_dead s) named
 
   pub is_read : cell ≢ quit
-  is_read = name_read (n.0 + hint) cell (is_some s.stop) (is_dead s) named
+  is_read = name_read (n.0 + hint) cell (is_some s.matched) (is_dead s) named
 
 -- WHAT IS NOTED
 
-noted_on : (states : List State) (d : Table) (cell i : ℕ) (s : State) (stop : Option ℕ) (noted found : Option (ℕ × ℕ)) → s.stop ≡ stop →
-    nat_le met cell ≡ is_some stop → IsRow d states (row_of cell) s → IsNoted d states noted found →
-    IsNoted d states (noted_by cell i noted) (best_at i stop found)
+noted_on : (states : List State) (d : Table) (cell i : ℕ) (s : State) (matched : Option ℕ) (noted found : Option (ℕ × ℕ)) → s.matched ≡ matched →
+    nat_le met cell ≡ is_some matched → IsRow d states (row_of cell) s → IsNoted d states noted found →
+    IsNoted d states (noted_by cell i noted) (best_at i matched found)
 noted_on states d cell i s None noted found e t r h =
     subst (λ b. IsNoted d states (if b then Some (row_of cell, i) else noted) found) (sym t) h
 noted_on states d cell i s (Some k) noted found e t r h =
@@ -164,9 +164,9 @@ noted_on states d cell i s (Some k) noted found e t r h =
 
 -- after the cell
 pub noted_more : (m : Machine) (states : List State) (d : Table) (cell i : ℕ) (s : State) (noted found : Option (ℕ × ℕ)) → IsTable m states d →
-    Names d states cell s → IsNoted d states noted found → IsNoted d states (noted_by cell i noted) (best_at i s.stop found)
+    Names d states cell s → IsNoted d states noted found → IsNoted d states (noted_by cell i noted) (best_at i s.matched found)
 noted_more m states d cell i s noted found ok n h =
-    noted_on states d cell i s s.stop noted found refl (was_met m states d cell s ok n) (named_state m states d cell s ok n) h
+    noted_on states d cell i s s.matched noted found refl (was_met m states d cell s ok n) (named_state m states d cell s ok n) h
 
 pub row_number : (d : Table) (row id : ℕ) → row ≡ id * d.width → row / d.width ≡ id
 row_number d row id e = let w = wide d in rw e (mul-div_cancel id w)
@@ -185,18 +185,18 @@ told_is m states d None found ok h = sym h
 told_is m states d (Some n) found ok h =
     let r = h.2 in
     let here = row_number d n.0 r.0 r.2 in
-    let code = get_or_from_slice_get d.tells.items r.0 (code_of h.0.stop) 0 (ok.tells r.0 h.0 r.1) in
+    let code = get_or_from_slice_get d.tells.items r.0 (code_of h.0.matched) 0 (ok.tells r.0 h.0 r.1) in
     rw (here, code, h.3, add-one) (sym h.4)
 
-met_as_best : (at : ℕ) (stop : Option ℕ) (found : Option (ℕ × ℕ)) → met_by (code_of stop) at found ≡ best_at at stop found
+met_as_best : (at : ℕ) (matched : Option ℕ) (found : Option (ℕ × ℕ)) → met_by (code_of matched) at found ≡ best_at at matched found
 met_as_best at None found = refl
 met_as_best at (Some k) found = rw add-one refl
 
 -- what is met at the end
-pub met_at_end : (m : Machine) (states : List State) (d : Table) (row id at : ℕ) (stop : Option ℕ) (noted found : Option (ℕ × ℕ)) → IsTable m states d →
-    row ≡ id * d.width → IsNoted d states noted found → slice_get d.ends.items id ≡ Some (code_of stop) →
-    met_by (slice_index_or d.ends.items (row / d.width) 0) at (told d noted) ≡ best_at at stop found
-met_at_end m states d row id at stop noted found ok e h is =
+pub met_at_end : (m : Machine) (states : List State) (d : Table) (row id at : ℕ) (matched : Option ℕ) (noted found : Option (ℕ × ℕ)) → IsTable m states d →
+    row ≡ id * d.width → IsNoted d states noted found → slice_get d.ends.items id ≡ Some (code_of matched) →
+    met_by (slice_index_or d.ends.items (row / d.width) 0) at (told d noted) ≡ best_at at matched found
+met_at_end m states d row id at matched noted found ok e h is =
     ap (λ n. met_by (slice_index_or d.ends.items n 0) at (told d noted)) (row_number d row id e)
-    ∙ ap (λ c. met_by c at (told d noted)) (get_or_from_slice_get d.ends.items id (code_of stop) 0 is)
-    ∙ ap (met_by (code_of stop) at) (told_is m states d noted found ok h) ∙ met_as_best at stop found
+    ∙ ap (λ c. met_by c at (told d noted)) (get_or_from_slice_get d.ends.items id (code_of matched) 0 is)
+    ∙ ap (met_by (code_of matched) at) (told_is m states d noted found ok h) ∙ met_as_best at matched found

@@ -66,7 +66,7 @@ row_below ss id s w wide e small =
     omega (arith, product)
 
 pub marks_bound : (s : State) → marks s ≤ 13835058055282163712
-marks_bound s = bound (is_some s.stop) (is_dead s) where
+marks_bound s = bound (is_some s.matched) (is_dead s) where
   bound : (a b : Bool) → (if a then met else 0) + (if b then dead else 0) ≤ 13835058055282163712
   bound true true = omega arith
   bound true false = omega arith

@@ -79,7 +79,7 @@ named_cell m w n states beside To cell marked wide len small (inr h) how =
     let there = slice_get_within states name.0 t name.1 in
     let product = mul-le-mul_left w there in
     let k = marked_name (name.0 * w + marks t) cell marked name.2 how in
-    let is : row_of marked ≡ name.0 * w = name_row (name.0 * w) marked (is_some t.stop) (is_dead t) k.0 (omega (arith, below, wide)) k.1 in
+    let is : row_of marked ≡ name.0 * w = name_row (name.0 * w) marked (is_some t.matched) (is_dead t) k.0 (omega (arith, below, wide)) k.1 in
     or_true (nat_eq marked quit) _ (le-leb (row_of marked + w) n (omega (arith, is, product, len)))
 
 asked_of : (m : Machine) (mode : ℕ) → mode < length m.entries + 2 → (anchored : Anchored) × (mode_of anchored ≡ mode) × IsAsked m anchored

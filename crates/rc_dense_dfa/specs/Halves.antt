@@ -16,7 +16,7 @@ use Rattle.rc_dense_dfa.specs.Tables.{IsTable}
 use Rattle.rc_dense_dfa.specs.Makes.{IsMade}
 use Rattle.rc_dense_dfa.specs.Searches.{MayEnd, run_end}
 use Rattle.rc_dense_dfa.specs.declared.table.Table.{Table}
-use Rattle.rc_dense_dfa.specs.declared.run.Ended.{Ended}
+use Rattle.rc_dense_dfa.specs.declared.run.Outcome.{Outcome}
 use Rattle.rc_dense_dfa.specs.declared.dense.Dense.{Dense}
 
 -- For each place of the program, the pattern whose match place it is; 0 if it is none.
@@ -39,11 +39,11 @@ pub record AreTablesOf (a : Automaton) (limit : Option ℕ) (d : Dense) : Type 0
   pub patterns : ArePatterns (machine_of a Forwards) d.patterns.items
 
 -- If the search by a table ended so, the halves return this.
-pub record SaysForwards (patterns : List ℕ) (ended : Ended) (said : halves.Ended) : Type 0 where
+pub record SaysForwards (patterns : List ℕ) (ended : Outcome) (said : halves.Ended) : Type 0 where
   pub says : (m : Machine) (t : Text) (hi from : ℕ) (anchored : Anchored) (earliest may_rest : Bool) → ArePatterns m patterns → MayEnd t.content may_rest ended →
       SearchEnds m t hi from anchored earliest (run_end ended) → HasEnded m t hi from anchored earliest may_rest said
 
-pub record SaysBackwards (ended : Ended) (said : halves.Ended) : Type 0 where
+pub record SaysBackwards (ended : Outcome) (said : halves.Ended) : Type 0 where
   pub says : (m : Machine) (t : Text) (lo end : ℕ) (anchored : Anchored) (earliest : Bool) → MayEnd t.content false ended →
       SearchEndsDown m t lo end anchored earliest (run_end ended) → HasEndedDown m t lo end anchored earliest said
 

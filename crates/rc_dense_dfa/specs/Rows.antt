@@ -62,7 +62,7 @@ IsStartOf m samples states mode column cell = (anchored : Anchored) (beside : Op
 -- The codes of what is found at the end, for the first states.
 abbrev pub AreEnds : Machine → List State → List ℕ → Type 0
 AreEnds m states ends = (id : ℕ) (s : State) → id < length ends → slice_get states id ≡ Some s →
-    (t : State) × Leads m s None t × (slice_get ends id ≡ Some (code_of t.stop))
+    (t : State) × Leads m s None t × (slice_get ends id ≡ Some (code_of t.matched))
 
 -- The cells of the rows before this one, with what is found at their ends, and so many cells of
 -- this row.
@@ -78,11 +78,11 @@ pub record AreStarts (m : Machine) (samples : List ℕ) (states : List State) (m
 
 -- The code of what is found at the end, from the state of this number on.
 abbrev pub IsEndOf : Machine → List State → ℕ → ℕ → Type 0
-IsEndOf m states number code = (s : State) → slice_get states number ≡ Some s → (t : State) × Leads m s None t × (code ≡ code_of t.stop)
+IsEndOf m states number code = (s : State) → slice_get states number ≡ Some s → (t : State) × Leads m s None t × (code ≡ code_of t.matched)
 
 -- The codes of what was found before, for the first states.
 abbrev pub AreTells : List State → List ℕ → Type 0
-AreTells states tells = (id : ℕ) (s : State) → id < length tells → slice_get states id ≡ Some s → slice_get tells id ≡ Some (code_of s.stop)
+AreTells states tells = (id : ℕ) (s : State) → id < length tells → slice_get states id ≡ Some s → slice_get tells id ≡ Some (code_of s.matched)
 
 -- Whether a search may rest, in the first states.
 abbrev pub AreIdles : List State → List Bool → Type 0

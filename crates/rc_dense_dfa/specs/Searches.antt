@@ -10,20 +10,20 @@ use Rattle.rc_dfa.specs.Runs.{MayRead, ahead_at, behind_at, Runs, RunsDown, RunE
 use Rattle.rc_dense_dfa.specs.Cells.{met, dead, row_of}
 use Rattle.rc_dense_dfa.specs.Tables.{IsTable, IsRow}
 use Rattle.rc_dense_dfa.specs.declared.table.Table.{Table}
-use Rattle.rc_dense_dfa.specs.declared.run.Ended.{Ended}
-use Rattle.rc_dense_dfa.specs.declared.run.Ended.TheVariants.{Met, Idle, Quit}
+use Rattle.rc_dense_dfa.specs.declared.run.Outcome.{Outcome}
+use Rattle.rc_dense_dfa.specs.declared.run.Outcome.TheVariants.{Met, Idle, Quit}
 use Rattle.rc_dense_dfa.specs.declared.run.Stand.{Stand}
-use Rattle.rc_dense_dfa.specs.declared.run.Leg.{Leg}
-use Rattle.rc_dense_dfa.specs.declared.run.Leg.TheVariants.{Through, Over}
+use Rattle.rc_dense_dfa.specs.declared.run.Progress.{Progress}
+use Rattle.rc_dense_dfa.specs.declared.run.Progress.TheVariants.{Through, Over}
 
 -- How the search ended.
-abbrev pub run_end : Ended → RunEnd
+abbrev pub run_end : Outcome → RunEnd
 run_end (Met found) = met_last found
 run_end (Idle i) = idle_at i
 run_end (Quit b p) = stopped_at p
 
 -- The byte that may not be read is one of the content, and the search rests only if it may.
-abbrev pub MayEnd : List ℕ → Bool → Ended → Type 0
+abbrev pub MayEnd : List ℕ → Bool → Outcome → Type 0
 MayEnd content may_rest (Met found) = Unit {0}
 MayEnd content may_rest (Idle i) = IsTrue may_rest
 MayEnd content may_rest (Quit b p) = slice_get content p ≡ Some b
@@ -56,11 +56,11 @@ told d (Some n) = met_by (slice_index_or d.tells.items (n.0 / d.width) 0) n.1 No
 -- The row that is noted is that of a state before which this was found last.
 abbrev pub IsNoted : Table → List State → Option (ℕ × ℕ) → Option (ℕ × ℕ) → Type 0
 IsNoted d states None found = found ≡ None
-IsNoted d states (Some n) found = (s : State) × (k : ℕ) × IsRow d states n.0 s × (s.stop ≡ Some k) × (found ≡ Some (k, n.1))
+IsNoted d states (Some n) found = (s : State) × (k : ℕ) × IsRow d states n.0 s × (s.matched ≡ Some k) × (found ≡ Some (k, n.1))
 
 -- A search by a table, of which the code has only a part at a time: what is searched, from which
 -- position, up to or down to which bound, and how.
-pub record Course : Type 0 where
+pub record Request : Type 0 where
   pub seen : Searched
   pub from : ℕ
   pub bound : ℕ
@@ -72,7 +72,7 @@ pub record Course : Type 0 where
 
 -- From a state in which the search begins, the bytes up to the position lead to the state of the
 -- row.
-pub record IsStanding (m : Machine) (states : List State) (d : Table) (t : Text) (q : Course) (i row : ℕ) (noted : Option (ℕ × ℕ)) : Type 0 where
+pub record IsStanding (m : Machine) (states : List State) (d : Table) (t : Text) (q : Request) (i row : ℕ) (noted : Option (ℕ × ℕ)) : Type 0 where
   pub first : State
   pub read : MayRead m (behind_at t q.from)
   pub begins : Begins m q.anchored (behind_at t q.from) first
@@ -83,18 +83,18 @@ pub record IsStanding (m : Machine) (states : List State) (d : Table) (t : Text)
   pub runs : Runs m t q.bound q.from first i state found
 
 -- It holds whatever machine the table is of.
-abbrev pub Stands : Table → Course → ℕ → Stand → Type 0
+abbrev pub Stands : Table → Request → ℕ → Stand → Type 0
 Stands d q i s =
     (m : Machine) (states : List State) (terminator : ℕ) → IsTable m states d → IsAsked m q.anchored →
     IsStanding m states d (text_of terminator q.seen) q i s.row s.noted
 
-abbrev pub Ends : Table → Course → Ended → Type 0
+abbrev pub Ends : Table → Request → Outcome → Type 0
 Ends d q e =
     (m : Machine) (states : List State) (terminator : ℕ) → IsTable m states d → IsAsked m q.anchored →
     SearchEnds m (text_of terminator q.seen) q.bound q.from q.anchored q.earliest (run_end e)
 
 -- The run goes on at the position, or the search has ended.
-abbrev pub IsLeg : Table → Course → ℕ → Leg → Type 0
+abbrev pub IsLeg : Table → Request → ℕ → Progress → Type 0
 IsLeg d q i (Through s) = InRow d s.row × Stands d q i s
 IsLeg d q i (Over e) = Ends d q e × MayEnd q.seen.content q.may_rest e
 
@@ -107,7 +107,7 @@ swapped (Some n) = Some (n.1, n.0)
 
 -- On the way down: from a state in which the search begins, the bytes down to the position lead to
 -- the state of the row. The search begins at `from`, by the byte there.
-pub record IsStandingDown (m : Machine) (states : List State) (d : Table) (t : Text) (q : Course) (i row : ℕ) (noted : Option (ℕ × ℕ)) : Type 0 where
+pub record IsStandingDown (m : Machine) (states : List State) (d : Table) (t : Text) (q : Request) (i row : ℕ) (noted : Option (ℕ × ℕ)) : Type 0 where
   pub first : State
   pub read : MayRead m (ahead_at t q.from)
   pub begins : Begins m q.anchored (ahead_at t q.from) first
@@ -117,16 +117,16 @@ pub record IsStandingDown (m : Machine) (states : List State) (d : Table) (t : T
   pub tells : IsNoted d states noted found
   pub runs : RunsDown m t q.bound q.from first i state (swapped found)
 
-abbrev pub StandsDown : Table → Course → ℕ → Stand → Type 0
+abbrev pub StandsDown : Table → Request → ℕ → Stand → Type 0
 StandsDown d q i s =
     (m : Machine) (states : List State) (terminator : ℕ) → IsTable m states d → IsAsked m q.anchored →
     IsStandingDown m states d (text_of terminator q.seen) q i s.row s.noted
 
-abbrev pub EndsDownSo : Table → Course → Ended → Type 0
+abbrev pub EndsDownSo : Table → Request → Outcome → Type 0
 EndsDownSo d q e =
     (m : Machine) (states : List State) (terminator : ℕ) → IsTable m states d → IsAsked m q.anchored →
     SearchEndsDown m (text_of terminator q.seen) q.bound q.from q.anchored q.earliest (run_end e)
 
-abbrev pub IsLegDown : Table → Course → ℕ → Leg → Type 0
+abbrev pub IsLegDown : Table → Request → ℕ → Progress → Type 0
 IsLegDown d q i (Through s) = InRow d s.row × StandsDown d q i s
 IsLegDown d q i (Over e) = EndsDownSo d q e × MayEnd q.seen.content q.may_rest e

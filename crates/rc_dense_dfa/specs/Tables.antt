@@ -11,7 +11,7 @@ use Rattle.rc_dense_dfa.specs.declared.table.Table.{Table}
 
 -- The marks of a state's name.
 abbrev pub marks : State → ℕ
-marks s = (if is_some s.stop then met else 0) + (if is_dead s then dead else 0)
+marks s = (if is_some s.matched then met else 0) + (if is_dead s then dead else 0)
 
 -- The row of the state.
 abbrev pub IsRow : Table → List State → ℕ → State → Type 0
@@ -55,9 +55,9 @@ pub record IsTable (m : Machine) (states : List State) (d : Table) : Type 0 wher
       ⊎ (IsReadable m.setting.needs (Some b) × ((t : State) × Leads m s (Some b) t × Names d states (cell_at d (row + class_at d b)) t))
   -- The codes of what is found at the end.
   pub ends : (id : ℕ) (s : State) → slice_get states id ≡ Some s →
-      (t : State) × Leads m s None t × (slice_get d.ends.items id ≡ Some (code_of t.stop))
+      (t : State) × Leads m s None t × (slice_get d.ends.items id ≡ Some (code_of t.matched))
   -- The codes of what was found before.
-  pub tells : (id : ℕ) (s : State) → slice_get states id ≡ Some s → slice_get d.tells.items id ≡ Some (code_of s.stop)
+  pub tells : (id : ℕ) (s : State) → slice_get states id ≡ Some s → slice_get d.tells.items id ≡ Some (code_of s.matched)
   -- Where a search may rest.
   pub idles : (id : ℕ) (s : State) → slice_get states id ≡ Some s → slice_get d.idles.items id ≡ Some (is_idle s)
   -- Where a search begins.
@@ -74,7 +74,7 @@ dead_state = record {
   list = [];
   beside = record { edge = false; terminator = false; line_feed = false; carriage_return = false; word = false };
   goes_on = false;
-  stop = None;
+  matched = None;
 }
 
 -- The states that searches can reach, and the dead one.

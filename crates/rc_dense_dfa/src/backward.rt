@@ -6,10 +6,10 @@ ghost use Rattle.rc_determinize.specs.States.{State};
 ghost use Rattle.rc_dfa.specs.Machine.{IsAsked, Machine};
 ghost use Rattle.rc_dfa.specs.Runs.{IsByte, SearchEndsDown, ahead_at};
 ghost use Rattle.rc_dense_dfa.specs.Tables.{IsTable};
-ghost use Rattle.rc_dense_dfa.specs.Searches.{Course, EndsDownSo, InRow, IsLegDown, MayEnd, StandsDown, run_end};
+ghost use Rattle.rc_dense_dfa.specs.Searches.{Request, EndsDownSo, InRow, IsLegDown, MayEnd, StandsDown, run_end};
 
 use crate::look::{cell_of, has_died, met_at_end, noted_by, row_of, swapped, told};
-use crate::run::{Ended, Leg, Stand};
+use crate::run::{Outcome, Progress, Stand};
 use crate::start::start;
 use crate::table::{MET, QUIT, SKIP, Table};
 use rc_dfa::sides::{byte_ahead, byte_behind};
@@ -29,7 +29,7 @@ fn cell_at(
     start: usize,
     stand: Stand,
 ) -> usize
-    ghost course: { Course }
+    ghost course: { Request }
     requires cells { cells.now ≡ table.now.cells.items }
     requires classes { classes.now ≡ table.now.classes.items }
     requires row { InRow table.now stand.row }
@@ -50,7 +50,7 @@ fn cell_at(
 /// cell has a mark.
 #[inline(always)]
 fn stride(table: &Table, piece: &[u8], from: usize, start: usize, stand: Stand) -> (usize, usize)
-    ghost course: { Course }
+    ghost course: { Request }
     requires row { InRow table.now stand.row }
     requires stands { StandsDown table.now course (start + from) stand }
     requires bound { course.seen.slice.start ≤ course.bound }
@@ -128,7 +128,7 @@ fn stride(table: &Table, piece: &[u8], from: usize, start: usize, stand: Stand) 
 /// many bytes are left. A cell with `MET` needs a look if `limit` is 0, and none if it is `SKIP`.
 #[inline(never)]
 fn run(table: &Table, piece: &[u8], start: usize, stand: Stand, limit: usize) -> (usize, Stand)
-    ghost course: { Course }
+    ghost course: { Request }
     requires row { InRow table.now stand.row }
     requires stands { StandsDown table.now course (start + length piece.now) stand }
     requires bound { course.seen.slice.start ≤ course.bound }
@@ -166,8 +166,8 @@ fn run(table: &Table, piece: &[u8], start: usize, stand: Stand, limit: usize) ->
 
 /// Reads the byte at a position, whatever its cell is.
 #[inline(always)]
-fn step(table: &Table, byte: u8, at: usize, stand: Stand, earliest: bool) -> Leg
-    ghost course: { Course }
+fn step(table: &Table, byte: u8, at: usize, stand: Stand, earliest: bool) -> Progress
+    ghost course: { Request }
     requires row { InRow table.now stand.row }
     requires stands { StandsDown table.now course (at + 1) stand }
     requires bound { course.seen.slice.start ≤ course.bound }
@@ -179,17 +179,17 @@ fn step(table: &Table, byte: u8, at: usize, stand: Stand, earliest: bool) -> Leg
 {
     let cell = cell_of(table, stand.row, byte);
     if cell == QUIT {
-        return Leg::Over(Ended::Quit(byte, at));
+        return Progress::Over(Outcome::Quit(byte, at));
     }
     let noted = noted_by(cell, at + 1, stand.noted);
     if has_died(cell) {
-        return Leg::Over(Ended::Met(swapped(told(table, noted))));
+        return Progress::Over(Outcome::Met(swapped(told(table, noted))));
     }
     if earliest && cell >= MET {
-        return Leg::Over(Ended::Met(swapped(told(table, noted))));
+        return Progress::Over(Outcome::Met(swapped(told(table, noted))));
     }
     let row = row_of(cell);
-    Leg::Through(Stand { row, noted })
+    Progress::Through(Stand { row, noted })
 }
 
 /// Runs over the chunks from the position `from` down to `end`.
@@ -201,8 +201,8 @@ fn cross<C: Cursor>(
     end: usize,
     begin: Stand,
     earliest: bool,
-) -> Leg
-    ghost course: { Course }
+) -> Progress
+    ghost course: { Request }
     requires row { InRow table.now begin.row }
     requires stands { StandsDown table.now course from begin }
     requires seen { Keeps course.seen input.old }
@@ -226,18 +226,18 @@ fn cross<C: Cursor>(
         if left > 0 {
             at -= 1;
             match step(table, piece[left - 1], at, stand, earliest) {
-                Leg::Through(next) => stand = next,
-                Leg::Over(ended) => return Leg::Over(ended),
+                Progress::Through(next) => stand = next,
+                Progress::Over(ended) => return Progress::Over(ended),
             }
         }
     }
-    Leg::Through(stand)
+    Progress::Through(stand)
 }
 
 /// Begins a search at the position: the byte after it decides the start state.
 #[inline(always)]
-fn begin(table: &Table, anchored: Anchored, beside: Option<u8>, from: usize) -> Leg
-    ghost course: { Course }
+fn begin(table: &Table, anchored: Anchored, beside: Option<u8>, from: usize) -> Progress
+    ghost course: { Request }
     requires anchored { anchored ≡ course.anchored }
     requires from { from ≡ course.from }
     requires beside { beside ≡ ahead_at (text_of 0 course.seen) from }
@@ -248,26 +248,26 @@ fn begin(table: &Table, anchored: Anchored, beside: Option<u8>, from: usize) -> 
     let cell = start(table, anchored, beside);
     if cell < SKIP {
         let row = cell;
-        return Leg::Through(Stand { row, noted: None });
+        return Progress::Through(Stand { row, noted: None });
     }
     if cell == QUIT {
         return match beside {
-            Some(byte) => Leg::Over(Ended::Quit(byte, from)),
-            None => Leg::Over(Ended::Met(None)),
+            Some(byte) => Progress::Over(Outcome::Quit(byte, from)),
+            None => Progress::Over(Outcome::Met(None)),
         };
     }
     if has_died(cell) {
-        return Leg::Over(Ended::Met(None));
+        return Progress::Over(Outcome::Met(None));
     }
     let row = row_of(cell);
-    Leg::Through(Stand { row, noted: None })
+    Progress::Through(Stand { row, noted: None })
 }
 
 /// Ends a search that came to its lower bound. The byte before that, or the beginning of what the
 /// search sees, decides whether a match begins there.
 #[inline(always)]
-fn finish<C: Cursor>(table: &Table, input: &mut Input<C>, end: usize, stand: Stand) -> Ended
-    ghost course: { Course }
+fn finish<C: Cursor>(table: &Table, input: &mut Input<C>, end: usize, stand: Stand) -> Outcome
+    ghost course: { Request }
     requires row { InRow table.now stand.row }
     requires stands { StandsDown table.now course end stand }
     requires seen { Keeps course.seen input.old }
@@ -282,11 +282,11 @@ fn finish<C: Cursor>(table: &Table, input: &mut Input<C>, end: usize, stand: Sta
         Some(byte) => {
             let cell = cell_of(table, stand.row, byte);
             if cell == QUIT {
-                return Ended::Quit(byte, end - 1);
+                return Outcome::Quit(byte, end - 1);
             }
-            Ended::Met(swapped(told(table, noted_by(cell, end, stand.noted))))
+            Outcome::Met(swapped(told(table, noted_by(cell, end, stand.noted))))
         }
-        None => Ended::Met(swapped(met_at_end(table, stand.row, end, stand.noted))),
+        None => Outcome::Met(swapped(met_at_end(table, stand.row, end, stand.noted))),
     }
 }
 
@@ -299,8 +299,8 @@ fn search<C: Cursor>(
     from: usize,
     end: usize,
     earliest: bool,
-) -> Ended
-    ghost course: { Course }
+) -> Outcome
+    ghost course: { Request }
     requires course { course ≡ record { seen = input.old; from = from; bound = end; anchored = anchored; earliest = earliest; may_rest = false } }
     requires low { input.old.slice.start ≤ end }
     requires ordered { end ≤ from }
@@ -311,12 +311,12 @@ fn search<C: Cursor>(
 {
     let beside = byte_ahead(input, from);
     let stand = match begin(table, anchored, beside, from) {
-        Leg::Through(stand) => stand,
-        Leg::Over(ended) => return ended,
+        Progress::Through(stand) => stand,
+        Progress::Over(ended) => return ended,
     };
     match cross(table, input, from, end, stand, earliest) {
-        Leg::Through(last) => finish(table, input, end, last),
-        Leg::Over(ended) => ended,
+        Progress::Through(last) => finish(table, input, end, last),
+        Progress::Over(ended) => ended,
     }
 }
 
@@ -333,7 +333,7 @@ pub fn run_backwards<C: Cursor>(
     least: usize,
     end: usize,
     earliest: bool,
-) -> Ended
+) -> Outcome
     requires low { low input.old ≤ least }
     requires ordered { least ≤ end }
     requires high { end ≤ high input.old }

@@ -98,7 +98,7 @@ fn end_of(
     ensures refused { IfErr result (λ e. e ≡ Memory) }
 {
     maker.lead(automaton, direction, number, None)?;
-    let Some(code) = code_of(maker.to.stop) else {
+    let Some(code) = code_of(maker.to.matched) else {
         return Err(TableError::Memory);
     };
     Ok(code)
@@ -111,7 +111,7 @@ fn tells_of(alloc: Global, states: &States) -> Result<Vec<usize>, TableError>
 {
     let mut tells = Vec::new(alloc);
     for number in 0..states.len() {
-        let Some(code) = code_of(states.get(number).stop) else {
+        let Some(code) = code_of(states.get(number).matched) else {
             return Err(TableError::Memory);
         };
         tells.push(code)?;

@@ -44,35 +44,35 @@ fn patterns_of(alloc: Global, automaton: &Automaton) -> Result<Vec<usize>, Alloc
 
 /// Returns how a forward search ended, with the pattern instead of its match place.
 #[inline(always)]
-fn said_forwards(patterns: &[usize], ended: run::Ended) -> Ended
+fn said_forwards(patterns: &[usize], ended: run::Outcome) -> Ended
     ensures says { SaysForwards patterns.now ended result }
     ensures done { gave_up result ≡ None }
 {
     match ended {
-        run::Ended::Met(None) => Ended::Found(None),
-        run::Ended::Met(Some((place, at))) => {
+        run::Outcome::Met(None) => Ended::Found(None),
+        run::Outcome::Met(Some((place, at))) => {
             let pattern = match patterns.get(place) {
                 Some(pattern) => *pattern,
                 None => 0,
             };
             Ended::Found(Some(Met { pattern, at }))
         }
-        run::Ended::Idle(at) => Ended::Idle(at),
-        run::Ended::Quit(byte, at) => Ended::Quit(byte, at),
+        run::Outcome::Idle(at) => Ended::Idle(at),
+        run::Outcome::Quit(byte, at) => Ended::Quit(byte, at),
     }
 }
 
 /// Returns how a reverse search ended, with the pattern and the position in their fields.
 #[inline(always)]
-fn said_backwards(ended: run::Ended) -> Ended
+fn said_backwards(ended: run::Outcome) -> Ended
     ensures says { SaysBackwards ended result }
     ensures done { gave_up result ≡ None }
 {
     match ended {
-        run::Ended::Met(None) => Ended::Found(None),
-        run::Ended::Met(Some((at, pattern))) => Ended::Found(Some(Met { pattern, at })),
-        run::Ended::Idle(at) => Ended::Idle(at),
-        run::Ended::Quit(byte, at) => Ended::Quit(byte, at),
+        run::Outcome::Met(None) => Ended::Found(None),
+        run::Outcome::Met(Some((at, pattern))) => Ended::Found(Some(Met { pattern, at })),
+        run::Outcome::Idle(at) => Ended::Idle(at),
+        run::Outcome::Quit(byte, at) => Ended::Quit(byte, at),
     }
 }
 

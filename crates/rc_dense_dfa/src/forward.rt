@@ -6,14 +6,14 @@ ghost use Rattle.rc_determinize.specs.States.{State};
 ghost use Rattle.rc_dfa.specs.Machine.{IsAsked, Machine};
 ghost use Rattle.rc_dfa.specs.Runs.{IsByte, SearchEnds, behind_at};
 ghost use Rattle.rc_dense_dfa.specs.Tables.{IsTable};
-ghost use Rattle.rc_dense_dfa.specs.Searches.{Course, Ends, InRow, IsLeg, MayEnd, Stands, run_end};
+ghost use Rattle.rc_dense_dfa.specs.Searches.{Request, Ends, InRow, IsLeg, MayEnd, Stands, run_end};
 
 use crate::exits::first_exit;
 use crate::leaps::{first_leaving, leap_end};
 use crate::look::{
     cell_of, exits_at, has_died, is_idle, leap_at, met_at_end, noted_by, row_of, told,
 };
-use crate::run::{Ended, Leg, Stand};
+use crate::run::{Outcome, Progress, Stand};
 use crate::start::start;
 use crate::table::{DEAD, MET, QUIT, SKIP, Table};
 use rc_dfa::sides::{byte_ahead, byte_behind};
@@ -42,7 +42,7 @@ fn cell_at(
     start: usize,
     stand: Stand,
 ) -> usize
-    ghost course: { Course }
+    ghost course: { Request }
     requires cells { cells.now ≡ table.now.cells.items }
     requires classes { classes.now ≡ table.now.classes.items }
     requires row { InRow table.now stand.row }
@@ -61,7 +61,7 @@ fn cell_at(
 /// the row after them. Fewer than four are left, or the next cell has a mark.
 #[inline(always)]
 fn stride(table: &Table, piece: &[u8], from: usize, start: usize, stand: Stand) -> (usize, usize)
-    ghost course: { Course }
+    ghost course: { Request }
     requires row { InRow table.now stand.row }
     requires stands { Stands table.now course (start + from) stand }
     requires bound { course.bound ≤ slice_end course.seen }
@@ -148,7 +148,7 @@ fn leap(
     stand: Stand,
     looks: usize,
 ) -> Option<(usize, usize)>
-    ghost course: { Course }
+    ghost course: { Request }
     requires row { InRow table.now stand.row }
     requires stands { Stands table.now course (start + from) stand }
     requires bound { course.bound ≤ slice_end course.seen }
@@ -189,7 +189,7 @@ fn run(
     limit: usize,
     looks: usize,
 ) -> (usize, Stand)
-    ghost course: { Course }
+    ghost course: { Request }
     requires row { InRow table.now stand.row }
     requires stands { Stands table.now course (start + from) stand }
     requires bound { course.bound ≤ slice_end course.seen }
@@ -250,8 +250,8 @@ fn step(
     earliest: bool,
     may_rest: bool,
     rest_from: usize,
-) -> Leg
-    ghost course: { Course }
+) -> Progress
+    ghost course: { Request }
     requires row { InRow table.now stand.row }
     requires stands { Stands table.now course at stand }
     requires bound { course.bound ≤ slice_end course.seen }
@@ -264,27 +264,27 @@ fn step(
 {
     let cell = cell_of(table, stand.row, byte);
     if cell == QUIT {
-        return Leg::Over(Ended::Quit(byte, at));
+        return Progress::Over(Outcome::Quit(byte, at));
     }
     let noted = noted_by(cell, at, stand.noted);
     if has_died(cell) {
-        return Leg::Over(Ended::Met(told(table, noted)));
+        return Progress::Over(Outcome::Met(told(table, noted)));
     }
     if earliest && cell >= MET {
-        return Leg::Over(Ended::Met(told(table, noted)));
+        return Progress::Over(Outcome::Met(told(table, noted)));
     }
     let row = row_of(cell);
     if may_rest && at >= rest_from && noted.is_none() && is_idle(table, row) {
-        return Leg::Over(Ended::Idle(at + 1));
+        return Progress::Over(Outcome::Idle(at + 1));
     }
-    Leg::Through(Stand { row, noted })
+    Progress::Through(Stand { row, noted })
 }
 
 /// Returns how many bytes of a piece are skipped: those before the first exit of the row. Returns 0
 /// if the search is to rest, or no row has few exits.
 #[inline(always)]
 fn pass(table: &Table, piece: &[u8], start: usize, stand: Stand, may_rest: bool) -> usize
-    ghost course: { Course }
+    ghost course: { Request }
     requires stands { Stands table.now course start stand }
     requires bound { course.bound ≤ slice_end course.seen }
     requires piece { piece.now ≡ slice_range course.seen.content start (start + length piece.now) }
@@ -309,8 +309,8 @@ fn cross<C: Cursor>(
     earliest: bool,
     may_rest: bool,
     rest_from: usize,
-) -> Leg
-    ghost course: { Course }
+) -> Progress
+    ghost course: { Request }
     requires row { InRow table.now begin.row }
     requires stands { Stands table.now course from begin }
     requires seen { Keeps course.seen input.old }
@@ -334,23 +334,23 @@ fn cross<C: Cursor>(
         if read < piece.len() {
             let byte = piece[read];
             match step(table, byte, at + read, stand, earliest, may_rest, rest_from) {
-                Leg::Through(next) => {
+                Progress::Through(next) => {
                     stand = next;
                     at += read + 1;
                 }
-                Leg::Over(ended) => return Leg::Over(ended),
+                Progress::Over(ended) => return Progress::Over(ended),
             }
         } else {
             at += read;
         }
     }
-    Leg::Through(stand)
+    Progress::Through(stand)
 }
 
 /// Begins a search at the position: the byte before it decides the start state.
 #[inline(always)]
-fn begin(table: &Table, anchored: Anchored, beside: Option<u8>, from: usize) -> Leg
-    ghost course: { Course }
+fn begin(table: &Table, anchored: Anchored, beside: Option<u8>, from: usize) -> Progress
+    ghost course: { Request }
     requires anchored { anchored ≡ course.anchored }
     requires from { from ≡ course.from }
     requires beside { beside ≡ behind_at (text_of 0 course.seen) from }
@@ -361,26 +361,26 @@ fn begin(table: &Table, anchored: Anchored, beside: Option<u8>, from: usize) -> 
     let cell = start(table, anchored, beside);
     if cell < SKIP {
         let row = cell;
-        return Leg::Through(Stand { row, noted: None });
+        return Progress::Through(Stand { row, noted: None });
     }
     if cell == QUIT {
         return match beside {
-            Some(byte) => Leg::Over(Ended::Quit(byte, from - 1)),
-            None => Leg::Over(Ended::Met(None)),
+            Some(byte) => Progress::Over(Outcome::Quit(byte, from - 1)),
+            None => Progress::Over(Outcome::Met(None)),
         };
     }
     if has_died(cell) {
-        return Leg::Over(Ended::Met(None));
+        return Progress::Over(Outcome::Met(None));
     }
     let row = row_of(cell);
-    Leg::Through(Stand { row, noted: None })
+    Progress::Through(Stand { row, noted: None })
 }
 
 /// Ends a search that came to its upper bound. The byte beyond, or the end of what the search sees,
 /// decides whether a match ends there.
 #[inline(always)]
-fn finish<C: Cursor>(table: &Table, input: &mut Input<C>, end: usize, stand: Stand) -> Ended
-    ghost course: { Course }
+fn finish<C: Cursor>(table: &Table, input: &mut Input<C>, end: usize, stand: Stand) -> Outcome
+    ghost course: { Request }
     requires row { InRow table.now stand.row }
     requires stands { Stands table.now course end stand }
     requires seen { Keeps course.seen input.old }
@@ -394,11 +394,11 @@ fn finish<C: Cursor>(table: &Table, input: &mut Input<C>, end: usize, stand: Sta
         Some(byte) => {
             let cell = cell_of(table, stand.row, byte);
             if cell == QUIT {
-                return Ended::Quit(byte, end);
+                return Outcome::Quit(byte, end);
             }
-            Ended::Met(told(table, noted_by(cell, end, stand.noted)))
+            Outcome::Met(told(table, noted_by(cell, end, stand.noted)))
         }
-        None => Ended::Met(met_at_end(table, stand.row, end, stand.noted)),
+        None => Outcome::Met(met_at_end(table, stand.row, end, stand.noted)),
     }
 }
 
@@ -413,8 +413,8 @@ fn search<C: Cursor>(
     earliest: bool,
     may_rest: bool,
     rest_from: usize,
-) -> Ended
-    ghost course: { Course }
+) -> Outcome
+    ghost course: { Request }
     requires course { course ≡ record { seen = input.old; from = from; bound = end; anchored = anchored; earliest = earliest; may_rest = may_rest } }
     requires low { input.old.slice.start ≤ from }
     requires ordered { from ≤ end }
@@ -425,14 +425,14 @@ fn search<C: Cursor>(
 {
     let beside = byte_behind(input, from);
     let stand = match begin(table, anchored, beside, from) {
-        Leg::Through(stand) => stand,
-        Leg::Over(ended) => return ended,
+        Progress::Through(stand) => stand,
+        Progress::Over(ended) => return ended,
     };
     match cross(
         table, input, from, end, stand, earliest, may_rest, rest_from,
     ) {
-        Leg::Through(last) => finish(table, input, end, last),
-        Leg::Over(ended) => ended,
+        Progress::Through(last) => finish(table, input, end, last),
+        Progress::Over(ended) => ended,
     }
 }
 
@@ -450,7 +450,7 @@ pub fn run_forwards<C: Cursor>(
     earliest: bool,
     may_rest: bool,
     rest_from: usize,
-) -> Ended
+) -> Outcome
     requires low { low input.old ≤ from }
     requires high { from ≤ high input.old }
     ensures keeps { Keeps input.old input.new }

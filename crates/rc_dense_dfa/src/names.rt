@@ -57,7 +57,7 @@ pub(crate) fn dead(alloc: Global) -> State
             word: false,
         },
         goes_on: false,
-        stop: None,
+        matched: None,
     }
 }
 
@@ -65,7 +65,7 @@ pub(crate) fn dead(alloc: Global) -> State
 fn marks(state: &State) -> usize
     ensures { result ≡ marks (state_of state.now) }
 {
-    let met = if state.stop.is_some() { MET } else { 0 };
+    let met = if state.matched.is_some() { MET } else { 0 };
     let dead = if state.list.is_empty() && !state.goes_on {
         DEAD
     } else {

@@ -2,7 +2,7 @@
 
 /// How a search by a table ended. Positions are in bytes of the whole content.
 #[derive(Clone, Copy)]
-pub enum Ended {
+pub enum Outcome {
     /// With what was found last, if anything was: forwards the match place, and the position at
     /// which the match ends; backwards the position at which the match begins, and the index of the
     /// entry.
@@ -25,9 +25,9 @@ pub(crate) struct Stand {
 
 /// The outcome of a run over some bytes.
 #[derive(Clone, Copy)]
-pub(crate) enum Leg {
+pub(crate) enum Progress {
     /// It goes on after them.
     Through(Stand),
     /// The search ended among them.
-    Over(Ended),
+    Over(Outcome),
 }

@@ -201,15 +201,15 @@ pub is_prior : (g : Setting) (roots : List ℕ) (s : State) (before : Option ℕ
     behind ≡ told g.needs g.terminator before → ((q : ℕ) → HasPlace q begun ↔ HasPlace q s.list) →
     ((q : ℕ) → HasPlace q entered ↔ LeadsBy (still_out g.places behind s.beside) begun q) →
     ((q : ℕ) → HasPlace q got ↔ ((b : ℕ) × (before ≡ Some b) × (p : ℕ) × ReadsTo g.places b q p × HasPlace p entered)) →
-    ((q : ℕ) → HasPlace q t.list ↔ HasPlace q got) → IsRising t.list → IsFirstRoot (λ q. HasPlace q entered) roots t.stop →
+    ((q : ℕ) → HasPlace q t.list ↔ HasPlace q got) → IsRising t.list → IsFirstRoot (λ q. HasPlace q entered) roots t.matched →
     t.goes_on ≡ false → t.beside ≡ behind → IsPrior g roots s before t
-is_prior g roots s before t behind begun entered got told_is same back over list rising stop goes_on beside = record {
+is_prior g roots s before t behind begun entered got told_is same back over list rising matched goes_on beside = record {
   list = λ q. (
     (λ h. let w = (over q).0 ((list q).0 h) in (w.0, w.1, w.2, w.3, (here w.2).0 w.4)),
     (λ h. (list q).1 ((over q).1 (h.0, h.1, h.2, h.3, (here h.2).1 h.4))),
   );
   rising = rising;
-  stop = same_root (λ q. HasPlace q entered) (LeadsHere g s before) here roots t.stop stop;
+  matched = same_root (λ q. HasPlace q entered) (LeadsHere g s before) here roots t.matched matched;
   goes_on = goes_on;
   beside = beside ∙ told_is;
 }

@@ -195,8 +195,8 @@ module _ (g : Setting) (ok : IsSetting g) (t : Text) (terminator : g.terminator 
 
     -- which root reaches the end from here
     pub tells : (roots : List ℕ) (s2 : State) → IsPrior g roots s (byte_of (before_at t i)) s2 →
-        IsFirstRoot (ReachesEnd g t hi end i) roots s2.stop
-    tells roots s2 p = same_first _ _ decides roots s2.stop p.stop
+        IsFirstRoot (ReachesEnd g t hi end i) roots s2.matched
+    tells roots s2 p = same_first _ _ decides roots s2.matched p.matched
 
   -- the state at the end
   pub comes : (s : State) → IsReadable g.needs (byte_of (after_at t end)) → IsLast g (byte_of (after_at t end)) s → IsComing g t hi end end s
@@ -263,9 +263,9 @@ module _ (g : Setting) (ok : IsSetting g) (t : Text) (terminator : g.terminator 
     }
 
 -- what is found on the way down
-pub lowers : (g : Setting) (t : Text) (hi end : ℕ) (roots : List ℕ) (i : ℕ) (stop : Option ℕ) (least : Option (ℕ × ℕ)) → i ≤ end →
-    IsFirstRoot (ReachesEnd g t hi end i) roots stop → IsLeastSoFar g t hi end roots (i + 1) least →
-    IsLeastSoFar g t hi end roots i (least_at i stop least)
+pub lowers : (g : Setting) (t : Text) (hi end : ℕ) (roots : List ℕ) (i : ℕ) (matched : Option ℕ) (least : Option (ℕ × ℕ)) → i ≤ end →
+    IsFirstRoot (ReachesEnd g t hi end i) roots matched → IsLeastSoFar g t hi end roots (i + 1) least →
+    IsLeastSoFar g t hi end roots i (least_at i matched least)
 lowers g t hi end roots i None None le f l = λ y a b.
     ⊎_elim (λ e. subst (λ k. IsFirstRoot (ReachesEnd g t hi end k) roots None) e f) (λ ne. l y (omega (arith, a, ne)) b) (cases_eq i y)
 lowers g t hi end roots i None (Some m) le f l = (

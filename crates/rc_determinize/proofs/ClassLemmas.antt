@@ -9,7 +9,7 @@ use Rattle.rc_program.specs.Program.{Place, branch, place_at, ways_out}
 use Rattle.rc_utf8.specs.declared.place.ByteWay.{ByteWay}
 use Rattle.rc_utf8.specs.Places.{way_of}
 use Rattle.rc_determinize.specs.declared.sides.Seen.{Seen}
-use Rattle.rc_determinize.specs.declared.sides.Needs.{Needs}
+use Rattle.rc_determinize.specs.declared.sides.Asked.{Asked}
 use Rattle.rc_determinize.specs.Steps.{IsByBytes}
 use Rattle.rc_determinize.specs.Sides.{told, ranges_of, holds_both, IsReadable, AreAlike}
 use Rattle.rc_determinize.specs.Classes.{parts, are_parted, is_other, is_border, AreClasses, TellsAlike, ClassLaw}
@@ -53,7 +53,7 @@ same_told x y h =
     λ i. record { edge = edge i; terminator = terminator i; line_feed = line_feed i; carriage_return = carriage_return i; word = word i }
 
 -- a byte of ASCII with no border behind it stands before one
-both_readable : (needs : Needs) (b : ℕ) → (needs.unicode && nat_eq b 127) ≡ false → IsReadable needs (Some b) ↔ IsReadable needs (Some (b + 1))
+both_readable : (needs : Asked) (b : ℕ) → (needs.unicode && nat_eq b 127) ≡ false → IsReadable needs (Some b) ↔ IsReadable needs (Some (b + 1))
 both_readable needs b h = (
   (λ below u. let lt = below u in
       let ne : b ≢ 127 = λ e. true≢false (sym (ap (λ v. v && nat_eq b 127) u ∙ eq-eqb b 127 e) ∙ h) in
@@ -62,7 +62,7 @@ both_readable needs b h = (
 )
 
 -- bytes without a border between are alike
-neighbours : (places : List Place) (needs : Needs) (terminator b : ℕ) → IsByBytes places → is_border places needs terminator b ≡ false →
+neighbours : (places : List Place) (needs : Asked) (terminator b : ℕ) → IsByBytes places → is_border places needs terminator b ≡ false →
     AreAlike places needs terminator b (b + 1)
 neighbours places needs terminator b by_bytes h = record {
   told_same = same_told _ _ (none_right (are_parted places b) _ (none_left _ _ h));
@@ -70,14 +70,14 @@ neighbours places needs terminator b by_bytes h = record {
   readable = both_readable needs b (none_right (are_parted places b || is_other (told needs terminator (Some b)) (told needs terminator (Some (b + 1)))) _ h);
 }
 
-same_alike : (places : List Place) (needs : Needs) (terminator b c : ℕ) → b ≡ c → AreAlike places needs terminator b c
+same_alike : (places : List Place) (needs : Asked) (terminator b c : ℕ) → b ≡ c → AreAlike places needs terminator b c
 same_alike places needs terminator b c e = record {
   told_same = ap (λ x. told needs terminator (Some x)) e;
   read_same = λ q test. ap (λ x. ways_out test (x ∷ []) (place_at places q)) e;
   readable = (subst (λ x. IsReadable needs (Some x)) e, subst (λ x. IsReadable needs (Some x)) (sym e));
 }
 
-then_alike : (places : List Place) (needs : Needs) (terminator b c d : ℕ) → AreAlike places needs terminator b c → AreAlike places needs terminator c d →
+then_alike : (places : List Place) (needs : Asked) (terminator b c d : ℕ) → AreAlike places needs terminator b c → AreAlike places needs terminator c d →
     AreAlike places needs terminator b d
 then_alike places needs terminator b c d x y = record {
   told_same = x.told_same ∙ y.told_same;
@@ -85,14 +85,14 @@ then_alike places needs terminator b c d x y = record {
   readable = (λ h. y.readable.0 (x.readable.0 h), λ h. x.readable.1 (y.readable.1 h));
 }
 
-back_alike : (places : List Place) (needs : Needs) (terminator b c : ℕ) → AreAlike places needs terminator b c → AreAlike places needs terminator c b
+back_alike : (places : List Place) (needs : Asked) (terminator b c : ℕ) → AreAlike places needs terminator b c → AreAlike places needs terminator c b
 back_alike places needs terminator b c x = record {
   told_same = sym x.told_same;
   read_same = λ q test. sym (x.read_same q test);
   readable = (x.readable.1, x.readable.0);
 }
 
-module _ (places : List Place) (needs : Needs) (terminator : ℕ) (classes : List ℕ) (by_bytes : IsByBytes places)
+module _ (places : List Place) (needs : Asked) (terminator : ℕ) (classes : List ℕ) (by_bytes : IsByBytes places)
     (are : AreClasses places needs terminator classes) where
   abbrev class : ℕ → ℕ
   class b = get_or classes b 0
@@ -149,17 +149,17 @@ same_ranges (w ∷ ws) = ap (λ rs. (w.first, w.last) ∷ rs) (same_ranges ws)
 
 -- THE LOOP
 
-pub record AreClassesSoFar (places : List Place) (needs : Needs) (terminator : ℕ) (classes : List ℕ) (last i : ℕ) : Type 0 where
+pub record AreClassesSoFar (places : List Place) (needs : Asked) (terminator : ℕ) (classes : List ℕ) (last i : ℕ) : Type 0 where
   pub size : length classes ≡ i + 1
   pub first : get_or classes 0 0 ≡ 0
   pub at_last : get_or classes i 0 ≡ last
   pub few : last ≤ i
   pub next : (b : ℕ) → b < i → get_or classes (b + 1) 0 ≡ (if is_border places needs terminator b then get_or classes b 0 + 1 else get_or classes b 0)
 
-pub begins : (places : List Place) (needs : Needs) (terminator : ℕ) (classes : List ℕ) → classes ≡ 0 ∷ [] → AreClassesSoFar places needs terminator classes 0 0
+pub begins : (places : List Place) (needs : Asked) (terminator : ℕ) (classes : List ℕ) → classes ≡ 0 ∷ [] → AreClassesSoFar places needs terminator classes 0 0
 begins places needs terminator classes e = rw e (record { size = refl; first = refl; at_last = refl; few = omega arith; next = λ b h. absurd (omega (arith, h)) })
 
-pub goes_on : (places : List Place) (needs : Needs) (terminator : ℕ) (classes classes2 : List ℕ) (last last2 i : ℕ) →
+pub goes_on : (places : List Place) (needs : Asked) (terminator : ℕ) (classes classes2 : List ℕ) (last last2 i : ℕ) →
     last2 ≡ (if is_border places needs terminator i then last + 1 else last) → classes2 ≡ classes ++ last2 ∷ [] →
     AreClassesSoFar places needs terminator classes last i → AreClassesSoFar places needs terminator classes2 last2 (i + 1)
 goes_on places needs terminator classes classes2 last last2 i is grown v =
@@ -184,7 +184,7 @@ goes_on places needs terminator classes classes2 last last2 i is grown v =
           (cases_eq i b);
     })
 
-pub all_classes : (places : List Place) (needs : Needs) (terminator : ℕ) (classes : List ℕ) (last i : ℕ) → i ≡ 255 →
+pub all_classes : (places : List Place) (needs : Asked) (terminator : ℕ) (classes : List ℕ) (last i : ℕ) → i ≡ 255 →
     AreClassesSoFar places needs terminator classes last i → AreClasses places needs terminator classes
 all_classes places needs terminator classes last i e v = record {
   size = let s = v.size in omega (arith, s, e);

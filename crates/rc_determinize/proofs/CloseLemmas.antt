@@ -20,14 +20,14 @@ no_members [] h = refl
 no_members (n ∷ ns) h = absurd (h n (inl refl))
 
 -- one search after another at the same position
-pub one_after : (ways : Pair → List Pair) (Ends : Pair → Type 0) (i : ℕ) {visited from onward visited2 from2 onward2 visited3 : List Pair} {stop : Option Pair} →
-    Passes ways Ends i visited from onward None visited2 → Passes ways Ends i visited2 from2 onward2 stop visited3 →
-    Passes ways Ends i visited (from ++ from2) (onward ++ onward2) stop visited3
+pub one_after : (ways : Pair → List Pair) (Ends : Pair → Type 0) (i : ℕ) {visited from onward visited2 from2 onward2 visited3 : List Pair} {matched : Option Pair} →
+    Passes ways Ends i visited from onward None visited2 → Passes ways Ends i visited2 from2 onward2 matched visited3 →
+    Passes ways Ends i visited (from ++ from2) (onward ++ onward2) matched visited3
 one_after ways Ends i passes.out_of_ways q = q
 one_after ways Ends i (passes.hands_on n l p) q = passes.hands_on n l (one_after ways Ends i p q)
 one_after ways Ends i (passes.skips n seen p) q = passes.skips n seen (one_after ways Ends i p q)
-one_after ways Ends i {from2 = from2} {onward2 = onward3} {visited3 = visited4} {stop = stop} (passes.comes_back {visited} {from} {onward} {onward2} {visited2} {visited3} n l fresh on sub p) q =
-    subst (λ x. Passes ways Ends i visited (n ∷ (from ++ from2)) x stop visited4) (sym (append_assoc onward onward2 onward3))
+one_after ways Ends i {from2 = from2} {onward2 = onward3} {visited3 = visited4} {matched = matched} (passes.comes_back {visited} {from} {onward} {onward2} {visited2} {visited3} n l fresh on sub p) q =
+    subst (λ x. Passes ways Ends i visited (n ∷ (from ++ from2)) x matched visited4) (sym (append_assoc onward onward2 onward3))
     (passes.comes_back n l fresh on sub (one_after ways Ends i p q))
 
 -- what is carried is carried with other pairs behind
@@ -54,8 +54,8 @@ none_here ways Ends rises i j qs lt =
 module _ (ways : Pair → List Pair) (Ends : Pair → Type 0) (last : (n m : Pair) → Ends n → ¬ IsIn m (ways n)) (i : ℕ) (out : ℕ → List Way) (ends : ℕ → Bool)
     (same_ends : (q : ℕ) → Ends (q, i) ≡ IsTrue (ends q)) (same : (q : ℕ) → ways (q, i) ≡ map (pair_at i) (out q)) where
   -- Where no walk ends here, or those that do don't count, nothing is met.
-  pub past : (e : ℕ) {visited onward visited2 : List ℕ} {from : List Way} {stop : Option ℕ} → (stop ≡ None) ⊎ (e ≢ i) →
-      Closes out ends visited from onward stop visited2 →
+  pub past : (e : ℕ) {visited onward visited2 : List ℕ} {from : List Way} {matched : Option ℕ} → (matched ≡ None) ⊎ (e ≢ i) →
+      Closes out ends visited from onward matched visited2 →
       Passes ways (IsGoal Ends e) i (at i visited) (map (pair_at i) from) (at (i + 1) onward) None (at i visited2)
   past e off out_of_ways = passes.out_of_ways
   past e off (hands_on q c) = passes.hands_on (q, i + 1) (omega arith) (past e off c)
@@ -66,13 +66,13 @@ module _ (ways : Pair → List Pair) (Ends : Pair → Type 0) (last : (n m : Pai
       passes.comes_back (q, i) refl (λ z. fresh (from_at i q _ z)) (λ z. other (sym z.1))
       (subst (λ x. Passes ways (IsGoal Ends e) i (at i (q ∷ visited)) x [] None (at i (q ∷ visited))) (sym no_way) passes.out_of_ways)
       (past e (inr other) c)
-  past e off (comes_back {visited} {onward} {onward2} {visited2} {visited3} {from} {stop} {stop2} q fresh on sub c) =
+  past e off (comes_back {visited} {onward} {onward2} {visited2} {visited3} {from} {matched} {stop2} q fresh on sub c) =
       subst (λ x. Passes ways (IsGoal Ends e) i (at i visited) (map (pair_at i) (stays q ∷ from)) x None (at i visited3))
       (sym (map-append (λ k. (k, i + 1)) onward onward2))
       (passes.comes_back (q, i) refl (λ z. fresh (from_at i q _ z)) (λ z. on (subst (λ X. X) (same_ends q) z.0))
       (subst (λ x. Passes ways (IsGoal Ends e) i (at i (q ∷ visited)) x (at (i + 1) onward) None (at i visited2)) (sym (same q))
-      (past e (first_off stop stop2 off) sub))
-      (past e (second_off stop stop2 off) c))
+      (past e (first_off matched stop2 off) sub))
+      (past e (second_off matched stop2 off) c))
     where
       first_off : (a b : Option ℕ) → (option_or a b ≡ None) ⊎ (e ≢ i) → (a ≡ None) ⊎ (e ≢ i)
       first_off None b h = inl refl
@@ -83,8 +83,8 @@ module _ (ways : Pair → List Pair) (Ends : Pair → Type 0) (last : (n m : Pai
       second_off (Some k) b h = ⊎_elim (λ z. absurd (none-some k (sym z))) (λ z. inr z) h
 
   -- The first match that is met is the end of the first walk that ends here.
-  pub met : (e : ℕ) {visited onward visited2 : List ℕ} {from : List Way} {stop : Option ℕ} → stop ≡ Some e →
-      Closes out ends visited from onward stop visited2 →
+  pub met : (e : ℕ) {visited onward visited2 : List ℕ} {from : List Way} {matched : Option ℕ} → matched ≡ Some e →
+      Closes out ends visited from onward matched visited2 →
       (onward2 : List ℕ) × (visited3 : List Pair) × Passes ways (IsGoal Ends i) i (at i visited) (map (pair_at i) from) (at (i + 1) onward2) (Some (e, i)) visited3
   met e is out_of_ways = absurd (none-some e is)
   met e is (hands_on q c) = let r = met e is c in (q ∷ r.0, r.1, passes.hands_on (q, i + 1) (omega arith) r.2)
@@ -95,7 +95,7 @@ module _ (ways : Pair → List Pair) (Ends : Pair → Type 0) (last : (n m : Pai
     subst (λ k. Passes ways (IsGoal Ends i) i (at i visited) (map (pair_at i) (stays q ∷ from)) [] (Some (k, i)) (at i visited)) (same_Some q e is)
         (passes.arrives (q, i) refl (λ z. fresh (from_at i q _ z)) (subst (λ X. X) (sym (same_ends q)) t, refl)),
   )
-  met e is (comes_back {visited} {onward} {onward2} {visited2} {visited3} {from} {stop = None} q fresh on sub c) =
+  met e is (comes_back {visited} {onward} {onward2} {visited2} {visited3} {from} {matched = None} q fresh on sub c) =
       let r = met e is c in (
         onward ++ r.0,
         r.1,
@@ -106,7 +106,7 @@ module _ (ways : Pair → List Pair) (Ends : Pair → Type 0) (last : (n m : Pai
             (past i (inl refl) sub))
             r.2),
       )
-  met e is (comes_back {visited} {onward} {onward2} {visited2} {visited3} {from} {stop = Some k} q fresh on sub c) =
+  met e is (comes_back {visited} {onward} {onward2} {visited2} {visited3} {from} {matched = Some k} q fresh on sub c) =
       let r = met e is sub in (
         r.0,
         r.1,
@@ -115,8 +115,8 @@ module _ (ways : Pair → List Pair) (Ends : Pair → Type 0) (last : (n m : Pai
       )
 
 -- at a bound nothing is read
-pub at_bound : (out : ℕ → List Way) (ends : ℕ → Bool) {visited onward visited2 : List ℕ} {from : List Way} {stop : Option ℕ} →
-    Closes out ends visited from onward stop visited2 → Closes (λ q. still (out q)) ends visited (still from) [] stop visited2
+pub at_bound : (out : ℕ → List Way) (ends : ℕ → Bool) {visited onward visited2 : List ℕ} {from : List Way} {matched : Option ℕ} →
+    Closes out ends visited from onward matched visited2 → Closes (λ q. still (out q)) ends visited (still from) [] matched visited2
 at_bound out ends out_of_ways = out_of_ways
 at_bound out ends (hands_on q c) = at_bound out ends c
 at_bound out ends (skips q seen c) = skips q seen (at_bound out ends c)

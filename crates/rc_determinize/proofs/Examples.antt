@@ -3,14 +3,14 @@ use Rattle.std.proofs.Common.{◌≡◌, List, [], ◌∷◌, Some, None, true, 
 use Rattle.rc_pattern.specs.declared.hir.Look.TheVariants.{EndLF, WordAscii, WordUnicode, StartCRLF}
 use Rattle.rc_program.specs.Program.{Place, byte, guard, accept, stays}
 use Rattle.rc_determinize.specs.declared.sides.Seen.{Seen}
-use Rattle.rc_determinize.specs.declared.sides.Needs.{Needs}
+use Rattle.rc_determinize.specs.declared.sides.Asked.{Asked}
 use Rattle.rc_determinize.specs.Steps.{Steps, out_of_ways, hands_on, comes_back}
 use Rattle.rc_determinize.specs.Sides.{seen_of, holds_by, told, asking, out_seen}
 use Rattle.rc_determinize.specs.States.{is_match, best_at}
 use Rattle.rc_determinize.specs.Classes.{is_border}
 use Rattle.rc_determinize.specs.Machine.{add_all}
 
-abbrev nothing : Needs
+abbrev nothing : Asked
 nothing = record { facts = record { edge = false; terminator = false; line_feed = false; carriage_return = false; word = false }; unicode = false }
 
 abbrev edge : Seen

@@ -150,34 +150,34 @@ below_reverse n xs h q i = h q (subst (λ l. HasPlace q l) (reverse-reverse xs) 
         (⊎_elim (λ e. has_right q (reverse ys) (y ∷ []) (inl e)) (λ t. has_left q (reverse ys) (y ∷ []) (has_reverse q ys t)) z)
 
 module _ (out : ℕ → List Way) (ends : ℕ → Bool) where
-  reads_on : (k : ℕ) (entered : List ℕ) (rest : List Way) (n : ℕ) (next new : List ℕ) (stop : Option ℕ) →
-      Runs out ends k entered rest (add_one next n) new stop → Runs out ends (suc k) entered (reads 1 n ∷ rest) next new stop
-  reads_on k entered rest n next new stop r =
+  reads_on : (k : ℕ) (entered : List ℕ) (rest : List Way) (n : ℕ) (next new : List ℕ) (matched : Option ℕ) →
+      Runs out ends k entered rest (add_one next n) new matched → Runs out ends (suc k) entered (reads 1 n ∷ rest) next new matched
+  reads_on k entered rest n next new matched r =
       ⊎_elim
       (λ t. repeats n (any_has n next t) (rw t at r))
       (λ f. adds n (λ h. true≢false (sym (has_any n next h) ∙ f)) (rw f at r))
       (cases_Bool (list_any (λ q. nat_eq q n) next))
 
-  reads_all : (k : ℕ) (entered : List ℕ) (rest : List Way) (ns next new : List ℕ) (stop : Option ℕ) →
-      Runs out ends k entered rest (add_all next ns) new stop → Finishes out ends entered (map (reads 1) ns ++ rest) next new stop
-  reads_all k entered rest [] next new stop r = (k, r)
-  reads_all k entered rest (n ∷ ns) next new stop r =
-      let w = reads_all k entered rest ns (add_one next n) new stop r in
-      (suc w.0, reads_on w.0 entered (map (reads 1) ns ++ rest) n next new stop w.1)
+  reads_all : (k : ℕ) (entered : List ℕ) (rest : List Way) (ns next new : List ℕ) (matched : Option ℕ) →
+      Runs out ends k entered rest (add_all next ns) new matched → Finishes out ends entered (map (reads 1) ns ++ rest) next new matched
+  reads_all k entered rest [] next new matched r = (k, r)
+  reads_all k entered rest (n ∷ ns) next new matched r =
+      let w = reads_all k entered rest ns (add_one next n) new matched r in
+      (suc w.0, reads_on w.0 entered (map (reads 1) ns ++ rest) n next new matched w.1)
 
-  open_ways : (k : ℕ) (entered : List ℕ) (ws rest : List Way) (next new : List ℕ) (stop : Option ℕ) → IsPlain ws →
-      Runs out ends k entered (map stays (stay_places ws) ++ rest) (add_all next (read_places ws)) new stop →
-      Finishes out ends entered (ws ++ rest) next new stop
-  open_ways k entered ws rest next new stop is_plain r =
+  open_ways : (k : ℕ) (entered : List ℕ) (ws rest : List Way) (next new : List ℕ) (matched : Option ℕ) → IsPlain ws →
+      Runs out ends k entered (map stays (stay_places ws) ++ rest) (add_all next (read_places ws)) new matched →
+      Finishes out ends entered (ws ++ rest) next new matched
+  open_ways k entered ws rest next new matched is_plain r =
       ⊎_elim
       (λ p. (
         k,
-        subst (λ x. Runs out ends k entered (x ++ rest) next new stop) (sym p.0)
-            (subst (λ x. Runs out ends k entered (map stays (stay_places ws) ++ rest) (add_all next x) new stop) p.1 r),
+        subst (λ x. Runs out ends k entered (x ++ rest) next new matched) (sym p.0)
+            (subst (λ x. Runs out ends k entered (map stays (stay_places ws) ++ rest) (add_all next x) new matched) p.1 r),
       ))
-      (λ p. subst (λ x. Finishes out ends entered (x ++ rest) next new stop) (sym p.1)
-      (reads_all k entered rest (read_places ws) next new stop
-      (subst (λ x. Runs out ends k entered (map stays x ++ rest) (add_all next (read_places ws)) new stop) p.0 r)))
+      (λ p. subst (λ x. Finishes out ends entered (x ++ rest) next new matched) (sym p.1)
+      (reads_all k entered rest (read_places ws) next new matched
+      (subst (λ x. Runs out ends k entered (map stays x ++ rest) (add_all next (read_places ws)) new matched) p.0 r)))
       is_plain
 
 module _ (ps : List code.BytePlace) (test : Look → Bool) (after : Option ℕ) (list : List ℕ) where
@@ -193,7 +193,7 @@ module _ (ps : List code.BytePlace) (test : Look → Bool) (after : Option ℕ) 
     pub listed_size : listed.capacity ≡ length ps
     pub few : length entered.items ≤ length ps
     pub below : AreBelow (length ps) stack
-    pub goes : (new : List ℕ) (stop : Option ℕ) → Finishes out ends entered.items (map stays (reverse stack)) listed.items new stop → IsStep out ends list new stop
+    pub goes : (new : List ℕ) (matched : Option ℕ) → Finishes out ends entered.items (map stays (reverse stack)) listed.items new matched → IsStep out ends list new matched
 
   pub sets_out : (entered listed : Members) (stack : List ℕ) → list ≡ reverse stack → AreBelow (length ps) (reverse stack) →
       entered ≡ record { capacity = length ps; items = [] } → listed ≡ record { capacity = length ps; items = [] } → IsFollowing entered listed stack
@@ -202,10 +202,10 @@ module _ (ps : List code.BytePlace) (test : Look → Bool) (after : Option ℕ) 
     listed_size = ap (λ (m : Members). m.capacity) f;
     few = let z : length entered.items ≡ 0 = ap (λ (m : Members). length m.items) e in omega (arith, z);
     below = subst (λ l. AreBelow (length ps) l) (reverse-reverse stack) (below_reverse (length ps) (reverse stack) below);
-    goes = λ new stop r. makes_step out ends list new stop
-        (subst (λ (m : Members). Finishes out ends m.items (map stays list) [] new stop) e
-        (subst (λ (m : Members). Finishes out ends entered.items (map stays list) m.items new stop) f
-        (subst (λ l. Finishes out ends entered.items (map stays l) listed.items new stop) (sym is) r)));
+    goes = λ new matched r. makes_step out ends list new matched
+        (subst (λ (m : Members). Finishes out ends m.items (map stays list) [] new matched) e
+        (subst (λ (m : Members). Finishes out ends entered.items (map stays list) m.items new matched) f
+        (subst (λ l. Finishes out ends entered.items (map stays l) listed.items new matched) (sym is) r)));
   }
 
   -- how much is left to do
@@ -232,7 +232,7 @@ module _ (ps : List code.BytePlace) (test : Look → Bool) (after : Option ℕ) 
           listed_size = v.listed_size;
           few = v.few;
           below = rest_below old popped q e v.below;
-          goes = λ new stop r. v.goes new stop (suc r.0, rw (turned old popped q e) (leaps q has r.1));
+          goes = λ new matched r. v.goes new matched (suc r.0, rw (turned old popped q e) (leaps q has r.1));
         }),
         omega (arith, lengths, count),
       )
@@ -266,7 +266,7 @@ module _ (ps : List code.BytePlace) (test : Look → Bool) (after : Option ℕ) 
           few = fits;
           below = λ k i. ⊎_elim (rest_below old popped q e v.below k) (below_reverse (length ps) (stay_places (out q)) stay k)
               (has_parts k popped _ (subst (λ l. HasPlace k l) pushed i));
-          goes = λ new stop r. v.goes new stop (opened new stop r);
+          goes = λ new matched r. v.goes new matched (opened new matched r);
         },
         omega (arith, count, lengths, longer, most, fits),
       )
@@ -277,15 +277,15 @@ module _ (ps : List code.BytePlace) (test : Look → Bool) (after : Option ℕ) 
       line : map stays (reverse stack2) ≡ map stays (stay_places (out q)) ++ map stays (reverse popped)
       line = ap (λ x. map stays (reverse x)) pushed ∙ ap (λ x. map stays x) order ∙ map-append stays (stay_places (out q)) (reverse popped)
 
-      opened : (new : List ℕ) (stop : Option ℕ) → Finishes out ends entered2.items (map stays (reverse stack2)) listed2.items new stop →
-          Finishes out ends entered.items (map stays (reverse old)) listed.items new stop
-      opened new stop r =
-          let a : Runs out ends r.0 (entered.items ++ q ∷ []) (map stays (stay_places (out q)) ++ map stays (reverse popped)) (add_all listed.items (read_places (out q))) new stop =
-          subst (λ x. Runs out ends r.0 x (map stays (stay_places (out q)) ++ map stays (reverse popped)) (add_all listed.items (read_places (out q))) new stop)
+      opened : (new : List ℕ) (matched : Option ℕ) → Finishes out ends entered2.items (map stays (reverse stack2)) listed2.items new matched →
+          Finishes out ends entered.items (map stays (reverse old)) listed.items new matched
+      opened new matched r =
+          let a : Runs out ends r.0 (entered.items ++ q ∷ []) (map stays (stay_places (out q)) ++ map stays (reverse popped)) (add_all listed.items (read_places (out q))) new matched =
+          subst (λ x. Runs out ends r.0 x (map stays (stay_places (out q)) ++ map stays (reverse popped)) (add_all listed.items (read_places (out q))) new matched)
           (ap (λ (m : Members). m.items) grown)
-          (subst (λ x. Runs out ends r.0 entered2.items x (add_all listed.items (read_places (out q))) new stop) line
-          (subst (λ (m : Members). Runs out ends r.0 entered2.items (map stays (reverse stack2)) m.items new stop) more r.1)) in
-          let w = open_ways out ends r.0 (entered.items ++ q ∷ []) (out q) (map stays (reverse popped)) listed.items new stop
+          (subst (λ x. Runs out ends r.0 entered2.items x (add_all listed.items (read_places (out q))) new matched) line
+          (subst (λ (m : Members). Runs out ends r.0 entered2.items (map stays (reverse stack2)) m.items new matched) more r.1)) in
+          let w = open_ways out ends r.0 (entered.items ++ q ∷ []) (out q) (map stays (reverse popped)) listed.items new matched
           (plain test after (place_at (places_of ps) q) (by_bytes ps q)) a in
           (suc w.0, rw (turned old popped q e) (opens q fresh (λ t. true≢false (sym t ∙ is)) w.1))
 

@@ -25,11 +25,11 @@ module _ (g : Setting) (ok : IsSetting g) (t : Text) (terminator : g.terminator 
   near_here = near g.places t hi ok.by_bytes
 
   goes_on_by : (i : ℕ) (out : ℕ → List Way) → i < hi → ((q : ℕ) → ways g.places t hi (q, i) ≡ map (pair_at i) (out q)) →
-      (goes_on : Bool) (stop : Option ℕ) (list next list2 : List ℕ) (best : Option Pair) →
-      IsStep out (is_match g.places) list next stop → Adds next (root_if (goes_on && is_none stop) root) list2 →
+      (goes_on : Bool) (matched : Option ℕ) (list next list2 : List ℕ) (best : Option Pair) →
+      IsStep out (is_match g.places) list next matched → Adds next (root_if (goes_on && is_none matched) root) list2 →
       Carries (ways g.places t hi) (Stops g.places) origin (at i list ++ later_starts goes_on root i hi) best →
       Carries (ways g.places t hi) (Stops g.places) origin
-      (at (i + 1) list2 ++ later_starts (goes_on && is_none stop) root (i + 1) hi) (best_at i stop best)
+      (at (i + 1) list2 ++ later_starts (goes_on && is_none matched) root (i + 1) hi) (best_at i matched best)
   goes_on_by i out lt same true None list next list2 best step added c =
       let e : hi - i ≡ suc (hi - (i + 1)) = omega (arith, lt) in
       start_joins (ways g.places t hi) (Stops g.places) same_pair last_here near_here i out (is_match g.places) (λ q. refl) list next origin best
@@ -73,7 +73,7 @@ module _ (g : Setting) (ok : IsSetting g) (t : Text) (terminator : g.terminator 
   -- THE STEP
   pub goes : (i : ℕ) (s s2 : State) (best : Option Pair) → i < hi → IsInside t i hi → IsUnderWay g t hi root origin i s best →
       IsReadable g.needs (byte_of (after_at t i)) → IsNext g root s (byte_of (after_at t i)) s2 →
-      IsUnderWay g t hi root origin (i + 1) s2 (best_at i s2.stop best)
+      IsUnderWay g t hi root origin (i + 1) s2 (best_at i s2.matched best)
   goes i s s2 best lt inside u r n =
       let high = inside.high in let bounded = inside.bounded in
       let byte = get_some t.content i (omega (arith, lt, high, bounded)) in
@@ -81,11 +81,11 @@ module _ (g : Setting) (ok : IsSetting g) (t : Text) (terminator : g.terminator 
       let behind = byte_behind t i byte.0 inside.low byte.1 in
       let same : byte_of (after_at t i) ≡ byte_of (before_at t (i + 1)) = ahead ∙ sym behind in
       record {
-        carries = subst (λ b. Carries (ways g.places t hi) (Stops g.places) origin (at (i + 1) s2.list ++ later_starts b root (i + 1) hi) (best_at i s2.stop best))
+        carries = subst (λ b. Carries (ways g.places t hi) (Stops g.places) origin (at (i + 1) s2.list ++ later_starts b root (i + 1) hi) (best_at i s2.matched best))
             (sym n.goes_on)
             (goes_on_by i (out_here g.places g.needs ok.by_bytes ok.covers t i u.readable r) lt
-            (same_below g.places g.needs ok.by_bytes ok.covers t i u.readable r hi lt high bounded) s.goes_on s2.stop s.list n.next s2.list best
-            (subst (λ o. IsStep o (is_match g.places) s.list n.next s2.stop) (told_here i s best u r) n.is_step)
+            (same_below g.places g.needs ok.by_bytes ok.covers t i u.readable r hi lt high bounded) s.goes_on s2.matched s.list n.next s2.list best
+            (subst (λ o. IsStep o (is_match g.places) s.list n.next s2.matched) (told_here i s best u r) n.is_step)
             (subst (λ b. Adds n.next (root_if b root) s2.list) n.goes_on n.joined) u.carries);
         beside = n.beside ∙ ap₂ (λ x o. told g.needs x o) terminator same;
         readable = subst (λ o. IsReadable g.needs o) same r;
@@ -98,12 +98,12 @@ module _ (g : Setting) (ok : IsSetting g) (t : Text) (terminator : g.terminator 
   -- at the bound: the byte that stands behind it, if one does, is looked at, and not read
   pub ends : (s s2 : State) (best : Option Pair) → IsUnderWay g t hi root origin hi s best →
       IsReadable g.needs (byte_of (after_at t hi)) → IsNext g root s (byte_of (after_at t hi)) s2 →
-      Gives (ways g.places t hi) (Stops g.places) [] origin (best_at hi s2.stop best)
+      Gives (ways g.places t hi) (Stops g.places) [] origin (best_at hi s2.matched best)
   ends s s2 best u r n =
       ends_by (ways g.places t hi) (Stops g.places) same_pair last_here near_here hi
-      (out_here g.places g.needs ok.by_bytes ok.covers t hi u.readable r) (is_match g.places) (λ q. refl) s.list n.next origin best s2.stop
+      (out_here g.places g.needs ok.by_bytes ok.covers t hi u.readable r) (is_match g.places) (λ q. refl) s.list n.next origin best s2.matched
       (same_at_end g.places g.needs ok.by_bytes ok.covers t hi u.readable r)
-      (subst (λ o. IsStep o (is_match g.places) s.list n.next s2.stop) (told_here hi s best u r) n.is_step)
+      (subst (λ o. IsStep o (is_match g.places) s.list n.next s2.matched) (told_here hi s best u r) n.is_step)
       (subst (λ xs. Carries (ways g.places t hi) (Stops g.places) origin (at hi s.list ++ xs) best) (no_later s.goes_on) u.carries)
 
   -- a state from which nothing goes on

@@ -287,7 +287,7 @@ module _ (ps : List code.BytePlace) (test : Look → Bool) (after : Option ℕ) 
 
 -- what was gathered is the step
 pub collected : (g : Setting) (root : ℕ) (s : State) (after : Option ℕ) (t : State) (got : List ℕ) →
-    IsGathered (out_seen g.places g.needs g.terminator s.beside after) g.places s.list got t.stop → IsRising t.list →
+    IsGathered (out_seen g.places g.needs g.terminator s.beside after) g.places s.list got t.matched → IsRising t.list →
     ((q : ℕ) → HasPlace q t.list ↔ HasPlace q (add_all got (root_if s.goes_on root))) → t.goes_on ≡ s.goes_on → t.beside ≡ told g.needs g.terminator after →
     IsNextOfAll g root s after t
 collected g root s after t got r rising same goes_on beside = record {
@@ -296,7 +296,7 @@ collected g root s after t got r rising same goes_on beside = record {
     (λ h. (same q).1 (a.1 (⊎_elim (λ x. inr (to_root s.goes_on q (sym goes_on ∙ x.0) x.1)) (λ y. inl ((r.listed q).1 y)) h))),
   );
   rising = rising;
-  stop = r.least;
+  matched = r.least;
   goes_on = goes_on;
   beside = beside;
 }

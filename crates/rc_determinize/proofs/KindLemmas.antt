@@ -24,7 +24,7 @@ rising_once (q ∷ qs) h = ((λ k. let l = h.0 q k in absurd (omega (arith, l)))
 alike_next : (g : Setting) (root b c : ℕ) (s s2 : State) → AreAlike g.places g.needs g.terminator b c → IsNext g root s (Some b) s2 → IsNext g root s (Some c) s2
 alike_next g root b c s s2 a n = record {
   next = n.next;
-  is_step = subst (λ o. IsStep o (is_match g.places) s.list n.next s2.stop) (alike_out g.places g.needs g.terminator b c s.beside a) n.is_step;
+  is_step = subst (λ o. IsStep o (is_match g.places) s.list n.next s2.matched) (alike_out g.places g.needs g.terminator b c s.beside a) n.is_step;
   goes_on = n.goes_on;
   joined = n.joined;
   beside = n.beside ∙ a.told_same;
@@ -37,7 +37,7 @@ alike_all g root b c s s2 a n =
     record {
       list = λ q. subst (λ o. HasPlace q s2.list ↔ (((s2.goes_on ≡ true) × (q ≡ root)) ⊎ ((p : ℕ) × ComesBy o s.list p × HasWay (reads 1 q) (o p)))) e (n.list q);
       rising = n.rising;
-      stop = subst (λ o. IsLeastMatch g.places (ComesBy o s.list) s2.stop) e n.stop;
+      matched = subst (λ o. IsLeastMatch g.places (ComesBy o s.list) s2.matched) e n.matched;
       goes_on = n.goes_on;
       beside = n.beside ∙ a.told_same;
     }
@@ -92,13 +92,13 @@ short all_matches g root s t after closed rooted n =
     let f = inside all_matches g root s t after closed rooted n in limit.short (length g.places) t.list f.0 f.1
 short leftmost_longest g root s t after closed rooted n = longest_step_law.short g root s t after closed rooted n
 
-forgets : (kind : MatchKind) (g : Setting) (root : ℕ) (s t : State) (after stop : Option ℕ) →
-    IsNextBy kind g root s after t → IsNextBy kind g root (record s { stop = stop }) after t
-forgets leftmost_first g root s t after stop n =
+forgets : (kind : MatchKind) (g : Setting) (root : ℕ) (s t : State) (after matched : Option ℕ) →
+    IsNextBy kind g root s after t → IsNextBy kind g root (record s { matched = matched }) after t
+forgets leftmost_first g root s t after matched n =
     record { next = n.next; is_step = n.is_step; goes_on = n.goes_on; joined = n.joined; beside = n.beside }
-forgets all_matches g root s t after stop n =
-    record { list = n.list; rising = n.rising; stop = n.stop; goes_on = n.goes_on; beside = n.beside }
-forgets leftmost_longest g root s t after stop n = longest_step_law.forgets g root s t after stop n
+forgets all_matches g root s t after matched n =
+    record { list = n.list; rising = n.rising; matched = n.matched; goes_on = n.goes_on; beside = n.beside }
+forgets leftmost_longest g root s t after matched n = longest_step_law.forgets g root s t after matched n
 
 tells : (kind : MatchKind) (g : Setting) (root : ℕ) (s t : State) (after : Option ℕ) →
     IsNextBy kind g root s after t → t.beside ≡ told g.needs g.terminator after

@@ -42,7 +42,7 @@ alike_prior g roots b c s s2 a n =
         (λ x. l.1 (b, refl, x.2, back q x.2 (subst (λ k. ReadsTo g.places k q x.2) (sym (same_Some c x.0 x.1)) x.3), come x.2 x.4)),
       );
       rising = n.rising;
-      stop = subst (λ x. IsFirstRoot (LeadsBy (still_out g.places x s.beside) s.list) roots s2.stop) a.told_same n.stop;
+      matched = subst (λ x. IsFirstRoot (LeadsBy (still_out g.places x s.beside) s.list) roots s2.matched) a.told_same n.matched;
       goes_on = n.goes_on;
       beside = n.beside ∙ a.told_same;
     }
@@ -66,7 +66,7 @@ backward_law = record {
   inside = λ g roots s s2 before p. (rising_once s2.list p.rising, prior_below g roots s s2 before p);
   short = λ g roots s s2 before p.
       limit.short (length g.places) s2.list (rising_once s2.list p.rising) (prior_below g roots s s2 before p);
-  lowers = λ g t hi end i roots stop least le f l. backward.lowers g t hi end roots i stop least le f l;
+  lowers = λ g t hi end i roots matched least le f l. backward.lowers g t hi end roots i matched least le f l;
 }
 
 pub forward_law : ForwardLaw

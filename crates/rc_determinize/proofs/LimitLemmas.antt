@@ -36,7 +36,7 @@ under_kept n (adds_one {list} q fresh s) a b =
 under_kept n (leaves_out q old s) a b = under_kept n s a (λ k h. b k (inr h))
 
 module _ (out : ℕ → List Way) (ends : ℕ → Bool) (n : ℕ) (closed : (q : ℕ) → AreBelow n (read_by (out q))) where
-  onward_under : {visited onward visited2 : List ℕ} {from : List Way} {stop : Option ℕ} → Steps out ends visited from onward stop visited2 →
+  onward_under : {visited onward visited2 : List ℕ} {from : List Way} {matched : Option ℕ} → Steps out ends visited from onward matched visited2 →
       AreBelow n (read_by from) → AreBelow n onward
   onward_under out_of_ways b = λ k h. absurd h
   onward_under (hands_on q s) b = λ k h. ⊎_elim (λ e. b k (inl e)) (onward_under s (λ m z. b m (inr z)) k) h
@@ -51,7 +51,7 @@ module _ (out : ℕ → List Way) (ends : ℕ → Bool) (n : ℕ) (closed : (q :
   nothing_read (q ∷ qs) k h = nothing_read qs k h
 
   -- the next list has each place once, and only places of the program
-  pub next_fits : {list next : List ℕ} {stop : Option ℕ} → IsStep out ends list next stop → AreOnce next × AreBelow n next
+  pub next_fits : {list next : List ℕ} {matched : Option ℕ} → IsStep out ends list next matched → AreOnce next × AreBelow n next
   next_fits {list} s =
       (once_kept s.once tt, under_kept n s.once (λ k h. absurd h) (onward_under s.steps (nothing_read list)))
 

@@ -15,7 +15,7 @@ use Rattle.rc_determinize.specs.States.{Setting, State, is_match, best_at}
 use Rattle.rc_determinize.specs.Longest.{groups_of, parted, Closes, GroupSteps, AddsGroups, root_group, IsNextOfLongest}
 use Rattle.rc_determinize.specs.Longest as longest
 use Rattle.rc_determinize.specs.declared.sides.Seen.{Seen}
-use Rattle.rc_determinize.specs.declared.sides.Needs.{Needs}
+use Rattle.rc_determinize.specs.declared.sides.Asked.{Asked}
 
 -- The step, with the proof that it is one; nothing where so many turns aren't enough.
 
@@ -37,7 +37,7 @@ has_or_not q (p ∷ ps) =
 
 module _ (out : ℕ → List Way) (ends : ℕ → Bool) where
   abbrev Closed : List ℕ → List Way → Type 0
-  Closed visited from = (onward : List ℕ) × (stop : Option ℕ) × (visited2 : List ℕ) × Closes out ends visited from onward stop visited2
+  Closed visited from = (onward : List ℕ) × (matched : Option ℕ) × (visited2 : List ℕ) × Closes out ends visited from onward matched visited2
 
   abbrev Closer : Type 0
   Closer = (visited : List ℕ) (from : List Way) → Option (Closed visited from)
@@ -67,11 +67,11 @@ module _ (out : ℕ → List Way) (ends : ℕ → Bool) where
       (λ no. close_new (close n) visited from q no (true_or_false (ends q))) (has_or_not q visited)
 
   abbrev Grouped : List ℕ → List (List ℕ) → Type 0
-  Grouped visited groups = (onward : List (List ℕ)) × (stop : Option ℕ) × GroupSteps out ends visited groups onward stop
+  Grouped visited groups = (onward : List (List ℕ)) × (matched : Option ℕ) × GroupSteps out ends visited groups onward matched
 
   -- of a group that is closed over, what comes of it and of those behind
-  abbrev group_met : (visited group : List ℕ) (groups : List (List ℕ)) (onward visited2 : List ℕ) (stop : Option ℕ) →
-      Closes out ends visited (map stays group) onward stop visited2 → Option (Grouped visited2 groups) → Option (Grouped visited (group ∷ groups))
+  abbrev group_met : (visited group : List ℕ) (groups : List (List ℕ)) (onward visited2 : List ℕ) (matched : Option ℕ) →
+      Closes out ends visited (map stays group) onward matched visited2 → Option (Grouped visited2 groups) → Option (Grouped visited (group ∷ groups))
   group_met visited group groups onward visited2 None c rest =
       option_map (λ (r : Grouped visited2 groups). (onward ∷ r.0, r.1, longest.goes c r.2)) rest
   group_met visited group groups onward visited2 (Some e) c rest = Some (onward ∷ [], Some e, longest.stops c)
@@ -112,14 +112,14 @@ abbrev made : (g : Setting) (s : State) (after : Option ℕ) → Made g s after 
 made g s after r =
     let on = s.goes_on && is_none r.1 in
     let new = added_groups [] (r.0 ++ root_group on 0) in (
-      record { list = parted (length g.places) new.0; beside = told g.needs g.terminator after; goes_on = on; stop = r.1 },
+      record { list = parted (length g.places) new.0; beside = told g.needs g.terminator after; goes_on = on; matched = r.1 },
       record { onward = r.0; groups = new.0; steps = r.2; goes_on = refl; once = new.1; list = refl; beside = refl },
     )
 
 abbrev next : ℕ → (g : Setting) (s : State) (after : Option ℕ) → Option (Next g s after)
 next n g s after = option_map (made g s after) (close_groups (out_seen g.places g.needs g.terminator s.beside after) (is_match g.places) n [] (groups_of (length g.places) s.list))
 
-abbrev nothing : Needs
+abbrev nothing : Asked
 nothing = record { facts = record { edge = false; terminator = false; line_feed = false; carriage_return = false; word = false }; unicode = false }
 
 abbrev unseen : Seen
@@ -131,11 +131,11 @@ Ran = List (List ℕ) × Option (ℕ × ℕ)
 
 abbrev ran_out : Setting → ℕ → Option Pair → Option State → Ran
 ran_out g i best None = ([], None)
-ran_out g i best (Some s) = ([], option_map (λ (n : Pair). (pattern_at (place_at g.places n.0), n.1)) (best_at i s.stop best))
+ran_out g i best (Some s) = ([], option_map (λ (n : Pair). (pattern_at (place_at g.places n.0), n.1)) (best_at i s.matched best))
 
 abbrev ran_on : ℕ → Option Pair → (State → Option Pair → Ran) → Option State → Ran
 ran_on i best rest None = ([], None)
-ran_on i best rest (Some s) = let r = rest s (best_at i s.stop best) in (s.list ∷ r.0, r.1)
+ran_on i best rest (Some s) = let r = rest s (best_at i s.matched best) in (s.list ∷ r.0, r.1)
 
 abbrev run : Setting → List ℕ → ℕ → State → Option Pair → Ran
 run g [] i s best = ran_out g i best (option_map (λ (r : Next g s None). r.0) (next 40 g s None))
@@ -144,7 +144,7 @@ run g (b ∷ bs) i s best = ran_on i best (run g bs (i + 1)) (option_map (λ (r 
 -- a search for the patterns, at any position or at the first alone
 abbrev over : Bool → List Re → List ℕ → Ran
 over goes_on hs text =
-    run (record { places = program hs; needs = nothing; terminator = 10 }) text 0 (record { list = 0 ∷ []; beside = unseen; goes_on = goes_on; stop = None }) None
+    run (record { places = program hs; needs = nothing; terminator = 10 }) text 0 (record { list = 0 ∷ []; beside = unseen; goes_on = goes_on; matched = None }) None
 
 abbrev a : Re
 a = literal (codes "a")

@@ -20,7 +20,7 @@ alike : (g : Setting) (root b c : ℕ) (s t : State) → AreAlike g.places g.nee
 alike g root b c s t a n = record {
   onward = n.onward;
   groups = n.groups;
-  steps = subst (λ o. GroupSteps o (is_match g.places) [] (groups_of (length g.places) s.list) n.onward t.stop)
+  steps = subst (λ o. GroupSteps o (is_match g.places) [] (groups_of (length g.places) s.list) n.onward t.matched)
       (alike_out g.places g.needs g.terminator b c s.beside a) n.steps;
   goes_on = n.goes_on;
   once = n.once;
@@ -106,7 +106,7 @@ longest_step_law = record {
   inside = inside;
   short = short;
   within = within;
-  forgets = λ g root s t after stop n.
+  forgets = λ g root s t after matched n.
       record { onward = n.onward; groups = n.groups; steps = n.steps; goes_on = n.goes_on; once = n.once; list = n.list; beside = n.beside };
   tells = λ g root s t after n. n.beside;
 }

@@ -39,7 +39,7 @@ mark visited entered q m p = (
 
 module _ (out : ℕ → List Way) (ends : ℕ → Bool) where
   -- the first part of the stack was worked off without a match
-  pub record WorkedOff (k : ℕ) (visited : List ℕ) (first second : List Way) (next new : List ℕ) (stop : Option ℕ) : Type 0 where
+  pub record WorkedOff (k : ℕ) (visited : List ℕ) (first second : List Way) (next new : List ℕ) (matched : Option ℕ) : Type 0 where
     pub left : ℕ
     pub fewer : left ≤ k
     pub marks2 : List ℕ
@@ -49,12 +49,12 @@ module _ (out : ℕ → List Way) (ends : ℕ → Bool) where
     pub steps : Steps out ends visited first onward None visited2
     pub marked : IsMarked visited2 marks2
     pub added : Adds next onward next2
-    pub more : Runs out ends left marks2 second next2 new stop
+    pub more : Runs out ends left marks2 second next2 new matched
 
   -- a match was met in it
-  pub record Met (visited : List ℕ) (first : List Way) (next new : List ℕ) (stop : Option ℕ) : Type 0 where
+  pub record Met (visited : List ℕ) (first : List Way) (next new : List ℕ) (matched : Option ℕ) : Type 0 where
     pub place : ℕ
-    pub is_stop : stop ≡ Some place
+    pub is_stop : matched ≡ Some place
     pub visited2 : List ℕ
     pub onward : List ℕ
     pub steps : Steps out ends visited first onward (Some place) visited2
@@ -63,11 +63,11 @@ module _ (out : ℕ → List Way) (ends : ℕ → Bool) where
   not_visited : (visited marks : List ℕ) (q : ℕ) → IsMarked visited marks → ¬ HasPlace q marks → ¬ HasPlace q visited
   not_visited visited marks q m e h = e ((m q).0 h)
 
-  split : (n k : ℕ) → k < n → (marks : List ℕ) (visited : List ℕ) (first second : List Way) (next new : List ℕ) (stop : Option ℕ) →
-      IsMarked visited marks → Runs out ends k marks (first ++ second) next new stop →
-      WorkedOff k visited first second next new stop ⊎ Met visited first next new stop
-  split zero k less marks visited first second next new stop m r = absurd (omega (arith, less))
-  split (suc n) k less marks visited [] second next new stop m r =
+  split : (n k : ℕ) → k < n → (marks : List ℕ) (visited : List ℕ) (first second : List Way) (next new : List ℕ) (matched : Option ℕ) →
+      IsMarked visited marks → Runs out ends k marks (first ++ second) next new matched →
+      WorkedOff k visited first second next new matched ⊎ Met visited first next new matched
+  split zero k less marks visited first second next new matched m r = absurd (omega (arith, less))
+  split (suc n) k less marks visited [] second next new matched m r =
       inl (record {
         left = k;
         fewer = omega arith;
@@ -80,8 +80,8 @@ module _ (out : ℕ → List Way) (ends : ℕ → Bool) where
         added = all_added;
         more = r;
       })
-  split (suc n) zero less marks visited (reads count q ∷ first) second next new stop m r = elim r [ ]
-  split (suc n) (suc k) less marks visited (reads count q ∷ first) second next new stop m (adds _ fresh r) =
+  split (suc n) zero less marks visited (reads count q ∷ first) second next new matched m r = elim r [ ]
+  split (suc n) (suc k) less marks visited (reads count q ∷ first) second next new matched m (adds _ fresh r) =
       ⊎_elim
       (λ w. let f = w.fewer in inl (record {
         left = w.left;
@@ -103,8 +103,8 @@ module _ (out : ℕ → List Way) (ends : ℕ → Bool) where
         steps = hands_on q w.steps;
         added = adds_one q fresh w.added;
       }))
-      (split n k (omega (arith, less)) marks visited first second (next ++ q ∷ []) new stop m r)
-  split (suc n) (suc k) less marks visited (reads count q ∷ first) second next new stop m (repeats _ old r) =
+      (split n k (omega (arith, less)) marks visited first second (next ++ q ∷ []) new matched m r)
+  split (suc n) (suc k) less marks visited (reads count q ∷ first) second next new matched m (repeats _ old r) =
       ⊎_elim
       (λ w. let f = w.fewer in inl (record {
         left = w.left;
@@ -126,8 +126,8 @@ module _ (out : ℕ → List Way) (ends : ℕ → Bool) where
         steps = hands_on q w.steps;
         added = leaves_out q old w.added;
       }))
-      (split n k (omega (arith, less)) marks visited first second next new stop m r)
-  split (suc n) (suc k) less marks visited (stays q ∷ first) second next new stop m (leaps _ seen r) =
+      (split n k (omega (arith, less)) marks visited first second next new matched m r)
+  split (suc n) (suc k) less marks visited (stays q ∷ first) second next new matched m (leaps _ seen r) =
       ⊎_elim
       (λ w. let f = w.fewer in inl (record {
         left = w.left;
@@ -149,10 +149,10 @@ module _ (out : ℕ → List Way) (ends : ℕ → Bool) where
         steps = skips q ((m q).1 seen) w.steps;
         added = w.added;
       }))
-      (split n k (omega (arith, less)) marks visited first second next new stop m r)
-  split (suc n) zero less marks visited (stays q ∷ first) second next new stop m (matches _ fresh e) =
+      (split n k (omega (arith, less)) marks visited first second next new matched m r)
+  split (suc n) zero less marks visited (stays q ∷ first) second next new matched m (matches _ fresh e) =
       inr (record { place = q; is_stop = refl; visited2 = visited; onward = []; steps = arrives q (not_visited visited marks q m fresh) e; added = all_added })
-  split (suc n) (suc k) less marks visited (stays q ∷ first) second next new stop m (opens _ fresh on r) =
+  split (suc n) (suc k) less marks visited (stays q ∷ first) second next new matched m (opens _ fresh on r) =
       ⊎_elim
       (λ u. let f = u.fewer in
       ⊎_elim
@@ -176,7 +176,7 @@ module _ (out : ℕ → List Way) (ends : ℕ → Bool) where
         steps = comes_back q (not_visited visited marks q m fresh) on u.steps (subst (λ x. Steps out ends u.visited2 first w.onward x w.visited2) refl w.steps);
         added = adds_then u.added w.added;
       }))
-      (split n u.left (omega (arith, less, f)) u.marks2 u.visited2 first second u.next2 new stop u.marked u.more))
+      (split n u.left (omega (arith, less, f)) u.marks2 u.visited2 first second u.next2 new matched u.marked u.more))
       (λ u. inr (record {
         place = u.place;
         is_stop = u.is_stop;
@@ -185,15 +185,15 @@ module _ (out : ℕ → List Way) (ends : ℕ → Bool) where
         steps = stops_under q (not_visited visited marks q m fresh) on u.steps;
         added = u.added;
       }))
-      (split n k (omega (arith, less)) (marks ++ q ∷ []) (q ∷ visited) (out q) (first ++ second) next new stop (mark visited marks q m) r)
+      (split n k (omega (arith, less)) (marks ++ q ∷ []) (q ∷ visited) (out q) (first ++ second) next new matched (mark visited marks q m) r)
 
-  ended : {k : ℕ} {marks : List ℕ} {next new : List ℕ} {stop : Option ℕ} → Runs out ends k marks [] next new stop → (next ≡ new) × (stop ≡ None)
+  ended : {k : ℕ} {marks : List ℕ} {next new : List ℕ} {matched : Option ℕ} → Runs out ends k marks [] next new matched → (next ≡ new) × (matched ≡ None)
   ended done = (refl, refl)
 
   -- the machine that begins with the list makes its step
-  pub makes_step : (list new : List ℕ) (stop : Option ℕ) →
-      Finishes out ends [] (map stays list) [] new stop → IsStep out ends list new stop
-  makes_step list new stop r =
+  pub makes_step : (list new : List ℕ) (matched : Option ℕ) →
+      Finishes out ends [] (map stays list) [] new matched → IsStep out ends list new matched
+  makes_step list new matched r =
       ⊎_elim
       (λ w. let e = ended w.more in
       record {
@@ -208,9 +208,9 @@ module _ (out : ℕ → List Way) (ends : ℕ → Bool) where
         steps = subst (λ x. Steps out ends [] (map stays list) w.onward x w.visited2) (sym w.is_stop) w.steps;
         once = w.added;
       })
-      (split (suc r.0) r.0 (omega arith) [] [] (map stays list) [] [] new stop
+      (split (suc r.0) r.0 (omega arith) [] [] (map stays list) [] [] new matched
       (λ q. ((λ h. h), (λ h. h)))
-      (subst (λ x. Runs out ends r.0 [] x [] new stop) (sym (append-nil (map stays list))) r.1))
+      (subst (λ x. Runs out ends r.0 [] x [] new matched) (sym (append-nil (map stays list))) r.1))
 
 module _ (ways : Pair → List Pair) (Ends : Pair → Type 0) (decide : (n m : Pair) → (n ≡ m) ⊎ (n ≢ m)) (i : ℕ) where
   again : (q : ℕ) (list qs : List ℕ) (r : Option Pair) → HasPlace q list →

@@ -6,14 +6,14 @@ use Rattle.rc_pattern.specs.declared.hir.Look.{Look}
 use Rattle.rc_pattern.specs.declared.hir.Look.TheVariants.{Start, End, StartLF, EndLF, StartCRLF, EndCRLF, WordAscii, WordAsciiNegate, WordUnicode, WordUnicodeNegate, WordStartAscii, WordEndAscii, WordStartUnicode, WordEndUnicode, WordStartHalfAscii, WordEndHalfAscii, WordStartHalfUnicode, WordEndHalfUnicode}
 use Rattle.rc_program.specs.Program.{Place, choice, byte, branch, scalar, guard, slot, accept, place_at}
 use Rattle.rc_program.proofs.WayLemmas.{past_places}
-use Rattle.rc_determinize.specs.declared.sides.Needs.{Needs}
-use Rattle.rc_determinize.specs.Sides.{asks, is_unicode, HasLook, Covers, AsksNoMore, AreNeeds, asking, guarded}
+use Rattle.rc_determinize.specs.declared.sides.Asked.{Asked}
+use Rattle.rc_determinize.specs.Sides.{asks, is_unicode, HasLook, Covers, AsksNoMore, AreAsked, asking, guarded}
 
 -- the assertion's demands are met
-abbrev pub Meets : Look → Needs → Type 0
+abbrev pub Meets : Look → Asked → Type 0
 Meets l n = asks l n.facts × (IsTrue (is_unicode l) → IsTrue n.unicode)
 
-pub asking_more : (k : Look) (n : Needs) → AsksNoMore n (asking k n)
+pub asking_more : (k : Look) (n : Asked) → AsksNoMore n (asking k n)
 asking_more Start n = record { edge = λ h. refl; terminator = λ h. h; line_feed = λ h. h; carriage_return = λ h. h; word = λ h. h; unicode = λ h. h }
 asking_more End n = record { edge = λ h. refl; terminator = λ h. h; line_feed = λ h. h; carriage_return = λ h. h; word = λ h. h; unicode = λ h. h }
 asking_more StartLF n = record { edge = λ h. refl; terminator = λ h. refl; line_feed = λ h. h; carriage_return = λ h. h; word = λ h. h; unicode = λ h. h }
@@ -22,7 +22,7 @@ asking_more StartCRLF n = record { edge = λ h. refl; terminator = λ h. h; line
 asking_more EndCRLF n = record { edge = λ h. refl; terminator = λ h. h; line_feed = λ h. refl; carriage_return = λ h. refl; word = λ h. h; unicode = λ h. h }
 asking_more _ n = record { edge = λ h. h; terminator = λ h. h; line_feed = λ h. h; carriage_return = λ h. h; word = λ h. refl; unicode = λ h. or_left _ _ h }
 
-pub asking_meets : (l : Look) (n : Needs) → Meets l (asking l n)
+pub asking_meets : (l : Look) (n : Asked) → Meets l (asking l n)
 asking_meets Start n = (refl, λ h. absurd (true≢false (sym h)))
 asking_meets End n = (refl, λ h. absurd (true≢false (sym h)))
 asking_meets StartLF n = ((refl, refl), λ h. absurd (true≢false (sym h)))
@@ -42,7 +42,7 @@ asking_meets WordEndHalfAscii n = (refl, λ h. or_right _ _ h)
 asking_meets WordStartHalfUnicode n = (refl, λ h. or_right _ _ h)
 asking_meets WordEndHalfUnicode n = (refl, λ h. or_right _ _ h)
 
-pub meets_more : (l : Look) (n m : Needs) → AsksNoMore n m → Meets l n → Meets l m
+pub meets_more : (l : Look) (n m : Asked) → AsksNoMore n m → Meets l n → Meets l m
 meets_more Start n m a h = (a.edge h.0, λ u. a.unicode (h.1 u))
 meets_more End n m a h = (a.edge h.0, λ u. a.unicode (h.1 u))
 meets_more StartLF n m a h = ((a.edge h.0.0, a.terminator h.0.1), λ u. a.unicode (h.1 u))
@@ -66,7 +66,7 @@ either_true : (a b : Bool) → IsTrue (a || b) → IsTrue a ⊎ IsTrue b
 either_true true b h = inl refl
 either_true false b h = inr h
 
-word_least : (u : Bool) (n other : Needs) → AsksNoMore n other → IsTrue other.facts.word → (IsTrue u → IsTrue other.unicode) →
+word_least : (u : Bool) (n other : Asked) → AsksNoMore n other → IsTrue other.facts.word → (IsTrue u → IsTrue other.unicode) →
     AsksNoMore (record { facts = record n.facts { word = true }; unicode = n.unicode || u }) other
 word_least u n other a h v = record {
   edge = a.edge;
@@ -77,7 +77,7 @@ word_least u n other a h v = record {
   unicode = λ t. ⊎_elim a.unicode v (either_true n.unicode u t);
 }
 
-pub asking_least : (k : Look) (n other : Needs) → AsksNoMore n other → Meets k other → AsksNoMore (asking k n) other
+pub asking_least : (k : Look) (n other : Asked) → AsksNoMore n other → Meets k other → AsksNoMore (asking k n) other
 asking_least Start n other a h = record { edge = λ t. h.0; terminator = a.terminator; line_feed = a.line_feed; carriage_return = a.carriage_return; word = a.word; unicode = a.unicode }
 asking_least End n other a h = record { edge = λ t. h.0; terminator = a.terminator; line_feed = a.line_feed; carriage_return = a.carriage_return; word = a.word; unicode = a.unicode }
 asking_least StartLF n other a h = record { edge = λ t. h.0.0; terminator = λ t. h.0.1; line_feed = a.line_feed; carriage_return = a.carriage_return; word = a.word; unicode = a.unicode }
@@ -98,11 +98,11 @@ asking_least WordStartHalfUnicode n other a h = word_least true n other a h.0 h.
 asking_least WordEndHalfUnicode n other a h = word_least true n other a h.0 h.1
 
 -- of the places before number i
-pub record AreNeedsSoFar (needs : Needs) (places : List Place) (i : ℕ) : Type 0 where
+pub record AreNeedsSoFar (needs : Asked) (places : List Place) (i : ℕ) : Type 0 where
   pub covers : (q : ℕ) → q < i → (l : Look) → HasLook l (place_at places q) → Meets l needs
-  pub least : (other : Needs) → Covers other places → AsksNoMore needs other
+  pub least : (other : Asked) → Covers other places → AsksNoMore needs other
 
-abbrev none_asked : Needs
+abbrev none_asked : Asked
 none_asked = record { facts = record { edge = false; terminator = false; line_feed = false; carriage_return = false; word = false }; unicode = false }
 
 pub nothing_asked : (places : List Place) → AreNeedsSoFar none_asked places 0
@@ -136,7 +136,7 @@ no_guard (scalar rs n) l e h = h
 no_guard (slot k n) l e h = h
 no_guard (accept p) l e h = h
 
-pub asks_for : (needs : Needs) (places : List Place) (i : ℕ) (k : Look) → guarded (place_at places i) ≡ Some k → AreNeedsSoFar needs places i →
+pub asks_for : (needs : Asked) (places : List Place) (i : ℕ) (k : Look) → guarded (place_at places i) ≡ Some k → AreNeedsSoFar needs places i →
     AreNeedsSoFar (asking k needs) places (i + 1)
 asks_for needs places i k g s = let n = (guard_of (place_at places i) k g).0 in let e = (guard_of (place_at places i) k g).1 in record {
   covers = λ q h l has.
@@ -149,7 +149,7 @@ asks_for needs places i k g s = let n = (guard_of (place_at places i) k g).0 in 
       asking_least k needs other (s.least other c) (c.facts i k here, c.unicode i k here);
 }
 
-pub asks_nothing : (needs : Needs) (places : List Place) (i : ℕ) → guarded (place_at places i) ≡ None → AreNeedsSoFar needs places i →
+pub asks_nothing : (needs : Asked) (places : List Place) (i : ℕ) → guarded (place_at places i) ≡ None → AreNeedsSoFar needs places i →
     AreNeedsSoFar needs places (i + 1)
 asks_nothing needs places i none s = record {
   covers = λ q h l has.
@@ -158,7 +158,7 @@ asks_nothing needs places i none s = record {
   least = s.least;
 }
 
-pub all_asked : (needs : Needs) (places : List Place) (i : ℕ) → length places ≤ i → AreNeedsSoFar needs places i → AreNeeds needs places
+pub all_asked : (needs : Asked) (places : List Place) (i : ℕ) → length places ≤ i → AreNeedsSoFar needs places i → AreAsked needs places
 all_asked needs places i past s = record {
   covers = record { facts = λ q l h. (here q l h).0; unicode = λ q l h. (here q l h).1 };
   least = s.least;

@@ -53,8 +53,8 @@ module _ (out : ℕ → List Way) (ends : ℕ → Bool) (mark : ℕ) (list : Lis
     pub same : HaveSame visited entered.items
     pub onward : List (List ℕ)
     pub new : List (List ℕ)
-    pub steps : (rest : List (List ℕ)) (stop : Option ℕ) → GroupSteps out ends visited (groups_of mark (drop from list)) rest stop →
-        GroupSteps out ends [] (groups_of mark list) (onward ++ rest) stop
+    pub steps : (rest : List (List ℕ)) (matched : Option ℕ) → GroupSteps out ends visited (groups_of mark (drop from list)) rest matched →
+        GroupSteps out ends [] (groups_of mark list) (onward ++ rest) matched
     pub once : AddsGroups [] onward new
     pub all : listed.items ≡ flat new
     pub is_list : to ≡ parted mark new
@@ -69,7 +69,7 @@ module _ (out : ℕ → List Way) (ends : ℕ → Bool) (mark : ℕ) (list : Lis
     same = subst (λ z. HaveSame [] z) (sym (ap (λ (m : Members). m.items) e)) (λ q. ((λ h. h), (λ h. h)));
     onward = [];
     new = [];
-    steps = λ rest stop g. g;
+    steps = λ rest matched g. g;
     once = none_added;
     all = ap (λ (m : Members). m.items) f;
     is_list = t;
@@ -89,9 +89,9 @@ module _ (out : ℕ → List Way) (ends : ℕ → Bool) (mark : ℕ) (list : Lis
         is_list = v.is_list;
       }
 
-  module _ (entered entered2 listed listed2 : Members) (to to2 : List ℕ) (from end before : ℕ) (group : List ℕ) (stop : Option ℕ)
+  module _ (entered entered2 listed listed2 : Members) (to to2 : List ℕ) (from end before : ℕ) (group : List ℕ) (matched : Option ℕ)
       (v : IsParting entered listed to from) (split : groups_of mark (drop from list) ≡ group ∷ groups_of mark (drop (end + 1) list))
-      (shut : IsShut out ends group entered.items entered2.items listed.items listed2.items stop)
+      (shut : IsShut out ends group entered.items entered2.items listed.items listed2.items matched)
       (count : before ≡ length listed.items) (grown : to2 ≡ with_group mark to (drop before listed2.items)) where
     -- what the group hands on, and which of it is new
     shut_so : (onward : List ℕ) × (own : List ℕ) × (AddsGroups [] (v.onward ++ onward ∷ []) (v.new ++ own ∷ []))
@@ -110,7 +110,7 @@ module _ (out : ℕ → List Way) (ends : ℕ → Bool) (mark : ℕ) (list : Lis
         )
 
     -- a match drops the groups behind it
-    meets : (e : ℕ) → stop ≡ Some e → IsParted out ends mark (groups_of mark list) listed2.items to2 (Some e)
+    meets : (e : ℕ) → matched ≡ Some e → IsParted out ends mark (groups_of mark list) listed2.items to2 (Some e)
     unfolding shut_so
     meets e is =
         let c = shut v.visited v.same in
@@ -125,10 +125,10 @@ module _ (out : ℕ → List Way) (ends : ℕ → Bool) (mark : ℕ) (list : Lis
           is_list = s.4;
         }
 
-    pub meets_some : is_some stop ≡ true → IsParted out ends mark (groups_of mark list) listed2.items to2 stop
-    meets_some is = by stop refl is
+    pub meets_some : is_some matched ≡ true → IsParted out ends mark (groups_of mark list) listed2.items to2 matched
+    meets_some is = by matched refl is
       where
-        by : (o : Option ℕ) → stop ≡ o → is_some o ≡ true → IsParted out ends mark (groups_of mark list) listed2.items to2 o
+        by : (o : Option ℕ) → matched ≡ o → is_some o ≡ true → IsParted out ends mark (groups_of mark list) listed2.items to2 o
         by None e h = absurd (true≢false (sym h))
         by (Some k) e h = meets k e
 
@@ -141,7 +141,7 @@ module _ (out : ℕ → List Way) (ends : ℕ → Bool) (mark : ℕ) (list : Lis
         omega (arith, l, count)
 
     -- without one the next group follows
-    pub parts_on : entered2.capacity ≡ mark → listed2.capacity ≡ mark → length entered2.items ≤ mark → stop ≡ None → IsParting entered2 listed2 to2 (end + 1)
+    pub parts_on : entered2.capacity ≡ mark → listed2.capacity ≡ mark → length entered2.items ≤ mark → matched ≡ None → IsParting entered2 listed2 to2 (end + 1)
     unfolding shut_so
     parts_on size size2 few is =
         let c = shut v.visited v.same in
@@ -188,8 +188,8 @@ not_some (Some k) e = absurd (true≢false e)
 
 -- what was closed over, with the start that may join, is the step
 pub made : (g : Setting) (root : ℕ) (s : State) (after : Option ℕ) (t : State) (mark : ℕ) (listed listed2 list : List ℕ) (before : ℕ) → length g.places ≡ mark →
-    IsParted (out_seen g.places g.needs g.terminator s.beside after) (is_match g.places) mark (groups_of mark s.list) listed list t.stop →
-    t.goes_on ≡ (s.goes_on && is_none t.stop) → listed2 ≡ add_all listed (root_if t.goes_on root) → before ≡ length listed →
+    IsParted (out_seen g.places g.needs g.terminator s.beside after) (is_match g.places) mark (groups_of mark s.list) listed list t.matched →
+    t.goes_on ≡ (s.goes_on && is_none t.matched) → listed2 ≡ add_all listed (root_if t.goes_on root) → before ≡ length listed →
     t.list ≡ with_group mark list (drop before listed2) → t.beside ≡ told g.needs g.terminator after → IsNextOfLongest g root s after t
 made g root s after t mark listed listed2 list before size p goes_on more count grown beside =
     let back : mark ≡ length g.places = sym size in
@@ -197,7 +197,7 @@ made g root s after t mark listed listed2 list before size p goes_on more count 
     record {
       onward = p.onward;
       groups = joined.0;
-      steps = subst (λ m. GroupSteps (out_seen g.places g.needs g.terminator s.beside after) (is_match g.places) [] (groups_of m s.list) p.onward t.stop) back p.steps;
+      steps = subst (λ m. GroupSteps (out_seen g.places g.needs g.terminator s.beside after) (is_match g.places) [] (groups_of m s.list) p.onward t.matched) back p.steps;
       goes_on = goes_on;
       once = joined.1;
       list = joined.2 ∙ ap (λ m. parted m joined.0) back;

@@ -44,25 +44,25 @@ module _ (ways : Pair → List Pair) (Ends : Pair → Type 0) where
 
   -- what the search at a position gives, where `r` is what its onward pairs give
   abbrev pub Result : List Pair → List Pair → List Pair → Option Pair → Option Pair → List Pair → Type 0
-  Result visited passed from (Some e) stop visited2 = Gives ways Ends passed from (Some e)
+  Result visited passed from (Some e) matched visited2 = Gives ways Ends passed from (Some e)
   Result visited passed from None (Some e) visited2 = Gives ways Ends passed from (Some e)
   Result visited passed from None None visited2 =
       IsSpent visited2 passed × IsWithin visited visited2
       × ((n : Pair) → IsIn n from → IsIn n visited2 ⊎ HasNoWalk ways Ends [] (n ∷ []))
 
   -- a dead way before the others
-  beside : (n : Pair) (visited passed from visited2 : List Pair) (r stop : Option Pair) → HasNoWalk ways Ends [] (n ∷ []) →
-      Result visited passed from r stop visited2 → Result visited passed (n ∷ from) r stop visited2
-  beside n visited passed from visited2 (Some e) stop dead g = (g.0, first_after ways Ends n (λ u b. dead u (tighten b)) g.1, g.2)
+  beside : (n : Pair) (visited passed from visited2 : List Pair) (r matched : Option Pair) → HasNoWalk ways Ends [] (n ∷ []) →
+      Result visited passed from r matched visited2 → Result visited passed (n ∷ from) r matched visited2
+  beside n visited passed from visited2 (Some e) matched dead g = (g.0, first_after ways Ends n (λ u b. dead u (tighten b)) g.1, g.2)
   beside n visited passed from visited2 None (Some e) dead g = (g.0, first_after ways Ends n (λ u b. dead u (tighten b)) g.1, g.2)
   beside n visited passed from visited2 None None dead g =
       (g.0, g.1, λ k i. ⊎_elim (λ e. inr (subst (λ x. HasNoWalk ways Ends [] (x ∷ [])) e dead)) (g.2 k) i)
 
   -- a visited way before the others
-  skip_way : (n : Pair) (visited before passed from : List Pair) (r stop : Option Pair) (visited2 : List Pair) →
+  skip_way : (n : Pair) (visited before passed from : List Pair) (r matched : Option Pair) (visited2 : List Pair) →
       IsSpent visited passed → IsIn n visited → IsWithin before visited →
-      Result visited passed from r stop visited2 → Result before passed (n ∷ from) r stop visited2
-  skip_way n visited before passed from (Some e) stop visited2 s seen grown g = (
+      Result visited passed from r matched visited2 → Result before passed (n ∷ from) r matched visited2
+  skip_way n visited before passed from (Some e) matched visited2 s seen grown g = (
     g.0,
     first_after ways Ends n (λ u. spent_is_dead visited passed s (λ k p. p)
         (λ k i. ⊎_elim (λ e. inl (subst (λ x. IsIn x visited) e seen)) (λ never. absurd never) i)) g.1,
@@ -130,23 +130,23 @@ module _ (ways : Pair → List Pair) (Ends : Pair → Type 0) where
     below_too i n passed at below k h =
         ⊎_elim (λ e. subst (λ (x : Pair). x.1 < suc i) e (omega (arith, at))) (below k) h
 
-    pub pass_gives : {i : ℕ} {visited from onward visited2 : List Pair} {stop : Option Pair} →
-        Passes ways Ends i visited from onward stop visited2 → (passed : List Pair) → IsSpent visited passed →
-        AreBelow (suc i) passed → (r : Option Pair) → Gives ways Ends [] onward r → Result visited passed from r stop visited2
+    pub pass_gives : {i : ℕ} {visited from onward visited2 : List Pair} {matched : Option Pair} →
+        Passes ways Ends i visited from onward matched visited2 → (passed : List Pair) → IsSpent visited passed →
+        AreBelow (suc i) passed → (r : Option Pair) → Gives ways Ends [] onward r → Result visited passed from r matched visited2
     pass_gives out_of_ways passed s below (Some e) g = absurd (no_ways g.1.is_walk)
     pass_gives out_of_ways passed s below None g = (s, (λ k p. p), (λ k i. absurd i))
-    pass_gives {i = i} (hands_on {visited = visited} {from = from} {visited2 = visited2} {stop = stop} n later p) passed s below (Some e) g =
+    pass_gives {i = i} (hands_on {visited = visited} {from = from} {visited2 = visited2} {matched = matched} n later p) passed s below (Some e) g =
         ⊎_elim
         (λ f. let h = forget (suc i) passed (n ∷ []) (Some e)
         (λ k z. ⊎_elim (λ q. subst (λ (x : Pair). suc i ≤ x.1) q (omega (arith, later))) (λ never. absurd never) z)
         below (g.0, f, g.2) in
         (h.0, first_ahead ways Ends decide from h.1, h.2))
-        (λ q. beside n visited passed from visited2 (Some e) stop q.0 (pass_gives p passed s below (Some e) (g.0, q.1, g.2)))
+        (λ q. beside n visited passed from visited2 (Some e) matched q.0 (pass_gives p passed s below (Some e) (g.0, q.1, g.2)))
         (first_parts ways Ends decide (n ∷ []) g.1)
-    pass_gives (hands_on {visited = visited} {from = from} {onward = onward} {visited2 = visited2} {stop = stop} n later p) passed s below None g =
-        beside n visited passed from visited2 None stop (no_walk_left ways Ends (n ∷ []) onward g) (pass_gives p passed s below None (no_walk_right ways Ends (n ∷ []) onward g))
-    pass_gives (skips {visited2 = visited2} {stop = stop} n seen p) passed s below r g =
-        skip_way n _ _ passed _ r stop visited2 s seen (λ k z. z) (pass_gives p passed s below r g)
+    pass_gives (hands_on {visited = visited} {from = from} {onward = onward} {visited2 = visited2} {matched = matched} n later p) passed s below None g =
+        beside n visited passed from visited2 None matched (no_walk_left ways Ends (n ∷ []) onward g) (pass_gives p passed s below None (no_walk_right ways Ends (n ∷ []) onward g))
+    pass_gives (skips {visited2 = visited2} {matched = matched} n seen p) passed s below r g =
+        skip_way n _ _ passed _ r matched visited2 s seen (λ k z. z) (pass_gives p passed s below r g)
     pass_gives (arrives n at fresh ends) passed s below (Some e) g = absurd (no_ways g.1.is_walk)
     pass_gives (arrives n at fresh ends) passed s below None g =
         (n ∷ [], first_stops ways Ends decide last n passed _ (λ p. fresh (s.includes n p)) ends, refl)
@@ -154,33 +154,33 @@ module _ (ways : Pair → List Pair) (Ends : Pair → Type 0) where
         under n e (λ p. fresh (s.includes n p)) on (pass_gives sub (n ∷ passed) (enter n s) (below_too i n passed at below) (Some e) g)
     pass_gives {i = i} (stops_under {e = e} n at fresh on sub) passed s below None g =
         under n e (λ p. fresh (s.includes n p)) on (pass_gives sub (n ∷ passed) (enter n s) (below_too i n passed at below) None g)
-    pass_gives {i = i} (comes_back {visited = visited} {onward = onward} {onward2 = onward2} {visited3 = visited3} {stop = stop} n at fresh on sub p)
+    pass_gives {i = i} (comes_back {visited = visited} {onward = onward} {onward2 = onward2} {visited3 = visited3} {matched = matched} n at fresh on sub p)
         passed s below (Some e) g =
         ⊎_elim
         (λ f. under n e (λ z. fresh (s.includes n z)) on
         (pass_gives sub (n ∷ passed) (enter n s) (below_too i n passed at below) (Some e) (g.0, f, g.2)))
         (λ q. let h = pass_gives sub (n ∷ passed) (enter n s) (below_too i n passed at below) None q.0 in
         let left = leave n on h.2 h.0 in
-        skip_way n _ visited passed _ (Some e) stop visited3 left (h.1 n (inl refl)) (λ k z. h.1 k (inr z))
+        skip_way n _ visited passed _ (Some e) matched visited3 left (h.1 n (inl refl)) (λ k z. h.1 k (inr z))
         (pass_gives p passed left below (Some e) (g.0, q.1, g.2)))
         (first_parts ways Ends decide onward g.1)
-    pass_gives {i = i} (comes_back {visited = visited} {onward = onward} {onward2 = onward2} {visited3 = visited3} {stop = stop} n at fresh on sub p)
+    pass_gives {i = i} (comes_back {visited = visited} {onward = onward} {onward2 = onward2} {visited3 = visited3} {matched = matched} n at fresh on sub p)
         passed s below None g =
         let h = pass_gives sub (n ∷ passed) (enter n s) (below_too i n passed at below) None (no_walk_left ways Ends onward onward2 g) in
         let left = leave n on h.2 h.0 in
-        skip_way n _ visited passed _ None stop visited3 left (h.1 n (inl refl)) (λ k z. h.1 k (inr z))
+        skip_way n _ visited passed _ None matched visited3 left (h.1 n (inl refl)) (λ k z. h.1 k (inr z))
         (pass_gives p passed left below None (no_walk_right ways Ends onward onward2 g))
 
     no_pairs_spent : IsSpent [] []
     no_pairs_spent = record { includes = λ k p. p; no_end = λ k p. absurd p; spent = λ k p. absurd p }
 
     -- THE STEP: what the onward pairs give the pairs here give, or else the match that was met here.
-    pub step_gives : {i : ℕ} {from onward visited2 : List Pair} {stop : Option Pair} →
-        Passes ways Ends i [] from onward stop visited2 → (r : Option Pair) → Gives ways Ends [] onward r →
-        Gives ways Ends [] from (option_or r stop)
-    step_gives {stop = stop} p (Some e) g = pass_gives p [] no_pairs_spent (λ k z. absurd z) (Some e) g
-    step_gives {stop = Some e} p None g = pass_gives p [] no_pairs_spent (λ k z. absurd z) None g
-    step_gives {stop = None} p None g =
+    pub step_gives : {i : ℕ} {from onward visited2 : List Pair} {matched : Option Pair} →
+        Passes ways Ends i [] from onward matched visited2 → (r : Option Pair) → Gives ways Ends [] onward r →
+        Gives ways Ends [] from (option_or r matched)
+    step_gives {matched = matched} p (Some e) g = pass_gives p [] no_pairs_spent (λ k z. absurd z) (Some e) g
+    step_gives {matched = Some e} p None g = pass_gives p [] no_pairs_spent (λ k z. absurd z) None g
+    step_gives {matched = None} p None g =
         let h = pass_gives p [] no_pairs_spent (λ k z. absurd z) None g in
         λ v b. spent_is_dead _ [] h.0 (λ k z. z) h.2 b
 
@@ -188,9 +188,9 @@ module _ (ways : Pair → List Pair) (Ends : Pair → Type 0) where
     sets_out from (Some e) g = g
     sets_out from None g = g
 
-    pub either_or : (r stop seen : Option Pair) → option_or (option_or r stop) seen ≡ option_or r (option_or stop seen)
-    either_or (Some e) stop seen = refl
-    either_or None stop seen = refl
+    pub either_or : (r matched seen : Option Pair) → option_or (option_or r matched) seen ≡ option_or r (option_or matched seen)
+    either_or (Some e) matched seen = refl
+    either_or None matched seen = refl
 
     pub arrives_last : (origin : List Pair) (seen : Option Pair) → Carries ways Ends origin [] seen → Gives ways Ends [] origin seen
     arrives_last origin seen c = c None (λ v b. no_ways b)

@@ -52,9 +52,9 @@ module _ (ways : Pair → List Pair) (Ends : Pair → Type 0) (decide : (n m : P
     abbrev Under : List Pair → Option Pair → Type 0
     Under = Carries ways Ends origin
 
-    here : {onward visited2 : List Pair} {stop : Option Pair} → Passes ways Ends i [] (map (pair_at i) (map stays list)) onward stop visited2 →
-        Passes ways Ends i [] (at i list) onward stop visited2
-    here {onward} {visited2} {stop} p = subst (λ x. Passes ways Ends i [] x onward stop visited2) (stay_at i list) p
+    here : {onward visited2 : List Pair} {matched : Option Pair} → Passes ways Ends i [] (map (pair_at i) (map stays list)) onward matched visited2 →
+        Passes ways Ends i [] (at i list) onward matched visited2
+    here {onward} {visited2} {matched} p = subst (λ x. Passes ways Ends i [] x onward matched visited2) (stay_at i list) p
 
     -- no match here
     pub goes_by : ((q : ℕ) → ways (q, i) ≡ map (pair_at i) (out q)) → IsStep out ends list next None →
@@ -84,11 +84,11 @@ module _ (ways : Pair → List Pair) (Ends : Pair → Type 0) (decide : (n m : P
         drop_nil r g = subst (λ x. Gives ways Ends [] x r) (append-nil (at (i + 1) s.onward)) g
 
     -- at the bound: the match that the step meets, or else the last that was seen
-    pub ends_by : (stop : Option ℕ) → ((q : ℕ) → ways (q, i) ≡ map (pair_at i) (still (out q))) → IsStep out ends list next stop →
-        Under (at i list ++ []) seen → Gives ways Ends [] origin (option_or (option_map (λ q. (q, i)) stop) seen)
-    ends_by stop same s c =
+    pub ends_by : (matched : Option ℕ) → ((q : ℕ) → ways (q, i) ≡ map (pair_at i) (still (out q))) → IsStep out ends list next matched →
+        Under (at i list ++ []) seen → Gives ways Ends [] origin (option_or (option_map (λ q. (q, i)) matched) seen)
+    ends_by matched same s c =
         let p = lift_still ways Ends i out ends same_ends same s.steps in
-        let met : Option Pair = option_map (λ q. (q, i)) stop in
+        let met : Option Pair = option_map (λ q. (q, i)) matched in
         let p2 : Passes ways Ends i [] (at i list) [] met (at i s.visited) =
         subst (λ x. Passes ways Ends i [] x [] met (at i s.visited)) (ap (λ ws. map (pair_at i) ws) (still_stay list) ∙ stay_at i list) p in
         c met (subst (λ x. Gives ways Ends [] x met) (sym (append-nil (at i list)))

@@ -24,7 +24,7 @@ at_append i xs ys = map-append (λ q. (q, i)) xs ys
 
 -- what a group that is closed over hands on is of the program
 module _ (out : ℕ → List Way) (ends : ℕ → Bool) (n : ℕ) (closed : (q : ℕ) → AreBelow n (read_by (out q))) where
-  pub onward_below : {visited onward visited2 : List ℕ} {from : List Way} {stop : Option ℕ} → Closes out ends visited from onward stop visited2 →
+  pub onward_below : {visited onward visited2 : List ℕ} {from : List Way} {matched : Option ℕ} → Closes out ends visited from onward matched visited2 →
       AreBelow n (read_by from) → AreBelow n onward
   onward_below out_of_ways b = λ k h. absurd h
   onward_below (hands_on q c) b = λ k h. ⊎_elim (λ e. b k (inl e)) (onward_below c (λ m z. b m (inr z)) k) h
@@ -37,10 +37,10 @@ module _ (out : ℕ → List Way) (ends : ℕ → Bool) (n : ℕ) (closed : (q :
   nothing_read [] k h = absurd h
   nothing_read (q ∷ qs) k h = nothing_read qs k h
 
-  pub group_below : (group : List ℕ) {visited onward visited2 : List ℕ} {stop : Option ℕ} → Closes out ends visited (map stays group) onward stop visited2 → AreBelow n onward
+  pub group_below : (group : List ℕ) {visited onward visited2 : List ℕ} {matched : Option ℕ} → Closes out ends visited (map stays group) onward matched visited2 → AreBelow n onward
   group_below group c = onward_below c (nothing_read group)
 
-  pub groups_below : {visited : List ℕ} {groups onward : List (List ℕ)} {stop : Option ℕ} → GroupSteps out ends visited groups onward stop → AreBelow n (flat onward)
+  pub groups_below : {visited : List ℕ} {groups onward : List (List ℕ)} {matched : Option ℕ} → GroupSteps out ends visited groups onward matched → AreBelow n (flat onward)
   groups_below over k h = absurd h
   groups_below (goes {group = group} {onward = onward} {onwards = onwards} c rest) k h = ⊎_elim (group_below group c k) (groups_below rest k) (has_parts k onward (flat onwards) h)
   groups_below (stops {group = group} {onward = onward} c) k h = ⊎_elim (group_below group c k) (λ never. absurd never) (has_parts k onward [] h)
@@ -54,8 +54,8 @@ module _ (ways : Pair → List Pair) (Ends : Pair → Type 0) (decide : (n m : P
   last_at e n m h = last n m h.0
 
   -- what the search at a position hands on carries, with the match that it meets
-  step : {i e : ℕ} {from onward visited2 : List Pair} {stop : Option Pair} → Passes ways (IsGoal Ends e) i [] from onward stop visited2 →
-      (r : Option Pair) → Gives ways (IsGoal Ends e) [] onward r → Gives ways (IsGoal Ends e) [] from (option_or r stop)
+  step : {i e : ℕ} {from onward visited2 : List Pair} {matched : Option Pair} → Passes ways (IsGoal Ends e) i [] from onward matched visited2 →
+      (r : Option Pair) → Gives ways (IsGoal Ends e) [] onward r → Gives ways (IsGoal Ends e) [] from (option_or r matched)
   step {e = e} p r g = step_gives ways (IsGoal Ends e) decide (last_at e) (rises ways (IsGoal Ends e) decide (last_at e) near) p r g
 
   -- without a match
@@ -71,7 +71,7 @@ module _ (ways : Pair → List Pair) (Ends : Pair → Type 0) (decide : (n m : P
         (before : List Pair) × (m : Pair) × (begun hs ≡ before ++ m ∷ []) × IsQuiet ways Ends i (origin ++ before)
         × Gives ways (IsGoal Ends i) [] (origin ++ begun hs) (Some (q, i))
 
-    pub record Stepped (origin : List Pair) (listed : List ℕ) (hs : List Held) (news : List (List ℕ)) (stop : Option ℕ) : Type 0 where
+    pub record Stepped (origin : List Pair) (listed : List ℕ) (hs : List Held) (news : List (List ℕ)) (matched : Option ℕ) : Type 0 where
       pub starts : List Held
       pub dropped : List Pair
       pub all : begun hs ≡ begun starts ++ dropped
@@ -79,7 +79,7 @@ module _ (ways : Pair → List Pair) (Ends : Pair → Type 0) (decide : (n m : P
       pub same_places : flat (held starts) ≡ flat news
       pub below : AreHeldBelow n starts
       pub carries : AreCarried ways Ends (i + 1) origin listed starts
-      pub met_here : MetHere origin starts dropped stop
+      pub met_here : MetHere origin starts dropped matched
 
     -- the groups so far were closed over, and without a match
     pub record SoFar (origin : List Pair) (places onward visited listed : List ℕ) : Type 0 where
@@ -99,7 +99,7 @@ module _ (ways : Pair → List Pair) (Ends : Pair → Type 0) (decide : (n m : P
 
       module _ (group onward2 own visited2 : List ℕ) (added : Adds listed onward2 (listed ++ own)) where
         -- the group, too
-        ran_on : (e : ℕ) {stop : Option ℕ} → i ≤ e → (stop ≡ None) ⊎ (e ≢ i) → Closes out ends visited (map stays group) onward2 stop visited2 →
+        ran_on : (e : ℕ) {matched : Option ℕ} → i ≤ e → (matched ≡ None) ⊎ (e ≢ i) → Closes out ends visited (map stays group) onward2 matched visited2 →
             Passes ways (IsGoal Ends e) i [] (at i (places ++ group)) (at (i + 1) (onward ++ onward2)) None (at i visited2)
         ran_on e le off c =
             subst (λ x. Passes ways (IsGoal Ends e) i [] (at i (places ++ group)) x None (at i visited2)) (sym (at_append (i + 1) onward onward2))
@@ -123,7 +123,7 @@ module _ (ways : Pair → List Pair) (Ends : Pair → Type 0) (decide : (n m : P
 
         module _ (m : Pair) (carried : (e : ℕ) → i ≤ e → CarriesTo ways Ends e (origin ++ m ∷ []) (at i (places ++ group))) where
           -- what is held for the start now carries to each end behind this position
-          carried_on : {stop : Option ℕ} → Closes out ends visited (map stays group) onward2 stop visited2 → (e : ℕ) → i + 1 ≤ e →
+          carried_on : {matched : Option ℕ} → Closes out ends visited (map stays group) onward2 matched visited2 → (e : ℕ) → i + 1 ≤ e →
               CarriesTo ways Ends e (origin ++ m ∷ []) (at (i + 1) (listed ++ own))
           carried_on c e le r g =
               carried e (omega (arith, le)) r (carry (ran_on e (omega (arith, le)) (inr (λ h. omega (arith, le, h))) c) r (once_on e r g))
@@ -148,8 +148,8 @@ module _ (ways : Pair → List Pair) (Ends : Pair → Type 0) (decide : (n m : P
               (no_walk_both ways (IsGoal Ends i) {xs = at (i + 1) onward}
               (none_here ways Ends up i (i + 1) onward (omega arith)) (none_here ways Ends up i (i + 1) x.0 (omega arith)))))
 
-    met_cons : (stop : Option ℕ) (origin : List Pair) (m : Pair) (own : List ℕ) (starts : List Held) (dropped : List Pair) →
-        MetHere (origin ++ m ∷ []) starts dropped stop → MetHere origin ((m, own) ∷ starts) dropped stop
+    met_cons : (matched : Option ℕ) (origin : List Pair) (m : Pair) (own : List ℕ) (starts : List Held) (dropped : List Pair) →
+        MetHere (origin ++ m ∷ []) starts dropped matched → MetHere origin ((m, own) ∷ starts) dropped matched
     met_cons None origin m own starts dropped h = (h.0, subst (λ z. IsQuiet ways Ends i z) (append_assoc origin (m ∷ []) (begun starts)) h.1)
     met_cons (Some q) origin m own starts dropped h = (
       m ∷ h.0,
@@ -164,10 +164,10 @@ module _ (ways : Pair → List Pair) (Ends : Pair → Type 0) (decide : (n m : P
     full_cons (q ∷ g) xs ys e = ap (λ z. (q ∷ g) ∷ z) e
 
     -- one start before the others
-    before : (origin : List Pair) (listed : List ℕ) (m : Pair) (group own : List ℕ) (hs : List Held) (news : List (List ℕ)) (stop : Option ℕ) →
+    before : (origin : List Pair) (listed : List ℕ) (m : Pair) (group own : List ℕ) (hs : List Held) (news : List (List ℕ)) (matched : Option ℕ) →
         ((e : ℕ) → i + 1 ≤ e → CarriesTo ways Ends e (origin ++ m ∷ []) (at (i + 1) (listed ++ own))) → AreBelow n own →
-        Stepped (origin ++ m ∷ []) (listed ++ own) hs news stop → Stepped origin listed ((m, group) ∷ hs) (own ∷ news) stop
-    before origin listed m group own hs news stop carried b r = record {
+        Stepped (origin ++ m ∷ []) (listed ++ own) hs news matched → Stepped origin listed ((m, group) ∷ hs) (own ∷ news) matched
+    before origin listed m group own hs news matched carried b r = record {
       starts = (m, own) ∷ r.starts;
       dropped = r.dropped;
       all = ap (λ z. m ∷ z) r.all;
@@ -175,11 +175,11 @@ module _ (ways : Pair → List Pair) (Ends : Pair → Type 0) (decide : (n m : P
       same_places = ap (λ z. own ++ z) r.same_places;
       below = (b, r.below);
       carries = (carried, r.carries);
-      met_here = met_cons stop origin m own r.starts r.dropped r.met_here;
+      met_here = met_cons matched origin m own r.starts r.dropped r.met_here;
     }
 
-    without_empty : {origin : List Pair} {listed : List ℕ} {hs : List Held} {news : List (List ℕ)} {stop : Option ℕ} →
-        Stepped origin listed hs ([] ∷ news) stop → Stepped origin listed hs news stop
+    without_empty : {origin : List Pair} {listed : List ℕ} {hs : List Held} {news : List (List ℕ)} {matched : Option ℕ} →
+        Stepped origin listed hs ([] ∷ news) matched → Stepped origin listed hs news matched
     without_empty r = record {
       starts = r.starts;
       dropped = r.dropped;
@@ -193,8 +193,8 @@ module _ (ways : Pair → List Pair) (Ends : Pair → Type 0) (decide : (n m : P
 
     -- THE STEP, start by start; for a start whose places are all held for others there is no group.
     pub step_groups : (hs : List Held) (origin : List Pair) (places onward visited listed : List ℕ) → SoFar origin places onward visited listed →
-        AreCarried ways Ends i origin places hs → {onwards news : List (List ℕ)} {stop : Option ℕ} →
-        GroupSteps out ends visited (full (held hs)) onwards stop → AddsGroups listed onwards news → Stepped origin listed hs news stop
+        AreCarried ways Ends i origin places hs → {onwards news : List (List ℕ)} {matched : Option ℕ} →
+        GroupSteps out ends visited (full (held hs)) onwards matched → AddsGroups listed onwards news → Stepped origin listed hs news matched
     step_groups [] origin places onward visited listed s c over none_added = record {
       starts = [];
       dropped = [];
@@ -205,17 +205,17 @@ module _ (ways : Pair → List Pair) (Ends : Pair → Type 0) (decide : (n m : P
       carries = tt;
       met_here = (refl, subst (λ z. IsQuiet ways Ends i z) (sym (append-nil origin)) (quiet_so_far origin places onward visited listed s));
     }
-    step_groups ((m, []) ∷ hs) origin places onward visited listed s c {onwards} {news} {stop} steps a =
+    step_groups ((m, []) ∷ hs) origin places onward visited listed s c {onwards} {news} {matched} steps a =
         let none : Adds listed [] (listed ++ []) = subst (λ z. Adds listed [] z) (sym (append-nil listed)) all_added in
-        without_empty (before origin listed m [] [] hs news stop
+        without_empty (before origin listed m [] [] hs news matched
         (carried_on origin places onward visited listed s [] [] [] visited none m c.0 out_of_ways)
         (λ k h. absurd h)
         (step_groups hs (origin ++ m ∷ []) (places ++ []) (onward ++ []) visited (listed ++ [])
         (so_far_on origin places onward visited listed s [] [] [] visited none m c.0 (λ k h. absurd h) out_of_ways) c.1 steps
         (subst (λ z. AddsGroups z onwards news) (sym (append-nil listed)) a)))
-    step_groups ((m, q ∷ g) ∷ hs) origin places onward visited listed s c {stop = stop} (goes {onward = onward2} {visited2 = visited2} one rest) (adds {own = own} {new = new} added more) =
+    step_groups ((m, q ∷ g) ∷ hs) origin places onward visited listed s c {matched = matched} (goes {onward = onward2} {visited2 = visited2} one rest) (adds {own = own} {new = new} added more) =
         let b = group_below out ends n closed (q ∷ g) one in
-        before origin listed m (q ∷ g) own hs new stop
+        before origin listed m (q ∷ g) own hs new matched
         (carried_on origin places onward visited listed s (q ∷ g) onward2 own visited2 added m c.0 one)
         (own_below origin places onward visited listed s (q ∷ g) onward2 own visited2 added b)
         (step_groups hs (origin ++ m ∷ []) (places ++ (q ∷ g)) (onward ++ onward2) visited2 (listed ++ own)

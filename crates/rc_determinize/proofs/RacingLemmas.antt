@@ -28,9 +28,9 @@ use Rattle.rc_determinize.proofs.RaceLemmas.{up, MetHere, Stepped, SoFar, step_g
 use Rattle.rc_determinize.proofs.LongestLemmas.{begun_append, held_append, flat_below, below_append, start_joins, known_none, known_some, over_gives, rest_gives}
 
 -- nothing is read at a bound, so no group holds a place behind it
-bound_groups : (out : ℕ → List Way) (ends : ℕ → Bool) {visited : List ℕ} {groups onwards : List (List ℕ)} {stop : Option ℕ} →
-    GroupSteps out ends visited groups onwards stop →
-    (none : List (List ℕ)) × GroupSteps (λ q. still (out q)) ends visited groups none stop × AddsGroups [] none none × (flat none ≡ [])
+bound_groups : (out : ℕ → List Way) (ends : ℕ → Bool) {visited : List ℕ} {groups onwards : List (List ℕ)} {matched : Option ℕ} →
+    GroupSteps out ends visited groups onwards matched →
+    (none : List (List ℕ)) × GroupSteps (λ q. still (out q)) ends visited groups none matched × AddsGroups [] none none × (flat none ≡ [])
 bound_groups out ends over = ([], over, none_added, refl)
 bound_groups out ends (goes_over {visited} {group} {onward} {visited2} c rest) =
     let r = bound_groups out ends rest in
@@ -67,14 +67,14 @@ module _ (ways : Pair → List Pair) (Ends : Pair → Type 0) (last : (n m : Pai
       (same : (q : ℕ) → ways (q, i) ≡ map (pair_at i) (out q)) (n : ℕ) (closed : (q : ℕ) → AreBelow n (read_by (out q)))
       (root hi : ℕ) (origin : List Pair) (hs : List Held) (rest : List Pair) (all : origin ≡ begun hs ++ rest) where
     abbrev After : List (List ℕ) → Option ℕ → Type 0
-    After news stop = Stepped ways Ends same_pair last near i out ends same_ends same n closed [] [] hs news stop
+    After news matched = Stepped ways Ends same_pair last near i out ends same_ends same n closed [] [] hs news matched
 
     -- those that count no more stand before the rest
-    all_after : (news : List (List ℕ)) (stop : Option ℕ) (r : After news stop) → origin ≡ begun r.starts ++ (r.dropped ++ rest)
-    all_after news stop r = all ∙ ap (λ z. z ++ rest) r.all ∙ append_assoc (begun r.starts) r.dropped rest
+    all_after : (news : List (List ℕ)) (matched : Option ℕ) (r : After news matched) → origin ≡ begun r.starts ++ (r.dropped ++ rest)
+    all_after news matched r = all ∙ ap (λ z. z ++ rest) r.all ∙ append_assoc (begun r.starts) r.dropped rest
 
-    known_after : (news : List (List ℕ)) (stop : Option ℕ) (best : Option Pair) (r : After news stop) → IsKnown ways Ends i (begun hs) best →
-        IsKnown ways Ends (i + 1) (begun r.starts) (best_at i stop best)
+    known_after : (news : List (List ℕ)) (matched : Option ℕ) (best : Option Pair) (r : After news matched) → IsKnown ways Ends i (begun hs) best →
+        IsKnown ways Ends (i + 1) (begun r.starts) (best_at i matched best)
     known_after news None best r known =
         known_none ways Ends same_pair last near i (begun r.starts) (begun hs) best
         (r.all ∙ ap (λ z. begun r.starts ++ z) r.met_here.0 ∙ append-nil (begun r.starts)) r.met_here.1 known
@@ -83,17 +83,17 @@ module _ (ways : Pair → List Pair) (Ends : Pair → Type 0) (last : (n m : Pai
         r.all r.met_here.2 r.met_here.3 r.met_here.4 known
 
     -- no start joins
-    stays_so : (news : List (List ℕ)) (stop : Option ℕ) (best : Option Pair) (r : After news stop) → IsKnown ways Ends i (begun hs) best →
-        IsRest false root (i + 1) hi (r.dropped ++ rest) (best_at i stop best) → Next n root hi origin (i + 1) false news (best_at i stop best)
-    stays_so news stop best r known is_rest = record {
+    stays_so : (news : List (List ℕ)) (matched : Option ℕ) (best : Option Pair) (r : After news matched) → IsKnown ways Ends i (begun hs) best →
+        IsRest false root (i + 1) hi (r.dropped ++ rest) (best_at i matched best) → Next n root hi origin (i + 1) false news (best_at i matched best)
+    stays_so news matched best r known is_rest = record {
       starts = r.starts;
       rest = r.dropped ++ rest;
-      all = all_after news stop r;
+      all = all_after news matched r;
       is_rest = is_rest;
       list = sym (parted_same n (held r.starts) news r.same_groups);
       below = r.below;
       carries = r.carries;
-      known = known_after news stop best r known;
+      known = known_after news matched best r known;
     }
 
     -- the next start joins
@@ -126,10 +126,10 @@ module _ (ways : Pair → List Pair) (Ends : Pair → Type 0) (last : (n m : Pai
         }
 
     -- as the state says
-    pub next_starts : (goes_on : Bool) (news second : List (List ℕ)) (stop : Option ℕ) (best : Option Pair) (r : After news stop) → i < hi → root < n →
+    pub next_starts : (goes_on : Bool) (news second : List (List ℕ)) (matched : Option ℕ) (best : Option Pair) (r : After news matched) → i < hi → root < n →
         IsKnown ways Ends i (begun hs) best → IsRest goes_on root i hi rest best →
-        AddsGroups (flat news) (root_group (goes_on && is_none stop) root) second →
-        Next n root hi origin (i + 1) (goes_on && is_none stop) (news ++ second) (best_at i stop best)
+        AddsGroups (flat news) (root_group (goes_on && is_none matched) root) second →
+        Next n root hi origin (i + 1) (goes_on && is_none matched) (news ++ second) (best_at i matched best)
     next_starts true news second None None r lt rooted known is_rest a = joins news second r lt rooted known is_rest a
     next_starts true news second None (Some b) r lt rooted known is_rest a = absurd (true≢false is_rest)
     next_starts true news second (Some q) best r lt rooted known is_rest none_added =
@@ -157,11 +157,11 @@ module _ (g : Setting) (ok : IsSetting g) (t : Text) (terminator : g.terminator 
 
   steps_here : (i : ℕ) (s s2 : State) (best : Option Pair) (u : IsRacing g t hi root origin i s best) (r : IsReadable g.needs (byte_of (after_at t i))) →
       (m : IsNextOfLongest g root s (byte_of (after_at t i)) s2) →
-      GroupSteps (out_here g.places g.needs ok.by_bytes ok.covers t i u.readable r) (is_match g.places) [] (full (held u.starts)) m.onward s2.stop
+      GroupSteps (out_here g.places g.needs ok.by_bytes ok.covers t i u.readable r) (is_match g.places) [] (full (held u.starts)) m.onward s2.matched
   steps_here i s s2 best u r m =
-      subst (λ z. GroupSteps (out_here g.places g.needs ok.by_bytes ok.covers t i u.readable r) (is_match g.places) [] z m.onward s2.stop)
+      subst (λ z. GroupSteps (out_here g.places g.needs ok.by_bytes ok.covers t i u.readable r) (is_match g.places) [] z m.onward s2.matched)
       (ap (λ z. groups_of (length g.places) z) u.list ∙ groups_parted (length g.places) u.starts u.below)
-      (subst (λ z. GroupSteps z (is_match g.places) [] (groups_of (length g.places) s.list) m.onward s2.stop) (told_here i s best u r) m.steps)
+      (subst (λ z. GroupSteps z (is_match g.places) [] (groups_of (length g.places) s.list) m.onward s2.matched) (told_here i s best u r) m.steps)
 
   -- before the first byte
   pub begins : (lo : ℕ) (anchored : Bool) (s : State) → root < length g.places → IsReadable g.needs (byte_of (before_at t lo)) →
@@ -183,7 +183,7 @@ module _ (g : Setting) (ok : IsSetting g) (t : Text) (terminator : g.terminator 
   -- THE STEP
   pub goes : (i : ℕ) (s s2 : State) (best : Option Pair) → IsClosed g.places → root < length g.places → i < hi → IsInside t i hi →
       IsRacing g t hi root origin i s best → IsReadable g.needs (byte_of (after_at t i)) →
-      IsNextOfLongest g root s (byte_of (after_at t i)) s2 → IsRacing g t hi root origin (i + 1) s2 (best_at i s2.stop best)
+      IsNextOfLongest g root s (byte_of (after_at t i)) s2 → IsRacing g t hi root origin (i + 1) s2 (best_at i s2.matched best)
   goes i s s2 best closed rooted lt inside u r m =
       let high = inside.high in
       let bounded = inside.bounded in
@@ -199,13 +199,13 @@ module _ (g : Setting) (ok : IsSetting g) (t : Text) (terminator : g.terminator 
       u.starts [] [] [] [] [] (nothing_yet (ways g.places t hi) (Stops g.places) last_here near_here i out (is_match g.places) (λ q. refl) same (length g.places) under)
       u.carries (steps_here i s s2 best u r m) parts.3 in
       let next = next_starts (ways g.places t hi) (Stops g.places) last_here near_here i out (is_match g.places) (λ q. refl) same (length g.places) under
-      root hi origin u.starts u.rest u.all s.goes_on parts.0 parts.1 s2.stop best stepped lt rooted u.known u.is_rest
+      root hi origin u.starts u.rest u.all s.goes_on parts.0 parts.1 s2.matched best stepped lt rooted u.known u.is_rest
       (subst (λ b. AddsGroups (flat parts.0) (root_group b root) parts.1) m.goes_on parts.4) in
       record {
         starts = next.starts;
         rest = next.rest;
         all = next.all;
-        is_rest = subst (λ b. IsRest b root (i + 1) hi next.rest (best_at i s2.stop best)) (sym m.goes_on) next.is_rest;
+        is_rest = subst (λ b. IsRest b root (i + 1) hi next.rest (best_at i s2.matched best)) (sym m.goes_on) next.is_rest;
         list = m.list ∙ ap (λ z. parted (length g.places) z) parts.2 ∙ next.list;
         below = next.below;
         carries = next.carries;
@@ -220,7 +220,7 @@ module _ (g : Setting) (ok : IsSetting g) (t : Text) (terminator : g.terminator 
 
   -- at the bound: the byte that stands behind it, if one does, is looked at, and not read
   pub ends : (s s2 : State) (best : Option Pair) → IsRacing g t hi root origin hi s best → IsReadable g.needs (byte_of (after_at t hi)) →
-      IsNextOfLongest g root s (byte_of (after_at t hi)) s2 → GivesLongest (ways g.places t hi) (Stops g.places) origin (best_at hi s2.stop best)
+      IsNextOfLongest g root s (byte_of (after_at t hi)) s2 → GivesLongest (ways g.places t hi) (Stops g.places) origin (best_at hi s2.matched best)
   ends s s2 best u r m =
       let out = out_here g.places g.needs ok.by_bytes ok.covers t hi u.readable r in
       let same = same_at_end g.places g.needs ok.by_bytes ok.covers t hi u.readable r in
@@ -229,20 +229,20 @@ module _ (g : Setting) (ok : IsSetting g) (t : Text) (terminator : g.terminator 
       let stepped = step_groups (ways g.places t hi) (Stops g.places) same_pair last_here near_here hi (λ q. still (out q)) (is_match g.places) (λ q. refl) same 0 under
       u.starts [] [] [] [] [] (nothing_yet (ways g.places t hi) (Stops g.places) last_here near_here hi (λ q. still (out q)) (is_match g.places) (λ q. refl) same 0 under)
       u.carries b.1 b.2 in
-      over_gives (ways g.places t hi) (Stops g.places) same_pair last_here near_here (hi + 1) stepped.starts (stepped.dropped ++ u.rest) origin (best_at hi s2.stop best)
+      over_gives (ways g.places t hi) (Stops g.places) same_pair last_here near_here (hi + 1) stepped.starts (stepped.dropped ++ u.rest) origin (best_at hi s2.matched best)
       stepped.carries (stepped.same_places ∙ b.3)
       (known_after (ways g.places t hi) (Stops g.places) last_here near_here hi (λ q. still (out q)) (is_match g.places) (λ q. refl) same 0 under
-      root hi origin u.starts u.rest u.all b.0 s2.stop best stepped u.known)
+      root hi origin u.starts u.rest u.all b.0 s2.matched best stepped u.known)
       (all_after (ways g.places t hi) (Stops g.places) last_here near_here hi (λ q. still (out q)) (is_match g.places) (λ q. refl) same 0 under
-      root hi origin u.starts u.rest u.all b.0 s2.stop stepped)
-      (no_rest s2.stop best stepped.starts stepped.dropped u.rest stepped.met_here u.is_rest)
+      root hi origin u.starts u.rest u.all b.0 s2.matched stepped)
+      (no_rest s2.matched best stepped.starts stepped.dropped u.rest stepped.met_here u.is_rest)
     where
-      no_rest : (stop : Option ℕ) (best : Option Pair) (starts : List Held) (dropped rest : List Pair) →
+      no_rest : (matched : Option ℕ) (best : Option Pair) (starts : List Held) (dropped rest : List Pair) →
           MetHere (ways g.places t hi) (Stops g.places) same_pair last_here near_here hi
           (λ q. still (out_here g.places g.needs ok.by_bytes ok.covers t hi u.readable r q)) (is_match g.places) (λ q. refl)
           (same_at_end g.places g.needs ok.by_bytes ok.covers t hi u.readable r) 0
           (λ q k h. absurd (subst (λ z. HasPlace k z) (still_reads_nothing (out_here g.places g.needs ok.by_bytes ok.covers t hi u.readable r q)) h))
-          [] starts dropped stop → IsRest s.goes_on root hi hi rest best → best_at hi stop best ≡ None → dropped ++ rest ≡ []
+          [] starts dropped matched → IsRest s.goes_on root hi hi rest best → best_at hi matched best ≡ None → dropped ++ rest ≡ []
       no_rest None None starts dropped rest h is_rest e = ap₂ (λ z w. z ++ w) h.0 (is_rest ∙ no_later s.goes_on)
       no_rest None (Some b) starts dropped rest h is_rest e = absurd (none-some b (sym e))
       no_rest (Some q) best starts dropped rest h is_rest e = let n : Pair = (q, hi) in absurd (none-some n (sym e))

@@ -75,8 +75,8 @@ module _ (g : Setting) (ok : IsSetting g) (t : Text) (terminator : g.terminator 
         ((λ h. comes_from (subst (λ o. ComesBy o s.list q) told_is h)), (λ h. subst (λ o. ComesBy o s.list q) (sym told_is) (comes_to h refl)))
 
     -- whether a walk ends here
-    pub ends_here : (root : ℕ) (s2 : State) → IsNextOfAll g root s (byte_of (after_at t i)) s2 → IsLeastMatch g.places (λ q. Comes W origin (q, i)) s2.stop
-    ends_here root s2 n = by_stop s2.stop n.stop
+    pub ends_here : (root : ℕ) (s2 : State) → IsNextOfAll g root s (byte_of (after_at t i)) s2 → IsLeastMatch g.places (λ q. Comes W origin (q, i)) s2.matched
+    ends_here root s2 n = by_stop s2.matched n.matched
       where
         by_stop : (o : Option ℕ) → IsLeastMatch g.places (ComesHere g s (byte_of (after_at t i))) o → IsLeastMatch g.places (λ q. Comes W origin (q, i)) o
         by_stop None h = λ q k. h q ((gathers q).1 k)

@@ -12,7 +12,7 @@ use Rattle.rc_program.proofs.WordLemmas.{is_word_scalar-ascii}
 use Rattle.rc_utf8.specs.Laws.{IsBytePlace}
 use Rattle.rc_determinize.specs.Steps.{still, ahead_of}
 use Rattle.rc_determinize.specs.declared.sides.Seen.{Seen}
-use Rattle.rc_determinize.specs.declared.sides.Needs.{Needs}
+use Rattle.rc_determinize.specs.declared.sides.Asked.{Asked}
 use Rattle.rc_determinize.specs.Sides.{seen_by, seen_of, holds_by, is_unicode, IsPlain, asked, asks, byte_of, HasLook, told, out_seen, AreAlike, ranges_of, holds_both}
 
 plain_word : (side : Side) → IsPlain side → is_unicode_word side ≡ is_ascii_word side
@@ -174,7 +174,7 @@ uncut test b c (slot s n) p h = refl
 uncut test b c (accept q) p h = refl
 
 -- bytes that are alike lead every place by the same ways
-pub alike_out : (places : List Place) (needs : Needs) (terminator b c : ℕ) (behind : Seen) → AreAlike places needs terminator b c →
+pub alike_out : (places : List Place) (needs : Asked) (terminator b c : ℕ) (behind : Seen) → AreAlike places needs terminator b c →
     out_seen places needs terminator behind (Some b) ≡ out_seen places needs terminator behind (Some c)
 alike_out places needs terminator b c behind a =
     ap (λ (x : Seen). λ (q : ℕ). ways_out (holds_by behind x) (b ∷ []) (place_at places q)) a.told_same

@@ -46,14 +46,14 @@ no_root Holds (r ∷ rs) h (suc j) lt = no_root Holds rs h.1 j (omega (arith, lt
 module _ (W : Pair → List Pair) where
   walk_comes : (Ends : Pair → Type 0) (origin : List Pair) {p f w : List Pair} → IsWalk W Ends p f w → ((n : Pair) → IsIn n f → Comes W origin n) →
       Comes W origin (last_of w)
-  walk_comes Ends origin (stops k here fresh stop) from = from k here
+  walk_comes Ends origin (stops k here fresh matched) from = from k here
   walk_comes Ends origin (goes k here fresh rest) from =
       subst (λ n. Comes W origin n) (sym (last_of_more W Ends k rest))
       (walk_comes Ends origin rest (λ n i. sets.goes n k (from k here) i))
 
   walk_back : (Ends : Pair → Type 0) {p f w : List Pair} → IsWalk W Ends p f w →
       (n : Pair) × IsIn n f × Reaches W (IsGoal Ends (last_of w).1) n
-  walk_back Ends (stops k here fresh stop) = (k, here, arrived k (stop, refl))
+  walk_back Ends (stops k here fresh matched) = (k, here, arrived k (matched, refl))
   walk_back Ends (goes k here fresh rest) =
       let r = walk_back Ends rest in
       (k, here, subst (λ e. Reaches W (IsGoal Ends e) k) (sym (ap (λ (n : Pair). n.1) (last_of_more W Ends k rest))) (goes_on k r.0 r.1 r.2))
@@ -63,9 +63,9 @@ module _ (W : Pair → List Pair) where
   comes_back Goal origin (sets.begins n h) r = (n, h, r)
   comes_back Goal origin (sets.goes n m c e) r = comes_back Goal origin c (goes_on m n e r)
 
-later : (g : Setting) (t : Text) (hi : ℕ) (origin : List Pair) (i : ℕ) (stop last : Option ℕ) →
-    IsLeastMatch g.places (λ q. Comes (ways g.places t hi) origin (q, i)) stop → IsLastSoFar g t hi origin i last →
-    IsLastSoFar g t hi origin (i + 1) (last_at i stop last)
+later : (g : Setting) (t : Text) (hi : ℕ) (origin : List Pair) (i : ℕ) (matched last : Option ℕ) →
+    IsLeastMatch g.places (λ q. Comes (ways g.places t hi) origin (q, i)) matched → IsLastSoFar g t hi origin i last →
+    IsLastSoFar g t hi origin (i + 1) (last_at i matched last)
 later g t hi origin i None None m l = λ y lt. ⊎_elim
     (λ e. subst (λ k. ¬ IsSomeMatch g (λ q. Comes (ways g.places t hi) origin (q, k))) e (λ z. m z.0 z.1 z.2))
     (λ ne. l y (omega (arith, lt, ne))) (cases_eq i y)

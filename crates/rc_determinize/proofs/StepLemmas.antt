@@ -19,9 +19,9 @@ from_at i q (p ∷ ps) h = ⊎_elim (λ e. inl (ap (λ (x : Pair). x.0) e)) (λ 
 module _ (ways : Pair → List Pair) (Ends : Pair → Type 0) (i : ℕ) (out : ℕ → List Way) (ends : ℕ → Bool)
     (same_ends : (q : ℕ) → Ends (q, i) ≡ IsTrue (ends q)) where
   -- where the byte may be read
-  pub lift : ((q : ℕ) → ways (q, i) ≡ map (pair_at i) (out q)) → {visited onward visited2 : List ℕ} {from : List Way} {stop : Option ℕ} →
-      Steps out ends visited from onward stop visited2 →
-      Passes ways Ends i (at i visited) (map (pair_at i) from) (at (i + 1) onward) (option_map (λ q. (q, i)) stop) (at i visited2)
+  pub lift : ((q : ℕ) → ways (q, i) ≡ map (pair_at i) (out q)) → {visited onward visited2 : List ℕ} {from : List Way} {matched : Option ℕ} →
+      Steps out ends visited from onward matched visited2 →
+      Passes ways Ends i (at i visited) (map (pair_at i) from) (at (i + 1) onward) (option_map (λ q. (q, i)) matched) (at i visited2)
   lift same out_of_ways = passes.out_of_ways
   lift same (hands_on q p) = passes.hands_on (q, i + 1) (omega arith) (lift same p)
   lift same (skips q seen p) = passes.skips (q, i) (in_at i q _ seen) (lift same p)
@@ -29,17 +29,17 @@ module _ (ways : Pair → List Pair) (Ends : Pair → Type 0) (i : ℕ) (out : �
   lift same (stops_under {visited} {onward} {visited2} {from} {e} q fresh on sub) =
       passes.stops_under (q, i) refl (λ z. fresh (from_at i q _ z)) (λ z. on (subst (λ X. X) (same_ends q) z))
       (subst (λ x. Passes ways Ends i (at i (q ∷ visited)) x (at (i + 1) onward) (Some (e, i)) (at i visited2)) (sym (same q)) (lift same sub))
-  lift same (comes_back {visited} {onward} {onward2} {visited2} {visited3} {from} {stop} q fresh on sub p) =
-      subst (λ x. Passes ways Ends i (at i visited) (map (pair_at i) (stays q ∷ from)) x (option_map (λ k. (k, i)) stop) (at i visited3))
+  lift same (comes_back {visited} {onward} {onward2} {visited2} {visited3} {from} {matched} q fresh on sub p) =
+      subst (λ x. Passes ways Ends i (at i visited) (map (pair_at i) (stays q ∷ from)) x (option_map (λ k. (k, i)) matched) (at i visited3))
       (sym (map-append (λ k. (k, i + 1)) onward onward2))
       (passes.comes_back (q, i) refl (λ z. fresh (from_at i q _ z)) (λ z. on (subst (λ X. X) (same_ends q) z))
       (subst (λ x. Passes ways Ends i (at i (q ∷ visited)) x (at (i + 1) onward) None (at i visited2)) (sym (same q)) (lift same sub))
       (lift same p))
 
   -- where it is beyond the bound: the same matches, and nothing is handed on
-  pub lift_still : ((q : ℕ) → ways (q, i) ≡ map (pair_at i) (still (out q))) → {visited onward visited2 : List ℕ} {from : List Way} {stop : Option ℕ} →
-      Steps out ends visited from onward stop visited2 →
-      Passes ways Ends i (at i visited) (map (pair_at i) (still from)) [] (option_map (λ q. (q, i)) stop) (at i visited2)
+  pub lift_still : ((q : ℕ) → ways (q, i) ≡ map (pair_at i) (still (out q))) → {visited onward visited2 : List ℕ} {from : List Way} {matched : Option ℕ} →
+      Steps out ends visited from onward matched visited2 →
+      Passes ways Ends i (at i visited) (map (pair_at i) (still from)) [] (option_map (λ q. (q, i)) matched) (at i visited2)
   lift_still same out_of_ways = passes.out_of_ways
   lift_still same (hands_on q p) = lift_still same p
   lift_still same (skips q seen p) = passes.skips (q, i) (in_at i q _ seen) (lift_still same p)
@@ -47,7 +47,7 @@ module _ (ways : Pair → List Pair) (Ends : Pair → Type 0) (i : ℕ) (out : �
   lift_still same (stops_under {visited} {onward} {visited2} {from} {e} q fresh on sub) =
       passes.stops_under (q, i) refl (λ z. fresh (from_at i q _ z)) (λ z. on (subst (λ X. X) (same_ends q) z))
       (subst (λ x. Passes ways Ends i (at i (q ∷ visited)) x [] (Some (e, i)) (at i visited2)) (sym (same q)) (lift_still same sub))
-  lift_still same (comes_back {visited} {onward} {onward2} {visited2} {visited3} {from} {stop} q fresh on sub p) =
+  lift_still same (comes_back {visited} {onward} {onward2} {visited2} {visited3} {from} {matched} q fresh on sub p) =
       passes.comes_back (q, i) refl (λ z. fresh (from_at i q _ z)) (λ z. on (subst (λ X. X) (same_ends q) z))
       (subst (λ x. Passes ways Ends i (at i (q ∷ visited)) x [] None (at i visited2)) (sym (same q)) (lift_still same sub))
       (lift_still same p)

@@ -11,7 +11,7 @@ use Rattle.rc_program.specs.Program.{Place, choice, byte, branch, scalar, guard,
 use Rattle.rc_program.proofs.WayLemmas.{in_map, no_way_from}
 use Rattle.rc_utf8.specs.Laws.{IsBytePlace}
 use Rattle.rc_determinize.specs.Steps.{still, IsByBytes, ahead_of}
-use Rattle.rc_determinize.specs.declared.sides.Needs.{Needs}
+use Rattle.rc_determinize.specs.declared.sides.Asked.{Asked}
 use Rattle.rc_determinize.specs.Sides.{seen_of, holds_by, byte_of, HasLook, told, Covers, out_seen, IsReadable}
 use Rattle.rc_determinize.proofs.SidesLemmas.{decided, asked_enough, seen_byte, plain_after, plain_before, same_ways_out, one_byte, still_are}
 
@@ -58,10 +58,10 @@ none_behind t = ap (λ xs. byte_of (side_before xs)) (empty_range t.content t.sl
 pub none_ahead : (t : Text) → byte_of (after_at t t.slice_end) ≡ None
 none_ahead t = ap (λ xs. byte_of (side_after xs)) (empty_range t.content t.slice_end)
 
-below : (needs : Needs) (o : Option ℕ) → IsReadable needs o → IsTrue needs.unicode → (b : ℕ) → o ≡ Some b → b < 128
+below : (needs : Asked) (o : Option ℕ) → IsReadable needs o → IsTrue needs.unicode → (b : ℕ) → o ≡ Some b → b < 128
 below needs o r u b e = subst (λ (x : Option ℕ). IsReadable needs x) e r u
 
-module _ (places : List Place) (needs : Needs) (by_bytes : IsByBytes places) (covers : Covers needs places) (t : Text) (i : ℕ)
+module _ (places : List Place) (needs : Asked) (by_bytes : IsByBytes places) (covers : Covers needs places) (t : Text) (i : ℕ)
     (readable_before : IsReadable needs (byte_of (before_at t i))) (readable_after : IsReadable needs (byte_of (after_at t i))) where
   -- the ways out, as far as they are told
   abbrev pub out_here : ℕ → List Way

@@ -36,12 +36,12 @@ IsFirstRoot Holds (root ∷ roots) (Some zero) = Holds root
 IsFirstRoot Holds (root ∷ roots) (Some (suc k)) = (¬ Holds root) × IsFirstRoot Holds roots (Some k)
 
 -- The state to which the byte before leads, or the beginning. It lists the places that reach the
--- state over that byte. Its `stop` is the first of the roots that reached the state before that
+-- state over that byte. Its `matched` is the first of the roots that reached the state before that
 -- byte, if one did.
 pub record IsPrior (g : Setting) (roots : List ℕ) (s : State) (before : Option ℕ) (t : State) : Type 0 where
   pub list : (q : ℕ) → HasPlace q t.list ↔ ((b : ℕ) × (before ≡ Some b) × (p : ℕ) × ReadsTo g.places b q p × LeadsHere g s before p)
   pub rising : IsRising t.list
-  pub stop : IsFirstRoot (LeadsHere g s before) roots t.stop
+  pub matched : IsFirstRoot (LeadsHere g s before) roots t.matched
   pub goes_on : t.goes_on ≡ false
   pub beside : t.beside ≡ told g.needs g.terminator before
 
@@ -49,7 +49,7 @@ pub record IsPrior (g : Setting) (roots : List ℕ) (s : State) (before : Option
 pub record IsLast (g : Setting) (after : Option ℕ) (s : State) : Type 0 where
   pub list : (q : ℕ) → HasPlace q s.list ↔ IsTrue (is_match g.places q)
   pub rising : IsRising s.list
-  pub stop : s.stop ≡ None
+  pub matched : s.matched ≡ None
   pub goes_on : s.goes_on ≡ false
   pub beside : s.beside ≡ told g.needs g.terminator after
 

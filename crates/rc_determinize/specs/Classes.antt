@@ -5,7 +5,7 @@ use Rattle.rc_pattern.specs.Re.{Range}
 use Rattle.rc_program.specs.Looks.{differ}
 use Rattle.rc_program.specs.Program.{Place}
 use Rattle.rc_determinize.specs.declared.sides.Seen.{Seen}
-use Rattle.rc_determinize.specs.declared.sides.Needs.{Needs}
+use Rattle.rc_determinize.specs.declared.sides.Asked.{Asked}
 use Rattle.rc_determinize.specs.Sides.{told, ranges_of, AreAlike}
 use Rattle.rc_determinize.specs.Steps.{IsByBytes}
 
@@ -29,12 +29,12 @@ is_other x y =
 
 -- Some place or some assertion of the program may tell the byte and the next apart, or only one of
 -- the two may be read.
-abbrev pub is_border : List Place → Needs → ℕ → ℕ → Bool
+abbrev pub is_border : List Place → Asked → ℕ → ℕ → Bool
 is_border places needs terminator b =
     are_parted places b || is_other (told needs terminator (Some b)) (told needs terminator (Some (b + 1))) || (needs.unicode && nat_eq b 127)
 
 -- The class of each byte; a class ends only at a border.
-pub record AreClasses (places : List Place) (needs : Needs) (terminator : ℕ) (classes : List ℕ) : Type 0 where
+pub record AreClasses (places : List Place) (needs : Asked) (terminator : ℕ) (classes : List ℕ) : Type 0 where
   pub size : length classes ≡ 256
   pub first : slice_index classes 0 ≡ 0
   pub next : (b : ℕ) → b < 255 → slice_index classes (b + 1) ≡ (if is_border places needs terminator b then slice_index classes b + 1 else slice_index classes b)
@@ -45,12 +45,12 @@ pub record AreSingle (classes : List ℕ) : Type 0 where
   pub own : (b : ℕ) → b < 256 → slice_index classes b ≡ b
 
 -- Bytes of the same class are alike.
-abbrev pub TellsAlike : List Place → Needs → ℕ → List ℕ → Type 0
+abbrev pub TellsAlike : List Place → Asked → ℕ → List ℕ → Type 0
 TellsAlike places needs terminator classes =
     (b c : ℕ) → b < 256 → c < 256 → slice_index classes b ≡ slice_index classes c → AreAlike places needs terminator b c
 
 -- The law of byte classes.
 pub record ClassLaw : Type 0 where
-  pub alike : (places : List Place) (needs : Needs) (terminator : ℕ) (classes : List ℕ) → IsByBytes places →
+  pub alike : (places : List Place) (needs : Asked) (terminator : ℕ) (classes : List ℕ) → IsByBytes places →
       AreClasses places needs terminator classes → TellsAlike places needs terminator classes
-  pub single : (places : List Place) (needs : Needs) (terminator : ℕ) (classes : List ℕ) → AreSingle classes → TellsAlike places needs terminator classes
+  pub single : (places : List Place) (needs : Asked) (terminator : ℕ) (classes : List ℕ) → AreSingle classes → TellsAlike places needs terminator classes

@@ -48,7 +48,7 @@ pub record KindLaw : Type 0 where
   pub short : (kind : MatchKind) (g : Setting) (root : ℕ) (s t : State) (after : Option ℕ) → IsClosed g.places → root < length g.places →
       IsNextBy kind g root s after t → length t.list ≤ longest kind (length g.places)
   -- The match found before plays no part.
-  pub forgets : (kind : MatchKind) (g : Setting) (root : ℕ) (s t : State) (after stop : Option ℕ) →
-      IsNextBy kind g root s after t → IsNextBy kind g root (record s { stop = stop }) after t
+  pub forgets : (kind : MatchKind) (g : Setting) (root : ℕ) (s t : State) (after matched : Option ℕ) →
+      IsNextBy kind g root s after t → IsNextBy kind g root (record s { matched = matched }) after t
   pub tells : (kind : MatchKind) (g : Setting) (root : ℕ) (s t : State) (after : Option ℕ) →
       IsNextBy kind g root s after t → t.beside ≡ told g.needs g.terminator after

@@ -24,12 +24,12 @@ pub record ForwardLaw : Type 0 where
   pub goes : (g : Setting) (t : Text) (hi root : ℕ) (origin : List Pair) (i : ℕ) (s s2 : State) (best : Option Pair) → IsSetting g →
       g.terminator ≡ t.terminator → i < hi → IsInside t i hi → IsUnderWay g t hi root origin i s best →
       IsReadable g.needs (byte_of (after_at t i)) → IsNext g root s (byte_of (after_at t i)) s2 →
-      IsUnderWay g t hi root origin (i + 1) s2 (best_at i s2.stop best)
+      IsUnderWay g t hi root origin (i + 1) s2 (best_at i s2.matched best)
   -- At the bound.
   pub ends : (g : Setting) (t : Text) (hi root : ℕ) (origin : List Pair) (s s2 : State) (best : Option Pair) → IsSetting g →
       g.terminator ≡ t.terminator → IsUnderWay g t hi root origin hi s best →
       IsReadable g.needs (byte_of (after_at t hi)) → IsNext g root s (byte_of (after_at t hi)) s2 →
-      Gives (ways g.places t hi) (Stops g.places) [] origin (best_at hi s2.stop best)
+      Gives (ways g.places t hi) (Stops g.places) [] origin (best_at hi s2.matched best)
   -- Or earlier, if nothing goes on.
   pub dies : (g : Setting) (t : Text) (hi root : ℕ) (origin : List Pair) (i : ℕ) (s : State) (best : Option Pair) → IsSetting g →
       g.terminator ≡ t.terminator → IsUnderWay g t hi root origin i s best → s.list ≡ [] → s.goes_on ≡ false →
@@ -42,7 +42,7 @@ pub record BackwardLaw : Type 0 where
   -- Which root reaches the end from here.
   pub tells : (g : Setting) (t : Text) (hi end i : ℕ) (roots : List ℕ) (s s2 : State) → IsSetting g → g.terminator ≡ t.terminator → end ≤ hi → i ≤ hi →
       IsInside t i hi → IsComing g t hi end i s → IsReadable g.needs (byte_of (before_at t i)) → IsPrior g roots s (byte_of (before_at t i)) s2 →
-      IsFirstRoot (ReachesEnd g t hi end i) roots s2.stop
+      IsFirstRoot (ReachesEnd g t hi end i) roots s2.matched
   -- Over one byte.
   pub descends : (g : Setting) (t : Text) (hi end i : ℕ) (roots : List ℕ) (s s2 : State) → IsSetting g → g.terminator ≡ t.terminator → end ≤ hi → i < end →
       IsInside t i hi → IsComing g t hi end (i + 1) s → IsReadable g.needs (byte_of (before_at t (i + 1))) →
@@ -58,9 +58,9 @@ pub record BackwardLaw : Type 0 where
       AreOnce s2.list × AreBelow (length g.places) s2.list
   pub short : (g : Setting) (roots : List ℕ) (s s2 : State) (before : Option ℕ) → IsPrior g roots s before s2 → length s2.list ≤ length g.places
   -- The root found on the way down is the least so far.
-  pub lowers : (g : Setting) (t : Text) (hi end i : ℕ) (roots : List ℕ) (stop : Option ℕ) (least : Option (ℕ × ℕ)) → i ≤ end →
-      IsFirstRoot (ReachesEnd g t hi end i) roots stop → IsLeastSoFar g t hi end roots (i + 1) least →
-      IsLeastSoFar g t hi end roots i (least_at i stop least)
+  pub lowers : (g : Setting) (t : Text) (hi end i : ℕ) (roots : List ℕ) (matched : Option ℕ) (least : Option (ℕ × ℕ)) → i ≤ end →
+      IsFirstRoot (ReachesEnd g t hi end i) roots matched → IsLeastSoFar g t hi end roots (i + 1) least →
+      IsLeastSoFar g t hi end roots i (least_at i matched least)
 
 -- All starts before `from` were passed over.
 pub record IsRaised (s : Search) (from : ℕ) : Type 0 where
@@ -97,7 +97,7 @@ pub record GatherLaw : Type 0 where
   -- Whether a walk from one of the first pairs ends here.
   pub tells : (g : Setting) (t : Text) (hi root : ℕ) (origin : List Pair) (i : ℕ) (s s2 : State) → IsSetting g → g.terminator ≡ t.terminator → i ≤ hi →
       IsInside t i hi → IsGathering g t hi origin i s → IsReadable g.needs (byte_of (after_at t i)) → IsNextOfAll g root s (byte_of (after_at t i)) s2 →
-      IsLeastMatch g.places (λ q. Comes (ways g.places t hi) origin (q, i)) s2.stop
+      IsLeastMatch g.places (λ q. Comes (ways g.places t hi) origin (q, i)) s2.matched
   -- Over one byte.
   pub goes : (g : Setting) (t : Text) (hi root : ℕ) (origin : List Pair) (i : ℕ) (s s2 : State) → IsSetting g → g.terminator ≡ t.terminator → i < hi →
       IsInside t i hi → ((q : ℕ) → IsIn (q, i + 1) origin ↔ ((s2.goes_on ≡ true) × (q ≡ root))) →

@@ -37,28 +37,28 @@ flat (g ∷ gs) = g ++ flat gs
 
 -- `Closes out ends visited from onward stop visited2`: the search at one position, for walks of one
 -- start. It is `Steps`, but for a place where a walk may end: that drops nothing, since a later end
--- may follow. `stop` is the first such place.
+-- may follow. `matched` is the first such place.
 pub data Closes (out : ℕ → List Way) (ends : ℕ → Bool) : List ℕ → List Way → List ℕ → Option ℕ → List ℕ → Type 0 where
   out_of_ways : {visited : List ℕ} → Closes out ends visited [] [] None visited
-  hands_on : {visited onward visited2 : List ℕ} {from : List Way} {stop : Option ℕ} (q : ℕ) →
-      Closes out ends visited from onward stop visited2 → Closes out ends visited (reads 1 q ∷ from) (q ∷ onward) stop visited2
-  skips : {visited onward visited2 : List ℕ} {from : List Way} {stop : Option ℕ} (q : ℕ) → HasPlace q visited →
-      Closes out ends visited from onward stop visited2 → Closes out ends visited (stays q ∷ from) onward stop visited2
-  arrives : {visited onward visited2 : List ℕ} {from : List Way} {stop : Option ℕ} (q : ℕ) → ¬ HasPlace q visited → IsTrue (ends q) →
-      Closes out ends (q ∷ visited) from onward stop visited2 → Closes out ends visited (stays q ∷ from) onward (Some q) visited2
-  comes_back : {visited onward onward2 visited2 visited3 : List ℕ} {from : List Way} {stop stop2 : Option ℕ} (q : ℕ) →
+  hands_on : {visited onward visited2 : List ℕ} {from : List Way} {matched : Option ℕ} (q : ℕ) →
+      Closes out ends visited from onward matched visited2 → Closes out ends visited (reads 1 q ∷ from) (q ∷ onward) matched visited2
+  skips : {visited onward visited2 : List ℕ} {from : List Way} {matched : Option ℕ} (q : ℕ) → HasPlace q visited →
+      Closes out ends visited from onward matched visited2 → Closes out ends visited (stays q ∷ from) onward matched visited2
+  arrives : {visited onward visited2 : List ℕ} {from : List Way} {matched : Option ℕ} (q : ℕ) → ¬ HasPlace q visited → IsTrue (ends q) →
+      Closes out ends (q ∷ visited) from onward matched visited2 → Closes out ends visited (stays q ∷ from) onward (Some q) visited2
+  comes_back : {visited onward onward2 visited2 visited3 : List ℕ} {from : List Way} {matched stop2 : Option ℕ} (q : ℕ) →
       ¬ HasPlace q visited → ¬ IsTrue (ends q) →
-      Closes out ends (q ∷ visited) (out q) onward stop visited2 → Closes out ends visited2 from onward2 stop2 visited3 →
-      Closes out ends visited (stays q ∷ from) (onward ++ onward2) (option_or stop stop2) visited3
+      Closes out ends (q ∷ visited) (out q) onward matched visited2 → Closes out ends visited2 from onward2 stop2 visited3 →
+      Closes out ends visited (stays q ∷ from) (onward ++ onward2) (option_or matched stop2) visited3
 
 -- `GroupSteps out ends visited groups onward stop`: each group is closed over in turn, and a place
 -- that was visited for a lesser start is skipped. A match of one group drops the groups after it,
 -- which are of later starts, and nothing of its own.
 pub data GroupSteps (out : ℕ → List Way) (ends : ℕ → Bool) : List ℕ → List (List ℕ) → List (List ℕ) → Option ℕ → Type 0 where
   over : {visited : List ℕ} → GroupSteps out ends visited [] [] None
-  goes : {visited group onward visited2 : List ℕ} {groups onwards : List (List ℕ)} {stop : Option ℕ} →
-      Closes out ends visited (map stays group) onward None visited2 → GroupSteps out ends visited2 groups onwards stop →
-      GroupSteps out ends visited (group ∷ groups) (onward ∷ onwards) stop
+  goes : {visited group onward visited2 : List ℕ} {groups onwards : List (List ℕ)} {matched : Option ℕ} →
+      Closes out ends visited (map stays group) onward None visited2 → GroupSteps out ends visited2 groups onwards matched →
+      GroupSteps out ends visited (group ∷ groups) (onward ∷ onwards) matched
   stops : {visited group onward visited2 : List ℕ} {groups : List (List ℕ)} {e : ℕ} →
       Closes out ends visited (map stays group) onward (Some e) visited2 →
       GroupSteps out ends visited (group ∷ groups) (onward ∷ []) (Some e)
@@ -79,8 +79,8 @@ root_group false root = []
 pub record IsNextOfLongest (g : Setting) (root : ℕ) (s : State) (after : Option ℕ) (t : State) : Type 0 where
   pub onward : List (List ℕ)
   pub groups : List (List ℕ)
-  pub steps : GroupSteps (out_seen g.places g.needs g.terminator s.beside after) (is_match g.places) [] (groups_of (length g.places) s.list) onward t.stop
-  pub goes_on : t.goes_on ≡ (s.goes_on && is_none t.stop)
+  pub steps : GroupSteps (out_seen g.places g.needs g.terminator s.beside after) (is_match g.places) [] (groups_of (length g.places) s.list) onward t.matched
+  pub goes_on : t.goes_on ≡ (s.goes_on && is_none t.matched)
   pub once : AddsGroups [] (onward ++ root_group t.goes_on root) groups
   pub list : t.list ≡ parted (length g.places) groups
   pub beside : t.beside ≡ told g.needs g.terminator after

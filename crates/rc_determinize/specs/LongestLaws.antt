@@ -104,12 +104,12 @@ pub record LongestForwardLaw : Type 0 where
   pub goes : (g : Setting) (t : Text) (hi root : ℕ) (origin : List Pair) (i : ℕ) (s s2 : State) (best : Option Pair) → IsSetting g →
       IsClosed g.places → root < length g.places → g.terminator ≡ t.terminator → i < hi → IsInside t i hi → IsRacing g t hi root origin i s best →
       IsReadable g.needs (byte_of (after_at t i)) → IsNextOfLongest g root s (byte_of (after_at t i)) s2 →
-      IsRacing g t hi root origin (i + 1) s2 (best_at i s2.stop best)
+      IsRacing g t hi root origin (i + 1) s2 (best_at i s2.matched best)
   -- At the bound.
   pub ends : (g : Setting) (t : Text) (hi root : ℕ) (origin : List Pair) (s s2 : State) (best : Option Pair) → IsSetting g →
       g.terminator ≡ t.terminator → IsRacing g t hi root origin hi s best →
       IsReadable g.needs (byte_of (after_at t hi)) → IsNextOfLongest g root s (byte_of (after_at t hi)) s2 →
-      GivesLongest (ways g.places t hi) (Stops g.places) origin (best_at hi s2.stop best)
+      GivesLongest (ways g.places t hi) (Stops g.places) origin (best_at hi s2.matched best)
   -- Or earlier, if nothing goes on.
   pub dies : (g : Setting) (t : Text) (hi root : ℕ) (origin : List Pair) (i : ℕ) (s : State) (best : Option Pair) → IsSetting g →
       g.terminator ≡ t.terminator → IsRacing g t hi root origin i s best → s.list ≡ [] → s.goes_on ≡ false →
@@ -136,8 +136,8 @@ pub record LongestStepLaw : Type 0 where
   pub short : (g : Setting) (root : ℕ) (s t : State) (after : Option ℕ) → IsClosed g.places → root < length g.places →
       IsNextOfLongest g root s after t → length t.list ≤ 2 * length g.places
   pub within : (mark : ℕ) (list : List ℕ) → IsMarkedList mark list → AreBelow (mark + 1) list
-  pub forgets : (g : Setting) (root : ℕ) (s t : State) (after stop : Option ℕ) →
-      IsNextOfLongest g root s after t → IsNextOfLongest g root (record s { stop = stop }) after t
+  pub forgets : (g : Setting) (root : ℕ) (s t : State) (after matched : Option ℕ) →
+      IsNextOfLongest g root s after t → IsNextOfLongest g root (record s { matched = matched }) after t
   pub tells : (g : Setting) (root : ℕ) (s t : State) (after : Option ℕ) → IsNextOfLongest g root s after t → t.beside ≡ told g.needs g.terminator after
 
 -- All starts before `from` were passed over.

@@ -11,20 +11,20 @@ use Rattle.rc_determinize.specs.Longest.{Closes, GroupSteps, AddsGroups, parted,
 -- `Runs steps entered stack next new stop`: so many steps lead to the end.
 pub data Runs (out : ℕ → List Way) (ends : ℕ → Bool) : ℕ → List ℕ → List Way → List ℕ → List ℕ → Option ℕ → Type 0 where
   done : {entered next : List ℕ} → Runs out ends 0 entered [] next next None
-  adds : {k : ℕ} {entered : List ℕ} {from : List Way} {next new : List ℕ} {stop : Option ℕ} (q : ℕ) → ¬ HasPlace q next →
-      Runs out ends k entered from (next ++ q ∷ []) new stop → Runs out ends (suc k) entered (reads 1 q ∷ from) next new stop
-  repeats : {k : ℕ} {entered : List ℕ} {from : List Way} {next new : List ℕ} {stop : Option ℕ} (q : ℕ) → HasPlace q next →
-      Runs out ends k entered from next new stop → Runs out ends (suc k) entered (reads 1 q ∷ from) next new stop
-  leaps : {k : ℕ} {entered : List ℕ} {from : List Way} {next new : List ℕ} {stop : Option ℕ} (q : ℕ) → HasPlace q entered →
-      Runs out ends k entered from next new stop → Runs out ends (suc k) entered (stays q ∷ from) next new stop
+  adds : {k : ℕ} {entered : List ℕ} {from : List Way} {next new : List ℕ} {matched : Option ℕ} (q : ℕ) → ¬ HasPlace q next →
+      Runs out ends k entered from (next ++ q ∷ []) new matched → Runs out ends (suc k) entered (reads 1 q ∷ from) next new matched
+  repeats : {k : ℕ} {entered : List ℕ} {from : List Way} {next new : List ℕ} {matched : Option ℕ} (q : ℕ) → HasPlace q next →
+      Runs out ends k entered from next new matched → Runs out ends (suc k) entered (reads 1 q ∷ from) next new matched
+  leaps : {k : ℕ} {entered : List ℕ} {from : List Way} {next new : List ℕ} {matched : Option ℕ} (q : ℕ) → HasPlace q entered →
+      Runs out ends k entered from next new matched → Runs out ends (suc k) entered (stays q ∷ from) next new matched
   matches : {entered : List ℕ} {from : List Way} {next : List ℕ} (q : ℕ) → ¬ HasPlace q entered → IsTrue (ends q) →
       Runs out ends 0 entered (stays q ∷ from) next next (Some q)
-  opens : {k : ℕ} {entered : List ℕ} {from : List Way} {next new : List ℕ} {stop : Option ℕ} (q : ℕ) → ¬ HasPlace q entered →
-      ¬ IsTrue (ends q) → Runs out ends k (entered ++ q ∷ []) (out q ++ from) next new stop →
-      Runs out ends (suc k) entered (stays q ∷ from) next new stop
+  opens : {k : ℕ} {entered : List ℕ} {from : List Way} {next new : List ℕ} {matched : Option ℕ} (q : ℕ) → ¬ HasPlace q entered →
+      ¬ IsTrue (ends q) → Runs out ends k (entered ++ q ∷ []) (out q ++ from) next new matched →
+      Runs out ends (suc k) entered (stays q ∷ from) next new matched
 
 abbrev pub Finishes : (ℕ → List Way) → (ℕ → Bool) → List ℕ → List Way → List ℕ → List ℕ → Option ℕ → Type 0
-Finishes out ends entered from next new stop = (k : ℕ) × Runs out ends k entered from next new stop
+Finishes out ends entered from next new matched = (k : ℕ) × Runs out ends k entered from next new matched
 
 -- The places to which ways lead that read nothing, in order.
 abbrev pub stay_places : List Way → List ℕ
@@ -54,9 +54,9 @@ least_with true (Some p) q = Some (min p q)
 
 -- The places to which the byte leads from those to which ways lead that read nothing, and the least
 -- match place of these.
-pub record IsGathered (out : ℕ → List Way) (places : List Place) (list next : List ℕ) (stop : Option ℕ) : Type 0 where
+pub record IsGathered (out : ℕ → List Way) (places : List Place) (list next : List ℕ) (matched : Option ℕ) : Type 0 where
   pub listed : (q : ℕ) → HasPlace q next ↔ ((p : ℕ) × ComesBy out list p × HasWay (reads 1 q) (out p))
-  pub least : IsLeastMatch places (ComesBy out list) stop
+  pub least : IsLeastMatch places (ComesBy out list) matched
 
 -- Both lists have the same places.
 abbrev pub HaveSame : List ℕ → List ℕ → Type 0
@@ -64,9 +64,9 @@ HaveSame xs ys = (q : ℕ) → HasPlace q xs ↔ HasPlace q ys
 
 -- The places were closed over, when these had been entered and those listed.
 abbrev pub IsShut : (ℕ → List Way) → (ℕ → Bool) → List ℕ → List ℕ → List ℕ → List ℕ → List ℕ → Option ℕ → Type 0
-IsShut out ends list entered entered2 listed listed2 stop =
+IsShut out ends list entered entered2 listed listed2 matched =
     (visited : List ℕ) → HaveSame visited entered → (onward : List ℕ) × (visited2 : List ℕ)
-    × Closes out ends visited (map stays list) onward stop visited2 × HaveSame visited2 entered2 × Adds listed onward listed2
+    × Closes out ends visited (map stays list) onward matched visited2 × HaveSame visited2 entered2 × Adds listed onward listed2
 
 -- The first that was found, or this place if it counts.
 abbrev pub first_with : Bool → Option ℕ → ℕ → Option ℕ
@@ -82,10 +82,10 @@ with_group mark (p ∷ list) (q ∷ g) = (p ∷ list) ++ mark ∷ q ∷ g
 
 -- The groups were closed over in turn, up to one with a match. The list has what comes of them, and
 -- so have those listed.
-pub record IsParted (out : ℕ → List Way) (ends : ℕ → Bool) (mark : ℕ) (groups : List (List ℕ)) (listed2 list : List ℕ) (stop : Option ℕ) : Type 0 where
+pub record IsParted (out : ℕ → List Way) (ends : ℕ → Bool) (mark : ℕ) (groups : List (List ℕ)) (listed2 list : List ℕ) (matched : Option ℕ) : Type 0 where
   pub onward : List (List ℕ)
   pub new : List (List ℕ)
-  pub steps : GroupSteps out ends [] groups onward stop
+  pub steps : GroupSteps out ends [] groups onward matched
   pub once : AddsGroups [] onward new
   pub all : listed2 ≡ flat new
   pub is_list : list ≡ parted mark new

@@ -33,7 +33,7 @@ IsReadHere g s after q = (p : ℕ) × ComesHere g s after p × HasWay (reads 1 q
 pub record IsNextOfAll (g : Setting) (root : ℕ) (s : State) (after : Option ℕ) (t : State) : Type 0 where
   pub list : (q : ℕ) → HasPlace q t.list ↔ (((t.goes_on ≡ true) × (q ≡ root)) ⊎ IsReadHere g s after q)
   pub rising : IsRising t.list
-  pub stop : IsLeastMatch g.places (ComesHere g s after) t.stop
+  pub matched : IsLeastMatch g.places (ComesHere g s after) t.matched
   pub goes_on : t.goes_on ≡ s.goes_on
   pub beside : t.beside ≡ told g.needs g.terminator after
 

@@ -4,7 +4,7 @@ use Rattle.std.specs.Prelude.{◌≡◌, ◌↔◌, ℕ, Bool, true, false, not,
 use Rattle.rc_pattern.specs.Re.{Range}
 use Rattle.rc_program.specs.Program.{Place, byte, branch, guard, Way, ways_out, place_at}
 use Rattle.rc_determinize.specs.declared.sides.Seen.{Seen}
-use Rattle.rc_determinize.specs.declared.sides.Needs.{Needs}
+use Rattle.rc_determinize.specs.declared.sides.Asked.{Asked}
 use Rattle.rc_determinize.specs.Steps.{out_by}
 use Rattle.rc_pattern.specs.declared.hir.Look.{Look}
 use Rattle.rc_pattern.specs.declared.hir.Look.TheVariants.{Start, End, StartLF, EndLF, StartCRLF, EndCRLF, WordAscii, WordAsciiNegate, WordUnicode, WordUnicodeNegate, WordStartAscii, WordEndAscii, WordStartUnicode, WordEndUnicode, WordStartHalfAscii, WordEndHalfAscii, WordStartHalfUnicode, WordEndHalfUnicode}
@@ -94,12 +94,12 @@ HasLook l (guard k n) = k ≡ l
 HasLook l _ = ⊥
 
 -- The assertions of the program ask for no more.
-pub record Covers (needs : Needs) (places : List Place) : Type 0 where
+pub record Covers (needs : Asked) (places : List Place) : Type 0 where
   pub facts : (q : ℕ) (l : Look) → HasLook l (place_at places q) → asks l needs.facts
   pub unicode : (q : ℕ) (l : Look) → HasLook l (place_at places q) → IsTrue (is_unicode l) → IsTrue needs.unicode
 
 -- The second asks for all that the first asks for.
-pub record AsksNoMore (fewer more : Needs) : Type 0 where
+pub record AsksNoMore (fewer more : Asked) : Type 0 where
   pub edge : IsTrue fewer.facts.edge → IsTrue more.facts.edge
   pub terminator : IsTrue fewer.facts.terminator → IsTrue more.facts.terminator
   pub line_feed : IsTrue fewer.facts.line_feed → IsTrue more.facts.line_feed
@@ -108,9 +108,9 @@ pub record AsksNoMore (fewer more : Needs) : Type 0 where
   pub unicode : IsTrue fewer.unicode → IsTrue more.unicode
 
 -- Exactly what the assertions of the program ask for.
-pub record AreNeeds (needs : Needs) (places : List Place) : Type 0 where
+pub record AreAsked (needs : Asked) (places : List Place) : Type 0 where
   pub covers : Covers needs places
-  pub least : (other : Needs) → Covers other places → AsksNoMore needs other
+  pub least : (other : Asked) → Covers other places → AsksNoMore needs other
 
 -- The assertion of the place, if it has one.
 abbrev pub guarded : Place → Option Look
@@ -118,7 +118,7 @@ guarded (guard l n) = Some l
 guarded _ = None
 
 -- The needs, with what the assertion asks for.
-abbrev pub asking : Look → Needs → Needs
+abbrev pub asking : Look → Asked → Asked
 asking Start needs = record needs { facts = record needs.facts { edge = true } }
 asking End needs = record needs { facts = record needs.facts { edge = true } }
 asking StartLF needs = record needs { facts = record needs.facts { edge = true; terminator = true } }
@@ -128,21 +128,21 @@ asking EndCRLF needs = record needs { facts = record needs.facts { edge = true; 
 asking look needs = record { facts = record needs.facts { word = true }; unicode = needs.unicode || is_unicode look }
 
 -- The facts about a byte, or about the end, as far as the program asks.
-abbrev pub told : Needs → ℕ → Option ℕ → Seen
+abbrev pub told : Asked → ℕ → Option ℕ → Seen
 told needs terminator b = asked needs.facts (seen_of terminator b)
 
 -- The ways out of a place, by these facts about the side before, and this byte ahead, or none.
-abbrev pub out_seen : List Place → Needs → ℕ → Seen → Option ℕ → ℕ → List Way
+abbrev pub out_seen : List Place → Asked → ℕ → Seen → Option ℕ → ℕ → List Way
 out_seen places needs terminator behind after =
     out_by places (holds_by behind (told needs terminator after)) after
 
 -- The byte is ASCII; or no assertion depends on Unicode's words.
-abbrev pub IsReadable : Needs → Option ℕ → Type 0
+abbrev pub IsReadable : Asked → Option ℕ → Type 0
 IsReadable needs None = Unit {0}
 IsReadable needs (Some b) = IsTrue needs.unicode → b < 128
 
 -- No step can tell the bytes apart, and both may be read or none.
-pub record AreAlike (places : List Place) (needs : Needs) (terminator b c : ℕ) : Type 0 where
+pub record AreAlike (places : List Place) (needs : Asked) (terminator b c : ℕ) : Type 0 where
   pub told_same : told needs terminator (Some b) ≡ told needs terminator (Some c)
   pub read_same : (q : ℕ) (test : Look → Bool) → ways_out test (b ∷ []) (place_at places q) ≡ ways_out test (c ∷ []) (place_at places q)
   pub readable : IsReadable needs (Some b) ↔ IsReadable needs (Some c)

@@ -41,9 +41,9 @@ AreRoots s roots = (p x e : ℕ) → IsSpelled s p x e
 -- The last end forwards, and from there the least start backwards with its first root, are the
 -- greatest span.
 pub record GreatestSpanLaw : Type 0 where
-  pub later : (g : Setting) (t : Text) (hi : ℕ) (origin : List Pair) (i : ℕ) (stop last : Option ℕ) →
-      IsLeastMatch g.places (λ q. Comes (ways g.places t hi) origin (q, i)) stop → IsLastSoFar g t hi origin i last →
-      IsLastSoFar g t hi origin (i + 1) (last_at i stop last)
+  pub later : (g : Setting) (t : Text) (hi : ℕ) (origin : List Pair) (i : ℕ) (matched last : Option ℕ) →
+      IsLeastMatch g.places (λ q. Comes (ways g.places t hi) origin (q, i)) matched → IsLastSoFar g t hi origin i last →
+      IsLastSoFar g t hi origin (i + 1) (last_at i matched last)
   pub greatest : (s : Search) (g : Setting) (roots : List ℕ) (e x k : ℕ) → IsSettingOf s g → AreRoots s roots → s.lo ≤ s.hi →
       IsLastSoFar g s.text s.hi (all_starts (is_anchored s.anchoring) 0 s.lo s.hi) (s.hi + 1) (Some e) →
       IsLeastSoFar g s.text s.hi e roots s.lo (Some (x, k)) → IsGreatest s (record { pattern = k; start = x; end = e })

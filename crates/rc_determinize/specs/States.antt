@@ -7,14 +7,14 @@ use Rattle.rc_program.specs.Program.{Place, place_at, ways, is_match_place}
 use Rattle.rc_determinize.specs.Gives.{Carries, starts}
 use Rattle.rc_determinize.specs.Steps.{IsByBytes, Adds, IsStep, at}
 use Rattle.rc_determinize.specs.declared.sides.Seen.{Seen}
-use Rattle.rc_determinize.specs.declared.sides.Needs.{Needs}
+use Rattle.rc_determinize.specs.declared.sides.Asked.{Asked}
 use Rattle.rc_determinize.specs.Sides.{Covers, told, out_seen, byte_of, IsReadable}
 
 -- The setting of a DFA: the places of its program, the facts for which its assertions ask, and the
 -- line terminator.
 pub record Setting : Type 0 where
   pub places : List Place
-  pub needs : Needs
+  pub needs : Asked
   pub terminator : ℕ
 
 -- The places read bytes alone, and the assertions ask for no more.
@@ -25,12 +25,12 @@ pub record IsSetting (g : Setting) : Type 0 where
 -- A state. `list` has the places to which the byte before led, in order, each once. The search
 -- hasn't gone on from any of them yet, since the byte ahead isn't known. `beside` has the facts
 -- about the byte before, and `goes_on` says whether a walk may begin at each position to come.
--- `stop` is the match place that was found at the position before.
+-- `matched` is the match place that was found at the position before.
 pub record State : Type 0 where
   pub list : List ℕ
   pub beside : Seen
   pub goes_on : Bool
-  pub stop : Option ℕ
+  pub matched : Option ℕ
 
 abbrev pub is_match : List Place → ℕ → Bool
 is_match places q = is_match_place None (place_at places q)
@@ -44,8 +44,8 @@ root_if false root = []
 -- later starts too.
 pub record IsNext (g : Setting) (root : ℕ) (s : State) (after : Option ℕ) (t : State) : Type 0 where
   pub next : List ℕ
-  pub is_step : IsStep (out_seen g.places g.needs g.terminator s.beside after) (is_match g.places) s.list next t.stop
-  pub goes_on : t.goes_on ≡ (s.goes_on && is_none t.stop)
+  pub is_step : IsStep (out_seen g.places g.needs g.terminator s.beside after) (is_match g.places) s.list next t.matched
+  pub goes_on : t.goes_on ≡ (s.goes_on && is_none t.matched)
   pub joined : Adds next (root_if t.goes_on root) t.list
   pub beside : t.beside ≡ told g.needs g.terminator after
 
@@ -54,7 +54,7 @@ pub record IsFirst (g : Setting) (root : ℕ) (before : Option ℕ) (anchored : 
   pub list : s.list ≡ root ∷ []
   pub beside : s.beside ≡ told g.needs g.terminator before
   pub goes_on : s.goes_on ≡ not anchored
-  pub stop : s.stop ≡ None
+  pub matched : s.matched ≡ None
 
 -- THE SEARCH UNDER WAY
 
@@ -72,7 +72,7 @@ all_starts anchored root lo hi = (root, lo) ∷ later_starts (not anchored) root
 
 -- The last match seen.
 abbrev pub best_at : ℕ → Option ℕ → Option Pair → Option Pair
-best_at i stop best = option_or (option_map (λ q. (q, i)) stop) best
+best_at i matched best = option_or (option_map (λ q. (q, i)) matched) best
 
 -- The bounds of the search are within the slice.
 pub record IsInside (t : Text) (lo hi : ℕ) : Type 0 where

@@ -33,19 +33,19 @@ HasWay w (v ∷ vs) = (v ≡ w) ⊎ HasWay w vs
 -- skipped. At the first place where a walk may end, all that is left is dropped.
 pub data Steps (out : ℕ → List Way) (ends : ℕ → Bool) : List ℕ → List Way → List ℕ → Option ℕ → List ℕ → Type 0 where
   out_of_ways : {visited : List ℕ} → Steps out ends visited [] [] None visited
-  hands_on : {visited onward visited2 : List ℕ} {from : List Way} {stop : Option ℕ} (q : ℕ) →
-      Steps out ends visited from onward stop visited2 → Steps out ends visited (reads 1 q ∷ from) (q ∷ onward) stop visited2
-  skips : {visited onward visited2 : List ℕ} {from : List Way} {stop : Option ℕ} (q : ℕ) → HasPlace q visited →
-      Steps out ends visited from onward stop visited2 → Steps out ends visited (stays q ∷ from) onward stop visited2
+  hands_on : {visited onward visited2 : List ℕ} {from : List Way} {matched : Option ℕ} (q : ℕ) →
+      Steps out ends visited from onward matched visited2 → Steps out ends visited (reads 1 q ∷ from) (q ∷ onward) matched visited2
+  skips : {visited onward visited2 : List ℕ} {from : List Way} {matched : Option ℕ} (q : ℕ) → HasPlace q visited →
+      Steps out ends visited from onward matched visited2 → Steps out ends visited (stays q ∷ from) onward matched visited2
   arrives : {visited : List ℕ} {from : List Way} (q : ℕ) → ¬ HasPlace q visited → IsTrue (ends q) →
       Steps out ends visited (stays q ∷ from) [] (Some q) visited
   stops_under : {visited onward visited2 : List ℕ} {from : List Way} {e : ℕ} (q : ℕ) → ¬ HasPlace q visited → ¬ IsTrue (ends q) →
       Steps out ends (q ∷ visited) (out q) onward (Some e) visited2 →
       Steps out ends visited (stays q ∷ from) onward (Some e) visited2
-  comes_back : {visited onward onward2 visited2 visited3 : List ℕ} {from : List Way} {stop : Option ℕ} (q : ℕ) →
+  comes_back : {visited onward onward2 visited2 visited3 : List ℕ} {from : List Way} {matched : Option ℕ} (q : ℕ) →
       ¬ HasPlace q visited → ¬ IsTrue (ends q) →
-      Steps out ends (q ∷ visited) (out q) onward None visited2 → Steps out ends visited2 from onward2 stop visited3 →
-      Steps out ends visited (stays q ∷ from) (onward ++ onward2) stop visited3
+      Steps out ends (q ∷ visited) (out q) onward None visited2 → Steps out ends visited2 from onward2 matched visited3 →
+      Steps out ends visited (stays q ∷ from) (onward ++ onward2) matched visited3
 
 abbrev pub at : ℕ → List ℕ → List Pair
 at i qs = map (λ q. (q, i)) qs
@@ -63,10 +63,10 @@ pub data Adds : List ℕ → List ℕ → List ℕ → Type 0 where
   leaves_out : {list qs new : List ℕ} (q : ℕ) → HasPlace q list → Adds list qs new → Adds list (q ∷ qs) new
 
 -- The next list of places, each once, and the match place that was found.
-pub record IsStep (out : ℕ → List Way) (ends : ℕ → Bool) (list next : List ℕ) (stop : Option ℕ) : Type 0 where
+pub record IsStep (out : ℕ → List Way) (ends : ℕ → Bool) (list next : List ℕ) (matched : Option ℕ) : Type 0 where
   pub onward : List ℕ
   pub visited : List ℕ
-  pub steps : Steps out ends [] (map stays list) onward stop visited
+  pub steps : Steps out ends [] (map stays list) onward matched visited
   pub once : Adds [] onward next
 
 -- No place of the program reads scalars: what it reads is decided by the next byte.

@@ -15,7 +15,7 @@ ghost use Rattle.rc_pattern.specs.Meaning.{byte_range};
 
 use crate::open::{add, is_match};
 use crate::scratch::Scratch;
-use crate::sides::{Needs, Seen, holds_by, told};
+use crate::sides::{Asked, Seen, holds_by, told};
 use crate::sparse_set::SparseSet;
 use crate::state::State;
 use rc_pattern::hir::{ClassBytesRange, Look};
@@ -242,7 +242,7 @@ fn go_back(
 }
 
 /// Makes `to` the state to which the byte `before` leads back from a state. If `before` is None, it
-/// is the state at the beginning of what the search sees. The `stop` of `to` is the index of the
+/// is the state at the beginning of what the search sees. The `matched` of `to` is the index of the
 /// first root from which a walk leads to the end, from the position after that byte. Lines end at
 /// the byte `terminator`, `needs` is what the program's assertions ask for, and `reversed` has its
 /// edges.
@@ -251,7 +251,7 @@ fn go_back(
 /// some state.
 pub fn prior(
     reversed: &Reversed,
-    needs: Needs,
+    needs: Asked,
     terminator: u8,
     roots: &[usize],
     scratch: &mut Scratch,
@@ -282,7 +282,7 @@ pub fn prior(
     scratch.listed.rise_to(&mut to.list)?;
     to.beside = behind;
     to.goes_on = false;
-    to.stop = first_root(&scratch.entered, roots);
+    to.matched = first_root(&scratch.entered, roots);
     Ok(())
 }
 
@@ -291,7 +291,7 @@ pub fn prior(
 /// some state.
 pub fn last(
     places: &[BytePlace],
-    needs: Needs,
+    needs: Asked,
     terminator: u8,
     after: Option<u8>,
     to: &mut State,
@@ -306,6 +306,6 @@ pub fn last(
     }
     to.beside = told(needs, terminator, after);
     to.goes_on = false;
-    to.stop = None;
+    to.matched = None;
     Ok(())
 }

@@ -7,7 +7,7 @@ ghost use Rattle.rc_utf8.specs.declared.place.ByteWay.{ByteWay};
 ghost use Rattle.rc_determinize.specs.Sides.{told, ranges_of};
 ghost use Rattle.rc_determinize.specs.Classes.{parts, are_parted, is_other, is_border, AreClasses, AreSingle};
 
-use crate::sides::{Needs, Seen, told};
+use crate::sides::{Asked, Seen, told};
 use rc_pattern::hir::ClassBytesRange;
 use rc_utf8::place::{BytePlace, ByteWay};
 use std::alloc::{AllocError, Global};
@@ -88,7 +88,7 @@ fn are_parted(places: &[BytePlace], byte: u8) -> bool
 
 /// Whether a class ends at the byte: some place or some assertion of the program may tell it from
 /// the next byte, or only one of the two may be read.
-fn is_border(places: &[BytePlace], needs: Needs, terminator: u8, byte: u8) -> bool
+fn is_border(places: &[BytePlace], needs: Asked, terminator: u8, byte: u8) -> bool
     requires { byte < 255 }
     ensures { result ≡ is_border (places_of places.now) needs terminator byte }
 {
@@ -106,7 +106,7 @@ fn is_border(places: &[BytePlace], needs: Needs, terminator: u8, byte: u8) -> bo
 pub fn classes(
     alloc: Global,
     places: &[BytePlace],
-    needs: Needs,
+    needs: Asked,
     terminator: u8,
 ) -> Result<Vec<u8>, AllocError>
     ensures { IfOk result (λ classes. AreClasses (places_of places.now) needs terminator classes.items) }

@@ -8,7 +8,7 @@
 //!     [0]     a     0, 1 reads it to 2, 6          [2, 0]
 //!     [2, 0]  a     2, 1 reads it to 2, 3, 0, 6    [2, 0]
 //!     [2, 0]  b     2, 1, 3 reads it to 4, 0, 6    [4, 0]
-//!     [4, 0]  .     4, 5: a match, one byte late   [], with `stop` 5
+//!     [4, 0]  .     4, 5: a match, one byte late   [], with `matched` 5
 ghost use Rattle.std.specs.Prelude.{ℕ, List, ◌≡◌, ◌<◌, ◌≤◌, ◌++◌, [], ◌∷◌, IfOk, length, reverse, Some, None, ◌&&◌, is_none};
 ghost use Rattle.rc_program.specs.Laws.{IsClosed};
 ghost use Rattle.rc_program.specs.Program.{Place, place_at};
@@ -24,7 +24,7 @@ ghost use Rattle.rc_determinize.specs.Machine.{IsGathered};
 use crate::longest::next_longest;
 use crate::open::{add_root, is_match, least_with, open, place_at};
 use crate::scratch::Scratch;
-use crate::sides::{Needs, Seen, told};
+use crate::sides::{Asked, Seen, told};
 use crate::sparse_set::SparseSet;
 use crate::state::State;
 use rc_text::types::MatchKind;
@@ -58,8 +58,8 @@ fn follow(
     requires entered { entered.old ≡ record { capacity = length places.now; items = [] } }
     requires listed { listed.old ≡ record { capacity = length places.now; items = [] } }
     ensures sizes { (entered.new.capacity ≡ length places.now) × (listed.new.capacity ≡ length places.now) }
-    ensures step { IfOk result (λ stop. IsStep (out_by (places_of places.now) (holds_by behind ahead) after) (is_match (places_of places.now))
-        (reverse stack.old.items) listed.new.items stop) }
+    ensures step { IfOk result (λ matched. IsStep (out_by (places_of places.now) (holds_by behind ahead) after) (is_match (places_of places.now))
+        (reverse stack.old.items) listed.new.items matched) }
 {
     'places: while let Some(place) = stack.pop() {
         if entered.insert(place) {
@@ -89,8 +89,8 @@ fn gather(
     requires entered { entered.old ≡ record { capacity = length places.now; items = [] } }
     requires listed { listed.old ≡ record { capacity = length places.now; items = [] } }
     ensures sizes { (entered.new.capacity ≡ length places.now) × (listed.new.capacity ≡ length places.now) }
-    ensures step { IfOk result (λ stop. IsGathered (out_by (places_of places.now) (holds_by behind ahead) after) (places_of places.now)
-        (reverse stack.old.items) listed.new.items stop) }
+    ensures step { IfOk result (λ matched. IsGathered (out_by (places_of places.now) (holds_by behind ahead) after) (places_of places.now)
+        (reverse stack.old.items) listed.new.items matched) }
 {
     let mut least = None;
     'places: while let Some(place) = stack.pop() {
@@ -104,17 +104,17 @@ fn gather(
 }
 
 /// Whether walks may begin at later positions: they did so far, and no match was found.
-pub fn goes_on(from: &State, stop: Option<usize>) -> bool
-    ensures { result ≡ (from.now.goes_on && is_none stop) }
+pub fn goes_on(from: &State, matched: Option<usize>) -> bool
+    ensures { result ≡ (from.now.goes_on && is_none matched) }
 {
-    from.goes_on && stop.is_none()
+    from.goes_on && matched.is_none()
 }
 
 /// Makes `to` the state to which the byte `after` leads, for leftmost-first. `Err` means out of
 /// memory; then `to` is some state.
 fn next_preferred(
     places: &[BytePlace],
-    needs: Needs,
+    needs: Asked,
     terminator: u8,
     root: usize,
     scratch: &mut Scratch,
@@ -133,7 +133,7 @@ fn next_preferred(
     scratch.entered.clear();
     scratch.listed.clear();
     stack_up(&from.list, &mut scratch.stack)?;
-    let stop = follow(
+    let matched = follow(
         places,
         from.beside,
         ahead,
@@ -142,12 +142,12 @@ fn next_preferred(
         &mut scratch.entered,
         &mut scratch.listed,
     )?;
-    let goes_on = goes_on(from, stop);
+    let goes_on = goes_on(from, matched);
     add_root(&mut scratch.listed, root, goes_on);
     scratch.listed.copy_to(&mut to.list)?;
     to.beside = ahead;
     to.goes_on = goes_on;
-    to.stop = stop;
+    to.matched = matched;
     Ok(())
 }
 
@@ -155,7 +155,7 @@ fn next_preferred(
 /// memory; then `to` is some state.
 fn next_of_all(
     places: &[BytePlace],
-    needs: Needs,
+    needs: Asked,
     terminator: u8,
     root: usize,
     scratch: &mut Scratch,
@@ -174,7 +174,7 @@ fn next_of_all(
     scratch.entered.clear();
     scratch.listed.clear();
     stack_up(&from.list, &mut scratch.stack)?;
-    let stop = gather(
+    let matched = gather(
         places,
         from.beside,
         ahead,
@@ -187,7 +187,7 @@ fn next_of_all(
     scratch.listed.rise_to(&mut to.list)?;
     to.beside = ahead;
     to.goes_on = from.goes_on;
-    to.stop = stop;
+    to.matched = matched;
     Ok(())
 }
 
@@ -201,7 +201,7 @@ fn next_of_all(
 pub fn next_by(
     kind: MatchKind,
     places: &[BytePlace],
-    needs: Needs,
+    needs: Asked,
     terminator: u8,
     root: usize,
     scratch: &mut Scratch,
@@ -231,7 +231,7 @@ pub fn next_by(
 /// the search is anchored. `before` is the byte before the start, or None at the beginning of what
 /// the search sees. `Err` means out of memory; then `to` is some state.
 pub fn first(
-    needs: Needs,
+    needs: Asked,
     terminator: u8,
     root: usize,
     before: Option<u8>,
@@ -244,6 +244,6 @@ pub fn first(
     to.list.push(root)?;
     to.beside = told(needs, terminator, before);
     to.goes_on = !anchored;
-    to.stop = None;
+    to.matched = None;
     Ok(())
 }

@@ -13,7 +13,7 @@ ghost use Rattle.rc_determinize.specs.Machine.{IsShut, IsParted};
 use crate::forward::{goes_on, stack_up};
 use crate::open::{add_root, first_with, open, place_at};
 use crate::scratch::Scratch;
-use crate::sides::{Needs, Seen, told};
+use crate::sides::{Asked, Seen, told};
 use crate::sparse_set::SparseSet;
 use crate::state::State;
 use rc_utf8::place::BytePlace;
@@ -38,8 +38,8 @@ fn close(
     requires listed { listed.old.capacity ≡ length places.now }
     ensures sizes { (entered.new.capacity ≡ length places.now) × (listed.new.capacity ≡ length places.now) }
     ensures few { IfOk result (λ _. length entered.new.items ≤ length places.now) }
-    ensures shut { IfOk result (λ stop. IsShut (out_by (places_of places.now) (holds_by behind ahead) after) (is_match (places_of places.now))
-        (reverse stack.old.items) entered.old.items entered.new.items listed.old.items listed.new.items stop) }
+    ensures shut { IfOk result (λ matched. IsShut (out_by (places_of places.now) (holds_by behind ahead) after) (is_match (places_of places.now))
+        (reverse stack.old.items) entered.old.items entered.new.items listed.old.items listed.new.items matched) }
 {
     let mut first = None;
     'places: while let Some(place) = stack.pop() {
@@ -86,8 +86,8 @@ fn close_groups(
     requires entered { entered.old ≡ record { capacity = length places.now; items = [] } }
     requires listed { listed.old ≡ record { capacity = length places.now; items = [] } }
     ensures sizes { (entered.new.capacity ≡ length places.now) × (listed.new.capacity ≡ length places.now) }
-    ensures parted { IfOk result (λ stop. IsParted (out_by (places_of places.now) (holds_by behind ahead) after) (is_match (places_of places.now))
-        (length places.now) (groups_of (length places.now) list.now) listed.new.items to.new.items stop) }
+    ensures parted { IfOk result (λ matched. IsParted (out_by (places_of places.now) (holds_by behind ahead) after) (is_match (places_of places.now))
+        (length places.now) (groups_of (length places.now) list.now) listed.new.items to.new.items matched) }
 {
     to.clear();
     let mut from = 0;
@@ -110,7 +110,7 @@ fn close_groups(
 /// some state.
 pub fn next_longest(
     places: &[BytePlace],
-    needs: Needs,
+    needs: Asked,
     terminator: u8,
     root: usize,
     scratch: &mut Scratch,
@@ -128,7 +128,7 @@ pub fn next_longest(
     let ahead = told(needs, terminator, after);
     scratch.entered.clear();
     scratch.listed.clear();
-    let stop = close_groups(
+    let matched = close_groups(
         places,
         from.beside,
         ahead,
@@ -139,12 +139,12 @@ pub fn next_longest(
         &mut scratch.listed,
         &mut to.list,
     )?;
-    let goes_on = goes_on(from, stop);
+    let goes_on = goes_on(from, matched);
     let before = scratch.listed.len();
     add_root(&mut scratch.listed, root, goes_on);
     scratch.listed.part_to(before, places.len(), &mut to.list)?;
     to.beside = ahead;
     to.goes_on = goes_on;
-    to.stop = stop;
+    to.matched = matched;
     Ok(())
 }

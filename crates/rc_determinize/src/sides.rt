@@ -2,7 +2,7 @@
 ghost use Rattle.std.specs.Prelude.{◌≡◌, IsTrue};
 ghost use Rattle.rc_program.specs.Looks.{is_word_byte};
 ghost use Rattle.rc_utf8.specs.Places.{place_of, places_of};
-ghost use Rattle.rc_determinize.specs.Sides.{seen_of, holds_by, told, is_unicode, asking, guarded, AreNeeds};
+ghost use Rattle.rc_determinize.specs.Sides.{seen_of, holds_by, told, is_unicode, asking, guarded, AreAsked};
 
 use rc_pattern::hir::Look;
 use rc_utf8::place::BytePlace;
@@ -24,7 +24,7 @@ pub struct Seen {
 
 /// The facts that a program's assertions ask for.
 #[derive(Clone, Copy, PartialEq, Eq)]
-pub struct Needs {
+pub struct Asked {
     /// The facts that some assertion asks for.
     pub facts: Seen,
     /// Some assertion depends on Unicode words, so that bytes of at least 128 can't be read.
@@ -62,7 +62,7 @@ fn seen_of(terminator: u8, byte: Option<u8>) -> Seen
 
 /// Returns the facts about a byte, or about an end, for which the program asks; all others are
 /// false. Lines end at the byte `terminator`.
-pub fn told(needs: Needs, terminator: u8, byte: Option<u8>) -> Seen
+pub fn told(needs: Asked, terminator: u8, byte: Option<u8>) -> Seen
     ensures { result ≡ told needs terminator byte }
 {
     let seen = seen_of(terminator, byte);
@@ -115,19 +115,19 @@ fn is_unicode(look: Look) -> bool
 }
 
 /// Adds to `needs` the facts that the assertion asks for.
-fn asking(look: Look, needs: Needs) -> Needs
+fn asking(look: Look, needs: Asked) -> Asked
     ensures { result ≡ asking look needs }
 {
     let facts = needs.facts;
     match look {
-        Look::Start | Look::End => Needs {
+        Look::Start | Look::End => Asked {
             facts: Seen {
                 edge: true,
                 ..facts
             },
             ..needs
         },
-        Look::StartLF | Look::EndLF => Needs {
+        Look::StartLF | Look::EndLF => Asked {
             facts: Seen {
                 edge: true,
                 terminator: true,
@@ -135,7 +135,7 @@ fn asking(look: Look, needs: Needs) -> Needs
             },
             ..needs
         },
-        Look::StartCRLF | Look::EndCRLF => Needs {
+        Look::StartCRLF | Look::EndCRLF => Asked {
             facts: Seen {
                 edge: true,
                 line_feed: true,
@@ -144,7 +144,7 @@ fn asking(look: Look, needs: Needs) -> Needs
             },
             ..needs
         },
-        _ => Needs {
+        _ => Asked {
             facts: Seen {
                 word: true,
                 ..facts
@@ -165,10 +165,10 @@ fn guarded(place: &BytePlace) -> Option<Look>
 }
 
 /// Returns exactly the facts that the assertions of a program ask for.
-pub fn needs_of(places: &[BytePlace]) -> Needs
-    ensures { AreNeeds result (places_of places.now) }
+pub fn needs_of(places: &[BytePlace]) -> Asked
+    ensures { AreAsked result (places_of places.now) }
 {
-    let mut needs = Needs {
+    let mut needs = Asked {
         facts: Seen {
             edge: false,
             terminator: false,

@@ -17,5 +17,5 @@ pub struct State {
     pub goes_on: bool,
     /// The match that the search found at the position that it just left: forwards the match place,
     /// backwards the index of the root that reaches the end.
-    pub stop: Option<usize>,
+    pub matched: Option<usize>,
 }

@@ -6,7 +6,7 @@ use Rattle.std.proofs.lemmas.Option.{slice_get_within, slice_get-get_or, get_or_
 use Rattle.rc_text.specs.declared.types.Anchored.{Anchored}
 use Rattle.rc_text.specs.declared.types.Anchored.TheVariants.{No, Yes, Pattern}
 use Rattle.rc_program.specs.Program.{Place}
-use Rattle.rc_determinize.specs.declared.sides.Needs.{Needs}
+use Rattle.rc_determinize.specs.declared.sides.Asked.{Asked}
 use Rattle.rc_utf8.specs.Places.{place_of, places_of}
 use Rattle.rc_determinize.specs.declared.backward.Source.{Source}
 use Rattle.rc_determinize.specs.Reversed.{into_at, IsReversed, AreInside}
@@ -27,12 +27,12 @@ use Rattle.rc_dfa.specs.Automata.{machine_of, classes_of, samples_of}
 
 -- CLASSES
 
-pub sized : (t : Bool) (places : List Place) (needs : Needs) (terminator : ℕ) (classes : List ℕ) →
+pub sized : (t : Bool) (places : List Place) (needs : Asked) (terminator : ℕ) (classes : List ℕ) →
     AreClassesBy t places needs terminator classes → length classes ≡ 256
 sized true places needs terminator classes a = a.size
 sized false places needs terminator classes a = a.size
 
-pub counted : (t : Bool) (places : List Place) (needs : Needs) (terminator : ℕ) (classes : List ℕ) →
+pub counted : (t : Bool) (places : List Place) (needs : Asked) (terminator : ℕ) (classes : List ℕ) →
     AreClassesBy t places needs terminator classes → IsCounted classes
 counted true places needs terminator classes a = (
   a.first,
@@ -46,7 +46,7 @@ counted false places needs terminator classes a = (
   λ b h. inr (a.own (b + 1) (omega (arith, h)) ∙ ap (λ k. k + 1) (sym (a.own b (omega (arith, h))))),
 )
 
-pub tells_alike : (t : Bool) (places : List Place) (needs : Needs) (terminator : ℕ) (classes : List ℕ) → IsByBytes places →
+pub tells_alike : (t : Bool) (places : List Place) (needs : Asked) (terminator : ℕ) (classes : List ℕ) → IsByBytes places →
     AreClassesBy t places needs terminator classes → TellsAlike places needs terminator classes
 tells_alike true places needs terminator classes k a = class_law.alike places needs terminator classes k a
 tells_alike false places needs terminator classes k a = class_law.single places needs terminator classes a
@@ -68,13 +68,13 @@ lead_alike backwards g entries b c s t x h = backward_law.alike g entries b c s 
 
 begin_alike : (d : Direction) (g : Setting) (entries : List ℕ) (b c : ℕ) (anchored : Anchored) (s : State) → AreAlike g.places g.needs g.terminator b c →
     begins_by d g entries anchored (Some b) s → begins_by d g entries anchored (Some c) s
-begin_alike (forwards kind) g entries b c No s x h = record { list = h.list; beside = h.beside ∙ x.told_same; goes_on = h.goes_on; stop = h.stop }
-begin_alike (forwards kind) g entries b c Yes s x h = record { list = h.list; beside = h.beside ∙ x.told_same; goes_on = h.goes_on; stop = h.stop }
+begin_alike (forwards kind) g entries b c No s x h = record { list = h.list; beside = h.beside ∙ x.told_same; goes_on = h.goes_on; matched = h.matched }
+begin_alike (forwards kind) g entries b c Yes s x h = record { list = h.list; beside = h.beside ∙ x.told_same; goes_on = h.goes_on; matched = h.matched }
 begin_alike (forwards kind) g entries b c (Pattern p) s x h =
-    let f = h.2 in (h.0, h.1, record { list = f.list; beside = f.beside ∙ x.told_same; goes_on = f.goes_on; stop = f.stop })
-begin_alike backwards g entries b c No s x h = record { list = h.list; rising = h.rising; stop = h.stop; goes_on = h.goes_on; beside = h.beside ∙ x.told_same }
-begin_alike backwards g entries b c Yes s x h = record { list = h.list; rising = h.rising; stop = h.stop; goes_on = h.goes_on; beside = h.beside ∙ x.told_same }
-begin_alike backwards g entries b c (Pattern p) s x h = record { list = h.list; rising = h.rising; stop = h.stop; goes_on = h.goes_on; beside = h.beside ∙ x.told_same }
+    let f = h.2 in (h.0, h.1, record { list = f.list; beside = f.beside ∙ x.told_same; goes_on = f.goes_on; matched = f.matched })
+begin_alike backwards g entries b c No s x h = record { list = h.list; rising = h.rising; matched = h.matched; goes_on = h.goes_on; beside = h.beside ∙ x.told_same }
+begin_alike backwards g entries b c Yes s x h = record { list = h.list; rising = h.rising; matched = h.matched; goes_on = h.goes_on; beside = h.beside ∙ x.told_same }
+begin_alike backwards g entries b c (Pattern p) s x h = record { list = h.list; rising = h.rising; matched = h.matched; goes_on = h.goes_on; beside = h.beside ∙ x.told_same }
 
 of_one_class : (m : Machine) (b c : ℕ) → AreAlike m.setting.places m.setting.needs m.setting.terminator b c → AreOfOneClass m b c
 of_one_class m b c x = record {

@@ -53,11 +53,11 @@ module _ (only : Option ℕ) (g : Setting) (entries : List ℕ) (ok : IsSetting 
 
     -- with what is met here, the least so far
     lower : (i : ℕ) (s next : State) (least : Option (ℕ × ℕ)) → lo ≤ i → IsDown i s least → MayRead m (behind_at t i) →
-        IsPrior g entries s (behind_at t i) next → IsLeastSoFar n t hi end entries i (least_at i next.stop least)
+        IsPrior g entries s (behind_at t i) next → IsLeastSoFar n t hi end entries i (least_at i next.matched least)
     lower i s next least low v may step =
         let below = v.below in
         let here : IsInside t i hi = record { low = let l = inside.low in omega (arith, l, low); high = inside.high; bounded = inside.bounded } in
-        backward_law.lowers n t hi end i entries next.stop least v.below
+        backward_law.lowers n t hi end i entries next.matched least v.below
         (backward_law.tells n t hi end i entries s next fine same within (omega (arith, below, within)) here v.coming may
         (narrow_prior only g entries s next (behind_at t i) step))
         v.so_far
@@ -118,7 +118,7 @@ module _ (only : Option ℕ) (g : Setting) (entries : List ℕ) (ok : IsSetting 
 
     pub meets : (earliest : Bool) (e : RunEnd) (k : ℕ × ℕ) → EndsDown m t lo end first earliest e → e ≡ met_last (Some k) → IsMetDown (Some k)
     meets earliest e k (at_bound {least} s next runs may step) is =
-        subst IsMetDown (same_met is) (by_least (least_at lo next.stop least) (ends false (met_last (least_at lo next.stop least)) (least_at lo next.stop least) (at_bound s next runs may step) refl (inl refl)))
+        subst IsMetDown (same_met is) (by_least (least_at lo next.matched least) (ends false (met_last (least_at lo next.matched least)) (least_at lo next.matched least) (at_bound s next runs may step) refl (inl refl)))
     meets earliest e k (dead {least} i s runs d) is =
         subst IsMetDown (same_met is) (by_least least (ends false (met_last least) least (dead i s runs d) refl (inl refl)))
     meets earliest e k (early {least} i s t2 runs) is =
@@ -132,12 +132,12 @@ module _ (only : Option ℕ) (g : Setting) (entries : List ℕ) (ok : IsSetting 
 -- a search begins at the match places, of the one pattern that is asked for or of all
 comes_at : (g : Setting) (entries : List ℕ) (anchored : Anchored) (beside : Option ℕ) (s : State) → begins_by backwards g entries anchored beside s →
     IsLast (narrowed (only_pattern anchored) g) beside s
-comes_at g entries No beside s h = narrow_last None g beside s h.list h.rising h.stop h.goes_on h.beside
-comes_at g entries Yes beside s h = narrow_last None g beside s h.list h.rising h.stop h.goes_on h.beside
+comes_at g entries No beside s h = narrow_last None g beside s h.list h.rising h.matched h.goes_on h.beside
+comes_at g entries Yes beside s h = narrow_last None g beside s h.list h.rising h.matched h.goes_on h.beside
 comes_at g entries (Pattern p) beside s h =
     narrow_last (Some p) g beside s
     (λ q. let l = h.list q in let a = accepts p (place_at g.places q) in ((λ x. a.1 (l.0 x)), (λ x. l.1 (a.0 x))))
-    h.rising h.stop h.goes_on h.beside
+    h.rising h.matched h.goes_on h.beside
 
 module _ (g : Setting) (entries : List ℕ) (ok : IsSetting g) (t : Text) (same : g.terminator ≡ t.terminator) (hi lo end : ℕ)
     (inside : IsInside t lo hi) (within : end ≤ hi) (anchored : Anchored) where

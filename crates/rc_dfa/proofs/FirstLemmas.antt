@@ -18,7 +18,7 @@ any_root : (g : Setting) (root : ℕ) (s next : State) (after : Option ℕ) → 
     IsNext g root s after next × ((root ≡ 0) ⊎ (next.goes_on ≡ false))
 any_root g root s next after (inl e) n = (subst (λ r. IsNext g r s after next) (sym e) n, inl e)
 any_root g root s next after (inr f) n =
-    let d : next.goes_on ≡ false = n.goes_on ∙ ap (λ b. b && is_none next.stop) f in (
+    let d : next.goes_on ≡ false = n.goes_on ∙ ap (λ b. b && is_none next.matched) f in (
       record {
         next = n.next;
         is_step = n.is_step;

@@ -33,12 +33,12 @@ any_root g root s next after (inr f) n =
         (λ h. ⊎_elim (λ x. absurd (true≢false (sym x.0 ∙ d))) (λ x. l.1 (inr x)) h),
       );
       rising = n.rising;
-      stop = n.stop;
+      matched = n.matched;
       goes_on = n.goes_on;
       beside = n.beside;
     }
 
-same_position : (i : ℕ) (stop : Option ℕ) (met : Option Pair) → position_of (best_at i stop met) ≡ last_at i stop (position_of met)
+same_position : (i : ℕ) (matched : Option ℕ) (met : Option Pair) → position_of (best_at i matched met) ≡ last_at i matched (position_of met)
 same_position i None met = refl
 same_position i (Some q) met = refl
 
@@ -110,10 +110,10 @@ module _ (g : Setting) (entries : List ℕ) (ok : IsSetting g) (t : Text) (same 
 
   -- with what is met here, the last so far
   later : (i : ℕ) (s next : State) (met : Option Pair) → IsUp i s met → i ≤ hi → IsReadable g.needs (byte_of (after_at t i)) →
-      IsNextOfAll g 0 s (byte_of (after_at t i)) next → IsLastSoFar g t hi origin (i + 1) (position_of (best_at i next.stop met))
+      IsNextOfAll g 0 s (byte_of (after_at t i)) next → IsLastSoFar g t hi origin (i + 1) (position_of (best_at i next.matched met))
   later i s next met v le may step =
-      subst (λ o. IsLastSoFar g t hi origin (i + 1) o) (sym (same_position i next.stop met))
-      (greatest_span_law.later g t hi origin i next.stop (position_of met)
+      subst (λ o. IsLastSoFar g t hi origin (i + 1) o) (sym (same_position i next.matched met))
+      (greatest_span_law.later g t hi origin i next.matched (position_of met)
       (gather_law.tells g t hi root origin i s next ok same le (within i v.low) v.gathers may
       (any_root g root s next (byte_of (after_at t i)) (rooted_so s v.on) step)) v.last)
 
@@ -179,7 +179,7 @@ module _ (g : Setting) (entries : List ℕ) (ok : IsSetting g) (t : Text) (same 
 
   -- what is met at a position is met by a walk that ends there
   pub meets : (i q : ℕ) (s next : State) (met : Option Pair) → i ≤ hi → Runs m t hi from first i s met → IsReadable g.needs (byte_of (after_at t i)) →
-      IsNextOfAll g 0 s (byte_of (after_at t i)) next → next.stop ≡ Some q → Comes W origin (q, i) × Stops g.places (q, i)
+      IsNextOfAll g 0 s (byte_of (after_at t i)) next → next.matched ≡ Some q → Comes W origin (q, i) × Stops g.places (q, i)
   meets i q s next met le runs may step is =
       let v = runs_up runs in
       let l = subst (λ o. IsLeastMatch g.places (λ k. Comes W origin (k, i)) o) is

@@ -24,7 +24,7 @@ record AreAlikeIn (s t : State) : Type 0 where
   line_feed : s.beside.line_feed ≡ t.beside.line_feed
   carriage_return : s.beside.carriage_return ≡ t.beside.carriage_return
   goes_on : s.goes_on ≡ t.goes_on
-  stop : is_some s.stop ≡ is_some t.stop
+  matched : is_some s.matched ≡ is_some t.matched
 
 same_facts : (s t : State) → facts_of s ≡ facts_of t → AreAlikeIn s t
 unfolding facts_of
@@ -35,7 +35,7 @@ same_facts s t e =
     let line_feed = bits_apart s.beside.line_feed t.beside.line_feed _ _ word.1 in
     let carriage_return = bits_apart s.beside.carriage_return t.beside.carriage_return _ _ line_feed.1 in
     let goes_on = bits_apart s.goes_on t.goes_on _ _ carriage_return.1 in
-    let stop = bits_apart (is_some s.stop) (is_some t.stop) 0 0 goes_on.1 in
+    let matched = bits_apart (is_some s.matched) (is_some t.matched) 0 0 goes_on.1 in
     record {
       edge = edge.0;
       terminator = terminator.0;
@@ -43,17 +43,17 @@ same_facts s t e =
       line_feed = line_feed.0;
       carriage_return = carriage_return.0;
       goes_on = goes_on.0;
-      stop = stop.0;
+      matched = matched.0;
     }
 
 make : List ℕ → Seen → Bool → Option ℕ → State
-make list beside goes_on stop = record { list = list; beside = beside; goes_on = goes_on; stop = stop }
+make list beside goes_on matched = record { list = list; beside = beside; goes_on = goes_on; matched = matched }
 
 look : Bool → Bool → Bool → Bool → Bool → Seen
 look edge terminator line_feed carriage_return word =
     record { edge = edge; terminator = terminator; line_feed = line_feed; carriage_return = carriage_return; word = word }
 
-made : (s : State) → s ≡ make s.list (look s.beside.edge s.beside.terminator s.beside.line_feed s.beside.carriage_return s.beside.word) s.goes_on s.stop
+made : (s : State) → s ≡ make s.list (look s.beside.edge s.beside.terminator s.beside.line_feed s.beside.carriage_return s.beside.word) s.goes_on s.matched
 unfolding make look
 made s = refl
 
@@ -61,7 +61,7 @@ pub keys_apart : (s t : State) → key_of s ≡ key_of t → s ≡ t
 keys_apart s t e =
     let facts : facts_of s ≡ facts_of t = cc in
     let list : s.list ≡ t.list = cc in
-    let number : unwrap_or s.stop 0 ≡ unwrap_or t.stop 0 = cc in
+    let number : unwrap_or s.matched 0 ≡ unwrap_or t.matched 0 = cc in
     let a = same_facts s t facts in
-    let stop = same_option s.stop t.stop a.stop number in
+    let matched = same_option s.matched t.matched a.matched number in
     cc (made s, made t, a.edge, a.terminator, a.line_feed, a.carriage_return, a.word, a.goes_on)

@@ -42,17 +42,17 @@ module _ (m : Machine) (t : Text) (hi from : ℕ) (first : State) where
     pub run : Runs m t hi from first n.1 state before
     pub may : MayRead m (ahead_at t n.1)
     pub step : Leads m state (ahead_at t n.1) next
-    pub stop : next.stop ≡ Some n.0
+    pub matched : next.matched ≡ Some n.0
 
   -- at this step, or before
   at_step : (i : ℕ) (s next : State) (met : Option Pair) (n : Pair) → i ≤ hi → Runs m t hi from first i s met → MayRead m (ahead_at t i) →
-      Leads m s (ahead_at t i) next → best_at i next.stop met ≡ Some n → ((met ≡ Some n) → IsMetAt n) → IsMetAt n
-  at_step i s next met n le r may step is before = by_stop next.stop refl is
+      Leads m s (ahead_at t i) next → best_at i next.matched met ≡ Some n → ((met ≡ Some n) → IsMetAt n) → IsMetAt n
+  at_step i s next met n le r may step is before = by_stop next.matched refl is
     where
-      by_stop : (o : Option ℕ) → next.stop ≡ o → best_at i o met ≡ Some n → IsMetAt n
+      by_stop : (o : Option ℕ) → next.matched ≡ o → best_at i o met ≡ Some n → IsMetAt n
       by_stop None e b = before b
       by_stop (Some q) e b = subst (λ k. IsMetAt k) (same_Some (q, i) n b)
-          (record { within = le; state = s; next = next; before = met; run = r; may = may; step = step; stop = e })
+          (record { within = le; state = s; next = next; before = met; run = r; may = may; step = step; matched = e })
 
   run_met : {i : ℕ} {s : State} {met : Option Pair} → Runs m t hi from first i s met → (n : Pair) → met ≡ Some n → IsMetAt n
   run_met runs.begun n e = absurd (none-some n e)
@@ -98,7 +98,7 @@ comes_more places t bound hi by_bytes le fewer more those (sets.goes n m c h) =
 
 module _ (W : Pair → List Pair) (Ends : Pair → Type 0) (origin : List Pair) where
   walk_comes : {p f w : List Pair} (n : Pair) → IsWalk W Ends p f w → EndsAt w n → ((k : Pair) → IsIn k f → Comes W origin k) → Comes W origin n × Ends n
-  walk_comes n (stops k here fresh stop) at from = (subst (λ x. Comes W origin x) at (from k here), subst Ends at stop)
+  walk_comes n (stops k here fresh matched) at from = (subst (λ x. Comes W origin x) at (from k here), subst Ends at matched)
   walk_comes n (goes k here fresh rest) at from =
       walk_comes n rest (EndsAt-tail W Ends k n rest at) (λ x i. sets.goes x k (from k here) i)
 
@@ -122,8 +122,8 @@ module _ (W : Pair → List Pair) (Ends : Pair → Type 0) (origin : List Pair) 
 -- where there is no walk, none ends
 pub gives_none : (places : List Place) (t : Text) (hi : ℕ) → IsByBytes places → (origin : List Pair) → Gives (ways places t hi) (Stops places) [] origin None →
     (n : Pair) → Comes (ways places t hi) origin n → ¬ Stops places n
-gives_none places t hi by_bytes origin none n c stop =
-    let r = comes_back (ways places t hi) (Stops places) origin (IsGoal (Stops places) n.1) c (arrived n (stop, refl)) in
+gives_none places t hi by_bytes origin none n c matched =
+    let r = comes_back (ways places t hi) (Stops places) origin (IsGoal (Stops places) n.1) c (arrived n (matched, refl)) in
     reach_walks (ways places t hi) (Stops places) same_pair (last places t hi None) (near places t hi by_bytes) n.1 r.0 r.2
     (λ w walk. none w (from_other (ways places t hi) (Stops places) r.0 origin r.1 walk))
 

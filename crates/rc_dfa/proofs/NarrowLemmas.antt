@@ -115,7 +115,7 @@ module _ (only : Option ℕ) (g : Setting) where
         list = λ q. subst (λ (X : (ℕ → Type 0) × (ℕ → ℕ → Type 0)). HasPlace q s2.list ↔ ((b : ℕ) × (before ≡ Some b) × (p : ℕ) × X.1 b p × X.0 p))
             (λ i. (here i, λ b p. reads_is b q p i)) (n.list q);
         rising = n.rising;
-        stop = subst (λ (X : ℕ → Type 0). IsFirstRoot X roots s2.stop) here n.stop;
+        matched = subst (λ (X : ℕ → Type 0). IsFirstRoot X roots s2.matched) here n.matched;
         goes_on = n.goes_on;
         beside = n.beside;
       }
@@ -129,11 +129,11 @@ module _ (only : Option ℕ) (g : Setting) where
 
   -- at the end of a match of the pattern
   pub narrow_last : (after : Option ℕ) (s : State) → ((q : ℕ) → HasPlace q s.list ↔ IsTrue (is_match_place only (place_at g.places q))) → IsRising s.list →
-      s.stop ≡ None → s.goes_on ≡ false → s.beside ≡ told g.needs g.terminator after → IsLast narrowed after s
-  narrow_last after s same rising stop goes_on beside = record {
+      s.matched ≡ None → s.goes_on ≡ false → s.beside ≡ told g.needs g.terminator after → IsLast narrowed after s
+  narrow_last after s same rising matched goes_on beside = record {
     list = λ q. let l = same q in ((λ h. match_is q ∙ l.0 h), (λ h. l.1 (sym (match_is q) ∙ h)));
     rising = rising;
-    stop = stop;
+    matched = matched;
     goes_on = goes_on;
     beside = beside;
   }

@@ -78,7 +78,7 @@ one_more states numbers new key s next n absent k at updates = record {
 
 -- a copy of a state, added to the list
 pub added : (old new : List code.State) (copy s : code.State) → new ≡ old ++ copy ∷ [] → copy.list.items ≡ s.list.items → copy.beside ≡ s.beside →
-    copy.goes_on ≡ s.goes_on → copy.stop ≡ s.stop → map state_of new ≡ map state_of old ++ state_of s ∷ []
-added old new copy s e list beside goes_on stop =
-    let same : state_of copy ≡ state_of s = simp (list, beside, goes_on, stop) in
+    copy.goes_on ≡ s.goes_on → copy.matched ≡ s.matched → map state_of new ≡ map state_of old ++ state_of s ∷ []
+added old new copy s e list beside goes_on matched =
+    let same : state_of copy ≡ state_of s = simp (list, beside, goes_on, matched) in
     ap (map state_of) e ∙ map-append state_of old (copy ∷ []) ∙ ap (λ t. map state_of old ++ t ∷ []) same

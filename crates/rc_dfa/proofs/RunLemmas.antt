@@ -21,7 +21,7 @@ use Rattle.rc_dfa.proofs.FirstLemmas as first
 use Rattle.rc_dfa.proofs.GatherLemmas as gather
 use Rattle.rc_dfa.proofs.LongestRunLemmas as longest
 use Rattle.rc_dfa.proofs.DownLemmas as down
-use Rattle.rc_dfa.proofs.StopLemmas as stop
+use Rattle.rc_dfa.proofs.StopLemmas as matched
 use Rattle.rc_dfa.proofs.MetLemmas.{IsMetAt, end_met, runs_below, runs_low, comes_more, gives_met, reaches_met, gives_none, comes_within}
 
 -- FORWARDS
@@ -71,9 +71,9 @@ module _ (g : Setting) (entries : List ℕ) (ok : IsSetting g) (t : Text) (same 
       let near : IsInside t from n.1 = record { low = inside.low; high = omega (arith, le, high); bounded = inside.bounded } in
       let origin = all_starts b.once b.root from n.1 in
       let f = first.ends g entries ok t same n.1 from b.root near origin s (begins_at n.1 s may b) (rooted_so leftmost_first s b) false
-      (met_last (best_at n.1 w.next.stop w.before)) (Some n)
+      (met_last (best_at n.1 w.next.matched w.before)) (Some n)
       (at_bound w.state w.next (runs_below (machine leftmost_first) t hi from s w.run n.1 (omega arith)) w.may w.step)
-      (ap (λ o. met_last (best_at n.1 o w.before)) w.stop) (inl refl) in
+      (ap (λ o. met_last (best_at n.1 o w.before)) w.matched) (inl refl) in
       let c = gives_met (ways g.places t n.1) (Stops g.places) origin n f in (
         subst (λ o. Comes (ways g.places t hi) o n) (sym b.starts)
             (comes_more g.places t n.1 hi ok.by_bytes le origin (all_starts b.once b.root from hi) (fewer_starts b.once b.root from n.1 hi low le) c.0),
@@ -108,9 +108,9 @@ module _ (g : Setting) (entries : List ℕ) (ok : IsSetting g) (t : Text) (same 
       let near : IsInside t from n.1 = record { low = inside.low; high = omega (arith, le, high); bounded = inside.bounded } in
       let origin = all_starts b.once b.root from n.1 in
       let f = longest.ends g entries ok k.closed t same n.1 from b.root placed near origin s (racing_at n.1 s may b placed) (rooted_so leftmost_longest s b) false
-      (met_last (best_at n.1 w.next.stop w.before)) (Some n)
+      (met_last (best_at n.1 w.next.matched w.before)) (Some n)
       (at_bound w.state w.next (runs_below Longest t hi from s w.run n.1 (omega arith)) w.may w.step)
-      (ap (λ o. met_last (best_at n.1 o w.before)) w.stop) (inl refl) in
+      (ap (λ o. met_last (best_at n.1 o w.before)) w.matched) (inl refl) in
       let c = reaches_met (ways g.places t n.1) (Stops g.places) origin n origin (λ j i. i) f in (
         subst (λ o. Comes (ways g.places t hi) o n) (sym b.starts)
             (comes_more g.places t n.1 hi ok.by_bytes le origin (all_starts b.once b.root from hi) (fewer_starts b.once b.root from n.1 hi low le) c.0),
@@ -125,7 +125,7 @@ module _ (g : Setting) (entries : List ℕ) (ok : IsSetting g) (t : Text) (same 
       let b = some_root all_matches g entries anchored (behind_at t from) from hi s begins in
       let w = end_met (machine all_matches) t hi from s earliest e n ends is in
       subst (λ o. Comes (ways g.places t hi) o n × Stops g.places n) (sym b.starts)
-      (gather.meets g entries ok t same hi from b.root b.once inside s b.is_first may b.rooted n.1 n.0 w.state w.next w.before w.within w.run w.may w.step w.stop)
+      (gather.meets g entries ok t same hi from b.root b.once inside s b.is_first may b.rooted n.1 n.0 w.state w.next w.before w.within w.run w.may w.step w.matched)
   met_run leftmost_longest earliest e n k (ran s may begins ends) is =
       let p = longest.placed_root g entries anchored (behind_at t from) from hi s k begins in
       longest_met s n k may p.0 p.1 (end_met Longest t hi from s earliest e n ends is)
@@ -133,17 +133,17 @@ module _ (g : Setting) (entries : List ℕ) (ok : IsSetting g) (t : Text) (same 
 
   none_run : (kind : MatchKind) (earliest : Bool) (e : RunEnd) → IsMachine (machine kind) → SearchEnds (machine kind) t hi from anchored earliest e → e ≡ met_last None → (n : Pair) →
       Comes (ways g.places t hi) (starts_of (machine kind) anchored from hi) n → ¬ Stops g.places n
-  none_run leftmost_first earliest e k s is n c stop =
-      gives_none g.places t hi ok.by_bytes (starts_of (machine leftmost_first) anchored from hi) (first_run earliest e None s is (inr refl)) n c stop
-  none_run leftmost_longest earliest e k s is n c stop =
-      gives_none g.places t hi ok.by_bytes (starts_of Longest anchored from hi) (longest_run earliest e None k s is (inr refl)) n c stop
-  none_run all_matches earliest e k (ran s may begins ends) is n c stop =
+  none_run leftmost_first earliest e k s is n c matched =
+      gives_none g.places t hi ok.by_bytes (starts_of (machine leftmost_first) anchored from hi) (first_run earliest e None s is (inr refl)) n c matched
+  none_run leftmost_longest earliest e k s is n c matched =
+      gives_none g.places t hi ok.by_bytes (starts_of Longest anchored from hi) (longest_run earliest e None k s is (inr refl)) n c matched
+  none_run all_matches earliest e k (ran s may begins ends) is n c matched =
       let b = some_root all_matches g entries anchored (behind_at t from) from hi s begins in
       let le = gather.bounded g entries ok t same hi from b.root b.once inside s b.is_first may b.rooted earliest e ends is in
       let in_bound = comes_within g.places t hi (starts_of (machine all_matches) anchored from hi)
       (λ j i. starts_within b.once b.root from hi le j (subst (λ o. IsIn j o) b.starts i)) c in
-      last_run earliest e None (ran s may begins ends) is (inr refl) n.1 (omega (arith, in_bound)) (n.0, c, stop)
-  none_run all_matches earliest e k (unread p q may) is n c stop = stop_no_met is
+      last_run earliest e None (ran s may begins ends) is (inr refl) n.1 (omega (arith, in_bound)) (n.0, c, matched)
+  none_run all_matches earliest e k (unread p q may) is n c matched = stop_no_met is
 
 -- in this direction
 turned : (m : Machine) (d : Direction) → m.direction ≡ d → (P : Machine → Type 0) → P m → P (record m { direction = d })
@@ -176,7 +176,7 @@ run_law = record {
   none_down = λ m t hi lo end anchored earliest k d same inside within s.
       down.least_run m.setting m.entries k.setting t same hi lo end inside within anchored earliest (met_last None) None
       (turned m backwards d (λ x. SearchEndsDown x t lo end anchored earliest (met_last None)) s) refl (inr refl);
-  stops = λ m t hi from anchored earliest p inside le s. stop.stops m t hi from anchored earliest (stopped_at p) p inside le s refl;
+  stops = λ m t hi from anchored earliest p inside le s. matched.stops m t hi from anchored earliest (stopped_at p) p inside le s refl;
   stops_down = λ m t hi lo end anchored earliest p inside below within s.
-      stop.stops_down m t hi lo end anchored earliest (stopped_at p) p inside below within s refl;
+      matched.stops_down m t hi lo end anchored earliest (stopped_at p) p inside below within s refl;
 }

@@ -5,7 +5,7 @@ use Rattle.std.proofs.lemmas.Option.{none-some}
 use Rattle.rc_text.specs.declared.types.Anchored.{Anchored}
 use Rattle.rc_program.specs.Looks.{side_before, side_after}
 use Rattle.rc_program.specs.Text.{Text, before_at, after_at}
-use Rattle.rc_determinize.specs.declared.sides.Needs.{Needs}
+use Rattle.rc_determinize.specs.declared.sides.Asked.{Asked}
 use Rattle.rc_determinize.specs.Sides.{byte_of, IsReadable}
 use Rattle.rc_determinize.specs.States.{State, IsInside}
 use Rattle.rc_determinize.proofs.TextLemmas.{get_some, byte_ahead, byte_behind}
@@ -56,7 +56,7 @@ behind_inside t p b bounded e =
     (cases_lt p t.slice_start)
 
 -- what can't be read is a byte, which is none of ASCII
-not_read : (needs : Needs) (o : Option ℕ) → ¬ IsReadable needs o → (b : ℕ) × (o ≡ Some b) × (128 ≤ b) × IsTrue needs.unicode
+not_read : (needs : Asked) (o : Option ℕ) → ¬ IsReadable needs o → (b : ℕ) × (o ≡ Some b) × (128 ≤ b) × IsTrue needs.unicode
 not_read needs None h = absurd (h tt)
 not_read needs (Some b) h =
     ⊎_elim
@@ -65,7 +65,7 @@ not_read needs (Some b) h =
     (cases_lt b 128)
 
 -- what can be read is
-is_read : (needs : Needs) (o : Option ℕ) (b : ℕ) → IsTrue needs.unicode → IsReadable needs o → o ≡ Some b → b < 128
+is_read : (needs : Asked) (o : Option ℕ) (b : ℕ) → IsTrue needs.unicode → IsReadable needs o → o ≡ Some b → b < 128
 is_read needs o b u h e = subst (λ x. IsReadable needs x) e h u
 
 -- FORWARDS

@@ -2,9 +2,9 @@
 use Rattle.std.specs.Prelude.{◌≡◌, ℕ, Bool, List}
 use Rattle.rc_text.specs.declared.types.MatchKind.{MatchKind}
 use Rattle.rc_program.specs.Program.{Place}
-use Rattle.rc_determinize.specs.declared.sides.Needs.{Needs}
+use Rattle.rc_determinize.specs.declared.sides.Asked.{Asked}
 use Rattle.rc_determinize.specs.Places.{setting_of}
-use Rattle.rc_determinize.specs.Sides.{AreNeeds}
+use Rattle.rc_determinize.specs.Sides.{AreAsked}
 use Rattle.rc_dfa.specs.declared.automaton.Direction as code
 use Rattle.rc_dfa.specs.declared.automaton.Direction.TheVariants as code_variants
 use Rattle.rc_dfa.specs.declared.automaton.Automaton.{Automaton}
@@ -29,8 +29,8 @@ samples_of a = a.samples.items
 -- It is made of these places.
 pub record IsMadeOf (places : List Place) (entries : List ℕ) (terminator : ℕ) (kind : MatchKind) (byte_classes : Bool) (a : Automaton) : Type 0 where
   -- The facts for which the program's assertions ask.
-  pub needs : Needs
-  pub are_needs : AreNeeds needs places
+  pub needs : Asked
+  pub are_needs : AreAsked needs places
   pub machine : (d : code.Direction) → machine_of a d
       ≡ record { setting = record { places = places; needs = needs; terminator = terminator }; entries = entries; direction = direction_of kind d }
   pub classes : AreClassesBy byte_classes places needs terminator (classes_of a)

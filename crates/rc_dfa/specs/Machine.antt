@@ -24,7 +24,7 @@ pub record Machine : Type 0 where
   pub entries : List ℕ
   pub direction : Direction
 
--- The state to which a byte leads, or the end of what the search sees. Backwards, a state's `stop`
+-- The state to which a byte leads, or the end of what the search sees. Backwards, a state's `matched`
 -- is the pattern whose entry was reached.
 abbrev pub leads_by : Direction → Setting → List ℕ → State → Option ℕ → State → Type 0
 leads_by (forwards kind) g entries = IsNextBy kind g 0
@@ -53,7 +53,7 @@ IsListIn backwards places list = AreOnce list × AreBelow places list
 pub record IsLastOf (p : ℕ) (g : Setting) (after : Option ℕ) (s : State) : Type 0 where
   pub list : (q : ℕ) → HasPlace q s.list ↔ (place_at g.places q ≡ accept p)
   pub rising : IsRising s.list
-  pub stop : s.stop ≡ None
+  pub matched : s.matched ≡ None
   pub goes_on : s.goes_on ≡ false
   pub beside : s.beside ≡ told g.needs g.terminator after
 

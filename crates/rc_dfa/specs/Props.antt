@@ -6,7 +6,7 @@ use Rattle.rc_pattern.specs.declared.hir.Look.{Look}
 use Rattle.rc_pattern.specs.declared.hir.Look.TheVariants.{Start, End, StartLF, EndLF, StartCRLF, EndCRLF, WordAscii, WordAsciiNegate, WordUnicode, WordUnicodeNegate, WordStartAscii, WordEndAscii, WordStartUnicode, WordEndUnicode, WordStartHalfAscii, WordEndHalfAscii, WordStartHalfUnicode, WordEndHalfUnicode}
 use Rattle.rc_program.specs.Program.{Place}
 use Rattle.rc_determinize.specs.declared.sides.Seen.{Seen}
-use Rattle.rc_determinize.specs.declared.sides.Needs.{Needs}
+use Rattle.rc_determinize.specs.declared.sides.Asked.{Asked}
 use Rattle.rc_determinize.specs.Sides.{asks, Covers}
 use Rattle.rc_determinize.specs.Classes.{TellsAlike}
 
@@ -30,8 +30,8 @@ asks-prop WordEndHalfAscii s = hlevel props
 asks-prop WordStartHalfUnicode s = hlevel props
 asks-prop WordEndHalfUnicode s = hlevel props
 
-pub Covers-prop : (needs : Needs) (places : List Place) → IsProp (Covers needs places)
+pub Covers-prop : (needs : Asked) (places : List Place) → IsProp (Covers needs places)
 Covers-prop needs places = hlevel (props, asks-prop)
 
-pub TellsAlike-prop : (places : List Place) (needs : Needs) (terminator : ℕ) (classes : List ℕ) → IsProp (TellsAlike places needs terminator classes)
+pub TellsAlike-prop : (places : List Place) (needs : Asked) (terminator : ℕ) (classes : List ℕ) → IsProp (TellsAlike places needs terminator classes)
 TellsAlike-prop places needs terminator classes = hlevel props

@@ -27,7 +27,7 @@ MayRead m = IsReadable m.setting.needs
 pub data Runs (m : Machine) (t : Text) (hi from : ℕ) (first : State) : ℕ → State → Option (ℕ × ℕ) → Type 0 where
   begun : Runs m t hi from first from first None
   goes_on : {met : Option (ℕ × ℕ)} (i : ℕ) (s next : State) → Runs m t hi from first i s met → i < hi → MayRead m (ahead_at t i) →
-      Leads m s (ahead_at t i) next → Runs m t hi from first (i + 1) next (best_at i next.stop met)
+      Leads m s (ahead_at t i) next → Runs m t hi from first (i + 1) next (best_at i next.matched met)
 
 -- How a search forwards ended. It may be with the last find, if there is one, and its position. It
 -- may be at the offset of a byte that may not be read. Or it is at a position before which nothing
@@ -40,7 +40,7 @@ pub data RunEnd : Type 0 where
 pub data EndsSo (m : Machine) (t : Text) (hi from : ℕ) (first : State) (earliest : Bool) : RunEnd → Type 0 where
   -- At the upper bound, where the byte beyond decides what is found.
   at_bound : {met : Option (ℕ × ℕ)} (s next : State) → Runs m t hi from first hi s met → MayRead m (ahead_at t hi) → Leads m s (ahead_at t hi) next →
-      EndsSo m t hi from first earliest (met_last (best_at hi next.stop met))
+      EndsSo m t hi from first earliest (met_last (best_at hi next.matched met))
   -- Where nothing goes on.
   dead : {met : Option (ℕ × ℕ)} (i : ℕ) (s : State) → Runs m t hi from first i s met → is_dead s ≡ true →
       EndsSo m t hi from first earliest (met_last met)
@@ -65,13 +65,13 @@ pub data RunsDown (m : Machine) (t : Text) (lo end : ℕ) (first : State) : ℕ 
   begun : RunsDown m t lo end first end first None
   goes_down : {least : Option (ℕ × ℕ)} (i : ℕ) (s next : State) → RunsDown m t lo end first (i + 1) s least → lo ≤ i →
       MayRead m (behind_at t (i + 1)) → Leads m s (behind_at t (i + 1)) next →
-      RunsDown m t lo end first i next (least_at (i + 1) next.stop least)
+      RunsDown m t lo end first i next (least_at (i + 1) next.matched least)
 
 -- How a search backwards ended: in one of the same ways, and the position is the least one.
 pub data EndsDown (m : Machine) (t : Text) (lo end : ℕ) (first : State) (earliest : Bool) : RunEnd → Type 0 where
   -- At the lower bound, where the byte before decides what is found.
   at_bound : {least : Option (ℕ × ℕ)} (s next : State) → RunsDown m t lo end first lo s least → MayRead m (behind_at t lo) →
-      Leads m s (behind_at t lo) next → EndsDown m t lo end first earliest (met_last (least_at lo next.stop least))
+      Leads m s (behind_at t lo) next → EndsDown m t lo end first earliest (met_last (least_at lo next.matched least))
   dead : {least : Option (ℕ × ℕ)} (i : ℕ) (s : State) → RunsDown m t lo end first i s least → is_dead s ≡ true →
       EndsDown m t lo end first earliest (met_last least)
   early : {least : ℕ × ℕ} (i : ℕ) (s : State) → earliest ≡ true → RunsDown m t lo end first i s (Some least) →

@@ -1,11 +1,11 @@
 -- Byte classes: one byte of each class.
 use Rattle.std.specs.Prelude.{◌≡◌, ◌⊎◌, ℕ, ◌+◌, ◌<◌, Bool, true, false, List, length, slice_index}
 use Rattle.rc_program.specs.Program.{Place}
-use Rattle.rc_determinize.specs.declared.sides.Needs.{Needs}
+use Rattle.rc_determinize.specs.declared.sides.Asked.{Asked}
 use Rattle.rc_determinize.specs.Classes.{AreClasses, AreSingle}
 
 -- The classes by what the program tells apart, or each byte as a class of its own.
-abbrev pub AreClassesBy : Bool → List Place → Needs → ℕ → List ℕ → Type 0
+abbrev pub AreClassesBy : Bool → List Place → Asked → ℕ → List ℕ → Type 0
 AreClassesBy true places needs terminator classes = AreClasses places needs terminator classes
 AreClassesBy false places needs terminator classes = AreSingle classes
 

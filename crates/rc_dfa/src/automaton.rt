@@ -15,7 +15,7 @@ use rc_determinize::backward::{Reversed, last, prior};
 use rc_determinize::classes::{classes, single_classes};
 use rc_determinize::forward::{first, next_by};
 use rc_determinize::scratch::Scratch;
-use rc_determinize::sides::{Needs, needs_of};
+use rc_determinize::sides::{Asked, needs_of};
 use rc_determinize::state::State;
 use rc_text::types::{Anchored, MatchKind};
 use rc_utf8::place::BytePlace;
@@ -37,7 +37,7 @@ pub struct Automaton {
     places: Vec<BytePlace>,
     reversed: Reversed,
     entries: Vec<usize>,
-    needs: Needs,
+    needs: Asked,
     terminator: u8,
     kind: MatchKind,
     classes: Vec<u8>,
@@ -57,7 +57,7 @@ pub struct Automaton {
 fn classes_by(
     alloc: Global,
     places: &[BytePlace],
-    needs: Needs,
+    needs: Asked,
     terminator: u8,
     byte_classes: bool,
 ) -> Result<Vec<u8>, AllocError>

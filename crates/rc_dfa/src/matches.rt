@@ -6,7 +6,7 @@ ghost use Rattle.rc_utf8.specs.Places.{place_of, places_of};
 ghost use Rattle.rc_determinize.specs.Places.{setting_of, state_of};
 ghost use Rattle.rc_dfa.specs.Machine.{IsLastOf};
 
-use rc_determinize::sides::{Needs, told};
+use rc_determinize::sides::{Asked, told};
 use rc_determinize::state::State;
 use rc_utf8::place::BytePlace;
 use std::alloc::AllocError;
@@ -50,7 +50,7 @@ pub fn pattern_of(place: &BytePlace) -> usize
 /// memory; then `to` is some state.
 pub fn last_of(
     places: &[BytePlace],
-    needs: Needs,
+    needs: Asked,
     terminator: u8,
     pattern: usize,
     after: Option<u8>,
@@ -66,6 +66,6 @@ pub fn last_of(
     }
     to.beside = told(needs, terminator, after);
     to.goes_on = false;
-    to.stop = None;
+    to.matched = None;
     Ok(())
 }

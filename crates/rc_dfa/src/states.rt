@@ -22,7 +22,7 @@ fn facts_of(state: &State) -> usize
     ensures { result ≡ facts_of (state_of state.now) }
 {
     let beside = state.beside;
-    let ends = with_bit(state.goes_on, with_bit(state.stop.is_some(), 0));
+    let ends = with_bit(state.goes_on, with_bit(state.matched.is_some(), 0));
     let lines = with_bit(beside.line_feed, with_bit(beside.carriage_return, ends));
     with_bit(
         beside.edge,
@@ -36,7 +36,7 @@ fn write_key(key: &mut Vec<usize>, state: &State) -> Result<(), AllocError>
 {
     key.clear();
     key.push(facts_of(state))?;
-    key.push(state.stop.unwrap_or(0))?;
+    key.push(state.matched.unwrap_or(0))?;
     key.extend_from_slice(&state.list)
 }
 
@@ -123,7 +123,7 @@ impl States {
             list,
             beside: state.beside,
             goes_on: state.goes_on,
-            stop: state.stop,
+            matched: state.matched,
         });
         Ok(())
     }

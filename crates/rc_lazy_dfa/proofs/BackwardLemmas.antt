@@ -14,7 +14,7 @@ use Rattle.rc_lazy_dfa.specs.Errors.{is_memory}
 use Rattle.rc_lazy_dfa.specs.Cells.{unknown, met, quit, row_of, has_died}
 use Rattle.rc_lazy_dfa.specs.Stores.{Held, IsRow, Names, IsKnown, Spends, IsRefused}
 use Rattle.rc_lazy_dfa.specs.Halves.{IsHalf}
-use Rattle.rc_lazy_dfa.specs.Courses.{Course, text_in, down_spent, swapped, MayGiveUp, IsStandingDown, StandsDown, StandsNotedDown, IsAtDown, IsOverDown}
+use Rattle.rc_lazy_dfa.specs.Courses.{Request, text_in, down_spent, swapped, MayGiveUp, IsStandingDown, StandsDown, StandsNotedDown, IsAtDown, IsOverDown}
 use Rattle.rc_lazy_dfa.specs.declared.store.Store.{Store}
 use Rattle.rc_lazy_dfa.specs.declared.half.Half.{Half}
 use Rattle.rc_lazy_dfa.specs.declared.run.Stand.{Stand}
@@ -28,7 +28,7 @@ use Rattle.rc_lazy_dfa.proofs.ForwardLemmas.{cell_here, leads_to, plain, marked}
 
 -- HOW A SEARCH ENDS
 
-pub down_done : (q : Course) (h : Half) (n : ℕ) (e : Ended) → IsHalf q.frame h → Spends q.frame q.begun h.store n → n ≤ down_spent q →
+pub down_done : (q : Request) (h : Half) (n : ℕ) (e : Ended) → IsHalf q.frame h → Spends q.frame q.begun h.store n → n ≤ down_spent q →
     HasEndedDown q.frame.machine (text_in q) q.bound q.from q.anchored q.earliest e → gave_up e ≡ None → IsOverDown q h e
 down_done q h n e half spends le ended done = record {
   half = half;
@@ -37,7 +37,7 @@ down_done q h n e half spends le ended done = record {
   gives_up = λ memory k. absurd (none-some memory (sym done ∙ k));
 }
 
-pub down_refused : (q : Course) (h : Half) (b : Store) (n at : ℕ) (refusal : Refusal) (memory : Bool) → IsHalf q.frame h → Spends q.frame q.begun b n →
+pub down_refused : (q : Request) (h : Half) (b : Store) (n at : ℕ) (refusal : Refusal) (memory : Bool) → IsHalf q.frame h → Spends q.frame q.begun b n →
     Spends q.frame b h.store 1 → IsRefused q.frame b h.store refusal → n + 1 ≤ down_spent q → q.bound ≤ at → at ≤ q.from → memory ≡ is_memory refusal →
     IsOverDown q h (GaveUp at memory)
 down_refused q h b n at refusal memory half before spends refused le low high is = record {
@@ -53,23 +53,23 @@ down_refused q h b n at refusal memory half before spends refused le low high is
 -- RUNS
 
 -- what was met here, on the way down
-least_as_best : (i : ℕ) (stop : Option ℕ) (found : Option (ℕ × ℕ)) → least_at i stop (swapped found) ≡ swapped (best_at i stop found)
+least_as_best : (i : ℕ) (matched : Option ℕ) (found : Option (ℕ × ℕ)) → least_at i matched (swapped found) ≡ swapped (best_at i matched found)
 least_as_best i None found = refl
 least_as_best i (Some k) found = refl
 
 -- from the position at + 1 down to at
-goes : (q : Course) (at : ℕ) (s t : State) (found : Option (ℕ × ℕ)) → IsStandingDown q (at + 1) s found → q.bound ≤ at →
+goes : (q : Request) (at : ℕ) (s t : State) (found : Option (ℕ × ℕ)) → IsStandingDown q (at + 1) s found → q.bound ≤ at →
     MayRead q.frame.machine (behind_at (text_in q) (at + 1)) → Leads q.frame.machine s (behind_at (text_in q) (at + 1)) t →
-    IsStandingDown q at t (best_at (at + 1) t.stop found)
+    IsStandingDown q at t (best_at (at + 1) t.matched found)
 goes q at s t found x le read lead = record {
   first = x.first;
   read = x.read;
   begins = x.begins;
-  runs = subst (λ o. RunsDown q.frame.machine (text_in q) q.bound q.from x.first at t o) (least_as_best (at + 1) t.stop found)
+  runs = subst (λ o. RunsDown q.frame.machine (text_in q) q.bound q.from x.first at t o) (least_as_best (at + 1) t.matched found)
       (RunsDown.goes_down at s t x.runs le read lead);
 }
 
-module _ (q : Course) (i : ℕ) (s : State) (found : Option (ℕ × ℕ)) (x : IsStandingDown q i s found) where
+module _ (q : Request) (i : ℕ) (s : State) (found : Option (ℕ × ℕ)) (x : IsStandingDown q i s found) where
   abbrev Ends : RunEnd → Type 0
   Ends = SearchEndsDown q.frame.machine (text_in q) q.bound q.from q.anchored q.earliest
 
@@ -90,17 +90,17 @@ module _ (q : Course) (i : ℕ) (s : State) (found : Option (ℕ × ℕ)) (x : I
       early None never r = cc never
       early (Some m) yes_it_is r = SearchEndsDown.ran x.first x.read x.begins (EndsDown.early i s e r)
 
-bounded : (q : Course) (s t : State) (found : Option (ℕ × ℕ)) → IsStandingDown q q.bound s found → MayRead q.frame.machine (behind_at (text_in q) q.bound) →
+bounded : (q : Request) (s t : State) (found : Option (ℕ × ℕ)) → IsStandingDown q q.bound s found → MayRead q.frame.machine (behind_at (text_in q) q.bound) →
     Leads q.frame.machine s (behind_at (text_in q) q.bound) t →
-    SearchEndsDown q.frame.machine (text_in q) q.bound q.from q.anchored q.earliest (met_last (swapped (best_at q.bound t.stop found)))
+    SearchEndsDown q.frame.machine (text_in q) q.bound q.from q.anchored q.earliest (met_last (swapped (best_at q.bound t.matched found)))
 bounded q s t found x read lead =
     SearchEndsDown.ran x.first x.read x.begins
-    (subst (λ o. EndsDown q.frame.machine (text_in q) q.bound q.from x.first q.earliest (met_last o)) (least_as_best q.bound t.stop found)
+    (subst (λ o. EndsDown q.frame.machine (text_in q) q.bound q.from x.first q.earliest (met_last o)) (least_as_best q.bound t.matched found)
     (EndsDown.at_bound s t x.runs read lead))
 
 -- OVER A PIECE
 
-module _ (q : Course) (s : Store) (cells classes piece : List ℕ) (start index row : ℕ) (noted before : Option (ℕ × ℕ)) (h : Held q.frame s)
+module _ (q : Request) (s : Store) (cells classes piece : List ℕ) (start index row : ℕ) (noted before : Option (ℕ × ℕ)) (h : Held q.frame s)
     (same_cells : cells ≡ s.cells.items) (same_classes : classes ≡ q.frame.classes) (x : StandsNotedDown q s (start + (index + 1)) row noted before)
     (bound : q.seen.slice.start ≤ q.bound) (is : piece ≡ slice_range q.seen.content start (start + length piece)) (within : q.bound ≤ start)
     (lt : index < length piece) (byte : slice_index_or piece index 0 < 256) where
@@ -116,14 +116,14 @@ module _ (q : Course) (s : Store) (cells classes piece : List ℕ) (start index 
   behind : behind_at (text_in q) (start + index + 1) ≡ Some b
   behind = byte_behind (text_in q) (start + index) b (omega (arith, bound, within)) (byte_of_piece q.seen.content piece start index is lt)
 
-  on : here ≢ unknown → here ≢ quit → (t : State) × Names q.frame.width s.states here t × IsStandingDown q (start + index) t (best_at (start + (index + 1)) t.stop x.found)
+  on : here ≢ unknown → here ≢ quit → (t : State) × Names q.frame.width s.states here t × IsStandingDown q (start + index) t (best_at (start + (index + 1)) t.matched x.found)
   on ne nq =
       let k = leads_to q.frame s.states (Some b) (Leads q.frame.machine x.state (Some b)) here
       (cell_here q.frame s cells classes row b x.state h same_cells same_classes byte x.in_row ne) nq in
       let t = k.1.0 in (
         t,
         k.1.2,
-        subst (λ i. IsStandingDown q (start + index) t (best_at i t.stop x.found)) (sym at_next)
+        subst (λ i. IsStandingDown q (start + index) t (best_at i t.matched x.found)) (sym at_next)
             (goes q (start + index) x.state t x.found (subst (λ i. IsStandingDown q i x.state x.found) at_next x.standing) (omega (arith, within))
             (subst (λ o. MayRead q.frame.machine o) (sym behind) k.0) (subst (λ o. Leads q.frame.machine x.state o t) (sym behind) k.1.1)),
       )
@@ -160,7 +160,7 @@ module _ (q : Course) (s : Store) (cells classes piece : List ℕ) (start index 
 -- ONE STEP, WHATEVER ITS CELL
 
 -- A step was made from where the search stood: the cell of the byte before, or of the end, is known in the table that it left.
-pub record IsStepped (q : Course) (h : Half) (i : ℕ) (stand : Stand) (beside : Option ℕ) (cell : ℕ) : Type 0 where
+pub record IsStepped (q : Request) (h : Half) (i : ℕ) (stand : Stand) (beside : Option ℕ) (cell : ℕ) : Type 0 where
   pub start : State
   pub standing : IsStandingDown q i start stand.met
   pub low : q.bound ≤ i
@@ -170,10 +170,10 @@ pub record IsStepped (q : Course) (h : Half) (i : ℕ) (stand : Stand) (beside :
   pub known : IsKnown q.frame h.store.states beside (Leads q.frame.machine start beside) cell
   pub behind : behind_at (text_in q) i ≡ beside
 
-pub spent_before : (q : Course) (h0 : Half) (b : Store) (i : ℕ) (stand : Stand) → IsAtDown q h0 i stand → b ≡ h0.store → Spends q.frame q.begun b (q.from - i + 1)
+pub spent_before : (q : Request) (h0 : Half) (b : Store) (i : ℕ) (stand : Stand) → IsAtDown q h0 i stand → b ≡ h0.store → Spends q.frame q.begun b (q.from - i + 1)
 spent_before q h0 b i stand here same = subst (λ (s : Store). Spends q.frame q.begun s (q.from - i + 1)) (sym same) here.spends
 
-pub stepped : (q : Course) (h0 h : Half) (b : Store) (i : ℕ) (stand : Stand) (beside : Option ℕ) (cell : ℕ) → IsAtDown q h0 i stand → b ≡ h0.store →
+pub stepped : (q : Request) (h0 h : Half) (b : Store) (i : ℕ) (stand : Stand) (beside : Option ℕ) (cell : ℕ) → IsAtDown q h0 i stand → b ≡ h0.store →
     IsHalf q.frame h → Spends q.frame b h.store 1 →
     ((s : State) → IsRow q.frame.width b.states stand.row s → IsKnown q.frame h.store.states beside (Leads q.frame.machine s beside) cell) →
     q.bound ≤ i → behind_at (text_in q) i ≡ beside → IsStepped q h i stand beside cell
@@ -189,7 +189,7 @@ stepped q h0 h b i stand beside cell here same half spends leads low behind =
       behind = behind;
     }
 
-module _ (q : Course) (h : Half) (i : ℕ) (stand : Stand) (beside : Option ℕ) (cell : ℕ) (x : IsStepped q h i stand beside cell) where
+module _ (q : Request) (h : Half) (i : ℕ) (stand : Stand) (beside : Option ℕ) (cell : ℕ) (x : IsStepped q h i stand beside cell) where
   pub step_few : q.from - i + 1 + 1 ≤ down_spent q
   step_few = let low = x.low in let high = x.high in omega (arith, low, high)
 
@@ -213,14 +213,14 @@ module _ (q : Course) (h : Half) (i : ℕ) (stand : Stand) (beside : Option ℕ)
       )
 
   -- what was met last, by the way to the next state
-  module _ (ne : cell ≢ quit) (met : Option (ℕ × ℕ)) (is : (t : State) → Names q.frame.width h.store.states cell t → met ≡ best_at i t.stop stand.met) where
+  module _ (ne : cell ≢ quit) (met : Option (ℕ × ℕ)) (is : (t : State) → Names q.frame.width h.store.states cell t → met ≡ best_at i t.matched stand.met) where
     pub step_bounded : i ≡ q.bound → SearchEndsDown q.frame.machine (text_in q) q.bound q.from q.anchored q.earliest (met_last (swapped met))
     step_bounded e =
         let l = step_leads ne in
         let t = l.1.0 in
         let B : ℕ → Type 0 = λ k. IsStandingDown q k x.start stand.met → MayRead q.frame.machine (behind_at (text_in q) k) →
         Leads q.frame.machine x.start (behind_at (text_in q) k) t →
-        SearchEndsDown q.frame.machine (text_in q) q.bound q.from q.anchored q.earliest (met_last (swapped (best_at k t.stop stand.met))) in
+        SearchEndsDown q.frame.machine (text_in q) q.bound q.from q.anchored q.earliest (met_last (swapped (best_at k t.matched stand.met))) in
         subst (λ m. SearchEndsDown q.frame.machine (text_in q) q.bound q.from q.anchored q.earliest (met_last (swapped m))) (sym (is t l.1.2))
         (subst B (sym e) (bounded q x.start t stand.met) x.standing l.0 l.1.1)
 
@@ -238,7 +238,7 @@ module _ (q : Course) (h : Half) (i : ℕ) (stand : Stand) (beside : Option ℕ)
           let l = step_leads ne in
           let t = l.1.0 in
           let B : ℕ → Type 0 = λ k. IsStandingDown q k x.start stand.met → MayRead q.frame.machine (behind_at (text_in q) k) →
-          Leads q.frame.machine x.start (behind_at (text_in q) k) t → IsStandingDown q at t (best_at k t.stop stand.met) in
+          Leads q.frame.machine x.start (behind_at (text_in q) k) t → IsStandingDown q at t (best_at k t.matched stand.met) in
           subst (λ m. IsStandingDown q at t m) (sym (is t l.1.2))
           (subst B (sym next_at) (λ y r k. goes q at x.start t stand.met y le r k) x.standing l.0 l.1.1)
 
@@ -265,13 +265,13 @@ module _ (q : Course) (h : Half) (i : ℕ) (stand : Stand) (beside : Option ℕ)
 -- WHERE A SEARCH BEGINS
 
 -- The state in which it begins was made, or known: the cell of the byte ahead is known in the table that was left.
-pub record IsBegun (q : Course) (h : Half) (beside : Option ℕ) (cell : ℕ) : Type 0 where
+pub record IsBegun (q : Request) (h : Half) (beside : Option ℕ) (cell : ℕ) : Type 0 where
   pub half : IsHalf q.frame h
   pub spent : Spends q.frame q.begun h.store 1
   pub known : IsKnown q.frame h.store.states beside (Begins q.frame.machine q.anchored beside) cell
   pub ahead : ahead_at (text_in q) q.from ≡ beside
 
-pub begun : (q : Course) (h : Half) (b : Store) (anchored : Anchored) (from : ℕ) (beside : Option ℕ) (cell : ℕ) → b ≡ q.begun → anchored ≡ q.anchored → from ≡ q.from →
+pub begun : (q : Request) (h : Half) (b : Store) (anchored : Anchored) (from : ℕ) (beside : Option ℕ) (cell : ℕ) → b ≡ q.begun → anchored ≡ q.anchored → from ≡ q.from →
     beside ≡ ahead_at (text_in q) from → IsHalf q.frame h → Spends q.frame b h.store 1 →
     IsKnown q.frame h.store.states beside (Begins q.frame.machine anchored beside) cell → IsBegun q h beside cell
 begun q h b anchored from beside cell store same at is half spends known = record {
@@ -281,7 +281,7 @@ begun q h b anchored from beside cell store same at is half spends known = recor
   ahead = sym (is ∙ ap (λ i. ahead_at (text_in q) i) at);
 }
 
-module _ (q : Course) (h : Half) (beside : Option ℕ) (cell : ℕ) (x : IsBegun q h beside cell) where
+module _ (q : Request) (h : Half) (beside : Option ℕ) (cell : ℕ) (x : IsBegun q h beside cell) where
   pub begin_few : 1 ≤ down_spent q
   begin_few = omega arith
 
@@ -327,7 +327,7 @@ module _ (q : Course) (h : Half) (beside : Option ℕ) (cell : ℕ) (x : IsBegun
         }
 
 -- bytes were read by cells that needed no look
-pub at_moved : (q : Course) (h0 h : Half) (i k : ℕ) (stand0 stand : Stand) → IsAtDown q h0 i stand0 → k ≤ i → h.store ≡ h0.store → h.scratch ≡ h0.scratch →
+pub at_moved : (q : Request) (h0 h : Half) (i k : ℕ) (stand0 stand : Stand) → IsAtDown q h0 i stand0 → k ≤ i → h.store ≡ h0.store → h.scratch ≡ h0.scratch →
     StandsDown q h0.store k stand → IsAtDown q h k stand
 at_moved q h0 h i k stand0 stand here le store scratch stands =
     let high = here.high in record {

@@ -9,7 +9,7 @@ use Rattle.rc_dfa.specs.Machine.{Leads, Begins, is_dead, is_idle}
 use Rattle.rc_dfa.specs.Runs.{MayRead, ahead_at, behind_at, Runs, RunEnd, met_last, stopped_at, idle_at, EndsSo, SearchEnds}
 use Rattle.rc_lazy_dfa.specs.Cells.{unknown, met, quit, row_of, has_died}
 use Rattle.rc_lazy_dfa.specs.Stores.{Frame, Held, IsRow, Names, IsKnown, Spends}
-use Rattle.rc_lazy_dfa.specs.Courses.{Course, text_in, all_spent, IsStanding, StandsAt, StandsNoted, IsAt, IsOver}
+use Rattle.rc_lazy_dfa.specs.Courses.{Request, text_in, all_spent, IsStanding, StandsAt, StandsNoted, IsAt, IsOver}
 use Rattle.rc_lazy_dfa.specs.Halves.{IsHalf}
 use Rattle.rc_lazy_dfa.specs.declared.half.Half.{Half}
 use Rattle.rc_lazy_dfa.specs.declared.run.Stand.{Stand}
@@ -47,27 +47,27 @@ leads_to f states beside To cell (inl h) ne = absurd (ne h.0)
 leads_to f states beside To cell (inr h) ne = h
 
 pub plain : (f : Frame) (s : Store) (h : Held f s) (cell : ℕ) (t : State) → Names f.width s.states cell t → cell < unknown →
-    IsRow f.width s.states cell t × (t.stop ≡ None)
+    IsRow f.width s.states cell t × (t.matched ≡ None)
 plain f s h cell t n lt =
     let row : row_of cell ≡ cell = omega (arith, lt) in
     let short : cell < met = omega (arith, lt) in (
       subst (λ r. IsRow f.width s.states r t) row (named_row f s h cell t n (λ e. omega (arith, e, lt))),
-      none_of t.stop (sym (met_or_not f s h cell t n) ∙ lt-leb met cell short),
+      none_of t.matched (sym (met_or_not f s h cell t n) ∙ lt-leb met cell short),
     )
 
 pub marked : (f : Frame) (s : Store) (h : Held f s) (cell : ℕ) (t : State) → Names f.width s.states cell t → met ≤ cell → cell - met < unknown →
-    IsRow f.width s.states (cell - met) t × ((k : ℕ) × (t.stop ≡ Some k))
+    IsRow f.width s.states (cell - met) t × ((k : ℕ) × (t.matched ≡ Some k))
 marked f s h cell t n le lt =
     let row : row_of cell ≡ cell - met = omega (arith, le, lt) in (
       subst (λ r. IsRow f.width s.states r t) row (row_met f s h cell t n le),
-      some_of t.stop (sym (met_or_not f s h cell t n) ∙ le-leb met cell le),
+      some_of t.matched (sym (met_or_not f s h cell t n) ∙ le-leb met cell le),
     )
 
 -- RUNS
 
-module _ (q : Course) (i : ℕ) (s : State) (found : Option (ℕ × ℕ)) (x : IsStanding q i s found) where
+module _ (q : Request) (i : ℕ) (s : State) (found : Option (ℕ × ℕ)) (x : IsStanding q i s found) where
   pub goes : (t : State) → i < q.bound → MayRead q.frame.machine (ahead_at (text_in q) i) → Leads q.frame.machine s (ahead_at (text_in q) i) t →
-      IsStanding q (i + 1) t (best_at i t.stop found)
+      IsStanding q (i + 1) t (best_at i t.matched found)
   goes t lt read lead = record { first = x.first; read = x.read; begins = x.begins; runs = Runs.goes_on i s t x.runs lt read lead }
 
   abbrev Ends : RunEnd → Type 0
@@ -91,14 +91,14 @@ module _ (q : Course) (i : ℕ) (s : State) (found : Option (ℕ × ℕ)) (x : I
       SearchEnds.ran x.first x.read x.begins
       (EndsSo.rests i s (subst (λ m. Runs q.frame.machine (text_in q) q.bound q.from x.first i s m) (none_of found none) x.runs) le idle)
 
-pub bounded : (q : Course) (s t : State) (found : Option (ℕ × ℕ)) → IsStanding q q.bound s found → MayRead q.frame.machine (ahead_at (text_in q) q.bound) →
+pub bounded : (q : Request) (s t : State) (found : Option (ℕ × ℕ)) → IsStanding q q.bound s found → MayRead q.frame.machine (ahead_at (text_in q) q.bound) →
     Leads q.frame.machine s (ahead_at (text_in q) q.bound) t →
-    SearchEnds q.frame.machine (text_in q) q.bound q.from q.anchored q.earliest (met_last (best_at q.bound t.stop found))
+    SearchEnds q.frame.machine (text_in q) q.bound q.from q.anchored q.earliest (met_last (best_at q.bound t.matched found))
 bounded q s t found x read lead = SearchEnds.ran x.first x.read x.begins (EndsSo.at_bound s t x.runs read lead)
 
 -- OVER A PIECE
 
-module _ (q : Course) (s : Store) (cells classes piece : List ℕ) (start index row : ℕ) (noted before : Option (ℕ × ℕ)) (h : Held q.frame s)
+module _ (q : Request) (s : Store) (cells classes piece : List ℕ) (start index row : ℕ) (noted before : Option (ℕ × ℕ)) (h : Held q.frame s)
     (same_cells : cells ≡ s.cells.items) (same_classes : classes ≡ q.frame.classes) (x : StandsNoted q s (start + index) row noted before)
     (inside : q.bound ≤ slice_end q.seen) (is : piece ≡ slice_range q.seen.content start (start + length piece)) (within : start + length piece ≤ q.bound)
     (lt : index < length piece) (byte : slice_index_or piece index 0 < 256) where
@@ -117,14 +117,14 @@ module _ (q : Course) (s : Store) (cells classes piece : List ℕ) (start index 
   next_at : start + index + 1 ≡ start + (index + 1)
   next_at = omega arith
 
-  on : here ≢ unknown → here ≢ quit → (t : State) × Names q.frame.width s.states here t × IsStanding q (start + (index + 1)) t (best_at (start + index) t.stop x.found)
+  on : here ≢ unknown → here ≢ quit → (t : State) × Names q.frame.width s.states here t × IsStanding q (start + (index + 1)) t (best_at (start + index) t.matched x.found)
   on ne nq =
       let k = leads_to q.frame s.states (Some b) (Leads q.frame.machine x.state (Some b)) here
       (cell_here q.frame s cells classes row b x.state h same_cells same_classes byte x.in_row ne) nq in
       let t = k.1.0 in (
         t,
         k.1.2,
-        subst (λ i. IsStanding q i t (best_at (start + index) t.stop x.found)) next_at
+        subst (λ i. IsStanding q i t (best_at (start + index) t.matched x.found)) next_at
             (goes q (start + index) x.state x.found x.standing t below (subst (λ o. MayRead q.frame.machine o) (sym ahead) k.0)
             (subst (λ o. Leads q.frame.machine x.state o t) (sym ahead) k.1.1)),
       )
@@ -164,7 +164,7 @@ module _ (q : Course) (s : Store) (cells classes piece : List ℕ) (start index 
 -- ONE STEP, WHATEVER ITS CELL
 
 -- A step was made from where the search stood: the cell of the byte, or of the end, is known in the table that it left.
-pub record IsStepped (q : Course) (h : Half) (at : ℕ) (stand : Stand) (beside : Option ℕ) (cell : ℕ) : Type 0 where
+pub record IsStepped (q : Request) (h : Half) (at : ℕ) (stand : Stand) (beside : Option ℕ) (cell : ℕ) : Type 0 where
   pub start : State
   pub standing : IsStanding q at start stand.met
   pub low : q.from ≤ at
@@ -174,10 +174,10 @@ pub record IsStepped (q : Course) (h : Half) (at : ℕ) (stand : Stand) (beside 
   pub known : IsKnown q.frame h.store.states beside (Leads q.frame.machine start beside) cell
   pub ahead : ahead_at (text_in q) at ≡ beside
 
-pub spent_before : (q : Course) (h0 : Half) (b : Store) (at : ℕ) (stand : Stand) → IsAt q h0 at stand → b ≡ h0.store → Spends q.frame q.begun b (at - q.from + 1)
+pub spent_before : (q : Request) (h0 : Half) (b : Store) (at : ℕ) (stand : Stand) → IsAt q h0 at stand → b ≡ h0.store → Spends q.frame q.begun b (at - q.from + 1)
 spent_before q h0 b at stand here same = subst (λ (s : Store). Spends q.frame q.begun s (at - q.from + 1)) (sym same) here.spends
 
-pub stepped : (q : Course) (h0 h : Half) (b : Store) (at : ℕ) (stand : Stand) (beside : Option ℕ) (cell : ℕ) → IsAt q h0 at stand → b ≡ h0.store →
+pub stepped : (q : Request) (h0 h : Half) (b : Store) (at : ℕ) (stand : Stand) (beside : Option ℕ) (cell : ℕ) → IsAt q h0 at stand → b ≡ h0.store →
     IsHalf q.frame h → Spends q.frame b h.store 1 →
     ((s : State) → IsRow q.frame.width b.states stand.row s → IsKnown q.frame h.store.states beside (Leads q.frame.machine s beside) cell) →
     at ≤ q.bound → ahead_at (text_in q) at ≡ beside → IsStepped q h at stand beside cell
@@ -193,7 +193,7 @@ stepped q h0 h b at stand beside cell here same half spends leads le ahead =
       ahead = ahead;
     }
 
-module _ (q : Course) (h : Half) (at : ℕ) (stand : Stand) (beside : Option ℕ) (cell : ℕ) (x : IsStepped q h at stand beside cell) where
+module _ (q : Request) (h : Half) (at : ℕ) (stand : Stand) (beside : Option ℕ) (cell : ℕ) (x : IsStepped q h at stand beside cell) where
   pub step_few : at - q.from + 1 + 1 ≤ all_spent q
   step_few = let low = x.low in let high = x.high in omega (arith, low, high)
 
@@ -217,7 +217,7 @@ module _ (q : Course) (h : Half) (at : ℕ) (stand : Stand) (beside : Option ℕ
       )
 
   -- what was met last, by the way to the next state
-  module _ (ne : cell ≢ quit) (met : Option (ℕ × ℕ)) (is : (t : State) → Names q.frame.width h.store.states cell t → met ≡ best_at at t.stop stand.met) where
+  module _ (ne : cell ≢ quit) (met : Option (ℕ × ℕ)) (is : (t : State) → Names q.frame.width h.store.states cell t → met ≡ best_at at t.matched stand.met) where
     pub next : State
     next = (step_leads ne).1.0
 
@@ -230,7 +230,7 @@ module _ (q : Course) (h : Half) (at : ℕ) (stand : Stand) (beside : Option ℕ
         let l = step_leads ne in
         let t = l.1.0 in
         let B : ℕ → Type 0 = λ i. IsStanding q i x.start stand.met → MayRead q.frame.machine (ahead_at (text_in q) i) → Leads q.frame.machine x.start (ahead_at (text_in q) i) t →
-        SearchEnds q.frame.machine (text_in q) q.bound q.from q.anchored q.earliest (met_last (best_at i t.stop stand.met)) in
+        SearchEnds q.frame.machine (text_in q) q.bound q.from q.anchored q.earliest (met_last (best_at i t.matched stand.met)) in
         subst (λ m. SearchEnds q.frame.machine (text_in q) q.bound q.from q.anchored q.earliest (met_last m)) (sym (is t l.1.2))
         (subst B (sym e) (bounded q x.start t stand.met) x.standing l.0 l.1.1)
 
@@ -267,14 +267,14 @@ module _ (q : Course) (h : Half) (at : ℕ) (stand : Stand) (beside : Option ℕ
 -- WHERE A SEARCH BEGINS
 
 -- The state in which it begins was made, or known: the cell of the byte behind is known in the table that was left.
-pub record IsBegun (q : Course) (h : Half) (beside : Option ℕ) (cell : ℕ) : Type 0 where
+pub record IsBegun (q : Request) (h : Half) (beside : Option ℕ) (cell : ℕ) : Type 0 where
   pub high : q.from ≤ q.bound
   pub half : IsHalf q.frame h
   pub spent : Spends q.frame q.begun h.store 1
   pub known : IsKnown q.frame h.store.states beside (Begins q.frame.machine q.anchored beside) cell
   pub behind : behind_at (text_in q) q.from ≡ beside
 
-pub begun : (q : Course) (h : Half) (b : Store) (anchored : Anchored) (from : ℕ) (beside : Option ℕ) (cell : ℕ) → b ≡ q.begun → anchored ≡ q.anchored → from ≡ q.from →
+pub begun : (q : Request) (h : Half) (b : Store) (anchored : Anchored) (from : ℕ) (beside : Option ℕ) (cell : ℕ) → b ≡ q.begun → anchored ≡ q.anchored → from ≡ q.from →
     q.from ≤ q.bound → beside ≡ behind_at (text_in q) from → IsHalf q.frame h → Spends q.frame b h.store 1 →
     IsKnown q.frame h.store.states beside (Begins q.frame.machine anchored beside) cell → IsBegun q h beside cell
 begun q h b anchored from beside cell store same at ordered is half spends known = record {
@@ -285,7 +285,7 @@ begun q h b anchored from beside cell store same at ordered is half spends known
   behind = sym (is ∙ ap (λ i. behind_at (text_in q) i) at);
 }
 
-module _ (q : Course) (h : Half) (beside : Option ℕ) (cell : ℕ) (x : IsBegun q h beside cell) where
+module _ (q : Request) (h : Half) (beside : Option ℕ) (cell : ℕ) (x : IsBegun q h beside cell) where
   pub begin_few : 1 ≤ all_spent q
   begin_few = omega arith
 
@@ -331,7 +331,7 @@ module _ (q : Course) (h : Half) (beside : Option ℕ) (cell : ℕ) (x : IsBegun
         }
 
 -- bytes were read by cells that needed no look
-pub at_moved : (q : Course) (h0 h : Half) (i k : ℕ) (stand0 stand : Stand) → IsAt q h0 i stand0 → h.store ≡ h0.store → h.scratch ≡ h0.scratch →
+pub at_moved : (q : Request) (h0 h : Half) (i k : ℕ) (stand0 stand : Stand) → IsAt q h0 i stand0 → h.store ≡ h0.store → h.scratch ≡ h0.scratch →
     StandsAt q h0.store (i + k) stand → IsAt q h (i + k) stand
 at_moved q h0 h i k stand0 stand here store scratch stands =
     let low = here.low in record {
@@ -343,7 +343,7 @@ at_moved q h0 h i k stand0 stand here store scratch stands =
     }
 
 -- where it stands nothing was met, and nothing is under way
-pub rests_here : (q : Course) (h : Half) (i : ℕ) (stand : Stand) → IsAt q h i stand → i ≤ q.bound → q.may_rest ≡ true → is_some stand.met ≡ false →
+pub rests_here : (q : Request) (h : Half) (i : ℕ) (stand : Stand) → IsAt q h i stand → i ≤ q.bound → q.may_rest ≡ true → is_some stand.met ≡ false →
     ((s : State) → IsRow q.frame.width h.store.states stand.row s → is_idle s ≡ true) → IsOver q h (Idle i)
 rests_here q h i stand here le may none idle =
     let low = here.low in

@@ -27,7 +27,7 @@ number_small f s number t h e =
     subst (λ w. number * w + w < unknown) (sym h.width) (row_small f s h (number * f.width) t (number, e, refl))
 
 pub marks_small : (s : State) → marks s ≤ 13835058055282163712
-marks_small s = small (is_some s.stop) (is_dead s)
+marks_small s = small (is_some s.matched) (is_dead s)
   where
     small : (stopped died : Bool) → (if stopped then met else 0) + (if died then dead else 0) ≤ 13835058055282163712
     small false false = omega arith
@@ -67,26 +67,26 @@ number_read row cell true false n = let l = n.low in let e : cell ≡ row + (met
 number_read row cell true true n = let l = n.low in let e : cell ≡ row + (met + dead) = n.is in ((λ q. omega (arith, e, l, q)), (λ q. omega (arith, e, l, q)))
 
 module _ (f : Frame) (s : Store) (h : Held f s) (cell : ℕ) (t : State) where
-  number : (row : ℕ) → IsRow f.width s.states row t → cell ≡ row + marks t → IsNumber row cell (is_some t.stop) (is_dead t)
+  number : (row : ℕ) → IsRow f.width s.states row t → cell ≡ row + marks t → IsNumber row cell (is_some t.matched) (is_dead t)
   number row r e = record { low = let l = row_small f s h row t r in omega (arith, l); is = e }
 
   pub is_read : Names f.width s.states cell t → (cell ≢ quit) × (cell ≢ unknown)
   is_read (inl n) = let e = n.0 in ((λ q. omega (arith, e, q)), (λ q. omega (arith, e, q)))
-  is_read (inr n) = number_read n.0 cell (is_some t.stop) (is_dead t) (number n.0 n.1 n.2)
+  is_read (inr n) = number_read n.0 cell (is_some t.matched) (is_dead t) (number n.0 n.1 n.2)
 
   pub died_or_not : Names f.width s.states cell t → has_died cell ≡ is_dead t
   died_or_not (inl n) = ap has_died n.0 ∙ sym n.1
-  died_or_not (inr n) = number_died n.0 cell (is_some t.stop) (is_dead t) (number n.0 n.1 n.2)
+  died_or_not (inr n) = number_died n.0 cell (is_some t.matched) (is_dead t) (number n.0 n.1 n.2)
 
-  pub met_or_not : Names f.width s.states cell t → nat_le met cell ≡ is_some t.stop
+  pub met_or_not : Names f.width s.states cell t → nat_le met cell ≡ is_some t.matched
   met_or_not (inl n) = ap (λ c. nat_le met c) n.0 ∙ sym (ap is_some n.2)
-  met_or_not (inr n) = number_met n.0 cell (is_some t.stop) (is_dead t) (number n.0 n.1 n.2)
+  met_or_not (inr n) = number_met n.0 cell (is_some t.matched) (is_dead t) (number n.0 n.1 n.2)
 
   -- the row, where something goes on or was met
   pub named_row : Names f.width s.states cell t → cell ≢ dead → IsRow f.width s.states (row_of cell) t
   named_row (inl n) ne = absurd (ne n.0)
   named_row (inr n) ne =
-      subst (λ r. IsRow f.width s.states r t) (sym (number_row n.0 cell (is_some t.stop) (is_dead t) (number n.0 n.1 n.2))) n.1
+      subst (λ r. IsRow f.width s.states r t) (sym (number_row n.0 cell (is_some t.matched) (is_dead t) (number n.0 n.1 n.2))) n.1
 
   pub row_going : Names f.width s.states cell t → has_died cell ≡ false → IsRow f.width s.states (row_of cell) t
   row_going n e = named_row n (λ is. true≢false (sym (ap has_died is) ∙ e))

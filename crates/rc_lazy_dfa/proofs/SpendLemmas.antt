@@ -8,7 +8,7 @@ use Rattle.rc_dfa.specs.Ended.{HasEnded, gave_up}
 use Rattle.rc_dfa.specs.declared.ended.Ended.{Ended}
 use Rattle.rc_dfa.specs.declared.ended.Ended.TheVariants.{GaveUp}
 use Rattle.rc_lazy_dfa.specs.Halves.{IsHalf}
-use Rattle.rc_lazy_dfa.specs.Courses.{Course, text_in, all_spent, MayGiveUp, IsOver, SaysMet}
+use Rattle.rc_lazy_dfa.specs.Courses.{Request, text_in, all_spent, MayGiveUp, IsOver, SaysMet}
 use Rattle.rc_lazy_dfa.specs.declared.half.Half.{Half}
 use Rattle.rc_lazy_dfa.specs.declared.store.Store.{Store}
 use Rattle.rc_lazy_dfa.specs.declared.error.Refusal.{Refusal}
@@ -20,7 +20,7 @@ refused_may f a b Short h = h
 
 -- HOW A SEARCH ENDS
 
-pub over_done : (q : Course) (h : Half) (n : ℕ) (e : Ended) → IsHalf q.frame h → Spends q.frame q.begun h.store n → n ≤ all_spent q →
+pub over_done : (q : Request) (h : Half) (n : ℕ) (e : Ended) → IsHalf q.frame h → Spends q.frame q.begun h.store n → n ≤ all_spent q →
     HasEnded q.frame.machine (text_in q) q.bound q.from q.anchored q.earliest q.may_rest e → gave_up e ≡ None → IsOver q h e
 over_done q h n e half spends le ended done = record {
   half = half;
@@ -29,7 +29,7 @@ over_done q h n e half spends le ended done = record {
   gives_up = λ memory k. absurd (none-some memory (sym done ∙ k));
 }
 
-pub over_refused : (q : Course) (h : Half) (b : Store) (n at : ℕ) (refusal : Refusal) (memory : Bool) → IsHalf q.frame h → Spends q.frame q.begun b n →
+pub over_refused : (q : Request) (h : Half) (b : Store) (n at : ℕ) (refusal : Refusal) (memory : Bool) → IsHalf q.frame h → Spends q.frame q.begun b n →
     Spends q.frame b h.store 1 → IsRefused q.frame b h.store refusal → n + 1 ≤ all_spent q → q.from ≤ at → at ≤ q.bound → memory ≡ is_memory refusal →
     IsOver q h (GaveUp at memory)
 over_refused q h b n at refusal memory half before spends refused le low high is = record {

@@ -29,7 +29,7 @@ has_died cell = if nat_le met cell then nat_le dead (cell - met) else nat_le dea
 
 -- The marks of a state's name.
 abbrev pub marks : State → ℕ
-marks s = (if is_some s.stop then met else 0) + (if is_dead s then dead else 0)
+marks s = (if is_some s.matched then met else 0) + (if is_dead s then dead else 0)
 
 -- The column of the byte, or of the end.
 abbrev pub column_of : List ℕ → ℕ → Option ℕ → ℕ

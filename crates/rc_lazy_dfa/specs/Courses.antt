@@ -14,17 +14,17 @@ use Rattle.rc_lazy_dfa.specs.Halves.{IsHalf}
 use Rattle.rc_lazy_dfa.specs.declared.store.Store.{Store}
 use Rattle.rc_lazy_dfa.specs.declared.half.Half.{Half}
 use Rattle.rc_lazy_dfa.specs.declared.run.Stand.{Stand}
-use Rattle.rc_lazy_dfa.specs.declared.run.Leg.{Leg}
-use Rattle.rc_lazy_dfa.specs.declared.run.Leg.TheVariants.{Through, Over}
+use Rattle.rc_lazy_dfa.specs.declared.run.Progress.{Progress}
+use Rattle.rc_lazy_dfa.specs.declared.run.Progress.TheVariants.{Through, Over}
 
 -- The last find: on the way to the noted row, or else before.
 abbrev pub IsNoted : ℕ → List State → Option (ℕ × ℕ) → Option (ℕ × ℕ) → Option (ℕ × ℕ) → Type 0
 IsNoted width states None before met = met ≡ before
-IsNoted width states (Some n) before met = (s : State) × (k : ℕ) × IsRow width states n.0 s × (s.stop ≡ Some k) × (met ≡ Some (k, n.1))
+IsNoted width states (Some n) before met = (s : State) × (k : ℕ) × IsRow width states n.0 s × (s.matched ≡ Some k) × (met ≡ Some (k, n.1))
 
 -- A search, of which the code has only a part at a time: by which machine, with which states at its
 -- beginning, over what, from which position up to or down to which bound, and how.
-pub record Course : Type 0 where
+pub record Request : Type 0 where
   pub frame : Frame
   pub begun : Store
   pub seen : Searched
@@ -34,27 +34,27 @@ pub record Course : Type 0 where
   pub earliest : Bool
   pub may_rest : Bool
 
-abbrev pub text_in : Course → Text
+abbrev pub text_in : Request → Text
 text_in q = text_of q.frame.machine.setting.terminator q.seen
 
 -- FORWARDS
 
 -- From a state in which the search begins, the bytes up to the position lead to this state, and
 -- this was found last.
-pub record IsStanding (q : Course) (i : ℕ) (s : State) (met : Option (ℕ × ℕ)) : Type 0 where
+pub record IsStanding (q : Request) (i : ℕ) (s : State) (met : Option (ℕ × ℕ)) : Type 0 where
   pub first : State
   pub read : MayRead q.frame.machine (behind_at (text_in q) q.from)
   pub begins : Begins q.frame.machine q.anchored (behind_at (text_in q) q.from) first
   pub runs : Runs q.frame.machine (text_in q) q.bound q.from first i s met
 
 -- Its state is that of the row.
-pub record StandsAt (q : Course) (t : Store) (i : ℕ) (stand : Stand) : Type 0 where
+pub record StandsAt (q : Request) (t : Store) (i : ℕ) (stand : Stand) : Type 0 where
   pub state : State
   pub in_row : IsRow q.frame.width t.states stand.row state
   pub standing : IsStanding q i state stand.met
 
 -- Its state is that of the row, and a noted row has what was found last.
-pub record StandsNoted (q : Course) (t : Store) (i row : ℕ) (noted before : Option (ℕ × ℕ)) : Type 0 where
+pub record StandsNoted (q : Request) (t : Store) (i row : ℕ) (noted before : Option (ℕ × ℕ)) : Type 0 where
   pub state : State
   pub in_row : IsRow q.frame.width t.states row state
   pub found : Option (ℕ × ℕ)
@@ -63,7 +63,7 @@ pub record StandsNoted (q : Course) (t : Store) (i row : ℕ) (noted before : Op
 
 -- The states that a search adds: at most one where it begins, one for each byte, and one at the
 -- end.
-abbrev pub all_spent : Course → ℕ
+abbrev pub all_spent : Request → ℕ
 all_spent q = q.bound - q.from + 2
 
 -- Why the search gave up: memory was refused, or the cache was cleared three times and may have
@@ -72,19 +72,19 @@ abbrev pub MayGiveUp : Frame → Store → Store → ℕ → Bool → Type 0
 MayGiveUp f old new n true = Unit {0}
 MayGiveUp f old new n false = (3 ≤ new.clears) × IsShort f old n
 
-pub record IsAt (q : Course) (h : Half) (i : ℕ) (stand : Stand) : Type 0 where
+pub record IsAt (q : Request) (h : Half) (i : ℕ) (stand : Stand) : Type 0 where
   pub half : IsHalf q.frame h
   pub low : q.from ≤ i
   pub spends : Spends q.frame q.begun h.store (i - q.from + 1)
   pub stands : StandsAt q h.store i stand
 
-pub record IsOver (q : Course) (h : Half) (e : Ended) : Type 0 where
+pub record IsOver (q : Request) (h : Half) (e : Ended) : Type 0 where
   pub half : IsHalf q.frame h
   pub spends : Spends q.frame q.begun h.store (all_spent q)
   pub ended : HasEnded q.frame.machine (text_in q) q.bound q.from q.anchored q.earliest q.may_rest e
   pub gives_up : (memory : Bool) → gave_up e ≡ Some memory → MayGiveUp q.frame q.begun h.store (all_spent q) memory
 
-abbrev pub IsLeg : Course → Half → ℕ → Leg → Type 0
+abbrev pub IsLeg : Request → Half → ℕ → Progress → Type 0
 IsLeg q h i (Through s) = IsAt q h i s
 IsLeg q h i (Over e) = IsOver q h e
 
@@ -103,40 +103,40 @@ swapped (Some n) = Some (n.1, n.0)
 
 -- On the way down: from a state in which the search begins, the bytes down to the position lead to
 -- this state, and this was found last. The search begins at `from`, by the byte there.
-pub record IsStandingDown (q : Course) (i : ℕ) (s : State) (met : Option (ℕ × ℕ)) : Type 0 where
+pub record IsStandingDown (q : Request) (i : ℕ) (s : State) (met : Option (ℕ × ℕ)) : Type 0 where
   pub first : State
   pub read : MayRead q.frame.machine (ahead_at (text_in q) q.from)
   pub begins : Begins q.frame.machine q.anchored (ahead_at (text_in q) q.from) first
   pub runs : RunsDown q.frame.machine (text_in q) q.bound q.from first i s (swapped met)
 
-pub record StandsDown (q : Course) (t : Store) (i : ℕ) (stand : Stand) : Type 0 where
+pub record StandsDown (q : Request) (t : Store) (i : ℕ) (stand : Stand) : Type 0 where
   pub state : State
   pub in_row : IsRow q.frame.width t.states stand.row state
   pub standing : IsStandingDown q i state stand.met
 
-pub record StandsNotedDown (q : Course) (t : Store) (i row : ℕ) (noted before : Option (ℕ × ℕ)) : Type 0 where
+pub record StandsNotedDown (q : Request) (t : Store) (i row : ℕ) (noted before : Option (ℕ × ℕ)) : Type 0 where
   pub state : State
   pub in_row : IsRow q.frame.width t.states row state
   pub found : Option (ℕ × ℕ)
   pub tells : IsNoted q.frame.width t.states noted before found
   pub standing : IsStandingDown q i state found
 
-abbrev pub down_spent : Course → ℕ
+abbrev pub down_spent : Request → ℕ
 down_spent q = q.from - q.bound + 2
 
-pub record IsAtDown (q : Course) (h : Half) (i : ℕ) (stand : Stand) : Type 0 where
+pub record IsAtDown (q : Request) (h : Half) (i : ℕ) (stand : Stand) : Type 0 where
   pub half : IsHalf q.frame h
   pub high : i ≤ q.from
   pub spends : Spends q.frame q.begun h.store (q.from - i + 1)
   pub stands : StandsDown q h.store i stand
 
-pub record IsOverDown (q : Course) (h : Half) (e : Ended) : Type 0 where
+pub record IsOverDown (q : Request) (h : Half) (e : Ended) : Type 0 where
   pub half : IsHalf q.frame h
   pub spends : Spends q.frame q.begun h.store (down_spent q)
   pub ended : HasEndedDown q.frame.machine (text_in q) q.bound q.from q.anchored q.earliest e
   pub gives_up : (memory : Bool) → gave_up e ≡ Some memory → MayGiveUp q.frame q.begun h.store (down_spent q) memory
 
-abbrev pub IsLegDown : Course → Half → ℕ → Leg → Type 0
+abbrev pub IsLegDown : Request → Half → ℕ → Progress → Type 0
 IsLegDown q h i (Through s) = IsAtDown q h i s
 IsLegDown q h i (Over e) = IsOverDown q h e
 

@@ -67,7 +67,7 @@ IsRow width states row s = (id : ℕ) × (slice_get states id ≡ Some s) × (ro
 -- The cell leads to the state: to its row, or to none if nothing goes on and no match was found.
 abbrev pub Names : ℕ → List State → ℕ → State → Type 0
 Names width states cell s =
-    ((cell ≡ dead) × (is_dead s ≡ true) × (s.stop ≡ None))
+    ((cell ≡ dead) × (is_dead s ≡ true) × (s.matched ≡ None))
     ⊎ ((row : ℕ) × IsRow width states row s × (cell ≡ row + marks s))
 
 -- The byte leads where the cell says, or may not be read.

@@ -9,11 +9,11 @@ ghost use Rattle.rc_dfa.specs.Automata.{machine_of};
 ghost use Rattle.rc_dfa.specs.Ended.{HasEndedDown, gave_up};
 ghost use Rattle.rc_program.specs.Sought.{text_of};
 ghost use Rattle.rc_lazy_dfa.specs.Halves.{IsHalf};
-ghost use Rattle.rc_lazy_dfa.specs.Courses.{Course, IsAtDown, IsLegDown, IsOverDown, MayGiveUp, StandsDown, StandsNotedDown, text_in};
+ghost use Rattle.rc_lazy_dfa.specs.Courses.{Request, IsAtDown, IsLegDown, IsOverDown, MayGiveUp, StandsDown, StandsNotedDown, text_in};
 
 use crate::cells::{MET, QUIT, UNKNOWN, has_died, row_of};
 use crate::half::Half;
-use crate::run::{Leg, Noted, Stand, found_down, met_by, told};
+use crate::run::{Noted, Progress, Stand, found_down, met_by, told};
 use crate::store::Store;
 use rc_dfa::automaton::{Automaton, Direction};
 use rc_dfa::ended::Ended;
@@ -34,7 +34,7 @@ fn cell_at(
     start: usize,
     here: Noted,
 ) -> usize
-    ghost course: { Course }
+    ghost course: { Request }
     requires held { Held course.frame store.now }
     requires cells { cells.now ≡ store.now.cells.items }
     requires classes { classes.now ≡ course.frame.classes }
@@ -64,7 +64,7 @@ fn stride(
     start: usize,
     here: Noted,
 ) -> (usize, usize)
-    ghost course: { Course }
+    ghost course: { Request }
     requires held { Held course.frame store.now }
     requires cells { cells.now ≡ store.now.cells.items }
     requires classes { classes.now ≡ course.frame.classes }
@@ -164,7 +164,7 @@ fn run(
     stand: Stand,
     limit: usize,
 ) -> (usize, Stand)
-    ghost course: { Course }
+    ghost course: { Request }
     requires same { frame_of automaton.now direction.Backwards ≡ course.frame }
     requires held { Held course.frame store.now }
     requires stands { StandsDown course store.now (start + length piece.now) stand }
@@ -216,8 +216,8 @@ fn step(
     at: usize,
     stand: Stand,
     earliest: bool,
-) -> Leg
-    ghost course: { Course }
+) -> Progress
+    ghost course: { Request }
     requires same { frame_of automaton.now direction.Backwards ≡ course.frame }
     requires at { IsAtDown course half.old (at + 1) stand }
     requires bound { course.seen.slice.start ≤ course.bound }
@@ -230,20 +230,20 @@ fn step(
     half.serve(1);
     let cell = match half.next(automaton, Direction::Backwards, stand.row, Some(byte)) {
         Ok(cell) => cell,
-        Err(refusal) => return Leg::Over(Ended::GaveUp(at + 1, refusal.is_memory())),
+        Err(refusal) => return Progress::Over(Ended::GaveUp(at + 1, refusal.is_memory())),
     };
     if cell == QUIT {
-        return Leg::Over(Ended::Quit(byte, at));
+        return Progress::Over(Ended::Quit(byte, at));
     }
     let met = met_by(&half.store, cell, at + 1, stand.met);
     if has_died(cell) {
-        return Leg::Over(found_down(met));
+        return Progress::Over(found_down(met));
     }
     if earliest && met.is_some() {
-        return Leg::Over(found_down(met));
+        return Progress::Over(found_down(met));
     }
     let row = row_of(cell);
-    Leg::Through(Stand { row, met })
+    Progress::Through(Stand { row, met })
 }
 
 /// Runs over the chunks from the position `from` down to `end`.
@@ -256,8 +256,8 @@ fn cross<C: Cursor>(
     end: usize,
     begin: Stand,
     earliest: bool,
-) -> Leg
-    ghost course: { Course }
+) -> Progress
+    ghost course: { Request }
     requires same { frame_of automaton.now direction.Backwards ≡ course.frame }
     requires at { IsAtDown course half.old from begin }
     requires seen { Keeps course.seen input.old }
@@ -282,12 +282,12 @@ fn cross<C: Cursor>(
         if left > 0 {
             at -= 1;
             match step(automaton, half, piece[left - 1], at, stand, earliest) {
-                Leg::Through(next) => stand = next,
-                Leg::Over(ended) => return Leg::Over(ended),
+                Progress::Through(next) => stand = next,
+                Progress::Over(ended) => return Progress::Over(ended),
             }
         }
     }
-    Leg::Through(stand)
+    Progress::Through(stand)
 }
 
 /// Begins a search at the position: the byte after it decides the start state.
@@ -298,8 +298,8 @@ fn begin(
     anchored: &Anchored,
     beside: Option<u8>,
     from: usize,
-) -> Leg
-    ghost course: { Course }
+) -> Progress
+    ghost course: { Request }
     requires same { frame_of automaton.now direction.Backwards ≡ course.frame }
     requires half { IsHalf course.frame half.old }
     requires begun { half.old.store ≡ course.begun }
@@ -314,19 +314,19 @@ fn begin(
 {
     let cell = match half.begin(automaton, Direction::Backwards, anchored, beside) {
         Ok(cell) => cell,
-        Err(refusal) => return Leg::Over(Ended::GaveUp(from, refusal.is_memory())),
+        Err(refusal) => return Progress::Over(Ended::GaveUp(from, refusal.is_memory())),
     };
     if cell == QUIT {
         return match beside {
-            Some(byte) => Leg::Over(Ended::Quit(byte, from)),
-            None => Leg::Over(Ended::Found(None)),
+            Some(byte) => Progress::Over(Ended::Quit(byte, from)),
+            None => Progress::Over(Ended::Found(None)),
         };
     }
     if has_died(cell) {
-        return Leg::Over(Ended::Found(None));
+        return Progress::Over(Ended::Found(None));
     }
     let row = row_of(cell);
-    Leg::Through(Stand { row, met: None })
+    Progress::Through(Stand { row, met: None })
 }
 
 /// Ends a search that came to its lower bound. The byte before that, or the beginning of what the
@@ -339,7 +339,7 @@ fn finish<C: Cursor>(
     end: usize,
     stand: Stand,
 ) -> Ended
-    ghost course: { Course }
+    ghost course: { Request }
     requires same { frame_of automaton.now direction.Backwards ≡ course.frame }
     requires at { IsAtDown course half.old end stand }
     requires seen { Keeps course.seen input.old }
@@ -374,7 +374,7 @@ pub(crate) fn search<C: Cursor>(
     end: usize,
     earliest: bool,
 ) -> Ended
-    ghost course: { Course }
+    ghost course: { Request }
     requires course { course ≡ record { frame = frame_of automaton.now direction.Backwards; begun = half.old.store; seen = input.old; from = from; bound = end; anchored = anchored.now; earliest = earliest; may_rest = false } }
     requires half { IsHalf course.frame half.old }
     requires asked { IsAsked course.frame.machine anchored.now }
@@ -386,12 +386,12 @@ pub(crate) fn search<C: Cursor>(
 {
     let beside = byte_ahead(input, from);
     let stand = match begin(automaton, half, anchored, beside, from) {
-        Leg::Through(stand) => stand,
-        Leg::Over(ended) => return ended,
+        Progress::Through(stand) => stand,
+        Progress::Over(ended) => return ended,
     };
     match cross(automaton, half, input, from, end, stand, earliest) {
-        Leg::Through(last) => finish(automaton, half, input, end, last),
-        Leg::Over(ended) => ended,
+        Progress::Through(last) => finish(automaton, half, input, end, last),
+        Progress::Over(ended) => ended,
     }
 }
 

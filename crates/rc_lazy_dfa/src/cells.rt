@@ -45,7 +45,7 @@ pub(crate) fn has_died(cell: usize) -> bool
 pub(crate) fn marks(state: &State) -> usize
     ensures { result ≡ marks (state_of state.now) }
 {
-    let met = if state.stop.is_some() { MET } else { 0 };
+    let met = if state.matched.is_some() { MET } else { 0 };
     let dead = if state.list.is_empty() && !state.goes_on {
         DEAD
     } else {

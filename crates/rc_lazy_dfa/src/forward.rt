@@ -10,11 +10,11 @@ ghost use Rattle.rc_dfa.specs.Automata.{machine_of};
 ghost use Rattle.rc_dfa.specs.Ended.{HasEnded, gave_up};
 ghost use Rattle.rc_program.specs.Sought.{text_of};
 ghost use Rattle.rc_lazy_dfa.specs.Halves.{IsHalf};
-ghost use Rattle.rc_lazy_dfa.specs.Courses.{Course, IsAt, IsLeg, IsOver, MayGiveUp, StandsAt, StandsNoted, text_in};
+ghost use Rattle.rc_lazy_dfa.specs.Courses.{Request, IsAt, IsLeg, IsOver, MayGiveUp, StandsAt, StandsNoted, text_in};
 
 use crate::cells::{MET, QUIT, UNKNOWN, has_died, row_of};
 use crate::half::Half;
-use crate::run::{Leg, Noted, Stand, found, met_by, told};
+use crate::run::{Noted, Progress, Stand, found, met_by, told};
 use crate::store::Store;
 use rc_dfa::automaton::{Automaton, Direction};
 use rc_dfa::ended::Ended;
@@ -60,7 +60,7 @@ fn cell_at(
     start: usize,
     here: Noted,
 ) -> usize
-    ghost course: { Course }
+    ghost course: { Request }
     requires held { Held course.frame store.now }
     requires cells { cells.now ≡ store.now.cells.items }
     requires classes { classes.now ≡ course.frame.classes }
@@ -89,7 +89,7 @@ fn stride(
     start: usize,
     here: Noted,
 ) -> (usize, usize)
-    ghost course: { Course }
+    ghost course: { Request }
     requires held { Held course.frame store.now }
     requires cells { cells.now ≡ store.now.cells.items }
     requires classes { classes.now ≡ course.frame.classes }
@@ -188,7 +188,7 @@ fn run(
     stand: Stand,
     limit: usize,
 ) -> (usize, Stand)
-    ghost course: { Course }
+    ghost course: { Request }
     requires same { frame_of automaton.now direction.Forwards ≡ course.frame }
     requires held { Held course.frame store.now }
     requires stands { StandsAt course store.now start stand }
@@ -243,8 +243,8 @@ fn step(
     earliest: bool,
     may_rest: bool,
     rest_from: usize,
-) -> Leg
-    ghost course: { Course }
+) -> Progress
+    ghost course: { Request }
     requires same { frame_of automaton.now direction.Forwards ≡ course.frame }
     requires at { IsAt course half.old at stand }
     requires bound { course.bound ≤ slice_end course.seen }
@@ -258,23 +258,23 @@ fn step(
     half.serve(1);
     let cell = match half.next(automaton, Direction::Forwards, stand.row, Some(byte)) {
         Ok(cell) => cell,
-        Err(refusal) => return Leg::Over(Ended::GaveUp(at, refusal.is_memory())),
+        Err(refusal) => return Progress::Over(Ended::GaveUp(at, refusal.is_memory())),
     };
     if cell == QUIT {
-        return Leg::Over(Ended::Quit(byte, at));
+        return Progress::Over(Ended::Quit(byte, at));
     }
     let met = met_by(&half.store, cell, at, stand.met);
     if has_died(cell) {
-        return Leg::Over(found(automaton, met));
+        return Progress::Over(found(automaton, met));
     }
     if earliest && met.is_some() {
-        return Leg::Over(found(automaton, met));
+        return Progress::Over(found(automaton, met));
     }
     let row = row_of(cell);
     if may_rest && at >= rest_from && met.is_none() && half.store.idles_at(row) {
-        return Leg::Over(Ended::Idle(at + 1));
+        return Progress::Over(Ended::Idle(at + 1));
     }
-    Leg::Through(Stand { row, met })
+    Progress::Through(Stand { row, met })
 }
 
 /// Runs over the chunks from the position `from` to `end`.
@@ -289,8 +289,8 @@ fn cross<C: Cursor>(
     earliest: bool,
     may_rest: bool,
     rest_from: usize,
-) -> Leg
-    ghost course: { Course }
+) -> Progress
+    ghost course: { Request }
     requires same { frame_of automaton.now direction.Forwards ≡ course.frame }
     requires at { IsAt course half.old from begin }
     requires seen { Keeps course.seen input.old }
@@ -322,20 +322,20 @@ fn cross<C: Cursor>(
                 may_rest,
                 rest_from,
             ) {
-                Leg::Through(next) => {
+                Progress::Through(next) => {
                     stand = next;
                     at += read + 1;
                 }
-                Leg::Over(ended) => return Leg::Over(ended),
+                Progress::Over(ended) => return Progress::Over(ended),
             }
         } else {
             at += read;
             if may_rest && at >= rest_from && is_idle_at(half, stand) {
-                return Leg::Over(Ended::Idle(at));
+                return Progress::Over(Ended::Idle(at));
             }
         }
     }
-    Leg::Through(stand)
+    Progress::Through(stand)
 }
 
 /// Begins a search at the position: the byte before it decides the start state.
@@ -346,8 +346,8 @@ fn begin(
     anchored: &Anchored,
     beside: Option<u8>,
     from: usize,
-) -> Leg
-    ghost course: { Course }
+) -> Progress
+    ghost course: { Request }
     requires same { frame_of automaton.now direction.Forwards ≡ course.frame }
     requires half { IsHalf course.frame half.old }
     requires begun { half.old.store ≡ course.begun }
@@ -362,19 +362,19 @@ fn begin(
 {
     let cell = match half.begin(automaton, Direction::Forwards, anchored, beside) {
         Ok(cell) => cell,
-        Err(refusal) => return Leg::Over(Ended::GaveUp(from, refusal.is_memory())),
+        Err(refusal) => return Progress::Over(Ended::GaveUp(from, refusal.is_memory())),
     };
     if cell == QUIT {
         return match beside {
-            Some(byte) => Leg::Over(Ended::Quit(byte, from - 1)),
-            None => Leg::Over(Ended::Found(None)),
+            Some(byte) => Progress::Over(Ended::Quit(byte, from - 1)),
+            None => Progress::Over(Ended::Found(None)),
         };
     }
     if has_died(cell) {
-        return Leg::Over(Ended::Found(None));
+        return Progress::Over(Ended::Found(None));
     }
     let row = row_of(cell);
-    Leg::Through(Stand { row, met: None })
+    Progress::Through(Stand { row, met: None })
 }
 
 /// Ends a search that came to its upper bound. The byte beyond, or the end of what the search sees,
@@ -387,7 +387,7 @@ fn finish<C: Cursor>(
     end: usize,
     stand: Stand,
 ) -> Ended
-    ghost course: { Course }
+    ghost course: { Request }
     requires same { frame_of automaton.now direction.Forwards ≡ course.frame }
     requires at { IsAt course half.old end stand }
     requires seen { Keeps course.seen input.old }
@@ -423,7 +423,7 @@ pub(crate) fn search<C: Cursor>(
     may_rest: bool,
     rest_from: usize,
 ) -> Ended
-    ghost course: { Course }
+    ghost course: { Request }
     requires course { course ≡ record { frame = frame_of automaton.now direction.Forwards; begun = half.old.store; seen = input.old; from = from; bound = end; anchored = anchored.now; earliest = earliest; may_rest = may_rest } }
     requires half { IsHalf course.frame half.old }
     requires asked { IsAsked course.frame.machine anchored.now }
@@ -435,14 +435,14 @@ pub(crate) fn search<C: Cursor>(
 {
     let beside = byte_behind(input, from);
     let stand = match begin(automaton, half, anchored, beside, from) {
-        Leg::Through(stand) => stand,
-        Leg::Over(ended) => return ended,
+        Progress::Through(stand) => stand,
+        Progress::Over(ended) => return ended,
     };
     match cross(
         automaton, half, input, from, end, stand, earliest, may_rest, rest_from,
     ) {
-        Leg::Through(last) => finish(automaton, half, input, end, last),
-        Leg::Over(ended) => ended,
+        Progress::Through(last) => finish(automaton, half, input, end, last),
+        Progress::Over(ended) => ended,
     }
 }
 

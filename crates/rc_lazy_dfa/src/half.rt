@@ -43,7 +43,7 @@ fn no_places(alloc: Global) -> State {
             word: false,
         },
         goes_on: false,
-        stop: None,
+        matched: None,
     }
 }
 

@@ -34,7 +34,7 @@ pub(crate) struct Noted {
 
 /// The outcome of a search over some bytes.
 #[derive(Clone, Copy)]
-pub(crate) enum Leg {
+pub(crate) enum Progress {
     /// It goes on after them.
     Through(Stand),
     /// The search ended among them.
@@ -46,7 +46,7 @@ pub(crate) enum Leg {
 pub(crate) fn stop_by(store: &Store, cell: usize) -> Option<usize>
     ghost f: { Frame }
     requires held { Held f store.now }
-    ensures { (t : State) → Names f.width store.now.states cell t → result ≡ t.stop }
+    ensures { (t : State) → Names f.width store.now.states cell t → result ≡ t.matched }
 {
     if cell >= MET {
         return store.stop_at(row_of(cell));
@@ -68,7 +68,7 @@ pub(crate) fn told(
 {
     match noted {
         Some((row, at)) => match store.stop_at(row) {
-            Some(stop) => Some((stop, at)),
+            Some(matched) => Some((matched, at)),
             None => before,
         },
         None => before,
@@ -115,7 +115,7 @@ pub(crate) fn met_by(
 ) -> Option<(usize, usize)>
     ghost f: { Frame }
     requires held { Held f store.now }
-    ensures { (t : State) → Names f.width store.now.states cell t → result ≡ best_at at t.stop before }
+    ensures { (t : State) → Names f.width store.now.states cell t → result ≡ best_at at t.matched before }
 {
     match stop_by(store, cell) {
         Some(place) => Some((place, at)),

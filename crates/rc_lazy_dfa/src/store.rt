@@ -179,11 +179,11 @@ impl Store {
     pub(crate) fn stop_at(&self, row: usize) -> Option<usize>
         ghost f: { Frame }
         requires held { Held f self.now }
-        ensures { (s : states.State) → IsRow f.width self.now.states row s → result ≡ s.stop }
+        ensures { (s : states.State) → IsRow f.width self.now.states row s → result ≡ s.matched }
     {
         let number = row / self.width;
         if number < self.states.len() {
-            return self.states.get(number).stop;
+            return self.states.get(number).matched;
         }
         None
     }

@@ -9,7 +9,7 @@ use Rattle.rc_program.specs.Answer.{first_given}
 use Rattle.rc_needles.specs.declared.hit.Hit.{Hit}
 use Rattle.rc_needles.specs.Needles.{stands_within, first_from, needle_at, find_needle, prefix_needle}
 use Rattle.rc_needles.specs.declared.scan.Scan.{Scan}
-use Rattle.rc_needles.specs.declared.scan.Scan.TheVariants.{Needle, Heads, Teddy}
+use Rattle.rc_needles.specs.declared.scan.Scan.TheVariants.{Needle, FirstBytes, Teddy}
 use Rattle.rc_needles.specs.Scans.{IsScanOf}
 use Rattle.rc_needles.specs.Tables.{numbered, Agrees, IsRuledOut, AreSome}
 use Rattle.rc_needles.specs.Tries.{IsFirstIn}
@@ -47,7 +47,7 @@ are_past needles offset (Needle rest) some is k l =
     let zero : 0 ≡ k = omega (arith, l, is.one) in
     let past : offset < length (numbered needles 0) = omega (arith, is.long, ap length is.is, length-drop offset (numbered needles 0)) in
     subst (λ n. offset < length (numbered needles n)) zero past
-are_past needles offset (Heads heads) some is k l = let long = some k l in let zero = is.0 in omega (arith, long, zero)
+are_past needles offset (FirstBytes heads) some is k l = let long = some k l in let zero = is.0 in omega (arith, long, zero)
 are_past needles offset (Teddy teddy) some is k l = let long = some k l in let zero = is.0 in omega (arith, long, zero)
 
 -- no needle stands whose offset is at the end

@@ -5,8 +5,8 @@ use denote.Struct.Props.{props}
 use Rattle.memchr.specs.Find.{is_byte, is_byte2, is_byte3}
 use Rattle.rc_needles.specs.Teddies.{AreSifted}
 use Rattle.rc_needles.specs.Tables.{numbered, BeginsWithByte}
-use Rattle.rc_needles.specs.declared.scan.Heads.{Heads}
-use Rattle.rc_needles.specs.declared.scan.Heads.TheVariants.{One, Two, Three, Many}
+use Rattle.rc_needles.specs.declared.scan.FirstBytes.{FirstBytes}
+use Rattle.rc_needles.specs.declared.scan.FirstBytes.TheVariants.{One, Two, Three, Many}
 use Rattle.rc_needles.specs.declared.scan.Scan.{Scan}
 use Rattle.rc_needles.specs.declared.scan.Scan.TheVariants as scan
 
@@ -15,11 +15,11 @@ abbrev pub AllBegin : List (List ℕ) → (ℕ → Bool) → Type 0
 AllBegin needles test = (k b : ℕ) → k < length needles → b < 256 → BeginsWithByte (numbered needles k) b → test b ≡ true
 
 -- Each needle begins with one of these bytes, or with one of the table's.
-abbrev pub AreHeadsOf : List (List ℕ) → Heads → Type 0
-AreHeadsOf needles (One a) = AllBegin needles (is_byte a)
-AreHeadsOf needles (Two a b) = AllBegin needles (is_byte2 a b)
-AreHeadsOf needles (Three a b c) = AllBegin needles (is_byte3 a b c)
-AreHeadsOf needles Many = ⊤
+abbrev pub AreFirstBytesOf : List (List ℕ) → FirstBytes → Type 0
+AreFirstBytesOf needles (One a) = AllBegin needles (is_byte a)
+AreFirstBytesOf needles (Two a b) = AllBegin needles (is_byte2 a b)
+AreFirstBytesOf needles (Three a b c) = AllBegin needles (is_byte3 a b c)
+AreFirstBytesOf needles Many = ⊤
 
 -- These are the bytes of the only needle from the offset on, at least two.
 pub record IsRestOf (needles : List (List ℕ)) (offset : ℕ) (rest : List ℕ) : Type 0 where
@@ -30,20 +30,20 @@ pub record IsRestOf (needles : List (List ℕ)) (offset : ℕ) (rest : List ℕ)
 -- The search misses none of the needles, each of which starts `offset` bytes before what it finds.
 abbrev pub IsScanOf : List (List ℕ) → ℕ → Scan → Type 0
 IsScanOf needles offset (scan.Needle rest) = IsRestOf needles offset rest
-IsScanOf needles offset (scan.Heads heads) = (offset ≡ 0) × AreHeadsOf needles heads
+IsScanOf needles offset (scan.FirstBytes heads) = (offset ≡ 0) × AreFirstBytesOf needles heads
 IsScanOf needles offset (scan.Teddy teddy) = (offset ≡ 0) × AreSifted teddy needles
 
 -- It is a fact: there is at most one proof of it.
-pub AreHeadsOf-is_fact : (needles : List (List ℕ)) (heads : Heads) → IsProp (AreHeadsOf needles heads)
-AreHeadsOf-is_fact needles (One a) = hlevel props
-AreHeadsOf-is_fact needles (Two a b) = hlevel props
-AreHeadsOf-is_fact needles (Three a b c) = hlevel props
-AreHeadsOf-is_fact needles Many = hlevel props
+pub AreFirstBytesOf-is_fact : (needles : List (List ℕ)) (heads : FirstBytes) → IsProp (AreFirstBytesOf needles heads)
+AreFirstBytesOf-is_fact needles (One a) = hlevel props
+AreFirstBytesOf-is_fact needles (Two a b) = hlevel props
+AreFirstBytesOf-is_fact needles (Three a b c) = hlevel props
+AreFirstBytesOf-is_fact needles Many = hlevel props
 
 pub IsScanOf-is_fact : (needles : List (List ℕ)) (offset : ℕ) (scan : Scan) → IsProp (IsScanOf needles offset scan)
 IsScanOf-is_fact needles offset (scan.Needle rest) = hlevel props
-IsScanOf-is_fact needles offset (scan.Heads (One a)) = hlevel props
-IsScanOf-is_fact needles offset (scan.Heads (Two a b)) = hlevel props
-IsScanOf-is_fact needles offset (scan.Heads (Three a b c)) = hlevel props
-IsScanOf-is_fact needles offset (scan.Heads Many) = hlevel props
+IsScanOf-is_fact needles offset (scan.FirstBytes (One a)) = hlevel props
+IsScanOf-is_fact needles offset (scan.FirstBytes (Two a b)) = hlevel props
+IsScanOf-is_fact needles offset (scan.FirstBytes (Three a b c)) = hlevel props
+IsScanOf-is_fact needles offset (scan.FirstBytes Many) = hlevel props
 IsScanOf-is_fact needles offset (scan.Teddy teddy) = hlevel props

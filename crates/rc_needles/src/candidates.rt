@@ -2,12 +2,12 @@
 ghost use Rattle.std.specs.Prelude.{◌≡◌, ◌+◌, ◌<◌, ◌≤◌, ℕ, IfSome, IsTrue, List, None, length, slice_index};
 ghost use Rattle.rc_text.specs.Text.{Keeps};
 ghost use Rattle.rc_needles.specs.Needles.{needle_at};
-ghost use Rattle.rc_needles.specs.Scans.{AreHeadsOf, AreHeadsOf-is_fact, IsRestOf};
+ghost use Rattle.rc_needles.specs.Scans.{AreFirstBytesOf, AreFirstBytesOf-is_fact, IsRestOf};
 ghost use Rattle.rc_needles.specs.Teddies.{AreSifted};
 ghost use Rattle.rc_needles.specs.Tables.{Agrees, IsRuledOut, needles_in};
 
 use crate::pairs::{LANES, are_nowhere, first_place};
-use crate::scan::{Heads, Scan, Searcher};
+use crate::scan::{FirstBytes, NeedleSearch, Scan};
 use crate::table::Table;
 use crate::teddy::{LEAST_PIECE, Teddy};
 use memchr::memmem::Finder;
@@ -55,7 +55,7 @@ trait Candidates {
 /// Looks for the only needle, from its bytes at the offset on.
 #[derive(Drop)]
 struct ByRest<'a> {
-    searcher: &'a Searcher,
+    searcher: &'a NeedleSearch,
     rest: &'a Finder<'static>,
     first: u8,
     second: u8,
@@ -90,10 +90,10 @@ impl Candidates for ByRest<'_> {
 /// Looks for a byte with which a needle begins.
 #[derive(Drop)]
 struct ByHead<'a> {
-    searcher: &'a Searcher,
-    heads: Heads,
+    searcher: &'a NeedleSearch,
+    heads: FirstBytes,
     ghost from_start: { searcher.now.offset ≡ 0 },
-    ghost are: { AreHeadsOf (needles_in searcher.now.table.needles.items) heads } by { AreHeadsOf-is_fact (needles_in searcher.now.table.needles.items) heads },
+    ghost are: { AreFirstBytesOf (needles_in searcher.now.table.needles.items) heads } by { AreFirstBytesOf-is_fact (needles_in searcher.now.table.needles.items) heads },
 }
 
 impl Candidates for ByHead<'_> {
@@ -104,12 +104,12 @@ impl Candidates for ByHead<'_> {
     #[inline(always)]
     fn candidate(&self, piece: &[u8]) -> usize {
         match self.heads {
-            Heads::One(one) => memchr(one, piece).unwrap_or(piece.len()),
-            Heads::Two(one, two) => memchr2(one, two, piece).unwrap_or(piece.len()),
-            Heads::Three(one, two, three) => {
+            FirstBytes::One(one) => memchr(one, piece).unwrap_or(piece.len()),
+            FirstBytes::Two(one, two) => memchr2(one, two, piece).unwrap_or(piece.len()),
+            FirstBytes::Three(one, two, three) => {
                 memchr3(one, two, three, piece).unwrap_or(piece.len())
             }
-            Heads::Many => head_candidate(&self.searcher.table, piece),
+            FirstBytes::Many => head_candidate(&self.searcher.table, piece),
         }
     }
 
@@ -122,7 +122,7 @@ impl Candidates for ByHead<'_> {
 /// Looks for the first three bytes of needles, by Teddy.
 #[derive(Drop)]
 struct ByTeddy<'a> {
-    searcher: &'a Searcher,
+    searcher: &'a NeedleSearch,
     teddy: &'a Teddy,
     ghost from_start: { searcher.now.offset ≡ 0 },
     ghost are: { AreSifted teddy.now (needles_in searcher.now.table.needles.items) },
@@ -277,7 +277,7 @@ fn chunks_passed<C: Cursor, L: Candidates>(
 #[inline(never)]
 pub fn place_from<C: Cursor>(
     input: &mut Input<C>,
-    searcher: &Searcher,
+    searcher: &NeedleSearch,
     from: usize,
     end: usize,
 ) -> usize
@@ -289,7 +289,7 @@ pub fn place_from<C: Cursor>(
 {
     match &searcher.scan {
         Scan::Needle(rest) => look_from(input, &by_rest(searcher, rest), from, end),
-        Scan::Heads(heads) => {
+        Scan::FirstBytes(heads) => {
             let heads = *heads;
             look_from(input, &ByHead { searcher, heads }, from, end)
         }
@@ -299,7 +299,7 @@ pub fn place_from<C: Cursor>(
 
 /// The way to look for the only needle, from its bytes at the offset on.
 #[inline(always)]
-fn by_rest<'a>(searcher: &'a Searcher, rest: &'a Finder<'static>) -> ByRest<'a>
+fn by_rest<'a>(searcher: &'a NeedleSearch, rest: &'a Finder<'static>) -> ByRest<'a>
     requires { IsRestOf (needles_in searcher.now.table.needles.items) searcher.now.offset rest.now }
     ensures { result.searcher ≡ searcher.entry }
 {

@@ -9,9 +9,9 @@ ghost use Rattle.rc_needles.specs.Tries.{AreCarriedBy, IsCarried};
 
 use crate::candidates::place_from;
 use crate::hit::Hit;
-use crate::many::seen_in;
+use crate::many::candidate_in;
 use crate::prefilter::Prefilter;
-use crate::scan::{Heads, Scan, Searcher};
+use crate::scan::{FirstBytes, NeedleSearch, Scan};
 use crate::table::Table;
 use crate::trie::{ROOT, Trie};
 use rc_text::cursor::Cursor;
@@ -176,11 +176,11 @@ fn needle_there<C: Cursor>(
 /// Returns the trie if needles are searched for by it: if they have one, and begin with many
 /// different bytes.
 #[inline(always)]
-fn trie_sought(searcher: &Searcher) -> Option<&Trie>
+fn trie_sought(searcher: &NeedleSearch) -> Option<&Trie>
     ensures { IfSome result (λ trie. AreCarriedBy (Some trie.now) (needles_in searcher.now.table.needles.items)) }
 {
     match &searcher.scan {
-        Scan::Heads(Heads::Many) => searcher.table.trie.as_ref(),
+        Scan::FirstBytes(FirstBytes::Many) => searcher.table.trie.as_ref(),
         _ => None,
     }
 }
@@ -204,7 +204,7 @@ fn find_by_trie<C: Cursor>(
     while at < end {
         let piece = piece_from(input, at, end);
         let len = piece.len();
-        let seen = seen_in(table, trie, piece);
+        let seen = candidate_in(table, trie, piece);
         at += seen.passed;
         if seen.number < table.needles.len() {
             return Some(Hit {

@@ -8,7 +8,7 @@ use crate::trie::Trie;
 
 /// The result of a look at a piece.
 #[derive(Clone, Copy)]
-pub struct Seen {
+pub struct Candidate {
     /// How many indices were skipped.
     pub passed: usize,
     /// The number of the first needle that occurs after them. If that isn't known, it is how many
@@ -18,7 +18,7 @@ pub struct Seen {
 
 /// Skips the indices of the piece at which no needle begins, and returns what comes after them.
 #[inline(always)]
-pub fn seen_in(table: &Table, trie: &Trie, piece: &[u8]) -> Seen
+pub fn candidate_in(table: &Table, trie: &Trie, piece: &[u8]) -> Candidate
     requires { AreCarriedBy (Some trie.now) (needles_in table.now.needles.items) }
     ensures within { result.passed ≤ length piece.now }
     ensures passed { (k : ℕ) → k < result.passed → IsRuledOut (needles_in table.now.needles.items) 0 piece.now k }
@@ -28,18 +28,18 @@ pub fn seen_in(table: &Table, trie: &Trie, piece: &[u8]) -> Seen
     let mut at = trie.opened_from(piece, 0);
     while at < piece.len() {
         let Some(number) = trie.lead(&piece[at..], count) else {
-            return Seen {
+            return Candidate {
                 passed: at,
                 number: count,
             };
         };
         if number < count {
             let number = number_seen(table, piece, at, number);
-            return Seen { passed: at, number };
+            return Candidate { passed: at, number };
         }
         at = trie.opened_from(piece, at + 1);
     }
-    Seen {
+    Candidate {
         passed: piece.len(),
         number: count,
     }

@@ -5,7 +5,7 @@ ghost use Rattle.rc_needles.specs.Tables.{IsUsable, needles_in};
 ghost use Rattle.std.specs.Bool.{Decides};
 ghost use Rattle.rc_needles.specs.Prefilters.{needles_of};
 
-use crate::scan::{Heads, Scan, Searcher, are_long, have_few_heads, searcher_of};
+use crate::scan::{FirstBytes, NeedleSearch, Scan, are_long, have_few_heads, needle_search_of};
 use rc_text::types::MatchKind;
 use std::alloc::{AllocError, Global};
 use std::fmt;
@@ -27,7 +27,7 @@ use std::fmt;
 /// those that begin with the byte there are compared one by one.
 #[derive(Drop)]
 pub struct Prefilter {
-    pub searcher: Searcher,
+    pub searcher: NeedleSearch,
 }
 
 impl Prefilter {
@@ -71,7 +71,7 @@ impl Prefilter {
     pub fn is_fast(&self) -> bool {
         let table = &self.searcher.table;
         match &self.searcher.scan {
-            Scan::Heads(Heads::Many) => false,
+            Scan::FirstBytes(FirstBytes::Many) => false,
             Scan::Teddy(_) => are_long(&table.needles) || have_few_heads(table),
             _ => true,
         }
@@ -109,7 +109,7 @@ pub fn from_needles(alloc: Global, needles: Vec<Vec<u8>>) -> Result<Option<Prefi
     if !is_usable(&needles) {
         return Ok(None);
     }
-    let searcher = searcher_of(alloc, needles)?;
+    let searcher = needle_search_of(alloc, needles)?;
     Ok(Some(Prefilter { searcher }))
 }
 
@@ -133,6 +133,6 @@ pub fn copy_of(alloc: Global, prefilter: &Prefilter) -> Result<Prefilter, AllocE
     for needle in &prefilter.searcher.table.needles {
         needles.push(needle.as_slice().to_vec(alloc)?)?;
     }
-    let searcher = searcher_of(alloc, needles)?;
+    let searcher = needle_search_of(alloc, needles)?;
     Ok(Prefilter { searcher })
 }

@@ -2,7 +2,7 @@
 ghost use Rattle.std.specs.Prelude.{◌≡◌, ◌+◌, ◌<◌, ◌≤◌, IfOk, length, slice_index};
 ghost use Rattle.memchr.specs.Find.{IsFirst};
 ghost use Rattle.rc_needles.specs.Tables.{AreSome, needles_in};
-ghost use Rattle.rc_needles.specs.Scans.{AreHeadsOf, IsScanOf, IsScanOf-is_fact};
+ghost use Rattle.rc_needles.specs.Scans.{AreFirstBytesOf, IsScanOf, IsScanOf-is_fact};
 
 use crate::table::{Table, table_of};
 use crate::teddy::{Teddy, teddy_of};
@@ -15,7 +15,7 @@ const LEAST_COMMON: u8 = 210;
 
 /// The first bytes of needles.
 #[derive(Clone, Copy, Drop)]
-pub enum Heads {
+pub enum FirstBytes {
     /// All needles begin with this byte.
     One(u8),
     /// Each needle begins with one of these bytes.
@@ -32,7 +32,7 @@ pub enum Scan {
     /// The only needle, from its bytes at the offset on.
     Needle(Finder<'static>),
     /// The first bytes of needles.
-    Heads(Heads),
+    FirstBytes(FirstBytes),
     /// The first three bytes of needles, by Teddy.
     Teddy(Teddy),
 }
@@ -40,7 +40,7 @@ pub enum Scan {
 /// The needles, how a piece is searched for them, and how many bytes after a needle's start the
 /// bytes are that are searched for.
 #[derive(Drop)]
-pub struct Searcher {
+pub struct NeedleSearch {
     pub table: Table,
     pub scan: Scan,
     pub offset: usize,
@@ -48,7 +48,7 @@ pub struct Searcher {
 }
 
 /// A searcher for these needles. `Err` means out of memory.
-pub fn searcher_of(alloc: Global, needles: Vec<Vec<u8>>) -> Result<Searcher, AllocError>
+pub fn needle_search_of(alloc: Global, needles: Vec<Vec<u8>>) -> Result<NeedleSearch, AllocError>
     requires { AreSome (needles_in needles.items) }
     ensures { IfOk result (λ s. s.table.needles ≡ needles) }
 {
@@ -57,14 +57,14 @@ pub fn searcher_of(alloc: Global, needles: Vec<Vec<u8>>) -> Result<Searcher, All
         let needle = table.needles[0].as_slice();
         let offset = rare_offset(needle);
         let rest = Finder::new(&needle[offset..]).into_owned(alloc)?;
-        return Ok(Searcher {
+        return Ok(NeedleSearch {
             table,
             scan: Scan::Needle(rest),
             offset,
         });
     }
     let scan = scan_of(&table);
-    Ok(Searcher {
+    Ok(NeedleSearch {
         table,
         scan,
         offset: 0,
@@ -75,13 +75,13 @@ pub fn searcher_of(alloc: Global, needles: Vec<Vec<u8>>) -> Result<Searcher, All
 fn scan_of(table: &Table) -> Scan
     ensures { IsScanOf (needles_in table.now.needles.items) 0 result }
 {
-    let heads = heads_of(table);
-    if matches!(heads, Heads::Many) || suits_teddy(&table.needles) {
+    let heads = first_bytes_of(table);
+    if matches!(heads, FirstBytes::Many) || suits_teddy(&table.needles) {
         if let Some(teddy) = teddy_of(&table.needles) {
             return Scan::Teddy(teddy);
         }
     }
-    Scan::Heads(heads)
+    Scan::FirstBytes(heads)
 }
 
 /// Whether Teddy is faster for several needles than a search for few first bytes: each needle has
@@ -101,7 +101,7 @@ pub fn are_long(needles: &[Vec<u8>]) -> bool {
 
 /// Whether the needles begin with at most three different bytes.
 pub fn have_few_heads(table: &Table) -> bool {
-    !matches!(heads_of(table), Heads::Many)
+    !matches!(first_bytes_of(table), FirstBytes::Many)
 }
 
 /// Whether the needle begins with a byte that is common in texts.
@@ -142,21 +142,21 @@ fn rank(needle: &[u8], at: usize) -> usize
 }
 
 /// Returns the first bytes of the needles.
-fn heads_of(table: &Table) -> Heads
-    ensures { AreHeadsOf (needles_in table.now.needles.items) result }
+fn first_bytes_of(table: &Table) -> FirstBytes
+    ensures { AreFirstBytesOf (needles_in table.now.needles.items) result }
 {
     let Some(one) = first_byte_from(table, 0) else {
-        return Heads::Many;
+        return FirstBytes::Many;
     };
     let Some(two) = first_byte_from(table, one as usize + 1) else {
-        return Heads::One(one);
+        return FirstBytes::One(one);
     };
     let Some(three) = first_byte_from(table, two as usize + 1) else {
-        return Heads::Two(one, two);
+        return FirstBytes::Two(one, two);
     };
     match first_byte_from(table, three as usize + 1) {
-        Some(_) => Heads::Many,
-        None => Heads::Three(one, two, three),
+        Some(_) => FirstBytes::Many,
+        None => FirstBytes::Three(one, two, three),
     }
 }
 

@@ -26,12 +26,12 @@ use Rattle.rc_text.specs.Text.{Searched}
 use Rattle.rc_program.specs.Places.{place_of}
 use Rattle.rc_pikevm.specs.declared.spot.Spot.{Spot}
 use Rattle.rc_pikevm.specs.declared.pass.Ending.{Ending}
-use Rattle.rc_pikevm.specs.declared.threads.Head.{Head}
+use Rattle.rc_pikevm.specs.declared.threads.BareThread.{BareThread}
 use Rattle.rc_pikevm.specs.declared.moves.Move.{Move}
 use Rattle.rc_pikevm.proofs.GrownLemmas.{move_inside, one_at_most}
 use Rattle.rc_pikevm.specs.Roots.{StandsFor}
 use Rattle.rc_pikevm.specs.Alone.{EndsAlone, EndsBy, IsChosen, IsDead, LeadsTo, ReadsOne}
-use Rattle.rc_pikevm.specs.declared.moves.Move.TheVariants.{Fork, Save, Stays, Reads, Stops}
+use Rattle.rc_pikevm.specs.declared.moves.Move.TheVariants.{Fork, Save, Stays, Reads, DeadEnd}
 use Rattle.rc_pikevm.proofs.MoveLemmas.{slot_on, plain_on, matched, waited, turned}
 use Rattle.rc_pikevm.proofs.PassingLemmas.{no_threads}
 use Rattle.rc_pikevm.specs.Races.{EndsThere, Races, starts_to, IsRunFrom}
@@ -78,7 +78,7 @@ module _ (s : Sight) (at : ℕ) where
     pub dead_tried : (p : ℕ) → IsIn (p, at) passed → IsDead s passed (p, at)
     dead_tried p i v x = dead_if_passed (next_of s) Ends i x
 
-    pub dead_stops : (p : ℕ) → IsMove s (p, at) Stops → IsDead s passed (p, at)
+    pub dead_stops : (p : ℕ) → IsMove s (p, at) DeadEnd → IsDead s passed (p, at)
     dead_stops p m = dead_over p [] m.0 m.1 (λ v x. no_ways (next_of s) Ends x)
 
     pub dead_reads : (p q to : ℕ) → IsMove s (p, at) (Reads q to) → IsDead s passed (q, to) → IsDead s passed (p, at)
@@ -258,7 +258,7 @@ pub counted_more : (insertions more : ℕ) (best : Option Ending) → insertions
 counted_more insertions more None h c = tt
 counted_more insertions more (Some r) h c = omega (arith, h, c)
 
-module _ (n hi width at insertions insertions2 : ℕ) (curr next : ThreadList) (t : Thread) (r : Head) (one : curr.items ≡ t ∷ [])
+module _ (n hi width at insertions insertions2 : ℕ) (curr next : ThreadList) (t : Thread) (r : BareThread) (one : curr.items ≡ t ∷ [])
     (moved : next ≡ record curr { items = thread_of r t.slots ∷ [] }) (later : at ≤ r.at) (count : insertions2 ≡ insertions + (r.at - at)) where
   -- the only thread has gone on
   pub lined_moved : IsLined n hi width at insertions curr → r.start ≡ t.start → r.place < n → r.at ≤ hi → IsLined n hi width r.at insertions2 next
@@ -286,7 +286,7 @@ module _ (n hi width at insertions insertions2 : ℕ) (curr next : ThreadList) (
 
 module _ (s : Sight) (n hi width from last at insertions : ℕ) (curr : ThreadList) (best : Option Ending) (found : List (Option ℕ)) where
   -- A pass whose only thread has gone on to x.
-  pub passing_runs : (t : Thread) (r : Head) (insertions2 : ℕ) (next : ThreadList) (is_open : Bool) →
+  pub passing_runs : (t : Thread) (r : BareThread) (insertions2 : ℕ) (next : ThreadList) (is_open : Bool) →
       IsPassing s n hi width from last at insertions curr best found → curr.items ≡ t ∷ [] →
       next ≡ record curr { items = thread_of r t.slots ∷ [] } → t.at ≡ at → r.start ≡ t.start → r.place < n → at ≤ r.at → r.at ≤ hi →
       insertions2 ≡ insertions + (r.at - at) → is_open ≡ is_none best →
@@ -362,7 +362,7 @@ module _ (s : Sight) (n hi width last at insertions : ℕ) (curr : ThreadList) (
   }
 
   -- one thread waits for the next position
-  pub lined_one : (r : Head) (slots : List (Option ℕ)) (next : ThreadList) → next ≡ record curr { items = thread_of r slots ∷ [] } →
+  pub lined_one : (r : BareThread) (slots : List (Option ℕ)) (next : ThreadList) → next ≡ record curr { items = thread_of r slots ∷ [] } →
       r.at ≡ at + 1 → r.start ≡ at → r.place < n → at + 1 ≤ hi → IsLined n hi width (at + 1) (insertions + 1) next
   lined_one r slots next e here start place within = record {
     inside = subst (λ (l : ThreadList). AllIn n (at + 1) (min hi (at + 1 + 3)) l.items) (sym e) ((place, omega (arith, here), omega (arith, here, within)), tt);
@@ -377,7 +377,7 @@ module _ (s : Sight) (n hi width last at insertions : ℕ) (curr : ThreadList) (
 
 module _ (s : Sight) (n hi width from last at insertions : ℕ) (curr : ThreadList) (best : Option Ending) (found : List (Option ℕ)) where
   -- A pass for the longest walk whose only thread has gone on to x.
-  pub runs_alone : (t : Thread) (r : Head) (insertions2 : ℕ) (next : ThreadList) → IsRunFrom s n hi width from last at insertions curr best found →
+  pub runs_alone : (t : Thread) (r : BareThread) (insertions2 : ℕ) (next : ThreadList) → IsRunFrom s n hi width from last at insertions curr best found →
       curr.items ≡ t ∷ [] → next ≡ record curr { items = thread_of r t.slots ∷ [] } → t.at ≡ at → r.start ≡ t.start → r.place < n → at ≤ r.at →
       r.at ≤ hi → insertions2 ≡ insertions + (r.at - at) →
       ((all : List (Trace × Pair)) → Races s all t.at [] [] ((trace t.start t.slots, (t.place, t.at)) ∷ starts_to width t.at last) best found →

@@ -14,7 +14,7 @@ use Rattle.rc_pikevm.specs.Trace.{Trace, note_at}
 use Rattle.rc_pikevm.specs.Passing.{Carries}
 use Rattle.rc_pikevm.specs.Moves.{IsMove}
 use Rattle.rc_pikevm.specs.Entrances.{AreWays, IsOnWay, IsShut, IsWayIn, stays_in, goes_in}
-use Rattle.rc_pikevm.specs.declared.moves.Move.TheVariants.{Stops}
+use Rattle.rc_pikevm.specs.declared.moves.Move.TheVariants.{DeadEnd}
 use Rattle.rc_pikevm.proofs.OnwardLemmas.{IsOnlyWay, only_first, only_second, carries_by}
 
 pub choice_on : (pattern : Option ℕ) (ns : List ℕ) → is_match_place pattern (choice ns) ≡ false
@@ -23,7 +23,7 @@ choice_on (Some p) ns = refl
 
 module _ (s : Sight) (at : ℕ) where
   -- where a thread stops, no walk leads on
-  pub stops_shut : (b : ℕ) → IsMove s (b, at) Stops → IsShut s (b, at)
+  pub stops_shut : (b : ℕ) → IsMove s (b, at) DeadEnd → IsShut s (b, at)
   stops_shut b stops passed v x =
       dead_if_tried (next_of s) (λ n. IsTrue (ends s n)) (λ e. true≢false (sym e ∙ stops.1))
       (λ w r. no_ways (next_of s) (λ n. IsTrue (ends s n)) (subst (λ ms. IsWalk (next_of s) (λ n. IsTrue (ends s n)) ((b, at) ∷ passed) ms w) stops.0 r)) x

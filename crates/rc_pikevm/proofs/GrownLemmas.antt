@@ -14,7 +14,7 @@ use Rattle.rc_pikevm.specs.Entered.{Goes}
 use Rattle.rc_pikevm.specs.Moves.{IsMove}
 use Rattle.rc_pikevm.specs.Passing.{resting_of, frames_of, AllInside, IsMoveInside, AllIn, AllFrom, count_from, HasRoom, IsGrown}
 use Rattle.rc_pikevm.specs.declared.moves.Move.{Move}
-use Rattle.rc_pikevm.specs.declared.moves.Move.TheVariants.{Fork, Save, Matches, Stays, Reads, Stops}
+use Rattle.rc_pikevm.specs.declared.moves.Move.TheVariants.{Fork, Save, Matches, Stays, Reads, DeadEnd}
 use Rattle.rc_pikevm.specs.declared.growth.Frame.{Frame}
 
 -- the places that a move names are places of the program
@@ -31,11 +31,11 @@ move_inside s p at (Stays n) closed m =
     ways_closed s.places closed s.text s.hi (p, at) (n, at) (subst (λ ms. IsIn (n, at) ms) (sym m.0) (inl refl))
 move_inside s p at (Reads n to) closed m =
     ways_closed s.places closed s.text s.hi (p, at) (n, to) (subst (λ ms. IsIn (n, to) ms) (sym m.0) (inl refl))
-move_inside s p at Stops closed m = tt
+move_inside s p at DeadEnd closed m = tt
 
 -- the move makes a difference
 abbrev pub Acts : Move → Type 0
-Acts Stops = ⊥
+Acts DeadEnd = ⊥
 Acts move = Unit {0}
 
 -- such a move is the place's
@@ -55,7 +55,7 @@ frames_inside n width slots (Save k p) frames e m all =
 frames_inside n width slots (Matches p) frames e m all = all
 frames_inside n width slots (Stays p) frames e m all = (m, all)
 frames_inside n width slots (Reads p to) frames e m all = all
-frames_inside n width slots Stops frames e m all = all
+frames_inside n width slots DeadEnd frames e m all = all
 
 pub one_at_most : (b : Bool) → (if b then 1 else 0) ≤ 1
 one_at_most true = omega arith
@@ -137,7 +137,7 @@ grown_by n hi start at p slots move threads entered s bound sound few m inside =
     pushed (Save k m) = rw append-nil (omega arith)
     pushed (Matches q) = rw append-nil (omega arith)
     pushed (Stays m) = rw append-nil (omega arith)
-    pushed Stops = rw append-nil (omega arith)
+    pushed DeadEnd = rw append-nil (omega arith)
     pushed (Reads m to) = rw length_push (omega arith)
 
     counted : (move : Move) (q : ℕ) → count_from q (threads.items ++ resting_of start slots move) ≤ count_from q threads.items + 1
@@ -145,7 +145,7 @@ grown_by n hi start at p slots move threads entered s bound sound few m inside =
     counted (Save k m) q = rw append-nil (omega arith)
     counted (Matches r) q = rw append-nil (omega arith)
     counted (Stays m) q = rw append-nil (omega arith)
-    counted Stops q = rw append-nil (omega arith)
+    counted DeadEnd q = rw append-nil (omega arith)
     counted (Reads m to) q = count_one_more q threads.items (record { place = m; at = to; start = start; slots = slots })
 
     begun : (move : Move) (x : ℕ) → x ≤ start → AllFrom x threads.items → AllFrom x (threads.items ++ resting_of start slots move)
@@ -153,7 +153,7 @@ grown_by n hi start at p slots move threads entered s bound sound few m inside =
     begun (Save k m) x h all = rw append-nil all
     begun (Matches q) x h all = rw append-nil all
     begun (Stays m) x h all = rw append-nil all
-    begun Stops x h all = rw append-nil all
+    begun DeadEnd x h all = rw append-nil all
     begun (Reads m to) x h all = from_push x threads.items (record { place = m; at = to; start = start; slots = slots }) all h
 
     within : (move : Move) → Goes s (p, at) move → IsMoveInside n move → AllIn n (at + 1) (min hi (at + 4)) (threads.items ++ resting_of start slots move)
@@ -161,7 +161,7 @@ grown_by n hi start at p slots move threads entered s bound sound few m inside =
     within (Save k q) m i = rw append-nil sound.inside
     within (Matches q) m i = rw append-nil sound.inside
     within (Stays q) m i = rw append-nil sound.inside
-    within Stops m i = rw append-nil sound.inside
+    within DeadEnd m i = rw append-nil sound.inside
     within (Reads q to) g i =
         let m = acts_on s (p, at) (Reads q to) tt g in
         in_push n (at + 1) (min hi (at + 4)) threads.items (record { place = q; at = to; start = start; slots = slots }) sound.inside

@@ -20,7 +20,7 @@ use Rattle.rc_pikevm.specs.declared.growth.Frame.{Frame}
 use Rattle.rc_pikevm.specs.declared.growth.Frame.TheVariants.{Explore}
 use Rattle.rc_pikevm.specs.declared.growth.Growth.{Growth}
 use Rattle.rc_pikevm.specs.declared.moves.Move.{Move}
-use Rattle.rc_pikevm.specs.declared.moves.Move.TheVariants.{Fork, Save, Matches, Stays, Reads, Stops}
+use Rattle.rc_pikevm.specs.declared.moves.Move.TheVariants.{Fork, Save, Matches, Stays, Reads, DeadEnd}
 use Rattle.rc_pikevm.proofs.EnteredLemmas.{has_pairs, pairs_has, pairs_at, pairs_push}
 use Rattle.rc_pikevm.proofs.MarkLemmas.{enters_same, matches_same, skips_same, later_same, some_left, some_right, some_parts, AllLater}
 use Rattle.rc_pikevm.proofs.MoveLemmas.{slot_on}
@@ -102,7 +102,7 @@ module _ (s : Sight) (p at : ℕ) (marks : List Bool) where
       moved_on (Fork a b) frames below m other =
           rw append-nil (ways_on ((a, at) ∷ (b, at) ∷ []) (explored at frames ++ below) m.0 m.1.on)
       moved_on (Stays n) frames below m other = rw append-nil (ways_on ((n, at) ∷ []) (explored at frames ++ below) m.0 m.1.on)
-      moved_on Stops frames below m other = rw append-nil (ways_on [] (explored at frames ++ below) m.0 m.1)
+      moved_on DeadEnd frames below m other = rw append-nil (ways_on [] (explored at frames ++ below) m.0 m.1)
       moved_on (Matches k) frames below m other = absurd (other k refl)
       moved_on (Reads n to) frames below m other =
           same_then (ways_on ((n, to) ∷ []) (explored at frames ++ below) m.0 m.1.on)

@@ -17,7 +17,7 @@ use Rattle.rc_pikevm.specs.Trace.{Trace, note, note_at, trace, done}
 use Rattle.rc_pikevm.specs.Moves.{IsMove, IsPlain}
 use Rattle.rc_pikevm.specs.Passing.{pending, pairs, waits, resting_of, frames_of, slots_after, Carries}
 use Rattle.rc_pikevm.specs.declared.moves.Move.{Move}
-use Rattle.rc_pikevm.specs.declared.moves.Move.TheVariants.{Fork, Save, Matches, Stays, Reads, Stops}
+use Rattle.rc_pikevm.specs.declared.moves.Move.TheVariants.{Fork, Save, Matches, Stays, Reads, DeadEnd}
 use Rattle.rc_pikevm.specs.declared.growth.Frame.{Frame}
 use Rattle.rc_pikevm.proofs.PassLemmas.{waits_pends, turned_pends}
 use Rattle.rc_pikevm.proofs.EnteredLemmas.{has_pairs, pairs_has, pairs_at, pairs_push}
@@ -123,7 +123,7 @@ module _ (s : Sight) where
       moved (Stays n) frames below m other x =
           plain_on ((n, at) ∷ []) (waits start at frames slots ++ below) m.0 m.1
           (subst (λ r. Carries s at r (items ++ p ∷ []) ((trace start slots, (n, at)) ∷ (waits start at frames slots ++ below)) best o) (append-nil rest) x)
-      moved Stops frames below m other x =
+      moved DeadEnd frames below m other x =
           entered_on p (trace start slots) (waits start at frames slots ++ below) fresh m.1
           (subst (λ ms. Carries s at rest (items ++ p ∷ []) (threads (note s.places (trace start slots) (p, at)) ms ++ (waits start at frames slots ++ below)) best o)
           (sym m.0)

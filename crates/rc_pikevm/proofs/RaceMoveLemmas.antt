@@ -18,7 +18,7 @@ use Rattle.rc_pikevm.specs.Alone.{IsDead}
 use Rattle.rc_pikevm.specs.Passing.{pending, pairs, waits, resting_of, frames_of, slots_after}
 use Rattle.rc_pikevm.specs.Races.{IsRacing, EndedBefore, upto, began, leading, kept, Races, IsSought, IsCutOff, EndedBy, IsRecorded, EndsThere}
 use Rattle.rc_pikevm.specs.declared.moves.Move.{Move}
-use Rattle.rc_pikevm.specs.declared.moves.Move.TheVariants.{Fork, Save, Matches, Stays, Reads, Stops}
+use Rattle.rc_pikevm.specs.declared.moves.Move.TheVariants.{Fork, Save, Matches, Stays, Reads, DeadEnd}
 use Rattle.rc_pikevm.specs.declared.growth.Frame.{Frame}
 use Rattle.rc_pikevm.specs.declared.growth.Growth.{Growth}
 use Rattle.rc_pikevm.specs.declared.pass.Ending.{Ending}
@@ -175,7 +175,7 @@ module _ (s : Sight) (all : List (Trace × Pair)) (at : ℕ) where
     raced_moves (Stays n) frames below m other x =
         subst (λ r. After r ((trace start slots, (n, at)) ∷ (waits start at frames slots ++ below))) (sym (append-nil rest))
         (plain_on rest items best found p start slots fresh sought ((n, at) ∷ []) (waits start at frames slots ++ below) m.0 m.1 x)
-    raced_moves Stops frames below m other x =
+    raced_moves DeadEnd frames below m other x =
         subst (λ r. After r (waits start at frames slots ++ below)) (sym (append-nil rest))
         (subst (λ ms. After rest (threads (note s.places (trace start slots) (p, at)) ms ++ (waits start at frames slots ++ below))) m.0
         (entered_on rest items best found p (trace start slots) (waits start at frames slots ++ below) fresh m.1 sought x))

@@ -14,7 +14,7 @@ use Rattle.rc_pikevm.specs.Moves.{IsMove}
 use Rattle.rc_pikevm.specs.Passing.{pairs, resting_of, frames_of}
 use Rattle.rc_pikevm.specs.Spread.{Runner, running, SomeSpells, span_of, Offers, IsTop, Seeks, BeginFrom, IsGreater, IsOrdered, AllBefore, IsRising, runners_of}
 use Rattle.rc_pikevm.specs.declared.moves.Move.{Move}
-use Rattle.rc_pikevm.specs.declared.moves.Move.TheVariants.{Fork, Save, Matches, Stays, Reads, Stops}
+use Rattle.rc_pikevm.specs.declared.moves.Move.TheVariants.{Fork, Save, Matches, Stays, Reads, DeadEnd}
 use Rattle.rc_pikevm.specs.declared.growth.Frame.{Frame}
 use Rattle.rc_pikevm.specs.declared.growth.Frame.TheVariants.{Explore, Restore}
 use Rattle.rc_pikevm.specs.declared.pass.Ending.{Ending}
@@ -55,7 +55,7 @@ ordered_by start ts (Fork a b) h = rw append-nil h
 ordered_by start ts (Save k m) h = rw append-nil h
 ordered_by start ts (Matches q) h = rw append-nil h
 ordered_by start ts (Stays m) h = rw append-nil h
-ordered_by start ts Stops h = rw append-nil h
+ordered_by start ts DeadEnd h = rw append-nil h
 ordered_by start ts (Reads m to) h = ordered_push ts (record { place = m; at = to; start = start; slots = [] }) h
 
 module _ (s : Sight) where
@@ -127,7 +127,7 @@ module _ (s : Sight) where
       moved_on (Stays n) frames below m other low x =
           ways_on ((n, at) ∷ []) (runners_of start at frames ++ below) m.0 m.1.on (begin_more start at frames below low)
           (subst (λ r. Seeks s at r (items ++ p ∷ []) ((start, (n, at)) ∷ (runners_of start at frames ++ below)) best o) (append-nil rest) x)
-      moved_on Stops frames below m other low x =
+      moved_on DeadEnd frames below m other low x =
           ways_on [] (runners_of start at frames ++ below) m.0 m.1 (begin_more start at frames below low)
           (subst (λ r. Seeks s at r (items ++ p ∷ []) (runners_of start at frames ++ below) best o) (append-nil rest) x)
       moved_on (Matches q) frames below m other low x = absurd (other q refl)

@@ -13,7 +13,7 @@ use Rattle.rc_pikevm.specs.Passing.{Carries, waits, resting_of, slots_after}
 use Rattle.rc_pikevm.specs.Spread.{Runner, Seeks, BeginFrom, IsGreater, IsOrdered, runners_of}
 use Rattle.rc_pikevm.specs.declared.growth.Growth.{Growth}
 use Rattle.rc_pikevm.specs.declared.moves.Move.{Move}
-use Rattle.rc_pikevm.specs.declared.moves.Move.TheVariants.{Fork, Save, Matches, Stays, Reads, Stops}
+use Rattle.rc_pikevm.specs.declared.moves.Move.TheVariants.{Fork, Save, Matches, Stays, Reads, DeadEnd}
 use Rattle.rc_pikevm.specs.declared.pass.Ending.{Ending}
 use Rattle.rc_pikevm.proofs.MoveLemmas.{skipped, matched}
 use Rattle.rc_pikevm.proofs.GrownLemmas.{acts_on}
@@ -33,7 +33,7 @@ ended_move (Save k m) q e = absurd (none-some q (sym e))
 ended_move (Matches r) q e = ap Matches (sym (same_Some q r e))
 ended_move (Stays m) q e = absurd (none-some q (sym e))
 ended_move (Reads m to) q e = absurd (none-some q (sym e))
-ended_move Stops q e = absurd (none-some q (sym e))
+ended_move DeadEnd q e = absurd (none-some q (sym e))
 
 module _ (s : Sight) (at p start : ℕ) (g0 g : Growth) where
   -- no walk ends: the place was entered before, or its move is another one

@@ -12,7 +12,7 @@ use Rattle.rc_program.specs.declared.program.Program.{Program}
 use Rattle.rc_pikevm.specs.Trace.{Trace, note}
 use Rattle.rc_pikevm.specs.declared.spot.Course.{Course}
 use Rattle.rc_pikevm.specs.declared.moves.Move.{Move}
-use Rattle.rc_pikevm.specs.declared.moves.Move.TheVariants.{Fork, Save, Matches, Stays, Reads, Stops}
+use Rattle.rc_pikevm.specs.declared.moves.Move.TheVariants.{Fork, Save, Matches, Stays, Reads, DeadEnd}
 
 -- A search as a pass sees it: without its starts, and without what is passed over.
 abbrev pub seen : Program → Searched → Search
@@ -39,7 +39,7 @@ IsMove s n (Save k m) = place_at s.places n.0 ≡ slot k m
 IsMove s n (Matches p) = (place_at s.places n.0 ≡ accept p) × IsTrue (ends s n)
 IsMove s n (Stays m) = (next_of s n ≡ (m, n.1) ∷ []) × IsPlain s n
 IsMove s n (Reads m to) = (next_of s n ≡ (m, to) ∷ []) × IsPlain s n × (n.1 < to) × (to ≤ n.1 + 4) × (to ≤ s.hi)
-IsMove s n Stops = (next_of s n ≡ []) × (ends s n ≡ false)
+IsMove s n DeadEnd = (next_of s n ≡ []) × (ends s n ≡ false)
 
 -- If the pair's place is this one, the move is that one.
 abbrev pub IsMoveAt : Sight → Pair → Place → Move → Type 0
@@ -48,11 +48,11 @@ IsMoveAt s n place move = place_at s.places n.0 ≡ place → IsMove s n move
 -- The move if the test allows it.
 abbrev pub moving : Move → Bool → Move
 moving move true = move
-moving move false = Stops
+moving move false = DeadEnd
 
 -- On to the place and the position, if there is one.
 abbrev pub reading : ℕ → Option ℕ → Move
-reading n None = Stops
+reading n None = DeadEnd
 reading n (Some to) = Reads n to
 
 -- The pattern of a walk that ends by the move.

@@ -8,7 +8,7 @@ use Rattle.rc_pikevm.specs.Sparse.{Members}
 use Rattle.rc_pikevm.specs.Threads.{Thread, ThreadList}
 use Rattle.rc_pikevm.specs.Trace.{Trace, note, trace, done, starts, sets_out}
 use Rattle.rc_pikevm.specs.declared.moves.Move.{Move}
-use Rattle.rc_pikevm.specs.declared.moves.Move.TheVariants.{Fork, Save, Matches, Stays, Reads, Stops}
+use Rattle.rc_pikevm.specs.declared.moves.Move.TheVariants.{Fork, Save, Matches, Stays, Reads, DeadEnd}
 use Rattle.rc_pikevm.specs.declared.growth.Frame.{Frame}
 use Rattle.rc_pikevm.specs.declared.growth.Frame.TheVariants.{Explore, Restore}
 use Rattle.rc_pikevm.specs.declared.pass.Ending.{Ending}
@@ -57,7 +57,7 @@ IsMoveInside n (Save k m) = m < n
 IsMoveInside n (Matches p) = Unit {0}
 IsMoveInside n (Stays m) = m < n
 IsMoveInside n (Reads m to) = m < n
-IsMoveInside n Stops = Unit {0}
+IsMoveInside n DeadEnd = Unit {0}
 
 -- All that is under way at a position: the threads of later positions, the places entered, and the
 -- threads still to come, in order.

@@ -2,7 +2,7 @@
 -- Thread lists: threads in order of preference.
 use Rattle.std.specs.Prelude.{ℕ, List, [], ◌∷◌, take, drop, refl, Option}
 use Rattle.std.specs.Coded.{Coded, code_by, coded×, coded_ℕ, coded_list, coded_option}
-use Rattle.rc_pikevm.specs.declared.threads.Head.{Head}
+use Rattle.rc_pikevm.specs.declared.threads.BareThread.{BareThread}
 
 pub record Thread : Type 0 where
   -- The place that it enters next, and at which position.
@@ -34,10 +34,10 @@ thread_list_code =
     (λ p. record { items = p.0; room = p.1.0; most = p.1.1.0; width = p.1.1.1 }) (λ _. refl)
 
 -- The thread of a head and its slots.
-abbrev pub thread_of : Head → List (Option ℕ) → Thread
+abbrev pub thread_of : BareThread → List (Option ℕ) → Thread
 thread_of head slots = record { place = head.place; at = head.at; start = head.start; slots = slots }
 
 -- A thread for each head, with the next `width` cells as its slots.
-abbrev pub threads_of : ℕ → List Head → List (Option ℕ) → List Thread
+abbrev pub threads_of : ℕ → List BareThread → List (Option ℕ) → List Thread
 threads_of width [] cells = []
 threads_of width (head ∷ heads) cells = thread_of head (take width cells) ∷ threads_of width heads (drop width cells)

@@ -24,7 +24,7 @@ use crate::moves::{Move, look_up};
 use crate::pass::{Ending, end_walk, set_out_alone};
 use crate::scratch::Scratch;
 use crate::spot::{Course, Spot};
-use crate::threads::Head;
+use crate::threads::BareThread;
 use crate::window::{Window, limit, spot_at};
 use rc_program::place::Place;
 
@@ -63,7 +63,7 @@ fn leads_nowhere(spot: &Spot, from: usize, tried: Option<usize>) -> bool
             continue 'ways;
         }
         match look_up(spot, place) {
-            Move::Stops => {
+            Move::DeadEnd => {
                 let Some(other) = later else {
                     return true;
                 };
@@ -217,8 +217,8 @@ pub(crate) fn run(
     window: &Window,
     is_open: bool,
     way: usize,
-    head: Head,
-) -> (Head, Option<usize>)
+    head: BareThread,
+) -> (BareThread, Option<usize>)
     ghost text: { Searched }
     requires setting { IsSetting course text }
     requires window { IsWindow text window.now }
@@ -267,13 +267,13 @@ pub(crate) fn run(
             }
             Move::Matches(number) => {
                 let start = head.start;
-                return (Head { place, at, start }, Some(number));
+                return (BareThread { place, at, start }, Some(number));
             }
             _ => break 'positions,
         }
     }
     let start = head.start;
-    (Head { place, at, start }, None)
+    (BareThread { place, at, start }, None)
 }
 
 /// Skips starts from `at` on from which no walk leads on, while no thread is under way. Returns the
@@ -316,7 +316,7 @@ pub(crate) fn seek(
             return (here, None);
         };
         match step {
-            Move::Stops => {}
+            Move::DeadEnd => {}
             Move::Reads(next, to) => {
                 if to != here + 1 {
                     return (here, None);
@@ -386,7 +386,7 @@ fn go_alone(
 
 /// Moves the only thread elsewhere, `count` positions further.
 #[inline(always)]
-pub(crate) fn move_alone(head: Head, count: usize, scratch: &mut Scratch)
+pub(crate) fn move_alone(head: BareThread, count: usize, scratch: &mut Scratch)
     requires small { scratch.old.insertions + count < 2 ^ 128 }
     requires alone { length scratch.old.curr.items ≡ 1 }
     ensures insertions { scratch.new.insertions ≡ scratch.old.insertions + count }

@@ -2,7 +2,7 @@
 
 use crate::growth::Frame;
 use crate::scratch::Scratch;
-use crate::threads::Head;
+use crate::threads::BareThread;
 use std::alloc::{AllocError, Global};
 use std::marker::Model;
 use std::mem::size_of;
@@ -55,7 +55,7 @@ impl Cache {
     /// Returns about how many bytes the cache has allocated for its lists, or the greatest `usize`
     /// if that is more.
     pub fn memory_usage(&self) -> usize {
-        let heads = self.places.saturating_mul(8 * size_of::<Head>());
+        let heads = self.places.saturating_mul(8 * size_of::<BareThread>());
         let cells = self.places.saturating_mul(8).saturating_add(2);
         let rows = self
             .slots

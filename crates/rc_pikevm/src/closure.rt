@@ -14,7 +14,7 @@ use crate::growth::{Frame, Growth};
 use crate::heads::is_dead;
 use crate::moves::{after_byte, after_one_of, after_scalar, is_open, may_end};
 use crate::spot::Spot;
-use crate::threads::Head;
+use crate::threads::BareThread;
 use rc_program::place::Place;
 
 /// Writes the position to the slot, and pushes the frame that undoes that.
@@ -83,7 +83,7 @@ fn read(place: usize, to: Option<usize>, start: usize, growth: &mut Growth)
     };
     growth
         .threads
-        .push(Head { place, at, start }, &growth.slots);
+        .push(BareThread { place, at, start }, &growth.slots);
 }
 
 /// Makes the transition of a place. Places reached without reading go onto the stack, the preferred

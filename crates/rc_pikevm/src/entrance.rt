@@ -33,7 +33,7 @@ pub fn is_shut(spot: &Spot, place: usize) -> bool
         return is_dead(spot, place);
     }
     match look_up(spot, place) {
-        Move::Stops => true,
+        Move::DeadEnd => true,
         _ => false,
     }
 }

@@ -31,7 +31,7 @@ pub enum Move {
     /// At a place and a later position: the place, and the position in bytes.
     Reads(usize, usize),
     /// Not at all.
-    Stops,
+    DeadEnd,
 }
 
 /// Returns the transition of a place that a thread enters at the spot.
@@ -45,20 +45,20 @@ pub fn look_up(spot: &Spot, place: usize) -> Move
     match &spot.course.program.places[place] {
         Place::Choice(first, second) => Move::Fork(*first, *second),
         Place::Pass(next) => Move::Stays(*next),
-        Place::Dead => Move::Stops,
+        Place::Dead => Move::DeadEnd,
         Place::Byte(byte, next) => reading(*next, after_byte(spot, *byte)),
         Place::Bytes(ranges, next) => reading(*next, after_one_of(spot, place, ranges)),
         Place::Scalar(ranges, next) => reading(*next, after_scalar(spot, place, ranges)),
         Place::Guard(look, next) => {
             if !is_open(spot, *look) {
-                return Move::Stops;
+                return Move::DeadEnd;
             }
             Move::Stays(*next)
         }
         Place::Slot(slot, next) => Move::Save(*slot, *next),
         Place::Accept(number) => {
             if !may_end(spot, *number) {
-                return Move::Stops;
+                return Move::DeadEnd;
             }
             Move::Matches(*number)
         }
@@ -72,7 +72,7 @@ fn reading(place: usize, to: Option<usize>) -> Move
     ensures { result ≡ reading place to }
 {
     let Some(at) = to else {
-        return Move::Stops;
+        return Move::DeadEnd;
     };
     Move::Reads(place, at)
 }

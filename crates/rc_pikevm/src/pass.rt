@@ -33,7 +33,7 @@ use crate::growth::{Growth, copy_row};
 use crate::heads::is_dead;
 use crate::scratch::Scratch;
 use crate::spot::{Course, Spot};
-use crate::threads::{Head, Threads};
+use crate::threads::{BareThread, Threads};
 use crate::window::{open, reach, spot_at};
 use rc_needles::literal::find_from;
 use rc_needles::prefilter::Prefilter;
@@ -300,7 +300,7 @@ pub fn set_out_alone(course: Course, at: usize, root: usize, next: usize, scratc
 {
     empty(&mut scratch.next.slots);
     scratch.curr.push(
-        Head {
+        BareThread {
             place: next,
             at: at + 1,
             start: at,

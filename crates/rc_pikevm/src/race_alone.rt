@@ -14,13 +14,13 @@ use crate::alone::{is_worth, move_alone, opening, run, seek};
 use crate::pass::{Ending, end_walk, set_out_alone};
 use crate::scratch::Scratch;
 use crate::spot::Course;
-use crate::threads::Head;
+use crate::threads::BareThread;
 use crate::window::Window;
 
 /// Whether the thread goes on at the position, and the best match so far neither cuts it off nor
 /// ends there or later.
 #[inline(always)]
-fn is_ahead(head: Head, best: Option<Ending>, at: usize) -> bool
+fn is_ahead(head: BareThread, best: Option<Ending>, at: usize) -> bool
     ensures { IsTrue result → (head.at ≡ at) × IsAhead best head.start at }
 {
     if head.at != at {

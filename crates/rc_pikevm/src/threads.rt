@@ -8,7 +8,7 @@ use std::mem;
 
 /// A thread without its slots.
 #[derive(Clone, Copy)]
-pub struct Head {
+pub struct BareThread {
     /// The place that it enters next.
     pub place: usize,
     /// The position at which it enters that place, in bytes.
@@ -20,7 +20,7 @@ pub struct Head {
 /// Threads in order of preference, each with the same number of slots.
 #[derive(Drop)]
 pub struct Threads {
-    heads: Vec<Head>,
+    heads: Vec<BareThread>,
     /// The slots, `width` for each thread.
     rows: Vec<Option<usize>>,
     room: usize,
@@ -87,7 +87,7 @@ impl Threads {
     }
 
     /// Returns the thread at an index, and its slots.
-    pub fn get(&self, index: usize) -> (Head, &[Option<usize>])
+    pub fn get(&self, index: usize) -> (BareThread, &[Option<usize>])
         requires { index < length self.now.items }
         ensures item { slice_get self.now.items index ≡ Some (thread_of result.0 result.1.now) }
         ensures width { length result.1.now ≡ self.now.width }
@@ -98,7 +98,7 @@ impl Threads {
     }
 
     /// Replaces the only thread's head, and keeps its slots.
-    pub fn move_first(&mut self, head: Head)
+    pub fn move_first(&mut self, head: BareThread)
         requires { length self.old.items ≡ 1 }
         ensures { (t : Thread) → self.old.items ≡ t ∷ [] → self.new ≡ record self.old { items = thread_of head t.slots ∷ [] } }
     {
@@ -120,7 +120,7 @@ impl Threads {
     }
 
     /// Appends a thread.
-    pub fn push(&mut self, head: Head, slots: &[Option<usize>])
+    pub fn push(&mut self, head: BareThread, slots: &[Option<usize>])
         requires room { length self.old.items < self.old.room }
         requires width { length slots.now ≡ self.old.width }
         ensures { self.new ≡ record self.old { items = self.old.items ++ thread_of head slots.now ∷ [] } }

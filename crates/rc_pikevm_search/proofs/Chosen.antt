@@ -21,7 +21,7 @@ use Rattle.rc_literals.proofs.AnswerLemmas.{literal_law}
 use Rattle.rc_literals.proofs.CoverLemmas.{cover_law}
 use Rattle.rc_literals.proofs.ExactLemmas.{literals_usable}
 use Rattle.rc_pikevm_search.specs.Choices.{exact_needles, IsGuard, NoneServes}
-use Rattle.rc_pikevm_search.specs.Strategies.{AreAnswers}
+use Rattle.rc_pikevm_search.specs.Literals.{AreAnswers}
 
 -- needles that cover the patterns
 pub covering_sound : (hs : List Re) (needles : List (List ℕ)) (q : Sought) → All HasBounds hs → ((t : Text) → Covers t hs needles) →

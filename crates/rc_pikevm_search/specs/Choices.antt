@@ -6,8 +6,8 @@ use Rattle.rc_needles.specs.Prefilters.{needles_of}
 use Rattle.rc_literals.specs.Prefixes.{ArePrefixes, EachBegins}
 use Rattle.rc_text.specs.declared.types.MatchKind.{MatchKind}
 use Rattle.rc_text.specs.declared.types.MatchKind.TheVariants.{All as all_matches, LeftmostFirst as leftmost_first, LeftmostLongest as leftmost_longest}
-use Rattle.rc_pikevm_search.specs.declared.strategy.Strategy.{Strategy}
-use Rattle.rc_pikevm_search.specs.declared.strategy.Strategy.TheVariants.{Pass, Guarded, Literal}
+use Rattle.rc_pikevm_search.specs.declared.literals.Literals.{Literals}
+use Rattle.rc_pikevm_search.specs.declared.literals.Literals.TheVariants.{Absent, Guarded, Exact}
 
 -- The texts of one pattern that is a literal, or an alternation of literals.
 abbrev pub exact_needles : List Re → Option (List (List ℕ))
@@ -15,19 +15,19 @@ exact_needles (h ∷ []) = literals_of h
 exact_needles _ = None
 
 -- The needles with which walks begin.
-abbrev pub guarding : Strategy → Option (List (List ℕ))
-guarding Pass = None
+abbrev pub guarding : Literals → Option (List (List ℕ))
+guarding Absent = None
 guarding (Guarded p) = Some (needles_of p)
-guarding (Literal p) = Some (needles_of p)
+guarding (Exact p) = Some (needles_of p)
 
 -- The needles that alone decide answers.
-abbrev pub answering : Strategy → Option (List (List ℕ))
-answering Pass = None
+abbrev pub answering : Literals → Option (List (List ℕ))
+answering Absent = None
 answering (Guarded p) = None
-answering (Literal p) = Some (needles_of p)
+answering (Exact p) = Some (needles_of p)
 
 -- The needles that alone decide the answers to searches for a kind of match.
-abbrev pub answering_for : MatchKind → Strategy → Option (List (List ℕ))
+abbrev pub answering_for : MatchKind → Literals → Option (List (List ℕ))
 answering_for leftmost_first s = answering s
 answering_for all_matches s = None
 answering_for leftmost_longest s = None

@@ -31,4 +31,4 @@ pub record IsCount (e : Engine) (s : Searched) (o : Option Found) (n : ℕ) : Ty
 -- A search of the input that found o leaves this in the cache: the count of its pass; or all as it
 -- was, if literals alone decide the match and no pass is made.
 abbrev pub Counts : Engine → Searched → Option Found → Made → Made → Type 0
-Counts e s o c d = MatchOption (answering_for e.kind e.strategy) (IsCount e s o d.insertions) (λ _. d ≡ c)
+Counts e s o c d = MatchOption (answering_for e.kind e.literals) (IsCount e s o d.insertions) (λ _. d ≡ c)

@@ -2,6 +2,6 @@ pub mod Choices
 pub mod Engine
 pub mod Lists
 pub mod Moved
-pub mod Strategies
+pub mod Literals
 pub mod Tells
 pub mod Walks

@@ -8,9 +8,9 @@ ghost use Rattle.rc_program.specs.Text.{Text};
 ghost use Rattle.rc_literals.specs.Literals.{Covers};
 ghost use Rattle.rc_needles.specs.Prefilters.{needles_of};
 ghost use Rattle.rc_pikevm_search.specs.Choices.{answering, exact_needles, guarding, IsGuard};
-ghost use Rattle.rc_pikevm_search.specs.Strategies.{MayGoBy};
+ghost use Rattle.rc_pikevm_search.specs.Literals.{MayGoBy};
 
-use crate::strategy::Strategy;
+use crate::literals::Literals;
 use rc_literals::exact::exact_literals;
 use rc_literals::prefixes::{begins_with_one_of, prefixes};
 use rc_needles::prefilter::{Prefilter, copy_of, from_needles};
@@ -29,7 +29,7 @@ pub fn choose(
     hirs: &[Hir],
     asked: Option<&Prefilter>,
     is_auto: bool,
-) -> Result<Strategy, AllocError>
+) -> Result<Literals, AllocError>
     requires bounds { All HasBounds (map meaning hirs.now) }
     ensures sound { (q : Sought) → q.patterns ≡ map meaning hirs.now
         → IfOk result (MayGoBy (program (shown q.grouped q.patterns)) q.terminator (passes_over q)) }
@@ -41,12 +41,12 @@ pub fn choose(
 {
     if is_auto {
         if let Some(needles) = exact_prefilter(alloc, hirs)? {
-            return Ok(Strategy::Literal(needles));
+            return Ok(Literals::Exact(needles));
         }
     }
     match guard(alloc, hirs, asked, is_auto)? {
-        Some(needles) => Ok(Strategy::Guarded(needles)),
-        None => Ok(Strategy::Pass),
+        Some(needles) => Ok(Literals::Guarded(needles)),
+        None => Ok(Literals::Absent),
     }
 }
 

@@ -2,9 +2,9 @@
 
 ghost use Rattle.std.specs.Prelude.{◌≡◌};
 ghost use Rattle.rc_program.specs.Places.{places_of};
-ghost use Rattle.rc_pikevm_search.specs.Strategies.{MayGoBy, MayGoBy-is_fact};
+ghost use Rattle.rc_pikevm_search.specs.Literals.{MayGoBy, MayGoBy-is_fact};
 
-use crate::strategy::{Strategy, guards_of, literals_of};
+use crate::literals::{Literals, guards_of, literals_of};
 use rc_needles::literal;
 use rc_pikevm::cache::Cache;
 use rc_pikevm::kinds::{find_by_kind, is_match_by_kind, search_slots_by_kind};
@@ -20,8 +20,8 @@ use std::alloc::{AllocError, Global};
 pub struct Engine {
     pub program: Program,
     pub kind: MatchKind,
-    pub strategy: Strategy,
-    ghost sound: { MayGoBy (places_of program.places.items) program.terminator program.passes_over strategy } by { MayGoBy-is_fact (places_of program.places.items) program.terminator program.passes_over strategy },
+    pub literals: Literals,
+    ghost sound: { MayGoBy (places_of program.places.items) program.terminator program.passes_over literals } by { MayGoBy-is_fact (places_of program.places.items) program.terminator program.passes_over literals },
 }
 
 impl Engine {
@@ -55,14 +55,14 @@ impl Engine {
         ensures cache { IsSameCache cache.old cache.new }
         ensures counts { Counts self.now input.new result cache.old cache.new }
     {
-        if let Some(needles) = literals_of(&self.strategy, self.kind) {
+        if let Some(needles) = literals_of(&self.literals, self.kind) {
             return literal::search(input, needles);
         }
         find_by_kind(
             cache,
             input,
             &self.program,
-            guards_of(&self.strategy),
+            guards_of(&self.literals),
             self.kind,
         )
     }
@@ -75,7 +75,7 @@ impl Engine {
         ensures found { result ≡ is_some (answer_by self.now.kind (engine_search self.now input.old)) }
         ensures cache { IsSameCache cache.old cache.new }
     {
-        if let Some(needles) = literals_of(&self.strategy, self.kind) {
+        if let Some(needles) = literals_of(&self.literals, self.kind) {
             let found = literal::search(input, needles);
             return found.is_some();
         }
@@ -83,7 +83,7 @@ impl Engine {
             cache,
             input,
             &self.program,
-            guards_of(&self.strategy),
+            guards_of(&self.literals),
             self.kind,
         )
     }
@@ -109,7 +109,7 @@ impl Engine {
             cache,
             input,
             &self.program,
-            guards_of(&self.strategy),
+            guards_of(&self.literals),
             self.kind,
             slots,
         )

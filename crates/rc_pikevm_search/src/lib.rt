@@ -5,4 +5,4 @@
 pub mod choice;
 pub mod engine;
 pub mod laws;
-pub mod strategy;
+pub mod literals;

@@ -35,9 +35,9 @@ use Rattle.rc_dfa_search.proofs.NeedleLemmas as needle
 use Rattle.rc_dfa_search.proofs.RestLemmas.{rest_law}
 use Rattle.rc_dfa_search.proofs.ToldLemmas.{kept_search}
 use Rattle.rc_strategy.proofs.EarlyLemmas.{spelled_may}
-use Rattle.rc_strategy.specs.Jumps.{ComesOn, GoesEarly, Tells, idle_leg, leg_of}
-use Rattle.rc_strategy.specs.declared.needles.Leg.{Leg}
-use Rattle.rc_strategy.specs.declared.needles.Leg.TheVariants.{Here, Later}
+use Rattle.rc_strategy.specs.Jumps.{ComesOn, GoesEarly, Tells, idle_hint, hint_of}
+use Rattle.rc_strategy.specs.declared.needles.Hint.{Hint}
+use Rattle.rc_strategy.specs.declared.needles.Hint.TheVariants.{Here, Later}
 
 -- ONE RUN
 
@@ -59,21 +59,21 @@ late m t hi from e none (ran first may begins so) = ran first may begins (late_s
 late m t hi from e none (unread p at may) = unread p at may
 
 module _ (hs : List Re) (kind : MatchKind) (left : IsLeftmost kind) (m n : Machine) (s : Search) (case : IsCase hs kind m n No s) (from : ℕ) (above : s.lo ≤ from) where
-  idle_tells : (i : ℕ) → SearchEnds m s.text s.hi from No true (idle_at i) → Tells kind m s from (idle_leg i from s.hi)
+  idle_tells : (i : ℕ) → SearchEnds m s.text s.hi from No true (idle_at i) → Tells kind m s from (idle_hint i from s.hi)
   idle_tells i h = go (nat_lt from i && nat_le i s.hi)
     where
       go : (b : Bool) → Tells kind m s from (if b then Later i else Here)
       go true = (rest_law.rests hs kind m n s from i true left case above h).2
       go false = tt
 
-  ended_tells : (e : Ended) → HasEnded m s.text s.hi from No true true e → IfOk (leg_of e from s.hi) (Tells kind m s from)
+  ended_tells : (e : Ended) → HasEnded m s.text s.hi from No true true e → IfOk (hint_of e from s.hi) (Tells kind m s from)
   ended_tells (Finds None) h = rest_law.met hs kind m n s from None left case above (late m s.text s.hi from (met_last None) refl h)
   ended_tells (Finds (Some met)) h = tt
   ended_tells (Idle i) h = idle_tells i h.1
   ended_tells (Quit b p) h = tt
   ended_tells (GaveUp p memory) h = tt
 
-ended_on : (e : Ended) (from hi : ℕ) → IfOk (leg_of e from hi) (ComesOn from hi)
+ended_on : (e : Ended) (from hi : ℕ) → IfOk (hint_of e from hi) (ComesOn from hi)
 ended_on (Finds None) from hi = tt
 ended_on (Finds (Some met)) from hi = tt
 ended_on (Idle i) from hi = go (nat_lt from i && nat_le i hi) refl
@@ -85,7 +85,7 @@ ended_on (Quit b p) from hi = tt
 ended_on (GaveUp p memory) from hi = tt
 
 -- in code
-module _ (e : Ended) (from bound : ℕ) (leg : Result Leg MatchError) (is : leg ≡ leg_of e from bound) where
+module _ (e : Ended) (from bound : ℕ) (leg : Result Hint MatchError) (is : leg ≡ hint_of e from bound) where
   pub leg_on : IfOk leg (ComesOn from bound)
   leg_on = subst (λ r. IfOk r (ComesOn from bound)) (sym is) (ended_on e from bound)
 
@@ -101,7 +101,7 @@ module _ (e : Ended) (from bound : ℕ) (leg : Result Leg MatchError) (is : leg 
     pub leg_tells : IfOk leg (Tells aim.kind of.ahead (search_for aim hs terminator s) from)
     leg_tells =
         let case = free_case AreOf aim hs terminator s of (omega (arith, above, below, at_bound)) goes.free in
-        subst (λ r. IfOk r (Tells aim.kind of.ahead (search_for aim hs terminator s) from)) (sym (is ∙ ap (leg_of e from) at_bound))
+        subst (λ r. IfOk r (Tells aim.kind of.ahead (search_for aim hs terminator s) from)) (sym (is ∙ ap (hint_of e from) at_bound))
         (ended_tells hs aim.kind goes.kind of.ahead of.back (search_for aim hs terminator s) case from above e ended)
 
 -- FROM WHERE ON

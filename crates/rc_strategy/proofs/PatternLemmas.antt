@@ -23,9 +23,9 @@ use Rattle.rc_program.proofs.ReachLemmas.{longest_law}
 use Rattle.rc_pikevm_search.specs.Engine.{engine_search}
 use Rattle.rc_pikevm_search.specs.declared.engine.Engine.{Engine}
 use Rattle.rc_pikevm.specs.PatternSpans.{AddsSpelled, AreOfFirst}
-use Rattle.rc_strategy.specs.Spans.{BoundsWalks, is_leftmost, leave_none}
+use Rattle.rc_strategy.specs.Lengths.{BoundsWalks, is_leftmost, leave_none}
 use Rattle.rc_strategy.specs.Starts.{IsFirstStart}
-use Rattle.rc_strategy.specs.declared.spans.Spans.{Spans}
+use Rattle.rc_strategy.specs.declared.lengths.Lengths.{Lengths}
 use Rattle.rc_strategy.proofs.SpanLemmas.{none_left}
 
 -- WHERE NOTHING IS SPELLED
@@ -38,7 +38,7 @@ none_adds s set none = record {
 }
 
 -- what is known of spans leaves none
-pub early_adds : (e : Engine) (k : Spans) (s : Searched) (b : Bool) (set : List Bool) → BoundsWalks k (places_of e.program.places.items) →
+pub early_adds : (e : Engine) (k : Lengths) (s : Searched) (b : Bool) (set : List Bool) → BoundsWalks k (places_of e.program.places.items) →
     b ≡ leave_none k s → b ≡ true → AddsSpelled (engine_search e s) set set
 early_adds e k s b set bound is so =
     none_adds (engine_search e s) set

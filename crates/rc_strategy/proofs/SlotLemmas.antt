@@ -27,7 +27,7 @@ use Rattle.rc_pikevm_search.specs.Engine.{engine_search}
 use Rattle.rc_pikevm_search.specs.declared.engine.Engine.{Engine}
 use Rattle.rc_strategy.specs.Narrow.{narrowed}
 use Rattle.rc_strategy.specs.Slots.{NamesGroups}
-use Rattle.rc_strategy.specs.Spans.{is_leftmost}
+use Rattle.rc_strategy.specs.Lengths.{is_leftmost}
 use Rattle.rc_strategy.proofs.NarrowLemmas.{narrow_law}
 
 suits : (low p s : ℕ) (hs : List Re) → low ≤ s → Suit (λ k. low ≤ k) AnyNumber p s hs

@@ -41,13 +41,13 @@ use Rattle.rc_program.specs.Places.{places_of}
 use Rattle.rc_pikevm_search.specs.Engine.{engine_search}
 use Rattle.rc_pikevm_search.specs.declared.engine.Engine.{Engine}
 use Rattle.rc_dfa_search.specs.Reverse.{EndsAtBound}
-use Rattle.rc_strategy.specs.Spans.{KeepsTo, Bounds, BoundsWalks, IsOneLength, either, begin_early, end_late, are_longer, are_shorter, must_fill, leave_none}
-use Rattle.rc_strategy.specs.declared.spans.Spans.{Spans}
+use Rattle.rc_strategy.specs.Lengths.{KeepsTo, Bounds, BoundsWalks, IsOneLength, either, begin_early, end_late, are_longer, are_shorter, must_fill, leave_none}
+use Rattle.rc_strategy.specs.declared.lengths.Lengths.{Lengths}
 
 -- WHERE IT COMES FROM
 
 -- its properties bound a pattern
-pub bounds_own : (h : Re) (k : Spans) (o : Option ℕ) → o ≡ minimum_len h → k.least ≡ unwrap_or o 18446744073709551615 → k.greatest ≡ maximum_len h →
+pub bounds_own : (h : Re) (k : Lengths) (o : Option ℕ) → o ≡ minimum_len h → k.least ≡ unwrap_or o 18446744073709551615 → k.greatest ≡ maximum_len h →
     k.begins ≡ begins_with_look h Start → k.ends ≡ ends_with_look h End → Bounds k h
 bounds_own h k o is least greatest begins ends t i j spelled =
     let r = property_law.least t h i j spelled in
@@ -70,7 +70,7 @@ most_right None p i j n h e = absurd (none-some n e)
 most_right (Some a) None i j n h e = absurd (none-some n e)
 most_right (Some a) (Some b) i j n h e = let l = h b refl in let f = same_Some (max a b) n e in omega (arith, l, f)
 
-either_left : (a b : Spans) (h : Re) → Bounds a h → Bounds (either a b) h
+either_left : (a b : Lengths) (h : Re) → Bounds a h → Bounds (either a b) h
 either_left a b h keep t i j spelled =
     let k = keep t i j spelled in let l = k.least in
     record {
@@ -80,7 +80,7 @@ either_left a b h keep t i j spelled =
       ends = λ e. k.ends (and_parts a.ends b.ends e).0;
     }
 
-either_right : (a b : Spans) (h : Re) → Bounds b h → Bounds (either a b) h
+either_right : (a b : Lengths) (h : Re) → Bounds b h → Bounds (either a b) h
 either_right a b h keep t i j spelled =
     let k = keep t i j spelled in let l = k.least in
     record {
@@ -91,7 +91,7 @@ either_right a b h keep t i j spelled =
     }
 
 -- one more pattern is bound
-pub bounds_more : (a b k : Spans) (hs : List Hir) (i : ℕ) (d : Hir) → i < length hs → k ≡ either a b → Bounds b (meaning (get_or hs i d)) →
+pub bounds_more : (a b k : Lengths) (hs : List Hir) (i : ℕ) (d : Hir) → i < length hs → k ≡ either a b → Bounds b (meaning (get_or hs i d)) →
     All (Bounds a) (map meaning (take i hs)) → All (Bounds k) (map meaning (take (i + 1) hs))
 bounds_more a b k hs i d inside is here all =
     subst (λ x. All (Bounds x) (map meaning (take (i + 1) hs))) (sym is)
@@ -106,17 +106,17 @@ bounds_more a b k hs i d inside is here all =
     longer : map meaning (take (i + 1) hs) ≡ map meaning (take i hs) ++ meaning (get_or hs i d) ∷ []
     longer = ap (λ n. map meaning (take n hs)) one_more ∙ ap (map meaning) (take-suc hs i d inside) ∙ map-append meaning (take i hs) (get_or hs i d ∷ [])
 
-pub bounds_all : (k : Spans) (hs : List Hir) (i : ℕ) → length hs ≤ i → All (Bounds k) (map meaning (take i hs)) → All (Bounds k) (map meaning hs)
+pub bounds_all : (k : Lengths) (hs : List Hir) (i : ℕ) → length hs ≤ i → All (Bounds k) (map meaning (take i hs)) → All (Bounds k) (map meaning hs)
 bounds_all k hs i done all = subst (λ xs. All (Bounds k) (map meaning xs)) (take_all i hs done) all
 
 -- a pattern of the list spells it
-spelled_keeps : (k : Spans) (t : Text) (n : ℕ) (hs : List Re) (p i j : ℕ) → All (Bounds k) hs → SpelledBy t n hs p i j → KeepsTo k t i j
+spelled_keeps : (k : Lengths) (t : Text) (n : ℕ) (hs : List Re) (p i j : ℕ) → All (Bounds k) hs → SpelledBy t n hs p i j → KeepsTo k t i j
 spelled_keeps k t n [] p i j all h = absurd h
 spelled_keeps k t n (r ∷ hs) p i j all (inl own) = All-head (Bounds k) r hs all t i j own.1
 spelled_keeps k t n (r ∷ hs) p i j all (inr later) = spelled_keeps k t (n + 1) hs p i j (All-tail (Bounds k) r hs all) later
 
 -- the walks of their program spell what the patterns spell
-pub bounds_walks : (k : Spans) (grouped : Bool) (hs : List Re) (places : List Place) → All HasBounds (shown grouped hs) → places ≡ program (shown grouped hs) → All (Bounds k) hs →
+pub bounds_walks : (k : Lengths) (grouped : Bool) (hs : List Re) (places : List Place) → All HasBounds (shown grouped hs) → places ≡ program (shown grouped hs) → All (Bounds k) hs →
     BoundsWalks k places
 bounds_walks k grouped hs places bounded same all s m here h =
     let r = (greatest_law.by_program (shown grouped hs) s m bounded (here ∙ same)).0 h in
@@ -145,7 +145,7 @@ or_parts : (a b : Bool) → (a || b) ≡ true → (a ≡ true) ⊎ (b ≡ true)
 or_parts true b e = inl refl
 or_parts false b e = inr e
 
-shorter_so : (k : Spans) (n : ℕ) → are_shorter k n ≡ true → (m : ℕ) × (k.greatest ≡ Some m) × (m < n)
+shorter_so : (k : Lengths) (n : ℕ) → are_shorter k n ≡ true → (m : ℕ) × (k.greatest ≡ Some m) × (m < n)
 shorter_so k n e = go k.greatest refl e
   where
     go : (o : Option ℕ) → k.greatest ≡ o → are_shorter (record k { greatest = o }) n ≡ true → (m : ℕ) × (k.greatest ≡ Some m) × (m < n)
@@ -157,7 +157,7 @@ anchors No e = e
 anchors Yes e = e
 anchors (Pattern p) e = e
 
-module _ (k : Spans) (places : List Place) (terminator : ℕ) (over : Bool) (s : Searched) (bound : BoundsWalks k places) where
+module _ (k : Lengths) (places : List Place) (terminator : ℕ) (over : Bool) (s : Searched) (bound : BoundsWalks k places) where
   abbrev S : Search
   S = search_over places terminator over s
 
@@ -272,7 +272,7 @@ no_match leftmost_longest s none = sym ((longest_law.answer_none s).1 (λ y h. i
 no_match leftmost_first s none = sym ((answer_law.answer_none s).1 (no_span_no_answer s none))
 
 -- so it is with an engine's search
-pub early_none : (e : Engine) (k : Spans) (s : Searched) (b : Bool) → BoundsWalks k (places_of e.program.places.items) → b ≡ leave_none k s → b ≡ true →
+pub early_none : (e : Engine) (k : Lengths) (s : Searched) (b : Bool) → BoundsWalks k (places_of e.program.places.items) → b ≡ leave_none k s → b ≡ true →
     None ≡ answer_by e.kind (engine_search e s)
 early_none e k s b bound is so =
     no_match e.kind (engine_search e s)
@@ -282,7 +282,7 @@ early_none e k s b bound is so =
 abbrev pub of_length : ℕ → HalfFound → Found
 of_length n h = record { pattern = h.pattern; start = h.offset - n; end = h.offset }
 
-pub length_told : (e : Engine) (k : Spans) (s : Searched) (n : ℕ) → BoundsWalks k (places_of e.program.places.items) → IsOneLength k n → (h : HalfFound) →
+pub length_told : (e : Engine) (k : Lengths) (s : Searched) (n : ℕ) → BoundsWalks k (places_of e.program.places.items) → IsOneLength k n → (h : HalfFound) →
     Some h ≡ option_map half_of (answer_by e.kind (engine_search e s)) →
     (Some (of_length n h) ≡ answer_by e.kind (engine_search e s)) × (low s ≤ h.offset - n) × (h.offset - n ≤ h.offset)
 length_told e k s n bound one h told = go (answer_by e.kind (engine_search e s)) refl told

@@ -29,8 +29,8 @@ use Rattle.rc_dfa_search.specs.declared.search.Aim.{Aim}
 use Rattle.rc_pikevm_search.specs.Engine.{engine_search}
 use Rattle.rc_pikevm_search.specs.declared.engine.Engine.{Engine}
 use Rattle.rc_strategy.specs.Slots.{NamesGroups}
-use Rattle.rc_strategy.specs.Spans.{BoundsWalks, SeeksFromEnd, SeeksGreatestFromEnd, is_leftmost}
-use Rattle.rc_strategy.specs.declared.spans.Spans.{Spans}
+use Rattle.rc_strategy.specs.Lengths.{BoundsWalks, SeeksFromEnd, SeeksGreatestFromEnd, is_leftmost}
+use Rattle.rc_strategy.specs.declared.lengths.Lengths.{Lengths}
 use Rattle.rc_strategy.specs.Tables.{AreHalvesFor, aim_of}
 use Rattle.rc_strategy.proofs.SettleLemmas.{answers_so, settled_by, settled_prop}
 use Rattle.rc_strategy.proofs.SlotLemmas.{program_names}
@@ -149,7 +149,7 @@ module _ (e : Engine) (patterns : ℕ) {AreOf : Machine → Machine → Type 0} 
       (subst (λ places. IsAnswerBy e.kind earliest (search_over places e.program.terminator e.program.passes_over s) found) (sym same) h)))
 
   -- and one from where the search ends, where each match ends there
-  pub tables_tell_from_end : (k : Spans) → BoundsWalks k (places_of e.program.places.items) → SeeksFromEnd e.kind k s → (r : Result (Option Found) MatchError) →
+  pub tables_tell_from_end : (k : Lengths) → BoundsWalks k (places_of e.program.places.items) → SeeksFromEnd e.kind k s → (r : Result (Option Found) MatchError) →
       ((hs : List Re) → places_of e.program.places.items ≡ program hs → AreHalvesOf AreOf a hs e.program.terminator →
       IfOk r (IsMatchToEnd a.earliest (search_for a hs e.program.terminator s))) →
       IfOk r (λ found. found ≡ answer_by e.kind (engine_search e s))
@@ -163,7 +163,7 @@ module _ (e : Engine) (patterns : ℕ) {AreOf : Machine → Machine → Type 0} 
       ∙ same_answer hs same)
 
   -- the greatest too, whether or not matches are passed over
-  pub tables_tell_greatest_from_end : (k : Spans) → BoundsWalks k (places_of e.program.places.items) → SeeksGreatestFromEnd e.kind k s → (r : Result (Option Found) MatchError) →
+  pub tables_tell_greatest_from_end : (k : Lengths) → BoundsWalks k (places_of e.program.places.items) → SeeksGreatestFromEnd e.kind k s → (r : Result (Option Found) MatchError) →
       ((hs : List Re) → places_of e.program.places.items ≡ program hs → AreHalvesOf AreOf (record a { passes_over = false }) hs e.program.terminator →
       IfOk r (IsMatchToEnd a.earliest (search_over (program hs) e.program.terminator false s))) →
       IfOk r (λ found. found ≡ answer_by e.kind (engine_search e s))

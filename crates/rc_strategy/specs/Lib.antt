@@ -9,6 +9,6 @@ pub mod Needed
 pub mod Plans
 pub mod Route
 pub mod Slots
-pub mod Spans
+pub mod Lengths
 pub mod Starts
 pub mod Tables

@@ -20,7 +20,7 @@ AreOff hs limits = (limits.dfa ≡ false) ⊎ IsSomeAnd limits.state_limit (λ m
 
 -- No DFA serves: literals alone decide each answer.
 abbrev pub NoneServe : Engine → Type 0
-NoneServe e = IsSome (answering_for e.kind e.strategy)
+NoneServe e = IsSome (answering_for e.kind e.literals)
 
 -- The DFA of the patterns may not be built: it is switched off, or none serves, or the byte program
 -- has more places than the limit allows.

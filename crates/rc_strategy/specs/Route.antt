@@ -6,19 +6,19 @@ use Rattle.rc_program.specs.Places.{places_of}
 use Rattle.rc_literals.specs.Guard.{IsGuard}
 use Rattle.rc_literals.specs.declared.guard.Guard.{Guard}
 use Rattle.rc_pikevm_search.specs.declared.engine.Engine.{Engine}
-use Rattle.rc_strategy.specs.Spans.{IsOneLength, SeeksFromEnd, SeeksGreatestFromEnd, is_leftmost}
+use Rattle.rc_strategy.specs.Lengths.{IsOneLength, SeeksFromEnd, SeeksGreatestFromEnd, is_leftmost}
 use Rattle.rc_strategy.specs.declared.engines.Engines.{Engines}
 use Rattle.rc_strategy.specs.declared.route.Route.{Route}
 use Rattle.rc_strategy.specs.declared.route.Route.TheVariants.{FromEnd, GreatestFromEnd, OfLength, Along}
-use Rattle.rc_strategy.specs.declared.route.Way.{Way}
-use Rattle.rc_strategy.specs.declared.route.Way.TheVariants.{AllStates, MetStates, NoTables}
+use Rattle.rc_strategy.specs.declared.route.TableChoice.{TableChoice}
+use Rattle.rc_strategy.specs.declared.route.TableChoice.TheVariants.{AllStates, MetStates, NoTables}
 
 -- Searches by the engine's program may rely on the guard, if there is one.
 abbrev pub MayGuard : Engine → Option Guard → Type 0
 MayGuard e guard = MatchOption guard ⊤ (IsGuard (places_of e.program.places.items) e.program.terminator)
 
 -- The facts on which each choice of a DFA relies, if a cache has the lazy DFA's states or not.
-abbrev pub GoesBy : Engines → Bool → Way → Type 0
+abbrev pub GoesBy : Engines → Bool → TableChoice → Type 0
 -- There is a DFA.
 GoesBy e has_states (AllStates d) = e.tables ≡ Some d.now
 -- There is none, but a lazy DFA, and a cache has its states.

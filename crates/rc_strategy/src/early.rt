@@ -15,7 +15,7 @@ use crate::cache::Cache;
 use crate::engines::{Engines, half_of};
 use crate::last::find_greatest_from_end;
 use crate::needles::find_early_guarded;
-use crate::route::{Route, Way};
+use crate::route::{Route, TableChoice};
 use rc_dense_dfa::dense::NoCache;
 use rc_dfa::halves::Halves;
 use rc_dfa_search::search::{Aim, find};
@@ -24,7 +24,7 @@ use rc_literals::guard::Guard;
 use rc_pikevm::cache;
 use rc_pikevm::early::first_end;
 use rc_pikevm_search::engine::Engine;
-use rc_pikevm_search::strategy::{guards_of, literals_of};
+use rc_pikevm_search::literals::{guards_of, literals_of};
 use rc_text::cursor::Cursor;
 use rc_text::input::Input;
 use rc_text::types::{HalfMatch, Match, MatchError};
@@ -72,10 +72,10 @@ fn find_by_pass<C: Cursor>(
     ensures within { IfSome result (IsWithinBounds input.old) }
     ensures cache { IsSameCache cache.old cache.new }
 {
-    if literals_of(&engine.strategy, engine.kind).is_some() {
+    if literals_of(&engine.literals, engine.kind).is_some() {
         return engine.find(cache, input);
     }
-    let needles = guards_of(&engine.strategy);
+    let needles = guards_of(&engine.literals);
     let Some(end) = first_end(cache, input, &engine.program, needles) else {
         return None;
     };
@@ -149,15 +149,15 @@ fn find_in<C: Cursor>(
     ensures within { IfSome result (λ found. IfSome found (IsWithinBounds input.old)) }
     ensures cache { KeepsStates engines.now.lazy cache.old cache.new }
 {
-    match engines.way(cache.is_some()) {
-        Way::AllStates(tables) => find_by_tables(engines, tables, &mut NoCache, input).ok(),
-        Way::MetStates(tables) => {
+    match engines.table_choice(cache.is_some()) {
+        TableChoice::AllStates(tables) => find_by_tables(engines, tables, &mut NoCache, input).ok(),
+        TableChoice::MetStates(tables) => {
             let Some(states) = cache else {
                 return None;
             };
             find_by_tables(engines, tables, states, input).ok()
         }
-        Way::NoTables => None,
+        TableChoice::NoTables => None,
     }
 }
 

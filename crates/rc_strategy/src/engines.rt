@@ -4,16 +4,16 @@ ghost use Rattle.rc_text.specs.Found.{half_of};
 ghost use Rattle.rc_program.specs.Places.{places_of};
 ghost use Rattle.rc_strategy.specs.Needed.{NeedsConfine};
 ghost use Rattle.rc_strategy.specs.Slots.{IsOfPatterns, NamesGroups};
-ghost use Rattle.rc_strategy.specs.Spans.{BoundsWalks};
+ghost use Rattle.rc_strategy.specs.Lengths.{BoundsWalks};
 ghost use Rattle.rc_strategy.specs.Tables.{MayBeLazyFor, MayBeTablesFor};
 
 use crate::cache::Cache;
 use crate::first::find_first;
 use crate::last::find_greatest_from_end;
+use crate::lengths::Lengths;
 use crate::needles::find_early_guarded;
-use crate::route::{Route, Way};
+use crate::route::{Route, TableChoice};
 use crate::slots::fill_slots;
-use crate::spans::Spans;
 use crate::tables::{are_fast, tables_of};
 use rc_captures::captures;
 use rc_captures::captures::Captures;
@@ -27,7 +27,7 @@ use rc_lazy_dfa::lazy::Lazy;
 use rc_literals::guard::{Guard, Needs};
 use rc_needles::prefilter::Prefilter;
 use rc_pikevm_search::engine::Engine;
-use rc_pikevm_search::strategy::guards_of;
+use rc_pikevm_search::literals::guards_of;
 use rc_program::matches::is_again;
 use rc_text::cursor::Cursor;
 use rc_text::input::{Input, advance_start};
@@ -62,7 +62,7 @@ pub struct Engines {
     pub(crate) tables: Option<Dense>,
     pub(crate) lazy: Option<Lazy>,
     pub(crate) patterns: usize,
-    pub(crate) spans: Spans,
+    pub(crate) spans: Lengths,
     /// Literals of which each match contains one, if searches go by them.
     pub(crate) needs: Option<Needs>,
     /// Whether the search for the prefix literals is fast.
@@ -102,7 +102,7 @@ impl Engines {
     ghost use Rattle.rc_strategy.specs.Limits.{AreBarred, AreTooHeavy, IsLazyBarred};
     ghost use Rattle.rc_strategy.specs.Plans.{IsLazyFor, IsShortFor, plan_of};
     ghost use Rattle.rc_strategy.specs.Route.{MayGuard};
-    ghost use Rattle.rc_strategy.specs.Spans.{BoundsWalks, IsOneLength, SeeksFromEnd, is_leftmost};
+    ghost use Rattle.rc_strategy.specs.Lengths.{BoundsWalks, IsOneLength, SeeksFromEnd, is_leftmost};
     ghost use Rattle.rc_strategy.specs.Tables.{AreHalvesFor, aim_of, bytes_taken};
 
     /// The engines of `patterns` patterns, whose program is that of `engine`. `Err` means out of
@@ -117,7 +117,7 @@ impl Engines {
         alloc: Global,
         engine: Engine,
         patterns: usize,
-        spans: Spans,
+        spans: Lengths,
         needs: Option<Needs>,
         limits: Limits,
     ) -> Result<Engines, AllocError>
@@ -135,7 +135,7 @@ impl Engines {
         ensures lazy_none { IfOk result (λ engines. engines.lazy ≡ None → IsLazyBarred engine limits engines.tables ⊎ IsShortFor (plan_of engine hs limits)) }
     {
         let tables = tables_of(alloc, &engine, needs.is_some(), patterns, limits)?;
-        let sought_fast = are_fast(&engine.strategy);
+        let sought_fast = are_fast(&engine.literals);
         Ok(Engines {
             engine,
             tables: tables.dense,
@@ -253,7 +253,7 @@ impl Engines {
         if let Some(guard) = guard {
             return self.find_by_needles(halves, cache, input, guard);
         }
-        match guards_of(&self.engine.strategy) {
+        match guards_of(&self.engine.literals) {
             Some(needles) => self.find_past_quit(halves, cache, input, needles),
             None => search::find(halves, cache, input, self.aim()),
         }
@@ -483,15 +483,15 @@ impl Engines {
         ensures found { IfSome result (λ b. b ≡ is_some (answer_by self.now.engine.kind (engine_search self.now.engine input.old))) }
         ensures cache { KeepsStates self.now.lazy cache.old cache.new }
     {
-        match self.way(cache.is_some()) {
-            Way::AllStates(tables) => self.any_by_tables(tables, &mut NoCache, input).ok(),
-            Way::MetStates(tables) => {
+        match self.table_choice(cache.is_some()) {
+            TableChoice::AllStates(tables) => self.any_by_tables(tables, &mut NoCache, input).ok(),
+            TableChoice::MetStates(tables) => {
                 let Some(states) = cache else {
                     return None;
                 };
                 self.any_by_tables(tables, states, input).ok()
             }
-            Way::NoTables => None,
+            TableChoice::NoTables => None,
         }
     }
 
@@ -508,15 +508,15 @@ impl Engines {
         ensures within { IfSome result (λ found. IfSome found (IsWithinBounds input.old)) }
         ensures cache { KeepsStates self.now.lazy cache.old cache.new }
     {
-        match self.way(cache.is_some()) {
-            Way::AllStates(tables) => self.find_by_tables(tables, &mut NoCache, input).ok(),
-            Way::MetStates(tables) => {
+        match self.table_choice(cache.is_some()) {
+            TableChoice::AllStates(tables) => self.find_by_tables(tables, &mut NoCache, input).ok(),
+            TableChoice::MetStates(tables) => {
                 let Some(states) = cache else {
                     return None;
                 };
                 self.find_by_tables(tables, states, input).ok()
             }
-            Way::NoTables => None,
+            TableChoice::NoTables => None,
         }
     }
 
@@ -533,15 +533,17 @@ impl Engines {
         ensures within { IfSome result (λ found. IfSome found (λ half. (low input.old ≤ half.offset) × (half.offset ≤ high input.old))) }
         ensures cache { KeepsStates self.now.lazy cache.old cache.new }
     {
-        match self.way(cache.is_some()) {
-            Way::AllStates(tables) => self.find_end_by_tables(tables, &mut NoCache, input).ok(),
-            Way::MetStates(tables) => {
+        match self.table_choice(cache.is_some()) {
+            TableChoice::AllStates(tables) => self
+                .find_end_by_tables(tables, &mut NoCache, input)
+                .ok(),
+            TableChoice::MetStates(tables) => {
                 let Some(states) = cache else {
                     return None;
                 };
                 self.find_end_by_tables(tables, states, input).ok()
             }
-            Way::NoTables => None,
+            TableChoice::NoTables => None,
         }
     }
 

@@ -4,7 +4,7 @@ ghost use Rattle.rc_text.specs.Bounds.{IsWithinBounds};
 ghost use Rattle.rc_text.specs.Text.{Keeps};
 ghost use Rattle.rc_program.specs.Kinds.{answer_by};
 ghost use Rattle.rc_pikevm_search.specs.Engine.{engine_search};
-ghost use Rattle.rc_strategy.specs.Spans.{SeeksGreatestFromEnd};
+ghost use Rattle.rc_strategy.specs.Lengths.{SeeksGreatestFromEnd};
 ghost use Rattle.rc_strategy.specs.Tables.{AreHalvesFor};
 
 use crate::engines::Engines;

@@ -11,7 +11,7 @@ ghost use Rattle.rc_program.specs.Kinds.{IsAnswerBy};
 ghost use Rattle.rc_dfa_search.specs.Aims.{AreHalvesOf, search_for};
 ghost use Rattle.rc_dfa_search.specs.Legs.{GoesByNeedles};
 ghost use Rattle.rc_dfa_search.specs.Rests.{GivesToo, StartsGive};
-ghost use Rattle.rc_strategy.specs.Jumps.{ComesOn, GoesEarly, Tells, idle_leg, leg_of, met_leg};
+ghost use Rattle.rc_strategy.specs.Jumps.{ComesOn, GoesEarly, Tells, idle_hint, hint_of, met_hint};
 
 use crate::first::find_later;
 use rc_dfa::ended::{Ended, Met};
@@ -24,7 +24,7 @@ use rc_text::types::{Anchored, Match, MatchError, MatchKind};
 
 /// The result of a run from a needle: where a match is to be looked for.
 #[derive(Clone, Copy)]
-enum Leg {
+enum Hint {
     /// No match begins from the needle on.
     Nowhere,
     /// From the needle on.
@@ -35,34 +35,34 @@ enum Leg {
 
 /// Returns what a run found out that came to its end: from the needle on if it found a match,
 /// nowhere if it found none.
-fn met_leg(met: Option<Met>) -> Leg
-    ensures { result ≡ met_leg met }
+fn met_hint(met: Option<Met>) -> Hint
+    ensures { result ≡ met_hint met }
 {
     match met {
-        Some(_) => Leg::Here,
-        None => Leg::Nowhere,
+        Some(_) => Hint::Here,
+        None => Hint::Nowhere,
     }
 }
 
 /// Returns what a run found out that began at `from` and rests at `at`: a later position, if that
 /// is after `from` and at most `bound`.
-fn idle_leg(at: usize, from: usize, bound: usize) -> Leg
-    ensures { result ≡ idle_leg at from bound }
+fn idle_hint(at: usize, from: usize, bound: usize) -> Hint
+    ensures { result ≡ idle_hint at from bound }
 {
     if from < at && at <= bound {
-        return Leg::Later(at);
+        return Hint::Later(at);
     }
-    Leg::Here
+    Hint::Here
 }
 
 /// Returns what a run found out that began at `from`, by how it ended. An `Err` says why it has no
 /// answer.
-fn leg_of(ended: Ended, from: usize, bound: usize) -> Result<Leg, MatchError>
-    ensures { result ≡ leg_of ended from bound }
+fn hint_of(ended: Ended, from: usize, bound: usize) -> Result<Hint, MatchError>
+    ensures { result ≡ hint_of ended from bound }
 {
     match ended {
-        Ended::Found(met) => Ok(met_leg(met)),
-        Ended::Idle(at) => Ok(idle_leg(at, from, bound)),
+        Ended::Found(met) => Ok(met_hint(met)),
+        Ended::Idle(at) => Ok(idle_hint(at, from, bound)),
         Ended::Quit(byte, offset) => Err(MatchError::Quit { byte, offset }),
         Ended::GaveUp(offset, memory) => Err(MatchError::GaveUp { offset, memory }),
     }
@@ -77,7 +77,7 @@ fn run_leg<H: Halves, C: Cursor>(
     from: usize,
     bound: usize,
     rest_from: usize,
-) -> Result<Leg, MatchError>
+) -> Result<Hint, MatchError>
     requires cache { H.IsCache halves.now cache.old }
     requires low { low input.old ≤ from }
     requires bound { bound ≡ high input.old }
@@ -89,7 +89,7 @@ fn run_leg<H: Halves, C: Cursor>(
         → IfOk result (Tells aim.kind of.ahead (search_for aim hs terminator input.old) from) }
     ensures on { IfOk result (ComesOn from bound) }
 {
-    leg_of(
+    hint_of(
         halves.run_forwards(cache, input, Anchored::No, from, true, true, rest_from),
         from,
         bound,
@@ -126,9 +126,9 @@ fn start_by_needles<H: Halves, C: Cursor>(
         };
         let from = start.from;
         match run_leg(halves, cache, input, from, hi, start.needle)? {
-            Leg::Nowhere => return Ok(None),
-            Leg::Here => return Ok(Some(from)),
-            Leg::Later(i) => {
+            Hint::Nowhere => return Ok(None),
+            Hint::Here => return Ok(Some(from)),
+            Hint::Later(i) => {
                 at = i;
             }
         }

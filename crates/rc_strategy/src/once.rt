@@ -1,7 +1,7 @@
 //! Cache per search: searches that make the cache that they need, and drop it.
 
 use crate::engines::{Engines, half_of};
-use crate::route::Way;
+use crate::route::TableChoice;
 use rc_lazy_dfa::lazy;
 use rc_text::cursor::Cursor;
 use rc_text::input::{Input, high, low};
@@ -32,7 +32,7 @@ impl Engines {
         ensures keeps { Keeps input.old input.new }
         ensures made { IfOk result (IsCacheOfBoth self.now.lazy) }
     {
-        let Way::MetStates(tables) = self.way(true) else {
+        let TableChoice::MetStates(tables) = self.table_choice(true) else {
             return Ok(None);
         };
         let low = low(input);

@@ -4,14 +4,14 @@ use crate::engines::Engines;
 use rc_dense_dfa::dense::Dense;
 use rc_lazy_dfa::lazy::Lazy;
 use rc_literals::guard::Guard;
-use rc_pikevm_search::strategy::guards_of;
+use rc_pikevm_search::literals::guards_of;
 use rc_text::cursor::Cursor;
 use rc_text::input::Input;
 use rc_text::types::{Anchored, MatchKind};
 
 /// Which DFA a search uses, if any.
 #[derive(Clone, Copy)]
-pub(crate) enum Way<'a> {
+pub(crate) enum TableChoice<'a> {
     /// The DFA.
     AllStates(&'a Dense),
     /// The lazy DFA.
@@ -37,23 +37,23 @@ pub(crate) enum Route<'a> {
 impl Engines {
     ghost use Rattle.std.specs.Prelude.{◌≡◌, ◌↔◌, true, IfSome, IsTrue};
     ghost use Rattle.rc_strategy.specs.Route.{GoesBy, MayGuard, Relies};
-    ghost use Rattle.rc_strategy.specs.Spans.{IsOneLength, SeeksFromEnd, SeeksGreatestFromEnd, is_leftmost};
+    ghost use Rattle.rc_strategy.specs.Lengths.{IsOneLength, SeeksFromEnd, SeeksGreatestFromEnd, is_leftmost};
 
     /// Returns which DFA a search uses: the DFA if there is one; else the lazy DFA, if there is one
     /// and `has_states` says that a cache has its states.
     #[inline(always)]
-    pub(crate) fn way(&self, has_states: bool) -> Way
+    pub(crate) fn table_choice(&self, has_states: bool) -> TableChoice
         ensures { GoesBy self.now has_states result }
     {
         if let Some(tables) = &self.tables {
-            return Way::AllStates(tables);
+            return TableChoice::AllStates(tables);
         }
         if !has_states {
-            return Way::NoTables;
+            return TableChoice::NoTables;
         }
         match &self.lazy {
-            Some(tables) => Way::MetStates(tables),
-            None => Way::NoTables,
+            Some(tables) => TableChoice::MetStates(tables),
+            None => TableChoice::NoTables,
         }
     }
 
@@ -118,7 +118,7 @@ impl Engines {
         ensures { MayGuard self.now.engine result }
     {
         if self.sought_fast {
-            if let Some(needles) = guards_of(&self.engine.strategy) {
+            if let Some(needles) = guards_of(&self.engine.literals) {
                 return Some(Guard::Begins(needles));
             }
         }

@@ -21,7 +21,7 @@ use rc_dfa_search::build::automaton_of;
 use rc_lazy_dfa::error::LazyError;
 use rc_lazy_dfa::lazy::Lazy;
 use rc_pikevm_search::engine::Engine;
-use rc_pikevm_search::strategy::{Strategy, guards_of, literals_of};
+use rc_pikevm_search::literals::{Literals, guards_of, literals_of};
 use std::alloc::{AllocError, Global};
 
 /// The DFA, or the lazy DFA, or neither.
@@ -44,8 +44,8 @@ fn exceeds(places: usize, limit: Option<usize>) -> bool
 /// Whether the search for prefix literals is fast, so that DFA searches go from one to the next. If
 /// that search went by a table of first bytes, a DFA would read a byte as fast, and need not begin
 /// anew at each literal.
-pub(crate) fn are_fast(strategy: &Strategy) -> bool {
-    match guards_of(strategy) {
+pub(crate) fn are_fast(literals: &Literals) -> bool {
+    match guards_of(literals) {
         Some(needles) => needles.is_fast(),
         None => false,
     }
@@ -54,11 +54,11 @@ pub(crate) fn are_fast(strategy: &Strategy) -> bool {
 /// Whether DFA searches are to rest between literals. They are if there are required literals, or
 /// if the search for prefix literals is fast. They are too if some byte may not be read, since a
 /// search that came to one goes from literal to literal.
-fn are_to_rest(strategy: &Strategy, needed: bool, automaton: &Automaton) -> bool {
+fn are_to_rest(literals: &Literals, needed: bool, automaton: &Automaton) -> bool {
     if needed {
         return true;
     }
-    match guards_of(strategy) {
+    match guards_of(literals) {
         Some(needles) => needles.is_fast() || !automaton.may_read(Some(128)),
         None => false,
     }
@@ -89,7 +89,7 @@ fn dense_of(
     if exceeds(automaton.places_len(), limits.state_limit) {
         return Ok(None);
     }
-    let rests = are_to_rest(&engine.strategy, needed, automaton);
+    let rests = are_to_rest(&engine.literals, needed, automaton);
     match Dense::new(alloc, automaton, limits.size_limit, rests) {
         Ok(tables) => Ok(Some(tables)),
         Err(TableError::TooBig) => Ok(None),
@@ -129,7 +129,7 @@ pub(crate) fn tables_of(
     requires light { heaviness (places_of engine.now.program.places.items) ≤ greatest_weight }
     ensures { IfOk result (λ tables. AreMade engine.now patterns hs limits tables.dense tables.lazy) }
 {
-    if literals_of(&engine.strategy, engine.kind).is_some() {
+    if literals_of(&engine.literals, engine.kind).is_some() {
         return Ok(Tables {
             dense: None,
             lazy: None,

@@ -14,7 +14,7 @@ use rc_pattern_set::sets::PatternSet;
 use rc_pikevm::cache;
 use rc_pikevm::which::which_patterns;
 use rc_pikevm_search::engine::Engine;
-use rc_pikevm_search::strategy::literals_of;
+use rc_pikevm_search::literals::literals_of;
 use rc_text::cursor::Cursor;
 use rc_text::input::{Input, low};
 use rc_text::types::{Match, MatchKind, PatternID};
@@ -75,7 +75,7 @@ impl Engines {
         ensures found { IfSome result (λ found. found ≡ answer_by self.now.engine.kind (engine_search self.now.engine input.old)) }
         ensures cache { IsSameCacheIn self.now cache.old cache.new }
     {
-        if literals_of(&self.engine.strategy, self.engine.kind).is_some() {
+        if literals_of(&self.engine.literals, self.engine.kind).is_some() {
             return Some(self.engine.find(&mut cache.pass, input));
         }
         self.find_in(&mut cache.lazy, input)

@@ -6,7 +6,7 @@ use Rattle.rc_pattern.specs.WellFormed.{HasBounds, IsWellFormed}
 use Rattle.rc_program.specs.Program.{program, shown}
 use Rattle.rc_program.specs.Sought.{IsRunnable, passes_over}
 use Rattle.rc_program.specs.Places.{places_of}
-use Rattle.rc_pikevm_search.specs.Strategies.{MayGoBy}
+use Rattle.rc_pikevm_search.specs.Literals.{MayGoBy}
 use Rattle.rc_settings.specs.Thompson.{settings_of, line_terminator_of}
 use Rattle.rc_build.specs.Fits.{sought_by}
 use Rattle.rc_build.proofs.Runnable.{runnable}
@@ -27,9 +27,9 @@ engine_of-engine-requires-clause-sound c =
     let hs = map meaning c.args.hirs.now in
     let s = settings_of c.args.settings in
     let q = sought_by s hs in
-    subst (λ places. MayGoBy places (line_terminator_of s) (passes_over q) c.in_ok-strategy.strategy)
+    subst (λ places. MayGoBy places (line_terminator_of s) (passes_over q) c.in_ok-literals.literals)
     (sym (c.in_ok-compiled.ensures.places ∙ search rules))
-    (IfOk-at_ok (MayGoBy (program (shown q.grouped hs)) (line_terminator_of s) (passes_over q)) c.in_ok-strategy.was (c.choose.ensures.sound q refl))
+    (IfOk-at_ok (MayGoBy (program (shown q.grouped hs)) (line_terminator_of s) (passes_over q)) c.in_ok-literals.was (c.choose.ensures.sound q refl))
 
 pub returns-clause-fits : goal.returns-clause-fits
 returns-clause-fits c =

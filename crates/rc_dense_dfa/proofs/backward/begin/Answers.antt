@@ -4,7 +4,7 @@ use Rattle.rc_dfa.specs.Runs.{ahead_at}
 use Rattle.rc_dense_dfa.specs.Cells.{quit}
 use Rattle.rc_dense_dfa.specs.Tables.{start_at, column, mode_of}
 use Rattle.rc_dense_dfa.specs.Searches.{InRow, StandsDown, EndsDownSo}
-use Rattle.rc_dense_dfa.specs.declared.run.Ended.TheVariants.{Quit}
+use Rattle.rc_dense_dfa.specs.declared.run.Outcome.TheVariants.{Quit}
 use Rattle.rc_dense_dfa.proofs.MarkLemmas.{named_row, plain_row}
 use Rattle.rc_dense_dfa.proofs.BackwardLemmas.{begins_here, begins_dead, begins_unread, begins_at_edge}
 use Rattle.rc_dense_dfa.proofs.backward.begin.Goals as goal

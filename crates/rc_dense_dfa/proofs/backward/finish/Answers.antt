@@ -2,7 +2,7 @@ use Rattle.std.proofs.Common.{◌≡◌, ◌+◌, ◌-◌, ◌/◌, ◌∙◌, S
 use Rattle.rc_program.specs.Sought.{text_of}
 use Rattle.rc_dfa.specs.Runs.{behind_at}
 use Rattle.rc_dense_dfa.specs.Searches.{StandsDown, EndsDownSo, told, noted_by, met_by, swapped}
-use Rattle.rc_dense_dfa.specs.declared.run.Ended.TheVariants.{Met}
+use Rattle.rc_dense_dfa.specs.declared.run.Outcome.TheVariants.{Met}
 use Rattle.rc_dfa.proofs.SideLemmas.{behind_kept}
 use Rattle.rc_dense_dfa.proofs.BackwardLemmas.{bound_quits, bound_met, end_met}
 use Rattle.rc_dense_dfa.proofs.backward.finish.Goals as goal

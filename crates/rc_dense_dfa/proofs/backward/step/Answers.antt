@@ -1,7 +1,7 @@
 use Rattle.std.proofs.Common.{◌∙◌, sym, subst}
 use Rattle.rc_dense_dfa.specs.Cells.{row_of}
 use Rattle.rc_dense_dfa.specs.Searches.{InRow, StandsDown, EndsDownSo, told, swapped}
-use Rattle.rc_dense_dfa.specs.declared.run.Ended.TheVariants.{Met}
+use Rattle.rc_dense_dfa.specs.declared.run.Outcome.TheVariants.{Met}
 use Rattle.rc_dense_dfa.proofs.MarkLemmas.{named_row}
 use Rattle.rc_dense_dfa.proofs.BackwardLemmas.{stands_on, stands_quits, stands_died, stands_early}
 use Rattle.rc_dense_dfa.proofs.backward.step.Goals as goal

@@ -2,7 +2,7 @@ use Rattle.std.proofs.Common.{◌≡◌, ◌∙◌, ◌/◌, slice_index_or, Som
 use Rattle.rc_program.specs.Sought.{text_of}
 use Rattle.rc_dfa.specs.Runs.{ahead_at}
 use Rattle.rc_dense_dfa.specs.Searches.{Stands, Ends, told, noted_by, met_by}
-use Rattle.rc_dense_dfa.specs.declared.run.Ended.TheVariants.{Met, Quit}
+use Rattle.rc_dense_dfa.specs.declared.run.Outcome.TheVariants.{Met, Quit}
 use Rattle.rc_dfa.proofs.SideLemmas.{ahead_kept}
 use Rattle.rc_dense_dfa.proofs.ForwardLemmas.{bound_quits, bound_met, end_met}
 use Rattle.rc_dense_dfa.proofs.forward.finish.Goals as goal

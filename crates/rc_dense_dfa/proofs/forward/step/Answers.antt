@@ -1,7 +1,7 @@
 use Rattle.std.proofs.Common.{◌≡◌, ◌/◌, is_some, not, ap, true, false, slice_index_or, ◌+◌, ◌∙◌, sym, subst, arith}
 use Rattle.rc_dense_dfa.specs.Cells.{row_of}
 use Rattle.rc_dense_dfa.specs.Searches.{InRow, Stands, Ends, told}
-use Rattle.rc_dense_dfa.specs.declared.run.Ended.TheVariants.{Met}
+use Rattle.rc_dense_dfa.specs.declared.run.Outcome.TheVariants.{Met}
 use Rattle.rc_dense_dfa.proofs.MarkLemmas.{named_row}
 use Rattle.rc_dense_dfa.proofs.ForwardLemmas.{stands_on, stands_quits, stands_died, stands_early, stands_rests}
 use Rattle.rc_dense_dfa.proofs.forward.step.Goals as goal

@@ -8,5 +8,5 @@ returns c =
       list = list;
       beside = record { edge = false; terminator = false; line_feed = false; carriage_return = false; word = false };
       goes_on = false;
-      stop = None;
+      matched = None;
     } in s) c.new.ensures.items

@@ -22,7 +22,7 @@ returns c = record {
   list = all_of_them None (places_of c.args.places.now) c.loop-i.to.list.items c.loop-i.i
       (let h = c.loop-i-test.false in let l = length-map c.args.places.now place_of in omega (arith, h, l)) c.loop-i.invariant;
   rising = c.loop-i.invariant.rising;
-  stop = refl;
+  matched = refl;
   goes_on = refl;
   beside = c.told-to.ensures;
 }

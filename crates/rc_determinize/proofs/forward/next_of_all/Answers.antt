@@ -21,11 +21,11 @@ pub returns-clause-next : goal.returns-clause-next
 returns-clause-next c =
     let e = ap (λ (m : Members). m.items) c.add_root.ensures in
     collected (setting_of c.args.places.now c.args.needs c.args.terminator) c.args.root (state_of c.args.from.now) c.args.after
-    (state_of (record { list = c.rise_to.new.list; beside = c.told-ahead.result; goes_on = c.args.from.now.goes_on; stop = c.in_ok-stop.stop }))
+    (state_of (record { list = c.rise_to.new.list; beside = c.told-ahead.result; goes_on = c.args.from.now.goes_on; matched = c.in_ok-matched.matched }))
     c.gather.new.listed.items
-    (subst (λ l. IsGathered (out_by (places_of c.args.places.now) (holds_by c.args.from.now.beside (told c.args.needs c.args.terminator c.args.after)) c.args.after) (places_of c.args.places.now) l c.gather.new.listed.items c.in_ok-stop.stop) (turned (goal.at.returns-clause-next c).In_ok-stack_up)
+    (subst (λ l. IsGathered (out_by (places_of c.args.places.now) (holds_by c.args.from.now.beside (told c.args.needs c.args.terminator c.args.after)) c.args.after) (places_of c.args.places.now) l c.gather.new.listed.items c.in_ok-matched.matched) (turned (goal.at.returns-clause-next c).In_ok-stack_up)
     (subst (λ a. IsGathered (out_by (places_of c.args.places.now) (holds_by c.args.from.now.beside a) c.args.after) (places_of c.args.places.now)
-    (reverse c.stack_up.new.stack.items) c.gather.new.listed.items c.in_ok-stop.stop) c.told-ahead.ensures c.in_ok-stop.ensures.step))
+    (reverse c.stack_up.new.stack.items) c.gather.new.listed.items c.in_ok-matched.matched) c.told-ahead.ensures c.in_ok-matched.ensures.step))
     c.in_ok-rise_to.ensures.rising
     (λ q. subst (λ l. HasPlace q c.rise_to.new.list.items ↔ HasPlace q l) e (c.in_ok-rise_to.ensures.members q))
     refl c.told-ahead.ensures

@@ -20,10 +20,10 @@ pub returns-clause-next : goal.returns-clause-next
 returns-clause-next c = record {
   next = c.follow.new.listed.items;
   is_step =
-      subst (λ l. IsStep (out_by (places_of c.args.places.now) (holds_by c.args.from.now.beside (told c.args.needs c.args.terminator c.args.after)) c.args.after) (is_match (places_of c.args.places.now)) l c.follow.new.listed.items c.in_ok-stop.stop)
+      subst (λ l. IsStep (out_by (places_of c.args.places.now) (holds_by c.args.from.now.beside (told c.args.needs c.args.terminator c.args.after)) c.args.after) (is_match (places_of c.args.places.now)) l c.follow.new.listed.items c.in_ok-matched.matched)
       (turned (goal.at.returns-clause-next c).In_ok-stack_up)
       (subst (λ a. IsStep (out_by (places_of c.args.places.now) (holds_by c.args.from.now.beside a) c.args.after) (is_match (places_of c.args.places.now))
-      (reverse c.stack_up.new.stack.items) c.follow.new.listed.items c.in_ok-stop.stop) c.told-ahead.ensures c.in_ok-stop.ensures.step);
+      (reverse c.stack_up.new.stack.items) c.follow.new.listed.items c.in_ok-matched.matched) c.told-ahead.ensures c.in_ok-matched.ensures.step);
   goes_on = c.goes_on-goes_on.ensures;
   joined =
       subst (λ l. Adds c.follow.new.listed.items (root_if c.goes_on-goes_on.result c.args.root) l)

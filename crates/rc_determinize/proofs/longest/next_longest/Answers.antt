@@ -17,15 +17,15 @@ close_groups-requires-clause-below c = subst (λ l. AreBelow (length c.args.plac
 pub returns-clause-next : goal.returns-clause-next
 returns-clause-next c =
     made (setting_of c.args.places.now c.args.needs c.args.terminator) c.args.root (state_of c.args.from.now) c.args.after
-    (state_of (record { list = c.part_to.new.list; beside = c.told-ahead.result; goes_on = c.goes_on-goes_on.result; stop = c.in_ok-stop.stop }))
+    (state_of (record { list = c.part_to.new.list; beside = c.told-ahead.result; goes_on = c.goes_on-goes_on.result; matched = c.in_ok-matched.matched }))
     (length c.args.places.now) c.close_groups.new.listed.items c.add_root.new.listed.items c.close_groups.new.to.items c.len-before.result
     (length-map c.args.places.now place_of)
     (subst (λ l. IsParted (out_by (places_of c.args.places.now) (holds_by c.args.from.now.beside (told c.args.needs c.args.terminator c.args.after)) c.args.after)
-    (is_match (places_of c.args.places.now)) (length c.args.places.now) (groups_of (length c.args.places.now) l) c.close_groups.new.listed.items c.close_groups.new.to.items c.in_ok-stop.stop)
+    (is_match (places_of c.args.places.now)) (length c.args.places.now) (groups_of (length c.args.places.now) l) c.close_groups.new.listed.items c.close_groups.new.to.items c.in_ok-matched.matched)
     c.deref.ensures.value
     (subst (λ a. IsParted (out_by (places_of c.args.places.now) (holds_by c.args.from.now.beside a) c.args.after)
-    (is_match (places_of c.args.places.now)) (length c.args.places.now) (groups_of (length c.args.places.now) c.deref.result.now) c.close_groups.new.listed.items c.close_groups.new.to.items c.in_ok-stop.stop)
-    c.told-ahead.ensures c.in_ok-stop.ensures.parted))
+    (is_match (places_of c.args.places.now)) (length c.args.places.now) (groups_of (length c.args.places.now) c.deref.result.now) c.close_groups.new.listed.items c.close_groups.new.to.items c.in_ok-matched.matched)
+    c.told-ahead.ensures c.in_ok-matched.ensures.parted))
     c.goes_on-goes_on.ensures
     (ap (λ (m : Members). m.items) c.add_root.ensures)
     c.len-before.ensures.value

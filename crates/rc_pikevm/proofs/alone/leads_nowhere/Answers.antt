@@ -7,14 +7,14 @@ use Rattle.rc_pikevm.specs.Alone.{IsDead, tried_at}
 use Rattle.rc_pikevm.specs.declared.moves.Move.TheVariants.{Fork, Save, Stays}
 use Rattle.rc_pikevm.proofs.AloneLemmas.{AreIn, Dies, dies_none, inside_program, dead_stops, dead_stays, dead_saves, dead_forks}
 use Rattle.rc_pikevm.proofs.alone.leads_nowhere.Goals as goal
-use Rattle.rc_pikevm.proofs.alone.leads_nowhere.Goals.{in-Stops+in-Some-later, in-Stays, in-Save, in-Fork+else-is_some}
+use Rattle.rc_pikevm.proofs.alone.leads_nowhere.Goals.{in-DeadEnd+in-Some-later, in-Stays, in-Save, in-Fork+else-is_some}
 
 pub returns-in_default-later : goal.returns-in_default-later
 returns-in_default-later g c _ =
     let s : Sight = seen_from c.args.spot.now g.text in
     let at : ℕ = c.args.spot.now.at in
     let passed : List Pair = tried_at at c.args.tried in
-    c.ways.invariant.dead (dead_stops s at passed c.ways.place (subst (IsMove s (c.ways.place, at)) c.in-Stops.is c.look_up.ensures))
+    c.ways.invariant.dead (dead_stops s at passed c.ways.place (subst (IsMove s (c.ways.place, at)) c.in-DeadEnd.is c.look_up.ensures))
     (subst (Dies s at passed) (sym c.in_default-later.is) tt)
 
 pub ways-preserved : goal.ways-preserved
@@ -25,12 +25,12 @@ ways-preserved g c =
     let n : ℕ = size c.args.spot.now.course in
     let here : ℕ = c.ways.place in
     elim c.match-look_up.branch [
-      | in-Stops+in-Some-later w ↦
+      | in-DeadEnd+in-Some-later w ↦
           record {
             place_in = subst (λ p. p < n) (sym w.place-is) (subst (AreIn n) w.in-Some-later.is c.ways.invariant.later_in);
             later_in = subst (AreIn n) (sym w.later-is) tt;
             dead = λ d _. c.ways.invariant.dead
-                (dead_stops s at passed here (subst (IsMove s (here, at)) w.in-Stops.is c.look_up.ensures))
+                (dead_stops s at passed here (subst (IsMove s (here, at)) w.in-DeadEnd.is c.look_up.ensures))
                 (subst (Dies s at passed) (sym w.in-Some-later.is) (subst (λ p. IsDead s passed (p, at)) w.place-is d));
           }
       | in-Stays w ↦

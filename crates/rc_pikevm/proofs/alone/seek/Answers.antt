@@ -8,7 +8,7 @@ use Rattle.rc_pikevm.specs.declared.moves.Move.TheVariants.{Reads}
 use Rattle.rc_pikevm.proofs.AloneLemmas.{inside_program, dead_stops, dead_reads, dead_saves, no_start, leads_on, leads_then}
 use Rattle.rc_pikevm.proofs.alone.seek.Given.{Over}
 use Rattle.rc_pikevm.proofs.alone.seek.Goals as goal
-use Rattle.rc_pikevm.proofs.alone.seek.Goals.{After-pass_over-here, In-Some, In-Reads, in-Stops, in-Reads+else-to-here+else-not-is_shut, in_default-step+else-not-leads_nowhere}
+use Rattle.rc_pikevm.proofs.alone.seek.Goals.{After-pass_over-here, In-Some, In-Reads, in-DeadEnd, in-Reads+else-to-here+else-not-is_shut, in_default-step+else-not-leads_nowhere}
 
 -- no walk sets out from the starts passed over
 left_out : (g : Over) (c : After-pass_over-here g) (y : ℕ) → c.args.at ≤ y → y < c.pass_over-here.result → HasNoWalkFrom (seen_by c.args.course g.text) y
@@ -113,8 +113,8 @@ starts-preserved g c =
     let place : ℕ = c.in-Some.place in
     let dead : IsDead s [] (place, here) =
     elim c.match-step.branch [
-      | in-Stops w ↦
-          let m = subst (IsMove (seen_from c.spot_at-spot.result g.text) (place, c.spot_at-spot.result.at)) w.in-Stops.is c.in-Some.ensures.makes in
+      | in-DeadEnd w ↦
+          let m = subst (IsMove (seen_from c.spot_at-spot.result g.text) (place, c.spot_at-spot.result.at)) w.in-DeadEnd.is c.in-Some.ensures.makes in
           dead_stops s here [] place (rw (c.spot_at-spot.ensures.course, c.spot_at-spot.ensures.at) at m)
       | in-Reads+else-to-here+else-not-is_shut w ↦
           let m = subst (IsMove (seen_from c.spot_at-spot.result g.text) (place, c.spot_at-spot.result.at)) w.in-Reads.is c.in-Some.ensures.makes in

@@ -2,7 +2,7 @@ use Rattle.std.proofs.Common.{[], ◌∷◌, ◌∙◌, inl, inr, ap, refl, subs
 use Rattle.rc_program.specs.Places.{place_of}
 use Rattle.rc_pikevm.specs.Moves.{IsMove, moving, reading}
 use Rattle.rc_pikevm.specs.Near.{seen_from}
-use Rattle.rc_pikevm.specs.declared.moves.Move.TheVariants.{Fork, Save, Matches, Stays, Stops}
+use Rattle.rc_pikevm.specs.declared.moves.Move.TheVariants.{Fork, Save, Matches, Stays, DeadEnd}
 use Rattle.rc_pikevm.proofs.LookUpLemmas.{placed, choice_moves, none_ended}
 use Rattle.rc_pikevm.proofs.closure.act.Goals as goal
 
@@ -63,7 +63,7 @@ returns-then-is_open-clause-acted g c = record {
 
 pub returns-else-is_open-clause-acted : goal.returns-else-is_open-clause-acted
 returns-else-is_open-clause-acted g c = record {
-  move = Stops;
+  move = DeadEnd;
   goes = inl (subst (λ b. IsMove (seen_from c.args.spot.now g.text) (c.args.place, c.args.spot.now.at) (moving (Stays c.in-Guard.next) b)) c.if-is_open.false
       (c.is_open.ensures c.args.place c.in-Guard.next
       (placed c.args.spot.now.course.program.now.places.items c.args.place c.index.result.now c.requires.1.0 c.index.ensures ∙ ap place_of c.in-Guard.is)));
@@ -91,7 +91,7 @@ returns-then-may_end-clause-acted g c = record {
 
 pub returns-then-is_dead-clause-acted : goal.returns-then-is_dead-clause-acted
 returns-then-is_dead-clause-acted g c = record {
-  move = Stops;
+  move = DeadEnd;
   goes = inr (refl, c.is_dead.ensures c.if-is_dead.true);
   made = search rules;
   ended = refl;
@@ -99,7 +99,7 @@ returns-then-is_dead-clause-acted g c = record {
 
 pub returns-then-is_dead-2-clause-acted : goal.returns-then-is_dead-2-clause-acted
 returns-then-is_dead-2-clause-acted g c = record {
-  move = Stops;
+  move = DeadEnd;
   goes = inr (refl, c.is_dead-in-Guard.ensures c.if-is_dead-2.true);
   made = search rules;
   ended = refl;
@@ -107,7 +107,7 @@ returns-then-is_dead-2-clause-acted g c = record {
 
 pub returns-then-is_dead-3-clause-acted : goal.returns-then-is_dead-3-clause-acted
 returns-then-is_dead-3-clause-acted g c = record {
-  move = Stops;
+  move = DeadEnd;
   goes = inr (refl, c.is_dead-in-Slot.ensures c.if-is_dead-3.true);
   made = search rules;
   ended = refl;

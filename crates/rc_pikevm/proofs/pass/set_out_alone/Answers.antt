@@ -2,7 +2,7 @@ use Rattle.std.proofs.Common.{ℕ, ◌+◌, [], ◌∷◌, ◌++◌, None, repli
 use Rattle.rc_pikevm.specs.Moves.{seen_by}
 use Rattle.rc_pikevm.specs.Near.{size}
 use Rattle.rc_pikevm.specs.Threads.{Thread, ThreadList, thread_of}
-use Rattle.rc_pikevm.specs.declared.threads.Head.{Head}
+use Rattle.rc_pikevm.specs.declared.threads.BareThread.{BareThread}
 use Rattle.rc_pikevm.proofs.PassingLemmas.{no_threads}
 use Rattle.rc_pikevm.proofs.AloneLemmas.{sets_out_alone, lined_one}
 use Rattle.rc_pikevm.proofs.RaceAloneLemmas.{raced_sets_out}
@@ -28,7 +28,7 @@ returns-clause-lined g c =
     let at : ℕ = c.args.at in
     let reads = c.requires.1.1.1.1.1.1 in
     let slots = c.deref.result.now in
-    let r : Head = record { place = c.args.next; at = at + 1; start = at } in
+    let r : BareThread = record { place = c.args.next; at = at + 1; start = at } in
     lined_one (seen_by c.args.course g.text) (size c.args.course) c.args.course.hi c.args.scratch.now.next.threads.width
     c.args.course.last at c.args.scratch.now.insertions c.args.scratch.now.curr c.requires.1.0 r slots c.push.new.self
     (c.push.ensures ∙ ap (λ ts. record c.args.scratch.now.curr { items = ts ++ thread_of r slots ∷ [] })

@@ -10,8 +10,8 @@ use Rattle.rc_dfa_search.specs.Rests.{GivesToo, StartsGive}
 use Rattle.rc_dfa_search.proofs.ToldLemmas.{kept_search, kept_then}
 use Rattle.rc_dfa_search.proofs.NeedleLemmas as needle
 use Rattle.rc_strategy.specs.Jumps.{ComesOn, Tells}
-use Rattle.rc_strategy.specs.declared.needles.Leg.{Leg}
-use Rattle.rc_strategy.specs.declared.needles.Leg.TheVariants.{Nowhere, Later}
+use Rattle.rc_strategy.specs.declared.needles.Hint.{Hint}
+use Rattle.rc_strategy.specs.declared.needles.Hint.TheVariants.{Nowhere, Later}
 use Rattle.rc_strategy.proofs.needles.start_by_needles.Given.{Over}
 use Rattle.rc_strategy.proofs.needles.start_by_needles.Goals as goal
 use Rattle.rc_strategy.proofs.needles.start_by_needles.Goals.{After-run_leg}
@@ -48,7 +48,7 @@ returns-in_default-clause-none g c aim hs terminator of goes guards =
     (c.in_default.ensures.passed (program hs) terminator aim.passes_over guards))
 
 -- what a run tells, it tells of the whole search
-told_of_all : (g : Over) (c : After-run_leg g) (aim : Aim) (hs : List Re) (terminator : ℕ) (of : AreHalvesOf (g.H.Halves.AreOf c.args.halves.now) aim hs terminator) (leg : Leg) →
+told_of_all : (g : Over) (c : After-run_leg g) (aim : Aim) (hs : List Re) (terminator : ℕ) (of : AreHalvesOf (g.H.Halves.AreOf c.args.halves.now) aim hs terminator) (leg : Hint) →
     Tells aim.kind of.ahead (search_for aim hs terminator c.next_start.new.input) c.in-Some.start.from leg →
     Tells aim.kind of.ahead (search_for aim hs terminator c.args.input.now) c.in-Some.start.from leg
 told_of_all g c aim hs terminator of leg h =

@@ -1,6 +1,6 @@
 use Rattle.std.proofs.Common.{length, ap, arith}
 use Rattle.rc_pikevm_search.specs.Engine.{engine_search}
-use Rattle.rc_strategy.specs.Spans.{is_leftmost}
+use Rattle.rc_strategy.specs.Lengths.{is_leftmost}
 use Rattle.rc_strategy.proofs.SlotLemmas.{span_told}
 use Rattle.rc_strategy.proofs.slots.fill_slots.Goals as goal
 

@@ -11,7 +11,7 @@ use Rattle.rc_dfa.proofs.states.States.add.Goals.{After-push_reserved}
 longer : (c : After-push_reserved) → map state_of c.push_reserved.new.self.items ≡ map state_of c.self.inside.list.items ++ state_of c.args.state.now ∷ []
 longer c =
     let s = c.args.state.now in
-    let copy : State = record { list = c.in_ok-list.list; beside = s.beside; goes_on = s.goes_on; stop = s.stop } in
+    let copy : State = record { list = c.in_ok-list.list; beside = s.beside; goes_on = s.goes_on; matched = s.matched } in
     let same : copy.list.items ≡ s.list.items = same_from_all_zip _ _ _ c.in_ok-list.ensures.cases.0 (λ x y h. search rules) in
     added c.self.inside.list.items c.push_reserved.new.self.items copy s
     (c.push_reserved.ensures.items ∙ ap (λ (xs : List State). xs ++ copy ∷ []) c.in_ok-try_reserve.ensures.items) same refl refl refl

@@ -6,7 +6,7 @@ use Rattle.rc_lazy_dfa.proofs.store.Store.stop_at.Goals as goal
 
 pub returns-then-number-len : goal.returns-then-number-len
 returns-then-number-len g c = λ s r.
-    ap (λ (u : states.State). u.stop) (row_state g.f c.args.self.now c.requires c.args.row s r (state_of c.get.result.now) c.get.ensures)
+    ap (λ (u : states.State). u.matched) (row_state g.f c.args.self.now c.requires c.args.row s r (state_of c.get.result.now) c.get.ensures)
 
 pub returns : goal.returns
 returns g c = λ s r.

@@ -4,7 +4,7 @@ use Rattle.rc_text.specs.declared.types.MatchKind.TheVariants.{LeftmostFirst}
 use Rattle.rc_program.specs.Places.{places_of}
 use Rattle.rc_program.specs.Kinds.{answer_by}
 use Rattle.rc_needles.specs.Prefilters.{needles_of}
-use Rattle.rc_pikevm_search.specs.Strategies.{AreAnswers}
+use Rattle.rc_pikevm_search.specs.Literals.{AreAnswers}
 use Rattle.rc_pikevm_search.specs.Engine.{engine_search}
 use Rattle.rc_pikevm_search.proofs.engine.Engine.find.Goals as goal
 

@@ -1,6 +1,6 @@
 use Rattle.std.proofs.Common.{◌∙◌, ap, sym, ⊎_elim}
 use Rattle.rc_pikevm_search.specs.Engine.{engine_search}
-use Rattle.rc_strategy.specs.Spans.{is_leftmost}
+use Rattle.rc_strategy.specs.Lengths.{is_leftmost}
 use Rattle.rc_strategy.proofs.PatternLemmas.{least_told, no_span, no_span_told}
 use Rattle.rc_strategy.proofs.engines.Engines.least_start.Goals as goal
 

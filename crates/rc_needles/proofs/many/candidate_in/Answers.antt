@@ -3,7 +3,7 @@ use Rattle.std.proofs.lemmas.Bool.{cases_lt}
 use Rattle.rc_needles.specs.Tables.{IsRuledOut, needles_in, numbered}
 use Rattle.rc_needles.proofs.ScanLemmas.{agrees_in_tail}
 use Rattle.rc_needles.proofs.StandLemmas.{needle_count}
-use Rattle.rc_needles.proofs.many.seen_in.Goals as goal
+use Rattle.rc_needles.proofs.many.candidate_in.Goals as goal
 
 pub loop-at-init : goal.loop-at-init
 loop-at-init c =

@@ -1,6 +1,6 @@
 use Rattle.std.proofs.Common.{ℕ, ◌-◌, ◌<◌, ◌≤◌, length}
 use Rattle.rc_needles.specs.Tables.{IsRuledOut, needles_in}
-use Rattle.rc_needles.proofs.many.seen_in.Given as goal
+use Rattle.rc_needles.proofs.many.candidate_in.Given as goal
 
 abbrev pub invariant-loop-at : goal.invariant-loop-at
 invariant-loop-at l = record {

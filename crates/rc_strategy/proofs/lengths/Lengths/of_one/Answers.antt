@@ -2,7 +2,7 @@ use Rattle.std.proofs.Common.{◌∙◌}
 use Rattle.rc_pattern.specs.Meaning.{meaning}
 use Rattle.rc_pattern.specs.declared.hir.Look.TheVariants.{Start, End}
 use Rattle.rc_strategy.proofs.SpanLemmas.{bounds_own}
-use Rattle.rc_strategy.proofs.spans.Spans.of_one.Goals as goal
+use Rattle.rc_strategy.proofs.lengths.Lengths.of_one.Goals as goal
 
 pub returns : goal.returns
 returns c =

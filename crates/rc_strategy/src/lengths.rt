@@ -9,7 +9,7 @@ use rc_text::input::{Input, byte_at, high, low};
 /// The lengths and anchors of the spans that some patterns spell, whatever the text. Lengths are in
 /// bytes.
 #[derive(Clone, Copy, Debug, PartialEq, Eq)]
-pub struct Spans {
+pub struct Lengths {
     /// No span is shorter.
     least: usize,
     /// No span is longer. None means that no bound is known.
@@ -31,18 +31,18 @@ fn greater(left: Option<usize>, right: Option<usize>) -> Option<usize>
     }
 }
 
-impl Spans {
+impl Lengths {
     ghost use Rattle.std.specs.Prelude.{◌≡◌, ◌↔◌, map, All, IfSome, IsTrue};
     ghost use Rattle.rc_text.specs.Text.{Keeps, high};
     ghost use Rattle.rc_pattern.specs.Meaning.{meaning};
-    ghost use Rattle.rc_strategy.specs.Spans.{Bounds, EndAlone, IsOneLength, either, are_longer, are_shorter, begin_early, end_late, leave_none, must_fill};
+    ghost use Rattle.rc_strategy.specs.Lengths.{Bounds, EndAlone, IsOneLength, either, are_longer, are_shorter, begin_early, end_late, leave_none, must_fill};
 
     /// Returns the lengths and anchors of this pattern's spans.
-    fn of_one(hir: &Hir) -> Spans
+    fn of_one(hir: &Hir) -> Lengths
         ensures { Bounds result (meaning hir.now) }
     {
         let properties = hir.properties();
-        Spans {
+        Lengths {
             least: properties.minimum_len().unwrap_or(usize::MAX),
             greatest: properties.maximum_len(),
             begins: properties.look_set_prefix().contains(Look::Start),
@@ -51,10 +51,10 @@ impl Spans {
     }
 
     /// Returns the lengths and anchors of spans that are of one kind or the other.
-    fn either(self, other: Spans) -> Spans
+    fn either(self, other: Lengths) -> Lengths
         ensures { result ≡ either self other }
     {
-        Spans {
+        Lengths {
             least: self.least.min(other.least),
             greatest: greater(self.greatest, other.greatest),
             begins: self.begins && other.begins,
@@ -63,17 +63,17 @@ impl Spans {
     }
 
     /// Returns the lengths and anchors of these patterns' spans.
-    pub fn of(hirs: &[Hir]) -> Spans
+    pub fn of(hirs: &[Hir]) -> Lengths
         ensures { All (Bounds result) (map meaning hirs.now) }
     {
-        let mut spans = Spans {
+        let mut spans = Lengths {
             least: usize::MAX,
             greatest: Some(0),
             begins: true,
             ends: true,
         };
         for hir in hirs {
-            spans = spans.either(Spans::of_one(hir));
+            spans = spans.either(Lengths::of_one(hir));
         }
         spans
     }

@@ -2,7 +2,7 @@ use Rattle.std.proofs.Common.{length, sym}
 use Rattle.rc_needles.specs.Tables.{needles_in}
 use Rattle.rc_needles.proofs.StandLemmas.{needle_count}
 use Rattle.rc_needles.proofs.ScanLemmas.{one_begins, two_begin, three_begin}
-use Rattle.rc_needles.proofs.scan.heads_of.Goals as goal
+use Rattle.rc_needles.proofs.scan.first_bytes_of.Goals as goal
 
 pub returns-in_default-first_byte_from : goal.returns-in_default-first_byte_from
 returns-in_default-first_byte_from c =

@@ -1,8 +1,8 @@
 use Rattle.std.proofs.Common.{subst}
 use Rattle.rc_pattern.specs.Meaning.{meaning}
-use Rattle.rc_strategy.specs.Spans.{Bounds}
+use Rattle.rc_strategy.specs.Lengths.{Bounds}
 use Rattle.rc_strategy.proofs.SpanLemmas.{bounds_all, bounds_more}
-use Rattle.rc_strategy.proofs.spans.Spans.of.Goals as goal
+use Rattle.rc_strategy.proofs.lengths.Lengths.of.Goals as goal
 
 pub loop-hir-preserved : goal.loop-hir-preserved
 loop-hir-preserved c =

@@ -9,21 +9,21 @@ use Rattle.rc_program.specs.Sought.{search_over}
 use Rattle.rc_needles.specs.Guards.{Guards}
 use Rattle.rc_needles.specs.Answers.{literal_answer}
 use Rattle.rc_needles.specs.Prefilters.{needles_of}
-use Rattle.rc_pikevm_search.specs.declared.strategy.Strategy.{Strategy}
-use Rattle.rc_pikevm_search.specs.declared.strategy.Strategy.TheVariants.{Pass, Guarded, Literal}
+use Rattle.rc_pikevm_search.specs.declared.literals.Literals.{Literals}
+use Rattle.rc_pikevm_search.specs.declared.literals.Literals.TheVariants.{Absent, Guarded, Exact}
 
 -- A search for the needles finds the answer.
 abbrev pub AreAnswers : List Place → ℕ → Bool → List (List ℕ) → Type 0
 AreAnswers places terminator over needles = (s : Searched) → answer (search_over places terminator over s) ≡ literal_answer needles s
 
 -- A search of these places may go by it.
-abbrev pub MayGoBy : List Place → ℕ → Bool → Strategy → Type 0
-MayGoBy places terminator over Pass = Unit {0}
+abbrev pub MayGoBy : List Place → ℕ → Bool → Literals → Type 0
+MayGoBy places terminator over Absent = Unit {0}
 MayGoBy places terminator over (Guarded p) = Guards places terminator (needles_of p)
-MayGoBy places terminator over (Literal p) = Guards places terminator (needles_of p) × AreAnswers places terminator over (needles_of p)
+MayGoBy places terminator over (Exact p) = Guards places terminator (needles_of p) × AreAnswers places terminator over (needles_of p)
 
 -- It is a fact: there is at most one proof of it.
-pub MayGoBy-is_fact : (places : List Place) (terminator : ℕ) (over : Bool) (strategy : Strategy) → IsProp (MayGoBy places terminator over strategy)
-MayGoBy-is_fact places terminator over Pass = hlevel props
+pub MayGoBy-is_fact : (places : List Place) (terminator : ℕ) (over : Bool) (literals : Literals) → IsProp (MayGoBy places terminator over literals)
+MayGoBy-is_fact places terminator over Absent = hlevel props
 MayGoBy-is_fact places terminator over (Guarded p) = hlevel props
-MayGoBy-is_fact places terminator over (Literal p) = hlevel props
+MayGoBy-is_fact places terminator over (Exact p) = hlevel props
