@@ -27,8 +27,8 @@ use Rattle.rc_utf8.specs.Bytes.{bytes_of}
 use Rattle.rc_utf8.specs.Laws.{by_bytes, IsBytePlace, IsWalkFrom}
 use Rattle.rc_utf8.proofs.SizeLemmas.{bytes_no_scalars, bytes_closed, bytes_longer}
 use Rattle.rc_utf8.proofs.SpanLemmas.{places_kept, same_walks}
-use Rattle.rc_determinize.specs.declared.sides.Needs.{Needs}
-use Rattle.rc_determinize.specs.Sides.{AreNeeds}
+use Rattle.rc_determinize.specs.declared.sides.Asked.{Asked}
+use Rattle.rc_determinize.specs.Sides.{AreAsked}
 use Rattle.rc_determinize.specs.Steps.{IsByBytes, HasPlace}
 use Rattle.rc_determinize.specs.Run.{Reaches, arrived, goes_on, IsGoal}
 use Rattle.rc_determinize.specs.States.{Setting, Stops, all_starts}
@@ -70,7 +70,7 @@ places_by_bytes places q =
     ⊎_elim (λ lt. All-get_or IsBytePlace (bytes_of places) q (choice []) lt (bytes_no_scalars places))
     (λ ge. subst IsBytePlace (sym (past_places (bytes_of places) q ge)) tt) (cases_lt q (length (bytes_of places)))
 
-is_machine : (hs : List Re) (needs : Needs) (terminator : ℕ) (d : Direction) → AreNeeds needs (bytes_of (program hs)) → IsMachine (machine_by hs needs terminator d)
+is_machine : (hs : List Re) (needs : Asked) (terminator : ℕ) (d : Direction) → AreAsked needs (bytes_of (program hs)) → IsMachine (machine_by hs needs terminator d)
 is_machine hs needs terminator d are =
     let longer = bytes_longer (program hs) in
     let some = program_some hs in

@@ -6,8 +6,8 @@ use Rattle.rc_pattern.specs.Re.{Re}
 use Rattle.rc_text.specs.declared.types.MatchKind.{MatchKind}
 use Rattle.rc_program.specs.Program.{Place, program}
 use Rattle.rc_utf8.specs.Bytes.{bytes_of}
-use Rattle.rc_determinize.specs.declared.sides.Needs.{Needs}
-use Rattle.rc_determinize.specs.Sides.{AreNeeds}
+use Rattle.rc_determinize.specs.declared.sides.Asked.{Asked}
+use Rattle.rc_determinize.specs.Sides.{AreAsked}
 use Rattle.rc_determinize.specs.Classes.{AreClasses, AreSingle, is_border}
 use Rattle.rc_dfa.specs.Machine.{Direction, forwards, backwards, Machine}
 use Rattle.rc_dfa.specs.Samples.{AreClassesBy, AreSamples}
@@ -20,11 +20,11 @@ same_bool true false f g = sym (f refl)
 same_bool false true f g = g refl
 same_bool false false f g = refl
 
-abbrev needs_by : Bool → Bool → Bool → Bool → Bool → Bool → Needs
+abbrev needs_by : Bool → Bool → Bool → Bool → Bool → Bool → Asked
 needs_by e t l c w u = record { facts = record { edge = e; terminator = t; line_feed = l; carriage_return = c; word = w }; unicode = u }
 
 -- the least of what covers a program's assertions is one
-pub same_needs : (places : List Place) (a b : Needs) → AreNeeds a places → AreNeeds b places → a ≡ b
+pub same_needs : (places : List Place) (a b : Asked) → AreAsked a places → AreAsked b places → a ≡ b
 same_needs places a b h k =
     let x = h.least b k.covers in
     let y = k.least a h.covers in
@@ -41,7 +41,7 @@ same_needs places a b h k =
     ∙ ap (λ v. needs_by b.facts.edge b.facts.terminator b.facts.line_feed b.facts.carriage_return v a.unicode) w
     ∙ ap (λ v. needs_by b.facts.edge b.facts.terminator b.facts.line_feed b.facts.carriage_return b.facts.word v) u
 
-module _ (places : List Place) (needs : Needs) (terminator : ℕ) (xs ys : List ℕ) where
+module _ (places : List Place) (needs : Asked) (terminator : ℕ) (xs ys : List ℕ) where
   -- byte by byte
   told_at : AreClasses places needs terminator xs → AreClasses places needs terminator ys → (b : ℕ) → b < 256 → slice_index xs b ≡ slice_index ys b
   told_at h k zero lt = h.first ∙ sym k.first

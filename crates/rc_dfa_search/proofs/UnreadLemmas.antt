@@ -15,8 +15,8 @@ use Rattle.rc_program.specs.Text.{Text}
 use Rattle.rc_program.proofs.PlaceLemmas.{each_append, each_weaker}
 use Rattle.rc_utf8.specs.Bytes.{block, byte_place, byte_places, blocks, bytes_of}
 use Rattle.rc_utf8.proofs.SizeLemmas.{IsBranching, blocks_branching}
-use Rattle.rc_determinize.specs.declared.sides.Needs.{Needs}
-use Rattle.rc_determinize.specs.Sides.{HasLook, is_unicode, Covers, AreNeeds, byte_of}
+use Rattle.rc_determinize.specs.declared.sides.Asked.{Asked}
+use Rattle.rc_determinize.specs.Sides.{HasLook, is_unicode, Covers, AreAsked, byte_of}
 use Rattle.rc_determinize.specs.States.{State}
 use Rattle.rc_determinize.proofs.TextLemmas.{get_some, byte_ahead, byte_behind}
 use Rattle.rc_dfa.specs.Machine.{Machine}
@@ -175,7 +175,7 @@ module _ (Goal : Type 0) where
       both (suc q) here rest l h = rest q l h
 
 -- what follows from each assertion of the program that speaks of Unicode's words, follows where they are asked for
-asked_for : (Goal : Type 0) (qs : List Place) (needs : Needs) → AreNeeds needs (bytes_of qs) → needs.unicode ≡ true → AllByRecursion (Tells Goal) qs → Goal
+asked_for : (Goal : Type 0) (qs : List Place) (needs : Asked) → AreAsked needs (bytes_of qs) → needs.unicode ≡ true → AllByRecursion (Tells Goal) qs → Goal
 asked_for Goal qs needs are is each =
     ⊎_elim (λ g. g)
     (λ silent. let c = are.covers in
@@ -186,7 +186,7 @@ asked_for Goal qs needs are is each =
     (all_silent Goal (bytes_of qs) (bytes_of_each Goal qs each))
 
 -- what asks for Unicode's words, has an assertion that does
-needs_unicode : (hs : List Re) (needs : Needs) → AreNeeds needs (bytes_of (program hs)) → needs.unicode ≡ true → SpeaksOfUnicode hs
+needs_unicode : (hs : List Re) (needs : Asked) → AreAsked needs (bytes_of (program hs)) → needs.unicode ≡ true → SpeaksOfUnicode hs
 needs_unicode hs needs are is =
     asked_for (SpeaksOfUnicode hs) (program hs) needs are is (choice_each (SpeaksOfUnicode hs) 0 (2 * length hs) hs (λ t. t) 0 0 0)
 
@@ -207,7 +207,7 @@ each_speaks Goal (q ∷ qs) f = (
 )
 
 -- and it stands at a place of the program
-needs_placed : (qs : List Place) (needs : Needs) → AreNeeds needs (bytes_of qs) → needs.unicode ≡ true → IsTrue (speaks_of_unicode qs)
+needs_placed : (qs : List Place) (needs : Asked) → AreAsked needs (bytes_of qs) → needs.unicode ≡ true → IsTrue (speaks_of_unicode qs)
 needs_placed qs needs are is =
     asked_for (IsTrue (speaks_of_unicode qs)) qs needs are is (each_speaks (IsTrue (speaks_of_unicode qs)) qs (λ t. t))
 

@@ -7,8 +7,8 @@ use Rattle.rc_program.specs.Program.{part, program}
 use Rattle.rc_program.specs.Answer.{Search}
 use Rattle.rc_program.specs.Sought.{anchoring_of}
 use Rattle.rc_utf8.specs.Bytes.{bytes_of}
-use Rattle.rc_determinize.specs.declared.sides.Needs.{Needs}
-use Rattle.rc_determinize.specs.Sides.{AreNeeds}
+use Rattle.rc_determinize.specs.declared.sides.Asked.{Asked}
+use Rattle.rc_determinize.specs.Sides.{AreAsked}
 use Rattle.rc_determinize.specs.States.{IsInside}
 use Rattle.rc_dfa.specs.Machine.{Direction, forwards, backwards, Machine, IsAsked}
 
@@ -21,7 +21,7 @@ abbrev pub entries_of : List Re → List ℕ
 entries_of = entries_from 0
 
 -- The machine of the byte program of some patterns.
-abbrev pub machine_by : List Re → Needs → ℕ → Direction → Machine
+abbrev pub machine_by : List Re → Asked → ℕ → Direction → Machine
 machine_by hs needs terminator direction = record {
   setting = record { places = bytes_of (program hs); needs = needs; terminator = terminator };
   entries = entries_of hs;
@@ -31,8 +31,8 @@ machine_by hs needs terminator direction = record {
 -- The machines of some patterns: their byte program forwards, for matches of the kind, and
 -- backwards.
 pub record AreMachines (hs : List Re) (terminator : ℕ) (kind : MatchKind) (m n : Machine) : Type 0 where
-  pub needs : Needs
-  pub are_needs : AreNeeds needs (bytes_of (program hs))
+  pub needs : Asked
+  pub are_needs : AreAsked needs (bytes_of (program hs))
   pub ahead : m ≡ machine_by hs needs terminator (forwards kind)
   pub back : n ≡ machine_by hs needs terminator backwards
 
