@@ -1,4 +1,7 @@
 //! Each call that builds an engine, once, of a text and of a tree as deep as may be.
+ghost use Rattle.std.specs.Prelude.{IfOk};
+ghost use Rattle.api_pikevm.specs.Caches.{IsCacheFor};
+ghost use Rattle.api_pikevm.specs.Views.{sought};
 
 use regex_cursor::Input;
 use regex_cursor::engines::meta::BuildError;
@@ -115,15 +118,25 @@ fn by_vm(alloc: Global, call: Call, tree: &Hir) -> Result<usize, BuildError> {
     let built = vm(alloc, &builder, call, tree);
     drop(builder);
     let vm = built?;
-    let end = end_by_vm(alloc, &vm);
+    let end = end_by_vm(alloc, &vm, call);
     drop(vm);
     Ok(end?)
 }
 
+/// A cache of a `PikeVM`, by either call that makes one.
+fn cache_of(alloc: Global, vm: &PikeVM, call: Call) -> Result<pikevm::Cache, AllocError>
+    ensures { IfOk result (IsCacheFor (sought vm.now)) }
+{
+    match call {
+        Call::New => PikeVM::create_cache(vm, alloc),
+        _ => pikevm::Cache::new(alloc, vm),
+    }
+}
+
 /// Where the match of a `PikeVM` ends, in a cache that was reset.
-fn end_by_vm(alloc: Global, vm: &PikeVM) -> Result<usize, AllocError> {
+fn end_by_vm(alloc: Global, vm: &PikeVM, call: Call) -> Result<usize, AllocError> {
     let mut captures = PikeVM::create_captures(vm, alloc)?;
-    let mut cache = pikevm::Cache::new(alloc, vm)?;
+    let mut cache = cache_of(alloc, vm, call)?;
     let reset = pikevm::Cache::reset(&mut cache, vm);
     pikevm::search(vm, &mut cache, &mut Input::new(TEXT), &mut captures);
     drop(cache);
