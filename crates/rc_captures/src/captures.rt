@@ -12,6 +12,7 @@ use crate::groups;
 use crate::groups::GroupInfo;
 use rc_text::types::{Match, PatternID, Span};
 use std::alloc::{AllocError, Global};
+use std::fmt;
 
 /// The pattern that matched, and the positions of its groups.
 ///
@@ -179,3 +180,12 @@ pub fn captures_tell_their_match()
 pub fn lending_keeps_the_patterns()
     ensures { LentLaw }
 {}
+
+impl fmt::Debug for Captures {
+    fn fmt<W: fmt::Write>(&self, f: &mut fmt::Formatter<W>) -> fmt::Result {
+        f.debug_struct("Captures")
+            .field("pattern", &self.pattern)
+            .field("slots", &self.slots)
+            .finish()
+    }
+}

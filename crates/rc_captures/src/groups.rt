@@ -9,6 +9,7 @@ mod table;
 
 use rc_text::types::PatternID;
 use std::alloc::{AllocError, Global};
+use std::fmt;
 use std::sync::Arc;
 use table::{Table, table_of};
 
@@ -145,3 +146,11 @@ pub fn slots_are_shared_out()
 pub fn names_and_groups_are_inverse()
     ensures { NamesLaw }
 {}
+
+impl fmt::Debug for GroupInfo {
+    fn fmt<W: fmt::Write>(&self, f: &mut fmt::Formatter<W>) -> fmt::Result {
+        f.debug_struct("GroupInfo")
+            .field("names", &self.table.names)
+            .finish()
+    }
+}

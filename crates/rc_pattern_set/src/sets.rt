@@ -4,6 +4,7 @@ ghost use Rattle.std.specs.Prelude.{◌≡◌, ℕ, ◌+◌, ◌<◌, ◌≤◌,
 
 use rc_text::types::PatternID;
 use std::alloc::{AllocError, Global};
+use std::fmt;
 use std::iter::FusedIterator;
 use std::marker::Model;
 
@@ -137,3 +138,22 @@ impl<'a> Iterator for PatternSetIter<'a> {
 }
 
 impl<'a> FusedIterator for PatternSetIter<'a> {}
+
+impl fmt::Debug for PatternSet {
+    fn fmt<W: fmt::Write>(&self, f: &mut fmt::Formatter<W>) -> fmt::Result {
+        f.debug_struct("PatternSet")
+            .field("capacity", &self.capacity())
+            .field("members", &self.iter())
+            .finish()
+    }
+}
+
+impl<'a> fmt::Debug for PatternSetIter<'a> {
+    fn fmt<W: fmt::Write>(&self, f: &mut fmt::Formatter<W>) -> fmt::Result {
+        let members = PatternSetIter {
+            left: self.left,
+            next: self.next,
+        };
+        f.debug_set().entries(members).finish()
+    }
+}
