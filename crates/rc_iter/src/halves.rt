@@ -6,6 +6,7 @@ use crate::kept::KeptInput;
 use crate::searcher::SearcherOf;
 use rc_text::input::Input;
 use rc_text::types::{HalfMatch, MatchError};
+use std::fmt;
 use std::marker::Model;
 
 /// An iterator over the half matches that a finder finds in an `Input<C>`.
@@ -81,5 +82,14 @@ impl<F: FnMut(&mut I) -> Result<Option<HalfMatch>, MatchError> + Drop, I: KeptIn
                 Some(Err(e))
             }
         }
+    }
+}
+
+impl<F, I: KeptInput + fmt::Debug> fmt::Debug for TryHalfMatchesOf<F, I> {
+    fn fmt<W: fmt::Write>(&self, f: &mut fmt::Formatter<W>) -> fmt::Result {
+        f.debug_struct("TryHalfMatchesIter")
+            .field("searcher", &self.searcher)
+            .field("is_done", &self.is_done)
+            .finish_non_exhaustive()
     }
 }

@@ -9,6 +9,7 @@ use crate::ask::{ask, ask_half};
 use crate::kept::KeptInput;
 use rc_text::input::Input;
 use rc_text::types::{HalfMatch, Match, MatchError};
+use std::fmt;
 use std::marker::Model;
 
 /// A searcher over an `Input<C>`.
@@ -180,5 +181,14 @@ impl<I: KeptInput + Drop> SearcherOf<I> {
     {
         self.input.restart(end);
         self.last = Some(end);
+    }
+}
+
+impl<I: KeptInput + fmt::Debug> fmt::Debug for SearcherOf<I> {
+    fn fmt<W: fmt::Write>(&self, f: &mut fmt::Formatter<W>) -> fmt::Result {
+        f.debug_struct("Searcher")
+            .field("input", &self.input)
+            .field("last", &self.last)
+            .finish()
     }
 }
