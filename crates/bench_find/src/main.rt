@@ -18,8 +18,14 @@
 //! - `lazy`: neither a prefilter nor a fully built DFA
 //! - `pass`: the Pike VM alone, with no prefilter
 //!
+//! If the first argument is `set`, the next ones are a file with a pattern on each line; `each`
+//! (a pattern for each line) or `one` (one alternation of all); and `matches` or `which` (the
+//! patterns that have a match). It prints the times and sizes of one build and one search.
+//!
 //! Without arguments it prints nothing.
 #![tactic(auto)]
+
+mod sets;
 
 use regex_cursor::Input;
 use regex_cursor::cursor::{ChunkCursor, TooLong};
@@ -328,6 +334,9 @@ fn report(rt: &HostRuntime, error: &BenchError) -> u8 {
 fn run_with(rt: &HostRuntime, words: &[&str]) -> u8 {
     if words.is_empty() {
         return 0;
+    }
+    if words[0] == sets::WORD {
+        return sets::run_with(rt, &words[1..]);
     }
     let Some(job) = job_of(words) else {
         let _ = writeln!(rt.stderr(), "{USAGE}");

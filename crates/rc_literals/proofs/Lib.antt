@@ -1,6 +1,7 @@
 pub mod ConfineLemmas
 pub mod GuardLemmas
 pub mod LeaveLemmas
+pub mod OwnedLemmas
 pub mod ReadLemmas
 pub mod RequiredLemmas
 pub mod RequiredExamples
@@ -8,6 +9,9 @@ pub mod StopExamples
 pub mod ExactLemmas
 pub mod AnswerLemmas
 pub mod KindLemmas
+pub mod MarkLemmas
+pub mod MemberLemmas
+pub mod CollectLemmas
 pub mod CoverLemmas
 pub mod ExtractionLemmas
 pub mod BeginLemmas

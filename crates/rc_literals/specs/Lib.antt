@@ -1,7 +1,10 @@
+pub mod Answers
+pub mod Exact
 pub mod Extraction
 pub mod Guard
 pub mod Laws
 pub mod Literals
+pub mod Marks
 pub mod Needs
 pub mod Prefixes
 pub mod Required

@@ -1,28 +1,30 @@
 -- Exact literals: patterns that are lists of needles.
-use Rattle.std.specs.Prelude.{◌≡◌, ◌≢◌, ℕ, zero, suc, ◌+◌, ◌≤◌, List, [], ◌∷◌, Option, Some, None, option_map, slice_get, length}
+use Rattle.std.specs.Prelude.{◌≡◌, ℕ, ◌+◌, ◌≤◌, List, [], ◌∷◌, ◌++◌, Option, Some, None, option_map, replicate, slice_get, length}
 use Rattle.rc_text.specs.Text.{Searched}
 use Rattle.rc_pattern.specs.Re.{Re, literal, alt, none}
 use Rattle.rc_walks.specs.Walks.{Pair}
 use Rattle.rc_program.specs.Text.{Text}
 use Rattle.rc_program.specs.Spells.{SpelledBy}
-use Rattle.rc_program.specs.Program.{program}
+use Rattle.rc_program.specs.Program.{accept, place_at, program}
 use Rattle.rc_program.specs.Answer.{Search, answer, only, IsFirstFrom, HasNoWalkFrom, last_of}
 use Rattle.rc_program.specs.Sought.{Sought, search_for}
 use Rattle.rc_needles.specs.declared.hit.Hit.{Hit}
 use Rattle.rc_needles.specs.Needles.{StandsAt, IsFirstAt, NoneAt}
-use Rattle.rc_needles.specs.Answers.{literal_answer}
+use Rattle.rc_literals.specs.Answers.{Owned, literal_answer, needles_for, owner_for}
 
 -- Each text that a pattern spells begins with a needle.
 abbrev pub Covers : Text → List Re → List (List ℕ) → Type 0
 Covers t hs needles = (p i j : ℕ) → SpelledBy t 0 hs p i j →
     (k : ℕ) × (needle : List ℕ) × (slice_get needles k ≡ Some needle) × StandsAt t.content needle i × (i + length needle ≤ j)
 
--- Within the bounds, a needle occurs at a start exactly if a walk begins there, and the first
--- needle that occurs there is the text of the first walk.
-pub record IsExact (s : Search) (needles : List (List ℕ)) : Type 0 where
-  pub first : (x : ℕ) (h : Hit) → x ≤ s.hi → IsFirstAt needles s.text.content s.hi x h →
+-- Within the bounds, a needle of the allowed patterns occurs at a start exactly if a walk begins
+-- there, and the first needle that occurs there is the text of the first walk, which is of its
+-- owner.
+pub record IsExact (s : Search) (o : Owned) : Type 0 where
+  pub first : (x : ℕ) (h : Hit) → x ≤ s.hi → IsFirstAt (needles_for (only s.anchoring) o) s.text.content s.hi x h →
       (w : List Pair) × IsFirstFrom s x w × ((last_of w).1 ≡ h.end)
-  pub none : (x : ℕ) → x ≤ s.hi → NoneAt needles s.text.content s.hi x → HasNoWalkFrom s x
+      × (place_at s.places (last_of w).0 ≡ accept (owner_for (only s.anchoring) o h.number))
+  pub none : (x : ℕ) → x ≤ s.hi → NoneAt (needles_for (only s.anchoring) o) s.text.content s.hi x → HasNoWalkFrom s x
 
 -- The bytes of a literal that isn't empty.
 abbrev pub literal_bytes : Re → Option (List ℕ)
@@ -47,11 +49,27 @@ literals_of (literal (b ∷ bs)) = Some ((b ∷ bs) ∷ [])
 literals_of (alt a rest) = member_literals (alt a rest)
 literals_of _ = None
 
--- The law of patterns that are a literal, or an alternation of literals.
+-- The needles that pattern p owns, before those of the patterns after it.
+abbrev pub before_owned : ℕ → Option (List (List ℕ)) → Option Owned → Option Owned
+before_owned p None rest = None
+before_owned p (Some ws) None = None
+before_owned p (Some ws) (Some o) = Some (record { needles = ws ++ o.needles; owners = replicate (length ws) p ++ o.owners })
+
+-- The literals of patterns, one pattern after another, if each pattern is a literal or an
+-- alternation of literals. The first pattern has the number p.
+abbrev pub owned_from : ℕ → List Re → Option Owned
+owned_from p [] = Some (record { needles = []; owners = [] })
+owned_from p (h ∷ hs) = before_owned p (literals_of h) (owned_from (p + 1) hs)
+
+-- The same, if there is a pattern.
+abbrev pub exact_needles : List Re → Option Owned
+exact_needles [] = None
+exact_needles (h ∷ hs) = owned_from 0 (h ∷ hs)
+
+-- The law of patterns each of which is a literal, or an alternation of literals.
 pub record LiteralLaw : Type 0 where
-  pub covers : (h : Re) (needles : List (List ℕ)) (t : Text) → literals_of h ≡ Some needles → Covers t (h ∷ []) needles
-  pub exact : (h : Re) (needles : List (List ℕ)) (s : Search) → literals_of h ≡ Some needles → s.places ≡ program (h ∷ []) →
-      ((p : ℕ) → only s.anchoring ≢ Some (suc p)) → IsExact s needles
-  -- Its answers are those of a search for the needles.
-  pub answers : (h : Re) (needles : List (List ℕ)) (q : Sought) (s : Searched) → literals_of h ≡ Some needles → q.patterns ≡ h ∷ [] →
-      answer (search_for q s) ≡ literal_answer needles s
+  pub covers : (hs : List Re) (o : Owned) (t : Text) → exact_needles hs ≡ Some o → Covers t hs o.needles
+  pub exact : (hs : List Re) (o : Owned) (s : Search) → exact_needles hs ≡ Some o → s.places ≡ program hs → IsExact s o
+  -- Their answers are those of a search for the needles.
+  pub answers : (hs : List Re) (o : Owned) (q : Sought) (s : Searched) → exact_needles hs ≡ Some o → q.patterns ≡ hs →
+      answer (search_for q s) ≡ literal_answer o s

@@ -5,7 +5,10 @@
 pub mod exact;
 pub mod guard;
 pub mod laws;
+pub mod marks;
 pub mod needs;
+pub mod owned;
 pub mod prefixes;
 pub mod required;
+pub mod search;
 pub mod stops;

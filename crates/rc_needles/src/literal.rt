@@ -2,7 +2,6 @@
 ghost use Rattle.std.specs.Prelude.{◌≡◌, ◌+◌, ◌<◌, ◌≤◌, ℕ, IfSome, IsTrue, List, Some, bytes_eq, false, length, slice_get, slice_range, true};
 ghost use Rattle.rc_text.specs.Text.{Keeps, high, low};
 ghost use Rattle.rc_needles.specs.Needles.{find_needle, needle_at, prefix_needle, stands_within};
-ghost use Rattle.rc_needles.specs.Answers.{literal_answer};
 ghost use Rattle.rc_needles.specs.Prefilters.{needles_of};
 ghost use Rattle.rc_needles.specs.Tables.{BeginsWithByte, needles_in, numbered};
 ghost use Rattle.rc_needles.specs.Tries.{AreCarriedBy, IsCarried};
@@ -16,11 +15,15 @@ use crate::table::Table;
 use crate::trie::{ROOT, Trie};
 use rc_text::cursor::Cursor;
 use rc_text::input::{Input, byte_at, high, low, piece_from};
-use rc_text::types::{Anchored, Match, PatternID, Span};
 
 /// Whether the needle occurs from `at` to `to`, compared a piece of a chunk at a time.
 #[inline(always)]
-fn stands_by_pieces<C: Cursor>(input: &mut Input<C>, needle: &[u8], at: usize, to: usize) -> bool
+pub fn stands_by_pieces<C: Cursor>(
+    input: &mut Input<C>,
+    needle: &[u8],
+    at: usize,
+    to: usize,
+) -> bool
     requires long { to ≡ at + length needle.now }
     requires within { to ≤ length input.old.content }
     ensures keeps { Keeps input.old input.new }
@@ -300,29 +303,4 @@ pub fn prefix<C: Cursor>(input: &mut Input<C>, prefilter: &Prefilter) -> Option<
         return needle_there(input, &prefilter.searcher.table, at, end);
     }
     None
-}
-
-/// Returns the match of a single pattern that is exactly the needles. Its pattern number is 0, and
-/// an anchored search for another pattern finds nothing.
-pub fn search<C: Cursor>(input: &mut Input<C>, prefilter: &Prefilter) -> Option<Match>
-    ensures keeps { Keeps input.old input.new }
-    ensures value { result ≡ literal_answer (needles_of prefilter.now) input.old }
-    ensures within { IfSome result (λ found. (low input.old ≤ found.start) × (found.start ≤ found.end)
-        × (found.end ≤ high input.old)) }
-{
-    let hit = match input.get_anchored() {
-        Anchored::No => find(input, prefilter)?,
-        Anchored::Yes => prefix(input, prefilter)?,
-        Anchored::Pattern(pattern) => {
-            if pattern.as_usize() != 0 {
-                return None;
-            }
-            prefix(input, prefilter)?
-        }
-    };
-    let span = Span {
-        start: hit.start,
-        end: hit.end,
-    };
-    Some(Match::new(PatternID::ZERO, span))
 }

@@ -12,15 +12,15 @@ use Rattle.rc_program.specs.Program.{program, shown}
 use Rattle.rc_program.specs.Sought.{Sought, passes_over}
 use Rattle.rc_program.specs.Text.{Text}
 use Rattle.rc_needles.specs.Guards.{Guards}
-use Rattle.rc_literals.specs.Literals.{Covers, literals_of}
+use Rattle.rc_literals.specs.Answers.{Owned}
+use Rattle.rc_literals.specs.Literals.{Covers, exact_needles}
 use Rattle.rc_needles.specs.Prefilters.{needles_of}
 use Rattle.rc_literals.specs.Prefixes.{ArePrefixes, EachBegins}
 use Rattle.rc_needles.specs.Tables.{IsUsable, needles_in}
 use Rattle.rc_needles.specs.declared.prefilter.Prefilter.{Prefilter}
 use Rattle.rc_literals.proofs.AnswerLemmas.{literal_law}
 use Rattle.rc_literals.proofs.CoverLemmas.{cover_law}
-use Rattle.rc_literals.proofs.ExactLemmas.{literals_usable}
-use Rattle.rc_pikevm_search.specs.Choices.{exact_needles, IsGuard, NoneServes}
+use Rattle.rc_pikevm_search.specs.Choices.{IsGuard, NoneServes}
 use Rattle.rc_pikevm_search.specs.Literals.{AreAnswers}
 
 -- needles that cover the patterns
@@ -30,40 +30,20 @@ covering_sound hs needles q bounded covers e =
     subst (λ ps. Guards (program (shown q.grouped ps)) q.terminator needles) (sym e)
     (cover_law.guards hs q.grouped q.terminator needles bounded covers)
 
--- needles that are the one pattern's texts
-pub exact_sound : (hs : List Re) (needles : List (List ℕ)) (q : Sought) → All HasBounds hs → exact_needles hs ≡ Some needles →
-    q.patterns ≡ hs → Guards (program (shown q.grouped q.patterns)) q.terminator needles
-    × AreAnswers (program (shown q.grouped q.patterns)) q.terminator (passes_over q) needles
-exact_sound [] needles q bounded exact e = absurd (none-some needles exact)
-exact_sound (h ∷ []) needles q bounded exact e = (
-  covering_sound (h ∷ []) needles q bounded (λ t. literal_law.covers h needles t exact) e,
-  λ s. literal_law.answers h needles q s exact e,
+-- needles that are the texts of the patterns
+pub exact_sound : (hs : List Re) (o : Owned) (q : Sought) → All HasBounds hs → exact_needles hs ≡ Some o →
+    q.patterns ≡ hs → Guards (program (shown q.grouped q.patterns)) q.terminator o.needles
+    × AreAnswers (program (shown q.grouped q.patterns)) q.terminator (passes_over q) o
+exact_sound hs o q bounded exact e = (
+  covering_sound hs o.needles q bounded (λ t. literal_law.covers hs o t exact) e,
+  λ s. literal_law.answers hs o q s exact e,
 )
-exact_sound (h ∷ g ∷ hs) needles q bounded exact e = absurd (none-some needles exact)
 
 -- A prefilter that is made of needles.
 
 -- what making one of a list of needles answers
 abbrev pub IsMade : List (List ℕ) → Option Prefilter → Type 0
 IsMade needles found = MatchOption found (¬ IsUsable needles) (λ p. IsUsable needles × (needles_of p ≡ needles))
-
--- the one that a list has
-pub single : (xs : List Hir) (x : Hir) → 1 ≤ length xs → length xs < 2 → x ≡ get_or xs 0 x → xs ≡ x ∷ []
-single [] x some few e = absurd (omega (arith, some))
-single (y ∷ []) x some few e = ap (λ z. z ∷ []) (sym e)
-single (y ∷ z ∷ xs) x some few e = absurd (omega (arith, few))
-
-made_exact : (h : Re) (needles : List (List ℕ)) (found : Option Prefilter) → literals_of h ≡ Some needles → IsMade needles found →
-    option_map needles_of found ≡ literals_of h
-made_exact h needles None e made = absurd (made (literals_usable h needles e))
-made_exact h needles (Some p) e made = ap (λ z. Some z) made.1 ∙ sym e
-
-pub exact_made : {E : Type 0} (r : Result (Option Prefilter) E) (hirs : List Hir) (hir : Hir) (needles : List (List ℕ)) →
-    hirs ≡ hir ∷ [] → literals_of (meaning hir) ≡ Some needles → IfOk r (IsMade needles) →
-    IfOk r (λ found. option_map needles_of found ≡ exact_needles (map meaning hirs))
-exact_made r hirs hir needles one e ok =
-    IfOk-weaker r (IsMade needles) (λ found. option_map needles_of found ≡ exact_needles (map meaning hirs))
-    (λ found made. made_exact (meaning hir) needles found e made ∙ ap (λ z. exact_needles (map meaning z)) (sym one)) ok
 
 made_covers : (hs : List Re) (prefixes : List (List ℕ)) (found : Option Prefilter) → ((t : Text) → Covers t hs prefixes) → IsMade prefixes found →
     IfSome found (λ p. (t : Text) → Covers t hs (needles_of p))

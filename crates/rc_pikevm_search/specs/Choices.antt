@@ -1,7 +1,7 @@
 -- Prefilters: by which needles a search of patterns may go.
-use Rattle.std.specs.Prelude.{◌≡◌, ◌⊎◌, ℕ, List, [], ◌∷◌, Bool, true, false, Option, Some, None, IfSome}
+use Rattle.std.specs.Prelude.{◌≡◌, ◌⊎◌, ℕ, List, Bool, true, false, Option, Some, None, IfSome}
 use Rattle.rc_pattern.specs.Re.{Re}
-use Rattle.rc_literals.specs.Literals.{literals_of}
+use Rattle.rc_literals.specs.Answers.{Owned, owned_of}
 use Rattle.rc_needles.specs.Prefilters.{needles_of}
 use Rattle.rc_literals.specs.Prefixes.{ArePrefixes, EachBegins}
 use Rattle.rc_text.specs.declared.types.MatchKind.{MatchKind}
@@ -9,25 +9,20 @@ use Rattle.rc_text.specs.declared.types.MatchKind.TheVariants.{All as all_matche
 use Rattle.rc_pikevm_search.specs.declared.literals.Literals.{Literals}
 use Rattle.rc_pikevm_search.specs.declared.literals.Literals.TheVariants.{Absent, Guarded, Exact}
 
--- The texts of one pattern that is a literal, or an alternation of literals.
-abbrev pub exact_needles : List Re → Option (List (List ℕ))
-exact_needles (h ∷ []) = literals_of h
-exact_needles _ = None
-
 -- The needles with which walks begin.
 abbrev pub guarding : Literals → Option (List (List ℕ))
 guarding Absent = None
 guarding (Guarded p) = Some (needles_of p)
-guarding (Exact p) = Some (needles_of p)
+guarding (Exact n) = Some (needles_of n.prefilter)
 
 -- The needles that alone decide answers.
-abbrev pub answering : Literals → Option (List (List ℕ))
+abbrev pub answering : Literals → Option Owned
 answering Absent = None
 answering (Guarded p) = None
-answering (Exact p) = Some (needles_of p)
+answering (Exact n) = Some (owned_of n)
 
 -- The needles that alone decide the answers to searches for a kind of match.
-abbrev pub answering_for : MatchKind → Literals → Option (List (List ℕ))
+abbrev pub answering_for : MatchKind → Literals → Option Owned
 answering_for leftmost_first s = answering s
 answering_for all_matches s = None
 answering_for leftmost_longest s = None

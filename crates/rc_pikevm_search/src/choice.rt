@@ -1,17 +1,18 @@
 //! Prefilters: by which literals the searches for some patterns go.
-ghost use Rattle.std.specs.Prelude.{◌≡◌, All, Bool, IfOk, IfSome, None, Some, false, if◌then◌else◌, map, option_map};
+ghost use Rattle.std.specs.Prelude.{◌≡◌, ◌≤◌, All, Bool, IfOk, IfSome, None, Some, false, if◌then◌else◌, length, map, option_map};
+ghost use Rattle.rc_text.specs.Limits.{most_patterns};
 ghost use Rattle.rc_pattern.specs.Meaning.{meaning};
 ghost use Rattle.rc_pattern.specs.WellFormed.{HasBounds};
 ghost use Rattle.rc_program.specs.Program.{program, shown};
 ghost use Rattle.rc_program.specs.Sought.{Sought, passes_over};
 ghost use Rattle.rc_program.specs.Text.{Text};
-ghost use Rattle.rc_literals.specs.Literals.{Covers};
+ghost use Rattle.rc_literals.specs.Literals.{Covers, exact_needles};
 ghost use Rattle.rc_needles.specs.Prefilters.{needles_of};
-ghost use Rattle.rc_pikevm_search.specs.Choices.{answering, exact_needles, guarding, IsGuard};
+ghost use Rattle.rc_pikevm_search.specs.Choices.{answering, guarding, IsGuard};
 ghost use Rattle.rc_pikevm_search.specs.Literals.{MayGoBy};
 
 use crate::literals::Literals;
-use rc_literals::exact::exact_literals;
+use rc_literals::exact::exact_needles;
 use rc_literals::prefixes::{begins_with_one_of, prefixes};
 use rc_needles::prefilter::{Prefilter, copy_of, from_needles};
 use rc_pattern::hir::Hir;
@@ -20,7 +21,7 @@ use std::alloc::{AllocError, Global};
 /// Returns the literals by which searches for these patterns go. `asked` is the caller's own
 /// prefilter; if `is_auto` is off, no other is used.
 ///
-/// One pattern that is a literal, or an alternation of literals, goes by these literals. Other
+/// Patterns each of which is a literal, or an alternation of literals, go by these literals. Other
 /// patterns go by a copy of `asked` if each text that they match is known to begin with one of its
 /// needles, or else by prefixes of the patterns if these have some of use. `Err` means out of
 /// memory.
@@ -31,6 +32,7 @@ pub fn choose(
     is_auto: bool,
 ) -> Result<Literals, AllocError>
     requires bounds { All HasBounds (map meaning hirs.now) }
+    requires patterns { length hirs.now ≤ most_patterns }
     ensures sound { (q : Sought) → q.patterns ≡ map meaning hirs.now
         → IfOk result (MayGoBy (program (shown q.grouped q.patterns)) q.terminator (passes_over q)) }
     ensures exact { IfOk result (λ s. answering s ≡ (if is_auto then exact_needles (map meaning hirs.now) else None)) }
@@ -40,24 +42,13 @@ pub fn choose(
         → IsGuard (map meaning hirs.now) (option_map (λ p. needles_of p.now) asked.entry) is_auto (guarding s)) }
 {
     if is_auto {
-        if let Some(needles) = exact_prefilter(alloc, hirs)? {
+        if let Some(needles) = exact_needles(alloc, hirs)? {
             return Ok(Literals::Exact(needles));
         }
     }
     match guard(alloc, hirs, asked, is_auto)? {
         Some(needles) => Ok(Literals::Guarded(needles)),
         None => Ok(Literals::Absent),
-    }
-}
-
-/// Returns the texts of one pattern that is a literal, or an alternation of literals.
-fn exact_prefilter(alloc: Global, hirs: &[Hir]) -> Result<Option<Prefilter>, AllocError>
-    ensures { IfOk result (λ found. option_map needles_of found ≡ exact_needles (map meaning hirs.now)) }
-{
-    let [hir] = hirs else { return Ok(None) };
-    match exact_literals(alloc, hir)? {
-        Some(needles) => from_needles(alloc, needles),
-        None => Ok(None),
     }
 }
 

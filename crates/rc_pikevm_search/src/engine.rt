@@ -5,7 +5,7 @@ ghost use Rattle.rc_program.specs.Places.{places_of};
 ghost use Rattle.rc_pikevm_search.specs.Literals.{MayGoBy, MayGoBy-is_fact};
 
 use crate::literals::{Literals, guards_of, literals_of};
-use rc_needles::literal;
+use rc_literals::search;
 use rc_pikevm::cache::Cache;
 use rc_pikevm::kinds::{find_by_kind, is_match_by_kind, search_slots_by_kind};
 use rc_program::matches::is_again;
@@ -56,7 +56,7 @@ impl Engine {
         ensures counts { Counts self.now input.new result cache.old cache.new }
     {
         if let Some(needles) = literals_of(&self.literals, self.kind) {
-            return literal::search(input, needles);
+            return search::search(input, needles);
         }
         find_by_kind(
             cache,
@@ -76,7 +76,7 @@ impl Engine {
         ensures cache { IsSameCache cache.old cache.new }
     {
         if let Some(needles) = literals_of(&self.literals, self.kind) {
-            let found = literal::search(input, needles);
+            let found = search::search(input, needles);
             return found.is_some();
         }
         is_match_by_kind(

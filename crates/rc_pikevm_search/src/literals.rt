@@ -4,9 +4,11 @@ ghost use Rattle.rc_text.specs.declared.types.MatchKind.TheVariants.{LeftmostFir
 ghost use Rattle.rc_program.specs.Program.{Place as PlaceOf};
 ghost use Rattle.rc_needles.specs.Guards.{Guards};
 ghost use Rattle.rc_needles.specs.Prefilters.{needles_of};
+ghost use Rattle.rc_literals.specs.Answers.{owned_of};
 ghost use Rattle.rc_pikevm_search.specs.Choices.{answering_for, guarding};
 ghost use Rattle.rc_pikevm_search.specs.Literals.{AreAnswers, MayGoBy};
 
+use rc_literals::owned::OwnedNeedles;
 use rc_needles::prefilter::Prefilter;
 use rc_text::types::MatchKind;
 
@@ -17,8 +19,8 @@ pub enum Literals {
     Absent,
     /// Needles: no walk begins at a position where none of them occurs.
     Guarded(Prefilter),
-    /// Needles that are the pattern's texts, in order of preference.
-    Exact(Prefilter),
+    /// Needles that are the texts of the patterns, in order of preference.
+    Exact(OwnedNeedles),
 }
 
 impl Literals {
@@ -29,7 +31,7 @@ impl Literals {
         match self {
             Literals::Absent => false,
             Literals::Guarded(needles) => needles.is_fast(),
-            Literals::Exact(needles) => needles.is_fast(),
+            Literals::Exact(needles) => needles.prefilter.is_fast(),
         }
     }
 
@@ -54,15 +56,15 @@ pub fn guards_of(literals: &Literals) -> Option<&Prefilter>
     match literals {
         Literals::Absent => None,
         Literals::Guarded(needles) => Some(needles),
-        Literals::Exact(needles) => Some(needles),
+        Literals::Exact(needles) => Some(&needles.prefilter),
     }
 }
 
 /// Returns the needles that alone decide a search for this kind of match, if there are any.
-pub fn literals_of(literals: &Literals, kind: MatchKind) -> Option<&Prefilter>
-    ensures value { option_map (λ p. needles_of p.now) result ≡ answering_for kind literals.now }
+pub fn literals_of(literals: &Literals, kind: MatchKind) -> Option<&OwnedNeedles>
+    ensures value { option_map (λ n. owned_of n.now) result ≡ answering_for kind literals.now }
     ensures sound { (places : List PlaceOf) (terminator : ℕ) (over : Bool) → MayGoBy places terminator over literals.now
-        → MatchOption result ⊤ (λ p. (kind ≡ LeftmostFirst) × AreAnswers places terminator over (needles_of p.now)) }
+        → MatchOption result ⊤ (λ n. (kind ≡ LeftmostFirst) × AreAnswers places terminator over (owned_of n.now)) }
 {
     match (literals, kind) {
         (Literals::Exact(needles), MatchKind::LeftmostFirst) => Some(needles),

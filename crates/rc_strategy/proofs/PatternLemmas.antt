@@ -20,7 +20,11 @@ use Rattle.rc_program.proofs.AnswerLemmas.{answer_law}
 use Rattle.rc_program.proofs.GreatestLemmas.{greatest_law}
 use Rattle.rc_program.proofs.KindLemmas.{kind_spelled, kinds_law}
 use Rattle.rc_program.proofs.ReachLemmas.{longest_law}
+use Rattle.rc_program.specs.Sought.{search_over}
+use Rattle.rc_literals.specs.Answers.{Owned, AddsOwners}
+use Rattle.rc_literals.proofs.MemberLemmas.{members_are}
 use Rattle.rc_pikevm_search.specs.Engine.{engine_search}
+use Rattle.rc_pikevm_search.specs.Literals.{AreAnswers}
 use Rattle.rc_pikevm_search.specs.declared.engine.Engine.{Engine}
 use Rattle.rc_pikevm.specs.PatternSpans.{AddsSpelled, AreOfFirst}
 use Rattle.rc_strategy.specs.Lengths.{BoundsWalks, is_leftmost, leave_none}
@@ -72,6 +76,24 @@ something (Some m) e = (m, refl)
 -- a search that tells whether there is one tells none
 pub no_span_told : (kind : MatchKind) (s : Search) (b : Bool) → s.passes_over ≡ false → b ≡ is_some (answer_by kind s) → b ≡ false → HasNoSpan s
 no_span_told kind s b off is none = no_span kind s off (nothing (answer_by kind s) (sym is ∙ none))
+
+-- WHERE LITERALS DECIDE
+
+-- the owners of needles that occur are the patterns that have a match
+pub owned_adds : (e : Engine) (o : Owned) (s : Searched) (old new : List Bool) → e.program.passes_over ≡ false →
+    AreAnswers (places_of e.program.places.items) e.program.terminator e.program.passes_over o → AddsOwners o s old new →
+    AddsSpelled (engine_search e s) old new
+owned_adds e o s old new off answers adds =
+    let places = places_of e.program.places.items in
+    let by = members_are places e.program.terminator o (subst (λ b. AreAnswers places e.program.terminator b o) off answers) s in
+    subst (λ b. AddsSpelled (search_over places e.program.terminator b s) old new) (sym off)
+    (record {
+      capacity = adds.capacity;
+      members = λ p. (
+        λ h. ⊎_elim (λ a. inl a) (λ q. inr (q.0, (by p).1 q.1)) ((adds.members p).0 h),
+        λ h. (adds.members p).1 (⊎_elim (λ a. inl a) (λ q. inr (q.0, (by p).0 q.1)) h),
+      );
+    })
 
 -- WHERE THERE IS ONE PATTERN
 

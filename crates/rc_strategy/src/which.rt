@@ -10,6 +10,7 @@ ghost use Rattle.rc_strategy.specs.Starts.{IsFirstStart};
 
 use crate::cache::Cache;
 use crate::engines::Engines;
+use rc_literals::marks::mark_owners;
 use rc_pattern_set::sets::PatternSet;
 use rc_pikevm::cache;
 use rc_pikevm::which::which_patterns;
@@ -64,6 +65,7 @@ impl Engines {
     ghost use Rattle.rc_program.specs.Places.{places_of};
     ghost use Rattle.rc_pikevm_search.specs.Engine.{engine_search};
     ghost use Rattle.rc_strategy.specs.Caches.{IsCacheIn, IsSameCacheIn};
+    ghost use Rattle.rc_strategy.specs.Limits.{NoneServe};
     ghost use Rattle.rc_strategy.specs.Starts.{IsFirstStart};
     ghost use Rattle.rc_pikevm.specs.PatternSpans.{AddsSpelled, AreOfFirst};
 
@@ -109,14 +111,27 @@ impl Engines {
         }
     }
 
+    /// Inserts each pattern that has a match, as far as the set can hold it, by literals that alone
+    /// decide each answer.
+    fn mark_by_literals<C: Cursor>(&self, input: &mut Input<C>, set: &mut PatternSet)
+        requires literals { NoneServe self.now.engine }
+        requires all { self.now.engine.program.passes_over ≡ false }
+        ensures keeps { Keeps input.old input.new }
+        ensures adds { AddsSpelled (engine_search self.now.engine input.old) set.old set.new }
+    {
+        if let Some(needles) = literals_of(&self.engine.literals, self.engine.kind) {
+            mark_owners(input, needles, set);
+        }
+    }
+
     /// Inserts each pattern, of `patterns` that there are, that has a match within the bounds, as
     /// far as the set can hold it. The set keeps what it has. It allocates only what `find` does.
     ///
     /// If the set has each pattern that it can hold, or the lengths and anchors of the patterns
-    /// rule a match out between the bounds, nothing is searched. Else a search finds where the
-    /// first match begins, if there is one, and a pass from there on finds all patterns with a
-    /// match. With one pattern, the search alone decides. If matches are passed over, which count
-    /// here, the pass does all.
+    /// rule a match out between the bounds, nothing is searched. If literals alone decide each
+    /// answer, they are searched for. Else a search finds where the first match begins, if there is
+    /// one, and a pass from there on finds all patterns with a match. With one pattern, the search
+    /// alone decides. If matches are passed over, which count here, the pass does all.
     pub fn which_patterns<C: Cursor>(
         &self,
         cache: &mut Cache,
@@ -138,6 +153,10 @@ impl Engines {
         }
         if self.engine.program.passes_over {
             which_patterns(&mut cache.pass, input, &self.engine.program, patterns, set);
+            return;
+        }
+        if literals_of(&self.engine.literals, self.engine.kind).is_some() {
+            self.mark_by_literals(input, set);
             return;
         }
         if patterns == 1 {

@@ -7,6 +7,7 @@ use Rattle.rc_pikevm_search.specs.Engine.{engine_search}
 use Rattle.rc_pikevm.specs.PatternSpans.{AddsSpelled}
 use Rattle.rc_strategy.specs.Starts.{IsFirstStart}
 use Rattle.rc_strategy.proofs.CacheLemmas.{same_in}
+use Rattle.rc_strategy.proofs.LimitLemmas.{is_answered}
 use Rattle.rc_strategy.proofs.PatternLemmas.{early_adds, full_adds, kept_search, no_span_told, none_adds, one_told}
 use Rattle.rc_strategy.proofs.engines.Engines.which_patterns.Goals as goal
 
@@ -24,6 +25,18 @@ returns-then-leave_none-clause-adds g c =
 
 pub returns-then-leave_none-clause-cache : goal.returns-then-leave_none-clause-cache
 returns-then-leave_none-clause-cache g c = same_in c.args.self.now 0 c.args.cache.now c.requires.made
+
+pub mark_by_literals-requires-clause-literals : goal.mark_by_literals-requires-clause-literals
+mark_by_literals-requires-clause-literals g c =
+    is_answered _ c.literals_of.result c.is_some.ensures c.if-is_some.true c.literals_of.ensures.value
+
+pub returns-then-is_some-clause-adds : goal.returns-then-is_some-clause-adds
+returns-then-is_some-clause-adds g c =
+    subst (λ q. AddsSpelled q c.args.set.now c.mark_by_literals.new.set)
+    (kept_search c.args.self.now.engine c.args.input.now c.leave_none.new.input c.leave_none.ensures.keeps) c.mark_by_literals.ensures.adds
+
+pub returns-then-is_some-clause-cache : goal.returns-then-is_some-clause-cache
+returns-then-is_some-clause-cache g c = same_in c.args.self.now 0 c.args.cache.now c.requires.made
 
 pub returns-then-is_match-clause-adds : goal.returns-then-is_match-clause-adds
 returns-then-is_match-clause-adds g c =
