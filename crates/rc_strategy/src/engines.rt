@@ -27,7 +27,7 @@ use rc_lazy_dfa::lazy::Lazy;
 use rc_literals::guard::{Guard, Needs};
 use rc_needles::prefilter::Prefilter;
 use rc_pikevm_search::engine::Engine;
-use rc_pikevm_search::literals::guards_of;
+use rc_pikevm_search::literals::{guards_of, literals_of};
 use rc_program::matches::is_again;
 use rc_text::cursor::Cursor;
 use rc_text::input::{Input, advance_start};
@@ -603,17 +603,20 @@ impl Engines {
         half_of(self.engine.find(&mut cache.pass, input))
     }
 
-    /// Whether the Pike VM searches for the match alone before its groups. Each of its threads has
-    /// the slots of all patterns, and if these are many, they would be copied at each byte.
+    /// Whether a search without a DFA finds the match alone before its groups: if literals decide
+    /// it, or if there are many patterns. Each thread of the Pike VM has the slots of all patterns,
+    /// and if these are many, they would be copied at each byte.
     fn finds_first(&self) -> bool {
         self.patterns > FEW_PATTERNS
+            || literals_of(&self.engine.literals, self.engine.kind).is_some()
     }
 
     /// Returns the pattern that a search finds, and writes the first of its slots. Without a match
     /// the slots stay as they are. It allocates only what `find` does.
     ///
     /// If a DFA finds the match and its groups are asked for, a pass of the Pike VM over its span
-    /// finds them. So do searches without a DFA if there are many patterns.
+    /// finds them. So do searches without a DFA if literals decide the match, or if there are many
+    /// patterns.
     pub fn find_slots<C: Cursor>(
         &self,
         cache: &mut Cache,

@@ -13,10 +13,9 @@ use Rattle.rc_build.proofs.Runnable.{runnable}
 use Rattle.rc_build.proofs.Sizes.{fitted}
 use Rattle.rc_build.proofs.build.build_all.Goals as goal
 
-pub choose-requires : goal.choose-requires
-choose-requires c = record {
-  bounds = All-weaker IsWellFormed HasBounds (λ h f. f.bounded) (map meaning c.args.hirs.now) c.in_ok-compiled.ensures.buildable.well_formed;
-}
+pub choose-requires-clause-bounds : goal.choose-requires-clause-bounds
+choose-requires-clause-bounds c =
+    All-weaker IsWellFormed HasBounds (λ h f. f.bounded) (map meaning c.args.hirs.now) c.in_ok-compiled.ensures.buildable.well_formed
 
 pub engine_of-engine-requires-clause-runnable : goal.engine_of-engine-requires-clause-runnable
 engine_of-engine-requires-clause-runnable c =
