@@ -1,5 +1,7 @@
 //! Calls of a regex that take an input by value, and make the cache that they need.
 
+ghost use Rattle.std.specs.Iterator.{IsFinite};
+
 use crate::faults::Verdict;
 use crate::row::Pair;
 use crate::told::Told;
@@ -7,7 +9,7 @@ use api_meta::regex::Regex;
 use rc_captures::captures::Captures;
 use rc_text::cursor::Cursor;
 use rc_text::input::Input;
-use rc_text::types::Match;
+use rc_text::types::{Match, MatchError, Span};
 use std::alloc::{AllocError, Global};
 
 /// A call that tells of the first match.
@@ -41,6 +43,8 @@ pub struct Spans {
     pub list: Vec<Option<Pair>>,
     /// Memory was refused for none of them.
     pub is_whole: bool,
+    /// The error of a search that they end in.
+    pub error: Option<MatchError>,
 }
 
 impl Spans {
@@ -49,19 +53,77 @@ impl Spans {
         Spans {
             list: Vec::new(alloc),
             is_whole: true,
+            error: None,
         }
     }
 
-    /// Adds a span.
-    pub fn push(&mut self, start: usize, end: usize) {
-        self.push_group(Some((start, end)));
-    }
-
-    /// Adds the span of a group, if it took part.
-    pub fn push_group(&mut self, span: Option<Pair>) {
+    /// Adds a span, or a group that took no part.
+    pub fn push(&mut self, span: Option<Pair>) {
         if self.list.push(span).is_err() {
             self.is_whole = false;
         }
+    }
+}
+
+/// What an iterator gives.
+pub trait Placed {
+    /// Adds where it stands, or notes why there is no more.
+    fn put(self, spans: &mut Spans);
+}
+
+impl Placed for Span {
+    fn put(self, spans: &mut Spans) {
+        spans.push(Some((self.start, self.end)));
+    }
+}
+
+impl Placed for Option<Span> {
+    fn put(self, spans: &mut Spans) {
+        match self {
+            Some(span) => span.put(spans),
+            None => spans.push(None),
+        }
+    }
+}
+
+impl Placed for Match {
+    fn put(self, spans: &mut Spans) {
+        spans.push(Some((self.start(), self.end())));
+    }
+}
+
+impl Placed for Result<Match, MatchError> {
+    fn put(self, spans: &mut Spans) {
+        match self {
+            Ok(found) => found.put(spans),
+            Err(error) => spans.error = Some(error),
+        }
+    }
+}
+
+impl Placed for Result<Captures, AllocError> {
+    fn put(self, spans: &mut Spans) {
+        match self {
+            Ok(captures) => put_match(captures, spans),
+            Err(_) => spans.is_whole = false,
+        }
+    }
+}
+
+/// Adds the match of captures.
+fn put_match(captures: Captures, spans: &mut Spans) {
+    if let Some(found) = captures.get_match() {
+        found.put(spans);
+    }
+}
+
+/// Adds where all items of an iterator stand.
+pub fn put_all<T: Placed, I: Iterator<Item = T> + Drop>(items: I, spans: &mut Spans)
+    requires can { I.can_next items }
+    requires ends { IsFinite (I.remaining items) }
+{
+    for item in items {
+        item.put(spans);
     }
 }
 
@@ -106,47 +168,48 @@ pub fn spans_by<C: Cursor + Drop>(
     input: Input<C>,
 ) -> Spans {
     let mut spans = Spans::new(alloc);
-    match list {
+    let made = match list {
         List::Matches => put_matches(alloc, regex, input, &mut spans),
         List::Captures => put_captured(alloc, regex, input, &mut spans),
         List::Groups => put_groups(alloc, regex, input, &mut spans),
         List::Pieces => put_pieces(alloc, regex, input, &mut spans),
         List::FirstPieces(most) => put_first_pieces(alloc, regex, input, most, &mut spans),
+    };
+    if made.is_err() {
+        spans.is_whole = false;
     }
     spans
 }
 
 /// Adds the groups that `captures` gives.
-fn put_groups<C: Cursor + Drop>(alloc: Global, regex: &Regex, input: Input<C>, spans: &mut Spans) {
-    match regex.captures(alloc, input) {
-        Ok(captures) => {
-            put_groups_of(&captures, spans);
-            drop(captures);
-        }
-        Err(_) => spans.is_whole = false,
-    }
+fn put_groups<C: Cursor + Drop>(
+    alloc: Global,
+    regex: &Regex,
+    input: Input<C>,
+    spans: &mut Spans,
+) -> Result<(), AllocError> {
+    let captures = regex.captures(alloc, input)?;
+    put_groups_of(&captures, spans);
+    drop(captures);
+    Ok(())
 }
 
 /// Adds the groups, none where there is no match.
 pub fn put_groups_of(captures: &Captures, spans: &mut Spans) {
     for index in 0..captures.group_len() {
-        match captures.get_group(index) {
-            Some(span) => spans.push(span.start, span.end),
-            None => spans.push_group(None),
-        }
+        captures.get_group(index).put(spans);
     }
 }
 
 /// Adds the matches.
-fn put_matches<C: Cursor + Drop>(alloc: Global, regex: &Regex, input: Input<C>, spans: &mut Spans) {
-    match regex.find_iter(alloc, input) {
-        Ok(matches) => {
-            for found in matches {
-                spans.push(found.start(), found.end());
-            }
-        }
-        Err(_) => spans.is_whole = false,
-    }
+fn put_matches<C: Cursor + Drop>(
+    alloc: Global,
+    regex: &Regex,
+    input: Input<C>,
+    spans: &mut Spans,
+) -> Result<(), AllocError> {
+    put_all(regex.find_iter(alloc, input)?, spans);
+    Ok(())
 }
 
 /// Adds the matches that come with their groups.
@@ -155,39 +218,20 @@ fn put_captured<C: Cursor + Drop>(
     regex: &Regex,
     input: Input<C>,
     spans: &mut Spans,
-) {
-    match regex.captures_iter(alloc, input) {
-        Ok(matches) => {
-            for captures in matches {
-                put_match(captures, spans);
-            }
-        }
-        Err(_) => spans.is_whole = false,
-    }
-}
-
-/// Adds the match of captures.
-fn put_match(captures: Result<Captures, AllocError>, spans: &mut Spans) {
-    match captures {
-        Ok(captures) => {
-            if let Some(found) = captures.get_match() {
-                spans.push(found.start(), found.end());
-            }
-        }
-        Err(_) => spans.is_whole = false,
-    }
+) -> Result<(), AllocError> {
+    put_all(regex.captures_iter(alloc, input)?, spans);
+    Ok(())
 }
 
 /// Adds the pieces.
-fn put_pieces<C: Cursor + Drop>(alloc: Global, regex: &Regex, input: Input<C>, spans: &mut Spans) {
-    match regex.split(alloc, input) {
-        Ok(pieces) => {
-            for piece in pieces {
-                spans.push(piece.start, piece.end);
-            }
-        }
-        Err(_) => spans.is_whole = false,
-    }
+fn put_pieces<C: Cursor + Drop>(
+    alloc: Global,
+    regex: &Regex,
+    input: Input<C>,
+    spans: &mut Spans,
+) -> Result<(), AllocError> {
+    put_all(regex.split(alloc, input)?, spans);
+    Ok(())
 }
 
 /// Adds the pieces that a limit leaves.
@@ -197,13 +241,7 @@ fn put_first_pieces<C: Cursor + Drop>(
     input: Input<C>,
     most: usize,
     spans: &mut Spans,
-) {
-    match regex.splitn(alloc, input, most) {
-        Ok(pieces) => {
-            for piece in pieces {
-                spans.push(piece.start, piece.end);
-            }
-        }
-        Err(_) => spans.is_whole = false,
-    }
+) -> Result<(), AllocError> {
+    put_all(regex.splitn(alloc, input, most)?, spans);
+    Ok(())
 }

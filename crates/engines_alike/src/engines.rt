@@ -11,7 +11,7 @@ use api_meta::regex::Regex;
 use api_pikevm::vm::PikeVM;
 use rc_build::compile::compile_all;
 use rc_build::texts::parse_all;
-use rc_pattern::hir::{Hir, Look};
+use rc_pattern::hir::{Hir, Look, LookSet};
 use rc_program::heads::heads_of;
 use rc_program::place::Place;
 use rc_program::program::Program;
@@ -189,11 +189,18 @@ fn read(
 /// Whether an assertion of these patterns is decided by the characters around it.
 fn have_words(hirs: &[Hir]) -> bool {
     for hir in hirs {
-        let looks = hir.properties().look_set();
-        for look in &WORDS {
-            if looks.contains(*look) {
-                return true;
-            }
+        if has_words(hir.properties().look_set()) {
+            return true;
+        }
+    }
+    false
+}
+
+/// Whether one of these assertions is decided by the characters around it.
+fn has_words(looks: LookSet) -> bool {
+    for look in &WORDS {
+        if looks.contains(*look) {
+            return true;
         }
     }
     false

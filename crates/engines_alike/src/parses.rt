@@ -204,6 +204,16 @@ fn is_in_chars(ranges: &[ClassUnicodeRange], next: char) -> bool {
     false
 }
 
+/// One of the parses ends here.
+fn has_end(found: &[Parse], end: usize) -> bool {
+    for parse in found {
+        if parse.end == end {
+            return true;
+        }
+    }
+    false
+}
+
 impl<'a> Parser<'a> {
     /// What parses see of a row from this start on.
     fn new(asker: &Asker, row: &'a Row<'a>, start: usize) -> Parser<'a> {
@@ -287,12 +297,9 @@ impl<'a> Parser<'a> {
 
     /// Adds a parse behind the others, unless one of them has its end: the same may follow each of them.
     fn add(&mut self, found: &mut Vec<Parse>, parse: Parse) {
-        for other in found.iter() {
-            if other.end == parse.end {
-                return;
-            }
+        if !has_end(found, parse.end) {
+            self.verdict.push(found, parse);
         }
-        self.verdict.push(found, parse);
     }
 
     /// Adds the parses of a pattern that go on from one, in order. Of those with one end the first alone is kept.

@@ -456,18 +456,22 @@ fn list_by_table<E: Tables, C: Cursor + Drop>(
     mut cursor: C,
 ) {
     let mut spans = Spans::new(asker.alloc);
-    let input = input(row, &mut cursor);
-    let is_same = match engine.list(asker.alloc, input, &mut spans) {
-        None => spans.list == row.spans && !matches!(row.quits, Quits::At(_)),
-        Some(error) => {
-            may_end_by(asker, engine.kind(), row.quits, &error)
-                && row.spans.starts_with(&spans.list)
-        }
-    };
+    engine.list(asker.alloc, input(row, &mut cursor), &mut spans);
+    let is_same = is_listed(asker, engine.kind(), row, &spans);
     asker.verdict.expect(spans.is_whole, Fault::Memory);
     asker
         .verdict
         .expect(is_same, engine.kind().fault(Part::List));
+}
+
+/// The spans are those wanted, or the first of them, if a search stops where the row says so.
+fn is_listed(asker: &mut Asker, kind: Kind, row: &Row, spans: &Spans) -> bool {
+    match &spans.error {
+        None => spans.list == row.spans && !matches!(row.quits, Quits::At(_)),
+        Some(error) => {
+            may_end_by(asker, kind, row.quits, error) && row.spans.starts_with(&spans.list)
+        }
+    }
 }
 
 /// The matches that each engine finds one after another are those wanted. Each search starts where the match before ended. At most one

@@ -3,7 +3,7 @@
 ghost use Rattle.std.specs.Prelude.{ℕ};
 ghost use Rattle.api_hybrid.specs.Caches.{IsCacheFor, capacity_of};
 
-use crate::calls::Spans;
+use crate::calls::{Spans, put_all};
 use crate::faults::{Fault, Part};
 use crate::told::Told;
 use api_dfa::search as dfa;
@@ -63,13 +63,8 @@ pub trait Tables {
     /// What a search tells.
     fn told<C: Cursor>(&mut self, seek: Seek, input: &mut Input<C>) -> Result<Told, MatchError>;
 
-    /// Adds the matches one after another, and tells the error that they end in.
-    fn list<C: Cursor + Drop>(
-        &self,
-        alloc: Global,
-        input: Input<C>,
-        spans: &mut Spans,
-    ) -> Option<MatchError>;
+    /// Adds the matches one after another.
+    fn list<C: Cursor + Drop>(&self, alloc: Global, input: Input<C>, spans: &mut Spans);
 }
 
 /// A regex whose states are made as they are met, and one cache for all its searches.
@@ -139,19 +134,8 @@ impl Tables for api_dfa::regex::Regex {
         }
     }
 
-    fn list<C: Cursor + Drop>(
-        &self,
-        _: Global,
-        input: Input<C>,
-        spans: &mut Spans,
-    ) -> Option<MatchError> {
-        for item in dfa::find_iter(self, input) {
-            match item {
-                Ok(found) => spans.push(found.start(), found.end()),
-                Err(error) => return Some(error),
-            }
-        }
-        None
+    fn list<C: Cursor + Drop>(&self, _: Global, input: Input<C>, spans: &mut Spans) {
+        put_all(dfa::find_iter(self, input), spans);
     }
 }
 
@@ -176,40 +160,20 @@ impl Tables for Hybrid {
         }
     }
 
-    fn list<C: Cursor + Drop>(
-        &self,
-        alloc: Global,
-        input: Input<C>,
-        spans: &mut Spans,
-    ) -> Option<MatchError> {
+    fn list<C: Cursor + Drop>(&self, alloc: Global, input: Input<C>, spans: &mut Spans) {
         match self.regex.create_cache(alloc) {
             Ok(mut cache) => {
-                let error = list_in(&self.regex, &mut cache, input, spans);
+                list_in(&self.regex, &mut cache, input, spans);
                 drop(cache);
-                error
             }
-            Err(_) => {
-                spans.is_whole = false;
-                None
-            }
+            Err(_) => spans.is_whole = false,
         }
     }
 }
 
-/// Adds the matches that the iterator of a hybrid's regex gives in this cache, and tells the error that they end in.
-fn list_in<C: Cursor + Drop>(
-    regex: &Regex,
-    cache: &mut Cache,
-    input: Input<C>,
-    spans: &mut Spans,
-) -> Option<MatchError>
+/// Adds the matches that the iterator of a hybrid's regex gives in this cache.
+fn list_in<C: Cursor + Drop>(regex: &Regex, cache: &mut Cache, input: Input<C>, spans: &mut Spans)
     requires { IsCacheFor regex.now cache.old }
 {
-    for item in hybrid::find_iter(regex, cache, input) {
-        match item {
-            Ok(found) => spans.push(found.start(), found.end()),
-            Err(error) => return Some(error),
-        }
-    }
-    None
+    put_all(hybrid::find_iter(regex, cache, input), spans);
 }
