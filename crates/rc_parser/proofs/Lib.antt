@@ -5,4 +5,5 @@ pub mod SpineLemmas
 pub mod FitLemmas
 pub mod StandLemmas
 pub mod PlainLemmas
+pub mod NameLemmas
 mod Examples

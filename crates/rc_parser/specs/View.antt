@@ -18,7 +18,7 @@ abbrev pub parts : Parts → spec.Parts
 parts p = record { res = map meaning p.hirs.items; deepest = p.deepest }
 
 abbrev pub level : Level → spec.Level
-level l = record { flags = l.flags; groups = l.groups; names = map string_bytes l.names.items; branches = parts l.branches; items = parts l.items }
+level l = record { flags = l.flags; groups = l.groups; names = map string_bytes l.names.list.items; branches = parts l.branches; items = parts l.items }
 
 abbrev pub paired_name : Group → ℕ × Option (List ℕ)
 paired_name g = (g.index, option_map string_bytes g.name)

@@ -14,14 +14,14 @@ ghost use Rattle.rc_parser.specs.View.{part, paired_name};
 
 use crate::config::Config;
 use crate::flags::{Flags, changed};
-use crate::names::is_named;
+use crate::names::Names;
 use crate::nested::{Nested, Parts};
 use crate::parts::one_deeper;
 use crate::pieces;
 use rc_pattern::hir::{Capture, Hir, Repetition};
 use rc_tokens::refusal::Refusal;
 use rc_tokens::tokens::{Bounds, Change, Opening, Token};
-use std::alloc::{AllocError, Global};
+use std::alloc::Global;
 use std::mem;
 
 /// A body that is being parsed.
@@ -31,7 +31,7 @@ pub struct Level {
     /// The number of groups opened so far.
     pub groups: usize,
     /// Their names.
-    pub names: Vec<String>,
+    pub names: Names,
     pub branches: Parts,
     pub items: Parts,
 }
@@ -64,8 +64,8 @@ pub struct Work {
 impl Level {
     ghost use Rattle.rc_parser.specs.View.{parts, level};
 
-    fn new(alloc: Global, flags: Flags, groups: usize, names: Vec<String>) -> Level
-        ensures value { level result ≡ begin flags groups (map string_bytes names.items) }
+    fn new(alloc: Global, flags: Flags, groups: usize, names: Names) -> Level
+        ensures value { level result ≡ begin flags groups (map string_bytes names.list.items) }
         ensures groups { result.groups ≡ groups }
     {
         Level {
@@ -151,14 +151,6 @@ fn group_of(
     one_deeper(config, hir, depth).ok_or(Refusal::Syntax)
 }
 
-fn copy_of(alloc: Global, name: &str) -> Result<String, AllocError>
-    ensures { IfOk result (λ s. string_bytes s ≡ name.now) }
-{
-    let mut copy = String::new(alloc);
-    copy.push_str(name)?;
-    Ok(copy)
-}
-
 impl Work {
     ghost use Rattle.rc_parser.specs.View.{level, state};
 
@@ -169,7 +161,7 @@ impl Work {
     {
         Work {
             config,
-            level: Level::new(alloc, config.flags(), 0, Vec::new(alloc)),
+            level: Level::new(alloc, config.flags(), 0, Names::new(alloc)),
             last: None,
             outer: Vec::new(alloc),
         }
@@ -216,12 +208,12 @@ impl Work {
         alloc: Global,
         flags: Flags,
         groups: usize,
-        names: Vec<String>,
+        names: Names,
         group: Option<Group>,
     ) -> Result<(), Refusal>
         requires last { self.old.last ≡ None }
-        requires names { self.old.level.names.items ≡ [] }
-        ensures value { MatchResult result (λ _. state self.new ≡ work (begin flags groups (map string_bytes names.items)) None ((option_map paired_name group, (state self.old).level) ∷ (state self.old).outer)) (λ e. e ≡ Refusal.Memory) }
+        requires names { self.old.level.names.list.items ≡ [] }
+        ensures value { MatchResult result (λ _. state self.new ≡ work (begin flags groups (map string_bytes names.list.items)) None ((option_map paired_name group, (state self.old).level) ∷ (state self.old).outer)) (λ e. e ≡ Refusal.Memory) }
         ensures config { self.new.config ≡ self.old.config }
         ensures groups { OnOk result (self.new.level.groups ≡ groups) }
     {
@@ -239,7 +231,7 @@ impl Work {
     {
         let flags = self.level.flags;
         let groups = self.level.groups;
-        let mut names = mem::replace(&mut self.level.names, Vec::new(alloc));
+        let names = mem::replace(&mut self.level.names, Names::new(alloc));
         match opening {
             Opening::Capturing => {
                 let index = groups + 1;
@@ -247,10 +239,10 @@ impl Work {
                 self.enter(alloc, flags, index, names, Some(Group { index, name }))
             }
             Opening::Named(name) => {
-                if is_named(&name, &names) {
+                if names.has(&name) {
                     return Err(Refusal::Syntax);
                 }
-                names.push(copy_of(alloc, &name)?)?;
+                let names = names.with(alloc, &name)?;
                 let index = groups + 1;
                 let name = Some(name);
                 self.enter(alloc, flags, index, names, Some(Group { index, name }))
@@ -272,7 +264,7 @@ impl Work {
         let body = self.level.whole(alloc, self.config)?;
         let item = group_of(alloc, self.config, group, body)?;
         level.groups = self.level.groups;
-        level.names = mem::replace(&mut self.level.names, Vec::new(alloc));
+        level.names = mem::replace(&mut self.level.names, Names::new(alloc));
         self.level = level;
         self.last = Some(item);
         Ok(())

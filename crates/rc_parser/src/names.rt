@@ -1,33 +1,52 @@
 //! Group names of a pattern.
 
-ghost use Rattle.std.specs.Prelude.{◌≡◌, ◌||◌, map, drop, true, false, string_bytes, length};
-ghost use Rattle.rc_tokens.specs.Text.{same_text};
+ghost use Rattle.std.specs.Prelude.{◌≡◌, ℕ, ◌∷◌, ◌++◌, [], List, IfOk, map, string_bytes};
+ghost use Rattle.std.specs.BTreeSet.{contains_text};
 ghost use Rattle.rc_parser.specs.Grammar.{is_named};
 
-/// Whether the bytes of two names are the same.
-#[tactic(auto, using(rc_tokens::proofs::TextLemmas::same_lengths))]
-fn is_same(name: &[u8], other: &[u8]) -> bool
-    ensures { result ≡ same_text name.now other.now }
-{
-    if name.len() != other.len() {
-        return false;
-    }
-    for i in 0..name.len() {
-        if name[i] != other[i] {
-            return false;
-        }
-    }
-    true
+use std::alloc::{AllocError, Global};
+use std::collections::BTreeSet;
+
+/// The names of the groups so far: in order, and as a set in which they are looked up.
+#[derive(Drop)]
+pub struct Names {
+    pub list: Vec<String>,
+    pub set: BTreeSet<String>,
+    ghost same: { (name : List ℕ) → contains_text set name ≡ is_named name (map string_bytes list.items) },
 }
 
-/// Whether the name is one of the names.
-pub fn is_named(name: &str, names: &[String]) -> bool
-    ensures { result ≡ is_named name.now (map string_bytes names.now) }
+fn copy_of(alloc: Global, name: &str) -> Result<String, AllocError>
+    ensures { IfOk result (λ s. string_bytes s ≡ name.now) }
 {
-    for i in 0..names.len() {
-        if is_same(name.as_bytes(), names[i].as_bytes()) {
-            return true;
+    let mut copy = String::new(alloc);
+    copy.push_str(name)?;
+    Ok(copy)
+}
+
+impl Names {
+    pub fn new(alloc: Global) -> Names
+        ensures { result.list.items ≡ [] }
+    {
+        Names {
+            list: Vec::new(alloc),
+            set: BTreeSet::new(alloc),
         }
     }
-    false
+
+    /// Whether the name is one of them.
+    pub fn has(&self, name: &str) -> bool
+        ensures { result ≡ is_named name.now (map string_bytes self.now.list.items) }
+    {
+        self.set.contains(name)
+    }
+
+    /// The names with one more.
+    pub fn with(self, alloc: Global, name: &str) -> Result<Names, AllocError>
+        ensures { IfOk result (λ names. map string_bytes names.list.items ≡ map string_bytes self.list.items ++ name.now ∷ []) }
+    {
+        let Names { mut list, mut set } = self;
+        list.push(copy_of(alloc, name)?)?;
+        set.insert(copy_of(alloc, name)?)?;
+        Ok(Names { list, set })
+    }
 }

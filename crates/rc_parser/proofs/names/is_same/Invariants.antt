@@ -1,6 +1,0 @@
-use Rattle.std.proofs.Common.{◌≡◌, drop}
-use Rattle.rc_tokens.specs.Text.{same_text}
-use Rattle.rc_parser.proofs.names.is_same.Given as goal
-
-abbrev pub invariant-loop-i : goal.invariant-loop-i
-invariant-loop-i l = same_text l.name l.other ≡ same_text (drop l.i l.name) (drop l.i l.other)
