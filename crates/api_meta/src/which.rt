@@ -33,10 +33,12 @@ impl Regex {
     ///
     /// A pattern has a match if it matches some span within the bounds, whatever the kind of match.
     /// None is left out because another pattern begins earlier or is preferred, nor because its
-    /// match is empty and inside a character. A search first finds where the first match begins.
-    /// One pass from there on then finds all patterns; of one pattern the search alone decides. The
-    /// pass reads everything within the bounds if the kind is `All` or `LeftmostLongest`, or if
-    /// empty matches may be rejected. It ends early if the set contains each pattern that it can.
+    /// match is empty and inside a character. Patterns that are literals or alternations of
+    /// literals are found by a search for these, if the kind is `LeftmostFirst`. For others, a
+    /// search first finds where the first match begins. One pass from there on then finds all
+    /// patterns; of one pattern the search alone decides. The pass reads everything within the
+    /// bounds if the kind is `All` or `LeftmostLongest`, or if empty matches may be rejected. It
+    /// ends early if the set contains each pattern that it can.
     pub fn which_patterns_with<C: Cursor>(
         &self,
         cache: &mut Cache,

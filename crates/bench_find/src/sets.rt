@@ -1,8 +1,9 @@
 //! Benchmark of many patterns: the lines of a file, as patterns or as one alternation.
 
 use crate::{BenchError, FAULT, report};
-use regex_cursor::engines::meta::{BuildError, Regex};
-use regex_cursor::{Input, PatternSet};
+use regex_cursor::Input;
+use regex_cursor::engines::meta::{BuildError, Finder, Regex};
+use regex_cursor::types::PatternSet;
 use std::alloc::{AllocError, Global};
 use std::io::{Read, Write};
 use std::time::Instant;
@@ -11,13 +12,18 @@ use std::{fs, io};
 /// The word before the arguments of this benchmark.
 pub const WORD: &str = "set";
 
+/// The most patterns of a regex.
+const MOST_PATTERNS: usize = 2_147_483_647;
+
 const USAGE: &str = "usage: bench_find set FILE each|one matches|which";
 
-/// The regex of the lines: each line a pattern, or all lines one alternation.
+/// The regex of the lines: each line a pattern, as far as a regex has room for them, or all lines
+/// one alternation.
 fn built(alloc: Global, text: &str, are_patterns: bool) -> Result<Regex, BuildError> {
     let lines: Vec<&str> = text.lines().collect(alloc)?;
     if are_patterns {
-        return Regex::new_many(alloc, &lines);
+        let most = lines.len().min(MOST_PATTERNS);
+        return Regex::new_many(alloc, &lines[..most]);
     }
     let mut alternation = String::new(alloc);
     for (number, line) in lines.iter().enumerate() {
@@ -41,7 +47,9 @@ fn count_matches(alloc: Global, regex: &Regex, bytes: &[u8]) -> Result<usize, Be
 /// The number of patterns that have a match in the text.
 fn count_which(alloc: Global, regex: &Regex, bytes: &[u8]) -> Result<usize, BenchError> {
     let mut set = PatternSet::new(alloc, regex.pattern_len())?;
-    regex.which_patterns(alloc, Input::new(bytes), &mut set)?;
+    let mut finder = Finder::new(alloc, regex)?;
+    finder.which_patterns(&mut Input::new(bytes), &mut set);
+    drop(finder);
     Ok(set.len())
 }
 
