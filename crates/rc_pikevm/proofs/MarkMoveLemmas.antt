@@ -30,7 +30,7 @@ pub same_then : {A B C : Type 0} → A ↔ B → B ↔ C → A ↔ C
 same_then f g = (λ a. g.0 (f.0 a), λ c. f.1 (g.1 c))
 
 -- the middle part is the same, or the last two
-middle : {R A B E : Type 0} → A ↔ B → (R ⊎ (A ⊎ E)) ↔ (R ⊎ (B ⊎ E))
+pub middle : {R A B E : Type 0} → A ↔ B → (R ⊎ (A ⊎ E)) ↔ (R ⊎ (B ⊎ E))
 middle f = (
   λ h. ⊎_elim (λ a. inl a) (λ b. inr (⊎_elim (λ x. inl (f.0 x)) (λ x. inr x) b)) h,
   λ h. ⊎_elim (λ a. inl a) (λ b. inr (⊎_elim (λ x. inl (f.1 x)) (λ x. inr x) b)) h,

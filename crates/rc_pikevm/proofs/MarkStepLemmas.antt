@@ -1,26 +1,28 @@
 -- The threads of one position, and all positions, of a pass that marks patterns.
 use Rattle.std.proofs.Common.{◌≡◌, ◌↔◌, ℕ, zero, suc, ◌+◌, ◌-◌, ◌*◌, ◌<◌, ◌≤◌, ◌⊎◌, Bool, true, List, [], ◌∷◌, ◌++◌, length, map, drop, min, inl, inr, ⊎_elim, sym, subst, ap, ◌∙◌, refl, arith, Some, if◌then◌else◌, nat_le, slice_get, add-one, IsTrue}
-use Rattle.std.proofs.Math.Nat.{mul-le-mul_right}
+use Rattle.std.proofs.Math.Nat.{mul-le-mul_left, mul-le-mul_right}
 use Rattle.std.proofs.lemmas.Bool.{cases_lt, le-leb}
 use Rattle.std.proofs.lemmas.List.{length_push}
 use Rattle.std.proofs.lemmas.Option.{slice_get_within}
 use Rattle.rc_text.specs.Found.{Found}
 use Rattle.rc_pattern_set.specs.Sets.{Has}
 use Rattle.rc_walks.specs.Walks.{Pair, IsWalk}
+use Rattle.rc_walks.proofs.CutLemmas.{loosen}
 use Rattle.rc_program.specs.Program.{accept, is_match_place}
 use Rattle.rc_program.specs.Answer.{Search, IsStart, only, next_of, ends, last_of}
 use Rattle.rc_program.specs.Greatest.{IsSpelledIn}
 use Rattle.rc_program.proofs.AnswerLemmas.{last_start_of, start_within_last, start_to_last, walk_ends}
 use Rattle.rc_program.proofs.GreatestLemmas.{spelled_within}
-use Rattle.rc_pikevm.specs.Marking.{SomeLeads, Owed, AreSame, KeepsMarks, HasAll, going, entries, entering, IsMarkingOn, IsMarkingFrom, MarksFrom}
-use Rattle.rc_pikevm.specs.Passing.{AllIn, count_from, IsGrown, IsLined}
+use Rattle.rc_pikevm.specs.Marking.{SomeLeads, Owed, AreSame, HasNoneBefore, KeepsMarks, HasAll, going, entries, entering, IsMarkingOn, IsMarkingFrom, MarksFrom}
+use Rattle.rc_pikevm.specs.Passing.{AllIn, count_from, IsGrown, IsLined, pairs}
 use Rattle.rc_pikevm.specs.PatternSpans.{HasSpan, AddsSpelled, AreOfFirst}
-use Rattle.rc_pikevm.specs.Sights.{Sight, sight_of}
+use Rattle.rc_pikevm.specs.Sights as sights
+use Rattle.rc_pikevm.specs.Sights.{HasNoWalkFrom, Sight, sight_of}
 use Rattle.rc_pikevm.specs.Sparse.{Members}
 use Rattle.rc_pikevm.specs.Threads.{Thread, ThreadList}
 use Rattle.rc_pikevm.proofs.GrownLemmas.{count_push, count_all, in_push, from_push}
 use Rattle.rc_pikevm.proofs.MarkLemmas.{AllLater}
-use Rattle.rc_pikevm.proofs.MarkMoveLemmas.{same_then, later_waits, low_in}
+use Rattle.rc_pikevm.proofs.MarkMoveLemmas.{same_then, later_waits, low_in, middle}
 use Rattle.rc_pikevm.proofs.StepLemmas.{drop_get, in_at, from_at}
 
 pub entries_later : (s : Sight) (p at x count : ℕ) → at < x → AllLater s p at (entries x count)
@@ -32,6 +34,41 @@ entering_next at last h = let n : last + 1 - at ≡ suc (last + 1 - (at + 1)) = 
 
 pub entering_over : (at last : ℕ) → last < at → entering at last ≡ []
 entering_over at last h = let e : last + 1 - at ≡ 0 = omega (arith, h) in ap (entries at) e
+
+-- a start that has no walk leads to nothing
+quiet_start : (s : Sight) (p at : ℕ) (v ts : List Pair) → HasNoWalkFrom s at → SomeLeads s v ((0, at) ∷ ts) p ↔ SomeLeads s v ts p
+quiet_start s p at v ts none = (
+  λ h. ⊎_elim (λ a. absurd (none a.walk (loosen (sights.next_of s) (λ k. IsTrue (sights.ends s k)) a.is_walk [] (λ k i. λ z. z)))) (λ b. b) h,
+  λ h. inr h,
+)
+
+-- where it has none, no thread need set out
+pub sets_out_none : (s : Sight) (p at last : ℕ) (rest : List Thread) (items : List ℕ) (marks : List Bool) → HasNoWalkFrom s at →
+    Owed s at rest items (entering at last) marks p ↔ Owed s at rest items (entering (at + 1) last) marks p
+sets_out_none s p at last rest items marks none =
+    ⊎_elim
+    (λ past. subst (λ ns. Owed s at rest items (entering at last) marks p ↔ Owed s at rest items ns marks p)
+    (entering_over at last past ∙ sym (entering_over (at + 1) last (omega (arith, past)))) (λ h. h, λ h. h))
+    (λ ge. subst (λ ns. Owed s at rest items ns marks p ↔ Owed s at rest items (entering (at + 1) last) marks p) (sym (entering_next at last ge))
+    (middle (quiet_start s p at (pairs at items) (entering (at + 1) last) none)))
+    (cases_lt last at)
+
+-- where so many have none, they may be skipped
+starts_skipped : (s : Sight) (p count at last : ℕ) → ((y : ℕ) → at ≤ y → y < at + count → HasNoWalkFrom s y) →
+    SomeLeads s [] (entering at last) p ↔ SomeLeads s [] (entering (at + count) last) p
+starts_skipped s p zero at last none =
+    let e : at + 0 ≡ at = omega arith in
+    subst (λ z. SomeLeads s [] (entering at last) p ↔ SomeLeads s [] (entering z last) p) (sym e) (λ h. h, λ h. h)
+starts_skipped s p (suc count) at last none =
+    ⊎_elim
+    (λ past. subst (λ ns. SomeLeads s [] (entering at last) p ↔ SomeLeads s [] ns p)
+    (entering_over at last past ∙ sym (entering_over (at + suc count) last (omega (arith, past)))) (λ h. h, λ h. h))
+    (λ ge. let e : at + 1 + count ≡ at + suc count = omega arith in
+    subst (λ ns. SomeLeads s [] ns p ↔ SomeLeads s [] (entering (at + suc count) last) p) (sym (entering_next at last ge))
+    (same_then (quiet_start s p at [] (entering (at + 1) last) (none at (omega arith) (omega arith)))
+    (subst (λ z. SomeLeads s [] (entering (at + 1) last) p ↔ SomeLeads s [] (entering z last) p) e
+    (starts_skipped s p count (at + 1) last (λ y l u. none y (omega (arith, l)) (omega (arith, u)))))))
+    (cases_lt last at)
 
 module _ (s : Sight) (n hi at : ℕ) (all : List Thread) (threads0 : ThreadList) (set0 : List Bool) where
   pub marking_begins : (entered : Members) → threads0.items ≡ [] → entered.items ≡ [] → entered.capacity ≡ n → n ≤ threads0.room →
@@ -169,6 +206,38 @@ module _ (s : Sight) (n hi from last first end : ℕ) (set0 : List Bool) where
     reached = omega (arith, p.reached);
     within = omega (arith, within);
   }
+
+  -- a pass under way stays where it is, and an idle one goes on at the next start
+  pub marking_skips : (at x start insertions : ℕ) (curr : ThreadList) (set : List Bool) → IsMarkingFrom s n hi from last at insertions curr set0 set →
+      at ≤ x → x ≤ hi + 1 → HasNoneBefore s at start → (x ≡ at) ⊎ ((length curr.items ≡ 0) × (x ≡ start)) →
+      IsMarkingFrom s n hi from last x insertions curr set0 set
+  marking_skips at x start insertions curr set m low most none idle =
+      ⊎_elim (λ e. subst (λ z. IsMarkingFrom s n hi from last z insertions curr set0 set) (sym e) m)
+      (λ i. let no_items = no_threads curr.items i.0 in
+      record {
+        same = λ p l. same_then (m.same p l) (skipped p no_items i.1);
+        long = m.long;
+        more = m.more;
+        lined = record {
+          inside = rw no_items tt;
+          width_is = m.lined.width_is;
+          room = m.lined.room;
+          counts = λ k h. rw no_items (let c = mul-le-mul_right n h in omega (arith, c));
+          begun = rw no_items tt;
+        };
+        few = let c : n * (at - from) ≤ n * (x - from) = mul-le-mul_left n (omega (arith, low)) in omega (arith, c, m.few);
+        reached = omega (arith, low, m.reached);
+        within = omega (arith, most);
+      }) idle
+    where
+      skipped : (p : ℕ) → curr.items ≡ [] → x ≡ start → Owed s at [] [] (map going curr.items ++ entering at last) set p
+          ↔ Owed s x [] [] (map going curr.items ++ entering x last) set p
+      skipped p no_items is =
+          let e : at + (x - at) ≡ x = omega (arith, low) in
+          subst (λ ts. Owed s at [] [] (map going ts ++ entering at last) set p ↔ Owed s x [] [] (map going ts ++ entering x last) set p) (sym no_items)
+          (middle
+          (subst (λ z. SomeLeads s [] (entering at last) p ↔ SomeLeads s [] (entering z last) p) e
+          (starts_skipped s p (x - at) at last (λ y l u. none y l (omega (arith, u, low, is))))))
 
   -- what is marked is led to
   led_by : (at insertions : ℕ) (curr : ThreadList) (set : List Bool) → IsMarkingFrom s n hi from last at insertions curr set0 set →

@@ -1,11 +1,11 @@
 -- Only proofs use this file.
 -- Overlapping search: what a pass keeps to find which patterns have a match.
-use Rattle.std.specs.Prelude.{◌≡◌, ◌↔◌, ℕ, zero, suc, ◌+◌, ◌-◌, ◌*◌, ◌<◌, ◌≤◌, ◌⊎◌, Bool, List, [], ◌∷◌, ◌++◌, length, map, IsTrue}
+use Rattle.std.specs.Prelude.{◌≡◌, ◌↔◌, ℕ, zero, suc, ◌+◌, ◌-◌, ◌*◌, ◌<◌, ◌≤◌, ◌⊎◌, Bool, false, List, [], ◌∷◌, ◌++◌, length, map, IsTrue}
 use Rattle.rc_pattern_set.specs.Sets.{Has}
 use Rattle.rc_walks.specs.Walks.{Pair, IsWalk}
 use Rattle.rc_program.specs.Program.{accept, place_at}
 use Rattle.rc_program.specs.Answer.{last_of}
-use Rattle.rc_pikevm.specs.Sights.{Sight, ends, next_of}
+use Rattle.rc_pikevm.specs.Sights.{Sight, HasNoWalkFrom, ends, next_of}
 use Rattle.rc_pikevm.specs.Sparse.{Members}
 use Rattle.rc_pikevm.specs.Threads.{Thread, ThreadList}
 use Rattle.rc_pikevm.specs.Passing.{pairs, AllFrom, HasRoom, IsGrown, IsLined, AllInside, count_from}
@@ -38,6 +38,14 @@ explored at (Restore k old ∷ rest) = explored at rest
 abbrev pub Owed : Sight → ℕ → List Thread → List ℕ → List Pair → List Bool → ℕ → Type 0
 Owed s at resting entered waiting set p =
     SomeLeads s [] (map going resting) p ⊎ (SomeLeads s (pairs at entered) waiting p ⊎ Has set p)
+
+-- A walk begins at the position only if it may.
+abbrev pub MayBegin : Sight → ℕ → Bool → Type 0
+MayBegin s at may = may ≡ false → HasNoWalkFrom s at
+
+-- No walk begins at the first position or later, before the second.
+abbrev pub HasNoneBefore : Sight → ℕ → ℕ → Type 0
+HasNoneBefore s at start = (y : ℕ) → at ≤ y → y < start → HasNoWalkFrom s y
 
 -- Both hold of the same patterns below n.
 abbrev pub AreSame : ℕ → (ℕ → Type 0) → (ℕ → Type 0) → Type 0

@@ -1,14 +1,16 @@
 //! Overlapping search: which patterns have a match, by one pass of the Pike VM. A match drops no
 //! thread, and marks its pattern in a set.
-ghost use Rattle.std.specs.Prelude.{◌≡◌, ◌↔◌, ℕ, ◌+◌, ◌-◌, ◌*◌, ◌<◌, ◌≤◌, ◌⊎◌, ◌^◌, IsTrue, List, [], ◌∷◌, ◌++◌, length, map, min, reverse, slice_set, true, vec_len};
+ghost use Rattle.std.specs.Prelude.{◌≡◌, ◌↔◌, ℕ, ◌+◌, ◌-◌, ◌*◌, ◌<◌, ◌≤◌, ◌⊎◌, ◌^◌, ⊤, false, IsTrue, List, MatchOption, [], ◌∷◌, ◌++◌, length, map, min, reverse, slice_set, true, vec_len};
 ghost use Rattle.rc_text.specs.Text.{Searched, Keeps, low, high};
 ghost use Rattle.rc_pattern_set.specs.Sets.{Has};
+ghost use Rattle.rc_needles.specs.Guards.{Guards};
+ghost use Rattle.rc_needles.specs.Prefilters.{needles_of};
 ghost use Rattle.rc_walks.specs.Walks.{Pair};
 ghost use Rattle.rc_program.specs.Program.{accept, is_match_place};
 ghost use Rattle.rc_program.specs.Places.{places_of};
 ghost use Rattle.rc_program.specs.Programs.{search_of};
 ghost use Rattle.rc_pikevm.specs.Caches.{IsCacheFor};
-ghost use Rattle.rc_pikevm.specs.Marking.{AreSame, Owed, SomeLeads, HasAll, KeepsMarks, MarksFrom, entering, explored, going};
+ghost use Rattle.rc_pikevm.specs.Marking.{AreSame, Owed, SomeLeads, HasAll, HasNoneBefore, KeepsMarks, MarksFrom, MayBegin, entering, explored, going};
 ghost use Rattle.rc_pikevm.specs.Moves.{IsSetting, seen, seen_by};
 ghost use Rattle.rc_pikevm.specs.Near.{IsHere, seen_from, size};
 ghost use Rattle.rc_pikevm.specs.Passing.{AllFrom, AllIn, AllInside, HasRoom, IsGrown, IsLined, count_from};
@@ -18,12 +20,13 @@ ghost use Rattle.rc_pikevm.specs.Scratches.{IsSame};
 use crate::cache::Cache;
 use crate::closure::enter;
 use crate::growth::{Frame, Growth};
-use crate::pass::is_done;
+use crate::pass::{is_done, next_position};
 use crate::scratch::Scratch;
 use crate::search::{bounds, starts_of};
 use crate::spot::{Course, Spot};
 use crate::threads::Threads;
 use crate::window::{open, reach, spot_at};
+use rc_needles::prefilter::Prefilter;
 use rc_pattern_set::sets::PatternSet;
 use rc_program::program::Program;
 use rc_text::cursor::Cursor;
@@ -127,9 +130,9 @@ fn step(spot: &Spot, curr: &Threads, set: &mut PatternSet, growth: &mut Growth)
     }
 }
 
-/// Advances the threads of `curr` at the spot, and then a new thread that sets out there, unless
-/// the spot is past the last start. The pattern of each walk that ends is marked.
-fn advance(spot: &Spot, curr: &Threads, set: &mut PatternSet, growth: &mut Growth)
+/// Advances the threads of `curr` at the spot. Then, if a walk may begin there, and the spot isn't
+/// past the last start, a new thread sets out. The pattern of each walk that ends is marked.
+fn advance(spot: &Spot, may_begin: bool, curr: &Threads, set: &mut PatternSet, growth: &mut Growth)
     ghost text: { Searched }
     requires here { IsHere spot.now text }
     requires inside { AllIn (size spot.now.course) spot.now.at (min spot.now.course.hi (spot.now.at + 3)) curr.now.items }
@@ -137,6 +140,7 @@ fn advance(spot: &Spot, curr: &Threads, set: &mut PatternSet, growth: &mut Growt
     requires empty { (growth.old.threads.items ≡ []) × (growth.old.entered.items ≡ []) }
     requires capacity { growth.old.entered.capacity ≡ size spot.now.course }
     requires room { count_from (spot.now.at + 1) curr.now.items + size spot.now.course ≤ growth.old.threads.room }
+    requires begins { MayBegin (seen_from spot.now text) spot.now.at may_begin }
     ensures same { AreSame (length set.old)
         (Owed (seen_from spot.now text) spot.now.at [] [] (map going curr.now.items ++ entering spot.now.at spot.now.course.last) set.old)
         (Owed (seen_from spot.now text) spot.now.at growth.new.threads.items growth.new.entered.items
@@ -150,18 +154,23 @@ fn advance(spot: &Spot, curr: &Threads, set: &mut PatternSet, growth: &mut Growt
     ensures begun { (x : ℕ) → x ≤ spot.now.at → AllFrom x curr.now.items → AllFrom x growth.new.threads.items }
 {
     step(spot, curr, set, growth);
+    if !may_begin {
+        return;
+    }
     if spot.at <= spot.course.last {
         spread(spot, 0, spot.at, set, growth);
     }
 }
 
 /// Handles one position of a pass: advances the threads, and counts the places entered.
-fn turn(spot: &Spot, set: &mut PatternSet, scratch: &mut Scratch)
+/// `may_begin` says whether a walk may begin there.
+fn turn(spot: &Spot, may_begin: bool, set: &mut PatternSet, scratch: &mut Scratch)
     ghost text: { Searched }
     requires here { IsHere spot.now text }
     requires made { scratch.old.next.entered.capacity ≡ size spot.now.course }
     requires lined { IsLined (size spot.now.course) spot.now.course.hi 0 spot.now.at scratch.old.insertions scratch.old.curr }
     requires small { scratch.old.insertions + size spot.now.course < 2 ^ 128 }
+    requires begins { MayBegin (seen_from spot.now text) spot.now.at may_begin }
     ensures same { AreSame (length set.old)
         (Owed (seen_from spot.now text) spot.now.at [] []
         (map going scratch.old.curr.items ++ entering spot.now.at spot.now.course.last) set.old)
@@ -174,7 +183,7 @@ fn turn(spot: &Spot, set: &mut PatternSet, scratch: &mut Scratch)
     ensures few { scratch.new.insertions ≤ scratch.old.insertions + size spot.now.course }
 {
     scratch.next.clear();
-    advance(spot, &scratch.curr, set, &mut scratch.next);
+    advance(spot, may_begin, &scratch.curr, set, &mut scratch.next);
     scratch.finish();
 }
 
@@ -207,14 +216,64 @@ fn wanted(pattern: Option<usize>, patterns: usize, set: &PatternSet) -> (usize, 
     }
 }
 
+/// Returns the first position from `at` on at which a walk may begin: with a prefilter, the start
+/// of the next needle, or one past the bound if none is left. `known` is the one that was returned
+/// for an earlier position, or that position.
+fn next_start<C: Cursor>(
+    input: &mut Input<C>,
+    course: Course,
+    prefilter: Option<&Prefilter>,
+    at: usize,
+    known: usize,
+) -> usize
+    requires inside { (at ≤ course.hi) × (course.hi ≡ high input.old) }
+    requires known { known ≤ course.hi + 1 }
+    requires guarded { MatchOption prefilter ⊤
+        (λ p. Guards (places_of course.program.now.places.items) course.program.now.terminator (needles_of p.now)) }
+    requires none { HasNoneBefore (seen_by course input.old) at known }
+    ensures keeps { Keeps input.old input.new }
+    ensures within { (at ≤ result) × (result ≤ course.entry.hi + 1) }
+    ensures none { HasNoneBefore (seen_by course.entry input.old) at result }
+{
+    if known >= at {
+        return known;
+    }
+    match next_position(input, course, prefilter, at, true) {
+        Some(start) => start,
+        None => course.hi + 1,
+    }
+}
+
+/// Whether the pass has come to the next start.
+fn is_reached(at: usize, start: usize) -> bool
+    ensures { result ≡ false → at < start }
+{
+    at >= start
+}
+
+/// Returns the position from which a pass goes on that has come to `at`: the next start, if no
+/// thread is under way.
+fn skip_to(curr: &Threads, at: usize, start: usize) -> usize
+    requires { at ≤ start }
+    ensures within { (at ≤ result) × (result ≤ start) }
+    ensures idle { (result ≡ at) ⊎ ((length curr.now.items ≡ 0) × (result ≡ start)) }
+{
+    if curr.len() > 0 {
+        return at;
+    }
+    start
+}
+
 /// Runs one pass over the positions from `from` on, and marks each pattern that walks from the
-/// starts there spell. It ends early once each pattern from `first` to `end`, excluded, is marked.
+/// starts there spell. It ends early once each pattern from `wanted.0` to `wanted.1`, excluded, is
+/// marked. With a prefilter, threads set out where a needle occurs alone, and positions are skipped
+/// while none is under way.
 fn pass<C: Cursor>(
     input: &mut Input<C>,
     course: Course,
+    prefilter: Option<&Prefilter>,
     from: usize,
-    first: usize,
-    end: usize,
+    wanted: (usize, usize),
     set: &mut PatternSet,
     scratch: &mut Scratch,
 )
@@ -224,24 +283,39 @@ fn pass<C: Cursor>(
     requires bounds { (low text ≤ from) × (from ≤ course.last) }
     requires made { scratch.old.next.entered.capacity ≡ size course }
     requires width { scratch.old.next.threads.width ≡ 0 }
+    requires guarded { MatchOption prefilter ⊤
+        (λ p. Guards (places_of course.program.now.places.items) course.program.now.terminator (needles_of p.now)) }
     ensures keeps { Keeps input.old input.new }
-    ensures marks { MarksFrom (seen_by course.entry text) from course.entry.last first end set.old set.new }
+    ensures marks { MarksFrom (seen_by course.entry text) from course.entry.last wanted.0 wanted.1 set.old set.new }
     ensures kept { IsSame scratch.old scratch.new }
 {
     scratch.insertions = 0;
     scratch.curr.clear(0);
     let mut window = open(input, from);
-    let mut absent = first;
-    'positions: for at in from..course.hi + 1 {
-        absent = first_absent(set, absent, end);
-        if absent >= end {
+    let mut absent = wanted.0;
+    let mut start = from;
+    let mut at = from;
+    'positions: while at <= course.hi {
+        absent = first_absent(set, absent, wanted.1);
+        if absent >= wanted.1 {
+            return;
+        }
+        start = next_start(input, course, prefilter, at, start);
+        at = skip_to(&scratch.curr, at, start);
+        if at > course.hi {
             return;
         }
         reach(&mut window, input, at);
-        turn(&spot_at(course, &window, at), set, scratch);
+        turn(
+            &spot_at(course, &window, at),
+            is_reached(at, start),
+            set,
+            scratch,
+        );
         if is_done(&scratch.curr, None, at, course.last) {
             return;
         }
+        at += 1;
     }
 }
 
@@ -249,6 +323,7 @@ fn pass<C: Cursor>(
 fn choose<C: Cursor>(
     input: &mut Input<C>,
     program: &Program,
+    prefilter: Option<&Prefilter>,
     patterns: usize,
     set: &mut PatternSet,
     scratch: &mut Scratch,
@@ -256,6 +331,7 @@ fn choose<C: Cursor>(
     requires first { AreOfFirst patterns (places_of program.now.places.items) }
     requires made { scratch.old.next.entered.capacity ≡ length program.now.places.items }
     requires width { scratch.old.next.threads.width ≡ 0 }
+    requires guarded { MatchOption prefilter ⊤ (λ p. Guards (places_of program.now.places.items) program.now.terminator (needles_of p.now)) }
     ensures keeps { Keeps input.old input.new }
     ensures adds { AddsSpelled (seen program.now input.old) set.old set.new }
     ensures kept { IsSame scratch.old scratch.new }
@@ -273,7 +349,7 @@ fn choose<C: Cursor>(
         last,
     };
     let (first, end) = wanted(pattern, patterns, set);
-    pass(input, course, lo, first, end, set, scratch);
+    pass(input, course, prefilter, lo, (first, end), set, scratch);
 }
 
 /// Inserts each pattern that has a match within the bounds of the search, wherever other matches
@@ -282,21 +358,24 @@ fn choose<C: Cursor>(
 /// first `patterns` patterns.
 ///
 /// The cache must be made for programs of as many places, and stays so. Nothing is allocated, and
-/// the time is linear in the bytes between the search's bounds. The pass ends once each pattern is
-/// found that the set can hold.
+/// the time is linear in the bytes between the search's bounds. With a prefilter, threads set out
+/// at needles alone, and the pass goes from needle to needle while none is under way. It ends once
+/// each pattern is found that the set can hold.
 pub fn which_patterns<C: Cursor>(
     cache: &mut Cache,
     input: &mut Input<C>,
     program: &Program,
+    prefilter: Option<&Prefilter>,
     patterns: usize,
     set: &mut PatternSet,
 )
     requires first { AreOfFirst patterns (places_of program.now.places.items) }
     requires made { IsCacheFor (length program.now.places.items) 0 cache.old }
+    requires guarded { MatchOption prefilter ⊤ (λ p. Guards (places_of program.now.places.items) program.now.terminator (needles_of p.now)) }
     ensures keeps { Keeps input.old input.new }
     ensures adds { AddsSpelled (search_of program.now input.old) set.old set.new }
     ensures cache { cache.new ≡ record cache.old { insertions = cache.new.insertions } }
 {
     cache.scratch.widen(0);
-    choose(input, program, patterns, set, &mut cache.scratch);
+    choose(input, program, prefilter, patterns, set, &mut cache.scratch);
 }

@@ -15,7 +15,7 @@ use rc_pattern_set::sets::PatternSet;
 use rc_pikevm::cache;
 use rc_pikevm::which::which_patterns;
 use rc_pikevm_search::engine::Engine;
-use rc_pikevm_search::literals::literals_of;
+use rc_pikevm_search::literals::{guards_of, literals_of};
 use rc_text::cursor::Cursor;
 use rc_text::input::{Input, low};
 use rc_text::types::{Match, MatchKind, PatternID};
@@ -39,7 +39,8 @@ fn mark_from<C: Cursor>(
 {
     let span = input.get_span();
     input.set_start(start);
-    which_patterns(cache, input, &engine.program, patterns, set);
+    let needles = guards_of(&engine.literals);
+    which_patterns(cache, input, &engine.program, needles, patterns, set);
     input.set_span(span);
 }
 
@@ -152,7 +153,9 @@ impl Engines {
             return;
         }
         if self.engine.program.passes_over {
-            which_patterns(&mut cache.pass, input, &self.engine.program, patterns, set);
+            let needles = guards_of(&self.engine.literals);
+            let program = &self.engine.program;
+            which_patterns(&mut cache.pass, input, program, needles, patterns, set);
             return;
         }
         if literals_of(&self.engine.literals, self.engine.kind).is_some() {

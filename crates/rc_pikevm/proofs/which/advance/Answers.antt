@@ -2,7 +2,7 @@ use Rattle.std.proofs.Common.{ℕ, ◌+◌, ◌<◌, ◌↔◌, [], ◌++◌, ma
 use Rattle.rc_pikevm.specs.Near.{seen_from}
 use Rattle.rc_pikevm.specs.Marking.{Owed, entering, going}
 use Rattle.rc_pikevm.proofs.MarkMoveLemmas.{same_then, low_in}
-use Rattle.rc_pikevm.proofs.MarkStepLemmas.{entering_next, entering_over}
+use Rattle.rc_pikevm.proofs.MarkStepLemmas.{entering_next, entering_over, sets_out_none}
 use Rattle.rc_pikevm.proofs.which.advance.Goals as goal
 
 pub returns-then-spot-clause-same : goal.returns-then-spot-clause-same
@@ -24,6 +24,17 @@ returns-else-spot-clause-same g c p low =
     ↔ Owed s at c.step.new.growth.threads.items c.step.new.growth.entered.items ns c.step.new.set p)
     (entering_over at c.args.spot.now.course.last past ∙ sym (entering_over (at + 1) c.args.spot.now.course.last (omega (arith, past))))
     (c.step.ensures.same (entering at c.args.spot.now.course.last) p low)
+
+pub returns-then-not-may_begin-clause-same : goal.returns-then-not-may_begin-clause-same
+returns-then-not-may_begin-clause-same g c p low =
+    let at : ℕ = c.args.spot.now.at in
+    let last : ℕ = c.args.spot.now.course.last in
+    same_then (c.step.ensures.same (entering at last) p low)
+    (sets_out_none (seen_from c.args.spot.now g.text) p at last c.step.new.growth.threads.items c.step.new.growth.entered.items c.step.new.set
+    (c.requires.1.1.1.1.1.1 c.if-not-may_begin.true))
+
+pub returns-then-not-may_begin-clause-begun : goal.returns-then-not-may_begin-clause-begun
+returns-then-not-may_begin-clause-begun g c x l h = c.step.ensures.begun x h
 
 pub returns-then-spot-clause-begun : goal.returns-then-spot-clause-begun
 returns-then-spot-clause-begun g c x l h = c.spread.ensures.grown.begun x l (c.step.ensures.begun x h)

@@ -1,8 +1,9 @@
+use Rattle.std.proofs.Common.{◌+◌, ◌-◌, ◌≤◌}
 use Rattle.rc_text.specs.Text.{Keeps}
 use Rattle.rc_pikevm.specs.Moves.{seen_by}
 use Rattle.rc_pikevm.specs.Near.{size}
 use Rattle.rc_pikevm.specs.Scratches.{IsSame}
-use Rattle.rc_pikevm.specs.Marking.{IsMarkingFrom, HasAll}
+use Rattle.rc_pikevm.specs.Marking.{IsMarkingFrom, HasAll, HasNoneBefore}
 use Rattle.rc_pikevm.specs.Windows.{IsWindow, IsBegun}
 use Rattle.rc_pikevm.proofs.which.pass.Given as goal
 
@@ -13,9 +14,14 @@ invariant-positions g l = record {
   begun : IsBegun g.text l.at l.window;
   marking : IsMarkingFrom (seen_by l.course g.text) (size l.course) l.course.hi l.from l.course.last l.at l.scratch.insertions
       l.scratch.curr l.fn.set l.set;
-  full : HasAll l.first l.absent l.set;
+  full : HasAll l.wanted.0 l.absent l.set;
+  near : l.start ≤ l.course.hi + 1;
+  none : HasNoneBefore (seen_by l.course g.text) l.at l.start;
   same : IsSame l.fn.scratch l.scratch;
 }
+
+abbrev pub decreases-positions : goal.decreases-positions
+decreases-positions g l = l.course.hi + 1 - l.at
 
 abbrev pub ghost-spot_at : goal.ghost-spot_at
 ghost-spot_at g a = g.text
