@@ -36,9 +36,10 @@ impl Regex {
     /// match is empty and inside a character. Patterns that are literals or alternations of
     /// literals are found by a search for these, if the kind is `LeftmostFirst`. For others, a
     /// search first finds where the first match begins. One pass from there on then finds all
-    /// patterns; of one pattern the search alone decides. The pass reads everything within the
-    /// bounds if the kind is `All` or `LeftmostLongest`, or if empty matches may be rejected. It
-    /// ends early if the set contains each pattern that it can.
+    /// patterns; of one pattern the search alone decides. If each match begins with one of a few
+    /// literals, the pass goes from literal to literal. If each begins where the slice does, as with
+    /// `^`, it ends where no such match goes on. It ends early if the set contains each pattern that
+    /// it can.
     pub fn which_patterns_with<C: Cursor>(
         &self,
         cache: &mut Cache,

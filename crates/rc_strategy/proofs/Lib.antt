@@ -12,3 +12,4 @@ pub mod PatternLemmas
 pub mod EarlyLemmas
 pub mod JumpLemmas
 pub mod FirstLemmas
+pub mod HeldLemmas

@@ -72,7 +72,7 @@ half_there kind s (Some h) w = go (answer_by kind s) refl
     go None e = absurd (some_missing kind s w.0 (is_early true s) refl w.1 e)
     go (Some m) e = refl
 
-found_there : (kind : MatchKind) (s : Search) (o : Option Found) → IsAnswerBy kind true s o → is_some o ≡ is_some (answer_by kind s)
+pub found_there : (kind : MatchKind) (s : Search) (o : Option Found) → IsAnswerBy kind true s o → is_some o ≡ is_some (answer_by kind s)
 found_there kind s None h = sym (ap is_some ((missing_by kind true s).0 h))
 found_there kind s (Some m) h = go (answer_by kind s) refl
   where

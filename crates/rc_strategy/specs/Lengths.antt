@@ -1,10 +1,10 @@
 -- Only proofs use this file.
 -- Match lengths and anchors: what is known of matches before any search.
-use Rattle.std.specs.Prelude.{◌≡◌, ℕ, ◌+◌, ◌-◌, ◌≤◌, Bool, true, false, ◌&&◌, ◌||◌, List, Option, Some, None, IsTrue, nat_lt, min, max}
+use Rattle.std.specs.Prelude.{◌≡◌, ℕ, ◌+◌, ◌-◌, ◌≤◌, ◌⊎◌, Bool, true, false, ◌&&◌, ◌||◌, List, Option, Some, None, IsTrue, nat_lt, min, max}
 use Rattle.rc_text.specs.Found.{Found}
 use Rattle.rc_text.specs.Plain.{is_anchored}
 use Rattle.rc_text.specs.Text.{Searched, low, high, slice_end}
-use Rattle.rc_text.specs.declared.types.Anchored.TheVariants.{No}
+use Rattle.rc_text.specs.declared.types.Anchored.TheVariants.{No, Yes}
 use Rattle.rc_text.specs.declared.types.MatchKind.{MatchKind}
 use Rattle.rc_text.specs.declared.types.MatchKind.TheVariants.{All, LeftmostFirst, LeftmostLongest}
 use Rattle.rc_pattern.specs.Re.{Re}
@@ -82,6 +82,18 @@ abbrev pub is_leftmost : MatchKind → Bool
 is_leftmost All = false
 is_leftmost LeftmostFirst = true
 is_leftmost LeftmostLongest = true
+
+-- Each begins with the slice, and the search does too.
+abbrev pub BeginAtLow : Lengths → Searched → Type 0
+BeginAtLow k s = (k.begins ≡ true) × (low s ≤ s.slice.start)
+
+-- Each match begins where the search does, and that isn't anchored.
+abbrev pub SeeksFromStart : Lengths → Searched → Type 0
+SeeksFromStart k s = (s.anchored ≡ No) × BeginAtLow k s
+
+-- The second search is the first, anchored if each match begins where the search does.
+abbrev pub IsHeld : Lengths → Searched → Searched → Type 0
+IsHeld k s t = (t ≡ s) ⊎ (SeeksFromStart k s × (t ≡ record s { anchored = Yes }))
 
 -- The leftmost match is searched for backwards from the upper bound.
 abbrev pub SeeksFromEnd : MatchKind → Lengths → Searched → Type 0

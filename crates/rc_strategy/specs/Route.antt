@@ -6,10 +6,10 @@ use Rattle.rc_program.specs.Places.{places_of}
 use Rattle.rc_literals.specs.Guard.{IsGuard}
 use Rattle.rc_literals.specs.declared.guard.Guard.{Guard}
 use Rattle.rc_pikevm_search.specs.declared.engine.Engine.{Engine}
-use Rattle.rc_strategy.specs.Lengths.{IsOneLength, SeeksFromEnd, SeeksGreatestFromEnd, is_leftmost}
+use Rattle.rc_strategy.specs.Lengths.{IsOneLength, SeeksFromEnd, SeeksFromStart, SeeksGreatestFromEnd, is_leftmost}
 use Rattle.rc_strategy.specs.declared.engines.Engines.{Engines}
 use Rattle.rc_strategy.specs.declared.route.Route.{Route}
-use Rattle.rc_strategy.specs.declared.route.Route.TheVariants.{FromEnd, GreatestFromEnd, OfLength, Along}
+use Rattle.rc_strategy.specs.declared.route.Route.TheVariants.{FromEnd, FromStart, GreatestFromEnd, OfLength, Along}
 use Rattle.rc_strategy.specs.declared.route.TableChoice.{TableChoice}
 use Rattle.rc_strategy.specs.declared.route.TableChoice.TheVariants.{AllStates, MetStates, NoTables}
 
@@ -28,6 +28,8 @@ GoesBy e has_states NoTables = (e.tables ≡ None) × ((e.lazy ≡ None) ⊎ (ha
 
 -- The facts on which each route relies.
 abbrev pub Relies : Engines → Searched → Route → Type 0
+-- The search isn't anchored, and each match begins where it does.
+Relies e s FromStart = SeeksFromStart e.spans s
 -- The kind is leftmost, the search isn't anchored, and each match ends where the slice does.
 Relies e s FromEnd = SeeksFromEnd e.engine.kind e.spans s
 -- The kind is `MatchKind::All`, the search isn't anchored, and each match ends where the slice

@@ -13,6 +13,7 @@ ghost use Rattle.rc_strategy.specs.Tables.{AreHalvesFor};
 
 use crate::cache::Cache;
 use crate::engines::{Engines, half_of};
+use crate::held::find_early_from_start;
 use crate::last::find_greatest_from_end;
 use crate::needles::find_early_guarded;
 use crate::route::{Route, TableChoice};
@@ -128,6 +129,10 @@ fn find_by_tables<H: Halves, C: Cursor>(
     ensures within { IfOk result (λ found. IfSome found (IsWithinBounds input.old)) }
 {
     match engines.route(input) {
+        Route::FromStart => {
+            let earliest = input.get_earliest();
+            find_early_from_start(engines, halves, cache, input, earliest)
+        }
         Route::FromEnd => engines.find_from_end(halves, cache, input),
         Route::GreatestFromEnd => find_greatest_from_end(engines, halves, cache, input),
         Route::OfLength(_, guard) | Route::Along(guard) => {

@@ -9,6 +9,7 @@ ghost use Rattle.rc_strategy.specs.Tables.{MayBeLazyFor, MayBeTablesFor};
 
 use crate::cache::Cache;
 use crate::first::find_first;
+use crate::held::{any_from_start, find_from_start};
 use crate::last::find_greatest_from_end;
 use crate::lengths::Lengths;
 use crate::needles::find_early_guarded;
@@ -223,6 +224,7 @@ impl Engines {
         ensures within { IfOk result (λ found. IfSome found (IsWithinBounds input.old)) }
     {
         match self.route(input) {
+            Route::FromStart => find_from_start(self, halves, cache, input),
             Route::FromEnd => self.find_from_end(halves, cache, input),
             Route::GreatestFromEnd => find_greatest_from_end(self, halves, cache, input),
             Route::OfLength(length, guard) => {
@@ -383,6 +385,7 @@ impl Engines {
         ensures within { IfOk result (λ found. IfSome found (λ half. (low input.old ≤ half.offset) × (half.offset ≤ high input.old))) }
     {
         match self.route(input) {
+            Route::FromStart => Ok(half_of(find_from_start(self, halves, cache, input)?)),
             Route::FromEnd => Ok(half_of(self.find_from_end(halves, cache, input)?)),
             Route::GreatestFromEnd => {
                 Ok(half_of(find_greatest_from_end(self, halves, cache, input)?))
@@ -433,6 +436,7 @@ impl Engines {
         ensures found { IfOk result (λ b. b ≡ is_some (answer_by self.now.engine.kind (engine_search self.now.engine input.old))) }
     {
         match self.route(input) {
+            Route::FromStart => any_from_start(self, halves, cache, input),
             Route::FromEnd => Ok(self.find_from_end(halves, cache, input)?.is_some()),
             Route::GreatestFromEnd => {
                 Ok(find_greatest_from_end(self, halves, cache, input)?.is_some())

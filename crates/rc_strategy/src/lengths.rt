@@ -35,7 +35,7 @@ impl Lengths {
     ghost use Rattle.std.specs.Prelude.{◌≡◌, ◌↔◌, map, All, IfSome, IsTrue};
     ghost use Rattle.rc_text.specs.Text.{Keeps, high};
     ghost use Rattle.rc_pattern.specs.Meaning.{meaning};
-    ghost use Rattle.rc_strategy.specs.Lengths.{Bounds, EndAlone, IsOneLength, either, are_longer, are_shorter, begin_early, end_late, leave_none, must_fill};
+    ghost use Rattle.rc_strategy.specs.Lengths.{BeginAtLow, Bounds, EndAlone, IsOneLength, either, are_longer, are_shorter, begin_early, end_late, leave_none, must_fill};
 
     /// Returns the lengths and anchors of this pattern's spans.
     fn of_one(hir: &Hir) -> Lengths
@@ -84,6 +84,14 @@ impl Lengths {
         ensures { result ≡ begin_early self.now input.now }
     {
         self.begins && input.get_slice_span().start < low(input)
+    }
+
+    /// Whether each span begins where the slice does, and so does the search.
+    #[inline(always)]
+    pub fn begin_at_low<C: Cursor>(&self, input: &Input<C>) -> bool
+        ensures { IsTrue result ↔ BeginAtLow self.now input.now }
+    {
+        self.begins && low(input) <= input.get_slice_span().start
     }
 
     /// Whether each span ends where the slice does, but the search ends earlier, at `end`.

@@ -6,6 +6,7 @@ pub mod early;
 pub mod engines;
 mod entries;
 mod first;
+mod held;
 mod last;
 pub mod laws;
 pub mod lengths;

@@ -23,6 +23,8 @@ pub(crate) enum TableChoice<'a> {
 /// How a DFA search goes.
 #[derive(Clone, Copy)]
 pub(crate) enum Route<'a> {
+    /// Forwards, anchored where the search starts.
+    FromStart,
     /// Backwards from the end of the search, for the leftmost match.
     FromEnd,
     /// Backwards from the end of the search, for the greatest match.
@@ -37,7 +39,7 @@ pub(crate) enum Route<'a> {
 impl Engines {
     ghost use Rattle.std.specs.Prelude.{◌≡◌, ◌↔◌, true, IfSome, IsTrue};
     ghost use Rattle.rc_strategy.specs.Route.{GoesBy, MayGuard, Relies};
-    ghost use Rattle.rc_strategy.specs.Lengths.{IsOneLength, SeeksFromEnd, SeeksGreatestFromEnd, is_leftmost};
+    ghost use Rattle.rc_strategy.specs.Lengths.{IsOneLength, SeeksFromEnd, SeeksFromStart, SeeksGreatestFromEnd, is_leftmost};
 
     /// Returns which DFA a search uses: the DFA if there is one; else the lazy DFA, if there is one
     /// and `has_states` says that a cache has its states.
@@ -62,6 +64,9 @@ impl Engines {
     pub(crate) fn route<C: Cursor>(&self, input: &Input<C>) -> Route
         ensures { Relies self.now input.now result }
     {
+        if self.seeks_from_start(input) {
+            return Route::FromStart;
+        }
         if self.seeks_from_end(input) {
             return Route::FromEnd;
         }
@@ -71,6 +76,18 @@ impl Engines {
         match self.only_length() {
             Some(length) => Route::OfLength(length, self.guard()),
             None => Route::Along(self.guard()),
+        }
+    }
+
+    /// Whether a search is anchored where it starts: each match begins where the slice does, and so
+    /// does the search, which isn't anchored.
+    #[inline(always)]
+    pub(crate) fn seeks_from_start<C: Cursor>(&self, input: &Input<C>) -> bool
+        ensures { IsTrue result ↔ SeeksFromStart self.now.spans input.now }
+    {
+        match input.get_anchored() {
+            Anchored::No => self.spans.begin_at_low(input),
+            _ => false,
         }
     }
 

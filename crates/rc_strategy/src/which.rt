@@ -14,33 +14,55 @@ use rc_literals::marks::mark_owners;
 use rc_pattern_set::sets::PatternSet;
 use rc_pikevm::cache;
 use rc_pikevm::which::which_patterns;
-use rc_pikevm_search::engine::Engine;
 use rc_pikevm_search::literals::{guards_of, literals_of};
 use rc_text::cursor::Cursor;
 use rc_text::input::{Input, low};
 use rc_text::types::{Match, MatchKind, PatternID};
 
-/// Inserts each of `patterns` patterns that has a match, as far as the set can hold it, by a pass
-/// from `start` on: no walk begins earlier. The input's span stays as it is.
+/// Inserts each of `patterns` patterns that has a match, as far as the set can hold it, by a pass.
+/// It goes from prefix literal to prefix literal, and is anchored if each match begins where the
+/// search does.
+fn mark<C: Cursor>(
+    engines: &Engines,
+    cache: &mut cache::Cache,
+    input: &mut Input<C>,
+    patterns: usize,
+    set: &mut PatternSet,
+)
+    requires first { AreOfFirst patterns (places_of engines.now.engine.program.places.items) }
+    requires made { IsEngineCache engines.now.engine 0 cache.old }
+    ensures keeps { Keeps input.old input.new }
+    ensures adds { AddsSpelled (engine_search engines.now.engine input.old) set.old set.new }
+    ensures cache { IsSameCache cache.old cache.new }
+{
+    let engine = &engines.engine;
+    let needles = guards_of(&engine.literals);
+    let anchored = input.get_anchored();
+    engines.hold(input);
+    which_patterns(cache, input, &engine.program, needles, patterns, set);
+    input.set_anchored(anchored);
+}
+
+/// Inserts what `mark` does, by a pass from `start` on: no walk begins earlier. The input's span
+/// stays as it is.
 fn mark_from<C: Cursor>(
-    engine: &Engine,
+    engines: &Engines,
     cache: &mut cache::Cache,
     input: &mut Input<C>,
     patterns: usize,
     start: usize,
     set: &mut PatternSet,
 )
-    requires first { AreOfFirst patterns (places_of engine.now.program.places.items) }
-    requires made { IsEngineCache engine.now 0 cache.old }
-    requires start { IsFirstStart (engine_search engine.now input.old) (Some start) }
+    requires first { AreOfFirst patterns (places_of engines.now.engine.program.places.items) }
+    requires made { IsEngineCache engines.now.engine 0 cache.old }
+    requires start { IsFirstStart (engine_search engines.now.engine input.old) (Some start) }
     ensures keeps { Keeps input.old input.new }
-    ensures adds { AddsSpelled (engine_search engine.now input.old) set.old set.new }
+    ensures adds { AddsSpelled (engine_search engines.now.engine input.old) set.old set.new }
     ensures cache { IsSameCache cache.old cache.new }
 {
     let span = input.get_span();
     input.set_start(start);
-    let needles = guards_of(&engine.literals);
-    which_patterns(cache, input, &engine.program, needles, patterns, set);
+    mark(engines, cache, input, patterns, set);
     input.set_span(span);
 }
 
@@ -153,9 +175,7 @@ impl Engines {
             return;
         }
         if self.engine.program.passes_over {
-            let needles = guards_of(&self.engine.literals);
-            let program = &self.engine.program;
-            which_patterns(&mut cache.pass, input, program, needles, patterns, set);
+            mark(self, &mut cache.pass, input, patterns, set);
             return;
         }
         if literals_of(&self.engine.literals, self.engine.kind).is_some() {
@@ -169,7 +189,7 @@ impl Engines {
             return;
         }
         if let Some(start) = self.least_start(cache, input) {
-            mark_from(&self.engine, &mut cache.pass, input, patterns, start, set);
+            mark_from(self, &mut cache.pass, input, patterns, start, set);
         }
     }
 }
