@@ -20,6 +20,8 @@ mod searchers;
 #[cfg(test)]
 mod searches;
 #[cfg(test)]
+mod sets;
+#[cfg(test)]
 mod states;
 #[cfg(test)]
 mod values;
