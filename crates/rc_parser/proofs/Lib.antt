@@ -5,5 +5,6 @@ pub mod SpineLemmas
 pub mod FitLemmas
 pub mod StandLemmas
 pub mod PlainLemmas
+pub mod DepthLemmas
 pub mod NameLemmas
 mod Examples

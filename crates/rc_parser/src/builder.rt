@@ -1,15 +1,16 @@
 //! Pattern construction from tokens, left to right.
 
-ghost use Rattle.std.specs.Prelude.{◌≡◌, ◌⊎◌, ◌+◌, ◌-◌, ◌^◌, ◌<◌, ◌≤◌, None, Some, [], option_map, MatchResult, MatchOption, OnOk, IfOk, IsOk, Err, map, string_bytes, ◌∷◌};
+ghost use Rattle.std.specs.Prelude.{◌≡◌, ◌⊎◌, ◌+◌, ◌-◌, ◌^◌, ◌<◌, ◌≤◌, nat_lt, None, Some, [], option_map, MatchResult, MatchOption, OnOk, IfOk, IsOk, Err, map, string_bytes, ◌∷◌};
 ghost use Rattle.rc_pattern.specs.Re as re;
 ghost use Rattle.rc_pattern.specs.Meaning.{meaning};
 ghost use Rattle.rc_tokens.specs.Said as said;
 ghost use Rattle.rc_tokens.specs.View.{IsResultOf, said_of, start_of};
 ghost use Rattle.rc_parser.specs.Settings.{settings_of, first_flags};
-ghost use Rattle.rc_parser.specs.Pieces.{leaf, sense_part};
+ghost use Rattle.rc_parser.specs.Pieces.{leaf, sense_part, depth_limit};
 ghost use Rattle.rc_parser.specs.Grammar as grammar;
 ghost use Rattle.rc_parser.specs.Grammar.{no_parts, begin, end_branch, whole, repeated_once, closed, inside, tie, set_flags};
 ghost use Rattle.rc_parser.specs.Machine.{work, step, settled, take_said, finish, nameless};
+ghost use Rattle.rc_parser.specs.Nesting.{body_depth, body_depth_with, least_depth};
 ghost use Rattle.rc_parser.specs.View.{part, paired_name};
 
 use crate::config::Config;
@@ -92,6 +93,26 @@ impl Level {
         let items = mem::replace(&mut self.items, Parts::new(alloc));
         let branch = items.join_concat(alloc, config)?;
         self.branches.push(branch)
+    }
+
+    /// How deep the body is nested, if it ends here.
+    fn depth(&self) -> u64
+        ensures value { result ≡ body_depth (level self.now) }
+        ensures bound { result < 2 ^ 33 }
+    {
+        let branch = self.items.deepest as u64
+            + self.items.hirs.len().saturating_sub(1).min(1) as u64;
+        branch.max(self.branches.deepest as u64) + self.branches.hirs.len().min(1) as u64
+    }
+
+    /// The same, if one more item comes before, which is nested that deep.
+    fn depth_with(&self, item: u64) -> u64
+        requires { item < 2 ^ 33 }
+        ensures value { result ≡ body_depth_with item (level self.now) }
+        ensures bound { result < 2 ^ 33 + 2 }
+    {
+        let branch = item.max(self.items.deepest as u64) + self.items.hirs.len().min(1) as u64;
+        branch.max(self.branches.deepest as u64) + self.branches.hirs.len().min(1) as u64
     }
 
     /// The body as one part. It consumes the branches.
@@ -335,6 +356,34 @@ impl Work {
         }
         self.settle()?;
         self.step(alloc, token)
+    }
+
+    /// How deep the innermost body is nested, if it ends here.
+    fn depth(&self) -> u64
+        ensures value { result ≡ body_depth (settled (state self.now).last (state self.now).level) }
+        ensures bound { result < 2 ^ 34 }
+    {
+        match &self.last {
+            Some(item) => self.level.depth_with(item.depth as u64),
+            None => self.level.depth(),
+        }
+    }
+
+    /// Whether the pattern is nested too deeply, whatever follows.
+    pub fn is_too_deep(&self) -> bool
+        ensures { result ≡ nat_lt (depth_limit (settings_of self.now.config)) (least_depth (state self.now)) }
+    {
+        let limit = self.config.depth_limit() as u64;
+        let mut depth = self.depth();
+        let mut left = self.outer.len();
+        while left > 0 {
+            if depth > limit {
+                return true;
+            }
+            depth = self.outer[left - 1].level.depth_with(depth + 1);
+            left -= 1;
+        }
+        depth > limit
     }
 
     /// The pattern, if no group is open.

@@ -51,6 +51,9 @@ fn read(alloc: Global, chars: &[char], config: Config) -> Result<Nested, Fault>
             Err(Refusal::Memory) => return Err(Fault::Memory),
             Err(Refusal::Syntax) => return Err(Fault::Syntax(rest.len())),
         }
+        if work.is_too_deep() {
+            return Err(Fault::Syntax(rest.len()));
+        }
         rest = after;
     }
     match work.finish(alloc) {

@@ -1,12 +1,15 @@
-use Rattle.std.proofs.Common.{◌≡◌, ◌==◌, ◌<◌, ℕ, ◌⊎◌, ⊎_elim, length, None, Some, arith, sym, ◌∙◌, subst, false}
-use Rattle.std.proofs.lemmas.Bool.{eqb-true, eqb-false}
+use Rattle.std.proofs.Common.{◌≡◌, ◌==◌, ◌<◌, ℕ, ◌⊎◌, ⊎_elim, length, None, Some, arith, ap, sym, ◌∙◌, subst, true, false, nat_lt}
+use Rattle.std.proofs.lemmas.Bool.{eqb-true, eqb-false, ltb-true}
 use Rattle.rc_tokens.specs.View.{said_of}
 use Rattle.rc_tokens.specs.declared.refusal.Refusal.{Refusal}
 use Rattle.rc_tokens.specs.declared.refusal.Refusal.TheVariants.{Memory, Syntax}
 use Rattle.rc_tokens.proofs.SoundLemmas.{lex_shorter}
 use Rattle.rc_parser.specs.Settings.{settings_of}
 use Rattle.rc_parser.specs.Machine.{take_said, finish, settled, fresh}
+use Rattle.rc_parser.specs.Nesting.{least_depth}
+use Rattle.rc_parser.specs.Pieces.{depth_limit}
 use Rattle.rc_parser.specs.View.{state, part}
+use Rattle.rc_parser.proofs.DepthLemmas.{same_deep}
 use Rattle.rc_parser.proofs.ReadLemmas.{same_step, same_stuck, same_refused, same_end, same_none}
 use Rattle.rc_parser.proofs.reader.read.Goals as goal
 
@@ -29,6 +32,17 @@ returns-in-Err-Syntax-accept-clause-reads c = same_refused (settings_of c.args.c
     c.in-Ok.found.1.now (said_of c.in-Ok.found.0) c.loop-rest.invariant.2 c.in-Ok.ensures
     (subst (λ n. take_said (settings_of n) (said_of c.in-Ok.found.0) (state c.loop-rest.work) ≡ None) c.loop-rest.invariant.0
     (not_memory c.in-Err-Syntax-accept.field-0 c.in-Err-Syntax-accept.ensures.value c.in-Err-Syntax-accept.field-0-is))
+
+pub returns-then-is_too_deep-clause-reads : goal.returns-then-is_too_deep-clause-reads
+returns-then-is_too_deep-clause-reads c =
+    let s = settings_of c.args.config in
+    let v = state c.accept.new.self in
+    let same_config = c.in-Ok-accept.ensures.config ∙ c.loop-rest.invariant.0 in
+    let deep : nat_lt (depth_limit s) (least_depth v) ≡ true = ap (λ n. nat_lt (depth_limit (settings_of n)) (least_depth v)) (sym same_config) ∙ sym c.if-is_too_deep.ensures in
+    same_deep s v c.args.chars.now c.in-Ok.found.1.now
+    (same_step s (fresh s) (state c.loop-rest.work) v c.args.chars.now c.loop-rest.rest.now c.in-Ok.found.1.now (said_of c.in-Ok.found.0) c.loop-rest.invariant.2 c.in-Ok.ensures
+    (subst (λ n. take_said (settings_of n) (said_of c.in-Ok.found.0) (state c.loop-rest.work) ≡ Some v) c.loop-rest.invariant.0 c.in-Ok-accept.ensures.value))
+    (ltb-true (depth_limit s) (least_depth v) deep)
 
 pub loop-rest-smaller : goal.loop-rest-smaller
 loop-rest-smaller c = lex_shorter c.loop-rest.rest.now (said_of c.in-Ok.found.0) c.in-Ok.found.1.now c.in-Ok.ensures
