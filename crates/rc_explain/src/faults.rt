@@ -93,8 +93,8 @@ pub enum FaultKind {
     NotUtf8,
     /// `.`, if it has to exclude a line terminator that is not ASCII, among characters.
     LineTerminator,
-    /// The pattern exceeds the nest limit. The span is the part that is nested too deeply, from the
-    /// opener of the innermost open group on.
+    /// The pattern exceeds the nest limit, whatever follows the span. The span goes from the opener
+    /// of the innermost open group, or from the start, to the first token that is too deep.
     NestedTooDeeply,
 }
 

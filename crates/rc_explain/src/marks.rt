@@ -6,7 +6,7 @@ use crate::lists::{list_fault, members_fault};
 use crate::openings::{name_of, opening_fault};
 use crate::places::Found;
 use crate::repetitions::counted_fault;
-use rc_parser::Config;
+use rc_parser::{Config, Error, parse};
 use rc_tokens::lexer::first_token;
 use rc_tokens::refusal::Refusal;
 use rc_tokens::tokens::{Opening, Token};
@@ -39,6 +39,8 @@ struct OpenGroup {
 #[derive(Drop)]
 struct Standing {
     groups: Vec<OpenGroup>,
+    /// The names of the groups so far.
+    names: Vec<String>,
     /// The flag `u`.
     is_unicode: bool,
     /// Whether there is something that an operator may repeat.
@@ -47,7 +49,7 @@ struct Standing {
 
 impl Standing {
     /// Goes past a token at this position.
-    fn pass(&mut self, token: &Token, at: usize) -> Result<(), AllocError> {
+    fn pass(&mut self, alloc: Global, token: &Token, at: usize) -> Result<(), AllocError> {
         self.has_item = match token {
             Token::Bar | Token::Setting(_) | Token::Opens(_) => false,
             _ => true,
@@ -60,8 +62,16 @@ impl Standing {
                     at,
                     is_unicode_outside,
                 })?;
-                if let Opening::Flagged(to) = opening {
-                    self.is_unicode = to.unicode.unwrap_or(is_unicode_outside);
+                match opening {
+                    Opening::Flagged(to) => {
+                        self.is_unicode = to.unicode.unwrap_or(is_unicode_outside);
+                    }
+                    Opening::Named(name) => {
+                        let mut copy = String::new(alloc);
+                        copy.push_str(name)?;
+                        self.names.push(copy)?;
+                    }
+                    Opening::Capturing => {}
                 }
             }
             Token::Closes => {
@@ -95,7 +105,41 @@ impl Standing {
         }
     }
 
-    /// The fault of a token that isn't allowed at this position.
+    /// Whether a group so far has this name.
+    fn is_taken(&self, name: &str) -> bool {
+        for other in &self.names {
+            if other.as_bytes() == name.as_bytes() {
+                return true;
+            }
+        }
+        false
+    }
+
+    /// The fault of an atom: it isn't allowed here by itself, or it is nested too deeply.
+    fn atom_fault(
+        &self,
+        alloc: Global,
+        config: &Config,
+        token: &Token,
+        mark: &[char],
+        at: usize,
+    ) -> Result<Found, AllocError> {
+        let end = at.saturating_add(mark.len());
+        if parses_alone(
+            alloc,
+            &config.unicode(self.is_unicode).nest_limit(250),
+            mark,
+        )? {
+            return Ok(self.too_deep(end));
+        }
+        let kind = match token {
+            Token::Dot if self.is_unicode => FaultKind::LineTerminator,
+            _ => FaultKind::NotUtf8,
+        };
+        Ok(Found::new(kind, at, end))
+    }
+
+    /// The fault of a token that isn't allowed at this position. `mark` is its text.
     fn mark_fault(
         &self,
         alloc: Global,
@@ -103,13 +147,17 @@ impl Standing {
         token: &Token,
         mark: &[char],
         at: usize,
-        end: usize,
     ) -> Result<Found, AllocError> {
+        let end = at.saturating_add(mark.len());
         let fault = match token {
-            Token::Byte(_) | Token::Perl(_) => Found::new(FaultKind::NotUtf8, at, end),
-            Token::Dot if self.is_unicode => Found::new(FaultKind::LineTerminator, at, end),
-            Token::Dot => Found::new(FaultKind::NotUtf8, at, end),
-            Token::Opens(_) => {
+            Token::Byte(_) | Token::Perl(_) | Token::Dot => {
+                self.atom_fault(alloc, config, token, mark, at)?
+            }
+            Token::List(list) => match members_fault(alloc, self.is_unicode, list, mark)? {
+                Some(fault) => fault.after(at),
+                None => self.atom_fault(alloc, config, token, mark, at)?,
+            },
+            Token::Opens(Opening::Named(name)) if self.is_taken(name) => {
                 let (start, end) = name_of(mark);
                 Found::new(FaultKind::DuplicateName, start, end).after(at)
             }
@@ -123,14 +171,25 @@ impl Standing {
                 at,
                 end,
             ),
-            Token::List(list) => match members_fault(alloc, self.is_unicode, list, mark)? {
-                Some(fault) => fault.after(at),
-                None if self.is_unicode || !config.get_utf8() => self.too_deep(end),
-                None => Found::new(FaultKind::NotUtf8, at, end),
-            },
             _ => self.too_deep(end),
         };
         Ok(fault)
+    }
+}
+
+/// Whether the text of a token is a pattern by itself.
+fn parses_alone(alloc: Global, config: &Config, mark: &[char]) -> Result<bool, AllocError> {
+    let mut text = String::new(alloc);
+    for c in mark {
+        text.push(*c)?;
+    }
+    match parse(alloc, &text, config) {
+        Ok(hir) => {
+            drop(hir);
+            Ok(true)
+        }
+        Err(Error::Memory) => Err(AllocError),
+        Err(Error::Syntax { at: _ }) => Ok(false),
     }
 }
 
@@ -153,6 +212,7 @@ pub fn fault_at(
 ) -> Result<Found, AllocError> {
     let mut standing = Standing {
         groups: Vec::new(alloc),
+        names: Vec::new(alloc),
         is_unicode: config.get_unicode(),
         has_item: false,
     };
@@ -164,9 +224,10 @@ pub fn fault_at(
         };
         let end = at.saturating_add(count);
         if at >= stop {
-            return standing.mark_fault(alloc, config, &token, mark, at, end);
+            let mark = text.get(at..end).unwrap_or(&[]);
+            return standing.mark_fault(alloc, config, &token, mark, at);
         }
-        standing.pass(&token, at)?;
+        standing.pass(alloc, &token, at)?;
         at = end;
         if at >= text.len() {
             break;

@@ -121,17 +121,23 @@ const PAST_ASCII: &str = "a.→a line terminator past ASCII is no character 1..2
 (?-u:.)→bytes past ASCII where UTF-8 is asked for 5..6";
 
 /// The same where patterns may have no level.
-const LEVEL_0: &str = "a→none
+const LEVEL_0: &str = r"a→none
 ab→patterns nest too deeply 0..2
 a*→patterns nest too deeply 0..2
-x[a]→patterns nest too deeply 0..4";
+x[a]→patterns nest too deeply 0..4
+(?-u)\d→patterns nest too deeply 0..7
+(?-u)\W→bytes past ASCII where UTF-8 is asked for 5..7";
 
 /// The same where they may have one.
 const LEVEL_1: &str = "ab→none
 [a]→none
-(ab)→patterns nest too deeply 0..4
-ab|c→patterns nest too deeply 0..4
-x(?:a*)→patterns nest too deeply 1..7";
+(ab)→patterns nest too deeply 0..3
+ab|c→patterns nest too deeply 0..3
+x(?:a*)→patterns nest too deeply 0..4
+x(?<n>a)→patterns nest too deeply 0..6
+((→patterns nest too deeply 0..2
+(b|(b|→patterns nest too deeply 0..3
+(?<n>)(?<n>)→duplicate group name 9..10";
 
 /// What is said of the text: the fault and its bytes, or `none`.
 fn said(alloc: Global, config: &Config, text: &str) -> Result<String, AllocError> {
