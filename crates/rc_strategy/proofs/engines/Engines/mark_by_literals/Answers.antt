@@ -1,4 +1,4 @@
-use Rattle.std.proofs.Common.{◌≡◌, MatchOption, option_map, ap, subst, sym}
+use Rattle.std.proofs.Common.{◌≡◌, MatchOption, option_map, subst, sym, true≢false}
 use Rattle.std.specs.Prelude.{IsSome}
 use Rattle.std.specs.Bool.{⊤}
 use Rattle.rc_text.specs.declared.types.MatchKind.TheVariants.{LeftmostFirst}
@@ -19,4 +19,5 @@ returns-in-Some-clause-adds g c =
 
 pub returns-in_default-clause-adds : goal.returns-in_default-clause-adds
 returns-in_default-clause-adds g c =
-    absurd (subst (λ o. IsSome (option_map (λ n. owned_of n.now) o)) c.in_default.is (subst IsSome (sym c.literals_of.ensures.value) c.requires.literals))
+    absurd (true≢false (sym (subst (λ o. IsSome (option_map (λ n. owned_of n.now) o)) c.in_default.is
+    (subst IsSome (sym c.literals_of.ensures.value) c.requires.literals))))
