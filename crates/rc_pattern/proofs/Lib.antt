@@ -8,4 +8,5 @@ pub mod SetLemmas
 pub mod PlainNodeLemmas
 pub mod LengthLemmas
 pub mod KnownLemmas
+pub mod DropLemmas
 mod Examples

@@ -9,3 +9,4 @@ pub mod Groups
 pub mod LookSets
 pub mod PropertiesOf
 pub mod Limits
+pub mod Drops

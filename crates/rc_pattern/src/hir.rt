@@ -13,6 +13,7 @@ mod look_set;
 mod members;
 mod properties;
 
+use crate::drops::drop_all;
 pub use dots::Dot;
 pub use look_set::{LookSet, LookSetIter};
 pub use properties::Properties;
@@ -84,12 +85,18 @@ pub enum Class {
 
 /// A pattern.
 ///
-/// It may be nested without bound. Dropping it and `properties` recurse once for each level; a
-/// stack of 8 MiB allows at least 2,000 levels.
+/// It may be nested without bound, and a build refuses one of more than 1,024 levels. It is dropped
+/// in a loop, which takes no memory and as much stack for each pattern. Only `properties` recurses
+/// once for each level.
 #[cycle(hir)]
-#[derive(Drop)]
 pub struct Hir {
     kind: HirKind,
+}
+
+impl Drop for Hir {
+    fn drop(self) {
+        drop_all(self);
+    }
 }
 
 /// One node of a pattern.
@@ -252,14 +259,24 @@ impl Hir {
 
     /// Returns the pattern of this node, as it is passed.
     pub(crate) fn from_kind(kind: HirKind) -> Hir
+        ensures node { (out-Hir result).kind ≡ kind }
         ensures meaning { meaning result ≡ kind_meaning kind }
         ensures kind { has_plain_nodes result ≡ kind_has_plain_nodes kind }
     {
         Hir { kind }
     }
 
+    /// Returns the root node of the pattern, which is taken apart.
+    pub(crate) fn into_kind(self) -> HirKind
+        ensures { result ≡ (out-Hir self).kind }
+    {
+        let Hir { kind } = self;
+        kind
+    }
+
     /// Returns what is known of the pattern. It is computed at each call, in time linear in the
-    /// size of the pattern.
+    /// size of the pattern. It recurses once for each level, which takes some 420 bytes of stack. So
+    /// a stack of 512 KiB is enough for a pattern that a build takes, of at most 1,024 levels.
     pub fn properties(&self) -> Properties
         ensures { IsPropertiesOf (meaning self.now) result }
     {

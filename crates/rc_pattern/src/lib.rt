@@ -2,6 +2,7 @@
 #![tactic(auto)]
 
 pub mod check;
+mod drops;
 pub mod hir;
 pub mod laws;
 pub mod syntax;

@@ -22,7 +22,7 @@ fn put_cat_members(members: &mut Vec<Hir>, sub: Hir) -> Result<(), AllocError>
     ensures meaning { OnOk result (map meaning members.new.items ≡ map meaning members.old.items ++ cat_members (meaning sub)) }
     ensures kind { OnOk result (IsTrue (all_have_plain_nodes members.old.items) → IsTrue (has_plain_nodes sub) → IsTrue (all_have_plain_nodes members.new.items)) }
 {
-    let Hir { kind } = sub;
+    let kind = sub.into_kind();
     match kind {
         HirKind::Empty => Ok(()),
         HirKind::Concat(subs) => {
@@ -40,9 +40,10 @@ fn append_literal(members: &mut Vec<Hir>, bytes: Vec<u8>) -> Result<(), AllocErr
         → map meaning members.new.items ≡ joined (xs ++ literal bytes.items ∷ [])) }
     ensures kind { OnOk result (IsTrue (all_have_plain_nodes members.old.items) → IsTrue (all_have_plain_nodes members.new.items)) }
 {
-    let Some(Hir { kind }) = members.pop() else {
+    let Some(last) = members.pop() else {
         return put(members, HirKind::Literal(bytes));
     };
+    let kind = last.into_kind();
     match kind {
         HirKind::Literal(before) => {
             let mut before = before;
@@ -63,7 +64,7 @@ fn append(members: &mut Vec<Hir>, member: Hir) -> Result<(), AllocError>
         → map meaning members.new.items ≡ joined (xs ++ meaning member ∷ [])) }
     ensures kind { OnOk result (IsTrue (all_have_plain_nodes members.old.items) → IsTrue (has_plain_nodes member) → IsTrue (all_have_plain_nodes members.new.items)) }
 {
-    let Hir { kind } = member;
+    let kind = member.into_kind();
     match kind {
         HirKind::Literal(bytes) => append_literal(members, bytes),
         kind => put(members, kind),
@@ -75,7 +76,7 @@ fn put_alt_members(members: &mut Vec<Hir>, sub: Hir) -> Result<(), AllocError>
     ensures meaning { OnOk result (map meaning members.new.items ≡ map meaning members.old.items ++ alt_members (meaning sub)) }
     ensures kind { OnOk result (IsTrue (all_have_plain_nodes members.old.items) → IsTrue (has_plain_nodes sub) → IsTrue (all_have_plain_nodes members.new.items)) }
 {
-    let Hir { kind } = sub;
+    let kind = sub.into_kind();
     match kind {
         HirKind::Alternation(subs) => {
             let mut subs = subs;

@@ -14,15 +14,15 @@ pub returns-in_ok-append-in-Concat-clause-meaning : goal.returns-in_ok-append-in
 returns-in_ok-append-in-Concat-clause-meaning c =
     let old = map meaning c.args.members.now.items in
     let subs = c.in-Concat.subs in
-    let is = meaning_of_hir c.args.sub ∙ ap kind_meaning c.in-Concat.is ∙ kind_Concat subs in
+    let is = meaning_of_hir c.args.sub ∙ ap kind_meaning (sym c.into_kind-kind.ensures ∙ c.in-Concat.is) ∙ kind_Concat subs in
     ap (map meaning) c.in_ok-append-in-Concat.ensures.items ∙ map-append meaning c.args.members.now.items subs.items
     ∙ ap (λ (xs : List Re). old ++ xs) (sym (ap cat_members is ∙ members_of_cat (map meaning subs.items)))
 
 pub returns-in_default-clause-meaning : goal.returns-in_default-clause-meaning
 returns-in_default-clause-meaning c =
     let old = map meaning c.args.members.now.items in
-    let is = meaning_of_hir c.args.sub in
-    let alone = node_alone c.args.sub.kind c.in_default.not-Empty c.in_default.not-Concat in
+    let is = meaning_of_hir c.args.sub ∙ ap kind_meaning (sym c.into_kind-kind.ensures) in
+    let alone = node_alone c.into_kind-kind.result c.in_default.not-Empty c.in_default.not-Concat in
     on_ok_weaker c.put.result (λ e. e ∙ ap (λ (xs : List Re). old ++ xs) (sym (ap cat_members is ∙ alone))) c.put.ensures.meaning
 
 pub returns-in_ok-append-in-Concat-clause-kind : goal.returns-in_ok-append-in-Concat-clause-kind
@@ -31,4 +31,8 @@ returns-in_ok-append-in-Concat-clause-kind c =
     λ old sub.
     ap all_have_plain_nodes c.in_ok-append-in-Concat.ensures.items
     ∙ plain_append c.args.members.now.items subs.items old
-    (plain_members subs (plain_node_of c.args.sub (HirKind.Concat subs) c.in-Concat.is sub))
+    (plain_members subs (plain_node_of c.args.sub (HirKind.Concat subs) (sym c.into_kind-kind.ensures ∙ c.in-Concat.is) sub))
+
+pub returns-in_default-clause-kind : goal.returns-in_default-clause-kind
+returns-in_default-clause-kind c =
+    on_ok_weaker c.put.result (λ e old sub. e old (plain_node_of c.args.sub c.into_kind-kind.result (sym c.into_kind-kind.ensures) sub)) c.put.ensures.kind
