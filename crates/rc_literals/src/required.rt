@@ -55,6 +55,8 @@ pub fn required(
 }
 
 /// Returns the needles of a pattern. Returns None if it needs no literal, or there are too many.
+///
+/// What it calls isn't inlined, so that a level of nesting takes little stack.
 #[cycle(needed)]
 fn needed(alloc: Global, hir: &Hir, longer: bool) -> Result<Option<Vec<Vec<u8>>>, AllocError>
     ensures { IfOk result (λ found. option_map (λ v. needles_in v.items) found ≡ needed longer (meaning hir.now)) }
@@ -77,6 +79,7 @@ fn needed(alloc: Global, hir: &Hir, longer: bool) -> Result<Option<Vec<Vec<u8>>>
 /// Returns the needles of the member of a concatenation whose shortest is the longest. Returns None
 /// if no member has any.
 #[cycle(needed)]
+#[inline(never)]
 fn needed_by_one(
     alloc: Global,
     subs: &[Hir],
@@ -119,6 +122,7 @@ fn needed_by_each(
 }
 
 /// Returns the first bytes of a literal, or None if it is empty.
+#[inline(never)]
 fn literal_needle(alloc: Global, bytes: &[u8]) -> Result<Option<Vec<Vec<u8>>>, AllocError>
     ensures { IfOk result (λ found. option_map (λ v. needles_in v.items) found ≡ literal_needle bytes.now) }
 {
@@ -132,6 +136,7 @@ fn literal_needle(alloc: Global, bytes: &[u8]) -> Result<Option<Vec<Vec<u8>>>, A
 
 /// Returns the needles of a member of a concatenation, before the others. A literal of one byte is
 /// lengthened by what is read after it, if that begins with few prefixes.
+#[inline(never)]
 fn with_rest(
     alloc: Global,
     member: &Hir,
@@ -204,6 +209,7 @@ fn with_each(alloc: Global, byte: u8, behind: &[Vec<u8>]) -> Result<Vec<Vec<u8>>
 
 /// Returns those of two members' needles whose shortest is longer, and the first member's if both
 /// are as long.
+#[inline(never)]
 fn better(first: Option<Vec<Vec<u8>>>, rest: Option<Vec<Vec<u8>>>) -> Option<Vec<Vec<u8>>>
     ensures { option_map (λ v. needles_in v.items) result
         ≡ better (option_map (λ v. needles_in v.items) first) (option_map (λ v. needles_in v.items) rest) }
@@ -232,6 +238,7 @@ fn shortest(needles: &[Vec<u8>]) -> usize
 }
 
 /// Returns the needles of both, or None if there are too many.
+#[inline(never)]
 fn joined(first: Vec<Vec<u8>>, rest: Vec<Vec<u8>>) -> Result<Option<Vec<Vec<u8>>>, AllocError>
     ensures { IfOk result (λ found. option_map (λ v. needles_in v.items) found ≡ joined (Some (needles_in first.items)) (Some (needles_in rest.items))) }
 {
