@@ -10,6 +10,9 @@
 //! - `texts`: each chunk is a text of its own, searched in one cache, and those with a match count
 //! - `finds`: as `texts`, but with a cache for each text
 //! - `build`: the build of the pattern
+//! - `tree`: the matches of a tree as deep as a build takes. The letters of the pattern name its
+//!   nodes in turn, from the outermost on: `r` a repetition, `g` a group, `c` a concatenation, `a`
+//!   an alternation
 //!
 //! Which engines search:
 //! - `all`: any (the default)
@@ -30,6 +33,7 @@ mod sets;
 use regex_cursor::Input;
 use regex_cursor::cursor::{ChunkCursor, TooLong};
 use regex_cursor::engines::meta::{BuildError, Config, Regex};
+use regex_cursor::hir::{Capture, Hir, Repetition};
 use std::alloc::{AllocError, Global};
 use std::io;
 use std::io::{Read, Write};
@@ -42,8 +46,11 @@ const FAULT: u8 = 2;
 /// The default number of rounds.
 const ROUNDS: u32 = 3;
 
+/// How deep a tree a build takes.
+const LEVELS: usize = 1024;
+
 const USAGE: &str =
-    "usage: bench_find PATTERN CHUNK [ROUNDS [matches|captures|texts|finds|build [all|plain|met|lazy|pass]]]";
+    "usage: bench_find PATTERN CHUNK [ROUNDS [matches|captures|texts|finds|build|tree [all|plain|met|lazy|pass]]]";
 
 /// What is timed.
 #[derive(Clone, Copy)]
@@ -58,6 +65,8 @@ enum What {
     Finds,
     /// A build of the pattern.
     Build,
+    /// All matches of a tree.
+    Tree,
 }
 
 /// Which engines search.
@@ -133,6 +142,7 @@ fn what_of(word: &str) -> Option<What> {
         "texts" => Some(What::Texts),
         "finds" => Some(What::Finds),
         "build" => Some(What::Build),
+        "tree" => Some(What::Tree),
         _ => None,
     }
 }
@@ -190,12 +200,75 @@ fn config_of(by: By) -> Config {
     }
 }
 
-/// The pattern, built so that these engines search.
-fn built(alloc: Global, pattern: &str, by: By) -> Result<Regex, BuildError> {
+/// A tree in a node of the kind that the letter names. A group has the number.
+fn within(alloc: Global, letter: u8, number: usize, tree: Hir) -> Result<Hir, AllocError> {
+    match letter {
+        b'g' => Ok(Hir::capture(Capture {
+            index: number,
+            name: None,
+            sub: Box::new(alloc, tree)?,
+        })),
+        b'c' => {
+            let subs = vec![in alloc; Hir::literal(alloc, b"c")?, tree]?;
+            Hir::concat(alloc, subs)
+        }
+        b'a' => {
+            let subs = vec![in alloc; Hir::literal(alloc, b"a")?, tree]?;
+            Hir::alternation(alloc, subs)
+        }
+        _ => Ok(Hir::repetition(Repetition {
+            min: 0,
+            max: None,
+            greedy: true,
+            sub: Box::new(alloc, tree)?,
+        })),
+    }
+}
+
+/// The kind of node at a level.
+fn letter_at(letters: &[u8], level: usize) -> u8 {
+    match letters.len() {
+        0 => b'r',
+        count => letters[level % count],
+    }
+}
+
+/// The number of levels that are groups.
+fn groups_in(letters: &[u8]) -> usize {
+    let mut count: usize = 0;
+    for level in 1..LEVELS {
+        count = count.saturating_add(usize::from(letter_at(letters, level) == b'g'));
+    }
+    count
+}
+
+/// A tree whose levels are nodes of these kinds in turn.
+fn tree_of(alloc: Global, letters: &[u8]) -> Result<Hir, AllocError> {
+    let mut number = groups_in(letters);
+    let mut tree = Hir::literal(alloc, b"x")?;
+    for level in (1..LEVELS).rev() {
+        let letter = letter_at(letters, level);
+        tree = within(alloc, letter, number, tree)?;
+        if letter == b'g' {
+            number = number.saturating_sub(1);
+        }
+    }
+    Ok(tree)
+}
+
+/// What is searched for, built so that these engines search.
+fn built(alloc: Global, job: &Job<'_>) -> Result<Regex, BuildError> {
     let mut builder = Regex::builder();
-    let built = builder.configure(config_of(by)).build(alloc, pattern);
-    drop(builder);
-    built
+    let builder = builder.configure(config_of(job.by));
+    match job.what {
+        What::Tree => {
+            let tree = tree_of(alloc, job.pattern.as_bytes())?;
+            builder.build_from_hir(alloc, &tree)
+        }
+        What::Matches | What::Captures | What::Texts | What::Finds | What::Build => {
+            builder.build(alloc, job.pattern)
+        }
+    }
 }
 
 /// Cuts the bytes into chunks of `n` bytes, of which the last may be shorter, or into one chunk if
@@ -258,7 +331,7 @@ fn count_finds(alloc: Global, regex: &Regex, chunks: &[&[u8]]) -> Result<usize, 
 
 /// The number of patterns that are built, which is one unless memory runs out.
 fn count_built(alloc: Global, job: &Job<'_>) -> usize {
-    let built = built(alloc, job.pattern, job.by);
+    let built = built(alloc, job);
     let count = usize::from(built.is_ok());
     drop(built);
     count
@@ -272,7 +345,7 @@ fn count(
     job: &Job<'_>,
 ) -> Result<usize, BenchError> {
     match job.what {
-        What::Matches => count_in(alloc, regex, chunks),
+        What::Matches | What::Tree => count_in(alloc, regex, chunks),
         What::Captures => count_captures(alloc, regex, chunks),
         What::Texts => count_texts(alloc, regex, chunks),
         What::Finds => count_finds(alloc, regex, chunks),
@@ -342,7 +415,7 @@ fn run_with(rt: &HostRuntime, words: &[&str]) -> u8 {
         let _ = writeln!(rt.stderr(), "{USAGE}");
         return FAULT;
     };
-    match built(rt.alloc(), job.pattern, job.by) {
+    match built(rt.alloc(), &job) {
         Ok(regex) => {
             let done = bench(rt, &regex, &job);
             drop(regex);
