@@ -1,10 +1,12 @@
 -- What caches of a regex serve.
-use Rattle.std.proofs.Common.{◌≡◌, ◌∙◌, ℕ, ◌≤◌, length, sym, subst, ap, arith}
+use Rattle.std.proofs.Common.{◌≡◌, ◌∙◌, ℕ, ◌≤◌, List, length, sym, subst, ap, arith}
 use Rattle.std.specs.Prelude.{is_some}
 use Rattle.std.proofs.lemmas.List.{length-map}
 use Rattle.rc_captures.specs.Groups.{names_of}
 use Rattle.rc_captures.specs.Names.{slot_len}
-use Rattle.rc_program.specs.Program.{program, shown}
+use Rattle.rc_program.specs.Columns.{row_width}
+use Rattle.rc_program.specs.Places.{places_of}
+use Rattle.rc_program.specs.Program.{Place, program, shown}
 use Rattle.rc_settings.specs.Which.{is_grouped}
 use Rattle.rc_settings.specs.Settings.{which_captures_of}
 use Rattle.rc_strategy.specs.Caches.{IsCacheBy, IsCacheIn, IsSameCacheIn}
@@ -19,33 +21,48 @@ module _ (r : Regex) where
   abbrev plan : LazyPlan
   plan = plan_by (regex_patterns r) (regex_settings r)
 
-  abbrev places : ℕ
-  places = length (program (shown (is_grouped (which_captures_of (regex_settings r))) (regex_patterns r)))
+  abbrev places : List Place
+  places = program (shown (is_grouped (which_captures_of (regex_settings r))) (regex_patterns r))
+
+  -- those that its engines have
+  abbrev own_places : List Place
+  own_places = places_of r.engines.engine.program.places.items
 
   abbrev IsMade : ℕ → Cache → Type 0
-  IsMade slots c = IsCacheBy places slots plan c
+  IsMade slots c = IsCacheBy (length places) (row_width places slots) plan c
 
-  as_many : length r.engines.engine.program.places.items ≡ places
+  as_many : length r.engines.engine.program.places.items ≡ length places
   as_many = sym (length-map r.engines.engine.program.places.items _) ∙ ap length r.fits.placed
 
-  own : (slots : ℕ) (c : Cache) → IsMade slots c → IsCacheBy (length r.engines.engine.program.places.items) slots plan c
-  own slots c i = subst (λ p. IsCacheBy p slots plan c) (sym as_many) i
+  as_wide : (slots : ℕ) → row_width own_places slots ≡ row_width places slots
+  as_wide slots = ap (λ ps. row_width ps slots) r.fits.placed
+
+  own : (slots : ℕ) (c : Cache) → IsMade slots c →
+      IsCacheBy (length r.engines.engine.program.places.items) (row_width own_places slots) plan c
+  own slots c i =
+      subst (λ p. IsCacheBy p (row_width own_places slots) plan c) (sym as_many)
+      (subst (λ w. IsCacheBy (length places) w plan c) (sym (as_wide slots)) i)
+
+  made : (slots : ℕ) (c : Cache) →
+      IsCacheBy (length r.engines.engine.program.places.items) (row_width own_places slots) plan c → IsMade slots c
+  made slots c i =
+      subst (λ w. IsCacheBy (length places) w plan c) (as_wide slots)
+      (subst (λ p. IsCacheBy p (row_width own_places slots) plan c) as_many i)
 
   -- a cache that its engines make was made for its patterns and settings,
   pub made_for : (c : Cache) → IsCacheIn r.engines (slot_len (names_of r.info)) c → is_some c.lazy ≡ is_some r.engines.lazy → IsMade (slot_len (regex_names r)) c
   made_for c i both =
       subst (λ n. IsMade n c) (ap slot_len r.fits.named)
-      (subst (λ p. IsCacheBy p (slot_len (names_of r.info)) plan c) as_many
-      (made_by r.engines (slot_len (names_of r.info)) plan r.planned c both i))
+      (made (slot_len (names_of r.info)) c (made_by r.engines (slot_len (names_of r.info)) plan r.planned c both i))
 
   -- serves its engines with no more slots than it has,
   pub serves_for : (slots : ℕ) (c : Cache) → slots ≤ slot_len (regex_names r) → IsMade (slot_len (regex_names r)) c → IsCacheIn r.engines slots c
   serves_for slots c few i =
-      let fewer : slots ≤ c.pass.slots = omega (arith, few, i.pass.1) in
+      let fewer : row_width places slots ≤ c.pass.columns = omega (arith, few, i.pass.1) in
       serves_in r.engines slots plan r.planned c (own slots c (record { pass = (i.pass.0, fewer); lazy = i.lazy }))
 
   -- and stays so
   pub stays_for : (c d : Cache) → IsMade (slot_len (regex_names r)) c → IsSameCacheIn r.engines c d → IsMade (slot_len (regex_names r)) d
   stays_for c d i s =
-      subst (λ p. IsCacheBy p (slot_len (regex_names r)) plan d) as_many
+      made (slot_len (regex_names r)) d
       (still_by r.engines (slot_len (regex_names r)) plan r.planned c d (own (slot_len (regex_names r)) c i) s)

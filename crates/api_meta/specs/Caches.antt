@@ -2,6 +2,7 @@
 use Rattle.std.specs.Prelude.{ℕ, List, length}
 use Rattle.rc_pattern.specs.Re.{Re}
 use Rattle.rc_captures.specs.Names.{slot_len}
+use Rattle.rc_program.specs.Columns.{row_width}
 use Rattle.rc_program.specs.Program.{program, shown}
 use Rattle.rc_settings.specs.Which.{is_grouped}
 use Rattle.rc_build.specs.Names.{names_shown}
@@ -12,11 +13,12 @@ use Rattle.api_meta.specs.Plans.{plan_by}
 use Rattle.api_meta.specs.declared.cache.Cache.{Cache}
 use Rattle.api_meta.specs.declared.regex.Regex.{Regex}
 
--- The cache was made for searches by patterns under settings: it has room for their program, and for the slots of all groups that
--- are kept; and the states that it holds are those of their tables.
+-- The cache was made for searches by patterns under settings: it has room for their program, and for rows of the slots of all
+-- groups that are kept; and the states that it holds are those of their tables.
 abbrev pub IsCacheFor : List Re → Settings → Cache → Type 0
 IsCacheFor hs s cache =
-    engines.IsCacheBy (length (program (shown (is_grouped (which_captures_of s)) hs))) (slot_len (names_shown (is_grouped (which_captures_of s)) hs))
+    engines.IsCacheBy (length (program (shown (is_grouped (which_captures_of s)) hs)))
+    (row_width (program (shown (is_grouped (which_captures_of s)) hs)) (slot_len (names_shown (is_grouped (which_captures_of s)) hs)))
     (plan_by hs s) cache.inner
 
 -- the cache of an iterator was made for searches by the regex with so many slots

@@ -1,16 +1,20 @@
 -- What caches are made for, and what they count.
 use Rattle.std.specs.Prelude.{ℕ, length}
 use Rattle.rc_captures.specs.Names.{slot_len}
+use Rattle.rc_program.specs.Columns.{row_width}
 use Rattle.rc_program.specs.Program.{program, shown}
 use Rattle.rc_program.specs.Sought.{Sought}
 use Rattle.rc_pikevm.specs.Caches as pikevm
 use Rattle.rc_build.specs.Names.{names_shown}
 use Rattle.api_pikevm.specs.declared.cache.Cache.{Cache}
 
--- The cache was made for searches for this: it has room for the program, and for the slots of all groups that are kept.
+-- how many columns the rows have that keep the slots of all groups
+abbrev pub columns_of : Sought → ℕ
+columns_of q = row_width (program (shown q.grouped q.patterns)) (slot_len (names_shown q.grouped q.patterns))
+
+-- The cache was made for searches for this: it has room for the program, and for rows of the slots of all groups that are kept.
 abbrev pub IsCacheFor : Sought → Cache → Type 0
-IsCacheFor q cache =
-    pikevm.IsCacheFor (length (program (shown q.grouped q.patterns))) (slot_len (names_shown q.grouped q.patterns)) cache.inner
+IsCacheFor q cache = pikevm.IsCacheFor (length (program (shown q.grouped q.patterns))) (columns_of q) cache.inner
 
 -- how many places the last pass of the last search entered, over all positions
 abbrev pub insertions_of : Cache → ℕ

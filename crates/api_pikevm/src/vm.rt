@@ -35,13 +35,12 @@ impl PikeVM {
     ghost use Rattle.rc_pattern.specs.Weight.{list_weight};
     ghost use Rattle.rc_captures.specs.Captures.{IsCapturesFor, captures_pattern};
     ghost use Rattle.rc_captures.specs.Groups.{names_of};
-    ghost use Rattle.rc_captures.specs.Names.{slot_len};
     ghost use Rattle.rc_pikevm_search.specs.Tells.{KeepsAll};
     ghost use Rattle.rc_pikevm.specs.Caches as pikevm;
     ghost use Rattle.rc_build.specs.Refusals.{IsBuildable};
     ghost use Rattle.rc_build.specs.TextRefusals.{AllRead, IsTextRefusal, texts_of};
     ghost use Rattle.rc_parser.specs.Settings.{default_settings};
-    ghost use Rattle.api_pikevm.specs.Caches.{IsCacheFor, insertions_of};
+    ghost use Rattle.api_pikevm.specs.Caches.{IsCacheFor, columns_of, insertions_of};
     ghost use Rattle.rc_settings.specs.SearchSettings.{none_set};
     ghost use Rattle.rc_settings.specs.Thompson.{unset};
     ghost use Rattle.api_pikevm.specs.Views.{builder_settings, builder_program, builder_syntax, sought, states_of, vm_names, vm_patterns, vm_program, vm_settings};
@@ -120,9 +119,10 @@ impl PikeVM {
 
     /// A cache for searches over the program, with all slots.
     pub(crate) fn inner_cache(&self, alloc: Global) -> Result<cache::Cache, AllocError>
-        ensures made { IfOk result (pikevm.IsCacheFor (states_of (sought self.now)) (slot_len (vm_names self.now))) }
+        ensures made { IfOk result (pikevm.IsCacheFor (states_of (sought self.now)) (columns_of (sought self.now))) }
         ensures unused { IfOk result (λ c. c.insertions ≡ 0) }
     {
-        cache::Cache::new(alloc, self.states_len(), self.built.info.slot_len())
+        let columns = self.built.engine.program.width(self.built.info.slot_len());
+        cache::Cache::new(alloc, self.states_len(), columns)
     }
 }

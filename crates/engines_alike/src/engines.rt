@@ -1,6 +1,7 @@
 //! Patterns built for every engine.
 
 ghost use Rattle.std.specs.Prelude.{◌≤◌, length};
+ghost use Rattle.rc_program.specs.Columns.{AreColumns, OwnSlots};
 ghost use Rattle.rc_program.specs.Heads.{AreHeads, flags_in};
 ghost use Rattle.rc_program.specs.Sought.{IsRunnable};
 ghost use Rattle.rc_program.specs.Places.{places_of};
@@ -12,6 +13,7 @@ use api_pikevm::vm::PikeVM;
 use rc_build::compile::compile_all;
 use rc_build::texts::parse_all;
 use rc_pattern::hir::{Hir, Look, LookSet};
+use rc_program::columns::{Columns, columns_of};
 use rc_program::heads::heads_of;
 use rc_program::place::Place;
 use rc_program::program::Program;
@@ -228,24 +230,35 @@ fn program(
     }
     let made = compile_all(alloc, hirs, settings.limit, settings.which)?;
     let heads = heads_of(alloc, &made.places)?;
-    let program = program_of(made.places, heads, settings.terminator, passes_over);
+    let columns = columns_of(alloc, &made.places)?;
+    let program = program_of(
+        made.places,
+        heads,
+        columns,
+        settings.terminator,
+        passes_over,
+    );
     Ok(Some(program))
 }
 
-/// These places with their heads, under settings.
+/// These places with their heads and columns, under settings.
 fn program_of(
     places: Vec<Place>,
     heads: Vec<Vec<bool>>,
+    columns: Columns,
     terminator: u8,
     passes_over: bool,
 ) -> Program
     requires runnable { IsRunnable (places_of places.items) }
     requires closed_over { AreHeads (places_of places.items) (flags_in heads.items) }
+    requires lined_up { AreColumns (places_of places.items) columns }
+    requires own { OwnSlots (places_of places.items) }
 {
     Program {
         places,
         terminator,
         passes_over,
         heads,
+        columns,
     }
 }

@@ -3,6 +3,7 @@
 ghost use Rattle.std.specs.Prelude.{◌≡◌, ◌≤◌, IfErr, IfOk, None, false, length, map, option_map};
 ghost use Rattle.rc_text.specs.Limits.{most_patterns};
 ghost use Rattle.rc_pattern.specs.Meaning.{meaning};
+ghost use Rattle.rc_program.specs.Columns.{AreColumns, OwnSlots};
 ghost use Rattle.rc_program.specs.Heads.{AreHeads, flags_in};
 ghost use Rattle.rc_program.specs.Places.{places_of};
 ghost use Rattle.rc_program.specs.Sought.{IsRunnable, may_be_empty, passes_over};
@@ -21,6 +22,7 @@ use rc_pattern::hir::Hir;
 use rc_pikevm_search::choice::choose;
 use rc_pikevm_search::engine::Engine;
 use rc_pikevm_search::literals::Literals;
+use rc_program::columns::{Columns, columns_of};
 use rc_program::heads::heads_of;
 use rc_program::place::Place;
 use rc_program::program::Program;
@@ -74,7 +76,16 @@ pub fn build_all(
     )?;
     let literals = choose(alloc, hirs, prefilter, is_auto)?;
     let heads = heads_of(alloc, &compiled.places)?;
-    let engine = engine_of(settings, kind, hirs, compiled.places, heads, literals);
+    let columns = columns_of(alloc, &compiled.places)?;
+    let engine = engine_of(
+        settings,
+        kind,
+        hirs,
+        compiled.places,
+        heads,
+        columns,
+        literals,
+    );
     let hirs = copies_of(alloc, hirs)?;
     Ok(Built {
         hirs,
@@ -83,17 +94,21 @@ pub fn build_all(
     })
 }
 
-/// The engine of these patterns, with their program, its first-byte sets and its literals.
+/// The engine of these patterns, with their program, its first-byte sets and columns, and its
+/// literals.
 fn engine_of(
     settings: thompson::Config,
     kind: MatchKind,
     hirs: &[Hir],
     places: Vec<Place>,
     heads: Vec<Vec<bool>>,
+    columns: Columns,
     literals: Literals,
 ) -> Engine
     requires runnable { IsRunnable (places_of places.items) }
     requires closed_over { AreHeads (places_of places.items) (flags_in heads.items) }
+    requires lined_up { AreColumns (places_of places.items) columns }
+    requires own { OwnSlots (places_of places.items) }
     requires sound { MayGoBy (places_of places.items) (line_terminator_of (settings_of settings))
         (passes_over (sought_by (settings_of settings) (map meaning hirs.now))) literals }
     ensures places { result.program.places ≡ places }
@@ -108,6 +123,7 @@ fn engine_of(
         terminator: settings.get_line_terminator(),
         passes_over,
         heads,
+        columns,
     };
     Engine {
         program,

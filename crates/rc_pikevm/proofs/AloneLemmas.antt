@@ -1,5 +1,5 @@
 -- Places from which no walk leads on, and threads that go on alone.
-use Rattle.std.proofs.Common.{◌≡◌, ℕ, ◌+◌, ◌<◌, ◌≤◌, ◌-◌, ◌*◌, List, [], ◌∷◌, ◌++◌, length, map, min, inl, inr, ⊎_elim, sym, subst, ap, ◌∙◌, refl, arith, Bool, true, false, not, true≢false, IsTrue, Option, Some, None, ◌&&◌, slice_get, nat_le, is_none, is_some, replicate}
+use Rattle.std.proofs.Common.{◌≡◌, ℕ, ◌+◌, ◌<◌, ◌≤◌, ◌-◌, ◌*◌, List, [], ◌∷◌, ◌++◌, length, map, min, inl, inr, ⊎_elim, sym, subst, ap, ◌∙◌, refl, arith, Bool, true, false, not, true≢false, IsTrue, Option, Some, None, slice_get, nat_le, is_none, is_some, replicate}
 use Rattle.std.proofs.lemmas.Bool.{cases_lt}
 use Rattle.std.proofs.lemmas.List.{length-map}
 use Rattle.std.proofs.lemmas.Option.{none-some, same_Some}
@@ -11,6 +11,7 @@ use Rattle.rc_walks.proofs.StackLemmas.{no_ways, dead_if_passed, dead_if_tried}
 use Rattle.rc_walks.proofs.ThreadLemmas.{fewer_passed, of_rest}
 use Rattle.std.specs.Prelude.{All}
 use Rattle.rc_program.specs.Laws.{IsClosed, targets}
+use Rattle.rc_program.specs.Columns.{column_at}
 use Rattle.rc_program.specs.Program.{Place, choice, slot, place_at, ways_out, pair_at, is_match_place}
 use Rattle.rc_program.specs.Text.{holds, ahead}
 use Rattle.rc_program.specs.Answer.{only}
@@ -89,8 +90,11 @@ module _ (s : Sight) (at : ℕ) where
 
     pub dead_saves : (p k q : ℕ) → IsMove s (p, at) (Save k q) → IsDead s passed (q, at) → IsDead s passed (p, at)
     dead_saves p k q m d =
-        dead_over p ((q, at) ∷ []) (ap (λ r. map (pair_at at) (ways_out (λ l. holds s.text l at) (ahead s.text s.hi at) r)) m)
-        (ap (is_match_place (only s.anchoring)) m ∙ slot_on (only s.anchoring) k q) d
+        dead_over p ((q, at) ∷ []) (ap (λ r. map (pair_at at) (ways_out (λ l. holds s.text l at) (ahead s.text s.hi at) r)) m.1)
+        (ap (is_match_place (only s.anchoring)) m.1 ∙ slot_on (only s.anchoring) m.0 q) d
+
+    pub dead_slot : (p k q : ℕ) → place_at s.places p ≡ slot k q → IsDead s passed (q, at) → IsDead s passed (p, at)
+    dead_slot p k q e d = dead_saves p (column_at s.places p) q (k, e, refl) d
 
     pub dead_forks : (p a b : ℕ) → IsMove s (p, at) (Fork a b) → IsDead s passed (a, at) → IsDead s passed (b, at) → IsDead s passed (p, at)
     dead_forks p a b m d e = dead_over p ((a, at) ∷ (b, at) ∷ []) m.0 m.1.on (λ v x. e v (drop_way (next_of s) Ends (a, at) d x))
@@ -107,7 +111,7 @@ module _ (s : Sight) (at : ℕ) where
       forks_by p a b is = (
         ap (λ r. map (pair_at at) (ways_out (λ l. holds s.text l at) (ahead s.text s.hi at) r)) is,
         record {
-          silent = λ h. ap (λ q. note_at q h at) is;
+          silent = λ h. ap (λ q. note_at (column_at s.places p) q h at) is;
           on = ap (is_match_place (only s.anchoring)) is ∙ choice_on (only s.anchoring) (a ∷ b ∷ []);
         },
       )

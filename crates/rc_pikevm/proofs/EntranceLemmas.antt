@@ -1,7 +1,8 @@
 -- A thread at a choice of two ways may enter at the one in its place, where the other one is shut.
-use Rattle.std.proofs.Common.{◌≡◌, ℕ, ◌<◌, List, [], ◌∷◌, length, map, ⊎_elim, sym, subst, ap, ◌∙◌, refl, arith, false, true≢false, IsTrue, Option, Some, None, ◌&&◌}
+use Rattle.std.proofs.Common.{◌≡◌, ℕ, ◌<◌, List, [], ◌∷◌, length, map, ⊎_elim, sym, subst, ap, ◌∙◌, refl, arith, false, true≢false, IsTrue, Option, Some, None}
 use Rattle.rc_walks.specs.Walks.{Pair, IsWalk, HasNoWalk}
 use Rattle.rc_walks.proofs.StackLemmas.{no_ways, dead_if_tried}
+use Rattle.rc_program.specs.Columns.{column_at}
 use Rattle.rc_program.specs.Program.{Place, choice, place_at, ways_out, pair_at, is_match_place}
 use Rattle.std.specs.Prelude.{All}
 use Rattle.rc_program.specs.Laws.{IsClosed, targets}
@@ -59,7 +60,7 @@ module _ (s : Sight) (at : ℕ) where
       let b : ℕ = r.0 in
       let c = forks p a b r.1 in
       carries_by s at rest items best o p a h ts fresh (no_end p c.0 c.1)
-      (only_other (λ n. IsTrue (ends s n)) p a b r.1 (r.2 ((p, at) ∷ []))) (ap (λ q. note_at q h at) c.1) x)
+      (only_other (λ n. IsTrue (ends s n)) p a b r.1 (r.2 ((p, at) ∷ []))) (ap (λ q. note_at (column_at s.places p) q h at) c.1) x)
       way
 
   -- so it does where it enters in place of another

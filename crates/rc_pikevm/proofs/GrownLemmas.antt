@@ -25,7 +25,7 @@ move_inside s p at (Fork a b) closed m = (
 )
 move_inside s p at (Save k n) closed m =
     ways_closed s.places closed s.text s.hi (p, at) (n, at)
-    (subst (λ q. IsIn (n, at) (map (pair_at at) (ways_out (λ l. holds s.text l at) (ahead s.text s.hi at) q))) (sym m) (inl refl))
+    (subst (λ q. IsIn (n, at) (map (pair_at at) (ways_out (λ l. holds s.text l at) (ahead s.text s.hi at) q))) (sym m.1) (inl refl))
 move_inside s p at (Matches n) closed m = tt
 move_inside s p at (Stays n) closed m =
     ways_closed s.places closed s.text s.hi (p, at) (n, at) (subst (λ ms. IsIn (n, at) ms) (sym m.0) (inl refl))

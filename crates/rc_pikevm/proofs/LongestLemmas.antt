@@ -1,12 +1,12 @@
 -- From passes for the longest walk to the answer of a search.
-use Rattle.std.proofs.Common.{◌≡◌, ℕ, ◌+◌, ◌*◌, ◌<◌, ◌≤◌, List, ◌∷◌, length, inl, inr, ⊎_elim, sym, subst, ap, refl, arith, false, true, Option, Some, None, option_map, is_some, slice_set, slice_index_or}
+use Rattle.std.proofs.Common.{◌≡◌, ℕ, ◌+◌, ◌*◌, ◌<◌, ◌≤◌, List, length, inl, inr, ⊎_elim, sym, subst, ap, refl, arith, false, true, Option, Some, None, option_map, is_some, slice_set, slice_index_or}
 use Rattle.std.proofs.lemmas.Bool.{cases_lt}
 use Rattle.std.proofs.lemmas.Option.{none-some, same_Some}
 use Rattle.rc_text.specs.Found.{Found}
 use Rattle.rc_walks.specs.Walks.{Pair}
 use Rattle.rc_walks.specs.Threads.{noted}
 use Rattle.rc_program.specs.Program.{place_at}
-use Rattle.rc_program.specs.Answer.{Search, HasNoWalkFrom, last_of, last_visit, is_allowed, Chosen, found, pattern_at}
+use Rattle.rc_program.specs.Answer.{Search, HasNoWalkFrom, last_of, is_allowed, Chosen, found, pattern_at}
 use Rattle.rc_program.specs.Greatest.{IsSpelledIn, greatest}
 use Rattle.rc_program.specs.Longest.{IsLongestFrom, IsPassedOf, longest_chosen, longest, longest_groups}
 use Rattle.rc_program.proofs.AnswerLemmas.{last_start_of, start_within_last, start_to_last}
@@ -16,7 +16,7 @@ use Rattle.rc_pikevm.specs.Sights.{sight_of}
 use Rattle.rc_pikevm.specs.Trace.{note, sets_out, done}
 use Rattle.rc_pikevm.specs.Passing.{best_of}
 use Rattle.rc_pikevm.specs.Races.{GivesLongest}
-use Rattle.rc_pikevm.specs.Found.{IsChosen}
+use Rattle.rc_pikevm.specs.Found.{IsChosen, IsChosenRow, last_filled}
 use Rattle.rc_pikevm.specs.declared.pass.Ending.{Ending}
 use Rattle.rc_pikevm.proofs.SearchLemmas.{told_by, found_is, slots_are}
 
@@ -37,7 +37,7 @@ module _ (s : Search) where
       pub before : (y : ℕ) → from ≤ y → y < e.start → HasNoWalkFrom s y
       pub pattern : e.pattern ≡ pattern_at (place_at s.places (last_of w).0)
       pub end : e.end ≡ (last_of w).1
-      pub visits : (k : ℕ) → k < width → slice_index_or slots k None ≡ last_visit s.places k w
+      pub visits : (k : ℕ) → k < width → slice_index_or slots k None ≡ last_filled s.places k w
 
     -- no start has a walk
     pub none_outlasts : (slots : List (Option ℕ)) → GivesLongest (sight_of s) width from last (best_of None slots) →
@@ -79,7 +79,7 @@ module _ (s : Search) where
 
       -- the found walk is the answer's
       pub outlasting_chosen : (e : Ending) (slots : List (Option ℕ)) (w : List Pair) → length slots ≡ width → s.lo ≤ from → IsOutlasting e slots w →
-          is_allowed s w ≡ true → (c : Chosen) × IsChosen s (longest_chosen s) e slots c
+          is_allowed s w ≡ true → (c : Chosen) × IsChosenRow s (longest_chosen s) e slots c
       outlasting_chosen e slots w wide low best allowed = (
         record { start = e.start; walk = w },
         record {

@@ -1,6 +1,7 @@
 -- The moves over a byte and over a scalar.
-use Rattle.std.proofs.Common.{◌≡◌, ℕ, ◌+◌, ◌-◌, ◌≤◌, ◌<◌, List, [], ◌∷◌, length, drop, map, slice_range, sym, ap, ◌∙◌, refl, arith, true, false, ◌&&◌, Option, Some, None, length-take, get_or, if◌then◌else◌}
+use Rattle.std.proofs.Common.{◌≡◌, ℕ, ◌+◌, ◌-◌, ◌≤◌, ◌<◌, List, [], ◌∷◌, length, drop, map, slice_range, sym, ap, ◌∙◌, refl, arith, true, false, Option, Some, None, length-take, get_or, if◌then◌else◌}
 use Rattle.std.proofs.lemmas.List.{get_or-map}
+use Rattle.rc_program.specs.Columns.{column_at}
 use Rattle.rc_program.specs.Program.{choice, scalar, place_at, ways_out, pair_at, in_ranges, is_match_place, over_scalar, stays, reads}
 use Rattle.rc_program.specs.Scalars.{scalar_at}
 use Rattle.rc_program.specs.Text.{holds, ahead}
@@ -38,7 +39,7 @@ scalar_move s p at c count n rs is here inside =
           ∙ ap (λ o. map (pair_at at) (over_scalar rs n o)) here
           ∙ ap (λ b. map (pair_at at) (if b then reads count n ∷ [] else [])) inside,
       record {
-        silent = λ h. ap (λ q. note_at q h at) is;
+        silent = λ h. ap (λ q. note_at (column_at s.places p) q h at) is;
         on = ap (is_match_place (only s.anchoring)) is ∙ no_end (only s.anchoring) rs n;
       },
       omega (arith, r),
@@ -51,7 +52,7 @@ pub choice_moves : (s : Sight) (p at : ℕ) (ns : List ℕ) → place_at s.place
     (next_of s (p, at) ≡ map (pair_at at) (map stays ns)) × IsPlain s (p, at)
 choice_moves s p at ns is = (
   ways_by s at p (choice ns) is,
-  record { silent = λ h. ap (λ q. note_at q h at) is; on = (ap (is_match_place (only s.anchoring)) is ∙ choice_on (only s.anchoring) ns) },
+  record { silent = λ h. ap (λ q. note_at (column_at s.places p) q h at) is; on = (ap (is_match_place (only s.anchoring)) is ∙ choice_on (only s.anchoring) ns) },
 )
 
 -- no walk ends by reading

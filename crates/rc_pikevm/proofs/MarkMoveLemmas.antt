@@ -1,5 +1,5 @@
 -- What a thread's entering of a place does to the patterns that are owed.
-use Rattle.std.proofs.Common.{◌≡◌, ◌≢◌, ◌↔◌, ℕ, ◌+◌, ◌<◌, ◌≤◌, ◌⊎◌, ◌&&◌, Bool, true, false, List, [], ◌∷◌, ◌++◌, length, map, set, reverse, inl, inr, ⊎_elim, sym, subst, ap, ◌∙◌, refl, arith, IsTrue, Some, None}
+use Rattle.std.proofs.Common.{◌≡◌, ◌≢◌, ◌↔◌, ℕ, ◌+◌, ◌<◌, ◌≤◌, ◌⊎◌, Bool, true, false, List, [], ◌∷◌, ◌++◌, length, map, set, reverse, inl, inr, ⊎_elim, sym, subst, ap, ◌∙◌, refl, arith, IsTrue, Some, None}
 use Rattle.std.proofs.lemmas.Bool.{le-ltb}
 use Rattle.std.proofs.lemmas.List.{map-append, append-nil}
 use Rattle.rc_pattern_set.specs.Sets.{Has as IsMember}
@@ -113,8 +113,8 @@ module _ (s : Sight) (p at : ℕ) (marks : List Bool) where
           (subst (λ fs. Owed s at rest items ((q, at) ∷ (explored at frames ++ below)) marks p
           ↔ Owed s at rest (items ++ q ∷ []) (explored at (fs ++ frames) ++ below) marks p) (sym e)
           (ways_on ((n, at) ∷ []) (explored at frames ++ below)
-          (ap (λ q. map (pair_at at) (ways_out (λ l. holds s.text l at) (ahead s.text s.hi at) q)) m)
-          (ap (is_match_place (only s.anchoring)) m ∙ slot_on (only s.anchoring) k n)))
+          (ap (λ q. map (pair_at at) (ways_out (λ l. holds s.text l at) (ahead s.text s.hi at) q)) m.1)
+          (ap (is_match_place (only s.anchoring)) m.1 ∙ slot_on (only s.anchoring) m.0 n)))
 
 -- the patterns to which walks lead are the same, where other pairs were passed
 leads_by : (s : Sight) (p : ℕ) (v u : List Pair) →

@@ -1,11 +1,12 @@
 -- What a thread's entering of a place does to what pends.
-use Rattle.std.proofs.Common.{◌≡◌, ◌≢◌, ℕ, zero, suc, ◌+◌, ◌<◌, ◌≤◌, List, [], ◌∷◌, ◌++◌, length, map, ⊎_elim, sym, subst, ap, ◌∙◌, refl, arith, false, true≢false, IsTrue, Option, Some, None, ◌&&◌, slice_index_or, slice_set}
+use Rattle.std.proofs.Common.{◌≡◌, ◌≢◌, ℕ, zero, suc, ◌+◌, ◌<◌, ◌≤◌, List, [], ◌∷◌, ◌++◌, length, map, ⊎_elim, sym, subst, ap, ◌∙◌, refl, arith, false, true≢false, IsTrue, Option, Some, None, slice_index_or, slice_set}
 use Rattle.std.proofs.lemmas.Bool.{cases_lt, lt-ltb, le-ltb}
 use Rattle.std.proofs.lemmas.List.{set-get_or, set-set, map-append, append-nil}
 use Rattle.rc_walks.specs.Walks.{Pair, IsIn}
 use Rattle.rc_walks.specs.Threads.{Pends, threads, AllPast}
 use Rattle.rc_walks.proofs.ThreadLemmas.{of_none, of_rest, skips_pends, enters_pends, matches_pends}
 use Rattle.rc_program.specs.Program.{slot, accept, place_at, ways_out, pair_at, is_match_place}
+use Rattle.rc_program.specs.Columns.{column_at}
 use Rattle.rc_program.specs.Text.{holds, ahead}
 use Rattle.rc_program.specs.Answer.{only}
 use Rattle.rc_pikevm.specs.Sights.{Sight, ends, next_of}
@@ -92,7 +93,7 @@ module _ (s : Sight) where
         of_rest (next_of s) Ends Trace (note s.places)
         (λ q y. matches_pends (next_of s) Ends Trace (note s.places) same_pair (last_pair s) (trace start slots, (p, at)) (pairs at items) (λ z. z ≡ best) ts q
         (λ i. fresh (pairs_has at p items i)) end
-        (of_none (next_of s) Ends Trace (note s.places) y ∙ ap Some (sym (ap (λ z. note_at z (trace start slots) at) is)))) x
+        (of_none (next_of s) Ends Trace (note s.places) y ∙ ap Some (sym (ap (λ z. note_at (column_at s.places p) z (trace start slots) at) is)))) x
 
     -- all threads that wait go on at the next position
     pub turned : (ts : List (Trace × Pair)) → AllPast at ts → Carries s (at + 1) [] [] (map pending rest ++ ts) best o → Carries s at rest items ts best o
@@ -134,10 +135,11 @@ module _ (s : Sight) where
           (waited at rest (items ++ p ∷ []) best o (record { place = n; at = to; start = start; slots = slots }) (waits start at frames slots ++ below) m.2 x)
       moved (Save k n) frames below m other x =
           entered_on p (trace start slots) (waits start at frames slots ++ below) fresh
-          (ap (is_match_place (only s.anchoring)) m ∙ slot_on (only s.anchoring) k n)
+          (ap (is_match_place (only s.anchoring)) m.1 ∙ slot_on (only s.anchoring) m.0 n)
           (subst (λ q. Carries s at rest (items ++ p ∷ [])
-          (threads (note_at q (trace start slots) at) (map (pair_at at) (ways_out (λ l. holds s.text l at) (ahead s.text s.hi at) q))
-          ++ (waits start at frames slots ++ below)) best o) (sym m)
+          (threads (note_at (column_at s.places p) q (trace start slots) at) (map (pair_at at) (ways_out (λ l. holds s.text l at) (ahead s.text s.hi at) q))
+          ++ (waits start at frames slots ++ below)) best o) (sym m.1)
+          (subst (λ j. Carries s at rest (items ++ p ∷ []) ((trace start (slice_set slots j (Some at)), (n, at)) ∷ (waits start at frames slots ++ below)) best o) m.2
           (subst (λ ws. Carries s at rest (items ++ p ∷ []) (ws ++ below) best o) (waits_saved start at k n slots frames)
           (subst (λ r. Carries s at r (items ++ p ∷ []) (waits start at (frames_of slots (Save k n) ++ frames) (slice_set slots k (Some at)) ++ below) best o)
-          (append-nil rest) x)))
+          (append-nil rest) x))))

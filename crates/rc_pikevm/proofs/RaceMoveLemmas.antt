@@ -1,8 +1,9 @@
 -- What a thread's entering of a place does to a pass for the longest walk.
-use Rattle.std.proofs.Common.{◌≡◌, ◌≢◌, ℕ, ◌<◌, List, [], ◌∷◌, ◌++◌, map, reverse, ⊎_elim, sym, subst, ap, ◌∙◌, refl, arith, false, true≢false, IsTrue, Option, Some, None, ◌&&◌, slice_set}
+use Rattle.std.proofs.Common.{◌≡◌, ◌≢◌, ℕ, ◌<◌, List, [], ◌∷◌, ◌++◌, map, reverse, ⊎_elim, sym, subst, ap, ◌∙◌, refl, arith, false, true≢false, IsTrue, Option, Some, None, slice_set}
 use Rattle.std.proofs.lemmas.List.{map-append, append-nil}
 use Rattle.rc_walks.specs.Walks.{Pair}
 use Rattle.rc_walks.specs.Threads.{threads}
+use Rattle.rc_program.specs.Columns.{column_at}
 use Rattle.rc_program.specs.Program.{Place, accept, place_at, ways_out, pair_at, is_match_place}
 use Rattle.rc_program.specs.Text.{holds, ahead}
 use Rattle.rc_program.specs.Answer.{only}
@@ -35,7 +36,7 @@ use Rattle.rc_pikevm.proofs.RaceLemmas.{race_skips, race_enters, race_waits, rac
 
 -- where a walk began stays noted
 pub note_keeps : (places : List Place) (h : Trace) (n : Pair) → began (note places h n) ≡ began h
-note_keeps places h n = start_kept (place_at places n.0) h n.1
+note_keeps places h n = start_kept (column_at places n.0) (place_at places n.0) h n.1
 
 pub kept_in : (best : Option Ending) (t : Trace × Pair) (ts : List (Trace × Pair)) → IsSought best (began t.0) → kept best (t ∷ ts) ≡ t ∷ kept best ts
 kept_in None t ts sought = refl
@@ -92,7 +93,7 @@ module _ (s : Sight) (all : List (Trace × Pair)) (at : ℕ) where
         subst (λ ts. Race (map pending rest) (pairs at items) ts (leading best found)) (sym (kept_in best (h, (a, at)) ts sought))
         (race_way_in (next_of s) (Ends s) Trace (note s.places) began (note_keeps s.places) same_pair (last_pair s) (onward s) all at (map pending rest) (pairs at items) (leading best found)
         h (p, at) (a, at) (kept best ts)
-        (λ i. fresh (pairs_has at p items i)) (ap (λ z. note_at z h at) c.1)
+        (λ i. fresh (pairs_has at p items i)) (ap (λ z. note_at (column_at s.places p) z h at) c.1)
         (λ e. only_other s at (EndsThere (Ends s) e) p a b q.1 (none_to (next_of s) (Ends s) ((p, at) ∷ []) ((b, at) ∷ []) e (q.2 ((p, at) ∷ []))))
         (no_end s at p c.0 c.1)
         (subst (λ ts. Race (map pending rest) (pairs at items) ts (leading best found)) (kept_in best (h, (p, at)) ts sought) x))) way
@@ -141,7 +142,7 @@ module _ (s : Sight) (all : List (Trace × Pair)) (at : ℕ) where
         let new : Ending = record { pattern = pattern; start = start; end = at } in
         let y : Race (map pending rest) (pairs at items) ((trace start slots, (p, at)) ∷ kept best ts) (leading best found) =
         subst (λ ts. Race (map pending rest) (pairs at items) ts (leading best found)) (kept_in best (trace start slots, (p, at)) ts sought) x in
-        let noted : note s.places (trace start slots) (p, at) ≡ done pattern start at slots = ap (λ z. note_at z (trace start slots) at) is in
+        let noted : note s.places (trace start slots) (p, at) ≡ done pattern start at slots = ap (λ z. note_at (column_at s.places p) z (trace start slots) at) is in
         let z = race_matches (next_of s) (Ends s) Trace (note s.places) began (note_keeps s.places) same_pair (last_pair s) (onward s) all at (map pending rest) (pairs at items) (leading best found)
         (trace start slots, (p, at)) (kept best ts) (λ i. fresh (pairs_has at p items i)) refl end before y in
         subst (λ h. Race (map pending rest) (pairs at (items ++ p ∷ [])) (kept (Some new) ts) (Some (h, at))) noted
@@ -186,10 +187,11 @@ module _ (s : Sight) (all : List (Trace × Pair)) (at : ℕ) where
     raced_moves (Save k n) frames below m other x =
         subst (λ r. After r (waits start at (frames_of slots (Save k n) ++ frames) (slice_set slots k (Some at)) ++ below)) (sym (append-nil rest))
         (subst (λ ws. After rest (ws ++ below)) (sym (waits_saved start at k n slots frames))
-        (subst (λ q. After rest (threads (note_at q (trace start slots) at) (map (pair_at at) (ways_out (λ l. holds s.text l at) (ahead s.text s.hi at) q))
-        ++ (waits start at frames slots ++ below))) m
+        (subst (λ j. After rest ((trace start (slice_set slots j (Some at)), (n, at)) ∷ (waits start at frames slots ++ below))) (sym m.2)
+        (subst (λ q. After rest (threads (note_at (column_at s.places p) q (trace start slots) at) (map (pair_at at) (ways_out (λ l. holds s.text l at) (ahead s.text s.hi at) q))
+        ++ (waits start at frames slots ++ below))) m.1
         (entered_on rest items best found p (trace start slots) (waits start at frames slots ++ below) fresh
-        (ap (is_match_place (only s.anchoring)) m ∙ slot_on (only s.anchoring) k n) sought x)))
+        (ap (is_match_place (only s.anchoring)) m.1 ∙ slot_on (only s.anchoring) m.0 n) sought x))))
 
 -- the place is entered, and no move is made
 raced_leaves : (s : Sight) (all : List (Trace × Pair)) (at : ℕ) (rest : List Thread) (items : List ℕ) (best : Option Ending) (found : List (Option ℕ))

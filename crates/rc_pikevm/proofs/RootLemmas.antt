@@ -10,6 +10,7 @@ use Rattle.rc_walks.specs.Threads.{IsFirstOf, over, found, passes, noted}
 use Rattle.rc_walks.proofs.CutLemmas.{first_is_one}
 use Rattle.rc_walks.proofs.ThreadLemmas.{of_none, of_one}
 use Rattle.rc_walks.proofs.TryLemmas.{Finds}
+use Rattle.rc_program.specs.Columns.{column_at}
 use Rattle.rc_program.specs.Program.{Place}
 use Rattle.rc_program.specs.Answer.{Search}
 use Rattle.rc_program.specs.Laws.{IsChoice}
@@ -38,7 +39,7 @@ stands_kept p a b root keeps stands = subst (λ s. StandsFor (sight_of s) root) 
 
 -- nothing is noted at choices
 noted_choice : (places : List Place) (h : Trace) (n : Pair) → IsChoice places n → note places h n ≡ h
-noted_choice places h n c = ap (λ q. note_at q h n.1) c.1
+noted_choice places h n c = ap (λ q. note_at (column_at places n.0) q h n.1) c.1
 
 noted_behind : (places : List Place) (h : Trace) (u v : List Pair) → AllByRecursion (IsChoice places) u → noted (note places) h (u ++ v) ≡ noted (note places) h v
 noted_behind places h [] v all = refl

@@ -13,7 +13,7 @@ use Rattle.rc_program.specs.Answer.{Search, only, ends, next_of, IsFirstFrom, Ha
 use Rattle.rc_program.proofs.AnswerLemmas.{first_start_chosen, no_start_chosen, last_start_of, start_within_last, start_to_last, match_place_is, chosen_law, chosen_within, chosen_accepts}
 use Rattle.rc_pikevm.specs.Trace.{Trace, note, sets_out, done}
 use Rattle.rc_pikevm.specs.Passing.{GivesTrace, best_of}
-use Rattle.rc_pikevm.specs.Found.{IsChosen}
+use Rattle.rc_pikevm.specs.Found.{IsChosen, IsChosenRow, last_filled}
 use Rattle.rc_pikevm.specs.declared.pass.Ending.{Ending}
 use Rattle.rc_pikevm.specs.Sights.{sight_of}
 use Rattle.rc_pikevm.proofs.NotedLemmas.{noted_start, noted_visit, noted_end}
@@ -26,7 +26,7 @@ pub record IsBest (s : Search) (width from last : ℕ) (e : Ending) (slots : Lis
   pub before : (y : ℕ) → from ≤ y → y < e.start → HasNoWalkFrom s y
   pub pattern : e.pattern ≡ pattern_at (place_at s.places (last_of w).0)
   pub end : e.end ≡ (last_of w).1
-  pub visits : (k : ℕ) → k < width → slice_index_or slots k None ≡ last_visit s.places k w
+  pub visits : (k : ℕ) → k < width → slice_index_or slots k None ≡ last_filled s.places k w
 
 module _ (s : Search) (width from last : ℕ) where
   -- no start has a walk
@@ -38,7 +38,7 @@ module _ (s : Search) (width from last : ℕ) where
     pub start : e.start ≡ x
     pub pattern : e.pattern ≡ pattern_at (place_at s.places (last_of w).0)
     pub end : e.end ≡ (last_of w).1
-    pub visits : (k : ℕ) → k < width → slice_index_or slots k None ≡ last_visit s.places k w
+    pub visits : (k : ℕ) → k < width → slice_index_or slots k None ≡ last_filled s.places k w
 
   pub told_by : (e : Ending) (slots : List (Option ℕ)) (x : ℕ) (w : List Pair) → IsWalk (next_of s) (λ n. IsTrue (ends s n)) [] ((0, x) ∷ []) w →
       done e.pattern e.start e.end slots ≡ noted (note s.places) (sets_out width x).0 w → IsTold x e slots w
@@ -113,7 +113,7 @@ module _ (s : Search) where
 
     -- the found walk is the answer's
     pub best_chosen : (e : Ending) (slots : List (Option ℕ)) (w : List Pair) → length slots ≡ width → s.lo ≤ from → IsBest s width from last e slots w →
-        is_allowed s w ≡ true → (c : Chosen) × IsChosen s (chosen s) e slots c
+        is_allowed s w ≡ true → (c : Chosen) × IsChosenRow s (chosen s) e slots c
     best_chosen e slots w wide low best allowed = (
       record { start = e.start; walk = w },
       record {

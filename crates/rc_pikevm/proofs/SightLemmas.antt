@@ -1,5 +1,5 @@
 -- What a pass sees of a search.
-use Rattle.std.proofs.Common.{ℕ, ◌+◌, List, length, IsTrue, false}
+use Rattle.std.proofs.Common.{◌+◌, length, IsTrue, false}
 use Rattle.rc_walks.specs.Walks.{Pair, IsIn}
 use Rattle.rc_walks.proofs.TryLemmas.{IsBounded}
 use Rattle.rc_program.specs.Text.{holds, ahead}

@@ -1,5 +1,5 @@
 -- What a thread's entering of a place does to the greatest match on offer.
-use Rattle.std.proofs.Common.{◌≡◌, ◌≢◌, ℕ, ◌+◌, ◌<◌, ◌≤◌, List, [], ◌∷◌, ◌++◌, map, sym, subst, ap, ◌∙◌, refl, arith, false, IsTrue, ◌&&◌, Option, Some, option_map, ◌⊎◌}
+use Rattle.std.proofs.Common.{◌≡◌, ◌≢◌, ℕ, ◌+◌, ◌<◌, ◌≤◌, List, [], ◌∷◌, ◌++◌, map, sym, subst, ap, ◌∙◌, refl, arith, false, IsTrue, Option, Some, option_map, ◌⊎◌}
 use Rattle.std.proofs.lemmas.Bool.{le-ltb}
 use Rattle.std.proofs.lemmas.List.{map-append, append-nil}
 use Rattle.rc_text.specs.Found.{Found}
@@ -137,7 +137,7 @@ module _ (s : Sight) where
       moved_on (Save k n) frames below m other low x =
           let e : frames_of [] (Save k n) ≡ Explore n ∷ [] = rw (le-ltb k 0 (omega arith)) refl in
           ways_on ((n, at) ∷ []) (runners_of start at frames ++ below)
-          (ap (λ q. map (pair_at at) (ways_out (λ l. holds s.text l at) (ahead s.text s.hi at) q)) m)
-          (ap (is_match_place (only s.anchoring)) m ∙ slot_on (only s.anchoring) k n) (begin_more start at frames below low)
+          (ap (λ q. map (pair_at at) (ways_out (λ l. holds s.text l at) (ahead s.text s.hi at) q)) m.1)
+          (ap (is_match_place (only s.anchoring)) m.1 ∙ slot_on (only s.anchoring) m.0 n) (begin_more start at frames below low)
           (subst (λ fs. Seeks s at rest (items ++ p ∷ []) (runners_of start at (fs ++ frames) ++ below) best o) e
           (subst (λ r. Seeks s at r (items ++ p ∷ []) (runners_of start at (frames_of [] (Save k n) ++ frames) ++ below) best o) (append-nil rest) x))

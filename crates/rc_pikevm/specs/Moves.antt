@@ -3,6 +3,7 @@
 use Rattle.std.specs.Prelude.{◌≡◌, ℕ, ◌+◌, ◌<◌, ◌≤◌, [], ◌∷◌, Bool, true, false, IsTrue, Option, Some, None}
 use Rattle.rc_text.specs.Text.{Searched, high}
 use Rattle.rc_walks.specs.Walks.{Pair}
+use Rattle.rc_program.specs.Columns.{column_at}
 use Rattle.rc_program.specs.Program.{Place, slot, accept, place_at}
 use Rattle.rc_program.specs.Answer.{Search, only}
 use Rattle.rc_pikevm.specs.Sights.{Sight, sight_of, ends, next_of}
@@ -35,7 +36,7 @@ pub record IsPlain (s : Sight) (n : Pair) : Type 0 where
 -- The move is the one that the pair has.
 abbrev pub IsMove : Sight → Pair → Move → Type 0
 IsMove s n (Fork a b) = (next_of s n ≡ (a, n.1) ∷ (b, n.1) ∷ []) × IsPlain s n
-IsMove s n (Save k m) = place_at s.places n.0 ≡ slot k m
+IsMove s n (Save j m) = (k : ℕ) × (place_at s.places n.0 ≡ slot k m) × (j ≡ column_at s.places n.0)
 IsMove s n (Matches p) = (place_at s.places n.0 ≡ accept p) × IsTrue (ends s n)
 IsMove s n (Stays m) = (next_of s n ≡ (m, n.1) ∷ []) × IsPlain s n
 IsMove s n (Reads m to) = (next_of s n ≡ (m, to) ∷ []) × IsPlain s n × (n.1 < to) × (to ≤ n.1 + 4) × (to ≤ s.hi)

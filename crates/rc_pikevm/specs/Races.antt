@@ -5,7 +5,7 @@ use Rattle.rc_walks.specs.Walks.{Pair, IsIn, HasNoWalk}
 use Rattle.rc_walks.specs.Threads.{IsFirstOf, Pends, AllPast, noted}
 use Rattle.rc_program.specs.Longest.{IsLongestWalk}
 use Rattle.rc_pikevm.specs.Sights.{Sight, ends, next_of, HasNoWalkFrom}
-use Rattle.rc_pikevm.specs.Sparse.{Has, Members}
+use Rattle.rc_pikevm.specs.Sparse.{Members}
 use Rattle.rc_pikevm.specs.Threads.{Thread, ThreadList}
 use Rattle.rc_pikevm.specs.Trace.{Trace, note, done, starts, sets_out}
 use Rattle.rc_pikevm.specs.Passing.{pending, pairs, waits, AllInside, AllFrom, HasRoom, IsGrown, IsLined, IsCounted, count_from}

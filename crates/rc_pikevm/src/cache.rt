@@ -12,7 +12,7 @@ use std::mem::size_of;
 pub struct Cache {
     pub(crate) scratch: Scratch,
     places: usize,
-    slots: usize,
+    columns: usize,
 }
 
 impl Model for Cache {
@@ -23,24 +23,24 @@ impl Model for Cache {
 
     ghost coded = { made_code };
 
-    ghost view = { λ a. record { places = a.places; slots = a.slots; insertions = a.scratch.insertions } };
+    ghost view = { λ a. record { places = a.places; columns = a.columns; insertions = a.scratch.insertions } };
 
-    ghost invariant = { λ a. (a.scratch.next.entered.capacity ≡ a.places) × (a.scratch.next.threads.most ≡ a.slots) };
+    ghost invariant = { λ a. (a.scratch.next.entered.capacity ≡ a.places) × (a.scratch.next.threads.most ≡ a.columns) };
 }
 
 impl Cache {
     ghost use Rattle.std.specs.Prelude.{◌≡◌, IfOk};
     ghost use Rattle.rc_pikevm.specs.Caches.{IsCacheFor};
 
-    /// A cache for programs of `places` places, and for searches with at most `slots` slots. It
-    /// allocates all that these searches need.
-    pub fn new(alloc: Global, places: usize, slots: usize) -> Result<Cache, AllocError>
-        ensures { IfOk result (λ c. c ≡ record { places = places; slots = slots; insertions = 0 }) }
+    /// A cache for programs of `places` places, and for searches whose rows of slots have at most
+    /// `columns` columns. It allocates all that these searches need.
+    pub fn new(alloc: Global, places: usize, columns: usize) -> Result<Cache, AllocError>
+        ensures { IfOk result (λ c. c ≡ record { places = places; columns = columns; insertions = 0 }) }
     {
         Ok(Cache {
-            scratch: Scratch::new(alloc, places, slots)?,
+            scratch: Scratch::new(alloc, places, columns)?,
             places,
-            slots,
+            columns,
         })
     }
 
@@ -58,7 +58,7 @@ impl Cache {
         let heads = self.places.saturating_mul(8 * size_of::<BareThread>());
         let cells = self.places.saturating_mul(8).saturating_add(2);
         let rows = self
-            .slots
+            .columns
             .saturating_mul(cells)
             .saturating_mul(size_of::<Option<usize>>());
         let set = self.places.saturating_mul(2 * size_of::<usize>());

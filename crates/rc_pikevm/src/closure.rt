@@ -17,7 +17,7 @@ use crate::spot::Spot;
 use crate::threads::BareThread;
 use rc_program::place::Place;
 
-/// Writes the position to the slot, and pushes the frame that undoes that.
+/// Writes the position to the slot of the row, and pushes the frame that undoes that.
 #[inline(always)]
 fn save(slot: usize, at: usize, growth: &mut Growth)
     requires within { slot < length growth.old.slots.items }
@@ -56,7 +56,7 @@ fn stay(place: usize, growth: &mut Growth)
     growth.stack.push_reserved(Frame::Explore(place));
 }
 
-/// Writes the position to the slot if the thread has that slot, and pushes the place.
+/// Writes the position to the slot if the thread's row has that slot, and pushes the place.
 #[inline(always)]
 fn note(slot: usize, place: usize, at: usize, growth: &mut Growth)
     requires deep { vec_len growth.old.stack + 2 ≤ vec_capacity growth.old.stack }
@@ -134,11 +134,12 @@ fn act(spot: &Spot, place: usize, start: usize, growth: &mut Growth) -> Option<u
             }
             None
         }
-        Place::Slot(slot, next) => {
+        Place::Slot(_, next) => {
             if is_dead(spot, place) {
                 return None;
             }
-            note(*slot, *next, spot.at, growth);
+            let column = spot.course.program.column(place);
+            note(column, *next, spot.at, growth);
             None
         }
         Place::Accept(number) => {

@@ -8,6 +8,7 @@ ghost use Rattle.rc_text.specs.Text.{Keeps, low, high};
 ghost use Rattle.rc_program.specs.Greatest.{greatest};
 ghost use Rattle.rc_program.specs.Kinds.{answer_by};
 ghost use Rattle.rc_program.specs.Programs.{search_of};
+ghost use Rattle.rc_program.specs.Columns.{row_width};
 ghost use Rattle.rc_program.specs.Places.{places_of};
 ghost use Rattle.rc_needles.specs.Guards.{Guards};
 ghost use Rattle.rc_needles.specs.Prefilters.{needles_of};
@@ -132,8 +133,8 @@ fn search_span<C: Cursor>(
 /// match passes none over. Of its slots only the two of the whole match are set; all others are
 /// None.
 ///
-/// The cache must be made for programs of as many places, and for searches with as many slots or
-/// more. It stays so. Nothing is allocated.
+/// The cache must be made for programs of as many places, and for rows as wide as these slots need,
+/// or wider. It stays so. Nothing is allocated.
 pub fn search_slots_by_kind<C: Cursor>(
     cache: &mut Cache,
     input: &mut Input<C>,
@@ -143,7 +144,7 @@ pub fn search_slots_by_kind<C: Cursor>(
     slots: &mut [Option<usize>],
 ) -> Option<PatternID>
     requires guarded { MatchOption prefilter ⊤ (λ p. Guards (places_of program.now.places.items) program.now.terminator (needles_of p.now)) }
-    requires made { IsCacheFor (length program.now.places.items) (length slots.old) cache.old }
+    requires made { IsCacheFor (length program.now.places.items) (row_width (places_of program.now.places.items) (length slots.old)) cache.old }
     ensures keeps { Keeps input.old input.new }
     ensures pattern { result ≡ option_map (λ (m : Found). m.pattern) (answer_by kind (search_of program.now input.old)) }
     ensures long { length slots.new ≡ length slots.old }

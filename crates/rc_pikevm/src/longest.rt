@@ -7,11 +7,12 @@ ghost use Rattle.rc_text.specs.Bounds.{IsWithinBounds};
 ghost use Rattle.rc_text.specs.Text.{Keeps, low, high};
 ghost use Rattle.rc_program.specs.Longest.{longest, longest_groups};
 ghost use Rattle.rc_program.specs.Programs.{search_of};
+ghost use Rattle.rc_program.specs.Columns.{row_width};
 ghost use Rattle.rc_program.specs.Places.{places_of};
 ghost use Rattle.rc_needles.specs.Guards.{Guards};
 ghost use Rattle.rc_needles.specs.Prefilters.{needles_of};
 ghost use Rattle.rc_pikevm.specs.Passing.{IsCounted};
-ghost use Rattle.rc_pikevm.specs.Found.{IsLongestResult};
+ghost use Rattle.rc_pikevm.specs.Found.{IsLongestResult, IsLongestRowResult};
 ghost use Rattle.rc_pikevm.specs.Caches.{IsCacheFor};
 ghost use Rattle.rc_pikevm.specs.Scratches.{IsSame};
 
@@ -19,7 +20,7 @@ use crate::cache::Cache;
 use crate::pass::Ending;
 use crate::race::race;
 use crate::scratch::Scratch;
-use crate::search::{bounds, put_match, starts_of};
+use crate::search::{bounds, put_groups, put_match, starts_of};
 use crate::spot::Course;
 use rc_needles::prefilter::Prefilter;
 use rc_program::program::Program;
@@ -27,8 +28,8 @@ use rc_text::cursor::Cursor;
 use rc_text::input::{Input, is_boundary_at};
 use rc_text::types::{Match, PatternID, Span};
 
-/// Returns the longest walk of the least start, with its slots in `found`, or None if there is
-/// none. As long as that match is passed over, another pass begins at the start after it.
+/// Returns the longest walk of the least start, with its row of slots in `found`, or None if
+/// there is none. As long as that match is passed over, another pass begins at the start after it.
 fn outlast<C: Cursor>(
     input: &mut Input<C>,
     program: &Program,
@@ -38,7 +39,7 @@ fn outlast<C: Cursor>(
     requires guarded { MatchOption prefilter ⊤ (λ p. Guards (places_of program.now.places.items) program.now.terminator (needles_of p.now)) }
     requires made { scratch.old.next.entered.capacity ≡ length program.now.places.items }
     ensures keeps { Keeps input.old input.new }
-    ensures chosen { IsLongestResult (search_of program.now input.old) result scratch.new.found.items }
+    ensures chosen { IsLongestRowResult (search_of program.now input.old) result scratch.new.found.items }
     ensures counted { IsCounted scratch.new.insertions result }
     ensures few { scratch.new.insertions ≤ length program.now.places.items * (high input.old - low input.old + 2) }
     ensures none { high input.old < low input.old → scratch.new.insertions ≡ 0 }
@@ -82,7 +83,7 @@ fn choose_longest<C: Cursor>(
     slots: &mut [Option<usize>],
 ) -> Option<Ending>
     requires guarded { MatchOption prefilter ⊤ (λ p. Guards (places_of program.now.places.items) program.now.terminator (needles_of p.now)) }
-    requires made { IsCacheFor (length program.now.places.items) (length slots.old) cache.old }
+    requires made { IsCacheFor (length program.now.places.items) (row_width (places_of program.now.places.items) (length slots.old)) cache.old }
     ensures keeps { Keeps input.old input.new }
     ensures chosen { IsLongestResult (search_of program.now input.old) result slots.new }
     ensures stays { IfNone result (slots.new ≡ slots.old) }
@@ -91,11 +92,12 @@ fn choose_longest<C: Cursor>(
     ensures few { cache.new.insertions ≤ length program.now.places.items * (high input.old - low input.old + 2) }
     ensures none { high input.old < low input.old → cache.new.insertions ≡ 0 }
 {
-    cache.scratch.widen(slots.len());
+    cache.scratch.widen(program.width(slots.len()));
     let Some(ending) = outlast(input, program, prefilter, &mut cache.scratch) else {
         return None;
     };
-    slots.copy_from_slice(&cache.scratch.found);
+    let row = &cache.scratch.found;
+    put_groups(program, ending.pattern, row, slots);
     Some(ending)
 }
 
@@ -104,8 +106,8 @@ fn choose_longest<C: Cursor>(
 /// slots stay as they are. The earliest flag is not read. The program says whether matches that end
 /// off a boundary are passed over.
 ///
-/// The cache must be made for programs of as many places, and for searches with as many slots or
-/// more. It stays so. Nothing is allocated.
+/// The cache must be made for programs of as many places, and for rows as wide as these slots need,
+/// or wider. It stays so. Nothing is allocated.
 pub fn search_longest_slots<C: Cursor>(
     cache: &mut Cache,
     input: &mut Input<C>,
@@ -114,7 +116,7 @@ pub fn search_longest_slots<C: Cursor>(
     slots: &mut [Option<usize>],
 ) -> Option<PatternID>
     requires guarded { MatchOption prefilter ⊤ (λ p. Guards (places_of program.now.places.items) program.now.terminator (needles_of p.now)) }
-    requires made { IsCacheFor (length program.now.places.items) (length slots.old) cache.old }
+    requires made { IsCacheFor (length program.now.places.items) (row_width (places_of program.now.places.items) (length slots.old)) cache.old }
     ensures keeps { Keeps input.old input.new }
     ensures pattern { result ≡ option_map (λ (m : Found). m.pattern) (longest (search_of program.now input.old)) }
     ensures long { length slots.new ≡ length slots.old }

@@ -22,7 +22,7 @@ use rc_program::ranges::{has_byte, has_char};
 pub enum Move {
     /// At either of two places, the first preferred.
     Fork(usize, usize),
-    /// At a place, once the position is written to a slot: the slot, and the place.
+    /// At a place, once the position is written to a slot: the slot's column, and the place.
     Save(usize, usize),
     /// Not at all: a walk of this pattern ends.
     Matches(usize),
@@ -55,7 +55,7 @@ pub fn look_up(spot: &Spot, place: usize) -> Move
             }
             Move::Stays(*next)
         }
-        Place::Slot(slot, next) => Move::Save(*slot, *next),
+        Place::Slot(_, next) => Move::Save(spot.course.program.column(place), *next),
         Place::Accept(number) => {
             if !may_end(spot, *number) {
                 return Move::DeadEnd;

@@ -1,6 +1,6 @@
 //! Leftmost-first search: from an input's bounds to a match and its slots, by passes of the Pike
 //! VM.
-ghost use Rattle.std.specs.Prelude.{◌≡◌, is_some, ℕ, ◌+◌, ◌-◌, ◌*◌, ◌<◌, ◌≤◌, ◌^◌, List, length, vec_len, vec_capacity, Option, None, Some, MatchOption, if◌then◌else◌, slice_set, IfNone, ⊤};
+ghost use Rattle.std.specs.Prelude.{◌≡◌, is_some, ℕ, ◌+◌, ◌-◌, ◌*◌, ◌<◌, ◌≤◌, ◌^◌, List, length, vec_len, vec_capacity, Option, None, Some, MatchOption, if◌then◌else◌, slice_set, slice_index_or, min, IfNone, ⊤};
 ghost use Rattle.std.specs.Option.{option_map};
 ghost use Rattle.rc_text.specs.Found.{Found};
 ghost use Rattle.rc_text.specs.Bounds.{IsWithinBounds};
@@ -9,11 +9,12 @@ ghost use Rattle.rc_program.specs.Answer.{only, is_anchored, answer, groups};
 ghost use Rattle.rc_program.specs.Greatest.{greatest};
 ghost use Rattle.rc_program.specs.Sought.{anchoring_of};
 ghost use Rattle.rc_program.specs.Programs.{search_of};
+ghost use Rattle.rc_program.specs.Columns.{IsAmong, range_of, row_width};
 ghost use Rattle.rc_needles.specs.Guards.{Guards};
 ghost use Rattle.rc_needles.specs.Prefilters.{needles_of};
 ghost use Rattle.rc_program.specs.Places.{places_of};
 ghost use Rattle.rc_pikevm.specs.Passing.{IsCounted};
-ghost use Rattle.rc_pikevm.specs.Found.{IsResult};
+ghost use Rattle.rc_pikevm.specs.Found.{IsResult, IsRowResult};
 ghost use Rattle.rc_pikevm.specs.Roots.{StandsIn};
 ghost use Rattle.rc_pikevm.specs.Caches.{IsCacheFor};
 ghost use Rattle.rc_pikevm.specs.Scratches.{IsSame};
@@ -68,7 +69,40 @@ pub(crate) fn put_match(end: Ending, slots: &mut [Option<usize>])
     }
 }
 
-/// Returns the walk that a search chooses, with its slots in `found`, or None if there is none. As
+/// Returns the number after `last`, or `len` if that is less.
+fn past_last(last: usize, len: usize) -> usize
+    ensures { result ≡ min (last + 1) len }
+{
+    if last < len {
+        return last + 1;
+    }
+    len
+}
+
+/// Writes the slots of the groups of a pattern from its row, as far as `slots` has them, and None to
+/// all others.
+pub(crate) fn put_groups(
+    program: &Program,
+    pattern: usize,
+    row: &[Option<usize>],
+    slots: &mut [Option<usize>],
+)
+    requires { length row.now ≡ row_width (places_of program.now.places.items) (length slots.old) }
+    ensures long { length slots.new ≡ length slots.old }
+    ensures own { (k : ℕ) → k < length slots.new → IsAmong (range_of (places_of program.now.places.items) pattern) k
+        → slice_index_or slots.new k None
+        ≡ slice_index_or row.now (k - (range_of (places_of program.now.places.items) pattern).first) None }
+    ensures others { (k : ℕ) → ¬ IsAmong (range_of (places_of program.now.places.items) pattern) k → slice_index_or slots.new k None ≡ None }
+{
+    slots.fill(None);
+    let range = program.slots_of(pattern);
+    let end = past_last(range.last, slots.len());
+    for slot in range.first..end {
+        slots[slot] = row[slot - range.first];
+    }
+}
+
+/// Returns the walk that a search chooses, with its row of slots in `found`, or None if there is none. As
 /// long as that match is passed over, another pass begins at the start after it. Walks enter at the
 /// place `root`, which stands for place 0.
 fn choose<C: Cursor>(
@@ -83,7 +117,7 @@ fn choose<C: Cursor>(
     requires root { root < length program.now.places.items }
     requires stands { StandsIn (search_of program.now input.old) root }
     ensures keeps { Keeps input.old input.new }
-    ensures chosen { IsResult (search_of program.now input.old) result scratch.new.found.items }
+    ensures chosen { IsRowResult (search_of program.now input.old) result scratch.new.found.items }
     ensures counted { IsCounted scratch.new.insertions result }
     ensures few { scratch.new.insertions ≤ length program.now.places.items * (high input.old - low input.old + 2) }
     ensures none { high input.old < low input.old → scratch.new.insertions ≡ 0 }
@@ -128,7 +162,7 @@ fn choose_in<C: Cursor>(
     slots: &mut [Option<usize>],
 ) -> Option<Ending>
     requires guarded { MatchOption prefilter ⊤ (λ p. Guards (places_of program.now.places.items) program.now.terminator (needles_of p.now)) }
-    requires made { IsCacheFor (length program.now.places.items) (length slots.old) cache.old }
+    requires made { IsCacheFor (length program.now.places.items) (row_width (places_of program.now.places.items) (length slots.old)) cache.old }
     requires root { root < length program.now.places.items }
     requires stands { StandsIn (search_of program.now input.old) root }
     ensures keeps { Keeps input.old input.new }
@@ -139,9 +173,9 @@ fn choose_in<C: Cursor>(
     ensures few { cache.new.insertions ≤ length program.now.places.items * (high input.old - low input.old + 2) }
     ensures none { high input.old < low input.old → cache.new.insertions ≡ 0 }
 {
-    cache.scratch.widen(slots.len());
+    cache.scratch.widen(program.width(slots.len()));
     if let Some(end) = choose(input, program, root, prefilter, &mut cache.scratch) {
-        slots.copy_from_slice(&cache.scratch.found);
+        put_groups(program, end.pattern, &cache.scratch.found, slots);
         return Some(end);
     }
     None
@@ -152,8 +186,8 @@ fn choose_in<C: Cursor>(
 /// program says whether matches that end off a boundary are passed over. With a prefilter, the
 /// search goes from needle to needle while no thread is under way.
 ///
-/// The cache must be made for programs of as many places, and for searches with as many slots or
-/// more. It stays so. Nothing is allocated.
+/// The cache must be made for programs of as many places, and for rows as wide as these slots need,
+/// or wider. It stays so. Nothing is allocated.
 pub fn search_slots<C: Cursor>(
     cache: &mut Cache,
     input: &mut Input<C>,
@@ -162,7 +196,7 @@ pub fn search_slots<C: Cursor>(
     slots: &mut [Option<usize>],
 ) -> Option<PatternID>
     requires guarded { MatchOption prefilter ⊤ (λ p. Guards (places_of program.now.places.items) program.now.terminator (needles_of p.now)) }
-    requires made { IsCacheFor (length program.now.places.items) (length slots.old) cache.old }
+    requires made { IsCacheFor (length program.now.places.items) (row_width (places_of program.now.places.items) (length slots.old)) cache.old }
     ensures keeps { Keeps input.old input.new }
     ensures pattern { result ≡ option_map (λ (m : Found). m.pattern) (answer (search_of program.now input.old)) }
     ensures long { length slots.new ≡ length slots.old }
@@ -191,7 +225,7 @@ pub fn search_slots_from<C: Cursor>(
     slots: &mut [Option<usize>],
 ) -> Option<PatternID>
     requires guarded { MatchOption prefilter ⊤ (λ p. Guards (places_of program.now.places.items) program.now.terminator (needles_of p.now)) }
-    requires made { IsCacheFor (length program.now.places.items) (length slots.old) cache.old }
+    requires made { IsCacheFor (length program.now.places.items) (row_width (places_of program.now.places.items) (length slots.old)) cache.old }
     requires root { root < length program.now.places.items }
     requires stands { StandsIn (search_of program.now input.old) root }
     ensures keeps { Keeps input.old input.new }

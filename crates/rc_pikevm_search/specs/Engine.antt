@@ -3,6 +3,8 @@ use Rattle.std.specs.Prelude.{◌≡◌, ℕ, ◌+◌, ◌-◌, ◌*◌, ◌<◌
 use Rattle.rc_text.specs.Found.{Found}
 use Rattle.rc_text.specs.Text.{Searched, high, low}
 use Rattle.rc_program.specs.Answer.{Search}
+use Rattle.rc_program.specs.Columns.{row_width}
+use Rattle.rc_program.specs.Places.{places_of}
 use Rattle.rc_program.specs.Programs.{search_of}
 use Rattle.rc_pikevm.specs.Caches.{Made, IsCacheFor}
 use Rattle.rc_pikevm_search.specs.Choices.{answering_for}
@@ -14,7 +16,7 @@ engine_search e = search_of e.program
 
 -- The cache is made for searches by this engine with so many slots.
 abbrev pub IsEngineCache : Engine → ℕ → Made → Type 0
-IsEngineCache e slots cache = IsCacheFor (length e.program.places.items) slots cache
+IsEngineCache e slots cache = IsCacheFor (length e.program.places.items) (row_width (places_of e.program.places.items) slots) cache
 
 -- The cache is made for what it was made for before.
 abbrev pub IsSameCache : Made → Made → Type 0

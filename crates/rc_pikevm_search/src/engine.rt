@@ -41,7 +41,8 @@ impl Engine {
     pub fn create_cache(&self, alloc: Global, slots: usize) -> Result<Cache, AllocError>
         ensures { IfOk result (IsEngineCache self.now slots) }
     {
-        Cache::new(alloc, self.program.places.len(), slots)
+        let columns = self.program.width(slots);
+        Cache::new(alloc, self.program.places.len(), columns)
     }
 
     /// Returns the match that a search finds. It allocates nothing. The cache counts the places

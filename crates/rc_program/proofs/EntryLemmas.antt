@@ -40,7 +40,7 @@ module _ (prog : List Place) (t : Text) (hi : ℕ) (Accepts : ℕ → Type 0) (a
       way_to (IsBetween a b) prog t hi n m (sound_targets AnyNumber Accepts a b (place_at prog n.0) (sealed n.0 i.0 i.1)) h
 
   -- a walk that begins between them stays there
-  walk_inside : (Ends : Pair → Type 0) {p f w : List Pair} → IsWalk (ways prog t hi) Ends p f w → ((n : Pair) → IsIn n f → IsBetween a b n.0) →
+  pub walk_inside : (Ends : Pair → Type 0) {p f w : List Pair} → IsWalk (ways prog t hi) Ends p f w → ((n : Pair) → IsIn n f → IsBetween a b n.0) →
       ((k : Pair) → IsIn k w → IsBetween a b k.0) × IsBetween a b (last_of w).0
   walk_inside Ends (stops k here fresh stop) inside =
       let i = inside k here in
@@ -122,7 +122,7 @@ module _ (hs : List Re) (t : Text) (hi p : ℕ) where
       }
 
   -- the places of a pattern's part lead to its own match place alone
-  pattern_sealed : (q slots start next s : ℕ) (h : Re) → Stand (program hs) start ((pattern_part q s h).places slots start next) →
+  pub pattern_sealed : (q slots start next s : ℕ) (h : Re) → Stand (program hs) start ((pattern_part q s h).places slots start next) →
       IsSealed (program hs) (λ r. r ≡ q) start (start + (pattern_part q s h).size)
   pattern_sealed q slots start next s h st n low high =
       let size = pattern_sized q s h slots start next in

@@ -23,3 +23,5 @@ mod HeadsExamples
 pub mod PropertyLemmas
 pub mod HeadsLemmas
 pub mod ClosingLemmas
+pub mod ColumnLemmas
+pub mod OwnLemmas

@@ -104,7 +104,7 @@ pattern_ends prog n s h slots start next st =
     (Stand-right prog start ((part h).places s start (start + (part h).size)) (accept n ∷ []) st).0
 
 -- a pattern's match place isn't among its part's places
-beyond_part : (prog : List Place) (s : ℕ) (h : Re) (start n p : ℕ) → Stand prog start ((part h).places s start (start + (part h).size)) →
+pub beyond_part : (prog : List Place) (s : ℕ) (h : Re) (start n p : ℕ) → Stand prog start ((part h).places s start (start + (part h).size)) →
     place_at prog n ≡ accept p → (n < start) ⊎ (start + (part h).size ≤ n)
 beyond_part prog s h start n p st e =
     let own = part_is_own s h in

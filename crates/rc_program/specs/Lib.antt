@@ -14,3 +14,4 @@ pub mod Kinds
 pub mod Programs
 pub mod Heads
 pub mod Closing
+pub mod Columns

@@ -2,10 +2,11 @@
 //! contracts cite, and the laws that tie them.
 //!
 //! Module `place` has the NFA's states, and `program` an NFA that is ready to be searched with.
-//! `look` tests assertions, and `heads` computes first-byte sets. `laws` has the laws, each as the
-//! contract of a function that does nothing.
+//! `look` tests assertions, `heads` computes first-byte sets, and `columns` finds the cells of slots
+//! in a thread's row. `laws` has the laws, each as the contract of a function that does nothing.
 #![tactic(auto)]
 
+pub mod columns;
 pub mod heads;
 pub mod laws;
 pub mod look;

@@ -8,6 +8,8 @@ use Rattle.rc_dfa.specs.Samples.{AreSamples}
 use Rattle.rc_dfa.specs.declared.automaton.Direction.{Direction}
 use Rattle.rc_dfa.specs.declared.automaton.Direction.TheVariants.{Backwards, Forwards}
 use Rattle.rc_dfa.specs.Machine.{Machine}
+use Rattle.rc_program.specs.Columns.{row_width}
+use Rattle.rc_program.specs.Places.{places_of}
 use Rattle.rc_pikevm.specs.Caches.{Made}
 use Rattle.rc_lazy_dfa.specs.Caches.{IsCacheOf}
 use Rattle.rc_lazy_dfa.specs.Halves.{IsHalf}
@@ -87,7 +89,7 @@ pub still_in : (e : Engines) (slots : ℕ) (c d : Cache) → IsCacheIn e slots c
 still_in e slots c d h s = record {
   pass = (
     ap (λ (p : Made). p.places) s.pass ∙ h.pass.0,
-    subst (λ n. slots ≤ n) (sym (ap (λ (p : Made). p.slots) s.pass)) h.pass.1,
+    subst (λ n. row_width (places_of e.engine.program.places.items) slots ≤ n) (sym (ap (λ (p : Made). p.columns) s.pass)) h.pass.1,
   );
   lazy = states_kept e.lazy c.lazy d.lazy h.lazy s.lazy;
 }
@@ -115,16 +117,16 @@ states_still plan (Some l) (Some c) (Some d) h i k = serves plan l d h k
 
 module _ (e : Engines) (slots : ℕ) (plan : LazyPlan) (h : ∥ IfSome e.lazy (IsLazyFor plan) ∥₁) where
   -- a cache that engines make by the plan was made by it,
-  pub made_by : (c : Cache) → is_some c.lazy ≡ is_some e.lazy → IsCacheIn e slots c → IsCacheBy (length e.engine.program.places.items) slots plan c
+  pub made_by : (c : Cache) → is_some c.lazy ≡ is_some e.lazy → IsCacheIn e slots c → IsCacheBy (length e.engine.program.places.items) (row_width (places_of e.engine.program.places.items) slots) plan c
   made_by c both i = record { pass = i.pass; lazy = states_by plan e.lazy c.lazy h both i.lazy }
 
   -- serves any others by it,
-  pub serves_in : (c : Cache) → IsCacheBy (length e.engine.program.places.items) slots plan c → IsCacheIn e slots c
+  pub serves_in : (c : Cache) → IsCacheBy (length e.engine.program.places.items) (row_width (places_of e.engine.program.places.items) slots) plan c → IsCacheIn e slots c
   serves_in c i = record { pass = i.pass; lazy = states_in plan e.lazy c.lazy h i.lazy }
 
   -- and stays so
-  pub still_by : (c d : Cache) → IsCacheBy (length e.engine.program.places.items) slots plan c → IsSameCacheIn e c d →
-      IsCacheBy (length e.engine.program.places.items) slots plan d
+  pub still_by : (c d : Cache) → IsCacheBy (length e.engine.program.places.items) (row_width (places_of e.engine.program.places.items) slots) plan c → IsSameCacheIn e c d →
+      IsCacheBy (length e.engine.program.places.items) (row_width (places_of e.engine.program.places.items) slots) plan d
   still_by c d i s = record {
     pass = (still_in e slots c d (serves_in c i) s).pass;
     lazy = states_still plan e.lazy c.lazy d.lazy h i.lazy s.lazy;

@@ -32,10 +32,10 @@ pub record IsSameCacheIn (e : Engines) (c d : Cache) : Type 0 where
   pub pass : IsSameCache c.pass d.pass
   pub lazy : KeepsStates e.lazy c.lazy d.lazy
 
--- The cache was made for programs of so many places, searches with so many slots, and any lazy DFA
--- that is built by the plan.
-pub record IsCacheBy (places slots : ℕ) (plan : LazyPlan) (c : Cache) : Type 0 where
-  pub pass : IsCacheFor places slots c.pass
+-- The cache was made for programs of so many places, rows of so many columns, and any lazy DFA that
+-- is built by the plan.
+pub record IsCacheBy (places columns : ℕ) (plan : LazyPlan) (c : Cache) : Type 0 where
+  pub pass : IsCacheFor places columns c.pass
   pub lazy : IfSome c.lazy (ServesLazy plan)
 
 -- How many bytes the states take that were reached, in both directions.

@@ -608,8 +608,8 @@ impl Engines {
     }
 
     /// Whether a search without a DFA finds the match alone before its groups: if literals decide
-    /// it, or if there are many patterns. Each thread of the Pike VM has the slots of all patterns,
-    /// and if these are many, they would be copied at each byte.
+    /// it, or if there are many patterns. Then the slots of many threads would be copied at each
+    /// byte.
     fn finds_first(&self) -> bool {
         self.patterns > FEW_PATTERNS
             || literals_of(&self.engine.literals, self.engine.kind).is_some()

@@ -3,9 +3,11 @@ use Rattle.std.proofs.lemmas.Result.{IfOk-at_ok}
 use Rattle.std.proofs.lemmas.List.Elements.{All-weaker}
 use Rattle.rc_pattern.specs.Meaning.{meaning}
 use Rattle.rc_pattern.specs.WellFormed.{HasBounds, IsWellFormed}
+use Rattle.rc_program.specs.Columns.{OwnSlots}
 use Rattle.rc_program.specs.Program.{program, shown}
 use Rattle.rc_program.specs.Sought.{IsRunnable, passes_over}
 use Rattle.rc_program.specs.Places.{places_of}
+use Rattle.rc_program.proofs.OwnLemmas.{own_slots}
 use Rattle.rc_pikevm_search.specs.Literals.{MayGoBy}
 use Rattle.rc_settings.specs.Thompson.{settings_of, line_terminator_of}
 use Rattle.rc_build.specs.Fits.{sought_by}
@@ -20,6 +22,10 @@ choose-requires-clause-bounds c =
 pub engine_of-engine-requires-clause-runnable : goal.engine_of-engine-requires-clause-runnable
 engine_of-engine-requires-clause-runnable c =
     subst IsRunnable (sym c.in_ok-compiled.ensures.places) (runnable _ _ _ c.in_ok-compiled.ensures.buildable)
+
+pub engine_of-engine-requires-clause-own : goal.engine_of-engine-requires-clause-own
+engine_of-engine-requires-clause-own c =
+    subst OwnSlots (sym c.in_ok-compiled.ensures.places) (own_slots (shown _ (map meaning c.args.hirs.now)))
 
 pub engine_of-engine-requires-clause-sound : goal.engine_of-engine-requires-clause-sound
 engine_of-engine-requires-clause-sound c =

@@ -5,7 +5,7 @@ use Rattle.rc_pikevm.specs.Near.{seen_from, size}
 use Rattle.rc_pikevm.specs.Moves.{IsMove, seen_by}
 use Rattle.rc_pikevm.specs.Alone.{IsDead, LeadsTo}
 use Rattle.rc_pikevm.specs.declared.moves.Move.TheVariants.{Reads}
-use Rattle.rc_pikevm.proofs.AloneLemmas.{inside_program, dead_stops, dead_reads, dead_saves, no_start, leads_on, leads_then}
+use Rattle.rc_pikevm.proofs.AloneLemmas.{inside_program, dead_stops, dead_reads, dead_slot, no_start, leads_on, leads_then}
 use Rattle.rc_pikevm.proofs.alone.seek.Given.{Over}
 use Rattle.rc_pikevm.proofs.alone.seek.Goals as goal
 use Rattle.rc_pikevm.proofs.alone.seek.Goals.{After-pass_over-here, In-Some, In-Reads, in-DeadEnd, in-Reads+else-to-here+else-not-is_shut, in_default-step+else-not-leads_nowhere}
@@ -24,7 +24,7 @@ past_dead : (g : Over) (c : In-Some g) → IsDead (seen_by c.args.course g.text)
 past_dead g c d =
     let s : Sight = seen_by c.args.course g.text in
     let here : ℕ = c.pass_over-here.result in
-    ⊎_elim (λ e. subst (λ p. IsDead s [] (p, here)) e d) (λ r. dead_saves s here [] c.args.way r.0 c.past_slot-first.result r.1 d)
+    ⊎_elim (λ e. subst (λ p. IsDead s [] (p, here)) e d) (λ r. dead_slot s here [] c.args.way r.0 c.past_slot-first.result r.1 d)
     (rw c.spot_at-spot.ensures.course at c.past_slot-first.ensures.past)
 
 -- the byte is read there, and the place behind it is one of the program

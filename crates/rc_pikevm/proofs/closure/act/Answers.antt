@@ -73,8 +73,8 @@ returns-else-is_open-clause-acted g c = record {
 
 pub returns-else-is_dead-3-clause-acted : goal.returns-else-is_dead-3-clause-acted
 returns-else-is_dead-3-clause-acted g c = record {
-  move = Save c.in-Slot.slot c.in-Slot.next;
-  goes = inl ((placed c.args.spot.now.course.program.now.places.items c.args.place c.index.result.now c.requires.1.0 c.index.ensures ∙ ap place_of c.in-Slot.is));
+  move = Save c.column-column.result c.in-Slot.next;
+  goes = inl (c.in-Slot.field-0, placed c.args.spot.now.course.program.now.places.items c.args.place c.index.result.now c.requires.1.0 c.index.ensures ∙ ap place_of c.in-Slot.is, c.column-column.ensures);
   made = c.note.ensures.made c.args.start;
   ended = refl;
 }

@@ -1,4 +1,4 @@
-use Rattle.std.proofs.Common.{◌∙◌, [], ap, subst, arith, option_map, None}
+use Rattle.std.proofs.Common.{◌∙◌, [], ap, subst, arith, option_map}
 use Rattle.rc_program.specs.Answer.{Search}
 use Rattle.rc_program.specs.Sought.{anchoring_of}
 use Rattle.rc_pikevm.specs.Sights.{sight_of}

@@ -1,4 +1,4 @@
-use Rattle.std.proofs.Common.{◌≡◌, ℕ, ◌<◌, length, sym, ◌∙◌, arith, Bool, true, false, true≢false, IsTrue, MatchBool, not, nat_eq}
+use Rattle.std.proofs.Common.{length, sym, ◌∙◌, arith, Bool, true, false, true≢false, IsTrue, MatchBool, not}
 use Rattle.std.proofs.lemmas.Bool.{eqb-false}
 use Rattle.rc_pikevm.proofs.HeadLemmas.{shown_dead}
 use Rattle.rc_pikevm.proofs.heads.is_dead.Goals as goal

@@ -17,3 +17,10 @@ returns-else-not-is_open g c =
     subst (λ b. IsMove (seen_from c.args.spot.now g.text) (c.args.place, c.args.spot.now.at) (moving (Stays c.in-Guard.next) b)) c.if-not-is_open.false
     (c.is_open.ensures c.args.place c.in-Guard.next
     (placed c.args.spot.now.course.program.now.places.items c.args.place c.index.result.now c.requires.1 c.index.ensures ∙ ap place_of c.in-Guard.is))
+
+pub returns-in-Slot : goal.returns-in-Slot
+returns-in-Slot g c = (
+  c.in-Slot.field-0,
+  placed c.args.spot.now.course.program.now.places.items c.args.place c.index.result.now c.requires.1 c.index.ensures ∙ ap place_of c.in-Slot.is,
+  c.column.ensures,
+)

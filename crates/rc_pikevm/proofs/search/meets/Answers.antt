@@ -1,4 +1,4 @@
-use Rattle.std.proofs.Common.{ap, subst, ◌∙◌, arith, None}
+use Rattle.std.proofs.Common.{ap, subst, ◌∙◌, arith}
 use Rattle.rc_program.specs.Answer.{Search}
 use Rattle.rc_program.specs.Sought.{anchoring_of}
 use Rattle.rc_program.specs.Programs.{search_of}

@@ -1,4 +1,4 @@
-use Rattle.std.proofs.Common.{◌∙◌, ap, subst, arith, sym, IsTrue, None}
+use Rattle.std.proofs.Common.{◌∙◌, ap, subst, arith, sym, IsTrue}
 use Rattle.rc_program.specs.Answer.{Search, only}
 use Rattle.rc_program.specs.Program.{accept, is_match_place}
 use Rattle.rc_program.specs.Sought.{anchoring_of}
