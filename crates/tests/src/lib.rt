@@ -8,6 +8,8 @@ mod chunks;
 #[cfg(test)]
 mod faults;
 #[cfg(test)]
+mod many;
+#[cfg(test)]
 mod moves;
 #[cfg(test)]
 mod paged;
