@@ -1,5 +1,6 @@
 -- The replaced text of a whole content.
 use Rattle.std.proofs.Common.{◌≡◌, ◌∙◌, ◌↔◌, ℕ, ◌<◌, Bool, List, [], ◌∷◌, Option, None, Result, Ok, Err, IfOk, IsTrue, true, nat_lt, length, ap, subst, sym}
+use Rattle.std.specs.Prelude.{IsUtf8}
 use Rattle.std.specs.Io.KnownBytes.{Appends}
 use Rattle.std.proofs.lemmas.Bool.{lt-ltb, ltb-true}
 use Rattle.rc_text.specs.Text.{Searched}
@@ -13,7 +14,7 @@ use Rattle.rc_program.specs.Matches.{matches_left}
 use Rattle.rc_program.specs.Sought.{Sought, search_for}
 use Rattle.rc_program.proofs.KindLemmas.{kinds_law}
 use Rattle.rc_pikevm_search.specs.Walks.{walks_left}
-use Rattle.rc_settings.specs.Settings.{match_kind_of, program_settings, unset, which_captures_of}
+use Rattle.rc_settings.specs.Settings.{match_kind_of, program_settings, which_captures_of}
 use Rattle.rc_settings.specs.Which.{is_grouped}
 use Rattle.rc_build.specs.Fits.{sought_by}
 use Rattle.rc_build.specs.Names.{names_shown}
@@ -23,12 +24,12 @@ use Rattle.api_meta.specs.Left.{captures_input, captures_left, captures_regex, c
 use Rattle.api_meta.specs.Views.{regex_kind, regex_names, regex_patterns, regex_settings, sought}
 use Rattle.api_meta.specs.declared.iterators.CapturesMatches.{CapturesMatches}
 use Rattle.api_meta.specs.declared.regex.Regex.{Regex}
-use Rattle.regex_cursor.specs.Output.{IsWhole, matches_in, sought_by_default, whole}
+use Rattle.regex_cursor.specs.Output.{IsWhole, whole}
 use Rattle.regex_cursor.specs.Put.{Puts}
 use Rattle.chunk_replace.specs.Replaced.{matches_of, replaced, replaced_by, replaced_from, replacement}
 use Rattle.chunk_replace.specs.Template.{Item, template_items}
 use Rattle.chunk_replace.specs.Told.{searched}
-use Rattle.chunk_replace.specs.Words.{IsSubstituted}
+use Rattle.chunk_replace.specs.Words.{IsSubstituted, settings_in, sought_in}
 use Rattle.chunk_replace.specs.declared.template.Template.{Template}
 use Rattle.regex_cursor.proofs.Puts.{puts_as}
 
@@ -67,45 +68,50 @@ counted (Ok n) r s i content w left c =
     (left ∙ ap (λ x. matches_by_kind (regex_kind r) x i.span.start None) (w.same (sought r))
     ∙ ap (λ k. matches_by_kind (regex_kind r) (search_for (sought r) (whole content)) k None) w.start)
 
--- a regex of one text, by the default settings
-sought_default : (r : Regex) (p : Re) → regex_settings r ≡ unset → regex_patterns r ≡ p ∷ [] → sought r ≡ sought_by_default p
-sought_default r p e f =
-    ap (λ x. sought_by (program_settings x) (regex_patterns r)) e ∙ ap (sought_by (program_settings unset)) f
+-- a regex of one text, by such settings
+sought_default : (u : Bool) (r : Regex) (p : Re) → regex_settings r ≡ settings_in u → regex_patterns r ≡ p ∷ [] → sought r ≡ sought_in u p
+sought_default u r p e f =
+    ap (λ x. sought_by (program_settings x) (regex_patterns r)) e ∙ ap (sought_by (program_settings (settings_in u))) f
 
-names_default : (r : Regex) (p : Re) → regex_settings r ≡ unset → regex_patterns r ≡ p ∷ [] → regex_names r ≡ names_shown true (p ∷ [])
-names_default r p e f =
+names_default : (u : Bool) (r : Regex) (p : Re) → regex_settings r ≡ settings_in u → regex_patterns r ≡ p ∷ [] → regex_names r ≡ names_shown true (p ∷ [])
+names_default u r p e f =
     ap (λ x. names_shown (is_grouped (which_captures_of x)) (regex_patterns r)) e ∙ ap (names_shown true) f
 
-matches_default : (r : Regex) (p : Re) (content : List ℕ) → regex_settings r ≡ unset → regex_patterns r ≡ p ∷ [] → matches_of r content ≡ matches_in p content
-matches_default r p content e f =
+matches_default : (u : Bool) (r : Regex) (p : Re) (content : List ℕ) → regex_settings r ≡ settings_in u → regex_patterns r ≡ p ∷ [] →
+    matches_of r content ≡ matches_left (search_for (sought_in u p) (whole content)) 0 None
+matches_default u r p content e f =
     ap (λ k. matches_by_kind k (search_for (sought r) (whole content)) 0 None) (ap match_kind_of e)
     ∙ kinds_law.leftmost (search_for (sought r) (whole content)) 0 None
-    ∙ ap (λ q. matches_left (search_for q (whole content)) 0 None) (sought_default r p e f)
+    ∙ ap (λ q. matches_left (search_for q (whole content)) 0 None) (sought_default u r p e f)
 
-pub substituted : (text content : List ℕ) (items : List Item) (r : Regex) (a b : Option (List ℕ)) (n : ℕ) → regex_settings r ≡ unset →
+pub substituted : (u : Bool) (text content : List ℕ) (items : List Item) (r : Regex) (a b : Option (List ℕ)) (n : ℕ) → regex_settings r ≡ settings_in u →
+    (IsTrue u ↔ IsUtf8 content) →
     AllRead default_settings (text ∷ []) (regex_patterns r) → Appends a b (replaced_by r items content) → n ≡ length (matches_of r content) →
     IsSubstituted text items content a b (nat_lt 0 n)
-substituted text content items r a b n e reads p count =
+substituted u text content items r a b n e utf8 reads p count =
     let (pattern, is, read) = one_read default_settings text (regex_patterns r) reads in
-    let many : n ≡ length (matches_in pattern content) = count ∙ ap (λ (l : List Found). length l) (matches_default r pattern content e is) in
+    let ms : List Found = matches_left (search_for (sought_in u pattern) (whole content)) 0 None in
+    let many : n ≡ length ms = count ∙ ap (λ (l : List Found). length l) (matches_default u r pattern content e is) in
     record {
       pattern = pattern;
       read = read;
+      utf8 = u;
+      is_utf8 = utf8;
       put =
-          subst (λ q. Appends a b (replaced leftmost_first (names_shown true (pattern ∷ [])) q items content)) (sought_default r pattern e is)
-          (subst (λ ns. Appends a b (replaced leftmost_first ns (sought r) items content)) (names_default r pattern e is)
+          subst (λ q. Appends a b (replaced leftmost_first (names_shown true (pattern ∷ [])) q items content)) (sought_default u r pattern e is)
+          (subst (λ ns. Appends a b (replaced leftmost_first ns (sought r) items content)) (names_default u r pattern e is)
           (subst (λ k. Appends a b (replaced k (regex_names r) (sought r) items content)) (ap match_kind_of e) p));
-      told = some_told n (length (matches_in pattern content)) many;
+      told = some_told n (length ms) many;
     }
   where
     some_told : (n m : ℕ) → n ≡ m → IsTrue (nat_lt 0 n) ↔ (0 < m)
     some_told n m e = subst (λ k. IsTrue (nat_lt 0 n) ↔ (0 < k)) e (ltb-true 0 n, lt-ltb 0 n)
 
-pub substituted_if : {E F : Type 0} (o : Result Bool F) (u : Result ℕ E) (text content : List ℕ) (items : List Item) (r : Regex) (a b : Option (List ℕ)) →
-    regex_settings r ≡ unset → AllRead default_settings (text ∷ []) (regex_patterns r) → IfOk o (λ any. (n : ℕ) × (u ≡ Ok n) × (any ≡ nat_lt 0 n)) →
-    Puts u a b (replaced_by r items content) → IfOk u (λ n. n ≡ length (matches_of r content)) → IfOk o (λ any. IsSubstituted text items content a b any)
-substituted_if (Err f) u text content items r a b e reads given p count = tt
-substituted_if (Ok any) u text content items r a b e reads (n, is, told) p count =
+pub substituted_if : {E F : Type 0} (o : Result Bool F) (s : Result ℕ E) (u : Bool) (text content : List ℕ) (items : List Item) (r : Regex) (a b : Option (List ℕ)) →
+    regex_settings r ≡ settings_in u → (IsTrue u ↔ IsUtf8 content) → AllRead default_settings (text ∷ []) (regex_patterns r) →
+    IfOk o (λ any. (n : ℕ) × (s ≡ Ok n) × (any ≡ nat_lt 0 n)) → Puts s a b (replaced_by r items content) → IfOk s (λ n. n ≡ length (matches_of r content)) → IfOk o (λ any. IsSubstituted text items content a b any)
+substituted_if (Err f) s u text content items r a b e utf8 reads given p count = tt
+substituted_if (Ok any) s u text content items r a b e utf8 reads (n, is, told) p count =
     subst (λ x. IsSubstituted text items content a b x) (sym told)
-    (substituted text content items r a b n e reads (subst (λ y. Puts y a b (replaced_by r items content)) is p)
+    (substituted u text content items r a b n e utf8 reads (subst (λ y. Puts y a b (replaced_by r items content)) is p)
     (subst (λ y. IfOk y (λ n. n ≡ length (matches_of r content))) is count))

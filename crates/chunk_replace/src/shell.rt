@@ -1,17 +1,20 @@
 //! Command line of the program `rcsub`.
-ghost use Rattle.std.specs.Prelude.{◌≡◌, ◌≢◌, ◌≤◌, false, nat_eq, nat_lt, IfOk, IfSome, List, ℕ, MatchOption, SomeIff};
+ghost use Rattle.std.specs.Prelude.{◌≡◌, ◌≢◌, ◌≤◌, ◌∷◌, ◌↔◌, [], false, nat_eq, nat_lt, IfOk, IfSome, IsTrue, IsUtf8, List, ℕ, MatchOption, SomeIff};
 ghost use Rattle.std.specs.Str.Parse.{digits_value};
 ghost use Rattle.std.specs.Io.KnownBytes.{Keeps};
 ghost use Rattle.rc_text.specs.Joined.{joined};
+ghost use Rattle.rc_parser.specs.Settings.{default_settings};
+ghost use Rattle.rc_build.specs.TextRefusals.{AllRead};
+ghost use Rattle.api_meta.specs.Views.{regex_patterns, regex_settings};
 ghost use Rattle.regex_cursor.specs.Words.{IsLength};
-ghost use Rattle.chunk_replace.specs.Words.{AreWords, HasWords, IsDone, IsSubstituted};
+ghost use Rattle.chunk_replace.specs.Words.{AreWords, HasWords, IsDone, IsSubstituted, settings_in};
 ghost use Rattle.chunk_replace.specs.Template.{template_items};
 
 use crate::error::ReplaceError;
 use crate::marks::number_of;
 use crate::replace::replace_all;
 use crate::template::Template;
-use regex_cursor::engines::meta::Regex;
+use regex_cursor::engines::meta::{BuildError, Regex};
 use regex_cursor::run::{RunError, Sink};
 use std::alloc::{AllocError, Global};
 use std::io;
@@ -98,19 +101,39 @@ fn any_replaced(replaced: Result<usize, ReplaceError>) -> Result<bool, RunError>
     }
 }
 
-/// Writes the bytes, cut into chunks of `n`, with each match of the pattern replaced. It returns
-/// whether there was a match.
+/// Whether the bytes are UTF-8.
+fn is_utf8(bytes: &[u8]) -> bool
+    ensures { IsTrue result ↔ IsUtf8 bytes.now }
+{
+    std::str::from_utf8(bytes).is_ok()
+}
+
+/// Builds a regex of the pattern. Its matches may end inside a character if the text isn't UTF-8.
+fn build(alloc: Global, pattern: &str, is_utf8: bool) -> Result<Regex, BuildError>
+    ensures read { IfOk result (λ r. AllRead default_settings (pattern.now ∷ []) (regex_patterns r)) }
+    ensures settings { IfOk result (λ r. regex_settings r ≡ settings_in is_utf8) }
+{
+    let mut builder = Regex::builder();
+    builder
+        .configure(Regex::config().utf8_empty(is_utf8))
+        .build(alloc, pattern)
+}
+
+/// Writes the bytes of the chunks, with each match of the pattern replaced. It returns whether
+/// there was a match.
 fn substitute<W: Sink>(
     alloc: Global,
     pattern: &str,
+    is_utf8: bool,
     template: &Template<'_>,
     chunks: &[&[u8]],
     out: &mut W,
 ) -> Result<bool, RunError>
-    requires { W.has_failed out.old ≡ false }
+    requires sound { W.has_failed out.old ≡ false }
+    requires utf8 { IsTrue is_utf8 ↔ IsUtf8 (joined chunks.now) }
     ensures { IfOk result (λ any. IsSubstituted pattern.now (template_items template.now) (joined chunks.now) (W.taken out.old) (W.taken out.new) any) }
 {
-    let regex = Regex::new(alloc, pattern)?;
+    let regex = build(alloc, pattern, is_utf8)?;
     let replaced = replace_all(alloc, &regex, chunks, template, out);
     drop(regex);
     any_replaced(replaced)
@@ -118,6 +141,9 @@ fn substitute<W: Sink>(
 
 /// Runs `rcsub`: replaces each match of a pattern in an input that is cut into chunks. The
 /// arguments are the pattern, the template and the length of a chunk in bytes.
+///
+/// If the input isn't UTF-8, `utf8_empty` is off: a match may end at any byte, and none is passed
+/// over.
 ///
 /// It returns 0 if something was replaced, 1 if nothing was and the bytes were written unchanged,
 /// and 2 after an error, of which it writes one line to `err`. An error of `err` is ignored. The
@@ -152,7 +178,7 @@ pub fn program<R: Read, W: Sink, E: Write>(
     let Ok(chunks) = cut(alloc, &bytes, n) else {
         return report(err, OUT_OF_MEMORY);
     };
-    match substitute(alloc, pattern, &template, &chunks, out) {
+    match substitute(alloc, pattern, is_utf8(&bytes), &template, &chunks, out) {
         Ok(true) => REPLACED,
         Ok(false) => UNREPLACED,
         Err(fault) => {
