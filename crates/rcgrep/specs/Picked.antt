@@ -1,13 +1,18 @@
 -- Which lines a regex selects.
-use Rattle.std.specs.Prelude.{◌≡◌, ℕ, Bool, not, List, Option, length, if◌then◌else◌}
+use Rattle.std.specs.Prelude.{◌≡◌, ℕ, Bool, false, not, List, Option, Some, length, if◌then◌else◌}
 use Rattle.std.specs.Option.{is_some}
 use Rattle.rc_text.specs.Found.{Found}
 use Rattle.rc_text.specs.Text.{Searched}
 use Rattle.rc_program.specs.Kinds.{answer_by}
 use Rattle.rc_program.specs.Sought.{Sought, search_for}
+use Rattle.rc_settings.specs.Settings.{Settings, unset}
 use Rattle.api_meta.specs.Views.{regex_kind, sought}
 use Rattle.api_meta.specs.declared.regex.Regex.{Regex}
 use Rattle.regex_cursor.specs.Output.{whole}
+
+-- the settings of a regex for lines: matches may end inside a character
+abbrev pub line_settings : Settings
+line_settings = record unset { utf8_empty = Some false }
 
 -- the regex has a match in the line, as if there was nothing around it
 abbrev pub has_match : Regex → List ℕ → Bool

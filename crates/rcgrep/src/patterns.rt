@@ -2,11 +2,12 @@
 ghost use Rattle.std.specs.Prelude.{◌≡◌, ◌≤◌, All, IfErr, IfOk, IsTrue, length, map, true};
 ghost use Rattle.rc_pattern.specs.Meaning.{meaning};
 ghost use Rattle.rc_parser.specs.Settings.{settings_of};
-ghost use Rattle.rc_settings.specs.Settings.{nfa_size_limit_of, unset};
-ghost use Rattle.rc_build.specs.Refusals.{IsRefusal};
+ghost use Rattle.rc_settings.specs.Settings.{nfa_size_limit_of};
+ghost use Rattle.rc_build.specs.Refusals.{IsBuildable, IsRefusal};
 ghost use Rattle.rc_build.specs.TextRefusals.{AllRead, texts_of};
 ghost use Rattle.api_meta.specs.Views.{regex_patterns, regex_settings};
 ghost use Rattle.rcgrep.specs.Local.{HasLineLooks, IsLocalPattern, IsLocalRegex};
+ghost use Rattle.rcgrep.specs.Picked.{line_settings};
 ghost use Rattle.rcgrep.specs.Unread.{IsUnread};
 
 use regex_cursor::engines::meta::{BuildError, Regex};
@@ -68,14 +69,30 @@ pub struct Patterns {
     ghost local: { is_local ≡ true → ∥ IsLocalRegex regex ∥₁ },
 }
 
-/// Builds the patterns, by settings of which none is set. An `Err` is the first refusal that applies to them, or want of memory.
+/// Builds a regex whose matches may end inside a character. So none is passed over, and a line that
+/// isn't UTF-8 keeps all its matches.
+fn build_regex(alloc: Global, hirs: &[Hir]) -> Result<Regex, BuildError>
+    requires { length hirs.now ≤ 2147483647 }
+    ensures patterns { IfOk result (λ r. regex_patterns r ≡ map meaning hirs.now) }
+    ensures settings { IfOk result (λ r. regex_settings r ≡ line_settings) }
+    ensures buildable { IfOk result (λ _. IsBuildable (nfa_size_limit_of line_settings) (map meaning hirs.now)) }
+    ensures refused { IfErr result (λ e. IsRefusal (nfa_size_limit_of line_settings) (map meaning hirs.now) e) }
+{
+    let mut builder = Regex::builder();
+    builder
+        .configure(Regex::config().utf8_empty(false))
+        .build_many_from_hir(alloc, hirs)
+}
+
+/// Builds the patterns, whose matches may end inside a character. An `Err` is the first refusal
+/// that applies to them, or out of memory.
 pub fn build(alloc: Global, hirs: &[Hir]) -> Result<Patterns, BuildError>
     requires { length hirs.now ≤ 2147483647 }
     ensures patterns { IfOk result (λ p. regex_patterns p.regex ≡ map meaning hirs.now) }
-    ensures settings { IfOk result (λ p. regex_settings p.regex ≡ unset) }
-    ensures refused { IfErr result (λ e. IsRefusal (nfa_size_limit_of unset) (map meaning hirs.now) e) }
+    ensures settings { IfOk result (λ p. regex_settings p.regex ≡ line_settings) }
+    ensures refused { IfErr result (λ e. IsRefusal (nfa_size_limit_of line_settings) (map meaning hirs.now) e) }
 {
-    let regex = Regex::builder().build_many_from_hir(alloc, hirs)?;
+    let regex = build_regex(alloc, hirs)?;
     let is_local = are_local(hirs);
     let is_slow_past_ascii = has_scalar_looks(hirs) && !regex.is_accelerated();
     Ok(Patterns {

@@ -1,4 +1,4 @@
-use Rattle.std.proofs.Common.{◌∙◌, ap, map}
+use Rattle.std.proofs.Common.{ap, map}
 use Rattle.rc_pattern.specs.Meaning.{meaning}
 use Rattle.rc_settings.specs.Settings.{line_terminator_of, match_kind_of}
 use Rattle.rcgrep.proofs.LocalLemmas.{built_local}
@@ -9,6 +9,6 @@ pub invariant_of-result : goal.invariant_of-result
 invariant_of-result c = record {
   local = λ yes.
       let built = c.in_ok-regex.ensures in
-      ∣ built_local c.in_ok-regex.regex (map meaning c.args.hirs.now) (ap match_kind_of (built.settings ∙ c.builder.ensures.settings))
-      (ap line_terminator_of (built.settings ∙ c.builder.ensures.settings)) built.patterns built.buildable.well_formed (c.are_local-is_local.ensures yes) ∣₁;
+      ∣ built_local c.in_ok-regex.regex (map meaning c.args.hirs.now) (ap match_kind_of built.settings)
+      (ap line_terminator_of built.settings) built.patterns built.buildable.well_formed (c.are_local-is_local.ensures yes) ∣₁;
 }
