@@ -3,6 +3,7 @@
 #![tactic(auto)]
 
 mod faults;
+mod identity;
 mod line_regex;
 mod options;
 mod output;

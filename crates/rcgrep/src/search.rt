@@ -1,5 +1,6 @@
 //! File search: the files, or the standard input, line by line.
 
+use crate::identity::Identity;
 use crate::line_regex::LineRegex;
 use crate::options::Options;
 use crate::output::{put_count, put_line};
@@ -13,23 +14,30 @@ use std::io::{BufRead, BufReader, BufWriter, Read, Write};
 /// The length of the pages in which a file is read, in bytes.
 const PAGE: usize = 65_536;
 
-/// The name of the standard input.
+/// The name of the standard input, in what is printed.
 const STDIN: &str = "(standard input)";
+
+/// The message for a file that is searched and written to.
+const IS_OUTPUT: &str = "input file is also the output";
 
 /// Why the search of a file stopped.
 #[derive(Drop)]
 enum Fault {
     /// The file couldn't be read, or there was no memory.
     Read(io::Error),
+    /// Lines of the file would be written to its own end, and found there again.
+    IsOutput,
     /// A line couldn't be written.
     Write(io::Error),
 }
 
-/// How lines are printed.
+/// How lines are printed, and where to.
 #[derive(Clone, Copy)]
 struct Job<'o, 'w> {
     alloc: Global,
     options: &'o Options<'w>,
+    /// The file to which lines are written, if they are written to a file.
+    output: Option<Identity>,
 }
 
 impl Job<'_, '_> {
@@ -90,6 +98,11 @@ impl Job<'_, '_> {
         }
     }
 
+    /// Whether the lines of this file would be written to the file itself.
+    fn is_output(&self, file: Option<Identity>) -> bool {
+        self.output.is_some() && self.output == file
+    }
+
     /// Searches the file with a name, or the standard input.
     fn search_named<W: Write>(
         &self,
@@ -99,12 +112,19 @@ impl Job<'_, '_> {
         name: &str,
     ) -> Result<bool, Fault> {
         if name == "-" {
+            if self.is_output(Identity::of_stdin(rt)) {
+                return Err(Fault::IsOutput);
+            }
             return self.search(selector, rt.stdin(), out, STDIN);
         }
-        match File::open(rt, name) {
-            Ok(file) => self.search(selector, file, out, name),
-            Err(fault) => Err(Fault::Read(fault)),
+        let file = match File::open(rt, name) {
+            Ok(file) => file,
+            Err(fault) => return Err(Fault::Read(fault)),
+        };
+        if self.is_output(Identity::of_file(&file)) {
+            return Err(Fault::IsOutput);
         }
+        self.search(selector, file, out, name)
     }
 
     /// Searches all files for `search_all`.
@@ -117,7 +137,11 @@ impl Job<'_, '_> {
                 Ok(found) => is_any = is_any || found,
                 Err(Fault::Read(fault)) => {
                     has_failed = true;
-                    let _ = writeln!(rt.stderr(), "rcgrep: {name}: {fault}");
+                    let _ = writeln!(rt.stderr(), "rcgrep: {}: {fault}", shown(name));
+                }
+                Err(Fault::IsOutput) => {
+                    has_failed = true;
+                    let _ = writeln!(rt.stderr(), "rcgrep: {}: {IS_OUTPUT}", shown(name));
                 }
                 Err(Fault::Write(fault)) => return Err(fault),
             }
@@ -130,14 +154,32 @@ impl Job<'_, '_> {
     }
 }
 
+/// The name of a file in messages.
+fn shown(name: &str) -> &str {
+    if name == "-" { STDIN } else { name }
+}
+
+/// The file to which lines are written, if lines are written and it is a regular file.
+fn output_of(rt: &HostRuntime, options: &Options<'_>) -> Option<Identity> {
+    if options.count || options.names_only {
+        return None;
+    }
+    Identity::of_stdout(rt)
+}
+
 /// Searches all files, one after another, or the standard input, and returns the status: 0 if a
-/// line was selected, 1 if none was, and 2 if a file couldn't be read. An unreadable file is
-/// reported on the standard error, and the next file is searched. An `Err` is an error of the
-/// standard output, or out of memory.
+/// line was selected, 1 if none was, and 2 if a file couldn't be read, or lines would be written to
+/// it. Such a file is reported on the standard error, and the next file is searched. An `Err` is an
+/// error of the standard output, or out of memory.
 pub fn search_all(rt: &HostRuntime, patterns: &Patterns, options: &Options<'_>) -> io::Result<u8> {
     let alloc = rt.alloc();
     let mut selector = LineRegex::new(alloc, patterns, options.invert)?;
-    let job = Job { alloc, options };
+    let output = output_of(rt, options);
+    let job = Job {
+        alloc,
+        options,
+        output,
+    };
     let searched = job.search_files(rt, &mut selector);
     drop(selector);
     searched
