@@ -11,7 +11,7 @@ mod patterns;
 mod search;
 
 use crate::faults::{FAULT, report, report_refusal, report_unread};
-use crate::options::{Options, WordsError, read_words};
+use crate::options::{Options, WordsError, nearest, read_words};
 use crate::patterns::{MAX_PATTERNS, Patterns, Unread, build, read_patterns};
 use crate::search::search_all;
 use regex_cursor::hir::Hir;
@@ -34,8 +34,15 @@ Prints the lines of files, or of the standard input, in which a pattern matches.
   -v          the lines in which no pattern matches
   -l          the names of the files with such a line alone
   --color     matches are marked
+  --help      this text
+  -V          the version; so does --version
   --          no word after it is an option
+Letters may stand together, as in -ne PATTERN. A line needn't be UTF-8, and loses no match then:
+of the line `price`, the byte A3, ` 100`, -o '\\w*' prints `price` and `100`.
 The status is 0 where a line was printed or counted, 1 where none was, and 2 at a fault.";
+
+/// The version of the repository.
+const VERSION: &str = "0.1.0";
 
 /// The arguments of the program. An error means out of memory, or an argument that isn't text.
 fn words_of(rt: &HostRuntime) -> io::Result<Vec<String>> {
@@ -90,14 +97,36 @@ fn run(rt: &HostRuntime, options: &Options<'_>) -> u8 {
     }
 }
 
+/// The status after a text was written to the standard output, or not.
+fn status_of(rt: &HostRuntime, written: io::Result<()>) -> u8 {
+    match written {
+        Ok(()) => 0,
+        Err(fault) => {
+            let _ = writeln!(rt.stderr(), "rcgrep: {fault}");
+            FAULT
+        }
+    }
+}
+
+/// Reports an argument that isn't an option, and the option that is nearest to it.
+fn report_unknown(rt: &HostRuntime, word: &str) -> u8 {
+    let _ = match nearest(word) {
+        Some(option) => writeln!(
+            rt.stderr(),
+            "rcgrep: no option {word}, the nearest is {option}\n{USAGE}"
+        ),
+        None => writeln!(rt.stderr(), "rcgrep: no option {word}\n{USAGE}"),
+    };
+    FAULT
+}
+
 /// Runs the program with these arguments.
 fn run_with(rt: &HostRuntime, words: &[&str]) -> u8 {
     match read_words(rt.alloc(), words) {
         Ok(options) => run(rt, &options),
-        Err(WordsError::Help) => {
-            let _ = writeln!(rt.stdout(), "{USAGE}\n{HELP}");
-            0
-        }
+        Err(WordsError::Help) => status_of(rt, writeln!(rt.stdout(), "{USAGE}\n{HELP}")),
+        Err(WordsError::Version) => status_of(rt, writeln!(rt.stdout(), "rcgrep {VERSION}")),
+        Err(WordsError::Unknown(word)) => report_unknown(rt, word),
         Err(WordsError::Usage) => {
             let _ = writeln!(rt.stderr(), "{USAGE}");
             FAULT

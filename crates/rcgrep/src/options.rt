@@ -26,17 +26,21 @@ pub struct Options<'w> {
 
 /// Why nothing is searched.
 #[derive(Clone, Copy)]
-pub enum WordsError {
+pub enum WordsError<'w> {
     /// The help is asked for.
     Help,
-    /// The arguments are wrong.
+    /// The version is asked for.
+    Version,
+    /// This argument isn't an option.
+    Unknown(&'w str),
+    /// A pattern is missing.
     Usage,
     /// Out of memory.
     Memory,
 }
 
-impl<T: Drop> From<AllocFailed<T>> for WordsError {
-    fn from(_: AllocFailed<T>) -> WordsError {
+impl<'w, T: Drop> From<AllocFailed<T>> for WordsError<'w> {
+    fn from(_: AllocFailed<T>) -> WordsError<'w> {
         WordsError::Memory
     }
 }
@@ -56,8 +60,8 @@ impl<'w> Options<'w> {
         }
     }
 
-    /// Sets the option of a letter.
-    fn set(&mut self, letter: u8) -> Result<(), WordsError> {
+    /// Sets the option of a letter. Returns whether there is one.
+    fn set(&mut self, letter: u8) -> bool {
         match letter {
             b'n' => self.numbers = true,
             b'c' => self.count = true,
@@ -65,37 +69,65 @@ impl<'w> Options<'w> {
             b'i' => self.ignore_case = true,
             b'v' => self.invert = true,
             b'l' => self.names_only = true,
-            _ => return Err(WordsError::Usage),
+            _ => return false,
         }
-        Ok(())
+        true
     }
 
-    /// Takes an argument that begins with `-`. Returns whether the next argument is a pattern.
-    fn take(&mut self, word: &'w str) -> Result<bool, WordsError> {
-        if word == "--help" {
-            return Err(WordsError::Help);
+    /// Takes the pattern behind an `e`. Returns whether the next argument is that pattern.
+    fn take_pattern(&mut self, pattern: &'w str) -> Result<bool, WordsError<'w>> {
+        if pattern.is_empty() {
+            return Ok(true);
         }
-        if word == "--color" {
-            self.color = true;
-            return Ok(false);
-        }
-        if let Some(pattern) = word.strip_prefix("-e") {
-            if pattern.is_empty() {
-                return Ok(true);
-            }
-            self.patterns.push(pattern)?;
-            return Ok(false);
-        }
-        for letter in word.bytes().skip(1) {
-            self.set(letter)?;
-        }
+        self.patterns.push(pattern)?;
         Ok(false)
     }
+
+    /// Takes an argument that begins with `-`. Of letters, what follows an `e` is a pattern. Returns
+    /// whether the next argument is a pattern.
+    fn take(&mut self, word: &'w str) -> Result<bool, WordsError<'w>> {
+        match word {
+            "--help" => return Err(WordsError::Help),
+            "--version" | "-V" => return Err(WordsError::Version),
+            "--color" => {
+                self.color = true;
+                return Ok(false);
+            }
+            _ => {}
+        }
+        let (letters, pattern) = match word.split_once('e') {
+            Some((letters, pattern)) => (letters, Some(pattern)),
+            None => (word, None),
+        };
+        for letter in letters.bytes().skip(1) {
+            if !self.set(letter) {
+                return Err(WordsError::Unknown(word));
+            }
+        }
+        match pattern {
+            Some(pattern) => self.take_pattern(pattern),
+            None => Ok(false),
+        }
+    }
+}
+
+/// The option that begins as this argument does, if there is one.
+pub fn nearest(word: &str) -> Option<&'static str> {
+    if word.starts_with("--c") {
+        return Some("--color");
+    }
+    if word.starts_with("--h") {
+        return Some("--help");
+    }
+    if word.starts_with("--v") {
+        return Some("--version");
+    }
+    None
 }
 
 /// The options that the arguments give. The first argument that is no option is the pattern, unless
 /// `-e` gives one; the others are files.
-pub fn read_words<'w>(alloc: Global, words: &[&'w str]) -> Result<Options<'w>, WordsError> {
+pub fn read_words<'w>(alloc: Global, words: &[&'w str]) -> Result<Options<'w>, WordsError<'w>> {
     let mut options = Options::new(alloc);
     let mut is_pattern_next = false;
     let mut are_options_over = false;
