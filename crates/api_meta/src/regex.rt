@@ -125,9 +125,13 @@ impl Regex {
     /// Returns the match that a search of the input finds. An `Err` means out of memory.
     ///
     /// Under `MatchKind::All` it is the match with the greatest end, of these the one with the
-    /// least start, and of these the one of the first pattern. Empty matches inside a character
-    /// aren't rejected then. Under `MatchKind::LeftmostLongest` it is the longest of the matches
-    /// with the least start.
+    /// least start, and of these the one of the first pattern. Under `MatchKind::LeftmostLongest`
+    /// it is the longest of the matches with the least start.
+    ///
+    /// If `utf8_empty` is on and some pattern may be empty, each match that ends inside a character
+    /// is rejected, whether it is empty or not. `a*` on `aa` followed by the byte 80 gives 3..3,
+    /// since a byte from 80 to BF isn't where a character begins. Under `MatchKind::All` no match
+    /// is rejected.
     ///
     /// With the earliest flag of the input on, unless matches may be rejected, any span that a
     /// pattern matches may be the result, and there is one if there is one with the flag off. The
@@ -220,7 +224,8 @@ impl Regex {
 
     /// Returns whether a search of the input finds a match. An `Err` means out of memory.
     ///
-    /// Under `MatchKind::All` empty matches inside a character aren't rejected.
+    /// It rejects matches as `find` does: `^a*` has none on `aa` followed by the byte 80. Under
+    /// `MatchKind::All` no match is rejected.
     pub fn is_match<C: Cursor + Drop>(
         &self,
         alloc: Global,

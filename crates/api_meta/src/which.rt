@@ -33,13 +33,13 @@ impl Regex {
     ///
     /// A pattern has a match if it matches some span within the bounds, whatever the kind of match.
     /// None is left out because another pattern begins earlier or is preferred, nor because its
-    /// match is empty and inside a character. Patterns that are literals or alternations of
-    /// literals are found by a search for these, if the kind is `LeftmostFirst`. For others, a
-    /// search first finds where the first match begins. One pass from there on then finds all
-    /// patterns; of one pattern the search alone decides. If each match begins with one of a few
-    /// literals, the pass goes from literal to literal. If each begins where the slice does, as with
-    /// `^`, it ends where no such match goes on. It ends early if the set contains each pattern that
-    /// it can.
+    /// match ends inside a character: `^a*` has one on `aa` followed by the byte 80, though a
+    /// search rejects it. Patterns that are literals or alternations of literals are found by a
+    /// search for these, if the kind is `LeftmostFirst`. For others, a search first finds where the
+    /// first match begins. One pass from there on then finds all patterns; of one pattern the
+    /// search alone decides. If each match begins with one of a few literals, the pass goes from
+    /// literal to literal. If each begins where the slice does, as with `^`, it ends where no such
+    /// match goes on. It ends early if the set contains each pattern that it can.
     pub fn which_patterns_with<C: Cursor>(
         &self,
         cache: &mut Cache,

@@ -25,7 +25,10 @@ pub struct Settings {
     pub bytes: u8,
     /// Patterns may match bytes that aren't UTF-8.
     pub any_bytes: u8,
-    /// Empty matches may split a character.
+    /// Matches may end inside a character, also if some pattern may be empty. If this is off and
+    /// some pattern may be empty, each match that ends inside a character is passed over, whether
+    /// it is empty or not: `a*` on `aa` followed by the byte 80 gives 3..3. Under the kind 1 none
+    /// is.
     pub split_characters: u8,
     /// The number of the kind of match: 0 for the preferred match of the least start, 1 for the
     /// match with the greatest end, 2 for the longest match of the least start.
