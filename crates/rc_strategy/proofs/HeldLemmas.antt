@@ -1,5 +1,5 @@
 -- Searches whose matches all begin where they start: anchored there, they give the same.
-use Rattle.std.proofs.Common.{◌≡◌, ◌∙◌, ℕ, ◌<◌, ◌≤◌, Bool, true, false, true≢false, List, Option, Some, None, Result, IfOk, IsTrue, inl, inr, ⊎_elim, ap, sym, subst, refl, arith}
+use Rattle.std.proofs.Common.{◌≡◌, ◌∙◌, ℕ, ◌<◌, Bool, true, false, true≢false, List, Option, Some, None, Result, IfOk, IsTrue, inl, inr, ⊎_elim, ap, sym, subst, refl, arith}
 use Rattle.std.proofs.lemmas.Bool.{cases_lt}
 use Rattle.std.proofs.lemmas.Result.{IfOk-weaker}
 use Rattle.rc_text.specs.Found.{Found}
@@ -14,7 +14,7 @@ use Rattle.rc_program.specs.Text.{Text}
 use Rattle.rc_program.specs.Program.{Place, place_at}
 use Rattle.rc_program.specs.Places.{places_of}
 use Rattle.rc_program.specs.Answer.{Search, Chosen, HasNoWalkFrom, IsFirstFrom, IsStart, anywhere, answer, at_start, ends, found, last_of, next_of, only}
-use Rattle.rc_program.specs.Greatest.{HasNoSpan, IsGreatest, IsSpelledIn, greatest}
+use Rattle.rc_program.specs.Greatest.{IsSpelledIn, greatest}
 use Rattle.rc_program.specs.Kinds.{IsAnswerBy, IsAnswerWhere, answer_by, is_early}
 use Rattle.rc_program.specs.Longest.{HasNoAnswerOf, IsAnswerOf, IsLongestFrom, longest}
 use Rattle.rc_program.specs.Sought.{text_of}
