@@ -79,8 +79,8 @@ fn past_last(last: usize, len: usize) -> usize
     len
 }
 
-/// Writes the slots of the groups of a pattern from its row, as far as `slots` has them, and None to
-/// all others.
+/// Writes the slots of a pattern's groups from its row, as far as `slots` has them, and None to all
+/// others.
 pub(crate) fn put_groups(
     program: &Program,
     pattern: usize,
@@ -102,9 +102,9 @@ pub(crate) fn put_groups(
     }
 }
 
-/// Returns the walk that a search chooses, with its row of slots in `found`, or None if there is none. As
-/// long as that match is passed over, another pass begins at the start after it. Walks enter at the
-/// place `root`, which stands for place 0.
+/// Returns the walk that a search chooses, with its row of slots in `found`, or None if there is
+/// none. As long as that match is passed over, another pass begins at the start after it. Walks
+/// enter at the place `root`, which stands for place 0.
 fn choose<C: Cursor>(
     input: &mut Input<C>,
     program: &Program,
