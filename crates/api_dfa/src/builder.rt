@@ -25,7 +25,7 @@ pub type Config = states::Config<Option<usize>>;
 
 /// A builder of DFA regexes. It has the settings of the DFA, of the program, and of the pattern
 /// syntax.
-#[derive(Drop)]
+#[derive(Debug, Drop)]
 pub struct Builder {
     config: Config,
     thompson: thompson::Config,

@@ -24,6 +24,7 @@ use rc_settings::pikevm::Config;
 use rc_settings::thompson;
 use rc_text::types::MatchKind;
 use std::alloc::Global;
+use std::fmt;
 
 /// A DFA of a list of patterns, forwards and backwards.
 ///
@@ -103,5 +104,15 @@ fn refusal_of(error: TableError, limit: Option<usize>) -> BuildError
             Some(limit) => BuildError::DfaSizeLimit { limit },
             None => BuildError::Memory,
         },
+    }
+}
+
+impl fmt::Debug for DFA {
+    fn fmt<W: fmt::Write>(&self, f: &mut fmt::Formatter<W>) -> fmt::Result {
+        f.debug_struct("DFA")
+            .field("pattern_len", &self.pattern_len())
+            .field("config", &self.config)
+            .field("thompson", &self.thompson)
+            .finish_non_exhaustive()
     }
 }

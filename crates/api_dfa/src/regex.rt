@@ -7,7 +7,7 @@ use std::alloc::Global;
 
 /// A list of patterns, built for searches by a DFA: forwards to the end of a match, and backwards
 /// to its start.
-#[derive(Drop)]
+#[derive(Debug, Drop)]
 pub struct Regex {
     pub(crate) dfa: DFA,
 }

@@ -26,7 +26,7 @@ pub type Config = states::Config<usize>;
 
 /// A builder of lazy DFA regexes. It has the settings of the lazy DFA, of the program, and of the
 /// pattern syntax.
-#[derive(Drop)]
+#[derive(Debug, Drop)]
 pub struct Builder {
     config: Config,
     thompson: thompson::Config,

@@ -3,6 +3,7 @@
 use crate::regex::Regex;
 use rc_lazy_dfa::lazy;
 use std::alloc::{AllocError, Global};
+use std::fmt;
 
 /// The states that searches by a `Regex` have built so far, with what is known of their
 /// transitions: a table for each direction.
@@ -61,5 +62,15 @@ impl Cache {
         ensures { result ≡ clears_of self.now }
     {
         self.inner.clear_count()
+    }
+}
+
+impl fmt::Debug for Cache {
+    fn fmt<W: fmt::Write>(&self, f: &mut fmt::Formatter<W>) -> fmt::Result {
+        f.debug_struct("Cache")
+            .field("memory_usage", &self.memory_usage())
+            .field("capacity", &self.capacity())
+            .field("clear_count", &self.clear_count())
+            .finish_non_exhaustive()
     }
 }

@@ -5,6 +5,7 @@ use crate::regex::Regex;
 use rc_text::cursor::Cursor;
 use rc_text::input::Input;
 use rc_text::types::{Match, MatchError};
+use std::fmt;
 use std::iter::FusedIterator;
 
 /// An iterator over the matches in an input, from left to right. Each call of `next` searches, in a
@@ -79,3 +80,13 @@ impl<'r, 'c, C: Cursor + Drop> Iterator for FindMatches<'r, 'c, C> {
 }
 
 impl<'r, 'c, C: Cursor + Drop> FusedIterator for FindMatches<'r, 'c, C> {}
+
+impl<'r, 'c, C: Cursor> fmt::Debug for FindMatches<'r, 'c, C> {
+    fn fmt<W: fmt::Write>(&self, f: &mut fmt::Formatter<W>) -> fmt::Result {
+        f.debug_struct("FindMatches")
+            .field("span", &self.input.get_span())
+            .field("last", &self.last)
+            .field("is_done", &self.is_done)
+            .finish_non_exhaustive()
+    }
+}

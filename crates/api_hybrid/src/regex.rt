@@ -17,6 +17,7 @@ use rc_settings::error::BuildError;
 use rc_settings::pikevm::Config;
 use rc_settings::thompson;
 use std::alloc::{AllocError, Global};
+use std::fmt;
 
 /// A list of patterns, built for searches by a lazy DFA: forwards to the end of a match, and
 /// backwards to its start. The states are in a `Cache`.
@@ -122,5 +123,15 @@ impl Regex {
             passes_over: self.passes_over,
             earliest,
         }
+    }
+}
+
+impl fmt::Debug for Regex {
+    fn fmt<W: fmt::Write>(&self, f: &mut fmt::Formatter<W>) -> fmt::Result {
+        f.debug_struct("Regex")
+            .field("pattern_len", &self.pattern_len())
+            .field("config", &self.config)
+            .field("thompson", &self.thompson)
+            .finish_non_exhaustive()
     }
 }

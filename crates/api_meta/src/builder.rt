@@ -36,7 +36,7 @@ use rc_strategy::lengths::Lengths;
 use std::alloc::{AllocError, Global};
 
 /// A builder of regexes. It has the settings of the regex, and the settings of the pattern syntax.
-#[derive(Drop)]
+#[derive(Debug, Drop)]
 pub struct Builder {
     config: Config,
     syntax: rc_parser::Config,

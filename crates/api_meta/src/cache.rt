@@ -3,6 +3,7 @@
 use crate::regex::Regex;
 use rc_strategy::cache;
 use std::alloc::{AllocError, Global};
+use std::fmt;
 
 /// The scratch memory of searches by a regex, allocated once.
 #[derive(Drop)]
@@ -39,5 +40,13 @@ impl Cache {
     /// of the lazy DFA.
     pub fn memory_usage(&self) -> usize {
         self.inner.memory_usage()
+    }
+}
+
+impl fmt::Debug for Cache {
+    fn fmt<W: fmt::Write>(&self, f: &mut fmt::Formatter<W>) -> fmt::Result {
+        f.debug_struct("Cache")
+            .field("memory_usage", &self.memory_usage())
+            .finish_non_exhaustive()
     }
 }

@@ -3,6 +3,7 @@
 
 pub mod builder;
 pub mod cache;
+mod debug;
 pub mod finder;
 pub mod iterators;
 pub mod laws;

@@ -21,7 +21,7 @@ use std::alloc::Global;
 
 /// A builder of Pike VMs. It has the settings of searches, of the program, and of the pattern
 /// syntax.
-#[derive(Drop)]
+#[derive(Debug, Drop)]
 pub struct Builder {
     config: Config,
     thompson: thompson::Config,

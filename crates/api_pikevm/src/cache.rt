@@ -3,6 +3,7 @@
 use crate::vm::PikeVM;
 use rc_pikevm::cache;
 use std::alloc::{AllocError, Global};
+use std::fmt;
 
 /// The scratch memory of searches by a `PikeVM`, allocated once.
 #[derive(Drop)]
@@ -48,5 +49,14 @@ impl Cache {
     /// Roughly the number of bytes that the cache has allocated for its lists.
     pub fn memory_usage(&self) -> usize {
         self.inner.memory_usage()
+    }
+}
+
+impl fmt::Debug for Cache {
+    fn fmt<W: fmt::Write>(&self, f: &mut fmt::Formatter<W>) -> fmt::Result {
+        f.debug_struct("Cache")
+            .field("memory_usage", &self.memory_usage())
+            .field("insertions", &self.insertions())
+            .finish_non_exhaustive()
     }
 }

@@ -9,6 +9,7 @@ use crate::vm::PikeVM;
 use rc_text::cursor::Cursor;
 use rc_text::input::Input;
 use rc_text::types::Match;
+use std::fmt;
 use std::iter::FusedIterator;
 
 /// An iterator over the matches in an input, from left to right. Each call of `next` searches, in a
@@ -78,3 +79,13 @@ impl<'v, 'c, C: Cursor + Drop> Iterator for FindMatches<'v, 'c, C> {
 }
 
 impl<'v, 'c, C: Cursor + Drop> FusedIterator for FindMatches<'v, 'c, C> {}
+
+impl<'v, 'c, C: Cursor> fmt::Debug for FindMatches<'v, 'c, C> {
+    fn fmt<W: fmt::Write>(&self, f: &mut fmt::Formatter<W>) -> fmt::Result {
+        f.debug_struct("FindMatches")
+            .field("span", &self.input.get_span())
+            .field("last", &self.last)
+            .field("is_done", &self.is_done)
+            .finish_non_exhaustive()
+    }
+}

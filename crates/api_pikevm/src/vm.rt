@@ -17,6 +17,7 @@ use rc_settings::error::BuildError;
 use rc_settings::pikevm::Config;
 use rc_settings::thompson;
 use std::alloc::{AllocError, Global};
+use std::fmt;
 
 /// A list of patterns, built for searches by a Pike VM. Literals alone never decide its results, so
 /// each search makes a pass.
@@ -124,5 +125,15 @@ impl PikeVM {
     {
         let columns = self.built.engine.program.width(self.built.info.slot_len());
         cache::Cache::new(alloc, self.states_len(), columns)
+    }
+}
+
+impl fmt::Debug for PikeVM {
+    fn fmt<W: fmt::Write>(&self, f: &mut fmt::Formatter<W>) -> fmt::Result {
+        f.debug_struct("PikeVM")
+            .field("pattern_len", &self.built.hirs.len())
+            .field("config", &self.config)
+            .field("thompson", &self.thompson)
+            .finish_non_exhaustive()
     }
 }

@@ -24,6 +24,8 @@ mod searches;
 #[cfg(test)]
 mod sets;
 #[cfg(test)]
+mod shown;
+#[cfg(test)]
 mod states;
 #[cfg(test)]
 mod values;
