@@ -54,7 +54,7 @@ impl Builder {
         ensures program_kept { builder_program result.now ≡ builder_program self.entry.now }
         ensures syntax_kept { builder_syntax result.now ≡ builder_syntax self.entry.now }
     {
-        self.config.overwrite(config);
+        states::overwrite(&mut self.config, config);
         self
     }
 
@@ -66,7 +66,7 @@ impl Builder {
         ensures settings_kept { builder_settings result.now ≡ builder_settings self.entry.now }
         ensures syntax_kept { builder_syntax result.now ≡ builder_syntax self.entry.now }
     {
-        self.thompson.overwrite(&config);
+        thompson::overwrite(&mut self.thompson, &config);
         self
     }
 
@@ -127,13 +127,13 @@ impl Builder {
         ensures within { IfOk result (IsWithinLimit (builder_settings self.now)) }
         ensures refused { IfErr result (λ e. IsDfaRefusal (builder_program self.now) (builder_settings self.now) (map meaning hirs.now) e) }
     {
-        let search = self.config.search();
+        let search = states::search_settings(&self.config);
         let built = build_all(
             alloc,
             hirs,
             self.thompson,
             search.get_match_kind(),
-            search.asked(),
+            search.get_prefilter(),
             false,
         )?;
         let config = search.try_clone(alloc)?;
@@ -149,7 +149,7 @@ impl Builder {
             &engine.program.places,
             engine.kind,
             self.config.get_byte_classes(),
-            self.config.get_limit().unwrap_or(None),
+            states::limit_of(&self.config).unwrap_or(None),
         )?;
         let dfa = DFA {
             hirs,

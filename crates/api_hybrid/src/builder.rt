@@ -55,7 +55,7 @@ impl Builder {
         ensures program_kept { builder_program result.now ≡ builder_program self.entry.now }
         ensures syntax_kept { builder_syntax result.now ≡ builder_syntax self.entry.now }
     {
-        self.config.overwrite(config);
+        states::overwrite(&mut self.config, config);
         self
     }
 
@@ -67,7 +67,7 @@ impl Builder {
         ensures settings_kept { builder_settings result.now ≡ builder_settings self.entry.now }
         ensures syntax_kept { builder_syntax result.now ≡ builder_syntax self.entry.now }
     {
-        self.thompson.overwrite(&config);
+        thompson::overwrite(&mut self.thompson, &config);
         self
     }
 
@@ -128,13 +128,13 @@ impl Builder {
         ensures within { IfOk result (IsWithinCapacity (builder_settings self.now)) }
         ensures refused { IfErr result (λ e. IsHybridRefusal (builder_program self.now) (builder_settings self.now) (map meaning hirs.now) e) }
     {
-        let search = self.config.search();
+        let search = states::search_settings(&self.config);
         let built = build_all(
             alloc,
             hirs,
             self.thompson,
             search.get_match_kind(),
-            search.asked(),
+            search.get_prefilter(),
             false,
         )?;
         let config = search.try_clone(alloc)?;
@@ -150,7 +150,7 @@ impl Builder {
             &engine.program.places,
             engine.kind,
             self.config.get_byte_classes(),
-            self.config.get_limit().unwrap_or(2_097_152),
+            states::limit_of(&self.config).unwrap_or(2_097_152),
         )?;
         Ok(Regex {
             hirs,

@@ -30,7 +30,8 @@ use rc_literals::needs;
 use rc_pattern::hir::Hir;
 use rc_pikevm_search::engine::Engine;
 use rc_settings::error::BuildError;
-use rc_settings::meta::Config;
+use rc_settings::meta;
+use rc_settings::meta::{Config, program_config};
 use rc_strategy::engines::{Engines, Limits};
 use rc_strategy::lengths::Lengths;
 use std::alloc::{AllocError, Global};
@@ -60,7 +61,7 @@ impl Builder {
         ensures value { builder_settings result.now ≡ overwritten (builder_settings self.entry.now) (settings_of config) }
         ensures syntax_kept { builder_syntax result.now ≡ builder_syntax self.entry.now }
     {
-        self.config.overwrite(config);
+        meta::overwrite(&mut self.config, config);
         self
     }
 
@@ -138,7 +139,7 @@ pub(crate) fn build(alloc: Global, config: &Config, hirs: &[Hir]) -> Result<Rege
     let built = build_all(
         alloc,
         hirs,
-        config.program_settings(),
+        program_config(config),
         config.get_match_kind(),
         config.get_prefilter(),
         config.get_auto_prefilter(),

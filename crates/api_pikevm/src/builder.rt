@@ -16,7 +16,7 @@ use rc_build::texts::parse_all;
 use rc_pattern::hir::Hir;
 use rc_settings::error::BuildError;
 use rc_settings::pikevm::Config;
-use rc_settings::thompson;
+use rc_settings::{pikevm, thompson};
 use std::alloc::Global;
 
 /// A builder of Pike VMs. It has the settings of searches, of the program, and of the pattern
@@ -49,7 +49,7 @@ impl Builder {
         ensures program_kept { builder_program result.now ≡ builder_program self.entry.now }
         ensures syntax_kept { builder_syntax result.now ≡ builder_syntax self.entry.now }
     {
-        self.config.overwrite(config);
+        pikevm::overwrite(&mut self.config, config);
         self
     }
 
@@ -61,7 +61,7 @@ impl Builder {
         ensures settings_kept { builder_settings result.now ≡ builder_settings self.entry.now }
         ensures syntax_kept { builder_syntax result.now ≡ builder_syntax self.entry.now }
     {
-        self.thompson.overwrite(&config);
+        thompson::overwrite(&mut self.thompson, &config);
         self
     }
 
@@ -123,7 +123,7 @@ impl Builder {
             hirs,
             self.thompson,
             self.config.get_match_kind(),
-            self.config.asked(),
+            self.config.get_prefilter(),
             false,
         )?;
         let config = self.config.try_clone(alloc)?;

@@ -18,7 +18,7 @@ use rc_pattern::check::groups;
 use rc_pattern::hir::Hir;
 use rc_program::place::Place;
 use rc_settings::error::BuildError;
-use rc_settings::which::WhichCaptures;
+use rc_settings::which::{WhichCaptures, is_grouped};
 use std::alloc::{AllocError, Global};
 
 /// Patterns that were compiled.
@@ -49,7 +49,7 @@ pub fn compile_all(
     ensures refused { IfErr result (λ e. IsRefusal limit (map meaning hirs.now) e) }
 {
     check(alloc, hirs, limit)?;
-    let grouped = which.is_grouped();
+    let grouped = is_grouped(which);
     let places = compile(alloc, hirs, grouped)?;
     let info = group_info(alloc, names_shown(alloc, hirs, grouped)?)?;
     Ok(Compiled { places, info })

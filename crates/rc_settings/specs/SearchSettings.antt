@@ -31,3 +31,7 @@ set_over old new = record {
 
 abbrev pub match_kind_of : SearchSettings → MatchKind
 match_kind_of s = unwrap_or s.match_kind LeftmostFirst
+
+-- the needles that a search may look for first
+abbrev pub prefilter_of : SearchSettings → Option (List (List ℕ))
+prefilter_of s = unwrap_or s.prefilter None

@@ -277,41 +277,6 @@ impl Config {
         self.line_terminator.unwrap_or(b'\n')
     }
 
-    /// The settings of the program of the regex. All four are set: to the values set here, or to
-    /// the defaults.
-    pub fn program_settings(&self) -> thompson::Config
-        ensures { program_settings_of result ≡ program_settings (settings_of self.now) }
-    {
-        thompson::Config::new()
-            .utf8(self.get_utf8_empty())
-            .nfa_size_limit(self.get_nfa_size_limit())
-            .which_captures(self.get_which_captures())
-            .line_terminator(self.get_line_terminator())
-    }
-
-    /// Takes each setting that `new` sets, and keeps the others.
-    pub fn overwrite(&mut self, new: Config)
-        ensures { settings_of self.new ≡ overwritten (settings_of self.old) (settings_of new) }
-    {
-        self.match_kind = new.match_kind.or(self.match_kind);
-        self.utf8_empty = new.utf8_empty.or(self.utf8_empty);
-        self.auto_prefilter = new.auto_prefilter.or(self.auto_prefilter);
-        self.which_captures = new.which_captures.or(self.which_captures);
-        self.nfa_size_limit = new.nfa_size_limit.or(self.nfa_size_limit);
-        self.onepass_size_limit = new.onepass_size_limit.or(self.onepass_size_limit);
-        self.hybrid_cache_capacity = new.hybrid_cache_capacity.or(self.hybrid_cache_capacity);
-        self.hybrid = new.hybrid.or(self.hybrid);
-        self.dfa = new.dfa.or(self.dfa);
-        self.dfa_size_limit = new.dfa_size_limit.or(self.dfa_size_limit);
-        self.dfa_state_limit = new.dfa_state_limit.or(self.dfa_state_limit);
-        self.byte_classes = new.byte_classes.or(self.byte_classes);
-        self.backtrack = new.backtrack.or(self.backtrack);
-        self.line_terminator = new.line_terminator.or(self.line_terminator);
-        if let Some(prefilter) = new.prefilter {
-            self.prefilter = Some(prefilter);
-        }
-    }
-
     /// Returns a copy of the settings. An `Err` means out of memory for the prefilter.
     pub fn try_clone(&self, alloc: Global) -> Result<Config, AllocError>
         ensures { IfOk result (λ c. settings_of c ≡ settings_of self.now) }
@@ -338,5 +303,40 @@ impl Config {
             backtrack: self.backtrack,
             line_terminator: self.line_terminator,
         })
+    }
+}
+
+/// The settings of the program of the regex. All four are set: to the values set here, or to the
+/// defaults.
+pub fn program_config(config: &Config) -> thompson::Config
+    ensures { program_settings_of result ≡ program_settings (settings_of config.now) }
+{
+    thompson::Config::new()
+        .utf8(config.get_utf8_empty())
+        .nfa_size_limit(config.get_nfa_size_limit())
+        .which_captures(config.get_which_captures())
+        .line_terminator(config.get_line_terminator())
+}
+
+/// Takes each setting that `new` sets, and keeps the others.
+pub fn overwrite(config: &mut Config, new: Config)
+    ensures { settings_of config.new ≡ overwritten (settings_of config.old) (settings_of new) }
+{
+    config.match_kind = new.match_kind.or(config.match_kind);
+    config.utf8_empty = new.utf8_empty.or(config.utf8_empty);
+    config.auto_prefilter = new.auto_prefilter.or(config.auto_prefilter);
+    config.which_captures = new.which_captures.or(config.which_captures);
+    config.nfa_size_limit = new.nfa_size_limit.or(config.nfa_size_limit);
+    config.onepass_size_limit = new.onepass_size_limit.or(config.onepass_size_limit);
+    config.hybrid_cache_capacity = new.hybrid_cache_capacity.or(config.hybrid_cache_capacity);
+    config.hybrid = new.hybrid.or(config.hybrid);
+    config.dfa = new.dfa.or(config.dfa);
+    config.dfa_size_limit = new.dfa_size_limit.or(config.dfa_size_limit);
+    config.dfa_state_limit = new.dfa_state_limit.or(config.dfa_state_limit);
+    config.byte_classes = new.byte_classes.or(config.byte_classes);
+    config.backtrack = new.backtrack.or(config.backtrack);
+    config.line_terminator = new.line_terminator.or(config.line_terminator);
+    if let Some(prefilter) = new.prefilter {
+        config.prefilter = Some(prefilter);
     }
 }

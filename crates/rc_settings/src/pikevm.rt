@@ -1,7 +1,7 @@
 //! Pike VM settings.
 ghost use Rattle.std.specs.Prelude.{◌≡◌, IfOk, Some, option_map};
 ghost use Rattle.rc_needles.specs.Prefilters.{needles_of};
-ghost use Rattle.rc_settings.specs.SearchSettings.{search_settings_of, none_set, set_over, match_kind_of};
+ghost use Rattle.rc_settings.specs.SearchSettings.{search_settings_of, none_set, set_over, match_kind_of, prefilter_of};
 
 use rc_needles::prefilter::{Prefilter, copy_of};
 use rc_text::types::MatchKind;
@@ -52,22 +52,13 @@ impl Config {
         self.match_kind.unwrap_or(MatchKind::LeftmostFirst)
     }
 
-    /// Takes each setting that `new` sets, and keeps the others.
-    pub fn overwrite(&mut self, new: Config)
-        ensures { search_settings_of self.new ≡ set_over (search_settings_of self.old) (search_settings_of new) }
+    /// The needles that a search may look for first. The default is `None`.
+    pub fn get_prefilter(&self) -> Option<&Prefilter>
+        ensures { option_map (λ p. needles_of p.now) result ≡ prefilter_of (search_settings_of self.now) }
     {
-        self.match_kind = new.match_kind.or(self.match_kind);
-        if let Some(prefilter) = new.prefilter {
-            self.prefilter = Some(prefilter);
-        }
-    }
-
-    /// The prefilter that was set.
-    pub fn asked(&self) -> Option<&Prefilter> {
         match &self.prefilter {
             Some(Some(prefilter)) => Some(prefilter),
-            Some(None) => None,
-            None => None,
+            Some(None) | None => None,
         }
     }
 
@@ -84,5 +75,15 @@ impl Config {
             match_kind: self.match_kind,
             prefilter,
         })
+    }
+}
+
+/// Takes each setting that `new` sets, and keeps the others.
+pub fn overwrite(config: &mut Config, new: Config)
+    ensures { search_settings_of config.new ≡ set_over (search_settings_of config.old) (search_settings_of new) }
+{
+    config.match_kind = new.match_kind.or(config.match_kind);
+    if let Some(prefilter) = new.prefilter {
+        config.prefilter = Some(prefilter);
     }
 }

@@ -55,39 +55,11 @@ impl<L: Drop> Config<L> {
         self
     }
 
-    /// Takes each setting that `new` sets, and keeps the others.
-    pub fn overwrite(&mut self, new: Config<L>)
-        ensures { state_settings_of self.new ≡ state_settings_over (state_settings_of self.old) (state_settings_of new) }
-    {
-        self.search.overwrite(new.search);
-        self.byte_classes = new.byte_classes.or(self.byte_classes);
-        if let Some(limit) = new.limit {
-            self.limit = Some(limit);
-        }
-    }
-
-    /// The settings that DFAs share with the Pike VM.
-    pub fn search(&self) -> &pikevm::Config
-        ensures { search_settings_of result.now ≡ (state_settings_of self.now).search }
-    {
-        &self.search
-    }
-
     /// Whether bytes that no pattern distinguishes share a column of a table.
     pub fn get_byte_classes(&self) -> bool
         ensures { result ≡ byte_classes_of (state_settings_of self.now) }
     {
         self.byte_classes.unwrap_or(true)
-    }
-
-    /// The limit that was set.
-    pub fn get_limit(&self) -> Option<L>
-    where
-        L: Copy,
-        ensures { result ≡ (state_settings_of self.now).limit }
-    {
-        let Config { limit, .. } = self;
-        *limit
     }
 }
 
@@ -111,4 +83,30 @@ impl Config<usize> {
         self.limit = Some(bytes);
         self
     }
+}
+
+/// Takes each setting that `new` sets, and keeps the others.
+pub fn overwrite<L: Drop>(config: &mut Config<L>, new: Config<L>)
+    ensures { state_settings_of config.new ≡ state_settings_over (state_settings_of config.old) (state_settings_of new) }
+{
+    pikevm::overwrite(&mut config.search, new.search);
+    config.byte_classes = new.byte_classes.or(config.byte_classes);
+    if let Some(limit) = new.limit {
+        config.limit = Some(limit);
+    }
+}
+
+/// The settings that DFAs share with the Pike VM.
+pub fn search_settings<L>(config: &Config<L>) -> &pikevm::Config
+    ensures { search_settings_of result.now ≡ (state_settings_of config.now).search }
+{
+    &config.search
+}
+
+/// The limit that was set.
+pub fn limit_of<L: Copy>(config: &Config<L>) -> Option<L>
+    ensures { result ≡ (state_settings_of config.now).limit }
+{
+    let Config { limit, .. } = config;
+    *limit
 }

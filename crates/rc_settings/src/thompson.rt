@@ -85,14 +85,14 @@ impl Config {
     {
         self.line_terminator.unwrap_or(b'\n')
     }
+}
 
-    /// Takes each setting that `new` sets, and keeps the others.
-    pub fn overwrite(&mut self, new: &Config)
-        ensures { settings_of self.new ≡ overwritten (settings_of self.old) (settings_of new.now) }
-    {
-        self.utf8 = new.utf8.or(self.utf8);
-        self.nfa_size_limit = new.nfa_size_limit.or(self.nfa_size_limit);
-        self.which_captures = new.which_captures.or(self.which_captures);
-        self.line_terminator = new.line_terminator.or(self.line_terminator);
-    }
+/// Takes each setting that `new` sets, and keeps the others.
+pub fn overwrite(config: &mut Config, new: &Config)
+    ensures { settings_of config.new ≡ overwritten (settings_of config.old) (settings_of new.now) }
+{
+    config.utf8 = new.utf8.or(config.utf8);
+    config.nfa_size_limit = new.nfa_size_limit.or(config.nfa_size_limit);
+    config.which_captures = new.which_captures.or(config.which_captures);
+    config.line_terminator = new.line_terminator.or(config.line_terminator);
 }

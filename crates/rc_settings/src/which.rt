@@ -1,6 +1,6 @@
 //! Which groups a regex keeps.
 ghost use Rattle.std.specs.Prelude.{◌≡◌};
-ghost use Rattle.rc_settings.specs.Which.{is_grouped};
+ghost use Rattle.rc_settings.specs.Which.{is_grouped as groups_are_kept};
 
 /// Which groups a regex keeps: all of them, or only the whole matches.
 #[derive(Clone, Copy, Debug, PartialEq, Eq)]
@@ -13,14 +13,12 @@ pub enum WhichCaptures {
     None,
 }
 
-impl WhichCaptures {
-    /// Whether the explicit groups are kept.
-    pub fn is_grouped(self) -> bool
-        ensures { result ≡ is_grouped self }
-    {
-        match self {
-            WhichCaptures::All => true,
-            WhichCaptures::Implicit | WhichCaptures::None => false,
-        }
+/// Whether the explicit groups are kept.
+pub fn is_grouped(which: WhichCaptures) -> bool
+    ensures { result ≡ groups_are_kept which }
+{
+    match which {
+        WhichCaptures::All => true,
+        WhichCaptures::Implicit | WhichCaptures::None => false,
     }
 }

@@ -19,12 +19,12 @@ use Rattle.api_meta.proofs.builder.build.Goals as goal
 pub engines_of-requires : goal.engines_of-requires
 engines_of-requires c =
     let b = c.in_ok-built.ensures in
-    let st = settings_of c.program_settings.result in
+    let st = settings_of c.program_config.result in
     let s = program_settings (all_of c.args.config.now) in
     let g = is_grouped (which_captures_of s) in
     let hs = map meaning c.deref.result.now in
     let same : hs ≡ map meaning c.in_ok-built.built.hirs.items = ap (λ xs. map meaning xs) c.deref.ensures.value in
-    let set : st ≡ s = c.program_settings.ensures in
+    let set : st ≡ s = c.program_config.ensures in
     let places : places_of c.in_ok-built.built.engine.program.places.items ≡ program (shown g hs) =
     b.fits.placed ∙ ap (λ (x : Settings). program (shown (is_grouped (which_captures_of x)) (map meaning c.in_ok-built.built.hirs.items))) set
     ∙ sym (ap (λ xs. program (shown g xs)) same) in
