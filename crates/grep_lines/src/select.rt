@@ -26,7 +26,9 @@ pub trait LineSelector {
     /// it is selected. Those lines need no look of their own. It is 0 if nothing is known.
     fn next_candidate(&mut self, page: &[u8]) -> usize
         ensures within { result ≤ length page.now }
-        ensures unselected { (start end : ℕ) → start ≤ end → end < result → AreLinesOf page.now start end → selects self.old (slice_range page.now start end) ≡ false }
+        ensures unselected { (start end : ℕ) → start ≤ end → end < result
+            → AreLinesOf page.now start end
+            → selects self.old (slice_range page.now start end) ≡ false }
         ensures same { selects self.new ≡ selects self.old }
     {
         0
@@ -40,7 +42,8 @@ fn take_line<R: BufRead>(reader: &mut R, line: &mut Vec<u8>) -> io::Result<bool>
     ensures err { OnErr result (Keeps (R.remaining reader.old) (R.remaining reader.new)) }
     ensures err_empty { OnErr result (line.new.items ≡ []) }
     ensures retried { IfErr result (λ e. error_kind e ≢ ErrorKind.Interrupted) }
-    ensures taken { IfOk result (λ taken. MayTake taken (R.remaining reader.old) (R.remaining reader.new) line.new.items) }
+    ensures taken { IfOk result (λ taken. MayTake taken (R.remaining reader.old)
+        (R.remaining reader.new) line.new.items) }
 {
     line.clear();
     let page = match reader.fill_buf() {
@@ -64,10 +67,12 @@ fn take_line<R: BufRead>(reader: &mut R, line: &mut Vec<u8>) -> io::Result<bool>
 /// `line` then: no byte is lost.
 pub fn next_line<R: BufRead>(reader: &mut R, line: &mut Vec<u8>) -> io::Result<bool>
     ensures empty { IfOk result (λ more. more ≡ false → line.new.items ≡ []) }
-    ensures none_lost { OnErr result (Consumes (R.remaining reader.old) (R.remaining reader.new) line.new.items) }
+    ensures none_lost { OnErr result (Consumes (R.remaining reader.old)
+        (R.remaining reader.new) line.new.items) }
     ensures one_line { OnErr result (StopsAt line.new.items 10) }
     ensures retried { IfErr result (λ e. error_kind e ≢ ErrorKind.Interrupted) }
-    ensures taken { IfOk result (λ more. IfSome (R.remaining reader.old) (λ text. TakesLine text more line.new.items (R.remaining reader.new))) }
+    ensures taken { IfOk result (λ more. IfSome (R.remaining reader.old)
+        (λ text. TakesLine text more line.new.items (R.remaining reader.new))) }
 {
     if take_line(reader, line)? {
         return Ok(true);

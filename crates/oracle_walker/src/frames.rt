@@ -71,8 +71,10 @@ fn enter(
     requires inside { place < length marks.now }
     requires marked { IsMarked (length marks.old) marks.old (reverse stack.old.items) }
     ensures pushed { IfOk result (λ _. stack.new.items
-        ≡ stack.old.items ++ fresh_frame place position (slice_index_or marks.old place None) ∷ []) }
-    ensures marked { IfOk result (λ _. IsMarked (length marks.old) marks.new (reverse stack.new.items)) }
+        ≡ stack.old.items ++ fresh_frame place position (slice_index_or marks.old place None)
+        ∷ []) }
+    ensures marked { IfOk result (λ _. IsMarked (length marks.old) marks.new
+        (reverse stack.new.items)) }
 {
     stack.push(Frame {
         place,
@@ -110,14 +112,20 @@ pub fn first_walk<C: Cursor>(
     requires low { input.old.slice.start ≤ start }
     requires start_in { start ≤ hi }
     requires hi_in { hi ≤ high input.old }
-    requires marked { IsMarked (length program.now.places.items) marks.old (reverse stack.old.items) }
+    requires marked { IsMarked (length program.now.places.items) marks.old
+        (reverse stack.old.items) }
     ensures keeps { Keeps input.old input.new }
-    ensures marked { IfOk result (λ _. IsMarked (length program.now.places.items) marks.new (reverse stack.new.items)) }
+    ensures marked { IfOk result (λ _. IsMarked (length program.now.places.items) marks.new
+        (reverse stack.new.items)) }
     ensures first { IfOk result (λ found. IsTrue found →
-        IsFirstWalk (ways (places_of program.now.places.items) (text_of program.now.terminator input.old) hi) (Ends only (places_of program.now.places.items)) []
+        IsFirstWalk (ways (places_of program.now.places.items)
+        (text_of program.now.terminator input.old) hi)
+        (Ends only (places_of program.now.places.items)) []
         ((0, start) ∷ []) (walk_of stack.new)) }
     ensures none { IfOk result (λ found. IsTrue (not found) →
-        HasNoWalk (ways (places_of program.now.places.items) (text_of program.now.terminator input.old) hi) (Ends only (places_of program.now.places.items)) [] ((0, start) ∷ [])) }
+        HasNoWalk (ways (places_of program.now.places.items)
+        (text_of program.now.terminator input.old) hi)
+        (Ends only (places_of program.now.places.items)) [] ((0, start) ∷ [])) }
 {
     unwind(stack, marks);
     enter(stack, marks, 0, start)?;

@@ -69,7 +69,8 @@ fn end_of(walk: &Vec<Frame>) -> (usize, usize)
 /// Whether the walk is allowed: if matches may be passed over, this one isn't.
 fn allows<C: Cursor>(input: &mut Input<C>, passes_over: bool, walk: &Vec<Frame>) -> bool
     ensures keeps { Keeps input.old input.new }
-    ensures value { result ≡ (not passes_over || is_boundary input.old.content (last_of (walk_of walk.now)).1) }
+    ensures value { result ≡ (not passes_over
+        || is_boundary input.old.content (last_of (walk_of walk.now)).1) }
 {
     if !passes_over {
         return true;
@@ -85,7 +86,8 @@ fn find_walk<C: Cursor>(
     program: &Program,
 ) -> Result<Option<Walk>, AllocError>
     ensures keeps { Keeps input.old input.new }
-    ensures found { IfOk result (λ w. option_map chosen_of w ≡ chosen (search_of program.now input.old)) }
+    ensures found { IfOk result (λ w. option_map chosen_of w
+        ≡ chosen (search_of program.now input.old)) }
 {
     let only = only_of(input.get_anchored());
     let is_anchored = is_anchored(input.get_anchored());
@@ -136,7 +138,8 @@ pub fn find<C: Cursor>(
 ) -> Result<Option<Match>, AllocError>
     ensures keeps { Keeps input.old input.new }
     ensures found { IfOk result (λ m. m ≡ answer (search_of program.now input.old)) }
-    ensures within { IfOk result (λ m. IfSome m (λ f. (low input.old ≤ f.start) × (f.start ≤ f.end) × (f.end ≤ high input.old))) }
+    ensures within { IfOk result (λ m. IfSome m
+        (λ f. (low input.old ≤ f.start) × (f.start ≤ f.end) × (f.end ≤ high input.old))) }
 {
     match find_walk(alloc, input, program)? {
         None => Ok(None),
@@ -190,7 +193,8 @@ fn clear(slots: &mut [Option<usize>])
 /// Writes to each slot the position of the walk's last visit to a place that names it, and clears
 /// the others.
 fn note_visits(program: &Program, frames: &Vec<Frame>, slots: &mut [Option<usize>])
-    ensures { slots.new ≡ map (λ k. last_visit (places_of program.now.places.items) k (walk_of frames.now)) (range_with_len 0 (length slots.old)) }
+    ensures { slots.new ≡ map (λ k. last_visit (places_of program.now.places.items) k
+        (walk_of frames.now)) (range_with_len 0 (length slots.old)) }
 {
     clear(slots);
     'visits: for frame in frames {

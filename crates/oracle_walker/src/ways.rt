@@ -66,7 +66,8 @@ fn first_way<C: Cursor>(
     requires hi_in { hi ≤ high input.old }
     ensures keeps { Keeps input.old input.new }
     ensures value { result ≡ slice_get (map (pair_at position)
-        (ways_out (λ l. holds (text_of terminator input.old) l position) (ahead (text_of terminator input.old) hi position) (place_of place.now))) 0 }
+        (ways_out (λ l. holds (text_of terminator input.old) l position)
+        (ahead (text_of terminator input.old) hi position) (place_of place.now))) 0 }
 {
     match place {
         Place::Choice(first, _) => Some((*first, position)),
@@ -120,7 +121,8 @@ pub fn way<C: Cursor>(
     requires position_in { position ≤ hi }
     requires hi_in { hi ≤ high input.old }
     ensures keeps { Keeps input.old input.new }
-    ensures value { result ≡ slice_get (ways (places_of program.now.places.items) (text_of program.now.terminator input.old) hi (place, position)) number }
+    ensures value { result ≡ slice_get (ways (places_of program.now.places.items)
+        (text_of program.now.terminator input.old) hi (place, position)) number }
 {
     if number == 0 {
         return first_way(

@@ -67,7 +67,8 @@ impl<P: Pages> PagedCursor<P> {
         ensures page_len { IfOk result (λ c. c.page_len ≡ max page_len 1) }
         ensures pages { IfOk result (λ c. c.pages ≡ max pages 2) }
         ensures start { IfOk result (λ c. c.offset ≡ 0) }
-        ensures failure { IfOk result (λ c. length c.stored.bytes ≡ 0 → c.failure ≡ fault_of c.stored) }
+        ensures failure { IfOk result (λ c. length c.stored.bytes ≡ 0
+            → c.failure ≡ fault_of c.stored) }
     {
         let page_len = page_len.max(1);
         let mut shown = Page::new(alloc, page_len)?;
@@ -153,7 +154,8 @@ impl<P: Pages> Cursor for PagedCursor<P> {
 
     fn advance(&mut self) -> bool
         ensures content { self.new.stored.bytes ≡ self.old.stored.bytes }
-        ensures moved { GoesOn result self.old.stored.bytes self.old.offset self.old.chunk self.new.offset self.new.chunk }
+        ensures moved { GoesOn result self.old.stored.bytes self.old.offset self.old.chunk
+            self.new.offset self.new.chunk }
         ensures was { Shows self.old.stored.bytes self.old.offset self.old.chunk }
         ensures shows { Shows self.old.stored.bytes self.new.offset self.new.chunk }
         ensures same { Same self.old self.new }
@@ -165,7 +167,8 @@ impl<P: Pages> Cursor for PagedCursor<P> {
 
     fn backtrack(&mut self) -> bool
         ensures content { self.new.stored.bytes ≡ self.old.stored.bytes }
-        ensures moved { GoesBack result self.old.offset self.old.chunk self.new.offset self.new.chunk }
+        ensures moved { GoesBack result self.old.offset self.old.chunk self.new.offset
+            self.new.chunk }
         ensures was { Shows self.old.stored.bytes self.old.offset self.old.chunk }
         ensures shows { Shows self.old.stored.bytes self.new.offset self.new.chunk }
         ensures same { Same self.old self.new }

@@ -46,7 +46,8 @@ impl Page {
         ensures capacity { vec_capacity self.new.bytes ≡ vec_capacity self.old.bytes }
         ensures number { self.new.number ≡ self.old.number }
         ensures within { self.new.len ≤ length self.old.bytes.items }
-        ensures bytes { take self.new.len self.new.bytes.items ≡ take (length self.old.bytes.items) (drop at (P.stored file.old).bytes) }
+        ensures bytes { take self.new.len self.new.bytes.items
+            ≡ take (length self.old.bytes.items) (drop at (P.stored file.old).bytes) }
         ensures gives { MatchResult result
             (λ _. self.new.len ≡ 0 → (P.stored file.old).is_whole ≡ true)
             (Fails (P.stored file.old) at) }
@@ -82,7 +83,8 @@ impl Spares {
 
     /// The index in memory of the page at a position.
     fn find(&self, at: usize) -> Option<usize>
-        ensures page { IfSome result (λ slot. IfSome (slice_get self.now.pages.items slot) (λ p. (p.offset ≡ at) × (0 < p.len))) }
+        ensures page { IfSome result (λ slot. IfSome (slice_get self.now.pages.items slot)
+            (λ p. (p.offset ≡ at) × (0 < p.len))) }
         ensures none { IfNone result (NoneAt at self.now.pages.items) }
         ensures within { IfSome result (λ slot. slot < vec_len self.now.pages) }
     {
@@ -125,7 +127,8 @@ impl Spares {
         ensures gives { MatchResult result
             (λ o. Fetched (P.stored file.old) at o self.new.pages.items)
             (Fails (P.stored file.old) at) }
-        ensures goes { IfOk result (λ o. IfSome o (λ slot. (self.new ≡ self.old) ⊎ IsRead at self.old self.new slot)) }
+        ensures goes { IfOk result (λ o. IfSome o
+            (λ slot. (self.new ≡ self.old) ⊎ IsRead at self.old self.new slot)) }
         ensures room { room_of self.new.pages.items ≡ room_of self.old.pages.items }
         ensures entries { vec_capacity self.new.pages ≡ vec_capacity self.old.pages }
     {

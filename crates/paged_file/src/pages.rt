@@ -32,7 +32,8 @@ pub trait Pages {
         requires room { 0 < length page.old }
         ensures stored { stored self.new ≡ stored self.old }
         ensures small { length (stored self.old).bytes + 1 < 2 ^ 64 }
-        ensures gives { MatchResult result (Gives (stored self.old) at page.new) (Fails (stored self.old) at) };
+        ensures gives { MatchResult result (Gives (stored self.old) at page.new)
+            (Fails (stored self.old) at) };
 }
 
 /// Bytes in memory, read as a file is.
@@ -46,7 +47,8 @@ pub struct MemoryPages<'a> {
 impl<'a> MemoryPages<'a> {
     /// A file of these bytes.
     pub fn new(bytes: &'a [u8]) -> MemoryPages<'a>
-        ensures { ⟦<MemoryPages<'static> as Pages>⟧.stored result ≡ record { bytes = bytes.now; is_whole = true } }
+        ensures { ⟦<MemoryPages<'static> as Pages>⟧.stored result
+            ≡ record { bytes = bytes.now; is_whole = true } }
     {
         MemoryPages {
             bytes,

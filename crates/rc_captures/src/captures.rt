@@ -31,7 +31,8 @@ impl Captures {
     pub fn all(alloc: Global, info: &GroupInfo) -> Result<Captures, AllocError>
         ensures made { IfOk result (IsCapturesFor (names_of info.now)) }
         ensures pattern { IfOk result (λ c. captures_pattern c ≡ None) }
-        ensures slots { IfOk result (λ c. captures_slots c ≡ replicate (slot_len (names_of info.now)) None) }
+        ensures slots { IfOk result (λ c. captures_slots c
+            ≡ replicate (slot_len (names_of info.now)) None) }
     {
         empty(alloc, info, info.slot_len())
     }
@@ -97,7 +98,8 @@ impl Captures {
 
     /// The number of groups of the pattern that matched, group 0 among them; 0 without a match.
     pub fn group_len(&self) -> usize
-        ensures { result ≡ option_map_or (group_len (captures_names self.now)) (captures_pattern self.now) 0 }
+        ensures { result ≡ option_map_or (group_len (captures_names self.now))
+            (captures_pattern self.now) 0 }
     {
         match self.pattern {
             Some(pattern) => self.info.group_len(pattern),

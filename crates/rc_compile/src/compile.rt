@@ -40,11 +40,15 @@ fn emit_pattern(
 ) -> Result<(), AllocError>
     requires fits { vec_len places.old + (laid groups (meaning hir.now)).size + 2 < 2 ^ 62 }
     requires slots_fit { slots < 2 ^ 62 }
-    ensures long { IfOk result (λ _. vec_len places.new ≡ vec_len places.old + 1 + (pattern_part pattern slots (shown_one groups (meaning hir.now))).size) }
+    ensures long { IfOk result (λ _. vec_len places.new ≡ vec_len places.old + 1
+        + (pattern_part pattern slots (shown_one groups (meaning hir.now))).size) }
     ensures more { IfOk result (λ _. places_of places.new.items
         ≡ places_of places.old.items
-        ++ choice ((vec_len places.old + 1) ∷ (vec_len places.old + 1 + (pattern_part pattern slots (shown_one groups (meaning hir.now))).size) ∷ [])
-        ∷ (pattern_part pattern slots (shown_one groups (meaning hir.now))).places 0 (vec_len places.old + 1) 0) }
+        ++ choice ((vec_len places.old + 1)
+        ∷ (vec_len places.old + 1 + (pattern_part pattern slots
+        (shown_one groups (meaning hir.now))).size) ∷ [])
+        ∷ (pattern_part pattern slots (shown_one groups (meaning hir.now))).places 0
+        (vec_len places.old + 1) 0) }
 {
     let body = places.len() + 1;
     let accept = body + size(hir, groups);
@@ -58,7 +62,8 @@ fn emit_pattern(
 pub fn compile(alloc: Global, hirs: &[Hir], groups: bool) -> Result<Vec<Place>, AllocError>
     requires well_formed { All IsWellFormed (map meaning hirs.now) }
     requires light { list_weight (map meaning hirs.now) ≤ greatest_weight }
-    ensures { IfOk result (λ places. places_of places.items ≡ program (shown groups (map meaning hirs.now))) }
+    ensures { IfOk result (λ places. places_of places.items
+        ≡ program (shown groups (map meaning hirs.now))) }
 {
     let mut places = Vec::new(alloc);
     let mut slots = 2 * hirs.len();

@@ -40,7 +40,8 @@ fn cell_at(
     requires some { 0 < left }
     requires left { left ≤ length piece.now }
     ensures row { result < SKIP → InRow table.now result }
-    ensures stands { result < SKIP → StandsDown table.now course (start + (left - 1)) (record { row = result; noted = stand.noted }) }
+    ensures stands { result < SKIP → StandsDown table.now course (start + (left - 1))
+        (record { row = result; noted = stand.noted }) }
 {
     cells[stand.row + classes[piece[left - 1] as usize] as usize]
 }
@@ -59,7 +60,8 @@ fn stride(table: &Table, piece: &[u8], from: usize, start: usize, stand: Stand) 
     requires from { from ≤ length piece.now }
     ensures left { result.0 ≤ from }
     ensures row { InRow table.now result.1 }
-    ensures stands { StandsDown table.now course (start + result.0) (record { row = result.1; noted = stand.noted }) }
+    ensures stands { StandsDown table.now course (start + result.0)
+        (record { row = result.1; noted = stand.noted }) }
 {
     let noted = stand.noted;
     let cells = table.cells.as_slice();
@@ -301,7 +303,8 @@ fn search<C: Cursor>(
     earliest: bool,
 ) -> Outcome
     ghost course: { Request }
-    requires course { course ≡ record { seen = input.old; from = from; bound = end; anchored = anchored; earliest = earliest; may_rest = false } }
+    requires course { course
+        ≡ record { seen = input.old; from = from; bound = end; anchored = anchored; earliest = earliest; may_rest = false } }
     requires low { input.old.slice.start ≤ end }
     requires ordered { end ≤ from }
     requires high { from ≤ slice_end input.old }
@@ -338,8 +341,10 @@ pub fn run_backwards<C: Cursor>(
     requires ordered { least ≤ end }
     requires high { end ≤ high input.old }
     ensures keeps { Keeps input.old input.new }
-    ensures ends { (m : Machine) (states : List State) (terminator : ℕ) → IsTable m states table.now → IsAsked m anchored
-        → SearchEndsDown m (text_of terminator input.old) least end anchored earliest (run_end result) }
+    ensures ends { (m : Machine) (states : List State) (terminator : ℕ) → IsTable m states table.now
+        → IsAsked m anchored
+        → SearchEndsDown m (text_of terminator input.old) least end anchored earliest
+        (run_end result) }
     ensures byte { MayEnd input.old.content false result }
 {
     search(table, input, anchored, end, least, earliest)

@@ -66,7 +66,8 @@ fn starts_of(
     requires modes { modes ≡ length m.entries + 2 }
     ensures maker { IfOk result (λ _. IsMaker m maker.new) }
     ensures grows { IfOk result (λ _. Grows maker.old.names maker.new.names) }
-    ensures starts { IfOk result (λ starts. AreStarts m (samples_of automaton.now) maker.new.names.states modes 0 starts.items) }
+    ensures starts { IfOk result (λ starts. AreStarts m
+        (samples_of automaton.now) maker.new.names.states modes 0 starts.items) }
     ensures refused { IfErr result (IsRefused m maker.old.names.width maker.old.names.limit) }
 {
     let mut starts = Vec::new(alloc);
@@ -106,7 +107,8 @@ fn end_of(
 
 /// Returns for each row the code of what was found on the way to it.
 fn tells_of(alloc: Global, states: &States) -> Result<Vec<usize>, TableError>
-    ensures tells { IfOk result (λ tells. (length tells.items ≡ length states.now) × AreTells states.now tells.items) }
+    ensures tells { IfOk result (λ tells. (length tells.items ≡ length states.now)
+        × AreTells states.now tells.items) }
     ensures refused { IfErr result (λ e. e ≡ Memory) }
 {
     let mut tells = Vec::new(alloc);
@@ -129,7 +131,8 @@ fn is_idle(state: &State) -> bool
 /// Returns for each row whether nothing is under way in its state but walks that begin there or
 /// later.
 fn idles_of(alloc: Global, states: &States) -> Result<Vec<bool>, TableError>
-    ensures idles { IfOk result (λ idles. (length idles.items ≡ length states.now) × AreIdles states.now idles.items) }
+    ensures idles { IfOk result (λ idles. (length idles.items ≡ length states.now)
+        × AreIdles states.now idles.items) }
     ensures refused { IfErr result (λ e. e ≡ Memory) }
 {
     let mut idles = Vec::new(alloc);
@@ -159,8 +162,10 @@ fn rows_of(
     requires width { maker.old.names.width ≡ length (samples_of automaton.now) }
     ensures maker { IfOk result (λ _. IsMaker m maker.new) }
     ensures grows { IfOk result (λ _. Grows maker.old.names maker.new.names) }
-    ensures rows { IfOk result (λ rows. AreRows m (samples_of automaton.now) maker.new.names.states (length maker.new.names.states) 0 rows.cells.items) }
-    ensures ends { IfOk result (λ rows. AreEnds m maker.new.names.states rows.ends.items × (length rows.ends.items ≡ length maker.new.names.states)) }
+    ensures rows { IfOk result (λ rows. AreRows m (samples_of automaton.now) maker.new.names.states
+        (length maker.new.names.states) 0 rows.cells.items) }
+    ensures ends { IfOk result (λ rows. AreEnds m maker.new.names.states rows.ends.items
+        × (length rows.ends.items ≡ length maker.new.names.states)) }
     ensures refused { IfErr result (IsRefused m maker.old.names.width maker.old.names.limit) }
 {
     let mut cells = Vec::new(alloc);
@@ -255,7 +260,9 @@ fn parts_of(
     requires same { machine_of automaton.now direction ≡ m }
     requires machine { IsMachine m }
     requires wide { 0 < length (samples_of automaton.now) }
-    ensures parts { IfOk result (λ p. AreParts m (samples_of automaton.now) limit p.maker.names p.starts.items p.rows.cells.items p.rows.ends.items p.tells.items p.idles.items) }
+    ensures parts { IfOk result (λ p. AreParts m
+        (samples_of automaton.now) limit p.maker.names p.starts.items p.rows.cells.items
+        p.rows.ends.items p.tells.items p.idles.items) }
     ensures refused { IfErr result (IsRefused m (length (samples_of automaton.now)) limit) }
 {
     let Some(modes) = automaton.pattern_len().checked_add(2) else {
@@ -319,8 +326,10 @@ pub(crate) fn table_of(
     limit: Option<usize>,
     rests: bool,
 ) -> Result<Table, TableError>
-    ensures made { IfOk result (IsMade (machine_of automaton.now direction) (length (samples_of automaton.now)) limit) }
-    ensures refused { IfErr result (IsRefused (machine_of automaton.now direction) (length (samples_of automaton.now)) limit) }
+    ensures made { IfOk result (IsMade (machine_of automaton.now direction)
+        (length (samples_of automaton.now)) limit) }
+    ensures refused { IfErr result (IsRefused (machine_of automaton.now direction)
+        (length (samples_of automaton.now)) limit) }
 {
     let shown = automaton.classes();
     let classes = Vec::from_slice(alloc, shown)?;

@@ -33,7 +33,8 @@ pub struct Dense {
 
 /// Returns the pattern of each place. `Err` means out of memory.
 fn patterns_of(alloc: Global, automaton: &Automaton) -> Result<Vec<usize>, AllocError>
-    ensures { IfOk result (λ patterns. ArePatterns (machine_of automaton.now Forwards) patterns.items) }
+    ensures { IfOk result (λ patterns. ArePatterns
+        (machine_of automaton.now Forwards) patterns.items) }
 {
     let mut patterns = Vec::new(alloc);
     for place in 0..automaton.places_len() {
@@ -99,9 +100,12 @@ impl Dense {
         rests: bool,
     ) -> Result<Dense, TableError>
         ensures made { IfOk result (AreTablesOf automaton.now limit) }
-        ensures halves { IfOk result (λ dense. AreHalves dense (machine_of automaton.now Forwards) (machine_of automaton.now Backwards)) }
-        ensures refused { IfErr result (λ e. IsRefused (machine_of automaton.now Forwards) (length (samples_of automaton.now)) limit e
-            ⊎ IsRefused (machine_of automaton.now Backwards) (length (samples_of automaton.now)) limit e) }
+        ensures halves { IfOk result (λ dense. AreHalves dense (machine_of automaton.now Forwards)
+            (machine_of automaton.now Backwards)) }
+        ensures refused { IfErr result (λ e. IsRefused (machine_of automaton.now Forwards)
+            (length (samples_of automaton.now)) limit e
+            ⊎ IsRefused (machine_of automaton.now Backwards)
+            (length (samples_of automaton.now)) limit e) }
     {
         let forward = table_of(alloc, automaton, Direction::Forwards, limit, rests)?;
         let reverse = table_of(alloc, automaton, Direction::Backwards, limit, false)?;
@@ -115,7 +119,8 @@ impl Dense {
 
     /// Returns how many bytes the tables take, or `usize::MAX` if that is more.
     pub fn memory_usage(&self) -> usize
-        ensures { result ≡ min (bytes_of self.now.forward + bytes_of self.now.reverse + 8 * length self.now.patterns.items) usize.MAX }
+        ensures { result ≡ min (bytes_of self.now.forward + bytes_of self.now.reverse + 8
+            * length self.now.patterns.items) usize.MAX }
     {
         let tables = table_usage(&self.forward) + table_usage(&self.reverse);
         let all = tables + 8 * self.patterns.len() as u128;

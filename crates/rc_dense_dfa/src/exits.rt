@@ -84,7 +84,9 @@ pub(crate) fn exits_of(
 ) -> Result<Vec<Exits>, AllocError>
     requires wide { (0 < width) × (width < met) }
     requires small { length cells.now < skip }
-    ensures { IfOk result (λ exits. (k : ℕ) → AreExitsOf dead classes.now cells.now (k * width) (slice_index_or exits.items k few.Many)) }
+    ensures { IfOk result (λ exits. (k : ℕ)
+        → AreExitsOf dead classes.now cells.now (k * width)
+        (slice_index_or exits.items k few.Many)) }
 {
     let mut exits = Vec::new(alloc);
     if let Direction::Backwards = direction {

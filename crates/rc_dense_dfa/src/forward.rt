@@ -52,7 +52,8 @@ fn cell_at(
     requires within { start + length piece.now ≤ course.bound }
     requires index { index < length piece.now }
     ensures row { result < SKIP → InRow table.now result }
-    ensures stands { result < SKIP → Stands table.now course (start + (index + 1)) (record { row = result; noted = stand.noted }) }
+    ensures stands { result < SKIP → Stands table.now course (start + (index + 1))
+        (record { row = result; noted = stand.noted }) }
 {
     cells[stand.row + classes[piece[index] as usize] as usize]
 }
@@ -70,7 +71,8 @@ fn stride(table: &Table, piece: &[u8], from: usize, start: usize, stand: Stand) 
     requires from { from ≤ length piece.now }
     ensures read { (from ≤ result.0) × (result.0 ≤ length piece.now) }
     ensures row { InRow table.now result.1 }
-    ensures stands { Stands table.now course (start + result.0) (record { row = result.1; noted = stand.noted }) }
+    ensures stands { Stands table.now course (start + result.0)
+        (record { row = result.1; noted = stand.noted }) }
 {
     let noted = stand.noted;
     let cells = table.cells.as_slice();
@@ -158,7 +160,8 @@ fn leap(
     requires from { from ≤ length piece.now }
     ensures read { IfSome result (λ read. (from ≤ read.0) × (read.0 ≤ length piece.now)) }
     ensures row { IfSome result (λ read. InRow table.now read.1) }
-    ensures stands { IfSome result (λ read. Stands table.now course (start + read.0) (record { row = read.1; noted = stand.noted })) }
+    ensures stands { IfSome result (λ read. Stands table.now course (start + read.0)
+        (record { row = read.1; noted = stand.noted })) }
 {
     let Some(leap) = leap_at(table, stand.row) else {
         if table.skips || start + from > looks {
@@ -355,7 +358,8 @@ fn begin(table: &Table, anchored: Anchored, beside: Option<u8>, from: usize) -> 
     requires from { from ≡ course.from }
     requires beside { beside ≡ behind_at (text_of 0 course.seen) from }
     requires small { IsByte beside }
-    requires there { IfSome beside (λ byte. (1 ≤ from) × (slice_get course.seen.content (from - 1) ≡ Some byte)) }
+    requires there { IfSome beside (λ byte. (1 ≤ from)
+        × (slice_get course.seen.content (from - 1) ≡ Some byte)) }
     ensures { IsLeg table.now course from result }
 {
     let cell = start(table, anchored, beside);
@@ -415,7 +419,8 @@ fn search<C: Cursor>(
     rest_from: usize,
 ) -> Outcome
     ghost course: { Request }
-    requires course { course ≡ record { seen = input.old; from = from; bound = end; anchored = anchored; earliest = earliest; may_rest = may_rest } }
+    requires course { course
+        ≡ record { seen = input.old; from = from; bound = end; anchored = anchored; earliest = earliest; may_rest = may_rest } }
     requires low { input.old.slice.start ≤ from }
     requires ordered { from ≤ end }
     requires bound { end ≤ slice_end input.old }
@@ -454,8 +459,10 @@ pub fn run_forwards<C: Cursor>(
     requires low { low input.old ≤ from }
     requires high { from ≤ high input.old }
     ensures keeps { Keeps input.old input.new }
-    ensures ends { (m : Machine) (states : List State) (terminator : ℕ) → IsTable m states table.now → IsAsked m anchored
-        → SearchEnds m (text_of terminator input.old) (high input.old) from anchored earliest (run_end result) }
+    ensures ends { (m : Machine) (states : List State) (terminator : ℕ) → IsTable m states table.now
+        → IsAsked m anchored
+        → SearchEnds m (text_of terminator input.old) (high input.old) from anchored earliest
+        (run_end result) }
     ensures byte { MayEnd input.old.content may_rest result }
 {
     let end = high(input);

@@ -37,7 +37,8 @@ fn row_behind(classes: &[u8], cells: &[usize], row: usize, byte: usize) -> Optio
     requires { row < met }
     ensures small { IfSome result (λ behind. behind < met) }
     ensures below { IfSome result (λ _. cell_by classes.now cells.now row byte < dead) }
-    ensures value { IfSome result (λ behind. behind ≡ row_of (cell_by classes.now cells.now row byte)) }
+    ensures value { IfSome result (λ behind. behind
+        ≡ row_of (cell_by classes.now cells.now row byte)) }
 {
     let Some(class) = classes.get(byte) else {
         return None;
@@ -138,7 +139,8 @@ fn among(classes: &[u8], cells: &[usize], row: usize, other: usize) -> Leap
 /// Builds the leap of a row, if few bytes of most texts leave it, or leave it and another.
 fn leap_of(classes: &[u8], cells: &[usize], row: usize) -> Option<Leap>
     requires { row < met }
-    ensures { IfSome result (λ leap. AreStays dead classes.now cells.now leap.row leap.other leap.stays) }
+    ensures { IfSome result (λ leap. AreStays dead classes.now cells.now leap.row
+        leap.other leap.stays) }
 {
     let alone = leaving(classes, cells, row, row);
     let other = likely(classes, cells, row);
@@ -165,7 +167,8 @@ fn is_in(leaps: &[Leap], row: usize) -> bool {
 /// Builds the leap of a row, unless its exits are few or a leap has the row already.
 fn wanted(classes: &[u8], cells: &[usize], exits: Exits, leaps: &[Leap], row: usize) -> Option<Leap>
     requires { row < met }
-    ensures { IfSome result (λ leap. AreStays dead classes.now cells.now leap.row leap.other leap.stays) }
+    ensures { IfSome result (λ leap. AreStays dead classes.now cells.now leap.row
+        leap.other leap.stays) }
 {
     if are_few(exits) || is_in(leaps, row) {
         return None;

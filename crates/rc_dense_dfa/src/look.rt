@@ -78,7 +78,8 @@ pub(crate) fn exits_at(table: &Table, row: usize) -> Exits
 #[inline(always)]
 pub(crate) fn leap_at(table: &Table, row: usize) -> Option<&Leap>
     ensures here { IfSome result (λ leap. (row ≡ leap.now.row) ⊎ (row ≡ leap.now.other)) }
-    ensures stays { IfSome result (λ leap. AreStays met table.now.classes.items table.now.cells.items leap.now.row leap.now.other leap.now.stays) }
+    ensures stays { IfSome result (λ leap. AreStays met table.now.classes.items
+        table.now.cells.items leap.now.row leap.now.other leap.now.stays) }
 {
     for leap in table.leaps.iter() {
         if leap.row == row || leap.other == row {
@@ -135,7 +136,8 @@ pub(crate) fn met_at_end(
     at: usize,
     noted: Option<(usize, usize)>,
 ) -> Option<(usize, usize)>
-    ensures { result ≡ met_by (slice_index_or table.now.ends.items (row / table.now.width) 0) at (told table.now noted) }
+    ensures { result ≡ met_by (slice_index_or table.now.ends.items (row / table.now.width) 0) at
+        (told table.now noted) }
 {
     met_by(
         code_of(table.ends.as_slice(), row, table.width),

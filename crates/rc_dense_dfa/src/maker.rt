@@ -40,7 +40,9 @@ impl Maker {
         requires number { number < length self.old.names.states }
         ensures names { self.new.names ≡ self.old.names }
         ensures scratch { self.new.scratch ≡ self.old.scratch }
-        ensures leads { IfOk result (λ _. (s : states.State) → slice_get self.old.names.states number ≡ Some s → Leads (machine_of automaton.now direction) s beside (state_of self.new.to)) }
+        ensures leads { IfOk result (λ _. (s : states.State)
+            → slice_get self.old.names.states number ≡ Some s
+            → Leads (machine_of automaton.now direction) s beside (state_of self.new.to)) }
     {
         let from = self.names.states.get(number);
         automaton.step(direction, &mut self.scratch, from, beside, &mut self.to)
@@ -60,8 +62,10 @@ impl Maker {
         requires number { number < length self.old.names.states }
         ensures maker { IfOk result (λ _. IsMaker m self.new) }
         ensures grows { IfOk result (λ _. Grows self.old.names self.new.names) }
-        ensures cell { IfOk result (λ cell. (s : states.State) → slice_get self.old.names.states number ≡ Some s →
-            IsCell m self.new.names.width self.new.names.states (Some byte) (Leads m s (Some byte)) cell) }
+        ensures cell { IfOk result (λ cell. (s : states.State)
+            → slice_get self.old.names.states number ≡ Some s →
+            IsCell m self.new.names.width self.new.names.states (Some byte)
+            (Leads m s (Some byte)) cell) }
         ensures refused { IfErr result (IsRefused m self.old.names.width self.old.names.limit) }
     {
         if !automaton.may_read(Some(byte)) {
@@ -87,7 +91,8 @@ impl Maker {
         requires byte { IsByte beside }
         ensures maker { IfOk result (λ _. IsMaker m self.new) }
         ensures grows { IfOk result (λ _. Grows self.old.names self.new.names) }
-        ensures cell { IfOk result (IsCell m self.new.names.width self.new.names.states beside (Begins m anchored beside)) }
+        ensures cell { IfOk result (IsCell m self.new.names.width self.new.names.states beside
+            (Begins m anchored beside)) }
         ensures refused { IfErr result (IsRefused m self.old.names.width self.old.names.limit) }
     {
         if !automaton.may_read(beside) {
@@ -111,10 +116,12 @@ impl Maker {
         requires maker { IsMaker m self.old }
         requires number { number < length self.old.names.states }
         requires width { self.old.names.width ≡ length (samples_of automaton.now) }
-        requires rows { AreRows m (samples_of automaton.now) self.old.names.states number 0 cells.old.items }
+        requires rows { AreRows m (samples_of automaton.now) self.old.names.states number 0
+            cells.old.items }
         ensures maker { IfOk result (λ _. IsMaker m self.new) }
         ensures grows { IfOk result (λ _. Grows self.old.names self.new.names) }
-        ensures rows { IfOk result (λ _. AreRows m (samples_of automaton.now) self.new.names.states (number + 1) 0 cells.new.items) }
+        ensures rows { IfOk result (λ _. AreRows m (samples_of automaton.now) self.new.names.states
+            (number + 1) 0 cells.new.items) }
         ensures refused { IfErr result (IsRefused m self.old.names.width self.old.names.limit) }
     {
         for byte in automaton.samples() {
@@ -137,10 +144,13 @@ impl Maker {
         requires maker { IsMaker m self.old }
         requires asked { IsAsked m anchored.now }
         requires width { self.old.names.width ≡ length (samples_of automaton.now) }
-        requires starts { AreStarts m (samples_of automaton.now) self.old.names.states (mode_of anchored.now) 0 starts.old.items }
+        requires starts { AreStarts m (samples_of automaton.now) self.old.names.states
+            (mode_of anchored.now) 0 starts.old.items }
         ensures maker { IfOk result (λ _. IsMaker m self.new) }
         ensures grows { IfOk result (λ _. Grows self.old.names self.new.names) }
-        ensures starts { IfOk result (λ _. AreStarts m (samples_of automaton.now) self.new.names.states (mode_of anchored.now) (length (samples_of automaton.now)) starts.new.items) }
+        ensures starts { IfOk result (λ _. AreStarts m
+            (samples_of automaton.now) self.new.names.states (mode_of anchored.now)
+            (length (samples_of automaton.now)) starts.new.items) }
         ensures refused { IfErr result (IsRefused m self.old.names.width self.old.names.limit) }
     {
         for byte in automaton.samples() {
@@ -163,10 +173,13 @@ impl Maker {
         requires maker { IsMaker m self.old }
         requires asked { IsAsked m anchored.now }
         requires width { self.old.names.width ≡ length (samples_of automaton.now) }
-        requires starts { AreStarts m (samples_of automaton.now) self.old.names.states (mode_of anchored.now) (length (samples_of automaton.now)) starts.old.items }
+        requires starts { AreStarts m (samples_of automaton.now) self.old.names.states
+            (mode_of anchored.now) (length (samples_of automaton.now)) starts.old.items }
         ensures maker { IfOk result (λ _. IsMaker m self.new) }
         ensures grows { IfOk result (λ _. Grows self.old.names self.new.names) }
-        ensures starts { IfOk result (λ _. AreStarts m (samples_of automaton.now) self.new.names.states (mode_of anchored.now + 1) 0 starts.new.items) }
+        ensures starts { IfOk result (λ _. AreStarts m
+            (samples_of automaton.now) self.new.names.states
+            (mode_of anchored.now + 1) 0 starts.new.items) }
         ensures refused { IfErr result (IsRefused m self.old.names.width self.old.names.limit) }
     {
         let cell = self.start(automaton, direction, *anchored, None)?;

@@ -32,7 +32,8 @@ fn weigh(weight: u128, more: u128, limit: Option<usize>) -> Option<u128>
     requires weight { weight ≤ 18446744073709551616 }
     requires more { more < 2361183241434822606848 }
     ensures light { IfSome result (λ w. w ≤ 18446744073709551616) }
-    ensures weight { MatchOption result ((l : ℕ) × (limit ≡ Some l) × (l < weight + more)) (λ w. IfSome limit (λ l. (w ≡ weight + more) × (w ≤ l))) }
+    ensures weight { MatchOption result ((l : ℕ) × (limit ≡ Some l) × (l < weight + more))
+        (λ w. IfSome limit (λ l. (w ≡ weight + more) × (w ≤ l))) }
 {
     if let Some(limit) = limit {
         if weight + more > limit as u128 {
@@ -84,7 +85,8 @@ impl Names {
         ensures named { IfOk result (λ _. AreNamed m self.new) }
         ensures grows { IfOk result (λ _. Grows self.old self.new) }
         ensures few { IfOk result (λ _. length self.new.states ≤ length self.old.states + 1) }
-        ensures number { IfOk result (λ number. slice_get self.new.states number ≡ Some (state_of state.now)) }
+        ensures number { IfOk result (λ number. slice_get self.new.states number
+            ≡ Some (state_of state.now)) }
         ensures refused { IfErr result (IsRefused m self.old.width self.old.limit) }
     {
         if let Some(number) = self.states.find(state)? {
@@ -114,7 +116,8 @@ impl Names {
         ensures named { IfOk result (λ _. AreNamed m self.new) }
         ensures grows { IfOk result (λ _. Grows self.old self.new) }
         ensures few { IfOk result (λ _. length self.new.states ≤ length self.old.states + 1) }
-        ensures name { IfOk result (λ cell. NamesBy self.new.width self.new.states cell (state_of state.now)) }
+        ensures name { IfOk result (λ cell. NamesBy self.new.width self.new.states cell
+            (state_of state.now)) }
         ensures refused { IfErr result (IsRefused m self.old.width self.old.limit) }
     {
         let number = self.number(state)?;

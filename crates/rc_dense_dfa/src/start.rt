@@ -46,7 +46,8 @@ fn cell_at(cells: &[usize], index: usize) -> usize
 /// that byte may not be read, or the table has no such start.
 #[inline(always)]
 pub(crate) fn start(table: &Table, anchored: Anchored, beside: Option<u8>) -> usize
-    ensures value { result ≡ start_at table.now (mode_of anchored * (table.now.width + 1) + column table.now beside) }
+    ensures value { result ≡ start_at table.now
+        (mode_of anchored * (table.now.width + 1) + column table.now beside) }
     ensures named { IsNamed table.now.width (length table.now.cells.items) result }
 {
     let column = column(table, beside);

@@ -54,7 +54,8 @@ impl Reversed {
         requires { to < length self.old.into.items }
         ensures len { length self.new.into.items ≡ length self.old.into.items }
         ensures kept { IfOk result (λ _. (p : ℕ) → into_at self.new p
-            ≡ into_at self.old p ++ (if nat_eq to p then record { from = from; over = over } ∷ [] else [])) }
+            ≡ into_at self.old p ++ (if nat_eq to p then record { from = from; over = over }
+            ∷ [] else [])) }
     {
         self.into[to].push(Source { from, over })?;
         Ok(())
@@ -69,7 +70,9 @@ impl Reversed {
     ) -> Result<(), AllocError>
         requires { to < length self.old.into.items }
         ensures len { length self.new.into.items ≡ length self.old.into.items }
-        ensures kept { IfOk result (λ _. (p : ℕ) → into_at self.new p ≡ into_at self.old p ++ range_edges p from to (map byte_range ranges.now.items)) }
+        ensures kept { IfOk result (λ _. (p : ℕ)
+            → into_at self.new p ≡ into_at self.old p
+            ++ range_edges p from to (map byte_range ranges.now.items)) }
     {
         for range in ranges {
             self.keep(to, from, Over::Within(range.start, range.end))?;
@@ -79,9 +82,12 @@ impl Reversed {
 
     /// Stores an edge for each way.
     fn keep_ways(&mut self, from: usize, ways: &Vec<ByteWay>) -> Result<(), AllocError>
-        requires { AreBelow (length self.old.into.items) (map (λ (w : ByteWay). w.next) ways.now.items) }
+        requires { AreBelow (length self.old.into.items)
+            (map (λ (w : ByteWay). w.next) ways.now.items) }
         ensures len { length self.new.into.items ≡ length self.old.into.items }
-        ensures kept { IfOk result (λ _. (p : ℕ) → into_at self.new p ≡ into_at self.old p ++ branch_edges p from (map way_of ways.now.items)) }
+        ensures kept { IfOk result (λ _. (p : ℕ)
+            → into_at self.new p ≡ into_at self.old p
+            ++ branch_edges p from (map way_of ways.now.items)) }
     {
         for way in ways {
             self.keep(way.next, from, Over::Within(way.first, way.last))?;
@@ -93,7 +99,8 @@ impl Reversed {
     fn keep_place(&mut self, from: usize, place: &BytePlace) -> Result<(), AllocError>
         requires { AreBelow (length self.old.into.items) (targets (place_of place.now)) }
         ensures len { length self.new.into.items ≡ length self.old.into.items }
-        ensures kept { IfOk result (λ _. (p : ℕ) → into_at self.new p ≡ into_at self.old p ++ edges_from p from (place_of place.now)) }
+        ensures kept { IfOk result (λ _. (p : ℕ)
+            → into_at self.new p ≡ into_at self.old p ++ edges_from p from (place_of place.now)) }
     {
         match place {
             BytePlace::Choice(first, second) => {
@@ -161,7 +168,10 @@ fn reads_over(byte: Option<u8>, over: Over) -> bool
 /// Adds the places from which edges come that are followed without reading.
 fn add_still(set: &mut SparseSet, edges: &Vec<Source>, behind: Seen, ahead: Seen)
     requires { AreBelow set.old.capacity (map (λ (e : Source). e.from) edges.now.items) }
-    ensures { set.new ≡ record set.old { items = add_all set.old.items (sources (passes behind ahead) edges.now.items) } }
+    ensures { set.new ≡ record set.old {
+      items = add_all set.old.items
+          (sources (passes behind ahead) edges.now.items);
+    } }
 {
     for edge in edges {
         if passes(behind, ahead, edge.over) {
@@ -173,7 +183,10 @@ fn add_still(set: &mut SparseSet, edges: &Vec<Source>, behind: Seen, ahead: Seen
 /// Adds the places from which edges come that are followed over the byte.
 fn add_reading(set: &mut SparseSet, edges: &Vec<Source>, byte: Option<u8>)
     requires { AreBelow set.old.capacity (map (λ (e : Source). e.from) edges.now.items) }
-    ensures { set.new ≡ record set.old { items = add_all set.old.items (sources (reads_over byte) edges.now.items) } }
+    ensures { set.new ≡ record set.old {
+      items = add_all set.old.items
+          (sources (reads_over byte) edges.now.items);
+    } }
 {
     for edge in edges {
         if reads_over(byte, edge.over) {
@@ -224,13 +237,19 @@ fn go_back(
     listed: &mut SparseSet,
 )
     requires edges { AreInside reversed.now }
-    requires entered { (entered.old.capacity ≡ length reversed.now.into.items) × AreBelow (length reversed.now.into.items) entered.old.items }
-    requires listed { listed.old ≡ record { capacity = length reversed.now.into.items; items = [] } }
-    ensures sizes { (entered.new.capacity ≡ length reversed.now.into.items) × (listed.new.capacity ≡ length reversed.now.into.items) }
-    ensures entered { (places : List Place) → IsReversed places reversed.now → (q : ℕ) → HasPlace q entered.new.items
+    requires entered { (entered.old.capacity ≡ length reversed.now.into.items)
+        × AreBelow (length reversed.now.into.items) entered.old.items }
+    requires listed { listed.old
+        ≡ record { capacity = length reversed.now.into.items; items = [] } }
+    ensures sizes { (entered.new.capacity ≡ length reversed.now.into.items)
+        × (listed.new.capacity ≡ length reversed.now.into.items) }
+    ensures entered { (places : List Place) → IsReversed places reversed.now → (q : ℕ)
+        → HasPlace q entered.new.items
         ↔ LeadsBy (still_out places behind ahead) entered.old.items q }
-    ensures listed { (places : List Place) → IsReversed places reversed.now → (q : ℕ) → HasPlace q listed.new.items
-        ↔ ((b : ℕ) × (before ≡ Some b) × (p : ℕ) × ReadsTo places b q p × HasPlace p entered.new.items) }
+    ensures listed { (places : List Place) → IsReversed places reversed.now → (q : ℕ)
+        → HasPlace q listed.new.items
+        ↔ ((b : ℕ) × (before ≡ Some b) × (p : ℕ) × ReadsTo places b q p
+        × HasPlace p entered.new.items) }
 {
     let mut index = 0;
     'places: while index < entered.len() {
@@ -265,7 +284,8 @@ pub fn prior(
     requires scratch { scratch.old ≡ length reversed.now.into.items }
     ensures scratch { scratch.new ≡ scratch.old }
     ensures prior { IfOk result (λ _. (places : List Place) → IsReversed places reversed.now
-        → IsPrior (record { places = places; needs = needs; terminator = terminator }) roots.now (state_of from.now) before (state_of to.new)) }
+        → IsPrior (record { places = places; needs = needs; terminator = terminator }) roots.now
+        (state_of from.now) before (state_of to.new)) }
 {
     let behind = told(needs, terminator, before);
     scratch.entered.clear();
@@ -296,7 +316,8 @@ pub fn last(
     after: Option<u8>,
     to: &mut State,
 ) -> Result<(), AllocError>
-    ensures { IfOk result (λ _. IsLast (setting_of places.now needs terminator) after (state_of to.new)) }
+    ensures { IfOk result (λ _. IsLast (setting_of places.now needs terminator) after
+        (state_of to.new)) }
 {
     to.list.clear();
     for i in 0..places.len() {

@@ -50,7 +50,8 @@ fn ranges_part(byte: u8, ranges: &Vec<ClassBytesRange>) -> bool
 /// Whether one of the ways separates the byte from the next one.
 fn ways_part(byte: u8, ways: &Vec<ByteWay>) -> bool
     requires { byte < 255 }
-    ensures { result ≡ list_any (parts byte) (map (λ (w : ByteWay). (w.first, w.last)) ways.now.items) }
+    ensures { result ≡ list_any (parts byte)
+        (map (λ (w : ByteWay). (w.first, w.last)) ways.now.items) }
 {
     for way in ways {
         if parts(byte, way.first, way.last) {
@@ -109,7 +110,8 @@ pub fn classes(
     needs: Asked,
     terminator: u8,
 ) -> Result<Vec<u8>, AllocError>
-    ensures { IfOk result (λ classes. AreClasses (places_of places.now) needs terminator classes.items) }
+    ensures { IfOk result (λ classes. AreClasses
+        (places_of places.now) needs terminator classes.items) }
 {
     let mut classes = Vec::new(alloc);
     let mut class = 0;

@@ -57,8 +57,11 @@ fn follow(
     requires below { AreBelow (length places.now) (reverse stack.old.items) }
     requires entered { entered.old ≡ record { capacity = length places.now; items = [] } }
     requires listed { listed.old ≡ record { capacity = length places.now; items = [] } }
-    ensures sizes { (entered.new.capacity ≡ length places.now) × (listed.new.capacity ≡ length places.now) }
-    ensures step { IfOk result (λ matched. IsStep (out_by (places_of places.now) (holds_by behind ahead) after) (is_match (places_of places.now))
+    ensures sizes { (entered.new.capacity ≡ length places.now)
+        × (listed.new.capacity ≡ length places.now) }
+    ensures step { IfOk result (λ matched. IsStep
+        (out_by (places_of places.now) (holds_by behind ahead) after)
+        (is_match (places_of places.now))
         (reverse stack.old.items) listed.new.items matched) }
 {
     'places: while let Some(place) = stack.pop() {
@@ -88,8 +91,10 @@ fn gather(
     requires below { AreBelow (length places.now) (reverse stack.old.items) }
     requires entered { entered.old ≡ record { capacity = length places.now; items = [] } }
     requires listed { listed.old ≡ record { capacity = length places.now; items = [] } }
-    ensures sizes { (entered.new.capacity ≡ length places.now) × (listed.new.capacity ≡ length places.now) }
-    ensures step { IfOk result (λ matched. IsGathered (out_by (places_of places.now) (holds_by behind ahead) after) (places_of places.now)
+    ensures sizes { (entered.new.capacity ≡ length places.now)
+        × (listed.new.capacity ≡ length places.now) }
+    ensures step { IfOk result (λ matched. IsGathered
+        (out_by (places_of places.now) (holds_by behind ahead) after) (places_of places.now)
         (reverse stack.old.items) listed.new.items matched) }
 {
     let mut least = None;
@@ -127,7 +132,8 @@ fn next_preferred(
     requires below { AreBelow (length places.now) from.now.list.items }
     requires scratch { scratch.old ≡ length places.now }
     ensures scratch { scratch.new ≡ scratch.old }
-    ensures next { IfOk result (λ _. IsNext (setting_of places.now needs terminator) root (state_of from.now) after (state_of to.new)) }
+    ensures next { IfOk result (λ _. IsNext (setting_of places.now needs terminator) root
+        (state_of from.now) after (state_of to.new)) }
 {
     let ahead = told(needs, terminator, after);
     scratch.entered.clear();
@@ -168,7 +174,8 @@ fn next_of_all(
     requires below { AreBelow (length places.now) from.now.list.items }
     requires scratch { scratch.old ≡ length places.now }
     ensures scratch { scratch.new ≡ scratch.old }
-    ensures next { IfOk result (λ _. IsNextOfAll (setting_of places.now needs terminator) root (state_of from.now) after (state_of to.new)) }
+    ensures next { IfOk result (λ _. IsNextOfAll (setting_of places.now needs terminator) root
+        (state_of from.now) after (state_of to.new)) }
 {
     let ahead = told(needs, terminator, after);
     scratch.entered.clear();
@@ -214,7 +221,8 @@ pub fn next_by(
     requires below { AreBelow (bound_of kind (length places.now)) from.now.list.items }
     requires scratch { scratch.old ≡ length places.now }
     ensures scratch { scratch.new ≡ scratch.old }
-    ensures next { IfOk result (λ _. IsNextBy kind (setting_of places.now needs terminator) root (state_of from.now) after (state_of to.new)) }
+    ensures next { IfOk result (λ _. IsNextBy kind (setting_of places.now needs terminator) root
+        (state_of from.now) after (state_of to.new)) }
 {
     match kind {
         MatchKind::LeftmostFirst => {
@@ -238,7 +246,9 @@ pub fn first(
     anchored: bool,
     to: &mut State,
 ) -> Result<(), AllocError>
-    ensures { IfOk result (λ _. (places : List Place) → IsFirst (record { places = places; needs = needs; terminator = terminator }) root before anchored (state_of to.new)) }
+    ensures { IfOk result (λ _. (places : List Place)
+        → IsFirst (record { places = places; needs = needs; terminator = terminator }) root before
+        anchored (state_of to.new)) }
 {
     to.list.clear();
     to.list.push(root)?;

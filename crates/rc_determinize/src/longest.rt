@@ -36,10 +36,14 @@ fn close(
     requires entered { entered.old.capacity ≡ length places.now }
     requires few { length entered.old.items ≤ length places.now }
     requires listed { listed.old.capacity ≡ length places.now }
-    ensures sizes { (entered.new.capacity ≡ length places.now) × (listed.new.capacity ≡ length places.now) }
+    ensures sizes { (entered.new.capacity ≡ length places.now)
+        × (listed.new.capacity ≡ length places.now) }
     ensures few { IfOk result (λ _. length entered.new.items ≤ length places.now) }
-    ensures shut { IfOk result (λ matched. IsShut (out_by (places_of places.now) (holds_by behind ahead) after) (is_match (places_of places.now))
-        (reverse stack.old.items) entered.old.items entered.new.items listed.old.items listed.new.items matched) }
+    ensures shut { IfOk result (λ matched. IsShut
+        (out_by (places_of places.now) (holds_by behind ahead) after)
+        (is_match (places_of places.now))
+        (reverse stack.old.items) entered.old.items entered.new.items listed.old.items
+        listed.new.items matched) }
 {
     let mut first = None;
     'places: while let Some(place) = stack.pop() {
@@ -58,7 +62,8 @@ fn group_end(list: &[usize], from: usize, mark: usize) -> usize
     requires { from < length list.now }
     ensures inside { (from ≤ result) × (result ≤ length list.now) }
     ensures other { (q : ℕ) → HasPlace q (slice_range list.now from result) → q ≢ mark }
-    ensures group { groups_of mark (drop from list.now) ≡ slice_range list.now from result ∷ groups_of mark (drop (result + 1) list.now) }
+    ensures group { groups_of mark (drop from list.now) ≡ slice_range list.now from result
+        ∷ groups_of mark (drop (result + 1) list.now) }
 {
     for index in from..list.len() {
         if list[index] == mark {
@@ -85,9 +90,13 @@ fn close_groups(
     requires below { AreBelow (length places.now + 1) list.now }
     requires entered { entered.old ≡ record { capacity = length places.now; items = [] } }
     requires listed { listed.old ≡ record { capacity = length places.now; items = [] } }
-    ensures sizes { (entered.new.capacity ≡ length places.now) × (listed.new.capacity ≡ length places.now) }
-    ensures parted { IfOk result (λ matched. IsParted (out_by (places_of places.now) (holds_by behind ahead) after) (is_match (places_of places.now))
-        (length places.now) (groups_of (length places.now) list.now) listed.new.items to.new.items matched) }
+    ensures sizes { (entered.new.capacity ≡ length places.now)
+        × (listed.new.capacity ≡ length places.now) }
+    ensures parted { IfOk result (λ matched. IsParted
+        (out_by (places_of places.now) (holds_by behind ahead) after)
+        (is_match (places_of places.now))
+        (length places.now) (groups_of (length places.now) list.now) listed.new.items
+        to.new.items matched) }
 {
     to.clear();
     let mut from = 0;
@@ -123,7 +132,8 @@ pub fn next_longest(
     requires below { AreBelow (length places.now + 1) from.now.list.items }
     requires scratch { scratch.old ≡ length places.now }
     ensures scratch { scratch.new ≡ scratch.old }
-    ensures next { IfOk result (λ _. IsNextOfLongest (setting_of places.now needs terminator) root (state_of from.now) after (state_of to.new)) }
+    ensures next { IfOk result (λ _. IsNextOfLongest (setting_of places.now needs terminator) root
+        (state_of from.now) after (state_of to.new)) }
 {
     let ahead = told(needs, terminator, after);
     scratch.entered.clear();

@@ -34,7 +34,10 @@ pub fn add(listed: &mut SparseSet, place: usize)
 /// Adds the place where walks begin, if they still may.
 pub fn add_root(listed: &mut SparseSet, root: usize, goes_on: bool)
     requires { root < listed.old.capacity }
-    ensures { listed.new ≡ record listed.old { items = add_all listed.old.items (root_if goes_on root) } }
+    ensures { listed.new ≡ record listed.old {
+      items = add_all listed.old.items
+          (root_if goes_on root);
+    } }
 {
     if goes_on {
         add(listed, root);
@@ -44,7 +47,10 @@ pub fn add_root(listed: &mut SparseSet, root: usize, goes_on: bool)
 /// Adds the places to which ways over the byte lead.
 fn add_ways(listed: &mut SparseSet, ways: &Vec<ByteWay>, byte: u8)
     requires { AreBelow listed.old.capacity (map (λ (w : ByteWay). w.next) ways.now.items) }
-    ensures { listed.new ≡ record listed.old { items = add_all listed.old.items (read_places (branch_ways byte (map way_of ways.now.items))) } }
+    ensures { listed.new ≡ record listed.old {
+      items = add_all listed.old.items
+          (read_places (branch_ways byte (map way_of ways.now.items)));
+    } }
 {
     for way in ways {
         if way.first <= byte && byte <= way.last {
@@ -76,9 +82,14 @@ pub fn open(
     requires { AreBelow listed.old.capacity (targets (place_of place.now)) }
     ensures kept { listed.new.capacity ≡ listed.old.capacity }
     ensures pushed { IfOk result (λ _. stack.new.items
-        ≡ stack.old.items ++ reverse (stay_places (ways_out (holds_by behind ahead) (ahead_of after) (place_of place.now)))) }
+        ≡ stack.old.items ++ reverse (stay_places
+        (ways_out (holds_by behind ahead) (ahead_of after) (place_of place.now)))) }
     ensures added { IfOk result (λ _. listed.new
-        ≡ record listed.old { items = add_all listed.old.items (read_places (ways_out (holds_by behind ahead) (ahead_of after) (place_of place.now))) }) }
+        ≡ record listed.old {
+          items = add_all listed.old.items
+              (read_places (ways_out (holds_by behind ahead) (ahead_of after)
+              (place_of place.now)));
+        }) }
 {
     match place {
         BytePlace::Choice(first, second) => {

@@ -49,7 +49,8 @@ impl SparseSet {
     /// the list isn't empty, a mark comes first. `Err` means out of memory.
     pub fn part_to(&self, from: usize, mark: usize, list: &mut Vec<usize>) -> Result<(), AllocError>
         requires { from ≤ length self.now.items }
-        ensures { IfOk result (λ _. list.new.items ≡ with_group mark list.old.items (drop from self.now.items)) }
+        ensures { IfOk result (λ _. list.new.items
+            ≡ with_group mark list.old.items (drop from self.now.items)) }
     {
         if from == self.dense.len() {
             return Ok(());
@@ -63,7 +64,8 @@ impl SparseSet {
     /// Replaces the list by the members in rising order. `Err` means out of memory.
     pub fn rise_to(&self, list: &mut Vec<usize>) -> Result<(), AllocError>
         ensures rising { IfOk result (λ _. IsRising list.new.items) }
-        ensures members { IfOk result (λ _. (q : ℕ) → HasPlace q list.new.items ↔ HasPlace q self.now.items) }
+        ensures members { IfOk result (λ _. (q : ℕ)
+            → HasPlace q list.new.items ↔ HasPlace q self.now.items) }
     {
         list.clear();
         for number in 0..self.sparse.len() {
@@ -101,7 +103,8 @@ impl SparseSet {
     /// Whether the number is a member.
     pub fn contains(&self, number: usize) -> bool
         requires { number < self.now.capacity }
-        ensures { MatchBool result (HasPlace number self.now.items) (¬ HasPlace number self.now.items) }
+        ensures { MatchBool result (HasPlace number self.now.items)
+            (¬ HasPlace number self.now.items) }
     {
         let index = self.sparse[number];
         index < self.dense.len() && self.dense[index] == number
@@ -110,8 +113,10 @@ impl SparseSet {
     /// Inserts the number, and returns whether it is new.
     pub fn insert(&mut self, number: usize) -> bool
         requires { number < self.old.capacity }
-        ensures member { MatchBool result (¬ HasPlace number self.old.items) (HasPlace number self.old.items) }
-        ensures after { MatchBool result (self.new ≡ record self.old { items = self.old.items ++ number ∷ [] })
+        ensures member { MatchBool result (¬ HasPlace number self.old.items)
+            (HasPlace number self.old.items) }
+        ensures after { MatchBool result
+            (self.new ≡ record self.old { items = self.old.items ++ number ∷ [] })
             (self.new ≡ self.old) }
         ensures few { length self.new.items ≤ self.new.capacity }
     {

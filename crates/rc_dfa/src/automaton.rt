@@ -61,7 +61,8 @@ fn classes_by(
     terminator: u8,
     byte_classes: bool,
 ) -> Result<Vec<u8>, AllocError>
-    ensures { IfOk result (λ found. AreClassesBy byte_classes (places_of places.now) needs terminator found.items) }
+    ensures { IfOk result (λ found. AreClassesBy byte_classes
+        (places_of places.now) needs terminator found.items) }
 {
     if byte_classes {
         return classes(alloc, places, needs, terminator);
@@ -97,7 +98,8 @@ impl Automaton {
         requires closed { IsClosed (places_of places.items) }
         requires rooted { 0 < length places.items }
         requires entered { AreBelow (length places.items) entries.items }
-        ensures made { IfOk result (IsMadeOf (places_of places.items) entries.items terminator kind byte_classes) }
+        ensures made { IfOk result (IsMadeOf
+            (places_of places.items) entries.items terminator kind byte_classes) }
     {
         let reversed = Reversed::new(alloc, &places)?;
         let needs = needs_of(&places);
@@ -117,7 +119,8 @@ impl Automaton {
 
     /// Returns how many places the program has.
     pub fn places_len(&self) -> usize
-        ensures { (direction : Direction) → result ≡ length (machine_of self.now direction).setting.places }
+        ensures { (direction : Direction)
+            → result ≡ length (machine_of self.now direction).setting.places }
     {
         self.places.len()
     }
@@ -125,7 +128,8 @@ impl Automaton {
     /// Returns how many entries the list of a state has at most in this direction. That is the
     /// number of places; forwards for leftmost-longest it is twice as many.
     pub fn longest_list(&self, direction: Direction) -> usize
-        ensures { result ≡ longest_in (machine_of self.now direction).direction (length (machine_of self.now direction).setting.places) }
+        ensures { result ≡ longest_in (machine_of self.now direction).direction
+            (length (machine_of self.now direction).setting.places) }
     {
         let places = &self.places;
         match (direction, self.kind) {
@@ -137,14 +141,16 @@ impl Automaton {
     /// Returns the pattern whose match place this is, or 0 if it is none.
     pub fn pattern_at(&self, place: usize) -> usize
         requires { place < length (machine_of self.now Forwards).setting.places }
-        ensures { result ≡ pattern_at (place_at (machine_of self.now Forwards).setting.places place) }
+        ensures { result ≡ pattern_at (place_at
+            (machine_of self.now Forwards).setting.places place) }
     {
         pattern_of(&self.places[place])
     }
 
     /// Returns how many patterns it has.
     pub fn pattern_len(&self) -> usize
-        ensures { (direction : Direction) → result ≡ length (machine_of self.now direction).entries }
+        ensures { (direction : Direction)
+            → result ≡ length (machine_of self.now direction).entries }
     {
         self.entries.len()
     }
@@ -153,7 +159,9 @@ impl Automaton {
     pub fn classes(&self) -> &[u8]
         ensures value { result.now ≡ classes_of self.now }
         ensures machine { (direction : Direction) → IsMachine (machine_of self.now direction) }
-        ensures classing { (direction : Direction) → IsClassing (machine_of self.now direction) (classes_of self.now) (samples_of self.now) }
+        ensures classing { (direction : Direction)
+            → IsClassing (machine_of self.now direction) (classes_of self.now)
+            (samples_of self.now) }
     {
         &self.classes
     }
@@ -168,7 +176,8 @@ impl Automaton {
     /// Whether a search may read the byte; the end may always be read. If some assertion depends on
     /// Unicode words, bytes of at least 128 may not.
     pub fn may_read(&self, byte: Option<u8>) -> bool
-        ensures { (direction : Direction) → IsTrue result ↔ IsReadable (machine_of self.now direction).setting.needs byte }
+        ensures { (direction : Direction)
+            → IsTrue result ↔ IsReadable (machine_of self.now direction).setting.needs byte }
     {
         match byte {
             None => true,
@@ -178,7 +187,8 @@ impl Automaton {
 
     /// Scratch memory for steps. `Err` means out of memory.
     pub fn create_scratch(&self, alloc: Global) -> Result<Scratch, AllocError>
-        ensures { IfOk result (λ scratch. (direction : Direction) → scratch ≡ length (machine_of self.now direction).setting.places) }
+        ensures { IfOk result (λ scratch. (direction : Direction)
+            → scratch ≡ length (machine_of self.now direction).setting.places) }
     {
         let places = &self.places;
         Scratch::new(alloc, places.len())
@@ -195,7 +205,8 @@ impl Automaton {
         to: &mut State,
     ) -> Result<(), AllocError>
         requires { IsAsked (machine_of self.now direction) anchored }
-        ensures { IfOk result (λ _. Begins (machine_of self.now direction) anchored beside (state_of to.new)) }
+        ensures { IfOk result (λ _. Begins (machine_of self.now direction) anchored beside
+            (state_of to.new)) }
     {
         match direction {
             Direction::Forwards => self.begin_forwards(anchored, beside, to),
@@ -211,7 +222,8 @@ impl Automaton {
         to: &mut State,
     ) -> Result<(), AllocError>
         requires { IsAsked (machine_of self.now Forwards) anchored }
-        ensures { IfOk result (λ _. Begins (machine_of self.now Forwards) anchored beside (state_of to.new)) }
+        ensures { IfOk result (λ _. Begins (machine_of self.now Forwards) anchored beside
+            (state_of to.new)) }
     {
         match anchored {
             Anchored::No => first(self.needs, self.terminator, 0, beside, false, to),
@@ -230,7 +242,8 @@ impl Automaton {
         beside: Option<u8>,
         to: &mut State,
     ) -> Result<(), AllocError>
-        ensures { IfOk result (λ _. Begins (machine_of self.now Backwards) anchored beside (state_of to.new)) }
+        ensures { IfOk result (λ _. Begins (machine_of self.now Backwards) anchored beside
+            (state_of to.new)) }
     {
         match anchored {
             Anchored::No => last(&self.places, self.needs, self.terminator, beside, to),
@@ -258,10 +271,12 @@ impl Automaton {
         beside: Option<u8>,
         to: &mut State,
     ) -> Result<(), AllocError>
-        requires below { AreBelow (entry_bound (machine_of self.now direction).direction (length (machine_of self.now direction).setting.places)) from.now.list.items }
+        requires below { AreBelow (entry_bound (machine_of self.now direction).direction
+            (length (machine_of self.now direction).setting.places)) from.now.list.items }
         requires scratch { scratch.old ≡ length (machine_of self.now direction).setting.places }
         ensures scratch { scratch.new ≡ scratch.old }
-        ensures leads { IfOk result (λ _. Leads (machine_of self.now direction) (state_of from.now) beside (state_of to.new)) }
+        ensures leads { IfOk result (λ _. Leads (machine_of self.now direction)
+            (state_of from.now) beside (state_of to.new)) }
     {
         match direction {
             Direction::Forwards => next_by(

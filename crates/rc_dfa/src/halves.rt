@@ -47,9 +47,11 @@ pub trait Halves {
         ensures cache { IsCache self.now cache.new }
         ensures keeps { Keeps input.old input.new }
         ensures ended { (m n : Machine) → AreOf self.now m n → IsAsked m anchored
-            → HasEnded m (text_of m.setting.terminator input.old) (high input.old) from anchored earliest may_rest result }
+            → HasEnded m (text_of m.setting.terminator input.old)
+            (high input.old) from anchored earliest may_rest result }
         ensures spends { Spends self.now cache.old cache.new (high input.old - from + 2) }
-        ensures gives_up { (memory : Bool) → gave_up result ≡ Some memory → GivesUp self.now cache.old cache.new (high input.old - from + 2) memory };
+        ensures gives_up { (memory : Bool) → gave_up result ≡ Some memory
+            → GivesUp self.now cache.old cache.new (high input.old - from + 2) memory };
 
     /// Searches backwards from the position `end` down to `from`, in bytes of the whole content.
     /// Returns the least position at which something was found; with `earliest`, the first one.
@@ -69,9 +71,11 @@ pub trait Halves {
         ensures cache { IsCache self.now cache.new }
         ensures keeps { Keeps input.old input.new }
         ensures ended { (m n : Machine) → AreOf self.now m n → IsAsked n anchored
-            → HasEndedDown n (text_of n.setting.terminator input.old) from end anchored earliest result }
+            → HasEndedDown n (text_of n.setting.terminator input.old) from end anchored earliest
+            result }
         ensures spends { Spends self.now cache.old cache.new (high input.old - from + 2) }
-        ensures gives_up { (memory : Bool) → gave_up result ≡ Some memory → GivesUp self.now cache.old cache.new (high input.old - from + 2) memory };
+        ensures gives_up { (memory : Bool) → gave_up result ≡ Some memory
+            → GivesUp self.now cache.old cache.new (high input.old - from + 2) memory };
 
     ghost spends_nothing: { (h : Self) (a : Self.Cache) (n : ℕ) → Spends h a a n };
 

@@ -56,7 +56,8 @@ pub fn last_of(
     after: Option<u8>,
     to: &mut State,
 ) -> Result<(), AllocError>
-    ensures { IfOk result (λ _. IsLastOf pattern (setting_of places.now needs terminator) after (state_of to.new)) }
+    ensures { IfOk result (λ _. IsLastOf pattern (setting_of places.now needs terminator) after
+        (state_of to.new)) }
 {
     to.list.clear();
     for i in 0..places.len() {

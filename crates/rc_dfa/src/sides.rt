@@ -14,7 +14,8 @@ pub fn byte_behind<C: Cursor>(input: &mut Input<C>, at: usize) -> Option<u8>
     requires high { at ≤ slice_end input.old }
     ensures keeps { Keeps input.old input.new }
     ensures value { result ≡ behind_at (text_of 0 input.old) at }
-    ensures there { IfSome result (λ byte. (1 ≤ at) × (slice_get input.old.content (at - 1) ≡ Some byte)) }
+    ensures there { IfSome result (λ byte. (1 ≤ at)
+        × (slice_get input.old.content (at - 1) ≡ Some byte)) }
     ensures small { IsByte result }
 {
     if input.get_slice_span().start < at {

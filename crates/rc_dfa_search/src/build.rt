@@ -51,8 +51,10 @@ pub fn automaton_of(
     requires program { places_of program.now ≡ program_by hs }
     requires patterns { patterns ≡ length hs }
     requires light { heaviness (places_of program.now) ≤ greatest_weight }
-    ensures machines { IfOk result (λ automaton. AreMachines hs terminator kind (machine_of automaton Forwards) (machine_of automaton Backwards)) }
-    ensures classes { IfOk result (λ automaton. AreClassesOf byte_classes hs terminator (classes_of automaton)) }
+    ensures machines { IfOk result (λ automaton. AreMachines hs terminator kind
+        (machine_of automaton Forwards) (machine_of automaton Backwards)) }
+    ensures classes { IfOk result (λ automaton. AreClassesOf byte_classes hs terminator
+        (classes_of automaton)) }
 {
     let entries = entries_of(alloc, program, patterns)?;
     let places = byte_program(alloc, program)?;

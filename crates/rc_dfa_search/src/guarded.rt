@@ -82,11 +82,14 @@ fn run_leg<H: Halves, C: Cursor>(
     requires free { input.old.anchored ≡ No }
     ensures cache { H.IsCache halves.now cache.new }
     ensures keeps { Keeps input.old input.new }
-    ensures leg { (aim : Aim) (hs : List Re) (terminator : ℕ) (of : AreHalvesOf (H.AreOf halves.now) aim hs terminator)
+    ensures leg { (aim : Aim) (hs : List Re) (terminator : ℕ)
+        (of : AreHalvesOf (H.AreOf halves.now) aim hs terminator)
         → IfOk result (HasRun of.ahead (text_of terminator input.old) (high input.old) from) }
     ensures on { IfOk result (ComesOn from (high input.old)) }
-    ensures fault { (aim : Aim) (hs : List Re) (terminator : ℕ) → AreHalvesOf (H.AreOf halves.now) aim hs terminator
-        → IfErr result (IsFault hs (search_for aim hs terminator input.old) (H.GivesUp halves.now cache.old cache.new (high input.old - from + 2))) }
+    ensures fault { (aim : Aim) (hs : List Re) (terminator : ℕ)
+        → AreHalvesOf (H.AreOf halves.now) aim hs terminator
+        → IfErr result (IsFault hs (search_for aim hs terminator input.old)
+        (H.GivesUp halves.now cache.old cache.new (high input.old - from + 2))) }
     ensures spends { H.Spends halves.now cache.old cache.new (high input.old - from + 2) }
 {
     leg_of(
@@ -109,15 +112,21 @@ fn seek_by_needles<H: Halves, C: Cursor>(
 ) -> Result<Option<Met>, MatchError>
     requires cache { H.IsCache halves.now cache.old }
     requires goes { GoesByNeedles aim input.old.anchored }
-    requires bounds { (bounds.low ≡ low input.old) × (bounds.high ≡ high input.old) × (bounds.low ≤ bounds.high) }
+    requires bounds { (bounds.low ≡ low input.old) × (bounds.high ≡ high input.old)
+        × (bounds.low ≤ bounds.high) }
     ensures cache { H.IsCache halves.now cache.new }
     ensures keeps { Keeps input.old input.new }
-    ensures given { (hs : List Re) (terminator : ℕ) (of : AreHalvesOf (H.AreOf halves.now) aim hs terminator) → IsGuard (program hs) terminator guard.entry
+    ensures given { (hs : List Re) (terminator : ℕ)
+        (of : AreHalvesOf (H.AreOf halves.now) aim hs terminator)
+        → IsGuard (program hs) terminator guard.entry
         → IfOk result (IsGiven aim.kind of.ahead (search_for aim hs terminator input.old)) }
-    ensures numbered { (hs : List Re) (terminator : ℕ) → AreHalvesOf (H.AreOf halves.now) aim hs terminator
+    ensures numbered { (hs : List Re) (terminator : ℕ)
+        → AreHalvesOf (H.AreOf halves.now) aim hs terminator
         → IfOk result (λ met. IfSome met (λ m. m.pattern < length hs)) }
-    ensures fault { (hs : List Re) (terminator : ℕ) → AreHalvesOf (H.AreOf halves.now) aim hs terminator
-        → IfErr result (IsFault hs (search_for aim hs terminator input.old) (H.GivesUp halves.now cache.old cache.new (cost_forwards input.old))) }
+    ensures fault { (hs : List Re) (terminator : ℕ)
+        → AreHalvesOf (H.AreOf halves.now) aim hs terminator
+        → IfErr result (IsFault hs (search_for aim hs terminator input.old)
+        (H.GivesUp halves.now cache.old cache.new (cost_forwards input.old))) }
     ensures spends { H.Spends halves.now cache.old cache.new (cost_forwards input.old) }
 {
     let mut at = bounds.low;
@@ -151,11 +160,16 @@ fn find_by_needles<H: Halves, C: Cursor>(
     requires goes { GoesByNeedles aim input.old.anchored }
     ensures cache { H.IsCache halves.now cache.new }
     ensures keeps { Keeps input.old input.new }
-    ensures found { (hs : List Re) (terminator : ℕ) → AreHalvesOf (H.AreOf halves.now) aim hs terminator → IsGuard (program hs) terminator guard.entry
-        → IfOk result (λ found. found ≡ answer_by aim.kind (search_for aim hs terminator input.old)) }
+    ensures found { (hs : List Re) (terminator : ℕ)
+        → AreHalvesOf (H.AreOf halves.now) aim hs terminator
+        → IsGuard (program hs) terminator guard.entry
+        → IfOk result (λ found. found ≡ answer_by aim.kind
+        (search_for aim hs terminator input.old)) }
     ensures within { IfOk result (λ found. IfSome found (IsWithinBounds input.old)) }
-    ensures fault { (hs : List Re) (terminator : ℕ) → AreHalvesOf (H.AreOf halves.now) aim hs terminator
-        → IfErr result (IsFault hs (search_for aim hs terminator input.old) (H.GivesUp halves.now cache.old cache.new (cost input.old))) }
+    ensures fault { (hs : List Re) (terminator : ℕ)
+        → AreHalvesOf (H.AreOf halves.now) aim hs terminator
+        → IfErr result (IsFault hs (search_for aim hs terminator input.old)
+        (H.GivesUp halves.now cache.old cache.new (cost input.old))) }
     ensures spends { H.Spends halves.now cache.old cache.new (cost input.old) }
 {
     let Some(bounds) = bounds_of(input, aim) else {
@@ -185,11 +199,17 @@ fn find_end_by_needles<H: Halves, C: Cursor>(
     requires goes { GoesByNeedles aim input.old.anchored }
     ensures cache { H.IsCache halves.now cache.new }
     ensures keeps { Keeps input.old input.new }
-    ensures found { (hs : List Re) (terminator : ℕ) → AreHalvesOf (H.AreOf halves.now) aim hs terminator → IsGuard (program hs) terminator guard.entry
-        → IfOk result (λ found. found ≡ option_map half_of (answer_by aim.kind (search_for aim hs terminator input.old))) }
-    ensures within { IfOk result (λ found. IfSome found (λ half. (low input.old ≤ half.offset) × (half.offset ≤ high input.old))) }
-    ensures fault { (hs : List Re) (terminator : ℕ) → AreHalvesOf (H.AreOf halves.now) aim hs terminator
-        → IfErr result (IsFault hs (search_for aim hs terminator input.old) (H.GivesUp halves.now cache.old cache.new (cost input.old))) }
+    ensures found { (hs : List Re) (terminator : ℕ)
+        → AreHalvesOf (H.AreOf halves.now) aim hs terminator
+        → IsGuard (program hs) terminator guard.entry
+        → IfOk result (λ found. found ≡ option_map half_of
+        (answer_by aim.kind (search_for aim hs terminator input.old))) }
+    ensures within { IfOk result (λ found. IfSome found
+        (λ half. (low input.old ≤ half.offset) × (half.offset ≤ high input.old))) }
+    ensures fault { (hs : List Re) (terminator : ℕ)
+        → AreHalvesOf (H.AreOf halves.now) aim hs terminator
+        → IfErr result (IsFault hs (search_for aim hs terminator input.old)
+        (H.GivesUp halves.now cache.old cache.new (cost input.old))) }
     ensures spends { H.Spends halves.now cache.old cache.new (cost input.old) }
 {
     let Some(bounds) = bounds_of(input, aim) else {
@@ -219,11 +239,15 @@ pub fn find_guarded<H: Halves, C: Cursor>(
     requires cache { H.IsCache halves.now cache.old }
     ensures cache { H.IsCache halves.now cache.new }
     ensures keeps { Keeps input.old input.new }
-    ensures found { (hs : List Re) (terminator : ℕ) → AreHalvesOf (H.AreOf halves.now) aim hs terminator → IsGuard (program hs) terminator guard.entry
+    ensures found { (hs : List Re) (terminator : ℕ)
+        → AreHalvesOf (H.AreOf halves.now) aim hs terminator
+        → IsGuard (program hs) terminator guard.entry
         → IfOk result (IsAnswerBy aim.kind aim.earliest (search_for aim hs terminator input.old)) }
     ensures within { IfOk result (λ found. IfSome found (IsWithinBounds input.old)) }
-    ensures fault { (hs : List Re) (terminator : ℕ) → AreHalvesOf (H.AreOf halves.now) aim hs terminator
-        → IfErr result (IsFault hs (search_for aim hs terminator input.old) (H.GivesUp halves.now cache.old cache.new (cost input.old))) }
+    ensures fault { (hs : List Re) (terminator : ℕ)
+        → AreHalvesOf (H.AreOf halves.now) aim hs terminator
+        → IfErr result (IsFault hs (search_for aim hs terminator input.old)
+        (H.GivesUp halves.now cache.old cache.new (cost input.old))) }
     ensures spends { H.Spends halves.now cache.old cache.new (cost input.old) }
 {
     if goes_by_needles(aim, input.get_anchored()) {
@@ -245,11 +269,17 @@ pub fn find_end_guarded<H: Halves, C: Cursor>(
     requires cache { H.IsCache halves.now cache.old }
     ensures cache { H.IsCache halves.now cache.new }
     ensures keeps { Keeps input.old input.new }
-    ensures found { (hs : List Re) (terminator : ℕ) → AreHalvesOf (H.AreOf halves.now) aim hs terminator → IsGuard (program hs) terminator guard.entry
-        → IfOk result (IsForwardHalf aim.kind aim.earliest (search_for aim hs terminator input.old)) }
-    ensures within { IfOk result (λ found. IfSome found (λ half. (low input.old ≤ half.offset) × (half.offset ≤ high input.old))) }
-    ensures fault { (hs : List Re) (terminator : ℕ) → AreHalvesOf (H.AreOf halves.now) aim hs terminator
-        → IfErr result (IsFault hs (search_for aim hs terminator input.old) (H.GivesUp halves.now cache.old cache.new (cost input.old))) }
+    ensures found { (hs : List Re) (terminator : ℕ)
+        → AreHalvesOf (H.AreOf halves.now) aim hs terminator
+        → IsGuard (program hs) terminator guard.entry
+        → IfOk result (IsForwardHalf aim.kind aim.earliest
+        (search_for aim hs terminator input.old)) }
+    ensures within { IfOk result (λ found. IfSome found
+        (λ half. (low input.old ≤ half.offset) × (half.offset ≤ high input.old))) }
+    ensures fault { (hs : List Re) (terminator : ℕ)
+        → AreHalvesOf (H.AreOf halves.now) aim hs terminator
+        → IfErr result (IsFault hs (search_for aim hs terminator input.old)
+        (H.GivesUp halves.now cache.old cache.new (cost input.old))) }
     ensures spends { H.Spends halves.now cache.old cache.new (cost input.old) }
 {
     if goes_by_needles(aim, input.get_anchored()) {

@@ -80,9 +80,11 @@ fn asks(anchored: Anchored, patterns: usize) -> bool
 #[inline(always)]
 pub(crate) fn bounds_of<C: Cursor>(input: &mut Input<C>, aim: Aim) -> Option<Bounds>
     ensures keeps { Keeps input.old input.new }
-    ensures some { IfSome result (λ bounds. (bounds.low ≡ low input.old) × (bounds.high ≡ high input.old)
+    ensures some { IfSome result (λ bounds. (bounds.low ≡ low input.old)
+        × (bounds.high ≡ high input.old)
         × (low input.old ≤ high input.old) × Asks aim.patterns input.old.anchored) }
-    ensures none { IfNone result ((high input.old < low input.old) ⊎ (¬ Asks aim.patterns input.old.anchored)) }
+    ensures none { IfNone result ((high input.old < low input.old)
+        ⊎ (¬ Asks aim.patterns input.old.anchored)) }
 {
     let high = high(input);
     let low = low(input);
@@ -123,10 +125,14 @@ pub(crate) fn run_forwards<H: Halves, C: Cursor>(
     requires asked { Asks aim.patterns input.old.anchored }
     ensures cache { H.IsCache halves.now cache.new }
     ensures keeps { Keeps input.old input.new }
-    ensures met { (hs : List Re) (terminator : ℕ) (of : AreHalvesOf (H.AreOf halves.now) aim hs terminator)
-        → IfOk result (HasMet of.ahead (text_of terminator input.old) (high input.old) from input.old.anchored (is_early aim)) }
-    ensures fault { (hs : List Re) (terminator : ℕ) → AreHalvesOf (H.AreOf halves.now) aim hs terminator
-        → IfErr result (IsFault hs (search_for aim hs terminator input.old) (H.GivesUp halves.now cache.old cache.new (high input.old - from + 2))) }
+    ensures met { (hs : List Re) (terminator : ℕ)
+        (of : AreHalvesOf (H.AreOf halves.now) aim hs terminator)
+        → IfOk result (HasMet of.ahead (text_of terminator input.old)
+        (high input.old) from input.old.anchored (is_early aim)) }
+    ensures fault { (hs : List Re) (terminator : ℕ)
+        → AreHalvesOf (H.AreOf halves.now) aim hs terminator
+        → IfErr result (IsFault hs (search_for aim hs terminator input.old)
+        (H.GivesUp halves.now cache.old cache.new (high input.old - from + 2))) }
     ensures spends { H.Spends halves.now cache.old cache.new (high input.old - from + 2) }
 {
     let anchored = input.get_anchored();
@@ -150,10 +156,14 @@ pub(crate) fn run_backwards<H: Halves, C: Cursor>(
     requires asked { Asks aim.patterns input.old.anchored }
     ensures cache { H.IsCache halves.now cache.new }
     ensures keeps { Keeps input.old input.new }
-    ensures met { (hs : List Re) (terminator : ℕ) (of : AreHalvesOf (H.AreOf halves.now) aim hs terminator)
-        → IfOk result (HasMetDown of.back (text_of terminator input.old) from end input.old.anchored (is_early aim)) }
-    ensures fault { (hs : List Re) (terminator : ℕ) → AreHalvesOf (H.AreOf halves.now) aim hs terminator
-        → IfErr result (IsFault hs (search_for aim hs terminator input.old) (H.GivesUp halves.now cache.old cache.new (high input.old - from + 2))) }
+    ensures met { (hs : List Re) (terminator : ℕ)
+        (of : AreHalvesOf (H.AreOf halves.now) aim hs terminator)
+        → IfOk result (HasMetDown of.back (text_of terminator input.old) from end input.old.anchored
+        (is_early aim)) }
+    ensures fault { (hs : List Re) (terminator : ℕ)
+        → AreHalvesOf (H.AreOf halves.now) aim hs terminator
+        → IfErr result (IsFault hs (search_for aim hs terminator input.old)
+        (H.GivesUp halves.now cache.old cache.new (high input.old - from + 2))) }
     ensures spends { H.Spends halves.now cache.old cache.new (high input.old - from + 2) }
 {
     let anchored = input.get_anchored();
@@ -193,13 +203,22 @@ fn seek_end<H: Halves, C: Cursor>(
     requires cache { H.IsCache halves.now cache.old }
     ensures cache { H.IsCache halves.now cache.new }
     ensures keeps { Keeps input.old input.new }
-    ensures none { (hs : List Re) (terminator : ℕ) → AreHalvesOf (H.AreOf halves.now) aim hs terminator
-        → IfOk result (λ end. IfNone end (IsAnswerBy aim.kind aim.earliest (search_for aim hs terminator input.old) None)) }
-    ensures some { (hs : List Re) (terminator : ℕ) (of : AreHalvesOf (H.AreOf halves.now) aim hs terminator)
-        → IfOk result (λ end. IfSome end (IsEnd hs aim.kind (is_early aim) of.ahead of.back input.old.anchored (search_for aim hs terminator input.old))) }
-    ensures within { IfOk result (λ end. IfSome end (λ e. (low input.old ≤ e.from) × (e.from ≤ e.at) × (e.at ≤ high input.old) × Asks aim.patterns input.old.anchored)) }
-    ensures fault { (hs : List Re) (terminator : ℕ) → AreHalvesOf (H.AreOf halves.now) aim hs terminator
-        → IfErr result (IsFault hs (search_for aim hs terminator input.old) (H.GivesUp halves.now cache.old cache.new (cost_forwards input.old))) }
+    ensures none { (hs : List Re) (terminator : ℕ)
+        → AreHalvesOf (H.AreOf halves.now) aim hs terminator
+        → IfOk result (λ end. IfNone end
+        (IsAnswerBy aim.kind aim.earliest (search_for aim hs terminator input.old) None)) }
+    ensures some { (hs : List Re) (terminator : ℕ)
+        (of : AreHalvesOf (H.AreOf halves.now) aim hs terminator)
+        → IfOk result (λ end. IfSome end
+        (IsEnd hs aim.kind (is_early aim) of.ahead of.back input.old.anchored
+        (search_for aim hs terminator input.old))) }
+    ensures within { IfOk result (λ end. IfSome end
+        (λ e. (low input.old ≤ e.from) × (e.from ≤ e.at) × (e.at ≤ high input.old)
+        × Asks aim.patterns input.old.anchored)) }
+    ensures fault { (hs : List Re) (terminator : ℕ)
+        → AreHalvesOf (H.AreOf halves.now) aim hs terminator
+        → IfErr result (IsFault hs (search_for aim hs terminator input.old)
+        (H.GivesUp halves.now cache.old cache.new (cost_forwards input.old))) }
     ensures spends { H.Spends halves.now cache.old cache.new (cost_forwards input.old) }
 {
     let Some(Bounds { low, high }) = bounds_of(input, aim) else {
@@ -281,12 +300,18 @@ fn seek_start<H: Halves, C: Cursor>(
     requires asked { Asks aim.patterns input.old.anchored }
     ensures cache { H.IsCache halves.now cache.new }
     ensures keeps { Keeps input.old input.new }
-    ensures found { (hs : List Re) (terminator : ℕ) (of : AreHalvesOf (H.AreOf halves.now) aim hs terminator)
-        → IsEnd hs aim.kind (is_early aim) of.ahead of.back input.old.anchored (search_for aim hs terminator input.old) end
-        → IfOk result (λ start. IsAnswerBy aim.kind aim.earliest (search_for aim hs terminator input.old) (option_map (match_by end) start)) }
-    ensures within { IfOk result (λ start. IfSome start (λ m. (end.from ≤ m.at) × (m.at ≤ end.at))) }
-    ensures fault { (hs : List Re) (terminator : ℕ) → AreHalvesOf (H.AreOf halves.now) aim hs terminator
-        → IfErr result (IsFault hs (search_for aim hs terminator input.old) (H.GivesUp halves.now cache.old cache.new (high input.old - low input.old + 2))) }
+    ensures found { (hs : List Re) (terminator : ℕ)
+        (of : AreHalvesOf (H.AreOf halves.now) aim hs terminator)
+        → IsEnd hs aim.kind (is_early aim) of.ahead of.back input.old.anchored
+        (search_for aim hs terminator input.old) end
+        → IfOk result (λ start. IsAnswerBy aim.kind aim.earliest
+        (search_for aim hs terminator input.old) (option_map (match_by end) start)) }
+    ensures within { IfOk result (λ start. IfSome start
+        (λ m. (end.from ≤ m.at) × (m.at ≤ end.at))) }
+    ensures fault { (hs : List Re) (terminator : ℕ)
+        → AreHalvesOf (H.AreOf halves.now) aim hs terminator
+        → IfErr result (IsFault hs (search_for aim hs terminator input.old)
+        (H.GivesUp halves.now cache.old cache.new (high input.old - low input.old + 2))) }
     ensures spends { H.Spends halves.now cache.old cache.new (high input.old - low input.old + 2) }
 {
     if begins_there(aim, input.get_anchored()) {
@@ -333,11 +358,14 @@ pub fn find<H: Halves, C: Cursor>(
     requires cache { H.IsCache halves.now cache.old }
     ensures cache { H.IsCache halves.now cache.new }
     ensures keeps { Keeps input.old input.new }
-    ensures found { (hs : List Re) (terminator : ℕ) → AreHalvesOf (H.AreOf halves.now) aim hs terminator
+    ensures found { (hs : List Re) (terminator : ℕ)
+        → AreHalvesOf (H.AreOf halves.now) aim hs terminator
         → IfOk result (IsAnswerBy aim.kind aim.earliest (search_for aim hs terminator input.old)) }
     ensures within { IfOk result (λ found. IfSome found (IsWithinBounds input.old)) }
-    ensures fault { (hs : List Re) (terminator : ℕ) → AreHalvesOf (H.AreOf halves.now) aim hs terminator
-        → IfErr result (IsFault hs (search_for aim hs terminator input.old) (H.GivesUp halves.now cache.old cache.new (cost input.old))) }
+    ensures fault { (hs : List Re) (terminator : ℕ)
+        → AreHalvesOf (H.AreOf halves.now) aim hs terminator
+        → IfErr result (IsFault hs (search_for aim hs terminator input.old)
+        (H.GivesUp halves.now cache.old cache.new (cost input.old))) }
     ensures spends { H.Spends halves.now cache.old cache.new (cost input.old) }
 {
     let Some(end) = seek_end(halves, cache, input, aim)? else {
@@ -366,11 +394,16 @@ pub fn find_end<H: Halves, C: Cursor>(
     requires cache { H.IsCache halves.now cache.old }
     ensures cache { H.IsCache halves.now cache.new }
     ensures keeps { Keeps input.old input.new }
-    ensures found { (hs : List Re) (terminator : ℕ) → AreHalvesOf (H.AreOf halves.now) aim hs terminator
-        → IfOk result (IsForwardHalf aim.kind aim.earliest (search_for aim hs terminator input.old)) }
-    ensures within { IfOk result (λ found. IfSome found (λ half. (low input.old ≤ half.offset) × (half.offset ≤ high input.old))) }
-    ensures fault { (hs : List Re) (terminator : ℕ) → AreHalvesOf (H.AreOf halves.now) aim hs terminator
-        → IfErr result (IsFault hs (search_for aim hs terminator input.old) (H.GivesUp halves.now cache.old cache.new (cost input.old))) }
+    ensures found { (hs : List Re) (terminator : ℕ)
+        → AreHalvesOf (H.AreOf halves.now) aim hs terminator
+        → IfOk result (IsForwardHalf aim.kind aim.earliest
+        (search_for aim hs terminator input.old)) }
+    ensures within { IfOk result (λ found. IfSome found
+        (λ half. (low input.old ≤ half.offset) × (half.offset ≤ high input.old))) }
+    ensures fault { (hs : List Re) (terminator : ℕ)
+        → AreHalvesOf (H.AreOf halves.now) aim hs terminator
+        → IfErr result (IsFault hs (search_for aim hs terminator input.old)
+        (H.GivesUp halves.now cache.old cache.new (cost input.old))) }
     ensures spends { H.Spends halves.now cache.old cache.new (cost input.old) }
 {
     let Some(end) = seek_end(halves, cache, input, aim)? else {
@@ -393,11 +426,15 @@ pub fn find_start<H: Halves, C: Cursor>(
     requires cache { H.IsCache halves.now cache.old }
     ensures cache { H.IsCache halves.now cache.new }
     ensures keeps { Keeps input.old input.new }
-    ensures found { (hs : List Re) (terminator : ℕ) → AreHalvesOf (H.AreOf halves.now) aim hs terminator
+    ensures found { (hs : List Re) (terminator : ℕ)
+        → AreHalvesOf (H.AreOf halves.now) aim hs terminator
         → IfOk result (IsReverseHalf aim.earliest (search_for aim hs terminator input.old)) }
-    ensures within { IfOk result (λ found. IfSome found (λ half. (low input.old ≤ half.offset) × (half.offset ≤ high input.old))) }
-    ensures fault { (hs : List Re) (terminator : ℕ) → AreHalvesOf (H.AreOf halves.now) aim hs terminator
-        → IfErr result (IsFault hs (search_for aim hs terminator input.old) (H.GivesUp halves.now cache.old cache.new (cost input.old))) }
+    ensures within { IfOk result (λ found. IfSome found
+        (λ half. (low input.old ≤ half.offset) × (half.offset ≤ high input.old))) }
+    ensures fault { (hs : List Re) (terminator : ℕ)
+        → AreHalvesOf (H.AreOf halves.now) aim hs terminator
+        → IfErr result (IsFault hs (search_for aim hs terminator input.old)
+        (H.GivesUp halves.now cache.old cache.new (cost input.old))) }
     ensures spends { H.Spends halves.now cache.old cache.new (cost input.old) }
 {
     let Some(Bounds { low, high }) = bounds_of(input, aim) else {
@@ -427,11 +464,14 @@ pub fn find_to_end<H: Halves, C: Cursor>(
     requires cache { H.IsCache halves.now cache.old }
     ensures cache { H.IsCache halves.now cache.new }
     ensures keeps { Keeps input.old input.new }
-    ensures found { (hs : List Re) (terminator : ℕ) → AreHalvesOf (H.AreOf halves.now) aim hs terminator
+    ensures found { (hs : List Re) (terminator : ℕ)
+        → AreHalvesOf (H.AreOf halves.now) aim hs terminator
         → IfOk result (IsMatchToEnd aim.earliest (search_for aim hs terminator input.old)) }
     ensures within { IfOk result (λ found. IfSome found (IsWithinBounds input.old)) }
-    ensures fault { (hs : List Re) (terminator : ℕ) → AreHalvesOf (H.AreOf halves.now) aim hs terminator
-        → IfErr result (IsFault hs (search_for aim hs terminator input.old) (H.GivesUp halves.now cache.old cache.new (cost input.old))) }
+    ensures fault { (hs : List Re) (terminator : ℕ)
+        → AreHalvesOf (H.AreOf halves.now) aim hs terminator
+        → IfErr result (IsFault hs (search_for aim hs terminator input.old)
+        (H.GivesUp halves.now cache.old cache.new (cost input.old))) }
     ensures spends { H.Spends halves.now cache.old cache.new (cost input.old) }
 {
     let Some(half) = find_start(halves, cache, input, aim)? else {

@@ -23,7 +23,8 @@ pub(crate) fn ask<F: FnMut(&mut I) -> Result<Option<Match>, MatchError>, I: Kept
         → IfOk result (λ o. o ≡ find (task_of (I.searched input.old))) }
     ensures stays { (find : Task → Option Found) → AnswersAs I.searched F.FnMut find finder.old
         → AnswersAs I.searched F.FnMut find finder.new }
-    ensures answers { (s : Searched) → Keeps s (I.searched input.old) → Answers I.searched F.FnMut finder.old s result finder.new }
+    ensures answers { (s : Searched) → Keeps s (I.searched input.old)
+        → Answers I.searched F.FnMut finder.old s result finder.new }
 {
     finder(input)
 }
@@ -38,12 +39,14 @@ pub(crate) fn ask_half<F: FnMut(&mut I) -> Result<Option<HalfMatch>, MatchError>
     ensures callable { F.IsAlwaysCallable finder.new }
     ensures lawful { IsLawfulFinder offset_of offset_of I.searched F.FnMut finder.new }
     ensures keeps { Keeps (I.searched input.old) (I.searched input.new) }
-    ensures within { IfOk result (λ o. IfSome o (LiesIn offset_of offset_of (I.searched input.old))) }
+    ensures within { IfOk result (λ o. IfSome o
+        (LiesIn offset_of offset_of (I.searched input.old))) }
     ensures exact { (find : Task → Option HalfFound) → AnswersAs I.searched F.FnMut find finder.old
         → IfOk result (λ o. o ≡ find (task_of (I.searched input.old))) }
     ensures stays { (find : Task → Option HalfFound) → AnswersAs I.searched F.FnMut find finder.old
         → AnswersAs I.searched F.FnMut find finder.new }
-    ensures answers { (s : Searched) → Keeps s (I.searched input.old) → Answers I.searched F.FnMut finder.old s result finder.new }
+    ensures answers { (s : Searched) → Keeps s (I.searched input.old)
+        → Answers I.searched F.FnMut finder.old s result finder.new }
 {
     finder(input)
 }

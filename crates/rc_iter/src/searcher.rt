@@ -130,7 +130,8 @@ impl<I: KeptInput + Drop> SearcherOf<I> {
         ensures halves { (find : Task → Option Found) → FindsAhead find
             → AnswersAs I.searched F.FnMut (halves_of find) finder → IsPast self.old
             → IfOk result (λ o. o ≡ option_map half_of (next_by begin_of end_of find self.old)) }
-        ensures failed { IfErr result (Meets offset_of offset_of I.searched F.FnMut finder self.old) }
+        ensures failed { IfErr result (Meets offset_of offset_of I.searched F.FnMut
+            finder self.old) }
         ensures within { StaysWithin offset_of offset_of self.old result }
         ensures rises { Rises offset_of offset_of self.old result }
         ensures leaves { Leaves offset_of offset_of self.old result self.new }
@@ -147,11 +148,14 @@ impl<I: KeptInput + Drop> SearcherOf<I> {
         requires lawful { IsLawfulFinder offset_of offset_of I.searched F.FnMut finder.old }
         ensures callable { F.IsAlwaysCallable finder.new }
         ensures lawful { IsLawfulFinder offset_of offset_of I.searched F.FnMut finder.new }
-        ensures exact { (find : Task → Option HalfFound) → AnswersAs I.searched F.FnMut find finder.old
+        ensures exact { (find : Task → Option HalfFound)
+            → AnswersAs I.searched F.FnMut find finder.old
             → IfOk result (λ o. o ≡ next_by offset_of offset_of find self.old) }
-        ensures stays { (find : Task → Option HalfFound) → AnswersAs I.searched F.FnMut find finder.old
+        ensures stays { (find : Task → Option HalfFound)
+            → AnswersAs I.searched F.FnMut find finder.old
             → AnswersAs I.searched F.FnMut find finder.new }
-        ensures failed { IfErr result (Meets offset_of offset_of I.searched F.FnMut finder.old self.old) }
+        ensures failed { IfErr result (Meets offset_of offset_of I.searched F.FnMut
+            finder.old self.old) }
         ensures within { StaysWithin offset_of offset_of self.old result }
         ensures rises { Rises offset_of offset_of self.old result }
         ensures leaves { Leaves offset_of offset_of self.old result self.new }

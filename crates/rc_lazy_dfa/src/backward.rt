@@ -39,14 +39,16 @@ fn cell_at(
     requires cells { cells.now ≡ store.now.cells.items }
     requires classes { classes.now ≡ course.frame.classes }
     requires row { here.row + course.frame.width ≤ length store.now.cells.items }
-    requires stands { StandsNotedDown course store.now (start + left) here.row here.noted here.before }
+    requires stands { StandsNotedDown course store.now
+        (start + left) here.row here.noted here.before }
     requires bound { course.seen.slice.start ≤ course.bound }
     requires piece { piece.now ≡ slice_range course.seen.content start (start + length piece.now) }
     requires within { course.bound ≤ start }
     requires some { 0 < left }
     requires left { left ≤ length piece.now }
     ensures row { result < UNKNOWN → result + course.frame.width ≤ length store.now.cells.items }
-    ensures stands { result < UNKNOWN → StandsNotedDown course store.now (start + (left - 1)) result here.noted here.before }
+    ensures stands { result < UNKNOWN → StandsNotedDown course store.now
+        (start + (left - 1)) result here.noted here.before }
 {
     cells[here.row + classes[piece[left - 1] as usize] as usize]
 }
@@ -69,14 +71,16 @@ fn stride(
     requires cells { cells.now ≡ store.now.cells.items }
     requires classes { classes.now ≡ course.frame.classes }
     requires row { here.row + course.frame.width ≤ length store.now.cells.items }
-    requires stands { StandsNotedDown course store.now (start + from) here.row here.noted here.before }
+    requires stands { StandsNotedDown course store.now
+        (start + from) here.row here.noted here.before }
     requires bound { course.seen.slice.start ≤ course.bound }
     requires piece { piece.now ≡ slice_range course.seen.content start (start + length piece.now) }
     requires within { course.bound ≤ start }
     requires from { from ≤ length piece.now }
     ensures left { result.0 ≤ from }
     ensures row { result.1 + course.frame.width ≤ length store.now.cells.items }
-    ensures stands { StandsNotedDown course store.now (start + result.0) result.1 here.noted here.before }
+    ensures stands { StandsNotedDown course store.now
+        (start + result.0) result.1 here.noted here.before }
 {
     let noted = here.noted;
     let before = here.before;
@@ -375,7 +379,17 @@ pub(crate) fn search<C: Cursor>(
     earliest: bool,
 ) -> Ended
     ghost course: { Request }
-    requires course { course ≡ record { frame = frame_of automaton.now direction.Backwards; begun = half.old.store; seen = input.old; from = from; bound = end; anchored = anchored.now; earliest = earliest; may_rest = false } }
+    requires course { course ≡ record {
+      frame = frame_of
+          automaton.now direction.Backwards;
+      begun = half.old.store;
+      seen = input.old;
+      from = from;
+      bound = end;
+      anchored = anchored.now;
+      earliest = earliest;
+      may_rest = false;
+    } }
     requires half { IsHalf course.frame half.old }
     requires asked { IsAsked course.frame.machine anchored.now }
     requires low { input.old.slice.start ≤ end }
@@ -413,10 +427,14 @@ pub(crate) fn run_backwards<C: Cursor>(
     requires high { end ≤ high input.old }
     ensures keeps { Keeps input.old input.new }
     ensures half { IsHalf (frame_of automaton.now direction.Backwards) half.new }
-    ensures spends { Spends (frame_of automaton.now direction.Backwards) half.old.store half.new.store (high input.old - from + 2) }
-    ensures ended { HasEndedDown (machine_of automaton.now direction.Backwards) (text_of (machine_of automaton.now direction.Backwards).setting.terminator input.old) from end anchored.now earliest result }
+    ensures spends { Spends (frame_of automaton.now direction.Backwards) half.old.store
+        half.new.store (high input.old - from + 2) }
+    ensures ended { HasEndedDown (machine_of automaton.now direction.Backwards)
+        (text_of (machine_of automaton.now direction.Backwards).setting.terminator input.old) from
+        end anchored.now earliest result }
     ensures gives_up { (memory : Bool) → gave_up result ≡ Some memory
-        → MayGiveUp (frame_of automaton.now direction.Backwards) half.old.store half.new.store (high input.old - from + 2) memory }
+        → MayGiveUp (frame_of automaton.now direction.Backwards) half.old.store half.new.store
+        (high input.old - from + 2) memory }
 {
     search(automaton, half, input, anchored, end, from, earliest)
 }

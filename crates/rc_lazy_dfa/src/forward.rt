@@ -43,7 +43,8 @@ fn reach(at: usize, end: usize, may_rest: bool, rest_from: usize) -> usize
 fn is_idle_at(half: &Half, stand: Stand) -> bool
     ghost f: { Frame }
     requires held { Held f half.now.store }
-    ensures { IsTrue result → (is_some stand.met ≡ false) × ((s : State) → IsRow f.width half.now.store.states stand.row s → is_idle s ≡ true) }
+    ensures { IsTrue result → (is_some stand.met ≡ false)
+        × ((s : State) → IsRow f.width half.now.store.states stand.row s → is_idle s ≡ true) }
 {
     stand.met.is_none() && half.store.idles_at(stand.row)
 }
@@ -71,7 +72,8 @@ fn cell_at(
     requires within { start + length piece.now ≤ course.bound }
     requires index { index < length piece.now }
     ensures row { result < UNKNOWN → result + course.frame.width ≤ length store.now.cells.items }
-    ensures stands { result < UNKNOWN → StandsNoted course store.now (start + (index + 1)) result here.noted here.before }
+    ensures stands { result < UNKNOWN → StandsNoted course store.now
+        (start + (index + 1)) result here.noted here.before }
 {
     cells[here.row + classes[piece[index] as usize] as usize]
 }
@@ -101,7 +103,8 @@ fn stride(
     requires from { from ≤ length piece.now }
     ensures read { (from ≤ result.0) × (result.0 ≤ length piece.now) }
     ensures row { result.1 + course.frame.width ≤ length store.now.cells.items }
-    ensures stands { StandsNoted course store.now (start + result.0) result.1 here.noted here.before }
+    ensures stands { StandsNoted course store.now
+        (start + result.0) result.1 here.noted here.before }
 {
     let noted = here.noted;
     let before = here.before;
@@ -357,7 +360,8 @@ fn begin(
     requires ordered { course.from ≤ course.bound }
     requires beside { beside ≡ behind_at (text_in course) from }
     requires small { IsByte beside }
-    requires there { IfSome beside (λ byte. (1 ≤ from) × (slice_get course.seen.content (from - 1) ≡ Some byte)) }
+    requires there { IfSome beside (λ byte. (1 ≤ from)
+        × (slice_get course.seen.content (from - 1) ≡ Some byte)) }
     ensures { IsLeg course half.new from result }
 {
     let cell = match half.begin(automaton, Direction::Forwards, anchored, beside) {
@@ -424,7 +428,17 @@ pub(crate) fn search<C: Cursor>(
     rest_from: usize,
 ) -> Ended
     ghost course: { Request }
-    requires course { course ≡ record { frame = frame_of automaton.now direction.Forwards; begun = half.old.store; seen = input.old; from = from; bound = end; anchored = anchored.now; earliest = earliest; may_rest = may_rest } }
+    requires course { course ≡ record {
+      frame = frame_of
+          automaton.now direction.Forwards;
+      begun = half.old.store;
+      seen = input.old;
+      from = from;
+      bound = end;
+      anchored = anchored.now;
+      earliest = earliest;
+      may_rest = may_rest;
+    } }
     requires half { IsHalf course.frame half.old }
     requires asked { IsAsked course.frame.machine anchored.now }
     requires low { input.old.slice.start ≤ from }
@@ -464,10 +478,14 @@ pub(crate) fn run_forwards<C: Cursor>(
     requires high { from ≤ high input.old }
     ensures keeps { Keeps input.old input.new }
     ensures half { IsHalf (frame_of automaton.now direction.Forwards) half.new }
-    ensures spends { Spends (frame_of automaton.now direction.Forwards) half.old.store half.new.store (high input.old - from + 2) }
-    ensures ended { HasEnded (machine_of automaton.now direction.Forwards) (text_of (machine_of automaton.now direction.Forwards).setting.terminator input.old) (high input.old) from anchored.now earliest may_rest result }
+    ensures spends { Spends (frame_of automaton.now direction.Forwards) half.old.store
+        half.new.store (high input.old - from + 2) }
+    ensures ended { HasEnded (machine_of automaton.now direction.Forwards)
+        (text_of (machine_of automaton.now direction.Forwards).setting.terminator input.old)
+        (high input.old) from anchored.now earliest may_rest result }
     ensures gives_up { (memory : Bool) → gave_up result ≡ Some memory
-        → MayGiveUp (frame_of automaton.now direction.Forwards) half.old.store half.new.store (high input.old - from + 2) memory }
+        → MayGiveUp (frame_of automaton.now direction.Forwards) half.old.store half.new.store
+        (high input.old - from + 2) memory }
 {
     let end = high(input);
     search(

@@ -51,7 +51,8 @@ fn no_places(alloc: Global) -> State {
 /// byte beside and one for an end. Returns None if that overflows.
 pub(crate) fn starts_in(automaton: &Automaton, direction: Direction, width: usize) -> Option<usize>
     requires { width ≡ (frame_of automaton.now direction).width }
-    ensures { MatchOption result (usize.MAX < starts_in (frame_of automaton.now direction)) (λ n. n ≡ starts_in (frame_of automaton.now direction)) }
+    ensures { MatchOption result (usize.MAX < starts_in (frame_of automaton.now direction))
+        (λ n. n ≡ starts_in (frame_of automaton.now direction)) }
 {
     let Some(ways) = automaton.pattern_len().checked_add(2) else {
         return None;
@@ -118,7 +119,9 @@ impl Half {
         requires row { IsPlace f self.old.store row }
         ensures half { IsHalf f self.new }
         ensures store { self.new.store ≡ self.old.store }
-        ensures leads { IfOk result (λ _. (s : states.State) → IsRow f.width self.old.store.states row s → Leads f.machine s beside (state_of self.new.to)) }
+        ensures leads { IfOk result (λ _. (s : states.State)
+            → IsRow f.width self.old.store.states row s
+            → Leads f.machine s beside (state_of self.new.to)) }
     {
         let from = self.store.states.get(row / self.store.width);
         automaton.step(direction, &mut self.scratch, from, beside, &mut self.to)?;
@@ -133,7 +136,8 @@ impl Half {
         requires within { IsWithin f.machine (state_of self.old.to) }
         ensures half { IsHalf f self.new }
         ensures spends { Spends f self.old.store self.new.store 1 }
-        ensures named { IfOk result (IsNamed f self.old.store self.new.store (state_of self.old.to)) }
+        ensures named { IfOk result (IsNamed f self.old.store self.new.store
+            (state_of self.old.to)) }
         ensures refused { IfErr result (IsRefused f self.old.store self.new.store) }
     {
         let named = self.store.name(&self.to, self.served)?;
@@ -160,7 +164,9 @@ impl Half {
         requires byte { IsByte beside }
         ensures half { IsHalf f self.new }
         ensures spends { Spends f self.old.store self.new.store 1 }
-        ensures leads { IfOk result (λ cell. (s : states.State) → IsRow f.width self.old.store.states row s → IsKnown f self.new.store.states beside (Leads f.machine s beside) cell) }
+        ensures leads { IfOk result (λ cell. (s : states.State)
+            → IsRow f.width self.old.store.states row s
+            → IsKnown f self.new.store.states beside (Leads f.machine s beside) cell) }
         ensures refused { IfErr result (IsRefused f self.old.store self.new.store) }
     {
         let column = column(automaton.classes(), self.store.width, beside);
@@ -197,7 +203,8 @@ impl Half {
         requires byte { IsByte beside }
         ensures half { IsHalf f self.new }
         ensures spends { Spends f self.old.store self.new.store 1 }
-        ensures begins { IfOk result (IsKnown f self.new.store.states beside (Begins f.machine anchored.now beside)) }
+        ensures begins { IfOk result (IsKnown f self.new.store.states beside
+            (Begins f.machine anchored.now beside)) }
         ensures refused { IfErr result (IsRefused f self.old.store self.new.store) }
     {
         let column = column(automaton.classes(), self.store.width, beside);

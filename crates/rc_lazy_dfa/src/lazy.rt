@@ -37,7 +37,9 @@ pub struct Cache {
 
 /// Returns the least capacity that suffices, in bytes, or None if that is more than `usize::MAX`.
 fn minimum(automaton: &Automaton) -> Option<usize>
-    ensures { MatchOption result (usize.MAX < minimum_of (frame_of automaton.now direction.Forwards)) (λ n. n ≡ minimum_of (frame_of automaton.now direction.Forwards)) }
+    ensures { MatchOption result (usize.MAX
+        < minimum_of (frame_of automaton.now direction.Forwards))
+        (λ n. n ≡ minimum_of (frame_of automaton.now direction.Forwards)) }
 {
     let width = automaton.samples().len() + 1;
     let starts = starts_in(automaton, Direction::Forwards, width)?;
@@ -51,7 +53,8 @@ fn minimum(automaton: &Automaton) -> Option<usize>
 
 /// Whether a search may be anchored so: the pattern that is asked for, if any, exists.
 fn is_asked(automaton: &Automaton, anchored: &Anchored) -> bool
-    ensures { (d : direction.the_data) → IsTrue result ↔ IsAsked (machine_of automaton.now d) anchored.now }
+    ensures { (d : direction.the_data) → IsTrue result
+        ↔ IsAsked (machine_of automaton.now d) anchored.now }
 {
     match anchored {
         Anchored::Pattern(pattern) => pattern.as_usize() < automaton.pattern_len(),

@@ -64,7 +64,8 @@ pub(crate) fn told(
 ) -> Option<(usize, usize)>
     ghost f: { Frame }
     requires held { Held f store.now }
-    ensures { (met : Option (ℕ × ℕ)) → IsNoted f.width store.now.states noted before met → result ≡ met }
+    ensures { (met : Option (ℕ × ℕ)) → IsNoted f.width store.now.states noted before met
+        → result ≡ met }
 {
     match noted {
         Some((row, at)) => match store.stop_at(row) {
@@ -115,7 +116,8 @@ pub(crate) fn met_by(
 ) -> Option<(usize, usize)>
     ghost f: { Frame }
     requires held { Held f store.now }
-    ensures { (t : State) → Names f.width store.now.states cell t → result ≡ best_at at t.matched before }
+    ensures { (t : State) → Names f.width store.now.states cell t
+        → result ≡ best_at at t.matched before }
 {
     match stop_by(store, cell) {
         Some(place) => Some((place, at)),

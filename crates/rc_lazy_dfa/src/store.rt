@@ -84,10 +84,12 @@ impl Store {
     fn make_room(&mut self, weight: usize, served: usize) -> Result<bool, Refusal>
         ghost f: { Frame }
         requires held { Held f self.old }
-        requires light { weight ≤ 8 * f.width + 32 + 8 * longest_in f.machine.direction (length f.machine.setting.places) }
+        requires light { weight ≤ 8 * f.width + 32 + 8
+            * longest_in f.machine.direction (length f.machine.setting.places) }
         ensures held { Held f self.new }
         ensures room { IfOk result (HasRoom self.old self.new weight) }
-        ensures refused { IfErr result (λ e. (self.new ≡ self.old) × IsRefused f self.old self.new e) }
+        ensures refused { IfErr result (λ e. (self.new ≡ self.old)
+            × IsRefused f self.old self.new e) }
     {
         if weight <= self.capacity - self.used {
             return Ok(true);

@@ -29,7 +29,8 @@ struct PatternLiterals {
 /// it belongs.
 pub fn exact_needles(alloc: Global, hirs: &[Hir]) -> Result<Option<OwnedNeedles>, AllocError>
     requires { length hirs.now ≤ most_patterns }
-    ensures { IfOk result (λ found. option_map owned_of found ≡ exact_needles (map meaning hirs.now)) }
+    ensures { IfOk result (λ found. option_map owned_of found
+        ≡ exact_needles (map meaning hirs.now)) }
 {
     let Some(literals) = literals_of_each(alloc, hirs)? else {
         return Ok(None);
@@ -47,7 +48,8 @@ pub fn exact_needles(alloc: Global, hirs: &[Hir]) -> Result<Option<OwnedNeedles>
 /// literals.
 fn literals_of_each(alloc: Global, hirs: &[Hir]) -> Result<Option<PatternLiterals>, AllocError>
     requires { length hirs.now ≤ most_patterns }
-    ensures { IfOk result (λ found. option_map literals_in found ≡ owned_from 0 (map meaning hirs.now)) }
+    ensures { IfOk result (λ found. option_map literals_in found
+        ≡ owned_from 0 (map meaning hirs.now)) }
 {
     let mut list = PatternLiterals {
         needles: Vec::new(alloc),
@@ -68,8 +70,10 @@ fn add_literals(
     pattern: PatternID,
     list: &mut PatternLiterals,
 ) -> Result<(), AllocError>
-    ensures needles { IfOk result (λ _. needles_in list.new.needles.items ≡ needles_in list.old.needles.items ++ needles_in literals.items) }
-    ensures owners { IfOk result (λ _. list.new.owners.items ≡ list.old.owners.items ++ replicate (length literals.items) pattern) }
+    ensures needles { IfOk result (λ _. needles_in list.new.needles.items
+        ≡ needles_in list.old.needles.items ++ needles_in literals.items) }
+    ensures owners { IfOk result (λ _. list.new.owners.items ≡ list.old.owners.items
+        ++ replicate (length literals.items) pattern) }
 {
     let mut literals = literals;
     for _ in 0..literals.len() {
@@ -81,7 +85,8 @@ fn add_literals(
 /// Returns the bytes of a literal that isn't empty, or of the members of an alternation of such
 /// literals, however many there are. Returns None for other patterns. `Err` means out of memory.
 fn exact_literals(alloc: Global, hir: &Hir) -> Result<Option<Vec<Vec<u8>>>, AllocError>
-    ensures { IfOk result (λ found. option_map (λ v. needles_in v.items) found ≡ literals_of (meaning hir.now)) }
+    ensures { IfOk result (λ found. option_map (λ v. needles_in v.items) found
+        ≡ literals_of (meaning hir.now)) }
 {
     match hir.kind() {
         HirKind::Literal(bytes) => one_literal(alloc, bytes),
@@ -97,7 +102,8 @@ fn exact_literals(alloc: Global, hir: &Hir) -> Result<Option<Vec<Vec<u8>>>, Allo
 
 /// Returns the bytes of a literal alone, or None if it is empty.
 fn one_literal(alloc: Global, bytes: &Vec<u8>) -> Result<Option<Vec<Vec<u8>>>, AllocError>
-    ensures { IfOk result (λ found. option_map (λ v. needles_in v.items) found ≡ literals_of (literal bytes.now.items)) }
+    ensures { IfOk result (λ found. option_map (λ v. needles_in v.items) found
+        ≡ literals_of (literal bytes.now.items)) }
 {
     if bytes.as_slice().is_empty() {
         return Ok(None);
@@ -110,7 +116,8 @@ fn one_literal(alloc: Global, bytes: &Vec<u8>) -> Result<Option<Vec<Vec<u8>>>, A
 /// Returns the bytes of the members. Returns None if there is no member, or one is no literal or an
 /// empty one.
 fn members(alloc: Global, subs: &Vec<Hir>) -> Result<Option<Vec<Vec<u8>>>, AllocError>
-    ensures { IfOk result (λ found. option_map (λ v. needles_in v.items) found ≡ literals_of (alt_all (map meaning subs.now.items))) }
+    ensures { IfOk result (λ found. option_map (λ v. needles_in v.items) found
+        ≡ literals_of (alt_all (map meaning subs.now.items))) }
 {
     if subs.as_slice().is_empty() {
         return Ok(None);

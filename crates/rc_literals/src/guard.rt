@@ -57,11 +57,16 @@ pub fn next_start<C: Cursor>(
     requires end { end ≡ high input.old }
     ensures keeps { Keeps input.old input.new }
     ensures within { IfSome result (λ s. (at ≤ s.from) × (s.from ≤ s.needle) × (s.needle < end)) }
-    ensures needle { option_map (λ s. s.needle) result ≡ option_map (λ h. h.start) (find_needle (guard_needles guard.entry) input.old.content at end) }
+    ensures needle { option_map (λ s. s.needle) result
+        ≡ option_map (λ h. h.start) (find_needle
+        (guard_needles guard.entry) input.old.content at end) }
     ensures from { IfSome result (BeginsFor guard.entry input.old.content at) }
-    ensures passed { (places : List Place) (terminator : ℕ) (over : Bool) → IsGuard places terminator guard.entry → MatchOption result
-        ((x : ℕ) → at ≤ x → x ≤ end → HasNoWalkFrom (search_over places terminator over input.old) x)
-        (λ s. (x : ℕ) → at ≤ x → x < s.from → HasNoWalkFrom (search_over places terminator over input.old) x) }
+    ensures passed { (places : List Place) (terminator : ℕ) (over : Bool)
+        → IsGuard places terminator guard.entry → MatchOption result
+        ((x : ℕ) → at ≤ x → x ≤ end → HasNoWalkFrom
+        (search_over places terminator over input.old) x)
+        (λ s. (x : ℕ) → at ≤ x → x < s.from
+        → HasNoWalkFrom (search_over places terminator over input.old) x) }
 {
     match guard {
         Guard::Begins(prefilter) => {
@@ -108,8 +113,10 @@ fn behind_stop<C: Cursor>(input: &mut Input<C>, stops: &Stops, at: usize, needle
 #[inline(always)]
 fn stopped_len(piece: &[u8], stops: &Stops) -> usize
     ensures within { result ≤ length piece.now }
-    ensures none { (k : ℕ) → result ≤ k → k < length piece.now → is_stop stops.now.table (slice_index piece.now k) ≡ false }
-    ensures last { 0 < result → IsTrue (is_stop stops.now.table (slice_index piece.now (result - 1))) }
+    ensures none { (k : ℕ) → result ≤ k → k < length piece.now
+        → is_stop stops.now.table (slice_index piece.now k) ≡ false }
+    ensures last { 0 < result → IsTrue (is_stop stops.now.table
+        (slice_index piece.now (result - 1))) }
 {
     let mut left = piece.len();
     while left > 0 {

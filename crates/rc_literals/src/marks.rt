@@ -36,7 +36,8 @@ pub fn mark_owners<C: Cursor>(input: &mut Input<C>, needles: &OwnedNeedles, set:
 /// Inserts each pattern of which a needle occurs where the bounds begin, and within them.
 fn mark_at_start<C: Cursor>(input: &mut Input<C>, needles: &OwnedNeedles, set: &mut PatternSet)
     ensures keeps { Keeps input.old input.new }
-    ensures adds { AddsFrom (owned_of needles.now) input.old.content (high input.old) (low input.old) (low input.old + 1) set.old set.new }
+    ensures adds { AddsFrom (owned_of needles.now) input.old.content (high input.old)
+        (low input.old) (low input.old + 1) set.old set.new }
 {
     let end = high(input);
     let at = low(input);
@@ -48,7 +49,8 @@ fn mark_at_start<C: Cursor>(input: &mut Input<C>, needles: &OwnedNeedles, set: &
 /// Inserts each pattern of which a needle occurs within the bounds.
 fn mark_anywhere<C: Cursor>(input: &mut Input<C>, needles: &OwnedNeedles, set: &mut PatternSet)
     ensures keeps { Keeps input.old input.new }
-    ensures adds { AddsFrom (owned_of needles.now) input.old.content (high input.old) (low input.old) (high input.old) set.old set.new }
+    ensures adds { AddsFrom (owned_of needles.now) input.old.content (high input.old)
+        (low input.old) (high input.old) set.old set.new }
 {
     let end = high(input);
     let mut at = low(input);
@@ -94,7 +96,8 @@ fn mark_at<C: Cursor>(
     requires low { at < end }
     requires high { end ≤ length input.old.content }
     ensures keeps { Keeps input.old input.new }
-    ensures adds { AddsFrom (owned_of needles.now) input.old.content end at (at + 1) set.old set.new }
+    ensures adds { AddsFrom (owned_of needles.now) input.old.content end at
+        (at + 1) set.old set.new }
 {
     let table = &needles.prefilter.searcher.table;
     let Some(byte) = byte_at(input, at) else {

@@ -48,7 +48,8 @@ fn fast_prefilter(alloc: Global, needles: Vec<Vec<u8>>) -> Result<Option<Prefilt
 /// by few first bytes is no faster than one for single bytes, and has to compare what follows.
 /// `Err` means out of memory.
 fn longer_prefilter(alloc: Global, hirs: &[Hir]) -> Result<Option<Prefilter>, AllocError>
-    ensures { IfOk result (λ found. IfSome found (λ p. (t : Text) → Holds t (map meaning hirs.now) (needles_of p))) }
+    ensures { IfOk result (λ found. IfSome found
+        (λ p. (t : Text) → Holds t (map meaning hirs.now) (needles_of p))) }
 {
     let Some(list) = required(alloc, hirs, true)? else {
         return Ok(None);
@@ -65,7 +66,8 @@ fn longer_prefilter(alloc: Global, hirs: &[Hir]) -> Result<Option<Prefilter>, Al
 /// Returns a prefilter for the required literals, if a search for them pays. `Err` means out of
 /// memory.
 fn needed_prefilter(alloc: Global, hirs: &[Hir]) -> Result<Option<Prefilter>, AllocError>
-    ensures { IfOk result (λ found. IfSome found (λ p. (t : Text) → Holds t (map meaning hirs.now) (needles_of p))) }
+    ensures { IfOk result (λ found. IfSome found
+        (λ p. (t : Text) → Holds t (map meaning hirs.now) (needles_of p))) }
 {
     let Some(list) = required(alloc, hirs, false)? else {
         return Ok(None);
@@ -88,8 +90,10 @@ fn needed_prefilter(alloc: Global, hirs: &[Hir]) -> Result<Option<Prefilter>, Al
 /// byte, it is lengthened by what is read after it, if the search stays fast then. All this affects
 /// speed only. `Err` means out of memory.
 pub fn needs_of(alloc: Global, hirs: &[Hir]) -> Result<Option<Needs>, AllocError>
-    ensures holds { IfOk result (λ found. IfSome found (λ n. (t : Text) → Holds t (map meaning hirs.now) (needles_of n.needles))) }
-    ensures leaves { IfOk result (λ found. IfSome found (λ n. (t : Text) → LeavesOut t (map meaning hirs.now) n.stops.table)) }
+    ensures holds { IfOk result (λ found. IfSome found
+        (λ n. (t : Text) → Holds t (map meaning hirs.now) (needles_of n.needles))) }
+    ensures leaves { IfOk result (λ found. IfSome found
+        (λ n. (t : Text) → LeavesOut t (map meaning hirs.now) n.stops.table)) }
 {
     let Some(needles) = needed_prefilter(alloc, hirs)? else {
         return Ok(None);

@@ -39,9 +39,11 @@ const GREATEST_VARIANTS: usize = 32;
 /// in the patterns' size, and recurses as deep as a pattern is nested.
 pub fn prefixes(alloc: Global, hirs: &[Hir]) -> Result<Option<Vec<Vec<u8>>>, AllocError>
     ensures usable { IfOk result (λ found. IfSome found (λ v. IsUsable (needles_in v.items))) }
-    ensures exact { IfOk result (λ found. MatchOption found ((ws : List (List ℕ)) → ¬ ArePrefixes (map meaning hirs.now) ws)
+    ensures exact { IfOk result (λ found. MatchOption found
+        ((ws : List (List ℕ)) → ¬ ArePrefixes (map meaning hirs.now) ws)
         (λ v. ArePrefixes (map meaning hirs.now) (needles_in v.items))) }
-    ensures covers { IfOk result (λ found. IfSome found (λ v. (t : Text) → Covers t (map meaning hirs.now) (needles_in v.items))) }
+    ensures covers { IfOk result (λ found. IfSome found
+        (λ v. (t : Text) → Covers t (map meaning hirs.now) (needles_in v.items))) }
 {
     let mut list = Vec::new(alloc);
     if !add_alternation(alloc, hirs, &mut list)? || !is_usable(&list) {
@@ -53,7 +55,8 @@ pub fn prefixes(alloc: Global, hirs: &[Hir]) -> Result<Option<Vec<Vec<u8>>>, All
 /// Adds the prefixes of a pattern. Returns false if it has none of use.
 #[cycle(add)]
 fn add(alloc: Global, hir: &Hir, list: &mut Vec<Vec<u8>>) -> Result<bool, AllocError>
-    ensures { IfOk result (λ done. Extends done (needles_in list.old.items) (needles_in list.new.items) (first_bytes (meaning hir.now))) }
+    ensures { IfOk result (λ done. Extends done (needles_in list.old.items)
+        (needles_in list.new.items) (first_bytes (meaning hir.now))) }
 {
     match hir.kind() {
         HirKind::Empty | HirKind::Look(_) => Ok(false),
@@ -80,7 +83,8 @@ fn add(alloc: Global, hir: &Hir, list: &mut Vec<Vec<u8>>) -> Result<bool, AllocE
 /// Adds the prefixes of each pattern. Returns false if one has none of use.
 #[cycle(add)]
 fn add_alternation(alloc: Global, subs: &[Hir], list: &mut Vec<Vec<u8>>) -> Result<bool, AllocError>
-    ensures { IfOk result (λ done. Extends done (needles_in list.old.items) (needles_in list.new.items) (first_bytes (alt_all (map meaning subs.now)))) }
+    ensures { IfOk result (λ done. Extends done (needles_in list.old.items)
+        (needles_in list.new.items) (first_bytes (alt_all (map meaning subs.now)))) }
 {
     for sub in subs {
         if !add(alloc, sub, list)? {
@@ -99,8 +103,10 @@ fn add_begun(
     rest: &[Hir],
     list: &mut Vec<Vec<u8>>,
 ) -> Result<bool, AllocError>
-    ensures { IfOk result (λ done. Extends done (needles_in list.old.items) (needles_in list.new.items)
-        (begun_by (whole_bytes (meaning first.now)) (first_bytes (meaning first.now)) (cat_all (map meaning rest.now)))) }
+    ensures { IfOk result (λ done. Extends done (needles_in list.old.items)
+        (needles_in list.new.items)
+        (begun_by (whole_bytes (meaning first.now)) (first_bytes (meaning first.now))
+        (cat_all (map meaning rest.now)))) }
 {
     match whole_bytes(alloc, first)? {
         Some(needles) => {
@@ -115,7 +121,8 @@ fn add_begun(
 /// alternation of these. Returns None for other patterns, and if the texts are too many or too long
 /// to be kept.
 fn whole_bytes(alloc: Global, hir: &Hir) -> Result<Option<Vec<Vec<u8>>>, AllocError>
-    ensures { IfOk result (λ found. option_map (λ v. needles_in v.items) found ≡ whole_bytes (meaning hir.now)) }
+    ensures { IfOk result (λ found. option_map (λ v. needles_in v.items) found
+        ≡ whole_bytes (meaning hir.now)) }
 {
     let mut list = Vec::new(alloc);
     if add_whole(alloc, hir, &mut list)? {
@@ -127,7 +134,8 @@ fn whole_bytes(alloc: Global, hir: &Hir) -> Result<Option<Vec<Vec<u8>>>, AllocEr
 /// Adds each text that a pattern spells. Returns false if these aren't known, or there is no room.
 #[cycle(add_whole)]
 fn add_whole(alloc: Global, hir: &Hir, list: &mut Vec<Vec<u8>>) -> Result<bool, AllocError>
-    ensures { IfOk result (λ done. Extends done (needles_in list.old.items) (needles_in list.new.items) (spelled_bytes (meaning hir.now))) }
+    ensures { IfOk result (λ done. Extends done (needles_in list.old.items)
+        (needles_in list.new.items) (spelled_bytes (meaning hir.now))) }
 {
     match hir.kind() {
         HirKind::Literal(bytes) => add_whole_literal(alloc, bytes, list),
@@ -148,7 +156,8 @@ fn add_whole_alternation(
     subs: &[Hir],
     list: &mut Vec<Vec<u8>>,
 ) -> Result<bool, AllocError>
-    ensures { IfOk result (λ done. Extends done (needles_in list.old.items) (needles_in list.new.items) (spelled_bytes (alt_all (map meaning subs.now)))) }
+    ensures { IfOk result (λ done. Extends done (needles_in list.old.items)
+        (needles_in list.new.items) (spelled_bytes (alt_all (map meaning subs.now)))) }
 {
     for sub in subs {
         if !add_whole(alloc, sub, list)? {
@@ -164,7 +173,8 @@ fn add_whole_literal(
     bytes: &[u8],
     list: &mut Vec<Vec<u8>>,
 ) -> Result<bool, AllocError>
-    ensures { IfOk result (λ done. Extends done (needles_in list.old.items) (needles_in list.new.items) (spelled_bytes (literal bytes.now))) }
+    ensures { IfOk result (λ done. Extends done (needles_in list.old.items)
+        (needles_in list.new.items) (spelled_bytes (literal bytes.now))) }
 {
     if bytes.len() > GREATEST_LENGTH {
         return Ok(false);
@@ -178,7 +188,8 @@ fn lengthened(
     needles: Vec<Vec<u8>>,
     rest: &[Hir],
 ) -> Result<Vec<Vec<u8>>, AllocError>
-    ensures { IfOk result (λ longer. needles_in longer.items ≡ lengthened (needles_in needles.items) (cat_all (map meaning rest.now))) }
+    ensures { IfOk result (λ longer. needles_in longer.items
+        ≡ lengthened (needles_in needles.items) (cat_all (map meaning rest.now))) }
 {
     let mut longer = needles;
     for sub in rest {
@@ -197,9 +208,11 @@ fn crossed_with(
     needles: &[Vec<u8>],
     hir: &Hir,
 ) -> Result<Option<Vec<Vec<u8>>>, AllocError>
-    ensures { IfOk result (λ found. MatchOption found (may_cross (needles_in needles.now) (whole_bytes (meaning hir.now)) ≡ false)
+    ensures { IfOk result (λ found. MatchOption found
+        (may_cross (needles_in needles.now) (whole_bytes (meaning hir.now)) ≡ false)
         (λ v. (may_cross (needles_in needles.now) (whole_bytes (meaning hir.now)) ≡ true)
-        × (needles_in v.items ≡ crossed (needles_in needles.now) (unwrap_or (whole_bytes (meaning hir.now)) [])))) }
+        × (needles_in v.items ≡ crossed (needles_in needles.now)
+        (unwrap_or (whole_bytes (meaning hir.now)) [])))) }
 {
     if !has_short(needles) {
         return Ok(None);
@@ -231,7 +244,8 @@ fn crossed(
     needles: &[Vec<u8>],
     behind: &[Vec<u8>],
 ) -> Result<Vec<Vec<u8>>, AllocError>
-    ensures { IfOk result (λ list. needles_in list.items ≡ crossed (needles_in needles.now) (needles_in behind.now)) }
+    ensures { IfOk result (λ list. needles_in list.items
+        ≡ crossed (needles_in needles.now) (needles_in behind.now)) }
 {
     let mut list = Vec::new(alloc);
     for needle in needles {
@@ -247,7 +261,8 @@ fn add_joined(
     behind: &[Vec<u8>],
     list: &mut Vec<Vec<u8>>,
 ) -> Result<(), AllocError>
-    ensures { IfOk result (λ _. needles_in list.new.items ≡ needles_in list.old.items ++ map (λ v. needle.now ++ v) (needles_in behind.now)) }
+    ensures { IfOk result (λ _. needles_in list.new.items ≡ needles_in list.old.items
+        ++ map (λ v. needle.now ++ v) (needles_in behind.now)) }
 {
     for rest in behind {
         let mut joined = needle.to_vec(alloc)?;
@@ -263,7 +278,8 @@ fn add_needles(
     needles: &[Vec<u8>],
     list: &mut Vec<Vec<u8>>,
 ) -> Result<bool, AllocError>
-    ensures { IfOk result (λ done. Extends done (needles_in list.old.items) (needles_in list.new.items) (Some (needles_in needles.now))) }
+    ensures { IfOk result (λ done. Extends done (needles_in list.old.items)
+        (needles_in list.new.items) (Some (needles_in needles.now))) }
 {
     for needle in needles {
         if !add_needle(alloc, needle, list)? {
@@ -275,9 +291,12 @@ fn add_needles(
 
 /// Returns how many members come before the first that may read.
 fn still_count(subs: &[Hir]) -> usize
-    ensures first { IfSome (slice_get subs.now result) (λ first. first_bytes (cat_all (map meaning subs.now))
-        ≡ begun_by (whole_bytes (meaning first)) (first_bytes (meaning first)) (cat_all (map meaning (drop (result + 1) subs.now)))) }
-    ensures none { IfNone (slice_get subs.now result) (first_bytes (cat_all (map meaning subs.now)) ≡ None) }
+    ensures first { IfSome (slice_get subs.now result)
+        (λ first. first_bytes (cat_all (map meaning subs.now))
+        ≡ begun_by (whole_bytes (meaning first)) (first_bytes (meaning first))
+        (cat_all (map meaning (drop (result + 1) subs.now)))) }
+    ensures none { IfNone (slice_get subs.now result)
+        (first_bytes (cat_all (map meaning subs.now)) ≡ None) }
 {
     for (i, sub) in subs.iter().enumerate() {
         if !is_still(sub) {
@@ -304,14 +323,16 @@ fn is_still(hir: &Hir) -> bool
 
 /// Adds the first bytes of a literal. Returns false if there is no room.
 fn add_literal(alloc: Global, bytes: &[u8], list: &mut Vec<Vec<u8>>) -> Result<bool, AllocError>
-    ensures { IfOk result (λ done. Extends done (needles_in list.old.items) (needles_in list.new.items) (first_bytes (literal bytes.now))) }
+    ensures { IfOk result (λ done. Extends done (needles_in list.old.items)
+        (needles_in list.new.items) (first_bytes (literal bytes.now))) }
 {
     add_needle(alloc, &bytes[..bytes.len().min(GREATEST_LENGTH)], list)
 }
 
 /// Adds each member of a class. Returns false if there are too many.
 fn add_class(alloc: Global, class: &Class, list: &mut Vec<Vec<u8>>) -> Result<bool, AllocError>
-    ensures { IfOk result (λ done. Extends done (needles_in list.old.items) (needles_in list.new.items) (first_bytes (class_meaning class.now))) }
+    ensures { IfOk result (λ done. Extends done (needles_in list.old.items)
+        (needles_in list.new.items) (first_bytes (class_meaning class.now))) }
 {
     match class {
         Class::Bytes(ranges) => add_byte_ranges(alloc, ranges, list),
@@ -325,7 +346,8 @@ fn add_byte_ranges(
     ranges: &[ClassBytesRange],
     list: &mut Vec<Vec<u8>>,
 ) -> Result<bool, AllocError>
-    ensures { IfOk result (λ done. Extends done (needles_in list.old.items) (needles_in list.new.items) (first_bytes (byte_in (map byte_range ranges.now)))) }
+    ensures { IfOk result (λ done. Extends done (needles_in list.old.items)
+        (needles_in list.new.items) (first_bytes (byte_in (map byte_range ranges.now)))) }
 {
     for range in ranges {
         if !add_bytes(alloc, *range, list)? {
@@ -341,7 +363,8 @@ fn add_char_ranges(
     ranges: &[ClassUnicodeRange],
     list: &mut Vec<Vec<u8>>,
 ) -> Result<bool, AllocError>
-    ensures { IfOk result (λ done. Extends done (needles_in list.old.items) (needles_in list.new.items) (first_bytes (char_in (map char_range ranges.now)))) }
+    ensures { IfOk result (λ done. Extends done (needles_in list.old.items)
+        (needles_in list.new.items) (first_bytes (char_in (map char_range ranges.now)))) }
 {
     for range in ranges {
         if !add_chars(alloc, *range, list)? {
@@ -357,7 +380,8 @@ fn add_bytes(
     range: ClassBytesRange,
     list: &mut Vec<Vec<u8>>,
 ) -> Result<bool, AllocError>
-    ensures { IfOk result (λ done. Extends done (needles_in list.old.items) (needles_in list.new.items) (Some (range_bytes (byte_range range)))) }
+    ensures { IfOk result (λ done. Extends done (needles_in list.old.items)
+        (needles_in list.new.items) (Some (range_bytes (byte_range range)))) }
 {
     for byte in range.start as usize..range.end as usize + 1 {
         if !add_needle(alloc, &[byte as u8], list)? {
@@ -373,7 +397,8 @@ fn add_chars(
     range: ClassUnicodeRange,
     list: &mut Vec<Vec<u8>>,
 ) -> Result<bool, AllocError>
-    ensures { IfOk result (λ done. Extends done (needles_in list.old.items) (needles_in list.new.items) (Some (range_chars (char_range range)))) }
+    ensures { IfOk result (λ done. Extends done (needles_in list.old.items)
+        (needles_in list.new.items) (Some (range_chars (char_range range)))) }
 {
     for code in range.start as u32..range.end as u32 + 1 {
         if let Some(scalar) = char::from_u32(code) {
@@ -388,7 +413,8 @@ fn add_chars(
 
 /// Adds these bytes. Returns false if the list is full.
 fn add_needle(alloc: Global, needle: &[u8], list: &mut Vec<Vec<u8>>) -> Result<bool, AllocError>
-    ensures { IfOk result (λ done. Extends done (needles_in list.old.items) (needles_in list.new.items) (Some (needle.now ∷ []))) }
+    ensures { IfOk result (λ done. Extends done (needles_in list.old.items)
+        (needles_in list.new.items) (Some (needle.now ∷ []))) }
 {
     if list.len() >= GREATEST_COUNT {
         return Ok(false);

@@ -41,9 +41,11 @@ pub fn required(
     longer: bool,
 ) -> Result<Option<Vec<Vec<u8>>>, AllocError>
     ensures usable { IfOk result (λ found. IfSome found (λ v. IsUsable (needles_in v.items))) }
-    ensures exact { IfOk result (λ found. MatchOption found ((ws : List (List ℕ)) → ¬ AreNeeded longer (map meaning hirs.now) ws)
+    ensures exact { IfOk result (λ found. MatchOption found
+        ((ws : List (List ℕ)) → ¬ AreNeeded longer (map meaning hirs.now) ws)
         (λ v. AreNeeded longer (map meaning hirs.now) (needles_in v.items))) }
-    ensures holds { IfOk result (λ found. IfSome found (λ v. (t : Text) → Holds t (map meaning hirs.now) (needles_in v.items))) }
+    ensures holds { IfOk result (λ found. IfSome found
+        (λ v. (t : Text) → Holds t (map meaning hirs.now) (needles_in v.items))) }
 {
     let Some(needles) = needed_by_each(alloc, hirs, longer)? else {
         return Ok(None);
@@ -59,7 +61,8 @@ pub fn required(
 /// What it calls isn't inlined, so that a level of nesting takes little stack.
 #[cycle(needed)]
 fn needed(alloc: Global, hir: &Hir, longer: bool) -> Result<Option<Vec<Vec<u8>>>, AllocError>
-    ensures { IfOk result (λ found. option_map (λ v. needles_in v.items) found ≡ needed longer (meaning hir.now)) }
+    ensures { IfOk result (λ found. option_map (λ v. needles_in v.items) found
+        ≡ needed longer (meaning hir.now)) }
 {
     match hir.kind() {
         HirKind::Empty | HirKind::Look(_) | HirKind::Class(_) => Ok(None),
@@ -85,7 +88,8 @@ fn needed_by_one(
     subs: &[Hir],
     longer: bool,
 ) -> Result<Option<Vec<Vec<u8>>>, AllocError>
-    ensures { IfOk result (λ found. option_map (λ v. needles_in v.items) found ≡ needed longer (cat_all (map meaning subs.now))) }
+    ensures { IfOk result (λ found. option_map (λ v. needles_in v.items) found
+        ≡ needed longer (cat_all (map meaning subs.now))) }
 {
     let mut best = None;
     for i in (0..subs.len()).rev() {
@@ -106,7 +110,8 @@ fn needed_by_each(
     subs: &[Hir],
     longer: bool,
 ) -> Result<Option<Vec<Vec<u8>>>, AllocError>
-    ensures { IfOk result (λ found. option_map (λ v. needles_in v.items) found ≡ needed longer (alt_all (map meaning subs.now))) }
+    ensures { IfOk result (λ found. option_map (λ v. needles_in v.items) found
+        ≡ needed longer (alt_all (map meaning subs.now))) }
 {
     let mut list = Vec::new(alloc);
     for i in (0..subs.len()).rev() {
@@ -124,7 +129,8 @@ fn needed_by_each(
 /// Returns the first bytes of a literal, or None if it is empty.
 #[inline(never)]
 fn literal_needle(alloc: Global, bytes: &[u8]) -> Result<Option<Vec<Vec<u8>>>, AllocError>
-    ensures { IfOk result (λ found. option_map (λ v. needles_in v.items) found ≡ literal_needle bytes.now) }
+    ensures { IfOk result (λ found. option_map (λ v. needles_in v.items) found
+        ≡ literal_needle bytes.now) }
 {
     if bytes.is_empty() {
         return Ok(None);
@@ -144,7 +150,8 @@ fn with_rest(
     needles: Option<Vec<Vec<u8>>>,
 ) -> Result<Option<Vec<Vec<u8>>>, AllocError>
     ensures { IfOk result (λ found. option_map (λ v. needles_in v.items) found
-        ≡ with_rest (meaning member.now) (cat_all (map meaning rest.now)) (option_map (λ v. needles_in v.items) needles)) }
+        ≡ with_rest (meaning member.now) (cat_all (map meaning rest.now))
+        (option_map (λ v. needles_in v.items) needles)) }
 {
     let Some(byte) = only_byte(member) else {
         return Ok(needles);
@@ -179,7 +186,8 @@ fn only_byte(hir: &Hir) -> Option<u8>
 /// Returns the prefixes of a concatenation's first member. Returns None if there is no member, or
 /// it has none or many.
 fn next_bytes(alloc: Global, subs: &[Hir]) -> Result<Option<Vec<Vec<u8>>>, AllocError>
-    ensures { IfOk result (λ found. option_map (λ v. needles_in v.items) found ≡ next_bytes (cat_all (map meaning subs.now))) }
+    ensures { IfOk result (λ found. option_map (λ v. needles_in v.items) found
+        ≡ next_bytes (cat_all (map meaning subs.now))) }
 {
     if subs.is_empty() {
         return Ok(None);
@@ -195,7 +203,8 @@ fn next_bytes(alloc: Global, subs: &[Hir]) -> Result<Option<Vec<Vec<u8>>>, Alloc
 
 /// Returns the byte with each of the others after it.
 fn with_each(alloc: Global, byte: u8, behind: &[Vec<u8>]) -> Result<Vec<Vec<u8>>, AllocError>
-    ensures { IfOk result (λ list. needles_in list.items ≡ map (λ w. byte ∷ w) (needles_in behind.now)) }
+    ensures { IfOk result (λ list. needles_in list.items
+        ≡ map (λ w. byte ∷ w) (needles_in behind.now)) }
 {
     let mut list = Vec::with_capacity(alloc, behind.len())?;
     for rest in behind {
@@ -212,7 +221,8 @@ fn with_each(alloc: Global, byte: u8, behind: &[Vec<u8>]) -> Result<Vec<Vec<u8>>
 #[inline(never)]
 fn better(first: Option<Vec<Vec<u8>>>, rest: Option<Vec<Vec<u8>>>) -> Option<Vec<Vec<u8>>>
     ensures { option_map (λ v. needles_in v.items) result
-        ≡ better (option_map (λ v. needles_in v.items) first) (option_map (λ v. needles_in v.items) rest) }
+        ≡ better (option_map (λ v. needles_in v.items) first)
+        (option_map (λ v. needles_in v.items) rest) }
 {
     let Some(ours) = first else {
         return rest;
@@ -240,7 +250,8 @@ fn shortest(needles: &[Vec<u8>]) -> usize
 /// Returns the needles of both, or None if there are too many.
 #[inline(never)]
 fn joined(first: Vec<Vec<u8>>, rest: Vec<Vec<u8>>) -> Result<Option<Vec<Vec<u8>>>, AllocError>
-    ensures { IfOk result (λ found. option_map (λ v. needles_in v.items) found ≡ joined (Some (needles_in first.items)) (Some (needles_in rest.items))) }
+    ensures { IfOk result (λ found. option_map (λ v. needles_in v.items) found
+        ≡ joined (Some (needles_in first.items)) (Some (needles_in rest.items))) }
 {
     if first.len() + rest.len() > GREATEST_COUNT {
         return Ok(None);

@@ -19,7 +19,8 @@ use rc_text::types::{Anchored, Match, PatternID, Span};
 pub fn search<C: Cursor>(input: &mut Input<C>, needles: &OwnedNeedles) -> Option<Match>
     ensures keeps { Keeps input.old input.new }
     ensures value { result ≡ literal_answer (owned_of needles.now) input.old }
-    ensures within { IfSome result (λ found. (low input.old ≤ found.start) × (found.start ≤ found.end)
+    ensures within { IfSome result (λ found. (low input.old ≤ found.start)
+        × (found.start ≤ found.end)
         × (found.end ≤ high input.old)) }
 {
     match input.get_anchored() {
@@ -62,8 +63,10 @@ fn search_pattern<C: Cursor>(
 ) -> Option<Match>
     ensures keeps { Keeps input.old input.new }
     ensures value { result ≡ option_map (found_for (Some pattern) (owned_of needles.now))
-        (prefix_needle (needles_for (Some pattern) (owned_of needles.now)) input.old.content (low input.old) (high input.old)) }
-    ensures within { IfSome result (λ found. (low input.old ≤ found.start) × (found.start ≤ found.end)
+        (prefix_needle (needles_for (Some pattern) (owned_of needles.now)) input.old.content
+        (low input.old) (high input.old)) }
+    ensures within { IfSome result (λ found. (low input.old ≤ found.start)
+        × (found.start ≤ found.end)
         × (found.end ≤ high input.old)) }
 {
     let hit = prefix(input, &needles.prefilter)?;
@@ -87,7 +90,8 @@ fn own_match<C: Cursor>(
     ensures keeps { Keeps input.old input.new }
     ensures value { result ≡ option_map (found_for (Some pattern) (owned_of needles.now))
         (needle_at (needles_for (Some pattern) (owned_of needles.now)) input.old.content end at) }
-    ensures within { IfSome result (λ found. (found.start ≡ at) × (found.start ≤ found.end) × (found.end ≤ end)) }
+    ensures within { IfSome result (λ found. (found.start ≡ at) × (found.start ≤ found.end)
+        × (found.end ≤ end)) }
 {
     let table = &needles.prefilter.searcher.table;
     let byte = byte_at(input, at)?;

@@ -19,7 +19,8 @@ pub struct Stops {
 /// If a class has a character above 127, each byte above 127 counts as read. It takes time linear
 /// in the patterns' size, allocates nothing, and recurses as deep as a pattern is nested.
 pub fn stops_of(hirs: &[Hir]) -> Stops
-    ensures value { (b : ℕ) → is_stop result.table b ≡ (nat_lt b 256 && not (reads (alt_all (map meaning hirs.now)) b)) }
+    ensures value { (b : ℕ) → is_stop result.table b
+        ≡ (nat_lt b 256 && not (reads (alt_all (map meaning hirs.now)) b)) }
     ensures leaves { (t : Text) → LeavesOut t (map meaning hirs.now) result.table }
 {
     let mut table = [true; 256];

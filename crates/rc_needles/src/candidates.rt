@@ -44,12 +44,14 @@ trait Candidates {
     /// bytes earlier; or the piece's length.
     fn candidate(&self, piece: &[u8]) -> usize
         ensures within { result ≤ length piece.now }
-        ensures passed { (k : ℕ) → k < result → IsRuledOut (needles self.now) (offset self.now) piece.now k };
+        ensures passed { (k : ℕ) → k < result
+            → IsRuledOut (needles self.now) (offset self.now) piece.now k };
 
     /// Returns what `candidate` does, or None if a quick look doesn't decide it.
     fn quick_candidate(&self, piece: &[u8]) -> Option<usize>
         ensures within { IfSome result (λ at. at ≤ length piece.now) }
-        ensures passed { IfSome result (λ at. (k : ℕ) → k < at → IsRuledOut (needles self.now) (offset self.now) piece.now k) };
+        ensures passed { IfSome result (λ at. (k : ℕ) → k < at
+            → IsRuledOut (needles self.now) (offset self.now) piece.now k) };
 }
 
 /// Looks for the only needle, from its bytes at the offset on.
@@ -189,7 +191,8 @@ fn head_candidate(table: &Table, piece: &[u8]) -> usize
 fn teddy_candidate(teddy: &Teddy, table: &Table, piece: &[u8]) -> usize
     requires { AreSifted teddy.now (needles_in table.now.needles.items) }
     ensures within { result ≤ length piece.now }
-    ensures passed { (k : ℕ) → k < result → IsRuledOut (needles_in table.now.needles.items) 0 piece.now k }
+    ensures passed { (k : ℕ) → k < result
+        → IsRuledOut (needles_in table.now.needles.items) 0 piece.now k }
 {
     if piece.len() < LEAST_PIECE {
         return head_candidate(table, piece);

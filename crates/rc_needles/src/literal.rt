@@ -27,7 +27,8 @@ pub fn stands_by_pieces<C: Cursor>(
     requires long { to ≡ at + length needle.now }
     requires within { to ≤ length input.old.content }
     ensures keeps { Keeps input.old input.new }
-    ensures value { result ≡ bytes_eq (slice_range input.old.content at (at + length needle.now)) needle.now }
+    ensures value { result ≡ bytes_eq (slice_range input.old.content at
+        (at + length needle.now)) needle.now }
 {
     let mut done = 0;
     while done < needle.len() {
@@ -48,7 +49,8 @@ fn stands<C: Cursor>(input: &mut Input<C>, needle: &[u8], at: usize, to: usize) 
     requires within { to ≤ length input.old.content }
     requires begins { slice_get needle.now 0 ≡ slice_get input.old.content at }
     ensures keeps { Keeps input.old input.new }
-    ensures value { result ≡ bytes_eq (slice_range input.old.content at (at + length needle.now)) needle.now }
+    ensures value { result ≡ bytes_eq (slice_range input.old.content at
+        (at + length needle.now)) needle.now }
 {
     if needle.len() == 1 {
         return true;
@@ -68,7 +70,8 @@ fn least_number<C: Cursor>(
 ) -> usize
     requires { end ≤ length input.old.content }
     ensures keeps { Keeps input.old input.new }
-    ensures least { (needle : List ℕ) (n : ℕ) → IsCarried trie.now.nodes.items needle n → 0 < length needle
+    ensures least { (needle : List ℕ) (n : ℕ) → IsCarried trie.now.nodes.items needle n
+        → 0 < length needle
         → stands_within input.old.content end at needle ≡ true → result ≤ n }
 {
     let mut best = count;
@@ -112,9 +115,11 @@ fn start_number<C: Cursor>(
     requires here { slice_get input.old.content at ≡ Some byte }
     ensures keeps { Keeps input.old input.new }
     ensures high { result ≤ length (needles_in table.now.needles.items) }
-    ensures begins { result < length (needles_in table.now.needles.items) → BeginsWithByte (numbered (needles_in table.now.needles.items) result) byte }
+    ensures begins { result < length (needles_in table.now.needles.items)
+        → BeginsWithByte (numbered (needles_in table.now.needles.items) result) byte }
     ensures none_below { (k : ℕ) → k < result → k < length (needles_in table.now.needles.items)
-        → stands_within input.old.content end at (numbered (needles_in table.now.needles.items) k) ≡ false }
+        → stands_within input.old.content end at (numbered (needles_in table.now.needles.items) k)
+        ≡ false }
 {
     let head = table.heads[byte as usize];
     let Some(trie) = &table.trie else {
@@ -137,7 +142,8 @@ fn needle_at<C: Cursor>(input: &mut Input<C>, table: &Table, at: usize, end: usi
     requires low { at < end }
     requires high { end ≤ length input.old.content }
     ensures keeps { Keeps input.old input.new }
-    ensures value { result ≡ needle_at (needles_in table.now.needles.items) input.old.content end at }
+    ensures value { result ≡ needle_at (needles_in table.now.needles.items) input.old.content end
+        at }
 {
     let byte = byte_at(input, at)?;
     let mut number = start_number(input, table, at, end, byte);
@@ -171,7 +177,8 @@ fn needle_there<C: Cursor>(
     requires low { at < end }
     requires high { end ≤ length input.old.content }
     ensures keeps { Keeps input.old input.new }
-    ensures value { result ≡ needle_at (needles_in table.now.needles.items) input.old.content end at }
+    ensures value { result ≡ needle_at (needles_in table.now.needles.items) input.old.content end
+        at }
 {
     needle_at(input, table, at, end)
 }
@@ -180,7 +187,8 @@ fn needle_there<C: Cursor>(
 /// different bytes.
 #[inline(always)]
 fn trie_sought(searcher: &NeedleSearch) -> Option<&Trie>
-    ensures { IfSome result (λ trie. AreCarriedBy (Some trie.now) (needles_in searcher.now.table.needles.items)) }
+    ensures { IfSome result (λ trie. AreCarriedBy (Some trie.now)
+        (needles_in searcher.now.table.needles.items)) }
 {
     match &searcher.scan {
         Scan::FirstBytes(FirstBytes::Many) => searcher.table.trie.as_ref(),
@@ -200,8 +208,10 @@ fn find_by_trie<C: Cursor>(
     requires inside { end ≤ length input.old.content }
     requires carried { AreCarriedBy (Some trie.now) (needles_in table.now.needles.items) }
     ensures keeps { Keeps input.old input.new }
-    ensures value { result ≡ find_needle (needles_in table.now.needles.items) input.old.content from end }
-    ensures within { IfSome result (λ hit. (from ≤ hit.start) × (hit.start < hit.end) × (hit.end ≤ end)) }
+    ensures value { result ≡ find_needle
+        (needles_in table.now.needles.items) input.old.content from end }
+    ensures within { IfSome result (λ hit. (from ≤ hit.start) × (hit.start < hit.end)
+        × (hit.end ≤ end)) }
 {
     let mut at = from;
     while at < end {
@@ -237,7 +247,8 @@ fn find_by_places<C: Cursor>(
     requires inside { end ≤ length input.old.content }
     ensures keeps { Keeps input.old input.new }
     ensures value { result ≡ find_needle (needles_of prefilter.now) input.old.content from end }
-    ensures within { IfSome result (λ hit. (from ≤ hit.start) × (hit.start < hit.end) × (hit.end ≤ end)) }
+    ensures within { IfSome result (λ hit. (from ≤ hit.start) × (hit.start < hit.end)
+        × (hit.end ≤ end)) }
 {
     let searcher = &prefilter.searcher;
     let offset = searcher.offset;
@@ -269,7 +280,8 @@ pub fn find_from<C: Cursor>(
     requires inside { end ≤ length input.old.content }
     ensures keeps { Keeps input.old input.new }
     ensures value { result ≡ find_needle (needles_of prefilter.now) input.old.content from end }
-    ensures within { IfSome result (λ hit. (from ≤ hit.start) × (hit.start < hit.end) × (hit.end ≤ end)) }
+    ensures within { IfSome result (λ hit. (from ≤ hit.start) × (hit.start < hit.end)
+        × (hit.end ≤ end)) }
 {
     let searcher = &prefilter.searcher;
     if let Some(trie) = trie_sought(searcher) {
@@ -283,8 +295,10 @@ pub fn find_from<C: Cursor>(
 /// It reads the uncut bytes, wherever the input was before. It allocates and copies nothing.
 pub fn find<C: Cursor>(input: &mut Input<C>, prefilter: &Prefilter) -> Option<Hit>
     ensures keeps { Keeps input.old input.new }
-    ensures value { result ≡ find_needle (needles_of prefilter.now) input.old.content (low input.old) (high input.old) }
-    ensures within { IfSome result (λ hit. (low input.old ≤ hit.start) × (hit.start < hit.end) × (hit.end ≤ high input.old)) }
+    ensures value { result ≡ find_needle (needles_of prefilter.now) input.old.content
+        (low input.old) (high input.old) }
+    ensures within { IfSome result (λ hit. (low input.old ≤ hit.start) × (hit.start < hit.end)
+        × (hit.end ≤ high input.old)) }
 {
     let end = high(input);
     let from = low(input);
@@ -294,8 +308,10 @@ pub fn find<C: Cursor>(input: &mut Input<C>, prefilter: &Prefilter) -> Option<Hi
 /// Returns the first of the needles that occurs where the bounds begin, and within them.
 pub fn prefix<C: Cursor>(input: &mut Input<C>, prefilter: &Prefilter) -> Option<Hit>
     ensures keeps { Keeps input.old input.new }
-    ensures value { result ≡ prefix_needle (needles_of prefilter.now) input.old.content (low input.old) (high input.old) }
-    ensures within { IfSome result (λ hit. (hit.start ≡ low input.old) × (hit.start < hit.end) × (hit.end ≤ high input.old)) }
+    ensures value { result ≡ prefix_needle (needles_of prefilter.now) input.old.content
+        (low input.old) (high input.old) }
+    ensures within { IfSome result (λ hit. (hit.start ≡ low input.old) × (hit.start < hit.end)
+        × (hit.end ≤ high input.old)) }
 {
     let end = high(input);
     let at = low(input);

@@ -21,8 +21,10 @@ pub struct Candidate {
 pub fn candidate_in(table: &Table, trie: &Trie, piece: &[u8]) -> Candidate
     requires { AreCarriedBy (Some trie.now) (needles_in table.now.needles.items) }
     ensures within { result.passed ≤ length piece.now }
-    ensures passed { (k : ℕ) → k < result.passed → IsRuledOut (needles_in table.now.needles.items) 0 piece.now k }
-    ensures first { result.number < length table.now.needles.items → IsFirstIn (needles_in table.now.needles.items) piece.now result.passed result.number }
+    ensures passed { (k : ℕ) → k < result.passed
+        → IsRuledOut (needles_in table.now.needles.items) 0 piece.now k }
+    ensures first { result.number < length table.now.needles.items
+        → IsFirstIn (needles_in table.now.needles.items) piece.now result.passed result.number }
 {
     let count = table.needles.len();
     let mut at = trie.opened_from(piece, 0);
@@ -51,8 +53,10 @@ pub fn candidate_in(table: &Table, trie: &Trie, piece: &[u8]) -> Candidate
 fn number_seen(table: &Table, piece: &[u8], at: usize, number: usize) -> usize
     requires within { at ≤ length piece.now }
     requires number { number < length table.now.needles.items }
-    requires none_earlier { (k : ℕ) → k < number → k < length (needles_in table.now.needles.items) → ¬ Agrees piece.now (numbered (needles_in table.now.needles.items) k) at }
-    ensures { result < length table.now.needles.items → IsFirstIn (needles_in table.now.needles.items) piece.now at result }
+    requires none_earlier { (k : ℕ) → k < number → k < length (needles_in table.now.needles.items)
+        → ¬ Agrees piece.now (numbered (needles_in table.now.needles.items) k) at }
+    ensures { result < length table.now.needles.items
+        → IsFirstIn (needles_in table.now.needles.items) piece.now at result }
 {
     let needle = table.needles[number].as_slice();
     let len = needle.len();

@@ -34,7 +34,8 @@ fn opens(words: &[u32], first: u8, second: u8, third: u8) -> bool
 /// Whether the bits of two bytes and each third byte are set.
 fn opens_each(words: &[u32], first: u8, second: u8) -> bool
     requires { AreWhole words.now }
-    ensures { IsTrue result → (third : ℕ) → third < 256 → opens words.now first second third ≡ true }
+    ensures { IsTrue result → (third : ℕ) → third < 256
+        → opens words.now first second third ≡ true }
 {
     for third in 0..256usize {
         if !opens(words, first, second, third as u8) {

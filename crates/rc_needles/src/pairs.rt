@@ -61,7 +61,8 @@ pub fn first_place(piece: &[u8], rest: &[u8]) -> usize
 fn place_at_end(piece: &[u8], first: u8, second: u8) -> usize
     requires { 33 ≤ length piece.now }
     ensures within { result ≤ length piece.now }
-    ensures passed { (k : ℕ) → length piece.now ≤ k + 33 → k < result → ¬ HasBegun first second piece.now k }
+    ensures passed { (k : ℕ) → length piece.now ≤ k + 33 → k < result
+        → ¬ HasBegun first second piece.now k }
 {
     let end = piece.len() - 1;
     let last = end - LANES;

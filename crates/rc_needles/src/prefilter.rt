@@ -40,8 +40,10 @@ impl Prefilter {
         _kind: MatchKind,
         needles: &[&[u8]],
     ) -> Result<Option<Prefilter>, AllocError>
-        ensures { IfOk result (λ found. MatchOption found (¬ IsUsable (map (λ w. w.now) needles.now))
-            (λ p. IsUsable (map (λ w. w.now) needles.now) × (needles_of p ≡ map (λ w. w.now) needles.now))) }
+        ensures { IfOk result (λ found. MatchOption found
+            (¬ IsUsable (map (λ w. w.now) needles.now))
+            (λ p. IsUsable (map (λ w. w.now) needles.now)
+            × (needles_of p ≡ map (λ w. w.now) needles.now))) }
     {
         let mut copies = Vec::with_capacity(alloc, needles.len())?;
         for needle in needles {

@@ -99,7 +99,8 @@ impl Sift {
 
     /// Returns the buckets that take every byte.
     fn taken_always(&self) -> u8
-        ensures { (k : ℕ) → bit_at result k ≡ 1 → (byte : ℕ) → byte < 256 → bit_at (buckets self.now byte) k ≡ 1 }
+        ensures { (k : ℕ) → bit_at result k ≡ 1 → (byte : ℕ) → byte < 256
+            → bit_at (buckets self.now byte) k ≡ 1 }
     {
         let mut bits = 255;
         for byte in 0..256usize {
@@ -112,7 +113,8 @@ impl Sift {
     /// its end.
     fn taken_at(&self, needle: &[u8], at: usize) -> u8
         ensures { (k : ℕ) → bit_at result k ≡ 1 → (byte : ℕ) → byte < 256
-            → (at < length needle.now → byte ≡ slice_index needle.now at) → bit_at (buckets self.now byte) k ≡ 1 }
+            → (at < length needle.now → byte ≡ slice_index needle.now at)
+            → bit_at (buckets self.now byte) k ≡ 1 }
     {
         match needle.get(at) {
             Some(byte) => self.taken(*byte),
@@ -208,7 +210,8 @@ impl Teddy {
     pub fn place(&self, piece: &[u8]) -> usize
         requires { LEAST_PIECE ≤ length piece.now }
         ensures within { result + 2 ≤ length piece.now }
-        ensures passed { (needle : List ℕ) → IsSifted self.now needle → (k : ℕ) → k < result → ¬ Agrees piece.now needle k }
+        ensures passed { (needle : List ℕ) → IsSifted self.now needle → (k : ℕ) → k < result
+            → ¬ Agrees piece.now needle k }
     {
         if self.is_set || piece.len() < LEAST_BLOCKS {
             return self.place_by_places(piece);
@@ -222,7 +225,8 @@ impl Teddy {
     fn place_by_places(&self, piece: &[u8]) -> usize
         requires { LEAST_PIECE ≤ length piece.now }
         ensures within { result + 2 ≤ length piece.now }
-        ensures passed { (needle : List ℕ) → IsSifted self.now needle → (k : ℕ) → k < result → ¬ Agrees piece.now needle k }
+        ensures passed { (needle : List ℕ) → IsSifted self.now needle → (k : ℕ) → k < result
+            → ¬ Agrees piece.now needle k }
     {
         let last = piece.len() - LEAST_PIECE;
         let mut at = 0;
@@ -244,7 +248,8 @@ impl Teddy {
     fn place_by_blocks(&self, piece: &[u8]) -> usize
         requires { LEAST_BLOCKS ≤ length piece.now }
         ensures within { result + 2 ≤ length piece.now }
-        ensures passed { (needle : List ℕ) → IsSifted self.now needle → (k : ℕ) → k < result → ¬ Agrees piece.now needle k }
+        ensures passed { (needle : List ℕ) → IsSifted self.now needle → (k : ℕ) → k < result
+            → ¬ Agrees piece.now needle k }
     {
         let last = piece.len() - LANES;
         let mut before = Begun::new();
@@ -274,7 +279,8 @@ impl Teddy {
         requires long { LEAST_PIECE ≤ length piece.now }
         requires near { length piece.now ≤ from + 34 }
         ensures within { result + 2 ≤ length piece.now }
-        ensures passed { (needle : List ℕ) → IsSifted self.now needle → (k : ℕ) → from ≤ k → k < result → ¬ Agrees piece.now needle k }
+        ensures passed { (needle : List ℕ) → IsSifted self.now needle → (k : ℕ) → from ≤ k
+            → k < result → ¬ Agrees piece.now needle k }
     {
         let last = piece.len() - LEAST_PIECE;
         if from < last {

@@ -99,7 +99,8 @@ impl Trie {
     /// path.
     #[inline(always)]
     pub fn lead(&self, bytes: &[u8], count: usize) -> Option<usize>
-        ensures { IfSome result (λ number. (needle : List ℕ) (n : ℕ) → IsCarried self.now.nodes.items needle n → 0 < length needle
+        ensures { IfSome result (λ number. (needle : List ℕ) (n : ℕ)
+            → IsCarried self.now.nodes.items needle n → 0 < length needle
             → Agrees bytes.now needle 0 → number ≤ n) }
     {
         let mut at = ROOT;

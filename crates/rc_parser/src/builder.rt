@@ -79,14 +79,19 @@ impl Level {
     }
 
     fn add(&mut self, item: Nested) -> Result<(), Refusal>
-        ensures value { MatchResult result (λ _. level self.new ≡ grammar.add (part item) (level self.old)) (λ e. e ≡ Refusal.Memory) }
+        ensures value { MatchResult result
+            (λ _. level self.new ≡ grammar.add (part item) (level self.old))
+            (λ e. e ≡ Refusal.Memory) }
         ensures groups { self.new.groups ≡ self.old.groups }
     {
         self.items.push(item)
     }
 
     fn end_branch(&mut self, alloc: Global, config: Config) -> Result<(), Refusal>
-        ensures value { MatchResult result (λ _. end_branch (settings_of config) (level self.old) ≡ Some (level self.new)) (λ e. (e ≡ Refusal.Memory) ⊎ (end_branch (settings_of config) (level self.old) ≡ None)) }
+        ensures value { MatchResult result
+            (λ _. end_branch (settings_of config) (level self.old) ≡ Some (level self.new))
+            (λ e. (e ≡ Refusal.Memory) ⊎ (end_branch (settings_of config) (level self.old)
+            ≡ None)) }
         ensures groups { self.new.groups ≡ self.old.groups }
         ensures names { self.new.names ≡ self.old.names }
     {
@@ -158,7 +163,8 @@ fn group_of(
     group: Option<Group>,
     body: Nested,
 ) -> Result<Nested, Refusal>
-    ensures { IsResultOf result (closed (settings_of config) (option_map paired_name group) (part body)) part }
+    ensures { IsResultOf result (closed (settings_of config) (option_map paired_name group)
+        (part body)) part }
 {
     let Nested { hir, depth } = body;
     let hir = match group {
@@ -176,7 +182,8 @@ impl Work {
     ghost use Rattle.rc_parser.specs.View.{level, state};
 
     pub fn new(alloc: Global, config: Config) -> Work
-        ensures value { state result ≡ work (begin (first_flags (settings_of config)) 0 []) None [] }
+        ensures value { state result ≡ work
+            (begin (first_flags (settings_of config)) 0 []) None [] }
         ensures config { result.config ≡ config }
         ensures groups { result.level.groups ≡ 0 }
     {
@@ -190,7 +197,9 @@ impl Work {
 
     /// Ends the last item: no operator can follow it any more.
     fn settle(&mut self) -> Result<(), Refusal>
-        ensures value { MatchResult result (λ _. state self.new ≡ work (settled (state self.old).last (state self.old).level) None (state self.old).outer) (λ e. e ≡ Refusal.Memory) }
+        ensures value { MatchResult result
+            (λ _. state self.new ≡ work (settled (state self.old).last (state self.old).level) None
+            (state self.old).outer) (λ e. e ≡ Refusal.Memory) }
         ensures last { OnOk result (self.new.last ≡ None) }
         ensures config { self.new.config ≡ self.old.config }
         ensures groups { self.new.level.groups ≡ self.old.level.groups }
@@ -203,7 +212,9 @@ impl Work {
 
     fn bar(&mut self, alloc: Global) -> Result<(), Refusal>
         requires { self.old.last ≡ None }
-        ensures value { IsResultOf result (step (settings_of self.old.config) said.Bar (state self.old).level (state self.old).outer) (λ _. state self.new) }
+        ensures value { IsResultOf result
+            (step (settings_of self.old.config) said.Bar (state self.old).level
+            (state self.old).outer) (λ _. state self.new) }
         ensures config { self.new.config ≡ self.old.config }
         ensures groups { self.new.level.groups ≡ self.old.level.groups }
     {
@@ -212,7 +223,9 @@ impl Work {
 
     fn set(&mut self, to: Change) -> Result<(), Refusal>
         requires { self.old.last ≡ None }
-        ensures value { IsResultOf result (step (settings_of self.old.config) (said.Setting to) (state self.old).level (state self.old).outer) (λ _. state self.new) }
+        ensures value { IsResultOf result
+            (step (settings_of self.old.config) (said.Setting to) (state self.old).level
+            (state self.old).outer) (λ _. state self.new) }
         ensures config { self.new.config ≡ self.old.config }
         ensures groups { self.new.level.groups ≡ self.old.level.groups }
     {
@@ -234,7 +247,11 @@ impl Work {
     ) -> Result<(), Refusal>
         requires last { self.old.last ≡ None }
         requires names { self.old.level.names.list.items ≡ [] }
-        ensures value { MatchResult result (λ _. state self.new ≡ work (begin flags groups (map string_bytes names.list.items)) None ((option_map paired_name group, (state self.old).level) ∷ (state self.old).outer)) (λ e. e ≡ Refusal.Memory) }
+        ensures value { MatchResult result
+            (λ _. state self.new ≡ work (begin flags groups
+            (map string_bytes names.list.items)) None
+            ((option_map paired_name group, (state self.old).level) ∷ (state self.old).outer))
+            (λ e. e ≡ Refusal.Memory) }
         ensures config { self.new.config ≡ self.old.config }
         ensures groups { OnOk result (self.new.level.groups ≡ groups) }
     {
@@ -246,7 +263,9 @@ impl Work {
     fn open(&mut self, alloc: Global, opening: Opening) -> Result<(), Refusal>
         requires last { self.old.last ≡ None }
         requires room { self.old.level.groups < 2 ^ 64 - 1 }
-        ensures value { IsResultOf result (step (settings_of self.old.config) (said.Opens (start_of opening)) (state self.old).level (state self.old).outer) (λ _. state self.new) }
+        ensures value { IsResultOf result
+            (step (settings_of self.old.config) (said.Opens (start_of opening))
+            (state self.old).level (state self.old).outer) (λ _. state self.new) }
         ensures config { self.new.config ≡ self.old.config }
         ensures groups { OnOk result (self.new.level.groups ≤ self.old.level.groups + 1) }
     {
@@ -274,7 +293,9 @@ impl Work {
 
     fn close(&mut self, alloc: Global) -> Result<(), Refusal>
         requires { self.old.last ≡ None }
-        ensures value { IsResultOf result (step (settings_of self.old.config) said.Closes (state self.old).level (state self.old).outer) (λ _. state self.new) }
+        ensures value { IsResultOf result
+            (step (settings_of self.old.config) said.Closes (state self.old).level
+            (state self.old).outer) (λ _. state self.new) }
         ensures config { self.new.config ≡ self.old.config }
         ensures groups { OnOk result (self.new.level.groups ≡ self.old.level.groups) }
     {
@@ -292,7 +313,9 @@ impl Work {
     }
 
     fn repeat(&mut self, alloc: Global, bounds: Bounds) -> Result<(), Refusal>
-        ensures value { IsResultOf result (take_said (settings_of self.old.config) (said.Repeats bounds) (state self.old)) (λ _. state self.new) }
+        ensures value { IsResultOf result
+            (take_said (settings_of self.old.config) (said.Repeats bounds) (state self.old))
+            (λ _. state self.new) }
         ensures config { self.new.config ≡ self.old.config }
         ensures groups { self.new.level.groups ≡ self.old.level.groups }
     {
@@ -306,7 +329,10 @@ impl Work {
     /// Makes the pattern of an atom the last item.
     fn put(&mut self, item: Result<Nested, Refusal>) -> Result<(), Refusal>
         requires { self.old.last ≡ None }
-        ensures value { MatchResult item (λ n. IsOk result × (state self.new ≡ work (state self.old).level (Some (part n)) (state self.old).outer)) (λ e. result ≡ Err e) }
+        ensures value { MatchResult item
+            (λ n. IsOk result × (state self.new
+            ≡ work (state self.old).level (Some (part n)) (state self.old).outer))
+            (λ e. result ≡ Err e) }
         ensures config { self.new.config ≡ self.old.config }
         ensures groups { self.new.level.groups ≡ self.old.level.groups }
     {
@@ -323,7 +349,9 @@ impl Work {
     fn step(&mut self, alloc: Global, token: Token) -> Result<(), Refusal>
         requires last { self.old.last ≡ None }
         requires room { self.old.level.groups < 2 ^ 64 - 1 }
-        ensures value { IsResultOf result (step (settings_of self.old.config) (said_of token) (state self.old).level (state self.old).outer) (λ _. state self.new) }
+        ensures value { IsResultOf result
+            (step (settings_of self.old.config) (said_of token) (state self.old).level
+            (state self.old).outer) (λ _. state self.new) }
         ensures config { self.new.config ≡ self.old.config }
         ensures groups { OnOk result (self.new.level.groups ≤ self.old.level.groups + 1) }
     {
@@ -347,7 +375,9 @@ impl Work {
     /// Reads one more token.
     pub fn accept(&mut self, alloc: Global, token: Token) -> Result<(), Refusal>
         requires { self.old.level.groups < 2 ^ 64 - 1 }
-        ensures value { IsResultOf result (take_said (settings_of self.old.config) (said_of token) (state self.old)) (λ _. state self.new) }
+        ensures value { IsResultOf result
+            (take_said (settings_of self.old.config) (said_of token) (state self.old))
+            (λ _. state self.new) }
         ensures config { self.new.config ≡ self.old.config }
         ensures groups { OnOk result (self.new.level.groups ≤ self.old.level.groups + 1) }
     {
@@ -371,7 +401,8 @@ impl Work {
 
     /// Whether the pattern is nested too deeply, whatever follows.
     pub fn is_too_deep(&self) -> bool
-        ensures { result ≡ nat_lt (depth_limit (settings_of self.now.config)) (least_depth (state self.now)) }
+        ensures { result ≡ nat_lt (depth_limit (settings_of self.now.config))
+            (least_depth (state self.now)) }
     {
         let limit = self.config.depth_limit() as u64;
         let mut depth = self.depth();
@@ -388,7 +419,8 @@ impl Work {
 
     /// The pattern, if no group is open.
     pub fn finish(&mut self, alloc: Global) -> Result<Nested, Refusal>
-        ensures { IsResultOf result (finish (settings_of self.old.config) (settled (state self.old).last (state self.old).level) (state self.old).outer) part }
+        ensures { IsResultOf result (finish (settings_of self.old.config)
+            (settled (state self.old).last (state self.old).level) (state self.old).outer) part }
     {
         self.settle()?;
         if !self.outer.is_empty() {

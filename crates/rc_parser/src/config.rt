@@ -56,7 +56,8 @@ impl Config {
 
     /// Sets the flag `i` at the start.
     pub fn case_insensitive(self, case_insensitive: bool) -> Config
-        ensures { settings_of result ≡ record (settings_of self) { case_insensitive = case_insensitive } }
+        ensures { settings_of result ≡ record
+            (settings_of self) { case_insensitive = case_insensitive } }
     {
         Config {
             case_insensitive,
@@ -73,7 +74,8 @@ impl Config {
 
     /// Sets the flag `s` at the start.
     pub fn dot_matches_new_line(self, dot_matches_new_line: bool) -> Config
-        ensures { settings_of result ≡ record (settings_of self) { dot_matches_new_line = dot_matches_new_line } }
+        ensures { settings_of result ≡ record
+            (settings_of self) { dot_matches_new_line = dot_matches_new_line } }
     {
         Config {
             dot_matches_new_line,
@@ -90,7 +92,8 @@ impl Config {
 
     /// Sets the byte that the dot excludes.
     pub fn line_terminator(self, line_terminator: u8) -> Config
-        ensures { settings_of result ≡ record (settings_of self) { line_terminator = line_terminator } }
+        ensures { settings_of result ≡ record
+            (settings_of self) { line_terminator = line_terminator } }
     {
         Config {
             line_terminator,

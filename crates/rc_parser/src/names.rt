@@ -42,7 +42,8 @@ impl Names {
 
     /// The names with one more.
     pub fn with(self, alloc: Global, name: &str) -> Result<Names, AllocError>
-        ensures { IfOk result (λ names. map string_bytes names.list.items ≡ map string_bytes self.list.items ++ name.now ∷ []) }
+        ensures { IfOk result (λ names. map string_bytes names.list.items
+            ≡ map string_bytes self.list.items ++ name.now ∷ []) }
     {
         let Names { mut list, mut set } = self;
         list.push(copy_of(alloc, name)?)?;

@@ -40,7 +40,8 @@ impl Parts {
     }
 
     pub fn push(&mut self, added: Nested) -> Result<(), Refusal>
-        ensures { MatchResult result (λ _. parts self.new ≡ with_part (part added) (parts self.old)) (λ e. e ≡ Refusal.Memory) }
+        ensures { MatchResult result (λ _. parts self.new ≡ with_part (part added) (parts self.old))
+            (λ e. e ≡ Refusal.Memory) }
     {
         let Nested { hir, depth } = added;
         self.hirs.push(hir)?;

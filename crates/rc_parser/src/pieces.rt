@@ -113,7 +113,8 @@ fn bytes(alloc: Global, ranges: &[CodeRange]) -> Result<Vec<ClassBytesRange>, Al
 /// The class of the ranges.
 fn set(alloc: Global, config: Config, flags: Flags, ranges: &[CodeRange]) -> Result<Hir, Refusal>
     requires { AreCodes flags.unicode (pairs ranges.now) }
-    ensures reads { IsResultOf result (set_re (settings_of config) flags (pairs ranges.now)) meaning }
+    ensures reads { IsResultOf result (set_re (settings_of config) flags
+        (pairs ranges.now)) meaning }
     ensures kind { IfOk result (λ h. IsTrue (has_plain_nodes h)) }
 {
     if flags.unicode {
@@ -147,7 +148,8 @@ fn literal(alloc: Global, c: char) -> Result<Hir, AllocError>
 #[tactic(auto, using(crate::proofs::PieceLemmas::letter_class, crate::proofs::PieceLemmas::letter_code))]
 fn letter(alloc: Global, config: Config, flags: Flags, c: char) -> Result<Hir, Refusal>
     requires { is_letter c ≡ true }
-    ensures reads { IsResultOf result (set_re (settings_of config) flags (class_of flags.unicode true false ((c, c) ∷ []))) meaning }
+    ensures reads { IsResultOf result (set_re (settings_of config) flags
+        (class_of flags.unicode true false ((c, c) ∷ []))) meaning }
     ensures kind { IfOk result (λ h. IsTrue (has_plain_nodes h)) }
 {
     let code = c as u32;
@@ -239,7 +241,8 @@ pub fn dot(alloc: Global, config: Config, flags: Flags) -> Result<Nested, Refusa
 /// A Perl class.
 #[tactic(auto, using(rc_tokens::proofs::ClassLemmas::perl_codes))]
 pub fn perl(alloc: Global, config: Config, flags: Flags, perl: Perl) -> Result<Nested, Refusal>
-    ensures { IsResultOf result (sense_part (settings_of config) flags (sense.PerlClass perl)) part }
+    ensures { IsResultOf result (sense_part (settings_of config) flags
+        (sense.PerlClass perl)) part }
 {
     let ranges = perl_ranges(alloc, flags.unicode, perl)?;
     Ok(leaf(set(alloc, config, flags, &ranges)?))
@@ -248,7 +251,8 @@ pub fn perl(alloc: Global, config: Config, flags: Flags, perl: Perl) -> Result<N
 /// A list.
 #[tactic(auto, using(crate::proofs::PieceLemmas::list_class, rc_tokens::proofs::ClassLemmas::list_codes))]
 pub fn list(alloc: Global, config: Config, flags: Flags, list: &List) -> Result<Nested, Refusal>
-    ensures { IsResultOf result (sense_part (settings_of config) flags (sense.Members list.now.negated list.now.bracket list.now.members.items)) part }
+    ensures { IsResultOf result (sense_part (settings_of config) flags
+        (sense.Members list.now.negated list.now.bracket list.now.members.items)) part }
 {
     let ranges = list_ranges(alloc, flags.unicode, list)?;
     let class = class_of(

@@ -36,7 +36,10 @@ pub enum Fault {
 #[tactic(auto, using(crate::proofs::ReadLemmas::same_start, crate::proofs::ReadLemmas::same_step, crate::proofs::ReadLemmas::same_stuck, crate::proofs::ReadLemmas::same_refused, crate::proofs::ReadLemmas::same_end, crate::proofs::ReadLemmas::same_none, rc_tokens::proofs::SoundLemmas::lex_shorter))]
 fn read(alloc: Global, chars: &[char], config: Config) -> Result<Nested, Fault>
     ensures terminator { (settings_of config).line_terminator < 256 }
-    ensures reads { MatchResult result (λ n. Has (settings_of config) (fresh (settings_of config)) chars.now (part n)) (λ e. OnFault e ((p : Subpattern) → Has (settings_of config) (fresh (settings_of config)) chars.now p → ⊥)) }
+    ensures reads { MatchResult result (λ n. Has (settings_of config)
+        (fresh (settings_of config)) chars.now (part n))
+        (λ e. OnFault e ((p : Subpattern)
+        → Has (settings_of config) (fresh (settings_of config)) chars.now p → ⊥)) }
 {
     let mut work = Work::new(alloc, config);
     let mut rest = chars;
@@ -92,7 +95,8 @@ fn characters(alloc: Global, text: &str) -> Result<Vec<char>, AllocError>
 pub fn parse(alloc: Global, text: &str, config: &Config) -> Result<Hir, Error>
     ensures reads { MatchResult result
         (λ h. Reads (settings_of config.now) (chars text.now) (meaning h))
-        (λ e. OnSyntax e (λ at. (at ≤ length text.now) × ((re : Re) → Reads (settings_of config.now) (chars text.now) re → ⊥))) }
+        (λ e. OnSyntax e (λ at. (at ≤ length text.now)
+        × ((re : Re) → Reads (settings_of config.now) (chars text.now) re → ⊥))) }
     ensures well_formed { IfOk result (λ h. IsWellFormed (meaning h)) }
     ensures kind { IfOk result (λ h. IsTrue (has_plain_nodes h)) }
     ensures empty { text.now ≡ [] → IfOk result (λ h. (out-Hir h).kind ≡ HirKind.Empty) }

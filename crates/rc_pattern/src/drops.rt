@@ -83,7 +83,8 @@ fn put_first(nodes: &mut Vec<Hir>, node: Hir) -> Hir
     requires { 0 < vec_len nodes.old }
     ensures value { result ≡ slice_index_or nodes.old.items 0 result }
     ensures items { nodes.new.items ≡ slice_set nodes.old.items 0 node }
-    ensures capacity { (vec_len nodes.new ≡ vec_len nodes.old) × (vec_capacity nodes.new ≡ vec_capacity nodes.old) }
+    ensures capacity { (vec_len nodes.new ≡ vec_len nodes.old)
+        × (vec_capacity nodes.new ≡ vec_capacity nodes.old) }
 {
     mem::replace(&mut nodes[0], node)
 }

@@ -229,7 +229,8 @@ impl Hir {
     /// member is returned itself. An `Err` means out of memory, and the patterns are dropped then.
     pub fn concat(alloc: Global, subs: Vec<Hir>) -> Result<Hir, AllocError>
         ensures meaning { IfOk result (λ h. meaning h ≡ concat_of (map meaning subs.items)) }
-        ensures kind { IfOk result (λ h. IsTrue (all_have_plain_nodes subs.items) → IsTrue (has_plain_nodes h)) }
+        ensures kind { IfOk result (λ h. IsTrue (all_have_plain_nodes subs.items)
+            → IsTrue (has_plain_nodes h)) }
     {
         let members = members::all_cat_members(alloc, subs)?;
         let mut members = members::joined_literals(alloc, members)?;
@@ -246,7 +247,8 @@ impl Hir {
     /// out of memory, and the patterns are dropped then.
     pub fn alternation(alloc: Global, subs: Vec<Hir>) -> Result<Hir, AllocError>
         ensures meaning { IfOk result (λ h. meaning h ≡ alternation_of (map meaning subs.items)) }
-        ensures kind { IfOk result (λ h. IsTrue (all_have_plain_nodes subs.items) → IsTrue (has_plain_nodes h)) }
+        ensures kind { IfOk result (λ h. IsTrue (all_have_plain_nodes subs.items)
+            → IsTrue (has_plain_nodes h)) }
     {
         let mut members = members::all_alt_members(alloc, subs)?;
         if members.len() > 1 {

@@ -215,7 +215,8 @@ fn next_filled<T: Piece>(pieces: &[T], from: usize) -> usize
 fn last_filled<T: Piece>(pieces: &[T], to: usize) -> usize
     requires within { to ≤ length pieces.now }
     requires some { 0 < length (joined (take to (chunks_of T.bytes pieces.now))) }
-    ensures { IsLastFilled (chunks_of T.bytes pieces.now) to result (chunk_at (chunks_of T.bytes pieces.now) result) }
+    ensures { IsLastFilled (chunks_of T.bytes pieces.now) to result
+        (chunk_at (chunks_of T.bytes pieces.now) result) }
 {
     let mut index = to - 1;
     while pieces[index].bytes().is_empty() {

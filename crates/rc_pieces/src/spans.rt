@@ -78,8 +78,10 @@ pub fn seek<C: Cursor>(cursor: &mut C, at: usize)
     ensures content { C.content cursor.new ≡ C.content cursor.old }
     ensures shows { Shows (C.content cursor.new) (C.offset cursor.new) (C.chunk cursor.new) }
     ensures low { C.offset cursor.new ≤ at }
-    ensures there { at < length (C.content cursor.new) → at < C.offset cursor.new + length (C.chunk cursor.new) }
-    ensures end { length (C.content cursor.new) ≤ at → C.offset cursor.new + length (C.chunk cursor.new) ≡ length (C.content cursor.new) }
+    ensures there { at < length (C.content cursor.new)
+        → at < C.offset cursor.new + length (C.chunk cursor.new) }
+    ensures end { length (C.content cursor.new) ≤ at
+        → C.offset cursor.new + length (C.chunk cursor.new) ≡ length (C.content cursor.new) }
 {
     while at < cursor.offset() {
         if !cursor.backtrack() {
@@ -99,8 +101,10 @@ pub fn piece<C: Cursor>(cursor: &C, at: usize, end: usize) -> &[u8]
     requires { C.offset cursor.now ≤ at }
     ensures bytes { result.now ≡ slice_range (C.content cursor.now) at (at + length result.now) }
     ensures within { at + length result.now ≤ max at end }
-    ensures some { at < end → at < C.offset cursor.now + length (C.chunk cursor.now) → 0 < length result.now }
-    ensures whole { end ≤ C.offset cursor.now + length (C.chunk cursor.now) → at ≤ end → at + length result.now ≡ end }
+    ensures some { at < end → at < C.offset cursor.now + length (C.chunk cursor.now)
+        → 0 < length result.now }
+    ensures whole { end ≤ C.offset cursor.now + length (C.chunk cursor.now) → at ≤ end
+        → at + length result.now ≡ end }
     ensures inside { at ≤ C.offset cursor.now + length (C.chunk cursor.now)
         → at + length result.now ≤ C.offset cursor.now + length (C.chunk cursor.now) }
 {

@@ -121,7 +121,8 @@ fn pattern_after(pattern: usize, place: &Place) -> usize
 
 /// Returns the distance of the slot that the place names from the first of the pattern's range.
 fn column_in(ranges: &[SlotRange], pattern: usize, place: &Place) -> usize
-    ensures { result ≡ slot_number (place_of place.now) - (slice_index_or ranges.now pattern no_slots).first }
+    ensures { result ≡ slot_number (place_of place.now)
+        - (slice_index_or ranges.now pattern no_slots).first }
 {
     let range = range_at(ranges, pattern);
     match place {

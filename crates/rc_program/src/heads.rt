@@ -70,7 +70,8 @@ fn open_all(
     places: &[Place],
     place: usize,
 ) -> Result<bool, AllocError>
-    ensures { IfOk result (λ all. all ≡ true → AreReached (places_of places.now) place opened.new.items) }
+    ensures { IfOk result (λ all. all ≡ true
+        → AreReached (places_of places.now) place opened.new.items) }
 {
     opened.clear();
     open(opened, spots, place)?;
@@ -94,7 +95,8 @@ fn open_from(
     places: &[Place],
     from: usize,
 ) -> Result<(), AllocError>
-    ensures { OnOk result (Opens (silent (place_at (places_of places.now) from)) opened.old.items opened.new.items) }
+    ensures { OnOk result (Opens (silent
+        (place_at (places_of places.now) from)) opened.old.items opened.new.items) }
 {
     match places.get(from) {
         Some(Place::Choice(first, second)) => {
@@ -139,7 +141,8 @@ fn joined(alloc: Global, places: &[Place], opened: &[usize]) -> Result<Vec<bool>
 /// Sets the flags of the bytes that the place with this number takes.
 fn join_at(flags: &mut [bool], places: &[Place], number: usize)
     requires { length flags.old ≡ 256 }
-    ensures { AreJoined 256 (may_take (place_at (places_of places.now) number)) flags.old flags.new }
+    ensures { AreJoined 256 (may_take (place_at
+        (places_of places.now) number)) flags.old flags.new }
 {
     if let Some(place) = places.get(number) {
         join(flags, place);

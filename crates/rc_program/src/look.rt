@@ -12,7 +12,8 @@ use unicode::properties::{GeneralCategory, is_alphabetic};
 ///
 /// Of longer bytes, the four next to the position are enough.
 pub fn holds(look: Look, terminator: u8, before: &[u8], after: &[u8]) -> bool
-    ensures { result ≡ holds_between terminator (side_before before.now) (side_after after.now) look }
+    ensures { result ≡ holds_between terminator (side_before before.now)
+        (side_after after.now) look }
 {
     match look {
         Look::Start => before.is_empty(),
@@ -128,7 +129,8 @@ fn begins_with(bytes: &[u8], byte: u8) -> bool
 
 /// Whether a line begins at the position, if lines end at CR, LF, or both together.
 fn begins_line(before: &[u8], after: &[u8]) -> bool
-    ensures { result ≡ holds_between 10 (side_before before.now) (side_after after.now) Look.StartCRLF }
+    ensures { result ≡ holds_between 10 (side_before before.now)
+        (side_after after.now) Look.StartCRLF }
 {
     before.is_empty()
         || ends_with(before, b'\n')
@@ -137,7 +139,8 @@ fn begins_line(before: &[u8], after: &[u8]) -> bool
 
 /// Whether a line ends at the position, if lines end at CR, LF, or both together.
 fn ends_line(before: &[u8], after: &[u8]) -> bool
-    ensures { result ≡ holds_between 10 (side_before before.now) (side_after after.now) Look.EndCRLF }
+    ensures { result ≡ holds_between 10 (side_before before.now)
+        (side_after after.now) Look.EndCRLF }
 {
     after.is_empty()
         || begins_with(after, b'\r')
@@ -170,7 +173,8 @@ fn is_no_word(word: Option<bool>) -> bool
 
 /// Whether both are known, and are the same.
 fn are_same(before: Option<bool>, after: Option<bool>) -> bool
-    ensures { result ≡ (not (is_none before) && not (is_none after) && not (differ (unwrap_or before false) (unwrap_or after false))) }
+    ensures { result ≡ (not (is_none before) && not (is_none after)
+        && not (differ (unwrap_or before false) (unwrap_or after false))) }
 {
     match (before, after) {
         (Some(b), Some(a)) => b == a,

@@ -37,7 +37,8 @@ impl Program {
     #[tactic(auto, using(crate::proofs::HeadsLemmas::flags_tell))]
     pub fn head_table(&self, place: usize) -> Option<&[bool]>
         requires { place < length self.now.places.items }
-        ensures { MatchOption result ⊤ (λ flags. TellsHeads (places_of self.now.places.items) place flags.now) }
+        ensures { MatchOption result ⊤ (λ flags. TellsHeads
+            (places_of self.now.places.items) place flags.now) }
     {
         let flags: &[bool] = &self.heads[place];
         if flags.is_empty() { None } else { Some(flags) }
@@ -48,7 +49,8 @@ impl Program {
     #[inline(always)]
     pub fn may_go_on(&self, place: usize, byte: u8) -> Option<bool>
         requires { place < length self.now.places.items }
-        ensures { MatchOption result ⊤ (λ goes. MatchBool goes (MayGoOn (places_of self.now.places.items) place byte)
+        ensures { MatchOption result ⊤ (λ goes. MatchBool goes
+            (MayGoOn (places_of self.now.places.items) place byte)
             (¬ MayGoOn (places_of self.now.places.items) place byte)) }
     {
         let flags = self.head_table(place)?;

@@ -83,7 +83,8 @@ impl Config {
     /// result depends on it: they are used only if each prefix of the patterns begins with one of
     /// them.
     pub fn prefilter(mut self, value: Option<Prefilter>) -> Config
-        ensures { settings_of result ≡ record (settings_of self) { prefilter = Some (option_map needles_of value) } }
+        ensures { settings_of result ≡ record
+            (settings_of self) { prefilter = Some (option_map needles_of value) } }
     {
         self.prefilter = Some(value);
         self
@@ -107,7 +108,8 @@ impl Config {
 
     /// This setting is kept, and has no effect.
     pub fn onepass_size_limit(mut self, value: Option<usize>) -> Config
-        ensures { settings_of result ≡ record (settings_of self) { onepass_size_limit = Some value } }
+        ensures { settings_of result ≡ record
+            (settings_of self) { onepass_size_limit = Some value } }
     {
         self.onepass_size_limit = Some(value);
         self
@@ -115,7 +117,8 @@ impl Config {
 
     /// Sets the capacity of the cache of the lazy DFA, in bytes. No search result depends on it.
     pub fn hybrid_cache_capacity(mut self, value: usize) -> Config
-        ensures { settings_of result ≡ record (settings_of self) { hybrid_cache_capacity = Some value } }
+        ensures { settings_of result ≡ record
+            (settings_of self) { hybrid_cache_capacity = Some value } }
     {
         self.hybrid_cache_capacity = Some(value);
         self

@@ -29,7 +29,8 @@ impl Config {
     /// `MatchKind::All` it is the match with the greatest end, then the least start, then the first
     /// pattern; such a search rejects no match, and finds no groups but the whole match.
     pub fn match_kind(mut self, value: MatchKind) -> Config
-        ensures { search_settings_of result ≡ record (search_settings_of self) { match_kind = Some value } }
+        ensures { search_settings_of result
+            ≡ record (search_settings_of self) { match_kind = Some value } }
     {
         self.match_kind = Some(value);
         self
@@ -39,7 +40,8 @@ impl Config {
     /// depends on it: they are used only if prefixes of the patterns were extracted and each begins
     /// with one of them.
     pub fn prefilter(mut self, value: Option<Prefilter>) -> Config
-        ensures { search_settings_of result ≡ record (search_settings_of self) { prefilter = Some (option_map needles_of value) } }
+        ensures { search_settings_of result
+            ≡ record (search_settings_of self) { prefilter = Some (option_map needles_of value) } }
     {
         self.prefilter = Some(value);
         self
@@ -54,7 +56,8 @@ impl Config {
 
     /// The needles that a search may look for first. The default is `None`.
     pub fn get_prefilter(&self) -> Option<&Prefilter>
-        ensures { option_map (λ p. needles_of p.now) result ≡ prefilter_of (search_settings_of self.now) }
+        ensures { option_map (λ p. needles_of p.now) result
+            ≡ prefilter_of (search_settings_of self.now) }
     {
         match &self.prefilter {
             Some(Some(prefilter)) => Some(prefilter),
@@ -80,7 +83,8 @@ impl Config {
 
 /// Takes each setting that `new` sets, and keeps the others.
 pub fn overwrite(config: &mut Config, new: Config)
-    ensures { search_settings_of config.new ≡ set_over (search_settings_of config.old) (search_settings_of new) }
+    ensures { search_settings_of config.new
+        ≡ set_over (search_settings_of config.old) (search_settings_of new) }
 {
     config.match_kind = new.match_kind.or(config.match_kind);
     if let Some(prefilter) = new.prefilter {

@@ -31,7 +31,8 @@ impl<L: Drop> Config<L> {
 
     /// Sets which match a search finds, as `pikevm::Config::match_kind` does.
     pub fn match_kind(mut self, value: MatchKind) -> Config<L>
-        ensures { let s = (state_settings_of self).search in state_settings_of result ≡ record (state_settings_of self) { search = record s { match_kind = Some value } } }
+        ensures { let s = (state_settings_of self).search in state_settings_of result
+            ≡ record (state_settings_of self) { search = record s { match_kind = Some value } } }
     {
         self.search = self.search.match_kind(value);
         self
@@ -40,7 +41,13 @@ impl<L: Drop> Config<L> {
     /// Sets the needles that a search may look for first, as `pikevm::Config::prefilter` does. No
     /// search result depends on it.
     pub fn prefilter(mut self, value: Option<Prefilter>) -> Config<L>
-        ensures { let s = (state_settings_of self).search in state_settings_of result ≡ record (state_settings_of self) { search = record s { prefilter = Some (option_map needles_of value) } } }
+        ensures { let s = (state_settings_of self).search in state_settings_of result
+            ≡ record (state_settings_of self) {
+              search = record s {
+                prefilter = Some
+                    (option_map needles_of value);
+              };
+            } }
     {
         self.search = self.search.prefilter(value);
         self
@@ -49,7 +56,8 @@ impl<L: Drop> Config<L> {
     /// Sets whether bytes that no pattern distinguishes share a column of a table. The default is
     /// true. No search result depends on it.
     pub fn byte_classes(mut self, yes: bool) -> Config<L>
-        ensures { state_settings_of result ≡ record (state_settings_of self) { byte_classes = Some yes } }
+        ensures { state_settings_of result
+            ≡ record (state_settings_of self) { byte_classes = Some yes } }
     {
         self.byte_classes = Some(yes);
         self
@@ -67,7 +75,8 @@ impl Config<Option<usize>> {
     /// Sets the limit on the bytes that the states of each direction of a full DFA may take. The
     /// default is `None`, for no limit.
     pub fn dfa_size_limit(mut self, value: Option<usize>) -> Config<Option<usize>>
-        ensures { state_settings_of result ≡ record (state_settings_of self) { limit = Some value } }
+        ensures { state_settings_of result
+            ≡ record (state_settings_of self) { limit = Some value } }
     {
         self.limit = Some(value);
         self
@@ -78,7 +87,8 @@ impl Config<usize> {
     /// Sets the number of bytes that the states of each direction of a lazy DFA may take in its
     /// cache. The default is 2,097,152.
     pub fn cache_capacity(mut self, bytes: usize) -> Config<usize>
-        ensures { state_settings_of result ≡ record (state_settings_of self) { limit = Some bytes } }
+        ensures { state_settings_of result
+            ≡ record (state_settings_of self) { limit = Some bytes } }
     {
         self.limit = Some(bytes);
         self
@@ -87,7 +97,8 @@ impl Config<usize> {
 
 /// Takes each setting that `new` sets, and keeps the others.
 pub fn overwrite<L: Drop>(config: &mut Config<L>, new: Config<L>)
-    ensures { state_settings_of config.new ≡ state_settings_over (state_settings_of config.old) (state_settings_of new) }
+    ensures { state_settings_of config.new
+        ≡ state_settings_over (state_settings_of config.old) (state_settings_of new) }
 {
     pikevm::overwrite(&mut config.search, new.search);
     config.byte_classes = new.byte_classes.or(config.byte_classes);

@@ -130,7 +130,8 @@ fn gaps(alloc: Global, unicode: bool, ranges: &[CodeRange]) -> Result<Vec<CodeRa
 
 /// The other case of the letters that the range shares with `A` to `Z`.
 fn push_lower(ranges: &mut Vec<CodeRange>, range: CodeRange) -> Result<(), AllocError>
-    ensures { OnOk result (pairs ranges.new.items ≡ pairs ranges.old.items ++ lower (shared 65 90 (pair range))) }
+    ensures { OnOk result (pairs ranges.new.items ≡ pairs ranges.old.items
+        ++ lower (shared 65 90 (pair range))) }
 {
     let start = range.start.max(65);
     let end = range.end.min(90);
@@ -142,7 +143,8 @@ fn push_lower(ranges: &mut Vec<CodeRange>, range: CodeRange) -> Result<(), Alloc
 
 /// The other case of the letters that the range shares with `a` to `z`.
 fn push_upper(ranges: &mut Vec<CodeRange>, range: CodeRange) -> Result<(), AllocError>
-    ensures { OnOk result (pairs ranges.new.items ≡ pairs ranges.old.items ++ upper (shared 97 122 (pair range))) }
+    ensures { OnOk result (pairs ranges.new.items ≡ pairs ranges.old.items
+        ++ upper (shared 97 122 (pair range))) }
 {
     let start = range.start.max(97);
     let end = range.end.min(122);

@@ -99,7 +99,8 @@ fn is_hyphen(member: Member) -> bool
 
 /// The member that may end a range, and what follows it.
 fn range_end(rest: &[Member]) -> Option<(Member, &[Member])>
-    ensures { MatchOption result (range_end rest.now ≡ None) (λ p. range_end rest.now ≡ Some (p.0, p.1.now)) }
+    ensures { MatchOption result (range_end rest.now ≡ None)
+        (λ p. range_end rest.now ≡ Some (p.0, p.1.now)) }
 {
     if rest.len() < 2 {
         return None;
@@ -117,7 +118,8 @@ fn ranged<'m>(
     rest: &'m [Member],
     ranges: &mut Vec<CodeRange>,
 ) -> Result<(bool, &'m [Member]), Refusal>
-    ensures { IsResultOf result (ranged unicode code rest.now (pairs ranges.old.items)) (λ r. (pairs ranges.new.items, (r.0, r.1.now))) }
+    ensures { IsResultOf result (ranged unicode code rest.now (pairs ranges.old.items))
+        (λ r. (pairs ranges.new.items, (r.0, r.1.now))) }
 {
     if let Some((end, left)) = range_end(rest) {
         let Some(high) = code_of(unicode, end) else {
@@ -142,7 +144,8 @@ fn item<'m>(
     rest: &'m [Member],
     ranges: &mut Vec<CodeRange>,
 ) -> Result<(bool, &'m [Member]), Refusal>
-    ensures { IsResultOf result (item unicode after member rest.now (pairs ranges.old.items)) (λ r. (pairs ranges.new.items, (r.0, r.1.now))) }
+    ensures { IsResultOf result (item unicode after member rest.now (pairs ranges.old.items))
+        (λ r. (pairs ranges.new.items, (r.0, r.1.now))) }
 {
     match member {
         Member::Hyphen => {
@@ -181,7 +184,8 @@ fn items(
     members: &[Member],
     ranges: &mut Vec<CodeRange>,
 ) -> Result<(), Refusal>
-    ensures { IsResultOf result (more unicode after members.now (pairs ranges.old.items)) (λ _. pairs ranges.new.items) }
+    ensures { IsResultOf result (more unicode after members.now (pairs ranges.old.items))
+        (λ _. pairs ranges.new.items) }
 {
     let mut after = after;
     let mut rest = members;
@@ -204,7 +208,8 @@ fn lead<'m>(
     members: &'m [Member],
     ranges: &mut Vec<CodeRange>,
 ) -> Result<&'m [Member], AllocError>
-    ensures { IfOk result (λ rest. led_more unicode members.now (pairs ranges.old.items) ≡ more unicode false rest.now (pairs ranges.new.items)) }
+    ensures { IfOk result (λ rest. led_more unicode members.now (pairs ranges.old.items)
+        ≡ more unicode false rest.now (pairs ranges.new.items)) }
 {
     let mut rest = members;
     while let Some((member, tail)) = first(rest) {
@@ -219,7 +224,8 @@ fn lead<'m>(
 
 /// The ranges of a list, as they are written.
 pub fn list_ranges(alloc: Global, unicode: bool, list: &List) -> Result<Vec<CodeRange>, Refusal>
-    ensures { IsResultOf result (list_ranges unicode list.now.bracket list.now.members.items) (λ v. pairs v.items) }
+    ensures { IsResultOf result (list_ranges unicode list.now.bracket list.now.members.items)
+        (λ v. pairs v.items) }
 {
     let mut ranges = Vec::new(alloc);
     if list.bracket {

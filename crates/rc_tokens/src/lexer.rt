@@ -125,5 +125,6 @@ pub fn first_token(alloc: Global, text: &[char]) -> Result<(Token, &[char]), Ref
 
 /// The lexer returns the token with which the text begins, or none if no token begins it.
 pub fn gives_the_mark()
-    ensures { (t : Characters) (k : Said) (u : Characters) → (lex t ≡ Some (k, u)) ↔ BeginsWithMark t k u }
+    ensures { (t : Characters) (k : Said) (u : Characters)
+        → (lex t ≡ Some (k, u)) ↔ BeginsWithMark t k u }
 {}

@@ -17,7 +17,8 @@ pub(crate) fn first(text: &[char]) -> Option<(char, &[char])>
 
 /// The text after the character `d`, if it begins with that.
 pub(crate) fn after(text: &[char], d: char) -> Option<&[char]>
-    ensures { MatchOption result (is_at d text.now ≡ false) (λ rest. (is_at d text.now ≡ true) × (rest.now ≡ drop 1 text.now)) }
+    ensures { MatchOption result (is_at d text.now ≡ false)
+        (λ rest. (is_at d text.now ≡ true) × (rest.now ≡ drop 1 text.now)) }
 {
     let (c, rest) = first(text)?;
     if c == d {

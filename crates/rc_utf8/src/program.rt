@@ -29,11 +29,14 @@ fn add_scalars(
     next: usize,
 ) -> Result<(), AllocError>
     requires room { first + vec_len blocks.old + (1 + 84 * length ranges.now) < 2 ^ 61 }
-    ensures long { IfOk result (λ _. vec_len blocks.new + 1 ≤ vec_len blocks.old + (1 + 84 * length ranges.now)) }
+    ensures long { IfOk result (λ _. vec_len blocks.new + 1 ≤ vec_len blocks.old
+        + (1 + 84 * length ranges.now)) }
     ensures more { IfOk result (λ _. places_of places.new.items
-        ≡ places_of places.old.items ++ byte_place (first + vec_len blocks.old) (scalar (map char_range ranges.now) next) ∷ []) }
+        ≡ places_of places.old.items ++ byte_place (first + vec_len blocks.old)
+        (scalar (map char_range ranges.now) next) ∷ []) }
     ensures behind { IfOk result (λ _. places_of blocks.new.items
-        ≡ places_of blocks.old.items ++ block (first + vec_len blocks.old) (scalar (map char_range ranges.now) next)) }
+        ≡ places_of blocks.old.items ++ block (first + vec_len blocks.old)
+        (scalar (map char_range ranges.now) next)) }
 {
     let sequences = class_sequences(alloc, ranges)?;
     let exits = Exits {
@@ -56,9 +59,11 @@ fn add_place(
     place: &Place,
 ) -> Result<(), AllocError>
     requires room { first + vec_len blocks.old + place_weight (source_of place.now) < 2 ^ 61 }
-    ensures long { IfOk result (λ _. vec_len blocks.new + 1 ≤ vec_len blocks.old + place_weight (source_of place.now)) }
+    ensures long { IfOk result (λ _. vec_len blocks.new + 1 ≤ vec_len blocks.old
+        + place_weight (source_of place.now)) }
     ensures more { IfOk result (λ _. places_of places.new.items
-        ≡ places_of places.old.items ++ byte_place (first + vec_len blocks.old) (source_of place.now) ∷ []) }
+        ≡ places_of places.old.items ++ byte_place (first + vec_len blocks.old)
+        (source_of place.now) ∷ []) }
     ensures behind { IfOk result (λ _. places_of blocks.new.items
         ≡ places_of blocks.old.items ++ block (first + vec_len blocks.old) (source_of place.now)) }
 {

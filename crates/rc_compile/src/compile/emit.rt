@@ -17,7 +17,8 @@ const GREATEST_GROUP: usize = 2147483647;
 /// Appends one place.
 pub(super) fn append(places: &mut Vec<Place>, place: Place) -> Result<(), AllocError>
     ensures long { IfOk result (λ _. vec_len places.new ≡ vec_len places.old + 1) }
-    ensures more { IfOk result (λ _. places_of places.new.items ≡ places_of places.old.items ++ place_of place ∷ []) }
+    ensures more { IfOk result (λ _. places_of places.new.items ≡ places_of places.old.items
+        ++ place_of place ∷ []) }
 {
     places.push(place)?;
     Ok(())
@@ -36,9 +37,11 @@ fn choice_of(greedy: bool, body: usize, out: usize) -> Place
 /// Appends the places of a literal, which leads to `next`.
 fn emit_literal(places: &mut Vec<Place>, bytes: &Vec<u8>, next: usize) -> Result<(), AllocError>
     requires { vec_len places.old + vec_len bytes.now < 2 ^ 62 }
-    ensures long { IfOk result (λ _. vec_len places.new ≡ vec_len places.old + (literal_part bytes.now.items).size) }
+    ensures long { IfOk result (λ _. vec_len places.new ≡ vec_len places.old
+        + (literal_part bytes.now.items).size) }
     ensures more { IfOk result (λ _. places_of places.new.items
-        ≡ places_of places.old.items ++ (literal_part bytes.now.items).places 0 (vec_len places.old) next) }
+        ≡ places_of places.old.items ++ (literal_part bytes.now.items).places 0
+        (vec_len places.old) next) }
 {
     if bytes.is_empty() {
         return append(places, Place::Pass(next));
@@ -53,7 +56,8 @@ fn emit_literal(places: &mut Vec<Place>, bytes: &Vec<u8>, next: usize) -> Result
 
 /// Appends the place of a class, which leads to `next`.
 fn emit_class(places: &mut Vec<Place>, class: &Class, next: usize) -> Result<(), AllocError>
-    ensures long { IfOk result (λ _. vec_len places.new ≡ vec_len places.old + (part (class_meaning class.now)).size) }
+    ensures long { IfOk result (λ _. vec_len places.new ≡ vec_len places.old
+        + (part (class_meaning class.now)).size) }
     ensures more { IfOk result (λ _. places_of places.new.items
         ≡ places_of places.old.items ++ (part (class_meaning class.now)).places 0 0 next) }
 {
@@ -82,9 +86,11 @@ pub(super) fn emit(
 ) -> Result<(), AllocError>
     requires fits { vec_len places.old + (laid groups (meaning hir.now)).size < 2 ^ 62 }
     requires slots_fit { slots < 2 ^ 62 }
-    ensures long { IfOk result (λ _. vec_len places.new ≡ vec_len places.old + (laid groups (meaning hir.now)).size) }
+    ensures long { IfOk result (λ _. vec_len places.new ≡ vec_len places.old
+        + (laid groups (meaning hir.now)).size) }
     ensures more { IfOk result (λ _. places_of places.new.items
-        ≡ places_of places.old.items ++ (laid groups (meaning hir.now)).places slots (vec_len places.old) next) }
+        ≡ places_of places.old.items ++ (laid groups (meaning hir.now)).places slots
+        (vec_len places.old) next) }
 {
     match hir.kind() {
         HirKind::Empty => append(places, Place::Pass(next)),
@@ -112,9 +118,11 @@ fn emit_capture(
 ) -> Result<(), AllocError>
     requires fits { vec_len places.old + (laid groups (capture_meaning capture.now)).size < 2 ^ 62 }
     requires slots_fit { slots < 2 ^ 62 }
-    ensures long { IfOk result (λ _. vec_len places.new ≡ vec_len places.old + (laid groups (capture_meaning capture.now)).size) }
+    ensures long { IfOk result (λ _. vec_len places.new ≡ vec_len places.old
+        + (laid groups (capture_meaning capture.now)).size) }
     ensures more { IfOk result (λ _. places_of places.new.items
-        ≡ places_of places.old.items ++ (laid groups (capture_meaning capture.now)).places slots (vec_len places.old) next) }
+        ≡ places_of places.old.items ++ (laid groups (capture_meaning capture.now)).places slots
+        (vec_len places.old) next) }
 {
     if !groups {
         return emit(places, &capture.sub, groups, slots, next);
@@ -137,11 +145,14 @@ fn emit_concat(
     slots: usize,
     next: usize,
 ) -> Result<(), AllocError>
-    requires fits { vec_len places.old + (laid groups (cat_all (map meaning subs.now))).size < 2 ^ 62 }
+    requires fits { vec_len places.old + (laid groups (cat_all (map meaning subs.now))).size
+        < 2 ^ 62 }
     requires slots_fit { slots < 2 ^ 62 }
-    ensures long { IfOk result (λ _. vec_len places.new ≡ vec_len places.old + (laid groups (cat_all (map meaning subs.now))).size) }
+    ensures long { IfOk result (λ _. vec_len places.new ≡ vec_len places.old
+        + (laid groups (cat_all (map meaning subs.now))).size) }
     ensures more { IfOk result (λ _. places_of places.new.items
-        ≡ places_of places.old.items ++ (laid groups (cat_all (map meaning subs.now))).places slots (vec_len places.old) next) }
+        ≡ places_of places.old.items ++ (laid groups (cat_all (map meaning subs.now))).places slots
+        (vec_len places.old) next) }
 {
     for sub in subs {
         let after = places.len() + size(sub, groups);
@@ -160,11 +171,14 @@ fn emit_alternation(
     slots: usize,
     next: usize,
 ) -> Result<(), AllocError>
-    requires fits { vec_len places.old + (laid groups (alt_all (map meaning subs.now))).size < 2 ^ 62 }
+    requires fits { vec_len places.old + (laid groups (alt_all (map meaning subs.now))).size
+        < 2 ^ 62 }
     requires slots_fit { slots < 2 ^ 62 }
-    ensures long { IfOk result (λ _. vec_len places.new ≡ vec_len places.old + (laid groups (alt_all (map meaning subs.now))).size) }
+    ensures long { IfOk result (λ _. vec_len places.new ≡ vec_len places.old
+        + (laid groups (alt_all (map meaning subs.now))).size) }
     ensures more { IfOk result (λ _. places_of places.new.items
-        ≡ places_of places.old.items ++ (laid groups (alt_all (map meaning subs.now))).places slots (vec_len places.old) next) }
+        ≡ places_of places.old.items ++ (laid groups (alt_all (map meaning subs.now))).places slots
+        (vec_len places.old) next) }
 {
     for sub in subs {
         let body = places.len() + 1;
@@ -186,11 +200,14 @@ fn emit_repetition(
     slots: usize,
     next: usize,
 ) -> Result<(), AllocError>
-    requires fits { vec_len places.old + (laid groups (repetition_meaning repetition.now)).size < 2 ^ 62 }
+    requires fits { vec_len places.old + (laid groups (repetition_meaning repetition.now)).size
+        < 2 ^ 62 }
     requires slots_fit { slots < 2 ^ 62 }
-    ensures long { IfOk result (λ _. vec_len places.new ≡ vec_len places.old + (laid groups (repetition_meaning repetition.now)).size) }
+    ensures long { IfOk result (λ _. vec_len places.new ≡ vec_len places.old
+        + (laid groups (repetition_meaning repetition.now)).size) }
     ensures more { IfOk result (λ _. places_of places.new.items
-        ≡ places_of places.old.items ++ (laid groups (repetition_meaning repetition.now)).places slots (vec_len places.old) next) }
+        ≡ places_of places.old.items ++ (laid groups
+        (repetition_meaning repetition.now)).places slots (vec_len places.old) next) }
 {
     let min = repetition.min;
     match repetition.max {

@@ -15,8 +15,10 @@ pub(super) fn push_captures<'a>(
     captures: &mut Vec<&'a Capture>,
     hir: &'a Hir,
 ) -> Result<(), AllocError>
-    ensures numbers { OnOk result (map number_of captures.new.items ≡ map number_of captures.old.items ++ group_numbers (meaning hir.now)) }
-    ensures names { OnOk result (map name_of captures.new.items ≡ map name_of captures.old.items ++ group_names (meaning hir.now)) }
+    ensures numbers { OnOk result (map number_of captures.new.items
+        ≡ map number_of captures.old.items ++ group_numbers (meaning hir.now)) }
+    ensures names { OnOk result (map name_of captures.new.items ≡ map name_of captures.old.items
+        ++ group_names (meaning hir.now)) }
 {
     match hir.kind() {
         HirKind::Empty | HirKind::Literal(_) | HirKind::Class(_) | HirKind::Look(_) => Ok(()),
@@ -32,8 +34,10 @@ pub(super) fn push_captures<'a>(
 
 #[cycle(captures)]
 fn push_all_captures<'a>(captures: &mut Vec<&'a Capture>, subs: &'a [Hir]) -> Result<(), AllocError>
-    ensures numbers { OnOk result (map number_of captures.new.items ≡ map number_of captures.old.items ++ group_numbers (cat_all (map meaning subs.now))) }
-    ensures names { OnOk result (map name_of captures.new.items ≡ map name_of captures.old.items ++ group_names (cat_all (map meaning subs.now))) }
+    ensures numbers { OnOk result (map number_of captures.new.items
+        ≡ map number_of captures.old.items ++ group_numbers (cat_all (map meaning subs.now))) }
+    ensures names { OnOk result (map name_of captures.new.items ≡ map name_of captures.old.items
+        ++ group_names (cat_all (map meaning subs.now))) }
 {
     for sub in subs {
         push_captures(captures, sub)?;
@@ -44,7 +48,8 @@ fn push_all_captures<'a>(captures: &mut Vec<&'a Capture>, subs: &'a [Hir]) -> Re
 /// The names of the groups of the pattern, in the order of their opening; `None` for a group
 /// without one. An `Err` means out of memory.
 pub fn groups(alloc: Global, hir: &Hir) -> Result<Vec<Option<String>>, AllocError>
-    ensures { IfOk result (λ names. map (option_map string_bytes) names.items ≡ group_names (meaning hir.now)) }
+    ensures { IfOk result (λ names. map (option_map string_bytes) names.items
+        ≡ group_names (meaning hir.now)) }
 {
     let mut captures = Vec::new(alloc);
     push_captures(&mut captures, hir)?;

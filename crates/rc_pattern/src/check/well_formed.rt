@@ -15,7 +15,8 @@ use std::alloc::{AllocError, Global};
 
 /// Whether the groups are numbered 1, 2, .. in this order.
 fn are_numbered(captures: &[&Capture]) -> bool
-    ensures { IsTrue result ↔ (map number_of captures.now ≡ range_with_len 1 (length captures.now)) }
+    ensures { IsTrue result ↔ (map number_of captures.now
+        ≡ range_with_len 1 (length captures.now)) }
 {
     for (i, capture) in captures.iter().enumerate() {
         if capture.index != i + 1 {

@@ -47,14 +47,16 @@ fn char_after(c: char) -> char
 }
 
 fn push_chars(ranges: &mut Vec<ClassUnicodeRange>, start: char, end: char) -> Result<(), AllocError>
-    ensures { OnOk result (map char_range ranges.new.items ≡ map char_range ranges.old.items ++ (start, end) ∷ []) }
+    ensures { OnOk result (map char_range ranges.new.items ≡ map char_range ranges.old.items
+        ++ (start, end) ∷ []) }
 {
     ranges.push(ClassUnicodeRange { start, end })?;
     Ok(())
 }
 
 fn push_bytes(ranges: &mut Vec<ClassBytesRange>, start: u8, end: u8) -> Result<(), AllocError>
-    ensures { OnOk result (map byte_range ranges.new.items ≡ map byte_range ranges.old.items ++ (start, end) ∷ []) }
+    ensures { OnOk result (map byte_range ranges.new.items ≡ map byte_range ranges.old.items
+        ++ (start, end) ∷ []) }
 {
     ranges.push(ClassBytesRange { start, end })?;
     Ok(())
@@ -89,7 +91,8 @@ fn bytes_except(alloc: Global, b: u8) -> Result<Vec<ClassBytesRange>, AllocError
 }
 
 fn chars_except_crlf(alloc: Global) -> Result<Vec<ClassUnicodeRange>, AllocError>
-    ensures { IfOk result (λ ranges. map char_range ranges.items ≡ (0, 9) ∷ (11, 12) ∷ (14, 0x10FFFF) ∷ []) }
+    ensures { IfOk result (λ ranges. map char_range ranges.items ≡ (0, 9) ∷ (11, 12)
+        ∷ (14, 0x10FFFF) ∷ []) }
 {
     let mut ranges = Vec::new(alloc);
     push_chars(&mut ranges, '\0', '\t')?;
@@ -99,7 +102,8 @@ fn chars_except_crlf(alloc: Global) -> Result<Vec<ClassUnicodeRange>, AllocError
 }
 
 fn bytes_except_crlf(alloc: Global) -> Result<Vec<ClassBytesRange>, AllocError>
-    ensures { IfOk result (λ ranges. map byte_range ranges.items ≡ (0, 9) ∷ (11, 12) ∷ (14, 255) ∷ []) }
+    ensures { IfOk result (λ ranges. map byte_range ranges.items ≡ (0, 9) ∷ (11, 12) ∷ (14, 255)
+        ∷ []) }
 {
     let mut ranges = Vec::new(alloc);
     push_bytes(&mut ranges, 0, b'\t')?;

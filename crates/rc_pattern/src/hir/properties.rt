@@ -51,7 +51,8 @@ impl Properties {
 
     /// The number of groups that take part in each match, if that is known to be one number.
     pub fn static_explicit_captures_len(&self) -> Option<usize>
-        ensures { (h : re.Re) → IsPropertiesOf h self.now → result ≡ given.static_explicit_captures_len h }
+        ensures { (h : re.Re) → IsPropertiesOf h self.now
+            → result ≡ given.static_explicit_captures_len h }
     {
         self.static_explicit_captures_len
     }
@@ -65,14 +66,16 @@ impl Properties {
 
     /// The assertions that hold where each match begins.
     pub fn look_set_prefix(&self) -> LookSet
-        ensures { (h : re.Re) → IsPropertiesOf h self.now → HasOnly result (given.begins_with_look h) }
+        ensures { (h : re.Re) → IsPropertiesOf h self.now
+            → HasOnly result (given.begins_with_look h) }
     {
         self.look_prefix
     }
 
     /// The assertions that hold where each match ends.
     pub fn look_set_suffix(&self) -> LookSet
-        ensures { (h : re.Re) → IsPropertiesOf h self.now → HasOnly result (given.ends_with_look h) }
+        ensures { (h : re.Re) → IsPropertiesOf h self.now
+            → HasOnly result (given.ends_with_look h) }
     {
         self.look_suffix
     }

@@ -22,7 +22,8 @@ fn extended(
     ranges: &[ClassBytesRange],
     byte: u8,
 ) -> Result<Vec<ClassBytesRange>, AllocError>
-    ensures { IfOk result (λ longer. map byte_range longer.items ≡ map byte_range ranges.now ++ (byte, byte) ∷ []) }
+    ensures { IfOk result (λ longer. map byte_range longer.items ≡ map byte_range ranges.now
+        ++ (byte, byte) ∷ []) }
 {
     let mut longer = Vec::from_slice(alloc, ranges)?;
     longer.push(ClassBytesRange {
@@ -42,7 +43,8 @@ fn add_range(
     rest: usize,
 ) -> Result<(), AllocError>
     ensures { IfOk result (λ _. sequences_of list.new.items
-        ≡ sequences_of list.old.items ++ after (map byte_range ranges.now) (only_range start end rest)) }
+        ≡ sequences_of list.old.items ++ after (map byte_range ranges.now)
+        (only_range start end rest)) }
 {
     let mut ranges = Vec::from_slice(alloc, ranges)?;
     ranges.push(ClassBytesRange { start, end })?;
@@ -61,7 +63,8 @@ fn add_above(
     rest: usize,
 ) -> Result<(), AllocError>
     ensures { IfOk result (λ _. sequences_of list.new.items
-        ≡ sequences_of list.old.items ++ after (map byte_range ranges.now) (if_some (byte + 1) end rest)) }
+        ≡ sequences_of list.old.items ++ after (map byte_range ranges.now)
+        (if_some (byte + 1) end rest)) }
 {
     if byte >= end {
         return Ok(());
@@ -79,7 +82,8 @@ fn add_below(
     rest: usize,
 ) -> Result<(), AllocError>
     ensures { IfOk result (λ _. sequences_of list.new.items
-        ≡ sequences_of list.old.items ++ after (map byte_range ranges.now) (if_some 128 (byte - 1) rest)) }
+        ≡ sequences_of list.old.items ++ after (map byte_range ranges.now)
+        (if_some 128 (byte - 1) rest)) }
 {
     if byte <= 128 {
         return Ok(());
@@ -132,7 +136,8 @@ fn add_from(
     last: u8,
 ) -> Result<(), AllocError>
     ensures { IfOk result (λ _. sequences_of list.new.items
-        ≡ sequences_of list.old.items ++ after (map byte_range ranges.now) (from_bytes low.now last)) }
+        ≡ sequences_of list.old.items ++ after (map byte_range ranges.now)
+        (from_bytes low.now last)) }
 {
     let [first, left @ ..] = low else {
         return Ok(());
@@ -180,7 +185,8 @@ fn add_both(
     high: &[u8],
 ) -> Result<(), AllocError>
     ensures { IfOk result (λ _. sequences_of list.new.items ≡ sequences_of list.old.items
-        ++ after (map byte_range ranges.now) (over_both (all_are 191 high.now && nat_lt first last) low.now last high.now)) }
+        ++ after (map byte_range ranges.now)
+        (over_both (all_are 191 high.now && nat_lt first last) low.now last high.now)) }
 {
     if reach_all_to(first, last, high) {
         return add_from(alloc, list, ranges, low, last);
@@ -199,7 +205,8 @@ fn add_within(
     high: &[u8],
 ) -> Result<(), AllocError>
     ensures { IfOk result (λ _. sequences_of list.new.items
-        ≡ sequences_of list.old.items ++ after (map byte_range ranges.now) (within_bytes low.now high.now)) }
+        ≡ sequences_of list.old.items ++ after (map byte_range ranges.now)
+        (within_bytes low.now high.now)) }
 {
     let [first, low_left @ ..] = low else {
         return Ok(());
@@ -286,7 +293,8 @@ pub(super) fn class_sequences(
     alloc: Global,
     ranges: &[ClassUnicodeRange],
 ) -> Result<Vec<Sequence>, AllocError>
-    ensures { IfOk result (λ list. sequences_of list.items ≡ sequences (all_pieces (map char_range ranges.now))) }
+    ensures { IfOk result (λ list. sequences_of list.items
+        ≡ sequences (all_pieces (map char_range ranges.now))) }
 {
     let mut list = Vec::new(alloc);
     for i in 0..ranges.len() {

@@ -24,7 +24,8 @@ pub(super) struct Exits {
 /// Appends one place.
 pub(super) fn append(places: &mut Vec<BytePlace>, place: BytePlace) -> Result<(), AllocError>
     ensures long { IfOk result (λ _. vec_len places.new ≡ vec_len places.old + 1) }
-    ensures more { IfOk result (λ _. places_of places.new.items ≡ places_of places.old.items ++ place_of place ∷ []) }
+    ensures more { IfOk result (λ _. places_of places.new.items ≡ places_of places.old.items
+        ++ place_of place ∷ []) }
 {
     places.push(place)?;
     Ok(())
@@ -32,7 +33,8 @@ pub(super) fn append(places: &mut Vec<BytePlace>, place: BytePlace) -> Result<()
 
 /// Appends one way.
 fn add_way(ways: &mut Vec<ByteWay>, range: ClassBytesRange, next: usize) -> Result<(), AllocError>
-    ensures { IfOk result (λ _. ways_of ways.new.items ≡ ways_of ways.old.items ++ (byte_range range, next) ∷ []) }
+    ensures { IfOk result (λ _. ways_of ways.new.items ≡ ways_of ways.old.items
+        ++ (byte_range range, next) ∷ []) }
 {
     ways.push(ByteWay {
         first: range.start,
@@ -62,7 +64,8 @@ pub(super) fn add_tails(
 ) -> Result<(), AllocError>
     requires room { exits.tail + exits.count < 2 ^ 62 }
     ensures long { IfOk result (λ _. vec_len blocks.new ≡ vec_len blocks.old + exits.count) }
-    ensures more { IfOk result (λ _. places_of blocks.new.items ≡ places_of blocks.old.items ++ tails exits.count exits.tail exits.next) }
+    ensures more { IfOk result (λ _. places_of blocks.new.items ≡ places_of blocks.old.items
+        ++ tails exits.count exits.tail exits.next) }
 {
     for i in 0..exits.count {
         let next = rest_of(exits, exits.count - i - 1);
@@ -107,8 +110,10 @@ fn begins_with(sequence: &Sequence, level: usize, range: ClassBytesRange) -> boo
 fn group_len(sequences: &[Sequence], level: usize, range: ClassBytesRange) -> usize
     requires { level < 4 }
     ensures within { result ≤ length sequences.now }
-    ensures group { AllBegin (byte_range range) (take result (all_left_at level (sequences_of sequences.now))) }
-    ensures others { IsNext (byte_range range) (drop result (all_left_at level (sequences_of sequences.now))) }
+    ensures group { AllBegin (byte_range range)
+        (take result (all_left_at level (sequences_of sequences.now))) }
+    ensures others { IsNext (byte_range range)
+        (drop result (all_left_at level (sequences_of sequences.now))) }
 {
     for i in 0..sequences.len() {
         if !begins_with(&sequences[i], level, range) {
@@ -133,12 +138,15 @@ fn add_group(
     requires some { 0 < length sequences.now }
     requires deep { AllByRecursion (IsDeep level exits.count) (sequences_of sequences.now) }
     requires tails { exits.tail + exits.count < 2 ^ 62 }
-    requires room { first + vec_len blocks.old + size (tree_of (all_left_at level (sequences_of sequences.now))) < 2 ^ 62 }
+    requires room { first + vec_len blocks.old
+        + size (tree_of (all_left_at level (sequences_of sequences.now))) < 2 ^ 62 }
     ensures some { IfOk result (λ count. 0 < count) }
     ensures within { IfOk result (λ count. count ≤ length sequences.now) }
     ensures laid { IfOk result (λ count. Lays exits.count exits.tail exits.next
-        (tree_of (all_left_at level (sequences_of sequences.now))) (tree_of (all_left_at level (sequences_of (drop count sequences.now))))
-        (first + vec_len blocks.old) (first + vec_len blocks.new) ways.old.items ways.new.items blocks.old.items blocks.new.items) }
+        (tree_of (all_left_at level (sequences_of sequences.now)))
+        (tree_of (all_left_at level (sequences_of (drop count sequences.now))))
+        (first + vec_len blocks.old) (first
+        + vec_len blocks.new) ways.old.items ways.new.items blocks.old.items blocks.new.items) }
 {
     let sequence = &sequences[0];
     let range = sequence.ranges[level];
@@ -168,9 +176,12 @@ pub(super) fn add_tree(
 ) -> Result<Vec<ByteWay>, AllocError>
     requires deep { AllByRecursion (IsDeep level exits.count) (sequences_of sequences.now) }
     requires tails { exits.tail + exits.count < 2 ^ 62 }
-    requires room { first + vec_len blocks.old + size (tree_of (all_left_at level (sequences_of sequences.now))) < 2 ^ 62 }
-    ensures { IfOk result (λ ways. Lays exits.count exits.tail exits.next (tree_of (all_left_at level (sequences_of sequences.now))) none
-        (first + vec_len blocks.old) (first + vec_len blocks.new) [] ways.items blocks.old.items blocks.new.items) }
+    requires room { first + vec_len blocks.old
+        + size (tree_of (all_left_at level (sequences_of sequences.now))) < 2 ^ 62 }
+    ensures { IfOk result (λ ways. Lays exits.count exits.tail exits.next
+        (tree_of (all_left_at level (sequences_of sequences.now))) none
+        (first + vec_len blocks.old) (first
+        + vec_len blocks.new) [] ways.items blocks.old.items blocks.new.items) }
 {
     let mut ways = Vec::new(alloc);
     let mut at = 0;
