@@ -1,3 +1,4 @@
+-- Only proofs use this file.
 -- How deep a pattern is nested at least, as far as its text was read.
 use Rattle.std.specs.Prelude.{ℕ, ◌+◌, ◌-◌, List, [], ◌∷◌, length, max, min}
 use Rattle.rc_parser.specs.Grammar.{Level}
