@@ -41,5 +41,5 @@ fn last_of_four_thousand(rt: HostRuntime) {
     assert!(rt; half.0 == 2000);
     assert!(rt; whole.0 == 3999);
     assert!(rt; whole.1 == Some(Span { start: 7, end: 8 }));
-    assert!(rt; half.2 > 0 && whole.2 < half.2 / 10 * 22);
+    assert!(rt; half.2 > 0 && whole.2 < (half.2 / 10).saturating_mul(22));
 }
