@@ -8,8 +8,6 @@ mod chunks;
 #[cfg(test)]
 mod faults;
 #[cfg(test)]
-mod many;
-#[cfg(test)]
 mod moves;
 #[cfg(test)]
 mod paged;
@@ -21,10 +19,6 @@ mod replaces;
 mod searchers;
 #[cfg(test)]
 mod searches;
-#[cfg(test)]
-mod sets;
-#[cfg(test)]
-mod shown;
 #[cfg(test)]
 mod states;
 #[cfg(test)]
