@@ -2,14 +2,21 @@
 //! a given length, by a template.
 #![tactic(auto)]
 
+ghost use Rattle.std.specs.Prelude.{◌≢◌, nat_eq, IfOk};
+ghost use Rattle.std.specs.Io.KnownBytes.{Keeps};
+ghost use Rattle.chunk_replace.specs.Words.{HasWords, IsDone};
+
+use buffered_sink::BufferedSink;
 use chunk_replace::program;
-use regex_cursor::run::Written;
 use std::alloc::{AllocError, Global};
 use std::io;
-use std::io::Write;
+use std::io::{Read, Write};
 use std::process::ExitCode;
 
-/// The status if memory runs out before the arguments are read.
+/// The status if something was replaced.
+const REPLACED: u8 = 0;
+
+/// The status of an error.
 const FAULT: u8 = 2;
 
 /// The arguments of the program. An error means out of memory, or an argument that isn't text.
@@ -23,22 +30,55 @@ fn lent(alloc: Global, words: &[String]) -> Result<Vec<&str>, AllocError> {
     words.iter().map(|word| word.as_str()).collect(alloc)
 }
 
+/// Writes the line of an error, and returns its status. An error of the writer is ignored.
+fn report<E: Write>(err: &mut E, line: &str) -> u8 {
+    let _ = writeln!(err, "{line}");
+    FAULT
+}
+
+/// Runs the program with these arguments over a writer, which gets the text in long pieces. It
+/// returns the status, and the writer once all was written. An `Err` is the status of an error, of
+/// which a line was written to `err`: out of memory, or the writer failed at last.
+fn run_over<R: Read, W: Write + Drop, E: Write>(
+    alloc: Global,
+    words: &[&str],
+    input: &mut R,
+    out: W,
+    err: &mut E,
+) -> Result<(u8, W), u8>
+    ensures done { IfOk result (λ r. r.0 ≢ FAULT → IsDone words.now (R.remaining input.old) (W.contents out) (W.contents r.1) (nat_eq r.0 REPLACED)) }
+    ensures nothing_put { IfOk result (λ r. ¬ HasWords words.now → Keeps (W.contents out) (W.contents r.1)) }
+    ensures unread { ¬ HasWords words.now → Keeps (R.remaining input.old) (R.remaining input.new) }
+{
+    let Ok(mut sink) = BufferedSink::new(alloc, out) else {
+        return Err(report(err, "out of memory"));
+    };
+    let status = program(alloc, words, input, &mut sink, err);
+    match sink.into_inner() {
+        Ok(out) => Ok((status, out)),
+        Err(_) if status == FAULT => Err(FAULT),
+        Err(_) => Err(report(err, "write failed")),
+    }
+}
+
 /// Runs the program with these arguments.
 fn run_with(rt: &HostRuntime, words: &[&str]) -> u8 {
-    let mut out = Written::new(rt.stdout());
-    program(
+    let ran = run_over(
         rt.alloc(),
         words,
         &mut rt.stdin(),
-        &mut out,
+        rt.stdout(),
         &mut rt.stderr(),
-    )
+    );
+    match ran {
+        Ok((status, _)) => status,
+        Err(status) => status,
+    }
 }
 
-/// Reports that memory ran out. An error of the standard error is ignored.
+/// Reports that memory ran out.
 fn out_of_memory(rt: &HostRuntime) -> u8 {
-    let _ = writeln!(rt.stderr(), "out of memory");
-    FAULT
+    report(&mut rt.stderr(), "out of memory")
 }
 
 fn main(rt: HostRuntime) -> ExitCode {

@@ -1,11 +1,15 @@
-//! Each call that builds an engine, once, of a text and of a tree as deep as may be.
+//! Each call that builds an engine, once, of a text and of a tree as deep as may be. Trees of any
+//! depth are dropped, and refused.
+ghost use Rattle.std.specs.Prelude.{IfOk};
+ghost use Rattle.api_pikevm.specs.Caches.{IsCacheFor};
+ghost use Rattle.api_pikevm.specs.Views.{sought};
 
 use regex_cursor::Input;
 use regex_cursor::engines::meta::BuildError;
 use regex_cursor::engines::pikevm::PikeVM;
 use regex_cursor::engines::{dfa, hybrid, meta, pikevm};
-use regex_cursor::hir::{Dot, Hir, Repetition};
-use regex_cursor::types::Match;
+use regex_cursor::hir::{Capture, Dot, Hir, Look, Repetition};
+use regex_cursor::types::{Match, PatternID};
 use std::alloc::{AllocError, Global};
 use std::slice::from_ref;
 use std::test::Fail;
@@ -115,15 +119,25 @@ fn by_vm(alloc: Global, call: Call, tree: &Hir) -> Result<usize, BuildError> {
     let built = vm(alloc, &builder, call, tree);
     drop(builder);
     let vm = built?;
-    let end = end_by_vm(alloc, &vm);
+    let end = end_by_vm(alloc, &vm, call);
     drop(vm);
     Ok(end?)
 }
 
+/// A cache of a `PikeVM`, by either call that makes one.
+fn cache_of(alloc: Global, vm: &PikeVM, call: Call) -> Result<pikevm::Cache, AllocError>
+    ensures { IfOk result (IsCacheFor (sought vm.now)) }
+{
+    match call {
+        Call::New => PikeVM::create_cache(vm, alloc),
+        _ => pikevm::Cache::new(alloc, vm),
+    }
+}
+
 /// Where the match of a `PikeVM` ends, in a cache that was reset.
-fn end_by_vm(alloc: Global, vm: &PikeVM) -> Result<usize, AllocError> {
+fn end_by_vm(alloc: Global, vm: &PikeVM, call: Call) -> Result<usize, AllocError> {
     let mut captures = PikeVM::create_captures(vm, alloc)?;
-    let mut cache = pikevm::Cache::new(alloc, vm)?;
+    let mut cache = cache_of(alloc, vm, call)?;
     let reset = pikevm::Cache::reset(&mut cache, vm);
     pikevm::search(vm, &mut cache, &mut Input::new(TEXT), &mut captures);
     drop(cache);
@@ -227,4 +241,48 @@ fn by_copy(alloc: Global) -> Result<usize, BuildError> {
 #[test]
 fn a_copy_of_a_regex(rt: HostRuntime) {
     assert!(rt; by_copy(rt.alloc()) == Ok(3));
+}
+
+/// The tree as a child of another node, which the level tells: the only one, in the middle, or the
+/// first.
+fn deeper(alloc: Global, tree: Hir, level: u32) -> Result<Hir, AllocError> {
+    match level % 4 {
+        0 => Ok(Hir::repetition(Repetition {
+            min: 0,
+            max: None,
+            greedy: true,
+            sub: Box::new(alloc, tree)?,
+        })),
+        1 => Ok(Hir::capture(Capture {
+            index: 1,
+            name: None,
+            sub: Box::new(alloc, tree)?,
+        })),
+        2 => {
+            let subs = vec![in alloc; Hir::look(Look::Start), tree, Hir::look(Look::End)]?;
+            Hir::concat(alloc, subs)
+        }
+        _ => {
+            let subs = vec![in alloc; tree, Hir::look(Look::Start), Hir::fail(alloc)]?;
+            Hir::alternation(alloc, subs)
+        }
+    }
+}
+
+#[test]
+fn a_tree_of_any_depth_is_refused_and_dropped(rt: HostRuntime) -> Result<(), Fail> {
+    let alloc = rt.alloc();
+    let mut tree = Hir::look(Look::Start);
+    for level in 0..1_000_000 {
+        tree = deeper(alloc, tree, level)?;
+    }
+    let refused: Result<usize, BuildError> = Err(BuildError::IllFormed {
+        pattern: PatternID::ZERO,
+    });
+    assert!(rt; by_regex(alloc, Call::BuildFromHir, &tree) == refused);
+    assert!(rt; by_vm(alloc, Call::BuildFromHir, &tree) == refused);
+    assert!(rt; by_dfa(alloc, Call::BuildFromHir, &tree) == refused);
+    assert!(rt; by_hybrid(alloc, Call::BuildFromHir, &tree) == refused);
+    drop(tree);
+    Ok(())
 }

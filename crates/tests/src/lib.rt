@@ -8,6 +8,8 @@ mod chunks;
 #[cfg(test)]
 mod faults;
 #[cfg(test)]
+mod many;
+#[cfg(test)]
 mod moves;
 #[cfg(test)]
 mod paged;
@@ -19,6 +21,10 @@ mod replaces;
 mod searchers;
 #[cfg(test)]
 mod searches;
+#[cfg(test)]
+mod sets;
+#[cfg(test)]
+mod shown;
 #[cfg(test)]
 mod states;
 #[cfg(test)]

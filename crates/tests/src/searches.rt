@@ -61,12 +61,13 @@ fn a_match_and_its_groups(rt: HostRuntime) -> Result<(), Fail> {
         &regex,
         Regex::captures(&regex, alloc, Input::new(TEXT)),
     );
+    let all = ends_in(alloc, &regex, Captures::all(alloc, regex.group_info()));
     let whole = ends_in(alloc, &regex, Captures::matches(alloc, regex.group_info()));
     let slot = last_slot(alloc, &regex);
     drop(regex);
     assert!(rt; ends == Ok([Some(6); 3]) && slot == Ok(Some(6)));
     assert!(rt; made == Ok((Some(6), Some(2))) && told == made);
-    assert!(rt; whole == Ok((Some(6), None)));
+    assert!(rt; all == made && whole == Ok((Some(6), None)));
     Ok(())
 }
 
