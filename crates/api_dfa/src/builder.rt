@@ -50,7 +50,8 @@ impl Builder {
     /// returns the builder.
     pub fn dense(&mut self, config: Config) -> &mut Builder
         ensures same_reference { result.ghost_name ≡ self.entry.ghost_name }
-        ensures value { builder_settings result.now ≡ state_settings_over (builder_settings self.entry.now) (state_settings_of config) }
+        ensures value { builder_settings result.now
+            ≡ state_settings_over (builder_settings self.entry.now) (state_settings_of config) }
         ensures program_kept { builder_program result.now ≡ builder_program self.entry.now }
         ensures syntax_kept { builder_syntax result.now ≡ builder_syntax self.entry.now }
     {
@@ -62,7 +63,8 @@ impl Builder {
     /// builder.
     pub fn thompson(&mut self, config: thompson::Config) -> &mut Builder
         ensures same_reference { result.ghost_name ≡ self.entry.ghost_name }
-        ensures value { builder_program result.now ≡ overwritten (builder_program self.entry.now) (settings_of config) }
+        ensures value { builder_program result.now
+            ≡ overwritten (builder_program self.entry.now) (settings_of config) }
         ensures settings_kept { builder_settings result.now ≡ builder_settings self.entry.now }
         ensures syntax_kept { builder_syntax result.now ≡ builder_syntax self.entry.now }
     {
@@ -83,12 +85,16 @@ impl Builder {
 
     /// Builds a `Regex` from the text of one pattern. The errors are those of `build_many`.
     pub fn build(&self, alloc: Global, pattern: &str) -> Result<Regex, BuildError>
-        ensures read { IfOk result (λ re. AllRead (builder_syntax self.now) (pattern.now ∷ []) (dfa_patterns (dfa_of re))) }
-        ensures settings { IfOk result (λ re. dfa_settings (dfa_of re) ≡ (builder_settings self.now).search) }
+        ensures read { IfOk result (λ re. AllRead (builder_syntax self.now) (pattern.now ∷ [])
+            (dfa_patterns (dfa_of re))) }
+        ensures settings { IfOk result (λ re. dfa_settings (dfa_of re)
+            ≡ (builder_settings self.now).search) }
         ensures program { IfOk result (λ re. dfa_program (dfa_of re) ≡ builder_program self.now) }
-        ensures buildable { IfOk result (λ re. IsBuildable (nfa_size_limit_of (builder_program self.now)) (dfa_patterns (dfa_of re))) }
+        ensures buildable { IfOk result (λ re. IsBuildable
+            (nfa_size_limit_of (builder_program self.now)) (dfa_patterns (dfa_of re))) }
         ensures within { IfOk result (IsWithinLimit (builder_settings self.now)) }
-        ensures refused { IfErr result (λ e. IsDfaTextRefusal (builder_program self.now) (builder_settings self.now) (builder_syntax self.now) (pattern.now ∷ []) e) }
+        ensures refused { IfErr result (λ e. IsDfaTextRefusal (builder_program self.now)
+            (builder_settings self.now) (builder_syntax self.now) (pattern.now ∷ []) e) }
     {
         self.build_many(alloc, std::slice::from_ref(&pattern))
     }
@@ -100,12 +106,16 @@ impl Builder {
     /// pattern is built. The builder stays as it was.
     pub fn build_many(&self, alloc: Global, patterns: &[&str]) -> Result<Regex, BuildError>
         requires { length patterns.now ≤ most_patterns }
-        ensures read { IfOk result (λ re. AllRead (builder_syntax self.now) (texts_of patterns.now) (dfa_patterns (dfa_of re))) }
-        ensures settings { IfOk result (λ re. dfa_settings (dfa_of re) ≡ (builder_settings self.now).search) }
+        ensures read { IfOk result (λ re. AllRead (builder_syntax self.now) (texts_of patterns.now)
+            (dfa_patterns (dfa_of re))) }
+        ensures settings { IfOk result (λ re. dfa_settings (dfa_of re)
+            ≡ (builder_settings self.now).search) }
         ensures program { IfOk result (λ re. dfa_program (dfa_of re) ≡ builder_program self.now) }
-        ensures buildable { IfOk result (λ re. IsBuildable (nfa_size_limit_of (builder_program self.now)) (dfa_patterns (dfa_of re))) }
+        ensures buildable { IfOk result (λ re. IsBuildable
+            (nfa_size_limit_of (builder_program self.now)) (dfa_patterns (dfa_of re))) }
         ensures within { IfOk result (IsWithinLimit (builder_settings self.now)) }
-        ensures refused { IfErr result (λ e. IsDfaTextRefusal (builder_program self.now) (builder_settings self.now) (builder_syntax self.now) (texts_of patterns.now) e) }
+        ensures refused { IfErr result (λ e. IsDfaTextRefusal (builder_program self.now)
+            (builder_settings self.now) (builder_syntax self.now) (texts_of patterns.now) e) }
     {
         let hirs = parse_all(alloc, patterns, &self.syntax)?;
         self.build_many_from_hir(alloc, &hirs)
@@ -121,11 +131,14 @@ impl Builder {
     pub fn build_many_from_hir(&self, alloc: Global, hirs: &[Hir]) -> Result<Regex, BuildError>
         requires { length hirs.now ≤ most_patterns }
         ensures patterns { IfOk result (λ re. dfa_patterns (dfa_of re) ≡ map meaning hirs.now) }
-        ensures settings { IfOk result (λ re. dfa_settings (dfa_of re) ≡ (builder_settings self.now).search) }
+        ensures settings { IfOk result (λ re. dfa_settings (dfa_of re)
+            ≡ (builder_settings self.now).search) }
         ensures program { IfOk result (λ re. dfa_program (dfa_of re) ≡ builder_program self.now) }
-        ensures buildable { IfOk result (λ _. IsBuildable (nfa_size_limit_of (builder_program self.now)) (map meaning hirs.now)) }
+        ensures buildable { IfOk result (λ _. IsBuildable
+            (nfa_size_limit_of (builder_program self.now)) (map meaning hirs.now)) }
         ensures within { IfOk result (IsWithinLimit (builder_settings self.now)) }
-        ensures refused { IfErr result (λ e. IsDfaRefusal (builder_program self.now) (builder_settings self.now) (map meaning hirs.now) e) }
+        ensures refused { IfErr result (λ e. IsDfaRefusal (builder_program self.now)
+            (builder_settings self.now) (map meaning hirs.now) e) }
     {
         let search = states::search_settings(&self.config);
         let built = build_all(

@@ -27,11 +27,13 @@ impl Regex {
     /// Builds a `Regex` from the text of one pattern, with the default settings: no limit is on the
     /// tables. The errors are those of `new_many`.
     pub fn new(alloc: Global, pattern: &str) -> Result<Regex, BuildError>
-        ensures read { IfOk result (λ re. AllRead default_settings (pattern.now ∷ []) (dfa_patterns (dfa_of re))) }
+        ensures read { IfOk result (λ re. AllRead default_settings (pattern.now ∷ [])
+            (dfa_patterns (dfa_of re))) }
         ensures settings { IfOk result (λ re. dfa_settings (dfa_of re) ≡ none_set) }
         ensures program { IfOk result (λ re. dfa_program (dfa_of re) ≡ unset) }
         ensures buildable { IfOk result (λ re. IsBuildable None (dfa_patterns (dfa_of re))) }
-        ensures refused { IfErr result (λ e. IsDfaTextRefusal unset no_limit_set default_settings (pattern.now ∷ []) e) }
+        ensures refused { IfErr result (λ e. IsDfaTextRefusal unset no_limit_set default_settings
+            (pattern.now ∷ []) e) }
     {
         Regex::builder().build(alloc, pattern)
     }
@@ -45,11 +47,13 @@ impl Regex {
     /// memory, or that no memory could hold the tables.
     pub fn new_many(alloc: Global, patterns: &[&str]) -> Result<Regex, BuildError>
         requires { length patterns.now ≤ most_patterns }
-        ensures read { IfOk result (λ re. AllRead default_settings (texts_of patterns.now) (dfa_patterns (dfa_of re))) }
+        ensures read { IfOk result (λ re. AllRead default_settings (texts_of patterns.now)
+            (dfa_patterns (dfa_of re))) }
         ensures settings { IfOk result (λ re. dfa_settings (dfa_of re) ≡ none_set) }
         ensures program { IfOk result (λ re. dfa_program (dfa_of re) ≡ unset) }
         ensures buildable { IfOk result (λ re. IsBuildable None (dfa_patterns (dfa_of re))) }
-        ensures refused { IfErr result (λ e. IsDfaTextRefusal unset no_limit_set default_settings (texts_of patterns.now) e) }
+        ensures refused { IfErr result (λ e. IsDfaTextRefusal unset no_limit_set default_settings
+            (texts_of patterns.now) e) }
     {
         Regex::builder().build_many(alloc, patterns)
     }

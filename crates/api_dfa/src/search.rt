@@ -36,7 +36,8 @@ use rc_text::types::{HalfMatch, Match, MatchError};
 /// doesn't go past a byte above 127.
 pub fn find<C: Cursor>(re: &Regex, input: &mut Input<C>) -> Result<Option<Match>, MatchError>
     ensures keeps { Keeps input.old input.new }
-    ensures found { IfOk result (IsAnswerBy (dfa_kind (dfa_of re.now)) input.old.earliest (search_for (sought (dfa_of re.now)) input.old)) }
+    ensures found { IfOk result (IsAnswerBy (dfa_kind (dfa_of re.now)) input.old.earliest
+        (search_for (sought (dfa_of re.now)) input.old)) }
     ensures within { IfOk result (λ o. IfSome o (IsWithinBounds input.old)) }
     ensures fault { IfErr result (IsFaultOf (sought (dfa_of re.now)) input.old) }
 {
@@ -47,7 +48,8 @@ pub fn find<C: Cursor>(re: &Regex, input: &mut Input<C>) -> Result<Option<Match>
 /// Returns the match that a search of the input finds, exactly as `find` does.
 pub fn try_search<C: Cursor>(re: &Regex, input: &mut Input<C>) -> Result<Option<Match>, MatchError>
     ensures keeps { Keeps input.old input.new }
-    ensures found { IfOk result (IsAnswerBy (dfa_kind (dfa_of re.now)) input.old.earliest (search_for (sought (dfa_of re.now)) input.old)) }
+    ensures found { IfOk result (IsAnswerBy (dfa_kind (dfa_of re.now)) input.old.earliest
+        (search_for (sought (dfa_of re.now)) input.old)) }
     ensures within { IfOk result (λ o. IfSome o (IsWithinBounds input.old)) }
     ensures fault { IfErr result (IsFaultOf (sought (dfa_of re.now)) input.old) }
 {
@@ -64,8 +66,10 @@ pub fn try_search_fwd<C: Cursor>(
     input: &mut Input<C>,
 ) -> Result<Option<HalfMatch>, MatchError>
     ensures keeps { Keeps input.old input.new }
-    ensures found { IfOk result (IsForwardHalf (dfa_kind dfa.now) input.old.earliest (search_for (sought dfa.now) input.old)) }
-    ensures within { IfOk result (λ o. IfSome o (λ h. (low input.old ≤ h.offset) × (h.offset ≤ high input.old))) }
+    ensures found { IfOk result (IsForwardHalf (dfa_kind dfa.now) input.old.earliest
+        (search_for (sought dfa.now) input.old)) }
+    ensures within { IfOk result (λ o. IfSome o
+        (λ h. (low input.old ≤ h.offset) × (h.offset ≤ high input.old))) }
     ensures fault { IfErr result (IsFaultOf (sought dfa.now) input.old) }
 {
     let aim = dfa.aim(input.get_earliest());
@@ -83,8 +87,10 @@ pub fn try_search_rev<C: Cursor>(
     input: &mut Input<C>,
 ) -> Result<Option<HalfMatch>, MatchError>
     ensures keeps { Keeps input.old input.new }
-    ensures found { IfOk result (IsReverseHalf input.old.earliest (search_for (sought dfa.now) input.old)) }
-    ensures within { IfOk result (λ o. IfSome o (λ h. (low input.old ≤ h.offset) × (h.offset ≤ high input.old))) }
+    ensures found { IfOk result (IsReverseHalf input.old.earliest
+        (search_for (sought dfa.now) input.old)) }
+    ensures within { IfOk result (λ o. IfSome o
+        (λ h. (low input.old ≤ h.offset) × (h.offset ≤ high input.old))) }
     ensures fault { IfErr result (IsFaultOf (sought dfa.now) input.old) }
 {
     let aim = dfa.aim(input.get_earliest());
@@ -101,7 +107,8 @@ pub fn try_search_rev<C: Cursor>(
 pub fn find_iter<'r, C: Cursor + Drop>(re: &'r Regex, input: Input<C>) -> FindMatches<'r, C>
     ensures left { find_left result ≡ matches_in (dfa_of re.now) input None }
     ensures leftmost { dfa_kind (dfa_of re.now) ≡ LeftmostFirst
-        → find_left result ≡ matches_left (search_for (sought (dfa_of re.now)) input) input.span.start None }
+        → find_left result ≡ matches_left
+        (search_for (sought (dfa_of re.now)) input) input.span.start None }
     ensures regex { find_regex result ≡ re.now }
     ensures input { find_input result ≡ input }
     ensures runs { FindRuns result }
@@ -122,7 +129,8 @@ fn find_by<C: Cursor>(
     earliest: bool,
 ) -> Result<Option<Match>, MatchError>
     ensures keeps { Keeps input.old input.new }
-    ensures found { IfOk result (IsAnswerBy (dfa_kind dfa.now) earliest (search_for (sought dfa.now) input.old)) }
+    ensures found { IfOk result (IsAnswerBy (dfa_kind dfa.now) earliest
+        (search_for (sought dfa.now) input.old)) }
     ensures within { IfOk result (λ o. IfSome o (IsWithinBounds input.old)) }
     ensures fault { IfErr result (IsFaultOf (sought dfa.now) input.old) }
 {
@@ -162,7 +170,8 @@ fn look_on<C: Cursor>(
     last: Option<usize>,
 ) -> Result<Option<Match>, MatchError>
     ensures found { IfOk result (λ o. o
-        ≡ next_match begin_of end_of (answer_by_from (dfa_kind dfa.now) (search_for (sought dfa.now) input.old)) input.old.span.start last) }
+        ≡ next_match begin_of end_of (answer_by_from (dfa_kind dfa.now)
+        (search_for (sought dfa.now) input.old)) input.old.span.start last) }
     ensures within { IfOk result (λ o. IfSome o (λ m. m.end ≤ high input.new)) }
     ensures moves { IsMoved input.old input.new }
     ensures fault { IfErr result (IsNextFault (sought dfa.now) input.old) }

@@ -55,12 +55,15 @@ impl<'r, 'c> Finder<'r, 'c> {
         ensures made { IsCacheFor self.new.regex self.new.cache }
         ensures left { IfOk result (λ o. MatchOption o
             (matches_in self.old.regex input.old last ≡ [])
-            (λ m. matches_in self.old.regex input.old last ≡ m ∷ matches_in self.old.regex input.new (Some m.end))) }
+            (λ m. matches_in self.old.regex input.old last ≡ m
+            ∷ matches_in self.old.regex input.new (Some m.end))) }
         ensures regex { self.new.regex ≡ self.old.regex }
         ensures same_reference { self.new.lender ≡ self.old.lender }
         ensures moves { IsMoved input.old input.new }
-        ensures fault { IfErr result (IsNextFault self.old.regex input.old self.old.cache self.new.cache) }
-        ensures clears { ClearsWhereShortNext self.old.regex input.old self.old.cache self.new.cache }
+        ensures fault { IfErr result (IsNextFault self.old.regex input.old
+            self.old.cache self.new.cache) }
+        ensures clears { ClearsWhereShortNext self.old.regex input.old self.old.cache
+            self.new.cache }
     {
         search::next_match(self.regex, self.cache, input, last)
     }

@@ -48,12 +48,14 @@ impl Regex {
     /// Builds a `Regex` from the text of one pattern, with the default settings: the states of each
     /// direction may take 2,097,152 bytes. The errors are those of `new_many`.
     pub fn new(alloc: Global, pattern: &str) -> Result<Regex, BuildError>
-        ensures read { IfOk result (λ re. AllRead default_settings (pattern.now ∷ []) (regex_patterns re)) }
+        ensures read { IfOk result (λ re. AllRead default_settings (pattern.now ∷ [])
+            (regex_patterns re)) }
         ensures settings { IfOk result (λ re. regex_settings re ≡ none_set) }
         ensures program { IfOk result (λ re. regex_program re ≡ unset) }
         ensures buildable { IfOk result (λ re. IsBuildable None (regex_patterns re)) }
         ensures within { IfOk result (IsWithinCapacity no_capacity_set) }
-        ensures refused { IfErr result (λ e. IsHybridTextRefusal unset no_capacity_set default_settings (pattern.now ∷ []) e) }
+        ensures refused { IfErr result (λ e. IsHybridTextRefusal unset no_capacity_set
+            default_settings (pattern.now ∷ []) e) }
     {
         Regex::builder().build(alloc, pattern)
     }
@@ -68,12 +70,14 @@ impl Regex {
     /// overflows.
     pub fn new_many(alloc: Global, patterns: &[&str]) -> Result<Regex, BuildError>
         requires { length patterns.now ≤ most_patterns }
-        ensures read { IfOk result (λ re. AllRead default_settings (texts_of patterns.now) (regex_patterns re)) }
+        ensures read { IfOk result (λ re. AllRead default_settings (texts_of patterns.now)
+            (regex_patterns re)) }
         ensures settings { IfOk result (λ re. regex_settings re ≡ none_set) }
         ensures program { IfOk result (λ re. regex_program re ≡ unset) }
         ensures buildable { IfOk result (λ re. IsBuildable None (regex_patterns re)) }
         ensures within { IfOk result (IsWithinCapacity no_capacity_set) }
-        ensures refused { IfErr result (λ e. IsHybridTextRefusal unset no_capacity_set default_settings (texts_of patterns.now) e) }
+        ensures refused { IfErr result (λ e. IsHybridTextRefusal unset no_capacity_set
+            default_settings (texts_of patterns.now) e) }
     {
         Regex::builder().build_many(alloc, patterns)
     }

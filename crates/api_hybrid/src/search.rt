@@ -48,7 +48,8 @@ pub fn find<C: Cursor>(
     requires made { IsCacheFor re.now cache.old }
     ensures cache { IsCacheFor re.now cache.new }
     ensures keeps { Keeps input.old input.new }
-    ensures found { IfOk result (IsAnswerBy (regex_kind re.now) input.old.earliest (search_for (sought re.now) input.old)) }
+    ensures found { IfOk result (IsAnswerBy (regex_kind re.now) input.old.earliest
+        (search_for (sought re.now) input.old)) }
     ensures within { IfOk result (λ o. IfSome o (IsWithinBounds input.old)) }
     ensures fault { IfErr result (IsFaultOf re.now input.old cache.old cache.new) }
     ensures clears { ClearsWhereShort re.now input.old cache.old cache.new }
@@ -66,7 +67,8 @@ pub fn try_search<C: Cursor>(
     requires made { IsCacheFor re.now cache.old }
     ensures cache { IsCacheFor re.now cache.new }
     ensures keeps { Keeps input.old input.new }
-    ensures found { IfOk result (IsAnswerBy (regex_kind re.now) input.old.earliest (search_for (sought re.now) input.old)) }
+    ensures found { IfOk result (IsAnswerBy (regex_kind re.now) input.old.earliest
+        (search_for (sought re.now) input.old)) }
     ensures within { IfOk result (λ o. IfSome o (IsWithinBounds input.old)) }
     ensures fault { IfErr result (IsFaultOf re.now input.old cache.old cache.new) }
     ensures clears { ClearsWhereShort re.now input.old cache.old cache.new }
@@ -87,8 +89,10 @@ pub fn try_search_fwd<C: Cursor>(
     requires made { IsCacheFor re.now cache.old }
     ensures cache { IsCacheFor re.now cache.new }
     ensures keeps { Keeps input.old input.new }
-    ensures found { IfOk result (IsForwardHalf (regex_kind re.now) input.old.earliest (search_for (sought re.now) input.old)) }
-    ensures within { IfOk result (λ o. IfSome o (λ h. (low input.old ≤ h.offset) × (h.offset ≤ high input.old))) }
+    ensures found { IfOk result (IsForwardHalf (regex_kind re.now) input.old.earliest
+        (search_for (sought re.now) input.old)) }
+    ensures within { IfOk result (λ o. IfSome o
+        (λ h. (low input.old ≤ h.offset) × (h.offset ≤ high input.old))) }
     ensures fault { IfErr result (IsFaultOf re.now input.old cache.old cache.new) }
     ensures clears { ClearsWhereShort re.now input.old cache.old cache.new }
 {
@@ -109,8 +113,10 @@ pub fn try_search_rev<C: Cursor>(
     requires made { IsCacheFor re.now cache.old }
     ensures cache { IsCacheFor re.now cache.new }
     ensures keeps { Keeps input.old input.new }
-    ensures found { IfOk result (IsReverseHalf input.old.earliest (search_for (sought re.now) input.old)) }
-    ensures within { IfOk result (λ o. IfSome o (λ h. (low input.old ≤ h.offset) × (h.offset ≤ high input.old))) }
+    ensures found { IfOk result (IsReverseHalf input.old.earliest
+        (search_for (sought re.now) input.old)) }
+    ensures within { IfOk result (λ o. IfSome o
+        (λ h. (low input.old ≤ h.offset) × (h.offset ≤ high input.old))) }
     ensures fault { IfErr result (IsFaultOf re.now input.old cache.old cache.new) }
     ensures clears { ClearsWhereShort re.now input.old cache.old cache.new }
 {
@@ -160,7 +166,8 @@ fn find_by<C: Cursor>(
     requires made { IsCacheFor re.now cache.old }
     ensures cache { IsCacheFor re.now cache.new }
     ensures keeps { Keeps input.old input.new }
-    ensures found { IfOk result (IsAnswerBy (regex_kind re.now) earliest (search_for (sought re.now) input.old)) }
+    ensures found { IfOk result (IsAnswerBy (regex_kind re.now) earliest
+        (search_for (sought re.now) input.old)) }
     ensures within { IfOk result (λ o. IfSome o (IsWithinBounds input.old)) }
     ensures fault { IfErr result (IsFaultOf re.now input.old cache.old cache.new) }
     ensures clears { ClearsWhereShort re.now input.old cache.old cache.new }
@@ -208,7 +215,8 @@ fn look_on<C: Cursor>(
     requires made { IsCacheFor re.now cache.old }
     ensures cache { IsCacheFor re.now cache.new }
     ensures found { IfOk result (λ o. o
-        ≡ next_match begin_of end_of (answer_by_from (regex_kind re.now) (search_for (sought re.now) input.old)) input.old.span.start last) }
+        ≡ next_match begin_of end_of (answer_by_from (regex_kind re.now)
+        (search_for (sought re.now) input.old)) input.old.span.start last) }
     ensures within { IfOk result (λ o. IfSome o (λ m. m.end ≤ high input.new)) }
     ensures moves { IsMoved input.old input.new }
     ensures fault { IfErr result (IsNextFault re.now input.old cache.old cache.new) }

@@ -58,7 +58,8 @@ impl Builder {
     /// Takes each setting that `config` sets, keeps the others, and returns the builder.
     pub fn configure(&mut self, config: Config) -> &mut Builder
         ensures same_reference { result.ghost_name ≡ self.entry.ghost_name }
-        ensures value { builder_settings result.now ≡ overwritten (builder_settings self.entry.now) (settings_of config) }
+        ensures value { builder_settings result.now
+            ≡ overwritten (builder_settings self.entry.now) (settings_of config) }
         ensures syntax_kept { builder_syntax result.now ≡ builder_syntax self.entry.now }
     {
         meta::overwrite(&mut self.config, config);
@@ -77,10 +78,14 @@ impl Builder {
 
     /// Builds a regex from the text of one pattern. The errors are those of `build_many`.
     pub fn build(&self, alloc: Global, pattern: &str) -> Result<Regex, BuildError>
-        ensures read { IfOk result (λ r. AllRead (builder_syntax self.now) (pattern.now ∷ []) (regex_patterns r)) }
+        ensures read { IfOk result (λ r. AllRead (builder_syntax self.now) (pattern.now ∷ [])
+            (regex_patterns r)) }
         ensures settings { IfOk result (λ r. regex_settings r ≡ builder_settings self.now) }
-        ensures buildable { IfOk result (λ r. IsBuildable (nfa_size_limit_of (builder_settings self.now)) (regex_patterns r)) }
-        ensures refused { IfErr result (λ e. IsTextRefusal (nfa_size_limit_of (builder_settings self.now)) (builder_syntax self.now) (pattern.now ∷ []) e) }
+        ensures buildable { IfOk result (λ r. IsBuildable
+            (nfa_size_limit_of (builder_settings self.now)) (regex_patterns r)) }
+        ensures refused { IfErr result (λ e. IsTextRefusal
+            (nfa_size_limit_of (builder_settings self.now)) (builder_syntax self.now)
+            (pattern.now ∷ []) e) }
     {
         self.build_many(alloc, std::slice::from_ref(&pattern))
     }
@@ -92,10 +97,14 @@ impl Builder {
     /// pattern is built. The builder stays as it was.
     pub fn build_many(&self, alloc: Global, patterns: &[&str]) -> Result<Regex, BuildError>
         requires { length patterns.now ≤ most_patterns }
-        ensures read { IfOk result (λ r. AllRead (builder_syntax self.now) (texts_of patterns.now) (regex_patterns r)) }
+        ensures read { IfOk result (λ r. AllRead (builder_syntax self.now) (texts_of patterns.now)
+            (regex_patterns r)) }
         ensures settings { IfOk result (λ r. regex_settings r ≡ builder_settings self.now) }
-        ensures buildable { IfOk result (λ r. IsBuildable (nfa_size_limit_of (builder_settings self.now)) (regex_patterns r)) }
-        ensures refused { IfErr result (λ e. IsTextRefusal (nfa_size_limit_of (builder_settings self.now)) (builder_syntax self.now) (texts_of patterns.now) e) }
+        ensures buildable { IfOk result (λ r. IsBuildable
+            (nfa_size_limit_of (builder_settings self.now)) (regex_patterns r)) }
+        ensures refused { IfErr result (λ e. IsTextRefusal
+            (nfa_size_limit_of (builder_settings self.now)) (builder_syntax self.now)
+            (texts_of patterns.now) e) }
     {
         let hirs = parse_all(alloc, patterns, &self.syntax)?;
         self.build_many_from_hir(alloc, &hirs)
@@ -105,8 +114,10 @@ impl Builder {
     pub fn build_from_hir(&self, alloc: Global, hir: &Hir) -> Result<Regex, BuildError>
         ensures patterns { IfOk result (λ r. regex_patterns r ≡ meaning hir.now ∷ []) }
         ensures settings { IfOk result (λ r. regex_settings r ≡ builder_settings self.now) }
-        ensures buildable { IfOk result (λ _. IsBuildable (nfa_size_limit_of (builder_settings self.now)) (meaning hir.now ∷ [])) }
-        ensures refused { IfErr result (λ e. IsRefusal (nfa_size_limit_of (builder_settings self.now)) (meaning hir.now ∷ []) e) }
+        ensures buildable { IfOk result (λ _. IsBuildable
+            (nfa_size_limit_of (builder_settings self.now)) (meaning hir.now ∷ [])) }
+        ensures refused { IfErr result (λ e. IsRefusal
+            (nfa_size_limit_of (builder_settings self.now)) (meaning hir.now ∷ []) e) }
     {
         self.build_many_from_hir(alloc, std::slice::from_ref(hir))
     }
@@ -121,8 +132,10 @@ impl Builder {
         requires { length hirs.now ≤ most_patterns }
         ensures patterns { IfOk result (λ r. regex_patterns r ≡ map meaning hirs.now) }
         ensures settings { IfOk result (λ r. regex_settings r ≡ builder_settings self.now) }
-        ensures buildable { IfOk result (λ _. IsBuildable (nfa_size_limit_of (builder_settings self.now)) (map meaning hirs.now)) }
-        ensures refused { IfErr result (λ e. IsRefusal (nfa_size_limit_of (builder_settings self.now)) (map meaning hirs.now) e) }
+        ensures buildable { IfOk result (λ _. IsBuildable
+            (nfa_size_limit_of (builder_settings self.now)) (map meaning hirs.now)) }
+        ensures refused { IfErr result (λ e. IsRefusal
+            (nfa_size_limit_of (builder_settings self.now)) (map meaning hirs.now) e) }
     {
         build(alloc, &self.config, hirs)
     }
@@ -133,8 +146,10 @@ pub(crate) fn build(alloc: Global, config: &Config, hirs: &[Hir]) -> Result<Rege
     requires { length hirs.now ≤ most_patterns }
     ensures patterns { IfOk result (λ r. regex_patterns r ≡ map meaning hirs.now) }
     ensures settings { IfOk result (λ r. regex_settings r ≡ settings_of config.now) }
-    ensures buildable { IfOk result (λ _. IsBuildable (nfa_size_limit_of (settings_of config.now)) (map meaning hirs.now)) }
-    ensures refused { IfErr result (λ e. IsRefusal (nfa_size_limit_of (settings_of config.now)) (map meaning hirs.now) e) }
+    ensures buildable { IfOk result (λ _. IsBuildable (nfa_size_limit_of (settings_of config.now))
+        (map meaning hirs.now)) }
+    ensures refused { IfErr result (λ e. IsRefusal (nfa_size_limit_of (settings_of config.now))
+        (map meaning hirs.now) e) }
 {
     let built = build_all(
         alloc,
@@ -163,14 +178,16 @@ fn engines_of(
     engine: Engine,
 ) -> Result<Engines, AllocError>
     ghost shown_hirs: { List Re }
-    requires shown { shown_hirs ≡ shown (is_grouped (which_captures_of (program_settings (settings_of config.now)))) (map meaning hirs.now) }
+    requires shown { shown_hirs ≡ shown (is_grouped
+        (which_captures_of (program_settings (settings_of config.now)))) (map meaning hirs.now) }
     requires program { places_of engine.program.places.items ≡ program shown_hirs }
     requires light { heaviness (places_of engine.program.places.items) ≤ greatest_weight }
     requires bounded { All HasBounds shown_hirs }
     requires terminator { engine.program.terminator ≡ line_terminator_of (settings_of config.now) }
     requires kind { engine.kind ≡ match_kind_of (settings_of config.now) }
     ensures engine { IfOk result (λ engines. engines.engine ≡ engine) }
-    ensures planned { IfOk result (λ engines. IfSome engines.lazy (IsLazyFor (plan_by (map meaning hirs.now) (settings_of config.now)))) }
+    ensures planned { IfOk result (λ engines. IfSome engines.lazy
+        (IsLazyFor (plan_by (map meaning hirs.now) (settings_of config.now)))) }
 {
     let needs = needs_of(alloc, config, hirs)?;
     Engines::new(
@@ -186,8 +203,10 @@ fn engines_of(
 /// The literals that each match contains, if searches use them. They are extracted from the
 /// patterns only if the settings say so.
 fn needs_of(alloc: Global, config: &Config, hirs: &[Hir]) -> Result<Option<Needs>, AllocError>
-    ensures holds { IfOk result (λ found. IfSome found (λ n. (t : Text) → Holds t (map meaning hirs.now) (needles_of n.needles))) }
-    ensures leaves { IfOk result (λ found. IfSome found (λ n. (t : Text) → LeavesOut t (map meaning hirs.now) n.stops.table)) }
+    ensures holds { IfOk result (λ found. IfSome found
+        (λ n. (t : Text) → Holds t (map meaning hirs.now) (needles_of n.needles))) }
+    ensures leaves { IfOk result (λ found. IfSome found
+        (λ n. (t : Text) → LeavesOut t (map meaning hirs.now) n.stops.table)) }
 {
     if !config.get_auto_prefilter() {
         return Ok(None);
@@ -203,7 +222,8 @@ fn limits_of(config: &Config) -> Limits
     ensures capacity { result.capacity ≡ hybrid_cache_capacity_of (settings_of config.now) }
     ensures classes { result.byte_classes ≡ byte_classes_of (settings_of config.now) }
     ensures states { result.state_limit ≡ dfa_state_limit_of (settings_of config.now) }
-    ensures size { result.size_limit ≡ option_map (λ size. size / 4) (dfa_size_limit_of (settings_of config.now)) }
+    ensures size { result.size_limit ≡ option_map (λ size. size / 4)
+        (dfa_size_limit_of (settings_of config.now)) }
 {
     Limits {
         dfa: config.get_dfa(),

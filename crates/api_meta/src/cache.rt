@@ -29,7 +29,8 @@ impl Cache {
     /// Makes this a cache for searches by another regex. An `Err` means out of memory, and leaves
     /// the cache as it was.
     pub fn reset(&mut self, regex: &Regex) -> Result<(), AllocError>
-        ensures made { OnOk result (IsCacheFor (regex_patterns regex.now) (regex_settings regex.now) self.new) }
+        ensures made { OnOk result (IsCacheFor (regex_patterns regex.now)
+            (regex_settings regex.now) self.new) }
         ensures refused { OnErr result (self.new ≡ self.old) }
     {
         self.inner = regex.engine_cache(self.alloc)?;

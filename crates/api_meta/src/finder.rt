@@ -74,13 +74,18 @@ impl<'r> Finder<'r> {
     pub fn find<C: Cursor>(&mut self, input: &mut Input<C>) -> Option<Match>
         ensures regex { self.new ≡ self.old }
         ensures keeps { Keeps input.old input.new }
-        ensures found { match_kind_of (regex_settings self.old) ≡ LeftmostFirst → is_early input.old.earliest (search_for (sought self.old) input.old) ≡ false
+        ensures found { match_kind_of (regex_settings self.old) ≡ LeftmostFirst
+            → is_early input.old.earliest (search_for (sought self.old) input.old) ≡ false
             → result ≡ answer (search_for (sought self.old) input.old) }
-        ensures preferred { match_kind_of (regex_settings self.old) ≡ LeftmostFirst → ArePlain (regex_patterns self.old)
-            → is_early input.old.earliest (search_for (sought self.old) input.old) ≡ false → IsPreferredMatch (sought self.old) input.old result }
-        ensures found_by { is_early input.old.earliest (search_for (sought self.old) input.old) ≡ false
+        ensures preferred { match_kind_of (regex_settings self.old) ≡ LeftmostFirst
+            → ArePlain (regex_patterns self.old)
+            → is_early input.old.earliest (search_for (sought self.old) input.old) ≡ false
+            → IsPreferredMatch (sought self.old) input.old result }
+        ensures found_by { is_early input.old.earliest (search_for (sought self.old) input.old)
+            ≡ false
             → result ≡ answer_by (regex_kind self.old) (search_for (sought self.old) input.old) }
-        ensures may { IsAnswerBy (regex_kind self.old) input.old.earliest (search_for (sought self.old) input.old) result }
+        ensures may { IsAnswerBy (regex_kind self.old) input.old.earliest
+            (search_for (sought self.old) input.old) result }
         ensures within { IfSome result (IsWithinBounds input.old) }
     {
         self.regex.search_with(&mut self.cache, input)
@@ -90,10 +95,14 @@ impl<'r> Finder<'r> {
     pub fn find_end<C: Cursor>(&mut self, input: &mut Input<C>) -> Option<HalfMatch>
         ensures regex { self.new ≡ self.old }
         ensures keeps { Keeps input.old input.new }
-        ensures found_by { is_early input.old.earliest (search_for (sought self.old) input.old) ≡ false
-            → result ≡ option_map half_of (answer_by (regex_kind self.old) (search_for (sought self.old) input.old)) }
-        ensures may { IsHalfBy (regex_kind self.old) input.old.earliest (search_for (sought self.old) input.old) result }
-        ensures within { IfSome result (λ m. (low input.old ≤ m.offset) × (m.offset ≤ high input.old)) }
+        ensures found_by { is_early input.old.earliest (search_for (sought self.old) input.old)
+            ≡ false
+            → result ≡ option_map half_of
+            (answer_by (regex_kind self.old) (search_for (sought self.old) input.old)) }
+        ensures may { IsHalfBy (regex_kind self.old) input.old.earliest
+            (search_for (sought self.old) input.old) result }
+        ensures within { IfSome result (λ m. (low input.old ≤ m.offset)
+            × (m.offset ≤ high input.old)) }
     {
         self.regex.search_half_with(&mut self.cache, input)
     }
@@ -102,7 +111,8 @@ impl<'r> Finder<'r> {
     pub fn is_match<C: Cursor>(&mut self, input: &mut Input<C>) -> bool
         ensures regex { self.new ≡ self.old }
         ensures keeps { Keeps input.old input.new }
-        ensures found_by { IsTrue result ↔ IsSome (answer_by (regex_kind self.old) (search_for (sought self.old) input.old)) }
+        ensures found_by { IsTrue result
+            ↔ IsSome (answer_by (regex_kind self.old) (search_for (sought self.old) input.old)) }
     {
         self.regex.is_match_with(&mut self.cache, input)
     }
@@ -122,10 +132,14 @@ impl<'r> Finder<'r> {
         ensures whole { IfOk result (KeepsAll (regex_names self.old)) }
         ensures found { match_kind_of (regex_settings self.old) ≡ LeftmostFirst
             → IfOk result (Tells (search_for (sought self.old) input.old)) }
-        ensures preferred { match_kind_of (regex_settings self.old) ≡ LeftmostFirst → ArePlain (regex_patterns self.old)
+        ensures preferred { match_kind_of (regex_settings self.old) ≡ LeftmostFirst
+            → ArePlain (regex_patterns self.old)
             → IfOk result (HoldsPreferred (sought self.old) input.old) }
-        ensures told_by { IfOk result (TellsBy (regex_kind self.old) (search_for (sought self.old) input.old)) }
-        ensures matched_by { IfOk result (λ c. match_of c ≡ answer_by (regex_kind self.old) (search_for (sought self.old) input.old)) }
+        ensures told_by { IfOk result (TellsBy (regex_kind self.old)
+            (search_for (sought self.old) input.old)) }
+        ensures matched_by { IfOk result
+            (λ c. match_of c ≡ answer_by (regex_kind self.old)
+            (search_for (sought self.old) input.old)) }
     {
         let mut caps = self.regex.create_captures(alloc)?;
         self.regex

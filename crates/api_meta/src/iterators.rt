@@ -197,7 +197,8 @@ impl<'r> Pieces<'r> {
             (λ piece. pieces_in self.old input.old ≡ piece ∷ pieces_in self.new input.new) }
         ensures limited { (n : ℕ) → MatchOption result
             ((few_in n self.old input.old ≡ []) × (few_in n self.new input.new ≡ []))
-            (λ piece. few_in (suc (suc n)) self.old input.old ≡ piece ∷ few_in (suc n) self.new input.new) }
+            (λ piece. few_in (suc (suc n)) self.old input.old ≡ piece
+            ∷ few_in (suc n) self.new input.new) }
         ensures goes { Goes self.old.seeker input.old self.new.seeker input.new }
         ensures over { IfNone result (IsTrue self.new.is_done) }
     {

@@ -69,14 +69,17 @@ impl Regex {
     ) -> FindMatchesWith<'r, 'c, 'i, C>
         requires made { IsCacheFor (regex_patterns self.now) (regex_settings self.now) cache.old }
         ensures left { match_kind_of (regex_settings self.now) ≡ LeftmostFirst
-            → find_with_left result ≡ matches_left (search_for (sought self.now) input.old) input.old.span.start None }
+            → find_with_left result ≡ matches_left
+            (search_for (sought self.now) input.old) input.old.span.start None }
         ensures left_by { find_with_left result
-            ≡ matches_by_kind (regex_kind self.now) (search_for (sought self.now) input.old) input.old.span.start None }
+            ≡ matches_by_kind (regex_kind self.now)
+            (search_for (sought self.now) input.old) input.old.span.start None }
         ensures within { All (IsWithinBounds input.old) (find_with_left result) }
         ensures short { length (find_with_left result) < 2 ^ 64 }
         ensures regex { find_with_regex result ≡ self.now }
         ensures input { find_with_input result ≡ input.old }
-        ensures same_references { find_with_lenders result ≡ (cache.entry.ghost_name, input.entry.ghost_name) }
+        ensures same_references { find_with_lenders result
+            ≡ (cache.entry.ghost_name, input.entry.ghost_name) }
         ensures made { HasItsCache result }
         ensures runs { FindRunsWith result }
         ensures stays { FindKeepsAlong result }
@@ -108,20 +111,26 @@ impl Regex {
     ) -> CapturesMatchesWith<'r, 'c, 'i, C>
         requires made { IsCacheFor (regex_patterns self.now) (regex_settings self.now) cache.old }
         ensures left { match_kind_of (regex_settings self.now) ≡ LeftmostFirst
-            → captures_with_left result ≡ matches_left (search_for (sought self.now) input.old) input.old.span.start None }
+            → captures_with_left result ≡ matches_left
+            (search_for (sought self.now) input.old) input.old.span.start None }
         ensures left_by { captures_with_left result
-            ≡ matches_by_kind (regex_kind self.now) (search_for (sought self.now) input.old) input.old.span.start None }
+            ≡ matches_by_kind (regex_kind self.now)
+            (search_for (sought self.now) input.old) input.old.span.start None }
         ensures walks { captures_walks (captures_by result)
-            ≡ walks_left (regex_kind self.now) (search_for (sought self.now) input.old) input.old.span.start None }
+            ≡ walks_left (regex_kind self.now)
+            (search_for (sought self.now) input.old) input.old.span.start None }
         ensures law { regex_kind self.now ≢ greatest_matches
-            → CapturesLaw (regex_kind self.now) (regex_names self.now) (search_for (sought self.now) input.old) input.old.span.start (captures_by result) }
-        ensures law_by { MatchedLaw (regex_kind self.now) (regex_names self.now) (search_for (sought self.now) input.old) input.old.span.start (captures_by result) }
+            → CapturesLaw (regex_kind self.now) (regex_names self.now)
+            (search_for (sought self.now) input.old) input.old.span.start (captures_by result) }
+        ensures law_by { MatchedLaw (regex_kind self.now) (regex_names self.now)
+            (search_for (sought self.now) input.old) input.old.span.start (captures_by result) }
         ensures made { KeepsItsCache result }
         ensures runs { CapturesRunAlike result }
         ensures short { length (captures_with_left result) < 2 ^ 64 }
         ensures regex { captures_with_regex result ≡ self.now }
         ensures input { captures_with_input result ≡ input.old }
-        ensures same_references { captures_with_lenders result ≡ (cache.entry.ghost_name, input.entry.ghost_name) }
+        ensures same_references { captures_with_lenders result
+            ≡ (cache.entry.ghost_name, input.entry.ghost_name) }
         ensures stays { CapturesKeepAlong result }
     {
         content_fits(input);

@@ -82,10 +82,13 @@ impl Regex {
     /// Builds a regex from the text of one pattern, with the default settings. The errors are those
     /// of `new_many`.
     pub fn new(alloc: Global, pattern: &str) -> Result<Regex, BuildError>
-        ensures read { IfOk result (λ r. AllRead default_settings (pattern.now ∷ []) (regex_patterns r)) }
+        ensures read { IfOk result (λ r. AllRead default_settings (pattern.now ∷ [])
+            (regex_patterns r)) }
         ensures settings { IfOk result (λ r. regex_settings r ≡ unset) }
-        ensures buildable { IfOk result (λ r. IsBuildable (nfa_size_limit_of unset) (regex_patterns r)) }
-        ensures refused { IfErr result (λ e. IsTextRefusal (nfa_size_limit_of unset) default_settings (pattern.now ∷ []) e) }
+        ensures buildable { IfOk result (λ r. IsBuildable (nfa_size_limit_of unset)
+            (regex_patterns r)) }
+        ensures refused { IfErr result (λ e. IsTextRefusal
+            (nfa_size_limit_of unset) default_settings (pattern.now ∷ []) e) }
     {
         Regex::builder().build(alloc, pattern)
     }
@@ -99,10 +102,13 @@ impl Regex {
     /// the weight is above 2,147,483,646. `Memory` means out of memory.
     pub fn new_many(alloc: Global, patterns: &[&str]) -> Result<Regex, BuildError>
         requires { length patterns.now ≤ most_patterns }
-        ensures read { IfOk result (λ r. AllRead default_settings (texts_of patterns.now) (regex_patterns r)) }
+        ensures read { IfOk result (λ r. AllRead default_settings (texts_of patterns.now)
+            (regex_patterns r)) }
         ensures settings { IfOk result (λ r. regex_settings r ≡ unset) }
-        ensures buildable { IfOk result (λ r. IsBuildable (nfa_size_limit_of unset) (regex_patterns r)) }
-        ensures refused { IfErr result (λ e. IsTextRefusal (nfa_size_limit_of unset) default_settings (texts_of patterns.now) e) }
+        ensures buildable { IfOk result (λ r. IsBuildable (nfa_size_limit_of unset)
+            (regex_patterns r)) }
+        ensures refused { IfErr result (λ e. IsTextRefusal
+            (nfa_size_limit_of unset) default_settings (texts_of patterns.now) e) }
     {
         Regex::builder().build_many(alloc, patterns)
     }
@@ -144,13 +150,18 @@ impl Regex {
         alloc: Global,
         mut input: Input<C>,
     ) -> Result<Option<Match>, AllocError>
-        ensures found { match_kind_of (regex_settings self.now) ≡ LeftmostFirst → is_early input.earliest (search_for (sought self.now) input) ≡ false
+        ensures found { match_kind_of (regex_settings self.now) ≡ LeftmostFirst
+            → is_early input.earliest (search_for (sought self.now) input) ≡ false
             → IfOk result (λ m. m ≡ answer (search_for (sought self.now) input)) }
-        ensures preferred { match_kind_of (regex_settings self.now) ≡ LeftmostFirst → ArePlain (regex_patterns self.now)
-            → is_early input.earliest (search_for (sought self.now) input) ≡ false → IfOk result (IsPreferredMatch (sought self.now) input) }
+        ensures preferred { match_kind_of (regex_settings self.now) ≡ LeftmostFirst
+            → ArePlain (regex_patterns self.now)
+            → is_early input.earliest (search_for (sought self.now) input) ≡ false
+            → IfOk result (IsPreferredMatch (sought self.now) input) }
         ensures found_by { is_early input.earliest (search_for (sought self.now) input) ≡ false
-            → IfOk result (λ m. m ≡ answer_by (regex_kind self.now) (search_for (sought self.now) input)) }
-        ensures may { IfOk result (IsAnswerBy (regex_kind self.now) input.earliest (search_for (sought self.now) input)) }
+            → IfOk result (λ m. m ≡ answer_by (regex_kind self.now)
+            (search_for (sought self.now) input)) }
+        ensures may { IfOk result (IsAnswerBy (regex_kind self.now) input.earliest
+            (search_for (sought self.now) input)) }
         ensures within { IfOk result (λ o. IfSome o (IsWithinBounds input)) }
     {
         early::search_once(&self.engines, alloc, &mut input)
@@ -163,8 +174,10 @@ impl Regex {
         input: Input<C>,
     ) -> Result<Option<Match>, AllocError>
         ensures found_by { is_early input.earliest (search_for (sought self.now) input) ≡ false
-            → IfOk result (λ m. m ≡ answer_by (regex_kind self.now) (search_for (sought self.now) input)) }
-        ensures may { IfOk result (IsAnswerBy (regex_kind self.now) input.earliest (search_for (sought self.now) input)) }
+            → IfOk result (λ m. m ≡ answer_by (regex_kind self.now)
+            (search_for (sought self.now) input)) }
+        ensures may { IfOk result (IsAnswerBy (regex_kind self.now) input.earliest
+            (search_for (sought self.now) input)) }
         ensures within { IfOk result (λ o. IfSome o (IsWithinBounds input)) }
     {
         let found = self.find(alloc, input)?;
@@ -177,13 +190,18 @@ impl Regex {
         requires made { IsCacheFor (regex_patterns self.now) (regex_settings self.now) cache.old }
         ensures cache { IsCacheFor (regex_patterns self.now) (regex_settings self.now) cache.new }
         ensures keeps { Keeps input.old input.new }
-        ensures found { match_kind_of (regex_settings self.now) ≡ LeftmostFirst → is_early input.old.earliest (search_for (sought self.now) input.old) ≡ false
+        ensures found { match_kind_of (regex_settings self.now) ≡ LeftmostFirst
+            → is_early input.old.earliest (search_for (sought self.now) input.old) ≡ false
             → result ≡ answer (search_for (sought self.now) input.old) }
-        ensures preferred { match_kind_of (regex_settings self.now) ≡ LeftmostFirst → ArePlain (regex_patterns self.now)
-            → is_early input.old.earliest (search_for (sought self.now) input.old) ≡ false → IsPreferredMatch (sought self.now) input.old result }
-        ensures found_by { is_early input.old.earliest (search_for (sought self.now) input.old) ≡ false
+        ensures preferred { match_kind_of (regex_settings self.now) ≡ LeftmostFirst
+            → ArePlain (regex_patterns self.now)
+            → is_early input.old.earliest (search_for (sought self.now) input.old) ≡ false
+            → IsPreferredMatch (sought self.now) input.old result }
+        ensures found_by { is_early input.old.earliest (search_for (sought self.now) input.old)
+            ≡ false
             → result ≡ answer_by (regex_kind self.now) (search_for (sought self.now) input.old) }
-        ensures may { IsAnswerBy (regex_kind self.now) input.old.earliest (search_for (sought self.now) input.old) result }
+        ensures may { IsAnswerBy (regex_kind self.now) input.old.earliest
+            (search_for (sought self.now) input.old) result }
         ensures within { IfSome result (IsWithinBounds input.old) }
     {
         early::search(&self.engines, &mut cache.inner, input)
@@ -197,9 +215,12 @@ impl Regex {
         mut input: Input<C>,
     ) -> Result<Option<HalfMatch>, AllocError>
         ensures found_by { is_early input.earliest (search_for (sought self.now) input) ≡ false
-            → IfOk result (λ m. m ≡ option_map half_of (answer_by (regex_kind self.now) (search_for (sought self.now) input))) }
-        ensures may { IfOk result (IsHalfBy (regex_kind self.now) input.earliest (search_for (sought self.now) input)) }
-        ensures within { IfOk result (λ o. IfSome o (λ m. (low input ≤ m.offset) × (m.offset ≤ high input))) }
+            → IfOk result (λ m. m ≡ option_map half_of
+            (answer_by (regex_kind self.now) (search_for (sought self.now) input))) }
+        ensures may { IfOk result (IsHalfBy (regex_kind self.now) input.earliest
+            (search_for (sought self.now) input)) }
+        ensures within { IfOk result (λ o. IfSome o
+            (λ m. (low input ≤ m.offset) × (m.offset ≤ high input))) }
     {
         early::search_end_once(&self.engines, alloc, &mut input)
     }
@@ -214,10 +235,14 @@ impl Regex {
         requires made { IsCacheFor (regex_patterns self.now) (regex_settings self.now) cache.old }
         ensures cache { IsCacheFor (regex_patterns self.now) (regex_settings self.now) cache.new }
         ensures keeps { Keeps input.old input.new }
-        ensures found_by { is_early input.old.earliest (search_for (sought self.now) input.old) ≡ false
-            → result ≡ option_map half_of (answer_by (regex_kind self.now) (search_for (sought self.now) input.old)) }
-        ensures may { IsHalfBy (regex_kind self.now) input.old.earliest (search_for (sought self.now) input.old) result }
-        ensures within { IfSome result (λ m. (low input.old ≤ m.offset) × (m.offset ≤ high input.old)) }
+        ensures found_by { is_early input.old.earliest (search_for (sought self.now) input.old)
+            ≡ false
+            → result ≡ option_map half_of
+            (answer_by (regex_kind self.now) (search_for (sought self.now) input.old)) }
+        ensures may { IsHalfBy (regex_kind self.now) input.old.earliest
+            (search_for (sought self.now) input.old) result }
+        ensures within { IfSome result (λ m. (low input.old ≤ m.offset)
+            × (m.offset ≤ high input.old)) }
     {
         early::search_end(&self.engines, &mut cache.inner, input)
     }
@@ -231,7 +256,8 @@ impl Regex {
         alloc: Global,
         mut input: Input<C>,
     ) -> Result<bool, AllocError>
-        ensures found_by { IfOk result (λ b. IsTrue b ↔ IsSome (answer_by (regex_kind self.now) (search_for (sought self.now) input))) }
+        ensures found_by { IfOk result (λ b. IsTrue b
+            ↔ IsSome (answer_by (regex_kind self.now) (search_for (sought self.now) input))) }
     {
         self.engines.is_match_once(alloc, &mut input)
     }
@@ -301,7 +327,8 @@ impl Regex {
 
     /// Whether searches use literals, and find candidates by one needle or by at most three bytes.
     pub fn is_accelerated(&self) -> bool
-        ensures { auto_prefilter_of (regex_settings self.now) ≡ false → prefilter_of (regex_settings self.now) ≡ None
+        ensures { auto_prefilter_of (regex_settings self.now) ≡ false
+            → prefilter_of (regex_settings self.now) ≡ None
             → result ≡ false }
     {
         self.engines.engine.literals.is_fast()
@@ -335,7 +362,8 @@ impl Regex {
 
     /// A cache for searches by the engines, with all slots.
     pub(crate) fn engine_cache(&self, alloc: Global) -> Result<cache::Cache, AllocError>
-        ensures made { IfOk result (IsCacheIn self.now.engines (slot_len (names_of self.now.info))) }
+        ensures made { IfOk result (IsCacheIn self.now.engines
+            (slot_len (names_of self.now.info))) }
         ensures both { IfOk result (λ c. is_some c.lazy ≡ is_some self.now.engines.lazy) }
     {
         self.engines.create_cache(alloc, self.info.slot_len())
@@ -368,10 +396,14 @@ impl Regex {
             → IfOk result (Tells (search_for (sought self.now) input)) }
         ensures matched { match_kind_of (regex_settings self.now) ≡ LeftmostFirst
             → IfOk result (λ c. match_of c ≡ answer (search_for (sought self.now) input)) }
-        ensures preferred { match_kind_of (regex_settings self.now) ≡ LeftmostFirst → ArePlain (regex_patterns self.now)
+        ensures preferred { match_kind_of (regex_settings self.now) ≡ LeftmostFirst
+            → ArePlain (regex_patterns self.now)
             → IfOk result (HoldsPreferred (sought self.now) input) }
-        ensures told_by { IfOk result (TellsBy (regex_kind self.now) (search_for (sought self.now) input)) }
-        ensures matched_by { IfOk result (λ c. match_of c ≡ answer_by (regex_kind self.now) (search_for (sought self.now) input)) }
+        ensures told_by { IfOk result (TellsBy (regex_kind self.now)
+            (search_for (sought self.now) input)) }
+        ensures matched_by { IfOk result
+            (λ c. match_of c ≡ answer_by (regex_kind self.now)
+            (search_for (sought self.now) input)) }
         ensures within { IfOk result (λ c. IfSome (match_of c) (IsWithinBounds input)) }
     {
         let mut caps = self.create_captures(alloc)?;
@@ -391,8 +423,11 @@ impl Regex {
         ensures still_made { IsCapturesFor (regex_names self.now) caps.new }
         ensures long { length (captures_slots caps.new) ≡ length (captures_slots caps.old) }
         ensures refused { OnErr result (captures_pattern caps.new ≡ None) }
-        ensures told_by { OnOk result (TellsBy (regex_kind self.now) (search_for (sought self.now) input) caps.new) }
-        ensures matched_by { OnOk result (match_of caps.new ≡ answer_by (regex_kind self.now) (search_for (sought self.now) input)) }
+        ensures told_by { OnOk result (TellsBy (regex_kind self.now)
+            (search_for (sought self.now) input) caps.new) }
+        ensures matched_by { OnOk result
+            (match_of caps.new ≡ answer_by (regex_kind self.now)
+            (search_for (sought self.now) input)) }
         ensures within { OnOk result (IfSome (match_of caps.new)
             (IsWithinBounds input)) }
     {
@@ -420,10 +455,13 @@ impl Regex {
             → Tells (search_for (sought self.now) input.old) caps.new }
         ensures matched { match_kind_of (regex_settings self.now) ≡ LeftmostFirst
             → match_of caps.new ≡ answer (search_for (sought self.now) input.old) }
-        ensures preferred { match_kind_of (regex_settings self.now) ≡ LeftmostFirst → ArePlain (regex_patterns self.now)
+        ensures preferred { match_kind_of (regex_settings self.now) ≡ LeftmostFirst
+            → ArePlain (regex_patterns self.now)
             → HoldsPreferred (sought self.now) input.old caps.new }
-        ensures told_by { TellsBy (regex_kind self.now) (search_for (sought self.now) input.old) caps.new }
-        ensures matched_by { match_of caps.new ≡ answer_by (regex_kind self.now) (search_for (sought self.now) input.old) }
+        ensures told_by { TellsBy (regex_kind self.now)
+            (search_for (sought self.now) input.old) caps.new }
+        ensures matched_by { match_of caps.new
+            ≡ answer_by (regex_kind self.now) (search_for (sought self.now) input.old) }
         ensures within { IfSome (match_of caps.new)
             (IsWithinBounds input.old) }
     {
@@ -443,10 +481,13 @@ impl Regex {
     ) -> Result<Option<PatternID>, AllocError>
         requires few { length slots.old ≤ slot_len (regex_names self.now) }
         ensures refused { OnErr result (slots.new ≡ slots.old) }
-        ensures pattern_by { IfOk result (λ p. p ≡ option_map (λ (m : Found). m.pattern) (answer_by (regex_kind self.now) (search_for (sought self.now) input))) }
+        ensures pattern_by { IfOk result
+            (λ p. p ≡ option_map (λ (m : Found). m.pattern)
+            (answer_by (regex_kind self.now) (search_for (sought self.now) input))) }
         ensures slots_by { IfOk result (λ p. MatchOption p
             (slots.new ≡ slots.old)
-            (λ _. Some slots.new ≡ slots_by (regex_kind self.now) (search_for (sought self.now) input) (length slots.old))) }
+            (λ _. Some slots.new ≡ slots_by (regex_kind self.now)
+            (search_for (sought self.now) input) (length slots.old))) }
     {
         let mut cache = self.engines.create_cache(alloc, slots.len())?;
         Ok(self.engines.find_slots(&mut cache, &mut input, slots))
@@ -464,10 +505,12 @@ impl Regex {
         requires few { length slots.old ≤ slot_len (regex_names self.now) }
         ensures cache { IsCacheFor (regex_patterns self.now) (regex_settings self.now) cache.new }
         ensures keeps { Keeps input.old input.new }
-        ensures pattern_by { result ≡ option_map (λ (m : Found). m.pattern) (answer_by (regex_kind self.now) (search_for (sought self.now) input.old)) }
+        ensures pattern_by { result ≡ option_map (λ (m : Found). m.pattern)
+            (answer_by (regex_kind self.now) (search_for (sought self.now) input.old)) }
         ensures slots_by { MatchOption result
             (slots.new ≡ slots.old)
-            (λ _. Some slots.new ≡ slots_by (regex_kind self.now) (search_for (sought self.now) input.old) (length slots.old)) }
+            (λ _. Some slots.new ≡ slots_by (regex_kind self.now)
+            (search_for (sought self.now) input.old) (length slots.old)) }
     {
         self.engines.find_slots(&mut cache.inner, input, slots)
     }
@@ -483,8 +526,11 @@ impl Regex {
         input: Input<C>,
     ) -> Result<FindMatches<'r, C>, AllocError>
         ensures left { match_kind_of (regex_settings self.now) ≡ LeftmostFirst
-            → IfOk result (λ s. find_left s ≡ matches_left (search_for (sought self.now) input) input.span.start None) }
-        ensures left_by { IfOk result (λ s. find_left s ≡ matches_by_kind (regex_kind self.now) (search_for (sought self.now) input) input.span.start None) }
+            → IfOk result (λ s. find_left s
+            ≡ matches_left (search_for (sought self.now) input) input.span.start None) }
+        ensures left_by { IfOk result (λ s. find_left s
+            ≡ matches_by_kind (regex_kind self.now)
+            (search_for (sought self.now) input) input.span.start None) }
         ensures within { IfOk result (λ s. All (IsWithinBounds input) (find_left s)) }
         ensures short { IfOk result (λ s. length (find_left s) < 2 ^ 64) }
         ensures regex { IfOk result (λ s. find_regex s ≡ self.now) }
@@ -515,12 +561,19 @@ impl Regex {
         input: Input<C>,
     ) -> Result<CapturesMatches<'r, C>, AllocError>
         ensures left { match_kind_of (regex_settings self.now) ≡ LeftmostFirst
-            → IfOk result (λ s. captures_left s ≡ matches_left (search_for (sought self.now) input) input.span.start None) }
-        ensures left_by { IfOk result (λ s. captures_left s ≡ matches_by_kind (regex_kind self.now) (search_for (sought self.now) input) input.span.start None) }
-        ensures walks { IfOk result (λ s. captures_walks s ≡ walks_left (regex_kind self.now) (search_for (sought self.now) input) input.span.start None) }
+            → IfOk result (λ s. captures_left s
+            ≡ matches_left (search_for (sought self.now) input) input.span.start None) }
+        ensures left_by { IfOk result (λ s. captures_left s
+            ≡ matches_by_kind (regex_kind self.now)
+            (search_for (sought self.now) input) input.span.start None) }
+        ensures walks { IfOk result (λ s. captures_walks s
+            ≡ walks_left (regex_kind self.now)
+            (search_for (sought self.now) input) input.span.start None) }
         ensures law { regex_kind self.now ≢ greatest_matches
-            → IfOk result (CapturesLaw (regex_kind self.now) (regex_names self.now) (search_for (sought self.now) input) input.span.start) }
-        ensures law_by { IfOk result (MatchedLaw (regex_kind self.now) (regex_names self.now) (search_for (sought self.now) input) input.span.start) }
+            → IfOk result (CapturesLaw (regex_kind self.now) (regex_names self.now)
+            (search_for (sought self.now) input) input.span.start) }
+        ensures law_by { IfOk result (MatchedLaw (regex_kind self.now) (regex_names self.now)
+            (search_for (sought self.now) input) input.span.start) }
         ensures short { IfOk result (λ s. length (captures_left s) < 2 ^ 64) }
         ensures regex { IfOk result (λ s. captures_regex s ≡ self.now) }
         ensures input { IfOk result (λ s. captures_input s ≡ input) }
@@ -548,11 +601,13 @@ impl Regex {
         input: Input<C>,
     ) -> Result<Split<'r, C>, AllocError>
         ensures left_by { IfOk result (λ s. split_left s
-            ≡ pieces_of (high input) (matches_by_kind (regex_kind self.now) (search_for (sought self.now) input) input.span.start None)) }
+            ≡ pieces_of (high input) (matches_by_kind (regex_kind self.now)
+            (search_for (sought self.now) input) input.span.start None)) }
         ensures input { IfOk result (λ s. split_input s ≡ input) }
         ensures runs { IfOk result SplitRuns }
         ensures few { IfOk result (λ s. length (split_left s) ≤ high input + 2) }
-        ensures short { high input + 2 < 2 ^ 64 → IfOk result (λ s. length (split_left s) < 2 ^ 64) }
+        ensures short { high input + 2 < 2 ^ 64
+            → IfOk result (λ s. length (split_left s) < 2 ^ 64) }
     {
         let matches = self.find_iter(alloc, input)?;
         let pieces = Pieces {
@@ -574,7 +629,9 @@ impl Regex {
         limit: usize,
     ) -> Result<SplitN<'r, C>, AllocError>
         ensures left_by { IfOk result (λ s. splitn_left s
-            ≡ pieces_at_most limit (high input) (matches_by_kind (regex_kind self.now) (search_for (sought self.now) input) input.span.start None)) }
+            ≡ pieces_at_most limit (high input)
+            (matches_by_kind (regex_kind self.now)
+            (search_for (sought self.now) input) input.span.start None)) }
         ensures limit { IfOk result (λ s. splitn_limit s ≡ limit) }
         ensures input { IfOk result (λ s. splitn_input s ≡ input) }
         ensures runs { IfOk result SplitnRuns }

@@ -95,8 +95,10 @@ fn find_groups<C: Cursor>(
     ensures same { IsSameCacheIn regex.now.engines cache.old cache.new }
     ensures keeps { Keeps input.old input.new }
     ensures whole { KeepsAll (regex_names regex.now) caps.new }
-    ensures told { TellsBy regex.now.engines.engine.kind (engine_search regex.now.engines.engine input.old) caps.new }
-    ensures found { result ≡ answer_by regex.now.engines.engine.kind (engine_search regex.now.engines.engine input.old) }
+    ensures told { TellsBy regex.now.engines.engine.kind
+        (engine_search regex.now.engines.engine input.old) caps.new }
+    ensures found { result ≡ answer_by regex.now.engines.engine.kind
+        (engine_search regex.now.engines.engine input.old) }
     ensures within { IfSome result (IsWithinBounds input.old) }
 {
     regex.engines.find_captures(cache, input, caps);
@@ -120,11 +122,15 @@ fn next_groups<C: Cursor>(
     ensures moves { IsMoved input.old input.new }
     ensures whole { KeepsAll (regex_names regex.now) caps.new }
     ensures found { result
-        ≡ next_match begin_of end_of (answer_by_from regex.now.engines.engine.kind (engine_search regex.now.engines.engine input.old)) input.old.span.start last }
+        ≡ next_match begin_of end_of (answer_by_from regex.now.engines.engine.kind
+        (engine_search regex.now.engines.engine input.old)) input.old.span.start last }
     ensures start { input.new.span.start
-        ≡ next_start regex.now.engines.engine.kind (engine_search regex.now.engines.engine input.old) input.old.span.start last }
-    ensures told { TellsBy regex.now.engines.engine.kind (engine_search regex.now.engines.engine input.new) caps.new }
-    ensures there { result ≡ answer_by regex.now.engines.engine.kind (engine_search regex.now.engines.engine input.new) }
+        ≡ next_start regex.now.engines.engine.kind
+        (engine_search regex.now.engines.engine input.old) input.old.span.start last }
+    ensures told { TellsBy regex.now.engines.engine.kind
+        (engine_search regex.now.engines.engine input.new) caps.new }
+    ensures there { result ≡ answer_by regex.now.engines.engine.kind
+        (engine_search regex.now.engines.engine input.new) }
     ensures within { IfSome result (IsWithinBounds input.new) }
 {
     let found = find_groups(regex, cache, input, caps)?;
@@ -151,7 +157,8 @@ impl Standing {
         requires made { IsCacheIn regex.now 0 cache.old }
         ensures cache { IsCacheIn regex.now 0 cache.new }
         ensures same { IsSameCacheIn regex.now.engines cache.old cache.new }
-        ensures steps { GivesNext (seeking regex.now cache.old self.old) input.old result (seeking regex.now cache.new self.new) input.new }
+        ensures steps { GivesNext (seeking regex.now cache.old self.old) input.old result
+            (seeking regex.now cache.new self.new) input.new }
         ensures moves { IsMoved input.old input.new }
         ensures over { IfNone result (IsTrue self.new.is_done) }
     {
@@ -179,9 +186,11 @@ impl Standing {
         requires going { self.old.is_done ≡ false }
         ensures cache { IsCacheIn regex.now (slot_len (names_of regex.now.info)) cache.new }
         ensures same { IsSameCacheIn regex.now.engines cache.old cache.new }
-        ensures steps { GivesCaptures (seeking regex.now cache.old self.old) input.old result (seeking regex.now cache.new self.new) input.new }
+        ensures steps { GivesCaptures (seeking regex.now cache.old self.old) input.old result
+            (seeking regex.now cache.new self.new) input.new }
         ensures moves { IsMoved input.old input.new }
-        ensures over { MatchOption result (IsTrue self.new.is_done) (λ item. IfErr item (λ _. IsTrue self.new.is_done)) }
+        ensures over { MatchOption result (IsTrue self.new.is_done)
+            (λ item. IfErr item (λ _. IsTrue self.new.is_done)) }
     {
         self.is_done = true;
         if let Some(_) = regex.engines.next_match(cache, input, self.last) {
@@ -203,9 +212,11 @@ impl Standing {
         requires made { IsCacheIn regex.now (slot_len (names_of regex.now.info)) cache.old }
         ensures cache { IsCacheIn regex.now (slot_len (names_of regex.now.info)) cache.new }
         ensures same { IsSameCacheIn regex.now.engines cache.old cache.new }
-        ensures steps { GivesCaptures (seeking regex.now cache.old self.old) input.old result (seeking regex.now cache.new self.new) input.new }
+        ensures steps { GivesCaptures (seeking regex.now cache.old self.old) input.old result
+            (seeking regex.now cache.new self.new) input.new }
         ensures moves { IsMoved input.old input.new }
-        ensures over { MatchOption result (IsTrue self.new.is_done) (λ item. IfErr item (λ _. IsTrue self.new.is_done)) }
+        ensures over { MatchOption result (IsTrue self.new.is_done)
+            (λ item. IfErr item (λ _. IsTrue self.new.is_done)) }
     {
         if self.is_done {
             return None;
@@ -245,12 +256,15 @@ impl<'r> Seeker<'r> {
         alloc: Global,
         input: &mut Input<C>,
     ) -> Option<Result<Captures, AllocError>>
-        requires made { IsCacheIn self.old.regex (slot_len (names_of self.old.regex.info)) self.old.cache }
-        ensures still_made { IsCacheIn self.new.regex (slot_len (names_of self.new.regex.info)) self.new.cache }
+        requires made { IsCacheIn self.old.regex
+            (slot_len (names_of self.old.regex.info)) self.old.cache }
+        ensures still_made { IsCacheIn self.new.regex
+            (slot_len (names_of self.new.regex.info)) self.new.cache }
         ensures steps { GivesCaptures self.old input.old result self.new input.new }
         ensures moves { IsMoved input.old input.new }
         ensures regex { self.new.regex ≡ self.old.regex }
-        ensures over { MatchOption result (IsTrue self.new.is_done) (λ item. IfErr item (λ _. IsTrue self.new.is_done)) }
+        ensures over { MatchOption result (IsTrue self.new.is_done)
+            (λ item. IfErr item (λ _. IsTrue self.new.is_done)) }
     {
         self.standing
             .next_captures(self.regex, &mut self.cache, alloc, input)
@@ -270,7 +284,8 @@ impl<'r> GroupSeeker<'r> {
         ensures steps { GivesCaptures self.old.seeker input.old result self.new.seeker input.new }
         ensures moves { IsMoved input.old input.new }
         ensures regex { self.new.seeker.regex ≡ self.old.seeker.regex }
-        ensures over { MatchOption result (IsTrue self.new.seeker.is_done) (λ item. IfErr item (λ _. IsTrue self.new.seeker.is_done)) }
+        ensures over { MatchOption result (IsTrue self.new.seeker.is_done)
+            (λ item. IfErr item (λ _. IsTrue self.new.seeker.is_done)) }
     {
         self.seeker.next_captures(self.alloc, input)
     }

@@ -22,7 +22,8 @@ impl Regex {
         requires made { IsCacheFor (regex_patterns self.now) (regex_settings self.now) cache.old }
         ensures cache { IsCacheFor (regex_patterns self.now) (regex_settings self.now) cache.new }
         ensures keeps { Keeps input.old input.new }
-        ensures found_by { IsTrue result ↔ IsSome (answer_by (regex_kind self.now) (search_for (sought self.now) input.old)) }
+        ensures found_by { IsTrue result
+            ↔ IsSome (answer_by (regex_kind self.now) (search_for (sought self.now) input.old)) }
     {
         self.engines.is_match(&mut cache.inner, input)
     }

@@ -45,7 +45,8 @@ impl Builder {
     /// Takes each setting that `config` sets, keeps the others, and returns the builder.
     pub fn configure(&mut self, config: Config) -> &mut Builder
         ensures same_reference { result.ghost_name ≡ self.entry.ghost_name }
-        ensures value { builder_settings result.now ≡ set_over (builder_settings self.entry.now) (search_settings_of config) }
+        ensures value { builder_settings result.now
+            ≡ set_over (builder_settings self.entry.now) (search_settings_of config) }
         ensures program_kept { builder_program result.now ≡ builder_program self.entry.now }
         ensures syntax_kept { builder_syntax result.now ≡ builder_syntax self.entry.now }
     {
@@ -57,7 +58,8 @@ impl Builder {
     /// builder.
     pub fn thompson(&mut self, config: thompson::Config) -> &mut Builder
         ensures same_reference { result.ghost_name ≡ self.entry.ghost_name }
-        ensures value { builder_program result.now ≡ overwritten (builder_program self.entry.now) (settings_of config) }
+        ensures value { builder_program result.now
+            ≡ overwritten (builder_program self.entry.now) (settings_of config) }
         ensures settings_kept { builder_settings result.now ≡ builder_settings self.entry.now }
         ensures syntax_kept { builder_syntax result.now ≡ builder_syntax self.entry.now }
     {
@@ -78,11 +80,15 @@ impl Builder {
 
     /// Builds a `PikeVM` from the text of one pattern. The errors are those of `build_many`.
     pub fn build(&self, alloc: Global, pattern: &str) -> Result<PikeVM, BuildError>
-        ensures read { IfOk result (λ vm. AllRead (builder_syntax self.now) (pattern.now ∷ []) (vm_patterns vm)) }
+        ensures read { IfOk result (λ vm. AllRead (builder_syntax self.now) (pattern.now ∷ [])
+            (vm_patterns vm)) }
         ensures settings { IfOk result (λ vm. vm_settings vm ≡ builder_settings self.now) }
         ensures program { IfOk result (λ vm. vm_program vm ≡ builder_program self.now) }
-        ensures buildable { IfOk result (λ vm. IsBuildable (nfa_size_limit_of (builder_program self.now)) (vm_patterns vm)) }
-        ensures refused { IfErr result (λ e. IsTextRefusal (nfa_size_limit_of (builder_program self.now)) (builder_syntax self.now) (pattern.now ∷ []) e) }
+        ensures buildable { IfOk result (λ vm. IsBuildable
+            (nfa_size_limit_of (builder_program self.now)) (vm_patterns vm)) }
+        ensures refused { IfErr result (λ e. IsTextRefusal
+            (nfa_size_limit_of (builder_program self.now)) (builder_syntax self.now)
+            (pattern.now ∷ []) e) }
     {
         self.build_many(alloc, std::slice::from_ref(&pattern))
     }
@@ -94,11 +100,15 @@ impl Builder {
     /// pattern is built. The builder stays as it was.
     pub fn build_many(&self, alloc: Global, patterns: &[&str]) -> Result<PikeVM, BuildError>
         requires { length patterns.now ≤ most_patterns }
-        ensures read { IfOk result (λ vm. AllRead (builder_syntax self.now) (texts_of patterns.now) (vm_patterns vm)) }
+        ensures read { IfOk result (λ vm. AllRead (builder_syntax self.now) (texts_of patterns.now)
+            (vm_patterns vm)) }
         ensures settings { IfOk result (λ vm. vm_settings vm ≡ builder_settings self.now) }
         ensures program { IfOk result (λ vm. vm_program vm ≡ builder_program self.now) }
-        ensures buildable { IfOk result (λ vm. IsBuildable (nfa_size_limit_of (builder_program self.now)) (vm_patterns vm)) }
-        ensures refused { IfErr result (λ e. IsTextRefusal (nfa_size_limit_of (builder_program self.now)) (builder_syntax self.now) (texts_of patterns.now) e) }
+        ensures buildable { IfOk result (λ vm. IsBuildable
+            (nfa_size_limit_of (builder_program self.now)) (vm_patterns vm)) }
+        ensures refused { IfErr result (λ e. IsTextRefusal
+            (nfa_size_limit_of (builder_program self.now)) (builder_syntax self.now)
+            (texts_of patterns.now) e) }
     {
         let hirs = parse_all(alloc, patterns, &self.syntax)?;
         self.build_many_from_hir(alloc, &hirs)
@@ -115,8 +125,10 @@ impl Builder {
         ensures patterns { IfOk result (λ vm. vm_patterns vm ≡ map meaning hirs.now) }
         ensures settings { IfOk result (λ vm. vm_settings vm ≡ builder_settings self.now) }
         ensures program { IfOk result (λ vm. vm_program vm ≡ builder_program self.now) }
-        ensures buildable { IfOk result (λ _. IsBuildable (nfa_size_limit_of (builder_program self.now)) (map meaning hirs.now)) }
-        ensures refused { IfErr result (λ e. IsRefusal (nfa_size_limit_of (builder_program self.now)) (map meaning hirs.now) e) }
+        ensures buildable { IfOk result (λ _. IsBuildable
+            (nfa_size_limit_of (builder_program self.now)) (map meaning hirs.now)) }
+        ensures refused { IfErr result (λ e. IsRefusal
+            (nfa_size_limit_of (builder_program self.now)) (map meaning hirs.now) e) }
     {
         let built = build_all(
             alloc,

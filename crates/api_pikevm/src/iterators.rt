@@ -47,7 +47,8 @@ impl<'v, 'c, C: Cursor> FindMatches<'v, 'c, C> {
     /// is otherwise as before.
     pub fn input(&mut self) -> &mut Input<C>
         ensures* kept { sem 𝓛 (Lends
-            (the_row (record { mir = named 0; lft = [] }) (record { mir = named 1; lft = [] }) C.row C.Cursor)
+            (the_row (record { mir = named 0; lft = [] })
+            (record { mir = named 1; lft = [] }) C.row C.Cursor)
             (input_row C.row C.Cursor) self.entry result (with_input self.old)) }
         ensures input { result.now ≡ find_input self.old }
     {

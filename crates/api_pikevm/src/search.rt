@@ -39,10 +39,13 @@ pub fn is_match<C: Cursor>(vm: &PikeVM, cache: &mut Cache, input: &mut Input<C>)
     requires made { IsCacheFor (sought vm.now) cache.old }
     ensures cache { IsCacheFor (sought vm.now) cache.new }
     ensures keeps { Keeps input.old input.new }
-    ensures found_by { IsTrue result ↔ IsSome (answer_by (match_kind_of (vm_settings vm.now)) (search_for (sought vm.now) input.old)) }
+    ensures found_by { IsTrue result ↔ IsSome
+        (answer_by (match_kind_of (vm_settings vm.now)) (search_for (sought vm.now) input.old)) }
     ensures none { high input.old < low input.old → insertions_of cache.new ≡ 0 }
-    ensures few { insertions_of cache.new ≤ states_of (sought vm.now) * (high input.old - low input.old + 2) }
-    ensures counted { IfSome (answer_by (match_kind_of (vm_settings vm.now)) (search_for (sought vm.now) input.old))
+    ensures few { insertions_of cache.new ≤ states_of (sought vm.now)
+        * (high input.old - low input.old + 2) }
+    ensures counted { IfSome (answer_by (match_kind_of (vm_settings vm.now))
+        (search_for (sought vm.now) input.old))
         (λ m. m.end - m.start + 1 ≤ insertions_of cache.new) }
 {
     find_by_kind(
@@ -70,15 +73,20 @@ pub fn search<C: Cursor>(vm: &PikeVM, cache: &mut Cache, input: &mut Input<C>, c
     ensures keeps { Keeps input.old input.new }
     ensures still_made { IsCapturesFor (vm_names vm.now) caps.new }
     ensures long { length (captures_slots caps.new) ≡ length (captures_slots caps.old) }
-    ensures found_by { TellsBy (match_kind_of (vm_settings vm.now)) (search_for (sought vm.now) input.old) caps.new }
-    ensures matched_by { match_of caps.new ≡ answer_by (match_kind_of (vm_settings vm.now)) (search_for (sought vm.now) input.old) }
+    ensures found_by { TellsBy (match_kind_of (vm_settings vm.now))
+        (search_for (sought vm.now) input.old) caps.new }
+    ensures matched_by { match_of caps.new
+        ≡ answer_by (match_kind_of (vm_settings vm.now)) (search_for (sought vm.now) input.old) }
     ensures slots { MatchOption (captures_pattern caps.new)
         (captures_slots caps.new ≡ replicate (length (captures_slots caps.old)) None)
         (λ _. Some (captures_slots caps.new)
-        ≡ slots_by (match_kind_of (vm_settings vm.now)) (search_for (sought vm.now) input.old) (length (captures_slots caps.old))) }
+        ≡ slots_by (match_kind_of (vm_settings vm.now)) (search_for (sought vm.now) input.old)
+        (length (captures_slots caps.old))) }
     ensures none { high input.old < low input.old → insertions_of cache.new ≡ 0 }
-    ensures few { insertions_of cache.new ≤ states_of (sought vm.now) * (high input.old - low input.old + 2) }
-    ensures counted { IfSome (answer_by (match_kind_of (vm_settings vm.now)) (search_for (sought vm.now) input.old))
+    ensures few { insertions_of cache.new ≤ states_of (sought vm.now)
+        * (high input.old - low input.old + 2) }
+    ensures counted { IfSome (answer_by (match_kind_of (vm_settings vm.now))
+        (search_for (sought vm.now) input.old))
         (λ m. m.end - m.start + 1 ≤ insertions_of cache.new) }
 {
     captures::clear(caps);
@@ -113,13 +121,18 @@ pub fn search_slots<C: Cursor>(
     ensures cache { IsCacheFor (sought vm.now) cache.new }
     ensures keeps { Keeps input.old input.new }
     ensures pattern_by { result
-        ≡ option_map (λ (m : Found). m.pattern) (answer_by (match_kind_of (vm_settings vm.now)) (search_for (sought vm.now) input.old)) }
+        ≡ option_map (λ (m : Found). m.pattern)
+        (answer_by (match_kind_of (vm_settings vm.now))
+        (search_for (sought vm.now) input.old)) }
     ensures slots_by { MatchOption result
         (slots.new ≡ slots.old)
-        (λ _. Some slots.new ≡ slots_by (match_kind_of (vm_settings vm.now)) (search_for (sought vm.now) input.old) (length slots.old)) }
+        (λ _. Some slots.new ≡ slots_by (match_kind_of (vm_settings vm.now))
+        (search_for (sought vm.now) input.old) (length slots.old)) }
     ensures none { high input.old < low input.old → insertions_of cache.new ≡ 0 }
-    ensures few { insertions_of cache.new ≤ states_of (sought vm.now) * (high input.old - low input.old + 2) }
-    ensures counted { IfSome (answer_by (match_kind_of (vm_settings vm.now)) (search_for (sought vm.now) input.old))
+    ensures few { insertions_of cache.new ≤ states_of (sought vm.now)
+        * (high input.old - low input.old + 2) }
+    ensures counted { IfSome (answer_by (match_kind_of (vm_settings vm.now))
+        (search_for (sought vm.now) input.old))
         (λ m. m.end - m.start + 1 ≤ insertions_of cache.new) }
 {
     search_slots_by_kind(

@@ -49,11 +49,13 @@ impl PikeVM {
     /// Builds a `PikeVM` from the text of one pattern, with the default settings. The errors are
     /// those of `new_many`.
     pub fn new(alloc: Global, pattern: &str) -> Result<PikeVM, BuildError>
-        ensures read { IfOk result (λ vm. AllRead default_settings (pattern.now ∷ []) (vm_patterns vm)) }
+        ensures read { IfOk result (λ vm. AllRead default_settings (pattern.now ∷ [])
+            (vm_patterns vm)) }
         ensures settings { IfOk result (λ vm. vm_settings vm ≡ none_set) }
         ensures program { IfOk result (λ vm. vm_program vm ≡ unset) }
         ensures buildable { IfOk result (λ vm. IsBuildable None (vm_patterns vm)) }
-        ensures refused { IfErr result (λ e. IsTextRefusal None default_settings (pattern.now ∷ []) e) }
+        ensures refused { IfErr result (λ e. IsTextRefusal None default_settings
+            (pattern.now ∷ []) e) }
     {
         PikeVM::builder().build(alloc, pattern)
     }
@@ -67,11 +69,13 @@ impl PikeVM {
     /// memory.
     pub fn new_many(alloc: Global, patterns: &[&str]) -> Result<PikeVM, BuildError>
         requires { length patterns.now ≤ most_patterns }
-        ensures read { IfOk result (λ vm. AllRead default_settings (texts_of patterns.now) (vm_patterns vm)) }
+        ensures read { IfOk result (λ vm. AllRead default_settings (texts_of patterns.now)
+            (vm_patterns vm)) }
         ensures settings { IfOk result (λ vm. vm_settings vm ≡ none_set) }
         ensures program { IfOk result (λ vm. vm_program vm ≡ unset) }
         ensures buildable { IfOk result (λ vm. IsBuildable None (vm_patterns vm)) }
-        ensures refused { IfErr result (λ e. IsTextRefusal None default_settings (texts_of patterns.now) e) }
+        ensures refused { IfErr result (λ e. IsTextRefusal None default_settings
+            (texts_of patterns.now) e) }
     {
         PikeVM::builder().build_many(alloc, patterns)
     }
@@ -120,7 +124,8 @@ impl PikeVM {
 
     /// A cache for searches over the program, with all slots.
     pub(crate) fn inner_cache(&self, alloc: Global) -> Result<cache::Cache, AllocError>
-        ensures made { IfOk result (pikevm.IsCacheFor (states_of (sought self.now)) (columns_of (sought self.now))) }
+        ensures made { IfOk result (pikevm.IsCacheFor (states_of (sought self.now))
+            (columns_of (sought self.now))) }
         ensures unused { IfOk result (λ c. c.insertions ≡ 0) }
     {
         let columns = self.built.engine.program.width(self.built.info.slot_len());

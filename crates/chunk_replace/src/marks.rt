@@ -10,7 +10,8 @@ use crate::template::Part;
 
 /// The part that a `$` before the text begins, and the text after that part.
 pub(crate) fn marked(text: &str) -> Option<(Part<'_>, &str)>
-    ensures { MatchOption result (IsUnmarked text.now) (λ r. Marks text.now (items_of r.0) r.1.now) }
+    ensures { MatchOption result (IsUnmarked text.now)
+        (λ r. Marks text.now (items_of r.0) r.1.now) }
 {
     if let Some(rest) = text.strip_prefix('$') {
         return Some((Part::Literal("$"), rest));
@@ -21,7 +22,8 @@ pub(crate) fn marked(text: &str) -> Option<(Part<'_>, &str)>
 
 /// The group that a word in braces refers to.
 fn reference(word: &str) -> Option<Part<'_>>
-    ensures { MatchOption result (IsNoReference word.now) (λ part. Refers word.now (items_of part)) }
+    ensures { MatchOption result (IsNoReference word.now)
+        (λ part. Refers word.now (items_of part)) }
 {
     if is_name(word.as_bytes()) {
         return Some(Part::Name(word));

@@ -33,7 +33,8 @@ pub(crate) fn put_range<W: Sink, C: Cursor>(
     end: usize,
 ) -> Result<(), ReplaceError>
     ensures content { C.content cursor.new ≡ C.content cursor.old }
-    ensures put { Puts result (W.taken out.old) (W.taken out.new) (slice_range (C.content cursor.old) start end) }
+    ensures put { Puts result (W.taken out.old) (W.taken out.new)
+        (slice_range (C.content cursor.old) start end) }
     ensures ok { OnOk result (W.has_failed out.new ≡ W.has_failed out.old) }
     ensures err { IfErr result (λ e. (e ≡ Write) × (W.has_failed out.new ≡ true)) }
 {
@@ -50,7 +51,8 @@ fn put_group<W: Sink, C: Cursor>(
     group: Option<Span>,
 ) -> Result<(), ReplaceError>
     ensures content { C.content cursor.new ≡ C.content cursor.old }
-    ensures put { Puts result (W.taken out.old) (W.taken out.new) (bytes_in (C.content cursor.old) group) }
+    ensures put { Puts result (W.taken out.old) (W.taken out.new)
+        (bytes_in (C.content cursor.old) group) }
     ensures ok { OnOk result (W.has_failed out.new ≡ W.has_failed out.old) }
     ensures err { IfErr result (λ e. (e ≡ Write) × (W.has_failed out.new ≡ true)) }
 {
@@ -68,7 +70,8 @@ fn put_part<W: Sink, C: Cursor>(
     caps: &Captures,
 ) -> Result<(), ReplaceError>
     ensures content { C.content cursor.new ≡ C.content cursor.old }
-    ensures put { Puts result (W.taken out.old) (W.taken out.new) (told_part (C.content cursor.old) caps.now part.now) }
+    ensures put { Puts result (W.taken out.old) (W.taken out.new)
+        (told_part (C.content cursor.old) caps.now part.now) }
     ensures ok { OnOk result (W.has_failed out.new ≡ W.has_failed out.old) }
     ensures err { IfErr result (λ e. (e ≡ Write) × (W.has_failed out.new ≡ true)) }
 {
@@ -87,7 +90,8 @@ pub(crate) fn put_parts<W: Sink, C: Cursor>(
     caps: &Captures,
 ) -> Result<(), ReplaceError>
     ensures content { C.content cursor.new ≡ C.content cursor.old }
-    ensures put { Puts result (W.taken out.old) (W.taken out.new) (told_parts (C.content cursor.old) caps.now parts.now) }
+    ensures put { Puts result (W.taken out.old) (W.taken out.new)
+        (told_parts (C.content cursor.old) caps.now parts.now) }
     ensures ok { OnOk result (W.has_failed out.new ≡ W.has_failed out.old) }
     ensures err { IfErr result (λ e. (e ≡ Write) × (W.has_failed out.new ≡ true)) }
 {

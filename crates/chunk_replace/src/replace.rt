@@ -23,8 +23,10 @@ use std::alloc::Global;
 fn input_over<'a>(
     chunks: &'a [&'a [u8]],
 ) -> Result<(Input<ChunkCursor<'a>>, ChunkCursor<'a>), cursor::TooLong>
-    ensures whole { MatchResult result (λ r. IsWhole (joined chunks.now) r.0) (λ _. IsTooLong chunks.now) }
-    ensures text { IfOk result (λ r. ⟦<ChunkCursor<'static> as Cursor>⟧.content r.1 ≡ joined chunks.now) }
+    ensures whole { MatchResult result (λ r. IsWhole (joined chunks.now) r.0)
+        (λ _. IsTooLong chunks.now) }
+    ensures text { IfOk result (λ r. ⟦<ChunkCursor<'static> as Cursor>⟧.content r.1
+        ≡ joined chunks.now) }
     ensures short { OnOk result (¬ IsTooLong chunks.now) }
 {
     let cursor = ChunkCursor::new(chunks)?;
@@ -52,7 +54,8 @@ pub fn replace_all<W: Sink>(
 ) -> Result<usize, ReplaceError>
     requires { W.has_failed out.old ≡ false }
     ensures replaced { regex_kind regex.now ≢ greatest_matches
-        → Puts result (W.taken out.old) (W.taken out.new) (replaced_by regex.now (template_items template.now) (joined chunks.now)) }
+        → Puts result (W.taken out.old) (W.taken out.new)
+        (replaced_by regex.now (template_items template.now) (joined chunks.now)) }
     ensures count { IfOk result (λ n. n ≡ length (matches_of regex.now (joined chunks.now))) }
     ensures too_long { (result ≡ Err TooLong) ↔ IsTooLong chunks.now }
     ensures nothing_put { result ≡ Err TooLong → Keeps (W.taken out.old) (W.taken out.new) }

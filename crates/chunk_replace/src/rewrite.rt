@@ -29,7 +29,8 @@ fn put_match<W: Sink, C: Cursor>(
 ) -> Result<usize, ReplaceError>
     ensures content { C.content text.new ≡ C.content text.old }
     ensures put { Puts result (W.taken out.old) (W.taken out.new)
-        (slice_range (C.content text.old) from found.start ++ told_parts (C.content text.old) caps.now parts.now) }
+        (slice_range (C.content text.old) from found.start
+        ++ told_parts (C.content text.old) caps.now parts.now) }
     ensures end { IfOk result (λ n. n ≡ found.end) }
     ensures ok { OnOk result (W.has_failed out.new ≡ W.has_failed out.old) }
     ensures err { IfErr result (λ e. (e ≡ Write) × (W.has_failed out.new ≡ true)) }
@@ -59,13 +60,16 @@ pub(crate) fn put_replaced<W: Sink, C: Cursor + Drop, T: Cursor>(
 ) -> Result<usize, ReplaceError>
     requires sound { W.has_failed out.old ≡ false }
     requires short { length (captures_left matches.old) < 2 ^ 64 }
-    ensures put { regex_kind (captures_regex matches.old) ≢ greatest_matches → Puts result (W.taken out.old) (W.taken out.new)
+    ensures put { regex_kind (captures_regex matches.old) ≢ greatest_matches
+        → Puts result (W.taken out.old) (W.taken out.new)
         (replaced_from (T.content text.old)
-        (replacement (T.content text.old) (regex_names (captures_regex matches.old)) (searched matches.old) (template_items template.now)) 0
+        (replacement (T.content text.old) (regex_names (captures_regex matches.old))
+        (searched matches.old) (template_items template.now)) 0
         (captures_walks matches.old)) }
     ensures count { IfOk result (λ n. n ≡ length (captures_left matches.old)) }
     ensures ok { OnOk result (W.has_failed out.new ≡ false) }
-    ensures unfailed { IfErr result (λ e. e ≢ Write → (e ≡ Memory) × (W.has_failed out.new ≡ false)) }
+    ensures unfailed { IfErr result (λ e. e ≢ Write → (e ≡ Memory)
+        × (W.has_failed out.new ≡ false)) }
     ensures write_failed { result ≡ Err Write → W.has_failed out.new ≡ true }
 {
     let parts = template.parts.as_slice();

@@ -110,7 +110,8 @@ fn is_utf8(bytes: &[u8]) -> bool
 
 /// Builds a regex of the pattern. Its matches may end inside a character if the text isn't UTF-8.
 fn build(alloc: Global, pattern: &str, is_utf8: bool) -> Result<Regex, BuildError>
-    ensures read { IfOk result (λ r. AllRead default_settings (pattern.now ∷ []) (regex_patterns r)) }
+    ensures read { IfOk result (λ r. AllRead default_settings (pattern.now ∷ [])
+        (regex_patterns r)) }
     ensures settings { IfOk result (λ r. regex_settings r ≡ settings_in is_utf8) }
 {
     let mut builder = Regex::builder();
@@ -131,7 +132,8 @@ fn substitute<W: Sink>(
 ) -> Result<bool, RunError>
     requires sound { W.has_failed out.old ≡ false }
     requires utf8 { IsTrue is_utf8 ↔ IsUtf8 (joined chunks.now) }
-    ensures { IfOk result (λ any. IsSubstituted pattern.now (template_items template.now) (joined chunks.now) (W.taken out.old) (W.taken out.new) any) }
+    ensures { IfOk result (λ any. IsSubstituted pattern.now (template_items template.now)
+        (joined chunks.now) (W.taken out.old) (W.taken out.new) any) }
 {
     let regex = build(alloc, pattern, is_utf8)?;
     let replaced = replace_all(alloc, &regex, chunks, template, out);
@@ -157,7 +159,8 @@ pub fn program<R: Read, W: Sink, E: Write>(
 ) -> u8
     requires { W.has_failed out.old ≡ false }
     ensures status { result ≤ FAULT }
-    ensures done { result ≢ FAULT → IsDone words.now (R.remaining input.old) (W.taken out.old) (W.taken out.new) (nat_eq result REPLACED) }
+    ensures done { result ≢ FAULT → IsDone words.now (R.remaining input.old) (W.taken out.old)
+        (W.taken out.new) (nat_eq result REPLACED) }
     ensures unread { ¬ HasWords words.now → Keeps (R.remaining input.old) (R.remaining input.new) }
     ensures nothing_put { ¬ HasWords words.now → Keeps (W.taken out.old) (W.taken out.new) }
 {

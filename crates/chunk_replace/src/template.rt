@@ -44,7 +44,8 @@ impl<'t> Template<'t> {
     /// the group with that name. Everything else is literal text. It fails if a `$` begins none of
     /// these, or if a number is above the greatest `usize`.
     pub fn parse(alloc: Global, text: &'t str) -> Result<Template<'t>, TemplateError>
-        ensures { MatchResult result (λ t. IsReadAs (template_items t) text.now) (IsTemplateError text.now) }
+        ensures { MatchResult result (λ t. IsReadAs (template_items t) text.now)
+            (IsTemplateError text.now) }
     {
         let mut parts = Vec::new(alloc);
         let mut rest = text;

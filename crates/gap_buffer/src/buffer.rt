@@ -100,7 +100,8 @@ impl GapBuffer {
     /// Inserts bytes at the caret, which is behind them then. An `Err` means out of memory, and
     /// leaves the text as it was.
     pub fn insert(&mut self, bytes: &[u8]) -> Result<(), AllocError>
-        ensures { MatchResult result (λ _. self.new ≡ inserted self.old bytes.now) (λ _. self.new ≡ self.old) }
+        ensures { MatchResult result (λ _. self.new ≡ inserted self.old bytes.now)
+            (λ _. self.new ≡ self.old) }
     {
         let end = self.gap.saturating_add(bytes.len());
         if end <= self.rest {
@@ -136,7 +137,8 @@ impl GapBuffer {
     pub fn cursor(&self) -> GapCursor<'_>
         ensures content { ⟦<GapCursor<'static> as Cursor>⟧.content result ≡ self.now.content }
         ensures start { ⟦<GapCursor<'static> as Cursor>⟧.offset result ≡ 0 }
-        ensures total { ⟦<GapCursor<'static> as Cursor>⟧.total result ≡ Some (length self.now.content) }
+        ensures total { ⟦<GapCursor<'static> as Cursor>⟧.total result
+            ≡ Some (length self.now.content) }
     {
         GapCursor::new(&self.bytes[..self.gap], &self.bytes[self.rest..])
     }
@@ -145,7 +147,8 @@ impl GapBuffer {
 /// Overwrites the bytes from a position on with the text.
 fn write_at(bytes: &mut Vec<u8>, at: usize, text: &[u8])
     requires { at + length text.now ≤ vec_len bytes.old }
-    ensures items { bytes.new.items ≡ take at bytes.old.items ++ text.now ++ drop (at + length text.now) bytes.old.items }
+    ensures items { bytes.new.items ≡ take at bytes.old.items ++ text.now
+        ++ drop (at + length text.now) bytes.old.items }
     ensures len { vec_len bytes.new ≡ vec_len bytes.old }
 {
     bytes[at..at + text.len()].copy_from_slice(text);
@@ -159,7 +162,8 @@ fn spread(
     inserted: &[u8],
     back: &[u8],
 ) -> Result<(Vec<u8>, usize), AllocError>
-    ensures front { IfOk result (λ r. take (length front.now + length inserted.now) r.0.items ≡ front.now ++ inserted.now) }
+    ensures front { IfOk result (λ r. take (length front.now + length inserted.now) r.0.items
+        ≡ front.now ++ inserted.now) }
     ensures back { IfOk result (λ r. drop r.1 r.0.items ≡ back.now) }
     ensures ordered { IfOk result (λ r. length front.now + length inserted.now ≤ r.1) }
     ensures within { IfOk result (λ r. r.1 ≤ vec_len r.0) }

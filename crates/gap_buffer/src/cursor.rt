@@ -21,7 +21,8 @@ impl<'a> GapCursor<'a> {
     pub fn new(front: &'a [u8], back: &'a [u8]) -> GapCursor<'a>
         ensures content { ⟦<GapCursor<'static> as Cursor>⟧.content result ≡ front.now ++ back.now }
         ensures start { ⟦<GapCursor<'static> as Cursor>⟧.offset result ≡ 0 }
-        ensures total { ⟦<GapCursor<'static> as Cursor>⟧.total result ≡ Some (length front.now + length back.now) }
+        ensures total { ⟦<GapCursor<'static> as Cursor>⟧.total result
+            ≡ Some (length front.now + length back.now) }
     {
         GapCursor {
             front,

@@ -30,7 +30,8 @@ pub fn previous_match(
     text: &GapBuffer,
     regex: &Regex,
 ) -> Result<Option<Match>, AllocError>
-    ensures { IfOk result (λ m. m ≡ last_before text.now.caret (matches_of regex.now text.now.content)) }
+    ensures { IfOk result (λ m. m ≡ last_before text.now.caret
+        (matches_of regex.now text.now.content)) }
 {
     let mut matches = all_matches(alloc, text, regex)?;
     let last = last_of(&mut matches, text.caret());
@@ -40,7 +41,8 @@ pub fn previous_match(
 
 /// The last of the remaining matches, in order, that begin before the position.
 fn last_of(matches: &mut FindMatches<'_, GapCursor<'_>>, at: usize) -> Option<Match>
-    ensures { (hi : ℕ) → AreInOrder begin_of end_of hi (find_left matches.old) → result ≡ last_before at (find_left matches.old) }
+    ensures { (hi : ℕ) → AreInOrder begin_of end_of hi (find_left matches.old)
+        → result ≡ last_before at (find_left matches.old) }
 {
     let mut last = None;
     for found in matches {
@@ -64,7 +66,8 @@ pub fn matches_on_screen(
     regex: &Regex,
     window: Span,
 ) -> Result<Vec<Match>, AllocError>
-    ensures { IfOk result (λ ms. ms.items ≡ filter (overlaps window) (matches_of regex.now text.now.content)) }
+    ensures { IfOk result (λ ms. ms.items
+        ≡ filter (overlaps window) (matches_of regex.now text.now.content)) }
 {
     let mut matches = all_matches(alloc, text, regex)?;
     let shown = shown_of(alloc, &mut matches, window);

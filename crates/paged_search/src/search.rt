@@ -27,7 +27,8 @@ pub fn find<P: Pages>(
     cursor: &mut PagedCursor<P>,
     regex: &Regex,
 ) -> Result<Option<Match>, AllocError>
-    ensures { IfOk result (λ m. m ≡ found_from regex.now cursor.old.stored.bytes cursor.old.offset) }
+    ensures { IfOk result (λ m. m ≡ found_from regex.now
+        cursor.old.stored.bytes cursor.old.offset) }
 {
     let found = regex.find(alloc, input_over(cursor))?;
     Ok(found) // and what it met, the cursor tells
@@ -41,7 +42,8 @@ pub fn find_whole<P: Pages>(
     regex: &Regex,
 ) -> Result<Option<Match>, FindError>
     ensures { MatchResult result
-        (λ m. (cursor.old.stored.is_whole ≡ true) × (m ≡ found_from regex.now cursor.old.stored.bytes cursor.old.offset))
+        (λ m. (cursor.old.stored.is_whole ≡ true)
+        × (m ≡ found_from regex.now cursor.old.stored.bytes cursor.old.offset))
         (IsFault cursor.old.stored) }
 {
     if let Some(fault) = cursor.check() {

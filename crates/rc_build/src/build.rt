@@ -61,12 +61,15 @@ pub fn build_all(
 ) -> Result<Built, BuildError>
     requires { length hirs.now ≤ most_patterns }
     ensures patterns { IfOk result (λ b. map meaning b.hirs.items ≡ map meaning hirs.now) }
-    ensures buildable { IfOk result (λ _. IsBuildable (nfa_size_limit_of (settings_of settings)) (map meaning hirs.now)) }
-    ensures fits { IfOk result (λ b. Fits (settings_of settings) kind (map meaning b.hirs.items) b.engine b.info) }
+    ensures buildable { IfOk result (λ _. IsBuildable (nfa_size_limit_of (settings_of settings))
+        (map meaning hirs.now)) }
+    ensures fits { IfOk result (λ b. Fits (settings_of settings) kind
+        (map meaning b.hirs.items) b.engine b.info) }
     ensures unanswered { is_auto ≡ false → IfOk result (λ b. answering b.engine.literals ≡ None) }
     ensures unguarded { is_auto ≡ false → option_map (λ p. needles_of p.now) prefilter.entry ≡ None
         → IfOk result (λ b. guarding b.engine.literals ≡ None) }
-    ensures refused { IfErr result (λ e. IsRefusal (nfa_size_limit_of (settings_of settings)) (map meaning hirs.now) e) }
+    ensures refused { IfErr result (λ e. IsRefusal (nfa_size_limit_of (settings_of settings))
+        (map meaning hirs.now) e) }
 {
     let compiled = compile_all(
         alloc,
@@ -113,7 +116,8 @@ fn engine_of(
         (passes_over (sought_by (settings_of settings) (map meaning hirs.now))) literals }
     ensures places { result.program.places ≡ places }
     ensures terminator { result.program.terminator ≡ line_terminator_of (settings_of settings) }
-    ensures passes_over { result.program.passes_over ≡ passes_over (sought_by (settings_of settings) (map meaning hirs.now)) }
+    ensures passes_over { result.program.passes_over
+        ≡ passes_over (sought_by (settings_of settings) (map meaning hirs.now)) }
     ensures kind { result.kind ≡ kind }
     ensures literals { result.literals ≡ literals }
 {

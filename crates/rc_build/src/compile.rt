@@ -45,7 +45,8 @@ pub fn compile_all(
     ensures buildable { IfOk result (λ _. IsBuildable limit (map meaning hirs.now)) }
     ensures places { IfOk result (λ c. places_of c.places.items
         ≡ program (shown (is_grouped which) (map meaning hirs.now))) }
-    ensures names { IfOk result (λ c. names_of c.info ≡ names_shown (is_grouped which) (map meaning hirs.now)) }
+    ensures names { IfOk result (λ c. names_of c.info
+        ≡ names_shown (is_grouped which) (map meaning hirs.now)) }
     ensures refused { IfErr result (λ e. IsRefusal limit (map meaning hirs.now) e) }
 {
     check(alloc, hirs, limit)?;
@@ -61,7 +62,8 @@ fn names_shown(
     hirs: &[Hir],
     grouped: bool,
 ) -> Result<Vec<Vec<Option<String>>>, AllocError>
-    ensures { IfOk result (λ names. names_in names.items ≡ names_shown grouped (map meaning hirs.now)) }
+    ensures { IfOk result (λ names. names_in names.items
+        ≡ names_shown grouped (map meaning hirs.now)) }
 {
     if grouped {
         return all_names(alloc, hirs);

@@ -19,8 +19,10 @@ use std::alloc::Global;
 /// memory.
 pub fn parse_all(alloc: Global, texts: &[&str], config: &Config) -> Result<Vec<Hir>, BuildError>
     requires { length texts.now ≤ most_patterns }
-    ensures read { IfOk result (λ hirs. AllRead (settings_of config.now) (texts_of texts.now) (map meaning hirs.items)) }
-    ensures refused { IfErr result (λ e. IsReadingRefusal (settings_of config.now) (texts_of texts.now) e) }
+    ensures read { IfOk result (λ hirs. AllRead (settings_of config.now) (texts_of texts.now)
+        (map meaning hirs.items)) }
+    ensures refused { IfErr result (λ e. IsReadingRefusal (settings_of config.now)
+        (texts_of texts.now) e) }
 {
     let mut hirs = Vec::new(alloc);
     for (i, text) in texts.iter().enumerate() {

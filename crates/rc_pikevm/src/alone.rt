@@ -49,7 +49,8 @@ fn leads_nowhere(spot: &Spot, from: usize, tried: Option<usize>) -> bool
     ghost text: { Searched }
     requires here { IsHere spot.now text }
     requires place_in { from < size spot.now.course }
-    ensures { IsTrue result → IsDead (seen_from spot.now text) (tried_at spot.now.at tried) (from, spot.now.at) }
+    ensures { IsTrue result → IsDead (seen_from spot.now text) (tried_at spot.now.at tried)
+        (from, spot.now.at) }
 {
     let mut place = from;
     let mut later: Option<usize> = None;
@@ -91,7 +92,8 @@ fn leads_nowhere(spot: &Spot, from: usize, tried: Option<usize>) -> bool
 fn past_slot(spot: &Spot, place: usize) -> usize
     requires place_in { place < size spot.now.course }
     ensures inside { result < size spot.now.course }
-    ensures past { (result ≡ place) ⊎ ((k : ℕ) × (place_at (places_of spot.now.course.program.now.places.items) place ≡ slot k result)) }
+    ensures past { (result ≡ place) ⊎ ((k : ℕ)
+        × (place_at (places_of spot.now.course.program.now.places.items) place ≡ slot k result)) }
 {
     match &spot.course.program.places[place] {
         Place::Slot(_, next) => *next,
@@ -106,7 +108,8 @@ fn is_closed(spot: &Spot, place: usize) -> bool
     ghost text: { Searched }
     requires here { IsHere spot.now text }
     requires place_in { place < size spot.now.course }
-    ensures { IsTrue result → (passed : List Pair) → IsDead (seen_from spot.now text) passed (place, spot.now.at) }
+    ensures { IsTrue result → (passed : List Pair)
+        → IsDead (seen_from spot.now text) passed (place, spot.now.at) }
 {
     is_shut(spot, past_slot(spot, place))
 }
@@ -119,7 +122,8 @@ fn only_way(spot: &Spot, place: usize, first: usize, second: usize) -> Option<us
     requires here { IsHere spot.now text }
     requires first_in { first < size spot.now.course }
     requires second_in { second < size spot.now.course }
-    ensures { IfSome result (λ way. IsChosen (seen_from spot.now text) spot.now.at place first second way) }
+    ensures { IfSome result (λ way. IsChosen
+        (seen_from spot.now text) spot.now.at place first second way) }
 {
     if is_closed(spot, second) {
         return Some(first);
@@ -148,7 +152,8 @@ fn onward(spot: &Spot, from: usize) -> Option<(usize, Move)>
     ghost text: { Searched }
     requires here { IsHere spot.now text }
     requires place_in { from < size spot.now.course }
-    ensures { IfSome result (λ r. IsOnward (seen_from spot.now text) (size spot.now.course) spot.now.at from r.0 r.1) }
+    ensures { IfSome result (λ r. IsOnward (seen_from spot.now text)
+        (size spot.now.course) spot.now.at from r.0 r.1) }
 {
     let mut place = from;
     'ways: for _ in 0..MOST {
@@ -229,21 +234,27 @@ pub(crate) fn run(
     requires way { (at : ℕ) → IsOnWay (seen_by course text) at 0 way }
     ensures carries { (slots : List (Option ℕ)) (width : ℕ) (best o : Option Trace)
         → Carries (seen_by course.entry text) result.0.at [] []
-        ((trace result.0.start slots, (result.0.place, result.0.at)) ∷ waiting_starts is_open width result.0.at course.entry.last) best o
+        ((trace result.0.start slots, (result.0.place, result.0.at))
+        ∷ waiting_starts is_open width result.0.at course.entry.last) best o
         → Carries (seen_by course.entry text) head.at [] []
-        ((trace head.start slots, (head.place, head.at)) ∷ waiting_starts is_open width head.at course.entry.last) best o }
-    ensures races { (all : List (Trace × Pair)) (slots : List (Option ℕ)) (width : ℕ) (best : Option Ending) (found : List (Option ℕ))
+        ((trace head.start slots, (head.place, head.at))
+        ∷ waiting_starts is_open width head.at course.entry.last) best o }
+    ensures races { (all : List (Trace × Pair)) (slots : List (Option ℕ)) (width : ℕ)
+        (best : Option Ending) (found : List (Option ℕ))
         → IsSought best head.start → (is_open ≡ false → IsCutOff best head.at)
         → Races (seen_by course.entry text) all head.at [] []
-        ((trace head.start slots, (head.place, head.at)) ∷ starts_to width head.at course.entry.last) best found
+        ((trace head.start slots, (head.place, head.at))
+        ∷ starts_to width head.at course.entry.last) best found
         → Races (seen_by course.entry text) all result.0.at [] []
-        ((trace result.0.start slots, (result.0.place, result.0.at)) ∷ starts_to width result.0.at course.entry.last) best found }
+        ((trace result.0.start slots, (result.0.place, result.0.at))
+        ∷ starts_to width result.0.at course.entry.last) best found }
     ensures start { result.0.start ≡ head.start }
     ensures place_in { result.0.place < size course.entry }
     ensures later { head.at ≤ result.0.at }
     ensures within { result.0.at ≤ course.entry.hi }
     ensures around { IsAround text head.at window.now → IsAround text result.0.at window.now }
-    ensures ended { MatchOption result.1 ⊤ (λ p. EndsBy (seen_by course.entry text) result.0.at result.0.place p
+    ensures ended { MatchOption result.1 ⊤
+        (λ p. EndsBy (seen_by course.entry text) result.0.at result.0.place p
         × (result.0.at < course.entry.hi) × IsAround text (result.0.at + 1) window.now) }
 {
     let mut place = head.place;
@@ -300,8 +311,10 @@ pub(crate) fn seek(
     ensures within { result.0 ≤ course.entry.hi }
     ensures none { (y : ℕ) → at ≤ y → y < result.0 → HasNoWalkFrom (seen_by course.entry text) y }
     ensures around { IsAround text at window.now → IsAround text result.0 window.now }
-    ensures reads { MatchOption result.1 ⊤ (λ next. (result.0 < course.entry.last) × IsAround text (result.0 + 1) window.now
-        × ((p : ℕ) × ReadsOne (seen_by course.entry text) (size course.entry) result.0 root (p, next))) }
+    ensures reads { MatchOption result.1 ⊤
+        (λ next. (result.0 < course.entry.last) × IsAround text (result.0 + 1) window.now
+        × ((p : ℕ) × ReadsOne (seen_by course.entry text) (size course.entry) result.0 root
+        (p, next))) }
 {
     let mut here = at;
     let end = limit(window).min(course.last);
@@ -356,11 +369,16 @@ fn go_alone(
     requires around { IsAround text at window.now }
     requires within { at ≤ course.hi }
     requires small { scratch.old.insertions + 2 ^ 65 < 2 ^ 128 }
-    requires passing { (from : ℕ) × IsPassing (seen_by course text) (size course) course.hi scratch.old.next.threads.width from course.last at
+    requires passing { (from : ℕ) × IsPassing (seen_by course text)
+        (size course) course.hi scratch.old.next.threads.width from course.last at
         scratch.old.insertions scratch.old.curr best.old scratch.old.found.items }
-    ensures passing { (from : ℕ) → IsPassing (seen_by course.entry text) (size course.entry) course.entry.hi scratch.old.next.threads.width from
-        course.entry.last at scratch.old.insertions scratch.old.curr best.old scratch.old.found.items
-        → IsPassing (seen_by course.entry text) (size course.entry) course.entry.hi scratch.old.next.threads.width from course.entry.last result
+    ensures passing { (from : ℕ) → IsPassing (seen_by course.entry text)
+        (size course.entry) course.entry.hi scratch.old.next.threads.width from
+        course.entry.last at scratch.old.insertions scratch.old.curr best.old
+        scratch.old.found.items
+        → IsPassing (seen_by course.entry text)
+        (size course.entry) course.entry.hi scratch.old.next.threads.width from
+        course.entry.last result
         scratch.new.insertions scratch.new.curr best.new scratch.new.found.items }
     ensures same { IsSame scratch.old scratch.new }
     ensures later { at ≤ result }
@@ -390,7 +408,8 @@ pub(crate) fn move_alone(head: BareThread, count: usize, scratch: &mut Scratch)
     requires small { scratch.old.insertions + count < 2 ^ 128 }
     requires alone { length scratch.old.curr.items ≡ 1 }
     ensures insertions { scratch.new.insertions ≡ scratch.old.insertions + count }
-    ensures curr { (t : Thread) → scratch.old.curr.items ≡ t ∷ [] → scratch.new.curr ≡ record scratch.old.curr { items = thread_of head t.slots ∷ [] } }
+    ensures curr { (t : Thread) → scratch.old.curr.items ≡ t ∷ []
+        → scratch.new.curr ≡ record scratch.old.curr { items = thread_of head t.slots ∷ [] } }
     ensures same { IsSame scratch.old scratch.new }
     ensures width { scratch.new.next.threads.width ≡ scratch.old.next.threads.width }
     ensures found { scratch.new.found.items ≡ scratch.old.found.items }
@@ -420,11 +439,15 @@ fn begin(
     requires root { root < size course }
     requires stands { StandsFor (seen_by course text) root }
     requires small { scratch.old.insertions + 2 ^ 66 < 2 ^ 128 }
-    requires passing { (from : ℕ) × IsPassing (seen_by course text) (size course) course.hi scratch.old.next.threads.width from course.last at
+    requires passing { (from : ℕ) × IsPassing (seen_by course text)
+        (size course) course.hi scratch.old.next.threads.width from course.last at
         scratch.old.insertions scratch.old.curr best scratch.old.found.items }
-    ensures passing { (from : ℕ) → IsPassing (seen_by course.entry text) (size course.entry) course.entry.hi scratch.old.next.threads.width from
+    ensures passing { (from : ℕ) → IsPassing (seen_by course.entry text)
+        (size course.entry) course.entry.hi scratch.old.next.threads.width from
         course.entry.last at scratch.old.insertions scratch.old.curr best scratch.old.found.items
-        → IsPassing (seen_by course.entry text) (size course.entry) course.entry.hi scratch.old.next.threads.width from course.entry.last result.0
+        → IsPassing (seen_by course.entry text)
+        (size course.entry) course.entry.hi scratch.old.next.threads.width from
+        course.entry.last result.0
         scratch.new.insertions scratch.new.curr best scratch.new.found.items }
     ensures same { IsSame scratch.old scratch.new }
     ensures few { scratch.new.insertions ≤ scratch.old.insertions + 1 }
@@ -469,11 +492,16 @@ fn wander(
     requires root { root < size course }
     requires stands { StandsFor (seen_by course text) root }
     requires small { scratch.old.insertions + 2 ^ 66 < 2 ^ 128 }
-    requires passing { (from : ℕ) × IsPassing (seen_by course text) (size course) course.hi scratch.old.next.threads.width from course.last at
+    requires passing { (from : ℕ) × IsPassing (seen_by course text)
+        (size course) course.hi scratch.old.next.threads.width from course.last at
         scratch.old.insertions scratch.old.curr best.old scratch.old.found.items }
-    ensures passing { (from : ℕ) → IsPassing (seen_by course.entry text) (size course.entry) course.entry.hi scratch.old.next.threads.width from
-        course.entry.last at scratch.old.insertions scratch.old.curr best.old scratch.old.found.items
-        → IsPassing (seen_by course.entry text) (size course.entry) course.entry.hi scratch.old.next.threads.width from course.entry.last result
+    ensures passing { (from : ℕ) → IsPassing (seen_by course.entry text)
+        (size course.entry) course.entry.hi scratch.old.next.threads.width from
+        course.entry.last at scratch.old.insertions scratch.old.curr best.old
+        scratch.old.found.items
+        → IsPassing (seen_by course.entry text)
+        (size course.entry) course.entry.hi scratch.old.next.threads.width from
+        course.entry.last result
         scratch.new.insertions scratch.new.curr best.new scratch.new.found.items }
     ensures same { IsSame scratch.old scratch.new }
     ensures later { at ≤ result }
@@ -521,11 +549,16 @@ pub fn glide(
     requires root { root < size course }
     requires stands { StandsFor (seen_by course text) root }
     requires small { scratch.old.insertions + 2 ^ 66 < 2 ^ 128 }
-    requires passing { (from : ℕ) × IsPassing (seen_by course text) (size course) course.hi scratch.old.next.threads.width from course.last at
+    requires passing { (from : ℕ) × IsPassing (seen_by course text)
+        (size course) course.hi scratch.old.next.threads.width from course.last at
         scratch.old.insertions scratch.old.curr best.old scratch.old.found.items }
-    ensures passing { (from : ℕ) → IsPassing (seen_by course.entry text) (size course.entry) course.entry.hi scratch.old.next.threads.width from
-        course.entry.last at scratch.old.insertions scratch.old.curr best.old scratch.old.found.items
-        → IsPassing (seen_by course.entry text) (size course.entry) course.entry.hi scratch.old.next.threads.width from course.entry.last result
+    ensures passing { (from : ℕ) → IsPassing (seen_by course.entry text)
+        (size course.entry) course.entry.hi scratch.old.next.threads.width from
+        course.entry.last at scratch.old.insertions scratch.old.curr best.old
+        scratch.old.found.items
+        → IsPassing (seen_by course.entry text)
+        (size course.entry) course.entry.hi scratch.old.next.threads.width from
+        course.entry.last result
         scratch.new.insertions scratch.new.curr best.new scratch.new.found.items }
     ensures same { IsSame scratch.old scratch.new }
     ensures later { at ≤ result }

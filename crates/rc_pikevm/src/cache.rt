@@ -35,7 +35,8 @@ impl Cache {
     /// A cache for programs of `places` places, and for searches whose rows of slots have at most
     /// `columns` columns. It allocates all that these searches need.
     pub fn new(alloc: Global, places: usize, columns: usize) -> Result<Cache, AllocError>
-        ensures { IfOk result (λ c. c ≡ record { places = places; columns = columns; insertions = 0 }) }
+        ensures { IfOk result (λ c. c
+            ≡ record { places = places; columns = columns; insertions = 0 }) }
     {
         Ok(Cache {
             scratch: Scratch::new(alloc, places, columns)?,

@@ -25,7 +25,8 @@ fn save(slot: usize, at: usize, growth: &mut Growth)
     ensures threads { growth.new.threads ≡ growth.old.threads }
     ensures entered { growth.new.entered ≡ growth.old.entered }
     ensures stack { growth.new.stack.items
-        ≡ growth.old.stack.items ++ Frame.Restore slot (slice_index_or growth.old.slots.items slot None) ∷ [] }
+        ≡ growth.old.stack.items ++ Frame.Restore slot
+        (slice_index_or growth.old.slots.items slot None) ∷ [] }
     ensures len { vec_len growth.new.stack ≡ vec_len growth.old.stack + 1 }
     ensures capacity { vec_capacity growth.new.stack ≡ vec_capacity growth.old.stack }
     ensures slots { growth.new.slots.items ≡ slice_set growth.old.slots.items slot (Some at) }
@@ -96,7 +97,8 @@ fn act(spot: &Spot, place: usize, start: usize, growth: &mut Growth) -> Option<u
     requires place_in { place < size spot.now.course }
     requires deep { vec_len growth.old.stack + 2 ≤ vec_capacity growth.old.stack }
     requires room { length growth.old.threads.items < growth.old.threads.room }
-    ensures acted { IsActed (seen_from spot.now text) spot.now.at place start result growth.old growth.new }
+    ensures acted { IsActed (seen_from spot.now text) spot.now.at place start result growth.old
+        growth.new }
     ensures deep { vec_len growth.new.stack ≤ vec_len growth.old.stack + 2 }
 {
     match &spot.course.program.places[place] {
@@ -158,14 +160,19 @@ pub fn enter(spot: &Spot, place: usize, start: usize, growth: &mut Growth) -> Op
     ghost text: { Searched }
     requires here { IsHere spot.now text }
     requires place_in { place < size spot.now.course }
-    requires sound { HasRoom (size spot.now.course) spot.now.course.hi spot.now.at growth.old.threads growth.old.entered }
-    requires frames { AllInside (size spot.now.course) growth.old.threads.width (reverse growth.old.stack.items) }
+    requires sound { HasRoom (size spot.now.course) spot.now.course.hi spot.now.at
+        growth.old.threads growth.old.entered }
+    requires frames { AllInside (size spot.now.course) growth.old.threads.width
+        (reverse growth.old.stack.items) }
     requires deep { vec_len growth.old.stack ≤ length growth.old.entered.items }
-    ensures visited { IsVisited (seen_from spot.now text) spot.now.at place start result growth.old growth.new }
-    ensures grown { IsGrown (size spot.now.course) spot.now.course.hi start spot.now.at growth.old.threads growth.old.entered
+    ensures visited { IsVisited (seen_from spot.now text) spot.now.at place start result growth.old
+        growth.new }
+    ensures grown { IsGrown (size spot.now.course) spot.now.course.hi start spot.now.at
+        growth.old.threads growth.old.entered
         growth.new.threads growth.new.entered }
     ensures some { 0 < length growth.new.entered.items }
-    ensures frames { AllInside (size spot.now.course) growth.new.threads.width (reverse growth.new.stack.items) }
+    ensures frames { AllInside (size spot.now.course) growth.new.threads.width
+        (reverse growth.new.stack.items) }
     ensures deep { vec_len growth.new.stack ≤ length growth.new.entered.items + 1 }
     ensures falls { vec_len growth.new.stack + 3 * length growth.old.entered.items
         ≤ vec_len growth.old.stack + 3 * length growth.new.entered.items }
@@ -182,18 +189,25 @@ pub fn enter(spot: &Spot, place: usize, start: usize, growth: &mut Growth) -> Op
 fn drain(spot: &Spot, start: usize, growth: &mut Growth) -> Option<usize>
     ghost text: { Searched }
     requires here { IsHere spot.now text }
-    requires sound { HasRoom (size spot.now.course) spot.now.course.hi spot.now.at growth.old.threads growth.old.entered }
-    requires frames { AllInside (size spot.now.course) growth.old.threads.width (reverse growth.old.stack.items) }
+    requires sound { HasRoom (size spot.now.course) spot.now.course.hi spot.now.at
+        growth.old.threads growth.old.entered }
+    requires frames { AllInside (size spot.now.course) growth.old.threads.width
+        (reverse growth.old.stack.items) }
     requires deep { vec_len growth.old.stack ≤ length growth.old.entered.items + 1 }
     requires some { 0 < length growth.old.entered.items }
     ensures carries { (below : List (Trace × Pair)) (best o : Option Trace)
         → MatchOption result
-        (Carries (seen_from spot.now text) spot.now.at growth.new.threads.items growth.new.entered.items below best o)
-        (λ p. Carries (seen_from spot.now text) spot.now.at growth.new.threads.items growth.new.entered.items []
+        (Carries (seen_from spot.now text) spot.now.at growth.new.threads.items
+        growth.new.entered.items below best o)
+        (λ p. Carries (seen_from spot.now text) spot.now.at growth.new.threads.items
+        growth.new.entered.items []
         (Some (done p start spot.now.at growth.new.slots.items)) o)
-        → Carries (seen_from spot.now text) spot.now.at growth.old.threads.items growth.old.entered.items
-        (waits start spot.now.at (reverse growth.old.stack.items) growth.old.slots.items ++ below) best o }
-    ensures grown { IsGrown (size spot.now.course) spot.now.course.hi start spot.now.at growth.old.threads growth.old.entered
+        → Carries (seen_from spot.now text) spot.now.at growth.old.threads.items
+        growth.old.entered.items
+        (waits start spot.now.at (reverse growth.old.stack.items) growth.old.slots.items
+        ++ below) best o }
+    ensures grown { IsGrown (size spot.now.course) spot.now.course.hi start spot.now.at
+        growth.old.threads growth.old.entered
         growth.new.threads growth.new.entered }
     ensures some { 0 < length growth.new.entered.items }
 {
@@ -220,15 +234,20 @@ pub fn close(spot: &Spot, root: usize, start: usize, growth: &mut Growth) -> Opt
     ghost text: { Searched }
     requires here { IsHere spot.now text }
     requires root_in { root < size spot.now.course }
-    requires sound { HasRoom (size spot.now.course) spot.now.course.hi spot.now.at growth.old.threads growth.old.entered }
+    requires sound { HasRoom (size spot.now.course) spot.now.course.hi spot.now.at
+        growth.old.threads growth.old.entered }
     ensures carries { (below : List (Trace × Pair)) (best o : Option Trace)
         → MatchOption result
-        (Carries (seen_from spot.now text) spot.now.at growth.new.threads.items growth.new.entered.items below best o)
-        (λ p. Carries (seen_from spot.now text) spot.now.at growth.new.threads.items growth.new.entered.items []
+        (Carries (seen_from spot.now text) spot.now.at growth.new.threads.items
+        growth.new.entered.items below best o)
+        (λ p. Carries (seen_from spot.now text) spot.now.at growth.new.threads.items
+        growth.new.entered.items []
         (Some (done p start spot.now.at growth.new.slots.items)) o)
-        → Carries (seen_from spot.now text) spot.now.at growth.old.threads.items growth.old.entered.items
+        → Carries (seen_from spot.now text) spot.now.at growth.old.threads.items
+        growth.old.entered.items
         ((trace start growth.old.slots.items, (root, spot.now.at)) ∷ below) best o }
-    ensures grown { IsGrown (size spot.now.course) spot.now.course.hi start spot.now.at growth.old.threads growth.old.entered
+    ensures grown { IsGrown (size spot.now.course) spot.now.course.hi start spot.now.at
+        growth.old.threads growth.old.entered
         growth.new.threads growth.new.entered }
     ensures some { 0 < length growth.new.entered.items }
 {

@@ -26,7 +26,9 @@ pub fn first_end<C: Cursor>(
     program: &Program,
     prefilter: Option<&Prefilter>,
 ) -> Option<usize>
-    requires guarded { MatchOption prefilter ⊤ (λ p. Guards (places_of program.now.places.items) program.now.terminator (needles_of p.now)) }
+    requires guarded { MatchOption prefilter ⊤
+        (λ p. Guards (places_of program.now.places.items) program.now.terminator
+        (needles_of p.now)) }
     requires made { IsCacheFor (length program.now.places.items) 0 cache.old }
     ensures keeps { Keeps input.old input.new }
     ensures found { is_some result ≡ is_some (greatest (search_of program.now input.old)) }

@@ -32,23 +32,32 @@ use rc_text::types::{Match, PatternID, Span};
 fn step(spot: &Spot, curr: &Threads, best: &mut Option<Ending>, growth: &mut Growth)
     ghost text: { Searched }
     requires here { IsHere spot.now text }
-    requires inside { AllIn (size spot.now.course) spot.now.at (min spot.now.course.hi (spot.now.at + 3)) curr.now.items }
+    requires inside { AllIn (size spot.now.course) spot.now.at
+        (min spot.now.course.hi (spot.now.at + 3)) curr.now.items }
     requires ordered { IsOrdered spot.now.at curr.now.items }
     requires widths { (curr.now.width ≡ 0) × (growth.old.threads.width ≡ 0) }
     requires empty { (growth.old.threads.items ≡ []) × (growth.old.entered.items ≡ []) }
     requires capacity { growth.old.entered.capacity ≡ size spot.now.course }
-    requires room { count_from (spot.now.at + 1) curr.now.items + size spot.now.course ≤ growth.old.threads.room }
+    requires room { count_from (spot.now.at + 1) curr.now.items + size spot.now.course
+        ≤ growth.old.threads.room }
     ensures seeks { (below : List Runner) (o : Option Found) → BeginFrom spot.now.at below
-        → Seeks (seen_from spot.now text) spot.now.at growth.new.threads.items growth.new.entered.items below best.new o
-        → Seeks (seen_from spot.now text) spot.now.at [] [] (map running curr.now.items ++ below) best.old o }
-    ensures sound { HasRoom (size spot.now.course) spot.now.course.hi spot.now.at growth.new.threads growth.new.entered }
-    ensures same { (growth.new.threads.room ≡ growth.old.threads.room) × (growth.new.threads.most ≡ growth.old.threads.most)
+        → Seeks (seen_from spot.now text) spot.now.at growth.new.threads.items
+        growth.new.entered.items below best.new o
+        → Seeks (seen_from spot.now text) spot.now.at [] []
+        (map running curr.now.items ++ below) best.old o }
+    ensures sound { HasRoom (size spot.now.course) spot.now.course.hi spot.now.at growth.new.threads
+        growth.new.entered }
+    ensures same { (growth.new.threads.room ≡ growth.old.threads.room)
+        × (growth.new.threads.most ≡ growth.old.threads.most)
         × (growth.new.threads.width ≡ growth.old.threads.width) }
-    ensures counts { (q : ℕ) → count_from q growth.new.threads.items ≤ count_from q curr.now.items + length growth.new.entered.items }
+    ensures counts { (q : ℕ) → count_from q growth.new.threads.items ≤ count_from q curr.now.items
+        + length growth.new.entered.items }
     ensures begun { (x : ℕ) → AllFrom x curr.now.items → AllFrom x growth.new.threads.items }
     ensures ordered { IsOrdered spot.now.at growth.new.threads.items }
-    ensures some { (length curr.now.items ≡ 0) ⊎ (0 < length growth.new.threads.items + length growth.new.entered.items) }
-    ensures counted { (k : ℕ) → AllFrom (spot.now.at + 1 - k) curr.now.items → IsCounted k best.old → IsCounted k best.new }
+    ensures some { (length curr.now.items ≡ 0)
+        ⊎ (0 < length growth.new.threads.items + length growth.new.entered.items) }
+    ensures counted { (k : ℕ) → AllFrom (spot.now.at + 1 - k) curr.now.items → IsCounted k best.old
+        → IsCounted k best.new }
 {
     'threads: for index in 0..curr.len() {
         let (head, row) = curr.get(index);
@@ -65,25 +74,35 @@ fn step(spot: &Spot, curr: &Threads, best: &mut Option<Ending>, growth: &mut Gro
 fn advance(spot: &Spot, curr: &Threads, best: &mut Option<Ending>, growth: &mut Growth)
     ghost text: { Searched }
     requires here { IsHere spot.now text }
-    requires inside { AllIn (size spot.now.course) spot.now.at (min spot.now.course.hi (spot.now.at + 3)) curr.now.items }
+    requires inside { AllIn (size spot.now.course) spot.now.at
+        (min spot.now.course.hi (spot.now.at + 3)) curr.now.items }
     requires ordered { IsOrdered spot.now.at curr.now.items }
     requires widths { (curr.now.width ≡ 0) × (growth.old.threads.width ≡ 0) }
     requires empty { (growth.old.threads.items ≡ []) × (growth.old.entered.items ≡ []) }
     requires capacity { growth.old.entered.capacity ≡ size spot.now.course }
-    requires room { count_from (spot.now.at + 1) curr.now.items + size spot.now.course ≤ growth.old.threads.room }
+    requires room { count_from (spot.now.at + 1) curr.now.items + size spot.now.course
+        ≤ growth.old.threads.room }
     ensures seeks { (o : Option Found)
-        → Seeks (seen_from spot.now text) spot.now.at growth.new.threads.items growth.new.entered.items
+        → Seeks (seen_from spot.now text) spot.now.at growth.new.threads.items
+        growth.new.entered.items
         (starting (spot.now.at + 1) spot.now.course.last) best.new o
-        → Seeks (seen_from spot.now text) spot.now.at [] [] (map running curr.now.items ++ starting spot.now.at spot.now.course.last)
+        → Seeks (seen_from spot.now text) spot.now.at [] []
+        (map running curr.now.items ++ starting spot.now.at spot.now.course.last)
         best.old o }
-    ensures sound { HasRoom (size spot.now.course) spot.now.course.hi spot.now.at growth.new.threads growth.new.entered }
-    ensures same { (growth.new.threads.room ≡ growth.old.threads.room) × (growth.new.threads.most ≡ growth.old.threads.most)
+    ensures sound { HasRoom (size spot.now.course) spot.now.course.hi spot.now.at growth.new.threads
+        growth.new.entered }
+    ensures same { (growth.new.threads.room ≡ growth.old.threads.room)
+        × (growth.new.threads.most ≡ growth.old.threads.most)
         × (growth.new.threads.width ≡ growth.old.threads.width) }
-    ensures counts { (q : ℕ) → count_from q growth.new.threads.items ≤ count_from q curr.now.items + length growth.new.entered.items }
-    ensures begun { (x : ℕ) → x ≤ spot.now.at → AllFrom x curr.now.items → AllFrom x growth.new.threads.items }
+    ensures counts { (q : ℕ) → count_from q growth.new.threads.items ≤ count_from q curr.now.items
+        + length growth.new.entered.items }
+    ensures begun { (x : ℕ) → x ≤ spot.now.at → AllFrom x curr.now.items
+        → AllFrom x growth.new.threads.items }
     ensures ordered { IsOrdered spot.now.at growth.new.threads.items }
-    ensures some { (length curr.now.items ≡ 0) ⊎ (0 < length growth.new.threads.items + length growth.new.entered.items) }
-    ensures counted { (k : ℕ) → length growth.new.entered.items ≤ k → AllFrom (spot.now.at + 1 - k) curr.now.items
+    ensures some { (length curr.now.items ≡ 0)
+        ⊎ (0 < length growth.new.threads.items + length growth.new.entered.items) }
+    ensures counted { (k : ℕ) → length growth.new.entered.items ≤ k
+        → AllFrom (spot.now.at + 1 - k) curr.now.items
         → IsCounted k best.old → IsCounted k best.new }
 {
     step(spot, curr, best, growth);
@@ -97,16 +116,20 @@ fn turn(spot: &Spot, best: &mut Option<Ending>, scratch: &mut Scratch)
     ghost text: { Searched }
     requires here { IsHere spot.now text }
     requires made { scratch.old.next.entered.capacity ≡ size spot.now.course }
-    requires lined { IsLined (size spot.now.course) spot.now.course.hi 0 spot.now.at scratch.old.insertions scratch.old.curr }
+    requires lined { IsLined (size spot.now.course) spot.now.course.hi 0 spot.now.at
+        scratch.old.insertions scratch.old.curr }
     requires ordered { IsOrdered spot.now.at scratch.old.curr.items }
     requires counted { IsCounted scratch.old.insertions best.old }
     requires small { scratch.old.insertions + size spot.now.course < 2 ^ 128 }
     ensures seeks { (o : Option Found)
         → Seeks (seen_from spot.now text) (spot.now.at + 1) [] []
-        (map running scratch.new.curr.items ++ starting (spot.now.at + 1) spot.now.course.last) best.new o
+        (map running scratch.new.curr.items
+        ++ starting (spot.now.at + 1) spot.now.course.last) best.new o
         → Seeks (seen_from spot.now text) spot.now.at [] []
-        (map running scratch.old.curr.items ++ starting spot.now.at spot.now.course.last) best.old o }
-    ensures lined { IsLined (size spot.now.course) spot.now.course.hi 0 (spot.now.at + 1) scratch.new.insertions scratch.new.curr }
+        (map running scratch.old.curr.items
+        ++ starting spot.now.at spot.now.course.last) best.old o }
+    ensures lined { IsLined (size spot.now.course) spot.now.course.hi 0
+        (spot.now.at + 1) scratch.new.insertions scratch.new.curr }
     ensures ordered { IsOrdered (spot.now.at + 1) scratch.new.curr.items }
     ensures same { IsSame scratch.old scratch.new }
     ensures counted { IsCounted scratch.new.insertions best.new }
@@ -134,7 +157,8 @@ pub(crate) fn reach_end<C: Cursor>(
     requires made { scratch.old.next.entered.capacity ≡ size course }
     requires width { scratch.old.next.threads.width ≡ 0 }
     ensures keeps { Keeps input.old input.new }
-    ensures top { IsTop (SomeSpells (seen_by course.entry text) [] (starting from course.entry.last)) (option_map span_of result) }
+    ensures top { IsTop (SomeSpells (seen_by course.entry text) []
+        (starting from course.entry.last)) (option_map span_of result) }
     ensures counted { IsCounted scratch.new.insertions result }
     ensures few { scratch.new.insertions ≤ size course.entry * (course.entry.hi - from + 1) }
     ensures same { IsSame scratch.old scratch.new }
@@ -164,7 +188,8 @@ fn choose<C: Cursor>(
     ensures keeps { Keeps input.old input.new }
     ensures chosen { option_map span_of result ≡ greatest (seen program.now input.old) }
     ensures counted { IsCounted scratch.new.insertions result }
-    ensures few { scratch.new.insertions ≤ length program.now.places.items * (high input.old - low input.old + 2) }
+    ensures few { scratch.new.insertions ≤ length program.now.places.items
+        * (high input.old - low input.old + 2) }
     ensures none { high input.old < low input.old → scratch.new.insertions ≡ 0 }
     ensures same { IsSame scratch.old scratch.new }
 {
@@ -200,7 +225,8 @@ pub fn find_greatest<C: Cursor>(
     ensures within { MatchOption result ⊤ (IsWithinBounds input.old) }
     ensures cache { cache.new ≡ record cache.old { insertions = cache.new.insertions } }
     ensures none { high input.old < low input.old → cache.new.insertions ≡ 0 }
-    ensures few { cache.new.insertions ≤ length program.now.places.items * (high input.old - low input.old + 2) }
+    ensures few { cache.new.insertions ≤ length program.now.places.items
+        * (high input.old - low input.old + 2) }
     ensures counted { MatchOption result ⊤ (λ m. m.end - m.start + 1 ≤ cache.new.insertions) }
 {
     cache.scratch.widen(0);

@@ -22,7 +22,8 @@ pub(crate) fn is_dead(spot: &Spot, place: usize) -> bool
     ghost text: { Searched }
     requires here { IsHere spot.now text }
     requires place_in { place < size spot.now.course }
-    ensures { IsTrue result → (passed : List Pair) → IsDead (seen_from spot.now text) passed (place, spot.now.at) }
+    ensures { IsTrue result → (passed : List Pair)
+        → IsDead (seen_from spot.now text) passed (place, spot.now.at) }
 {
     if spot.at >= spot.course.hi || spot.after.is_empty() {
         return false;
@@ -38,7 +39,8 @@ fn unset_before(bytes: &[u8], flags: &[bool]) -> usize
     requires { length flags.now ≡ 256 }
     ensures within { result ≤ length bytes.now }
     ensures small { (k : ℕ) → k < length bytes.now → slice_index bytes.now k < 256 }
-    ensures unset { (k : ℕ) → k < result → slice_index_or flags.now (slice_index bytes.now k) false ≡ false }
+    ensures unset { (k : ℕ) → k < result
+        → slice_index_or flags.now (slice_index bytes.now k) false ≡ false }
 {
     for (i, byte) in bytes.iter().enumerate() {
         if flags[*byte as usize] {
@@ -67,7 +69,8 @@ fn others_before(bytes: &[u8], byte: u8) -> usize
 fn barred_before(program: &Program, place: usize, bytes: &[u8]) -> usize
     requires place_in { place < length program.now.places.items }
     ensures within { result ≤ length bytes.now }
-    ensures barred { (k : ℕ) → k < result → ¬ MayGoOn (places_of program.now.places.items) place (slice_index bytes.now k) }
+    ensures barred { (k : ℕ) → k < result
+        → ¬ MayGoOn (places_of program.now.places.items) place (slice_index bytes.now k) }
 {
     if let Some(flags) = program.head_table(place) {
         return unset_before(bytes, flags);
@@ -99,7 +102,8 @@ pub(crate) fn pass_over(
     requires place_in { place < size course }
     ensures later { at ≤ result }
     ensures within { result ≤ end }
-    ensures dead { (y : ℕ) → at ≤ y → y < result → (passed : List Pair) → IsDead (seen_by course.entry text) passed (place, y) }
+    ensures dead { (y : ℕ) → at ≤ y → y < result → (passed : List Pair)
+        → IsDead (seen_by course.entry text) passed (place, y) }
 {
     let first = at - window.start;
     at + barred_before(

@@ -37,14 +37,17 @@ pub fn find_by_kind<C: Cursor>(
     prefilter: Option<&Prefilter>,
     kind: MatchKind,
 ) -> Option<Match>
-    requires guarded { MatchOption prefilter ⊤ (λ p. Guards (places_of program.now.places.items) program.now.terminator (needles_of p.now)) }
+    requires guarded { MatchOption prefilter ⊤
+        (λ p. Guards (places_of program.now.places.items) program.now.terminator
+        (needles_of p.now)) }
     requires made { IsCacheFor (length program.now.places.items) 0 cache.old }
     ensures keeps { Keeps input.old input.new }
     ensures found { result ≡ answer_by kind (search_of program.now input.old) }
     ensures bounds { MatchOption result ⊤ (IsWithinBounds input.old) }
     ensures cache { cache.new ≡ record cache.old { insertions = cache.new.insertions } }
     ensures none { high input.old < low input.old → cache.new.insertions ≡ 0 }
-    ensures few { cache.new.insertions ≤ length program.now.places.items * (high input.old - low input.old + 2) }
+    ensures few { cache.new.insertions ≤ length program.now.places.items
+        * (high input.old - low input.old + 2) }
     ensures counted { MatchOption result ⊤ (λ m. m.end - m.start + 1 ≤ cache.new.insertions) }
 {
     match kind {
@@ -66,7 +69,9 @@ pub fn is_match_by_kind<C: Cursor>(
     prefilter: Option<&Prefilter>,
     kind: MatchKind,
 ) -> bool
-    requires guarded { MatchOption prefilter ⊤ (λ p. Guards (places_of program.now.places.items) program.now.terminator (needles_of p.now)) }
+    requires guarded { MatchOption prefilter ⊤
+        (λ p. Guards (places_of program.now.places.items) program.now.terminator
+        (needles_of p.now)) }
     requires made { IsCacheFor (length program.now.places.items) 0 cache.old }
     ensures keeps { Keeps input.old input.new }
     ensures found { result ≡ is_some (answer_by kind (search_of program.now input.old)) }
@@ -116,10 +121,12 @@ fn search_span<C: Cursor>(
     requires made { IsCacheFor (length program.now.places.items) 0 cache.old }
     ensures keeps { Keeps input.old input.new }
     ensures found { result ≡ greatest (search_of program.now input.old) }
-    ensures slots { MatchOption result (slots.new ≡ slots.old) (λ m. slots.new ≡ span_slots (length slots.old) m) }
+    ensures slots { MatchOption result (slots.new ≡ slots.old)
+        (λ m. slots.new ≡ span_slots (length slots.old) m) }
     ensures cache { cache.new ≡ record cache.old { insertions = cache.new.insertions } }
     ensures none { high input.old < low input.old → cache.new.insertions ≡ 0 }
-    ensures few { cache.new.insertions ≤ length program.now.places.items * (high input.old - low input.old + 2) }
+    ensures few { cache.new.insertions ≤ length program.now.places.items
+        * (high input.old - low input.old + 2) }
     ensures counted { MatchOption result ⊤ (λ m. m.end - m.start + 1 ≤ cache.new.insertions) }
 {
     let found = find_greatest(cache, input, program)?;
@@ -143,17 +150,22 @@ pub fn search_slots_by_kind<C: Cursor>(
     kind: MatchKind,
     slots: &mut [Option<usize>],
 ) -> Option<PatternID>
-    requires guarded { MatchOption prefilter ⊤ (λ p. Guards (places_of program.now.places.items) program.now.terminator (needles_of p.now)) }
-    requires made { IsCacheFor (length program.now.places.items) (row_width (places_of program.now.places.items) (length slots.old)) cache.old }
+    requires guarded { MatchOption prefilter ⊤
+        (λ p. Guards (places_of program.now.places.items) program.now.terminator
+        (needles_of p.now)) }
+    requires made { IsCacheFor (length program.now.places.items)
+        (row_width (places_of program.now.places.items) (length slots.old)) cache.old }
     ensures keeps { Keeps input.old input.new }
-    ensures pattern { result ≡ option_map (λ (m : Found). m.pattern) (answer_by kind (search_of program.now input.old)) }
+    ensures pattern { result ≡ option_map (λ (m : Found). m.pattern)
+        (answer_by kind (search_of program.now input.old)) }
     ensures long { length slots.new ≡ length slots.old }
     ensures slots { MatchOption result
         (slots.new ≡ slots.old)
         (λ _. Some slots.new ≡ slots_by kind (search_of program.now input.old) (length slots.old)) }
     ensures cache { cache.new ≡ record cache.old { insertions = cache.new.insertions } }
     ensures none { high input.old < low input.old → cache.new.insertions ≡ 0 }
-    ensures few { cache.new.insertions ≤ length program.now.places.items * (high input.old - low input.old + 2) }
+    ensures few { cache.new.insertions ≤ length program.now.places.items
+        * (high input.old - low input.old + 2) }
     ensures counted { (m : Found) → answer_by kind (search_of program.now input.old) ≡ Some m
         → m.end - m.start + 1 ≤ cache.new.insertions }
 {

@@ -36,12 +36,16 @@ fn outlast<C: Cursor>(
     prefilter: Option<&Prefilter>,
     scratch: &mut Scratch,
 ) -> Option<Ending>
-    requires guarded { MatchOption prefilter ⊤ (λ p. Guards (places_of program.now.places.items) program.now.terminator (needles_of p.now)) }
+    requires guarded { MatchOption prefilter ⊤
+        (λ p. Guards (places_of program.now.places.items) program.now.terminator
+        (needles_of p.now)) }
     requires made { scratch.old.next.entered.capacity ≡ length program.now.places.items }
     ensures keeps { Keeps input.old input.new }
-    ensures chosen { IsLongestRowResult (search_of program.now input.old) result scratch.new.found.items }
+    ensures chosen { IsLongestRowResult (search_of program.now input.old) result
+        scratch.new.found.items }
     ensures counted { IsCounted scratch.new.insertions result }
-    ensures few { scratch.new.insertions ≤ length program.now.places.items * (high input.old - low input.old + 2) }
+    ensures few { scratch.new.insertions ≤ length program.now.places.items
+        * (high input.old - low input.old + 2) }
     ensures none { high input.old < low input.old → scratch.new.insertions ≡ 0 }
     ensures same { IsSame scratch.old scratch.new }
 {
@@ -82,14 +86,18 @@ fn choose_longest<C: Cursor>(
     prefilter: Option<&Prefilter>,
     slots: &mut [Option<usize>],
 ) -> Option<Ending>
-    requires guarded { MatchOption prefilter ⊤ (λ p. Guards (places_of program.now.places.items) program.now.terminator (needles_of p.now)) }
-    requires made { IsCacheFor (length program.now.places.items) (row_width (places_of program.now.places.items) (length slots.old)) cache.old }
+    requires guarded { MatchOption prefilter ⊤
+        (λ p. Guards (places_of program.now.places.items) program.now.terminator
+        (needles_of p.now)) }
+    requires made { IsCacheFor (length program.now.places.items)
+        (row_width (places_of program.now.places.items) (length slots.old)) cache.old }
     ensures keeps { Keeps input.old input.new }
     ensures chosen { IsLongestResult (search_of program.now input.old) result slots.new }
     ensures stays { IfNone result (slots.new ≡ slots.old) }
     ensures cache { cache.new ≡ record cache.old { insertions = cache.new.insertions } }
     ensures counted { IsCounted cache.new.insertions result }
-    ensures few { cache.new.insertions ≤ length program.now.places.items * (high input.old - low input.old + 2) }
+    ensures few { cache.new.insertions ≤ length program.now.places.items
+        * (high input.old - low input.old + 2) }
     ensures none { high input.old < low input.old → cache.new.insertions ≡ 0 }
 {
     cache.scratch.widen(program.width(slots.len()));
@@ -115,17 +123,23 @@ pub fn search_longest_slots<C: Cursor>(
     prefilter: Option<&Prefilter>,
     slots: &mut [Option<usize>],
 ) -> Option<PatternID>
-    requires guarded { MatchOption prefilter ⊤ (λ p. Guards (places_of program.now.places.items) program.now.terminator (needles_of p.now)) }
-    requires made { IsCacheFor (length program.now.places.items) (row_width (places_of program.now.places.items) (length slots.old)) cache.old }
+    requires guarded { MatchOption prefilter ⊤
+        (λ p. Guards (places_of program.now.places.items) program.now.terminator
+        (needles_of p.now)) }
+    requires made { IsCacheFor (length program.now.places.items)
+        (row_width (places_of program.now.places.items) (length slots.old)) cache.old }
     ensures keeps { Keeps input.old input.new }
-    ensures pattern { result ≡ option_map (λ (m : Found). m.pattern) (longest (search_of program.now input.old)) }
+    ensures pattern { result ≡ option_map (λ (m : Found). m.pattern)
+        (longest (search_of program.now input.old)) }
     ensures long { length slots.new ≡ length slots.old }
     ensures slots { MatchOption result
         (slots.new ≡ slots.old)
-        (λ _. Some slots.new ≡ longest_groups (search_of program.now input.old) (length slots.old)) }
+        (λ _. Some slots.new ≡ longest_groups (search_of program.now input.old)
+        (length slots.old)) }
     ensures cache { cache.new ≡ record cache.old { insertions = cache.new.insertions } }
     ensures none { high input.old < low input.old → cache.new.insertions ≡ 0 }
-    ensures few { cache.new.insertions ≤ length program.now.places.items * (high input.old - low input.old + 2) }
+    ensures few { cache.new.insertions ≤ length program.now.places.items
+        * (high input.old - low input.old + 2) }
     ensures counted { (m : Found) → longest (search_of program.now input.old) ≡ Some m
         → m.end - m.start + 1 ≤ cache.new.insertions }
 {
@@ -149,14 +163,17 @@ pub fn find_longest<C: Cursor>(
     program: &Program,
     prefilter: Option<&Prefilter>,
 ) -> Option<Match>
-    requires guarded { MatchOption prefilter ⊤ (λ p. Guards (places_of program.now.places.items) program.now.terminator (needles_of p.now)) }
+    requires guarded { MatchOption prefilter ⊤
+        (λ p. Guards (places_of program.now.places.items) program.now.terminator
+        (needles_of p.now)) }
     requires made { IsCacheFor (length program.now.places.items) 0 cache.old }
     ensures keeps { Keeps input.old input.new }
     ensures found { result ≡ longest (search_of program.now input.old) }
     ensures bounds { MatchOption result ⊤ (IsWithinBounds input.old) }
     ensures cache { cache.new ≡ record cache.old { insertions = cache.new.insertions } }
     ensures none { high input.old < low input.old → cache.new.insertions ≡ 0 }
-    ensures few { cache.new.insertions ≤ length program.now.places.items * (high input.old - low input.old + 2) }
+    ensures few { cache.new.insertions ≤ length program.now.places.items
+        * (high input.old - low input.old + 2) }
     ensures counted { MatchOption result ⊤ (λ m. m.end - m.start + 1 ≤ cache.new.insertions) }
 {
     let Some(end) = choose_longest(cache, input, program, prefilter, &mut []) else {

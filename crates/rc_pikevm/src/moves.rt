@@ -82,7 +82,8 @@ fn reading(place: usize, to: Option<usize>) -> Move
 pub fn after_byte(spot: &Spot, byte: u8) -> Option<usize>
     ghost text: { Searched }
     requires here { IsHere spot.now text }
-    ensures { (p n : ℕ) → IsMoveAt (seen_from spot.now text) (p, spot.now.at) (byte_place ((byte, byte) ∷ []) n) (reading n result) }
+    ensures { (p n : ℕ) → IsMoveAt (seen_from spot.now text) (p, spot.now.at)
+        (byte_place ((byte, byte) ∷ []) n) (reading n result) }
 {
     let Some(found) = next_byte(spot.after, spot.course.hi - spot.at) else {
         return None;
@@ -99,7 +100,8 @@ pub fn after_one_of(spot: &Spot, place: usize, ranges: &Vec<ClassBytesRange>) ->
     ghost text: { Searched }
     requires here { IsHere spot.now text }
     requires place_in { place < size spot.now.course }
-    ensures { (n : ℕ) → IsMoveAt (seen_from spot.now text) (place, spot.now.at) (byte_place (map byte_range ranges.now.items) n) (reading n result) }
+    ensures { (n : ℕ) → IsMoveAt (seen_from spot.now text) (place, spot.now.at)
+        (byte_place (map byte_range ranges.now.items) n) (reading n result) }
 {
     let Some(found) = next_byte(spot.after, spot.course.hi - spot.at) else {
         return None;
@@ -116,7 +118,8 @@ pub fn after_scalar(spot: &Spot, place: usize, ranges: &Vec<ClassUnicodeRange>) 
     ghost text: { Searched }
     requires here { IsHere spot.now text }
     requires place_in { place < size spot.now.course }
-    ensures { (n : ℕ) → IsMoveAt (seen_from spot.now text) (place, spot.now.at) (scalar (map char_range ranges.now.items) n) (reading n result) }
+    ensures { (n : ℕ) → IsMoveAt (seen_from spot.now text) (place, spot.now.at)
+        (scalar (map char_range ranges.now.items) n) (reading n result) }
 {
     let Some((c, count)) = next_scalar(spot.after, spot.course.hi - spot.at) else {
         return None;
@@ -132,7 +135,8 @@ pub fn after_scalar(spot: &Spot, place: usize, ranges: &Vec<ClassUnicodeRange>) 
 pub fn is_open(spot: &Spot, look: Look) -> bool
     ghost text: { Searched }
     requires here { IsHere spot.now text }
-    ensures { (p n : ℕ) → IsMoveAt (seen_from spot.now text) (p, spot.now.at) (guard look n) (moving (Stays n) result) }
+    ensures { (p n : ℕ) → IsMoveAt (seen_from spot.now text) (p, spot.now.at) (guard look n)
+        (moving (Stays n) result) }
 {
     holds(
         look,
@@ -147,7 +151,8 @@ pub fn is_open(spot: &Spot, look: Look) -> bool
 pub fn may_end(spot: &Spot, number: usize) -> bool
     ghost text: { Searched }
     requires here { IsHere spot.now text }
-    ensures { (p : ℕ) → IsMoveAt (seen_from spot.now text) (p, spot.now.at) (accept number) (moving (Matches number) result) }
+    ensures { (p : ℕ) → IsMoveAt (seen_from spot.now text) (p, spot.now.at) (accept number)
+        (moving (Matches number) result) }
 {
     is_allowed(spot.course.pattern, number)
 }
@@ -168,7 +173,8 @@ fn is_allowed(pattern: Option<usize>, number: usize) -> bool
 #[inline(always)]
 fn takes_byte(program: &Program, place: usize, ranges: &Vec<ClassBytesRange>, byte: u8) -> bool
     requires { place < length program.now.places.items }
-    ensures { (n : ℕ) → place_at (places_of program.now.places.items) place ≡ byte_place (map byte_range ranges.now.items) n
+    ensures { (n : ℕ) → place_at (places_of program.now.places.items) place
+        ≡ byte_place (map byte_range ranges.now.items) n
         → result ≡ in_ranges (map byte_range ranges.now.items) byte }
 {
     let Some(goes) = program.may_go_on(place, byte) else {
@@ -182,7 +188,8 @@ fn takes_byte(program: &Program, place: usize, ranges: &Vec<ClassBytesRange>, by
 #[inline(always)]
 fn takes_scalar(program: &Program, place: usize, ranges: &Vec<ClassUnicodeRange>, c: char) -> bool
     requires { place < length program.now.places.items }
-    ensures { (n : ℕ) → place_at (places_of program.now.places.items) place ≡ scalar (map char_range ranges.now.items) n
+    ensures { (n : ℕ) → place_at (places_of program.now.places.items) place
+        ≡ scalar (map char_range ranges.now.items) n
         → result ≡ in_ranges (map char_range ranges.now.items) c }
 {
     let code = c as u32;

@@ -62,25 +62,35 @@ pub struct Ending {
 fn step(spot: &Spot, curr: &Threads, growth: &mut Growth) -> Option<(usize, usize)>
     ghost text: { Searched }
     requires here { IsHere spot.now text }
-    requires inside { AllIn (size spot.now.course) spot.now.at (min spot.now.course.hi (spot.now.at + 3)) curr.now.items }
+    requires inside { AllIn (size spot.now.course) spot.now.at
+        (min spot.now.course.hi (spot.now.at + 3)) curr.now.items }
     requires widths { curr.now.width ≡ growth.old.threads.width }
     requires empty { (growth.old.threads.items ≡ []) × (growth.old.entered.items ≡ []) }
     requires capacity { growth.old.entered.capacity ≡ size spot.now.course }
-    requires room { count_from (spot.now.at + 1) curr.now.items + size spot.now.course ≤ growth.old.threads.room }
+    requires room { count_from (spot.now.at + 1) curr.now.items + size spot.now.course
+        ≤ growth.old.threads.room }
     ensures carries { (below : List (Trace × Pair)) (best o : Option Trace)
         → MatchOption result
-        (Carries (seen_from spot.now text) spot.now.at growth.new.threads.items growth.new.entered.items below best o)
-        (λ r. Carries (seen_from spot.now text) spot.now.at growth.new.threads.items growth.new.entered.items []
+        (Carries (seen_from spot.now text) spot.now.at growth.new.threads.items
+        growth.new.entered.items below best o)
+        (λ r. Carries (seen_from spot.now text) spot.now.at growth.new.threads.items
+        growth.new.entered.items []
         (Some (done r.0 r.1 spot.now.at growth.new.slots.items)) o)
-        → Carries (seen_from spot.now text) spot.now.at [] [] (map pending curr.now.items ++ below) best o }
-    ensures sound { HasRoom (size spot.now.course) spot.now.course.hi spot.now.at growth.new.threads growth.new.entered }
-    ensures same { (growth.new.threads.room ≡ growth.old.threads.room) × (growth.new.threads.most ≡ growth.old.threads.most)
+        → Carries (seen_from spot.now text) spot.now.at [] []
+        (map pending curr.now.items ++ below) best o }
+    ensures sound { HasRoom (size spot.now.course) spot.now.course.hi spot.now.at growth.new.threads
+        growth.new.entered }
+    ensures same { (growth.new.threads.room ≡ growth.old.threads.room)
+        × (growth.new.threads.most ≡ growth.old.threads.most)
         × (growth.new.threads.width ≡ growth.old.threads.width) }
-    ensures counts { (q : ℕ) → count_from q growth.new.threads.items ≤ count_from q curr.now.items + length growth.new.entered.items }
+    ensures counts { (q : ℕ) → count_from q growth.new.threads.items ≤ count_from q curr.now.items
+        + length growth.new.entered.items }
     ensures begun { (x : ℕ) → AllFrom x curr.now.items → AllFrom x growth.new.threads.items }
     ensures ended { MatchOption result
-        ((length curr.now.items ≡ 0) ⊎ (0 < length growth.new.threads.items + length growth.new.entered.items))
-        (λ r. (0 < length growth.new.entered.items) × ((x : ℕ) → AllFrom x curr.now.items → x ≤ r.1)) }
+        ((length curr.now.items ≡ 0) ⊎ (0 < length growth.new.threads.items
+        + length growth.new.entered.items))
+        (λ r. (0 < length growth.new.entered.items)
+        × ((x : ℕ) → AllFrom x curr.now.items → x ≤ r.1)) }
 {
     'threads: for index in 0..curr.len() {
         let (head, row) = curr.get(index);
@@ -110,17 +120,26 @@ fn set_out(spot: &Spot, root: usize, is_open: bool, growth: &mut Growth) -> Opti
     requires stands { StandsFor (seen_from spot.now text) root }
     ensures carries { (best o : Option Trace)
         → MatchOption result
-        (Carries (seen_from spot.now text) spot.now.at growth.new.threads.items growth.new.entered.items
-        (waiting_starts is_open growth.old.threads.width (spot.now.at + 1) spot.now.course.last) best o)
-        (λ r. Carries (seen_from spot.now text) spot.now.at growth.new.threads.items growth.new.entered.items []
+        (Carries (seen_from spot.now text) spot.now.at growth.new.threads.items
+        growth.new.entered.items
+        (waiting_starts is_open growth.old.threads.width
+        (spot.now.at + 1) spot.now.course.last) best o)
+        (λ r. Carries (seen_from spot.now text) spot.now.at growth.new.threads.items
+        growth.new.entered.items []
         (Some (done r.0 r.1 spot.now.at growth.new.slots.items)) o)
-        → Carries (seen_from spot.now text) spot.now.at [] [] (waiting_starts is_open growth.old.threads.width spot.now.at spot.now.course.last) best o }
-    ensures sound { HasRoom (size spot.now.course) spot.now.course.hi spot.now.at growth.new.threads growth.new.entered }
-    ensures same { (growth.new.threads.room ≡ growth.old.threads.room) × (growth.new.threads.most ≡ growth.old.threads.most)
+        → Carries (seen_from spot.now text) spot.now.at [] []
+        (waiting_starts is_open growth.old.threads.width spot.now.at spot.now.course.last) best
+        o }
+    ensures sound { HasRoom (size spot.now.course) spot.now.course.hi spot.now.at growth.new.threads
+        growth.new.entered }
+    ensures same { (growth.new.threads.room ≡ growth.old.threads.room)
+        × (growth.new.threads.most ≡ growth.old.threads.most)
         × (growth.new.threads.width ≡ growth.old.threads.width) }
-    ensures counts { (q : ℕ) → count_from q growth.new.threads.items ≤ length growth.new.entered.items }
+    ensures counts { (q : ℕ) → count_from q growth.new.threads.items
+        ≤ length growth.new.entered.items }
     ensures begun { (x : ℕ) → x ≤ spot.now.at → AllFrom x growth.new.threads.items }
-    ensures ended { MatchOption result ⊤ (λ r. (0 < length growth.new.entered.items) × ((x : ℕ) → x ≤ spot.now.at → x ≤ r.1)) }
+    ensures ended { MatchOption result ⊤
+        (λ r. (0 < length growth.new.entered.items) × ((x : ℕ) → x ≤ spot.now.at → x ≤ r.1)) }
 {
     if !is_open || spot.at > spot.course.last {
         return None;
@@ -146,28 +165,39 @@ fn advance(
 ) -> Option<(usize, usize)>
     ghost text: { Searched }
     requires here { IsHere spot.now text }
-    requires inside { AllIn (size spot.now.course) spot.now.at (min spot.now.course.hi (spot.now.at + 3)) curr.now.items }
+    requires inside { AllIn (size spot.now.course) spot.now.at
+        (min spot.now.course.hi (spot.now.at + 3)) curr.now.items }
     requires widths { curr.now.width ≡ growth.old.threads.width }
     requires empty { (growth.old.threads.items ≡ []) × (growth.old.entered.items ≡ []) }
     requires capacity { growth.old.entered.capacity ≡ size spot.now.course }
-    requires room { count_from (spot.now.at + 1) curr.now.items + size spot.now.course ≤ growth.old.threads.room }
+    requires room { count_from (spot.now.at + 1) curr.now.items + size spot.now.course
+        ≤ growth.old.threads.room }
     requires root { root < size spot.now.course }
     requires stands { StandsFor (seen_from spot.now text) root }
     ensures carries { (best o : Option Trace)
         → MatchOption result
-        (Carries (seen_from spot.now text) spot.now.at growth.new.threads.items growth.new.entered.items
-        (waiting_starts is_open growth.old.threads.width (spot.now.at + 1) spot.now.course.last) best o)
-        (λ r. Carries (seen_from spot.now text) spot.now.at growth.new.threads.items growth.new.entered.items []
+        (Carries (seen_from spot.now text) spot.now.at growth.new.threads.items
+        growth.new.entered.items
+        (waiting_starts is_open growth.old.threads.width
+        (spot.now.at + 1) spot.now.course.last) best o)
+        (λ r. Carries (seen_from spot.now text) spot.now.at growth.new.threads.items
+        growth.new.entered.items []
         (Some (done r.0 r.1 spot.now.at growth.new.slots.items)) o)
         → Carries (seen_from spot.now text) spot.now.at [] []
-        (map pending curr.now.items ++ waiting_starts is_open growth.old.threads.width spot.now.at spot.now.course.last) best o }
-    ensures sound { HasRoom (size spot.now.course) spot.now.course.hi spot.now.at growth.new.threads growth.new.entered }
-    ensures same { (growth.new.threads.room ≡ growth.old.threads.room) × (growth.new.threads.most ≡ growth.old.threads.most)
+        (map pending curr.now.items ++ waiting_starts is_open growth.old.threads.width
+        spot.now.at spot.now.course.last) best o }
+    ensures sound { HasRoom (size spot.now.course) spot.now.course.hi spot.now.at growth.new.threads
+        growth.new.entered }
+    ensures same { (growth.new.threads.room ≡ growth.old.threads.room)
+        × (growth.new.threads.most ≡ growth.old.threads.most)
         × (growth.new.threads.width ≡ growth.old.threads.width) }
-    ensures counts { (q : ℕ) → count_from q growth.new.threads.items ≤ count_from q curr.now.items + length growth.new.entered.items }
-    ensures begun { (x : ℕ) → x ≤ spot.now.at → AllFrom x curr.now.items → AllFrom x growth.new.threads.items }
+    ensures counts { (q : ℕ) → count_from q growth.new.threads.items ≤ count_from q curr.now.items
+        + length growth.new.entered.items }
+    ensures begun { (x : ℕ) → x ≤ spot.now.at → AllFrom x curr.now.items
+        → AllFrom x growth.new.threads.items }
     ensures ended { MatchOption result ⊤
-        (λ r. (0 < length growth.new.entered.items) × ((x : ℕ) → x ≤ spot.now.at → AllFrom x curr.now.items → x ≤ r.1)) }
+        (λ r. (0 < length growth.new.entered.items)
+        × ((x : ℕ) → x ≤ spot.now.at → AllFrom x curr.now.items → x ≤ r.1)) }
 {
     if curr.len() == 0 {
         return set_out(spot, root, is_open, growth);
@@ -203,18 +233,22 @@ fn turn(spot: &Spot, root: usize, best: Option<Ending>, scratch: &mut Scratch) -
     ghost text: { Searched }
     requires here { IsHere spot.now text }
     requires made { scratch.old.next.entered.capacity ≡ size spot.now.course }
-    requires lined { IsLined (size spot.now.course) spot.now.course.hi scratch.old.next.threads.width spot.now.at scratch.old.insertions
+    requires lined { IsLined (size spot.now.course) spot.now.course.hi
+        scratch.old.next.threads.width spot.now.at scratch.old.insertions
         scratch.old.curr }
     requires counted { IsCounted scratch.old.insertions best }
     requires small { scratch.old.insertions + size spot.now.course < 2 ^ 128 }
     requires root { root < size spot.now.course }
     requires stands { StandsFor (seen_from spot.now text) root }
     ensures carries { (o : Option Trace)
-        → Pending (seen_from spot.now text) scratch.old.next.threads.width spot.now.course.last (spot.now.at + 1) scratch.new.curr.items
+        → Pending (seen_from spot.now text) scratch.old.next.threads.width spot.now.course.last
+        (spot.now.at + 1) scratch.new.curr.items
         result scratch.new.found.items o
-        → Pending (seen_from spot.now text) scratch.old.next.threads.width spot.now.course.last spot.now.at scratch.old.curr.items
+        → Pending (seen_from spot.now text) scratch.old.next.threads.width spot.now.course.last
+        spot.now.at scratch.old.curr.items
         best scratch.old.found.items o }
-    ensures lined { IsLined (size spot.now.course) spot.now.course.hi scratch.old.next.threads.width (spot.now.at + 1)
+    ensures lined { IsLined (size spot.now.course) spot.now.course.hi scratch.old.next.threads.width
+        (spot.now.at + 1)
         scratch.new.insertions scratch.new.curr }
     ensures same { IsSame scratch.old scratch.new }
     ensures counted { IsCounted scratch.new.insertions result }
@@ -239,23 +273,30 @@ fn turn(spot: &Spot, root: usize, best: Option<Ending>, scratch: &mut Scratch) -
 #[inline(always)]
 pub fn end_walk(course: Course, at: usize, number: usize, scratch: &mut Scratch) -> Ending
     ghost text: { Searched }
-    requires lined { IsLined (size course) course.hi scratch.old.next.threads.width at scratch.old.insertions scratch.old.curr }
+    requires lined { IsLined (size course) course.hi scratch.old.next.threads.width at
+        scratch.old.insertions scratch.old.curr }
     requires small { scratch.old.insertions + 1 < 2 ^ 128 }
     requires ends { EndsAlone (seen_by course text) at scratch.old.curr.items number }
     ensures carries { (best : Option Ending) (o : Option Trace)
-        → Pending (seen_by course.entry text) scratch.old.next.threads.width course.entry.last (at + 1) scratch.new.curr.items
+        → Pending (seen_by course.entry text) scratch.old.next.threads.width course.entry.last
+        (at + 1) scratch.new.curr.items
         (Some result) scratch.new.found.items o
-        → Pending (seen_by course.entry text) scratch.old.next.threads.width course.entry.last at scratch.old.curr.items
+        → Pending (seen_by course.entry text) scratch.old.next.threads.width course.entry.last at
+        scratch.old.curr.items
         best scratch.old.found.items o }
     ensures races { (all : List (Trace × Pair)) (best : Option Ending)
         → IsAhead best result.start at
         → Races (seen_by course.entry text) all at [] []
-        (map pending scratch.old.curr.items ++ starts_to scratch.old.next.threads.width at course.entry.last) best scratch.old.found.items
+        (map pending scratch.old.curr.items
+        ++ starts_to scratch.old.next.threads.width at course.entry.last) best
+        scratch.old.found.items
         → Races (seen_by course.entry text) all (at + 1) [] []
-        (map pending scratch.new.curr.items ++ starts_to scratch.old.next.threads.width (at + 1) course.entry.last) (Some result)
+        (map pending scratch.new.curr.items
+        ++ starts_to scratch.old.next.threads.width (at + 1) course.entry.last) (Some result)
         scratch.new.found.items }
     ensures start { (t : Thread) → scratch.old.curr.items ≡ t ∷ [] → result.start ≡ t.start }
-    ensures lined { IsLined (size course.entry) course.entry.hi scratch.old.next.threads.width (at + 1) scratch.new.insertions scratch.new.curr }
+    ensures lined { IsLined (size course.entry) course.entry.hi scratch.old.next.threads.width
+        (at + 1) scratch.new.insertions scratch.new.curr }
     ensures same { IsSame scratch.old scratch.new }
     ensures counted { IsCounted scratch.new.insertions (Some result) }
     ensures few { scratch.new.insertions ≤ scratch.old.insertions + 1 }
@@ -278,23 +319,31 @@ pub fn end_walk(course: Course, at: usize, number: usize, scratch: &mut Scratch)
 pub fn set_out_alone(course: Course, at: usize, root: usize, next: usize, scratch: &mut Scratch)
     ghost text: { Searched }
     requires setting { IsSetting course text }
-    requires lined { IsLined (size course) course.hi scratch.old.next.threads.width at scratch.old.insertions scratch.old.curr }
+    requires lined { IsLined (size course) course.hi scratch.old.next.threads.width at
+        scratch.old.insertions scratch.old.curr }
     requires small { scratch.old.insertions + 1 < 2 ^ 128 }
     requires none { length scratch.old.curr.items ≡ 0 }
     requires within { at ≤ course.last }
     requires stands { StandsFor (seen_by course text) root }
     requires reads { (p : ℕ) × ReadsOne (seen_by course text) (size course) at root (p, next) }
     ensures carries { (o : Option Trace)
-        → Pending (seen_by course.entry text) scratch.old.next.threads.width course.entry.last (at + 1) scratch.new.curr.items
+        → Pending (seen_by course.entry text) scratch.old.next.threads.width course.entry.last
+        (at + 1) scratch.new.curr.items
         None scratch.new.found.items o
-        → Pending (seen_by course.entry text) scratch.old.next.threads.width course.entry.last at scratch.old.curr.items
+        → Pending (seen_by course.entry text) scratch.old.next.threads.width course.entry.last at
+        scratch.old.curr.items
         None scratch.old.found.items o }
     ensures races { root ≡ 0 → (all : List (Trace × Pair))
         → Races (seen_by course.entry text) all at [] []
-        (map pending scratch.old.curr.items ++ starts_to scratch.old.next.threads.width at course.entry.last) None scratch.old.found.items
+        (map pending scratch.old.curr.items
+        ++ starts_to scratch.old.next.threads.width at course.entry.last) None
+        scratch.old.found.items
         → Races (seen_by course.entry text) all (at + 1) [] []
-        (map pending scratch.new.curr.items ++ starts_to scratch.old.next.threads.width (at + 1) course.entry.last) None scratch.new.found.items }
-    ensures lined { IsLined (size course.entry) course.entry.hi scratch.old.next.threads.width (at + 1) scratch.new.insertions scratch.new.curr }
+        (map pending scratch.new.curr.items
+        ++ starts_to scratch.old.next.threads.width
+        (at + 1) course.entry.last) None scratch.new.found.items }
+    ensures lined { IsLined (size course.entry) course.entry.hi scratch.old.next.threads.width
+        (at + 1) scratch.new.insertions scratch.new.curr }
     ensures same { IsSame scratch.old scratch.new }
     ensures few { scratch.new.insertions ≤ scratch.old.insertions + 1 }
 {
@@ -362,11 +411,14 @@ pub(crate) fn next_position<C: Cursor>(
     requires inside { (at ≤ course.hi) × (course.hi ≡ high input.old) }
     ensures keeps { Keeps input.old input.new }
     ensures next { MatchOption prefilter.entry ⊤
-        (λ p. Guards (places_of course.entry.program.now.places.items) course.entry.program.now.terminator (needles_of p.now))
+        (λ p. Guards (places_of course.entry.program.now.places.items)
+        course.entry.program.now.terminator (needles_of p.now))
         → MatchOption result
-        (IsTrue idle × ((y : ℕ) → at ≤ y → y ≤ course.entry.hi → HasNoWalkFrom (seen_by course.entry input.old) y))
+        (IsTrue idle × ((y : ℕ) → at ≤ y → y ≤ course.entry.hi
+        → HasNoWalkFrom (seen_by course.entry input.old) y))
         (λ x. (at ≤ x) × (x ≤ course.entry.hi) × ((x ≡ at)
-        ⊎ (IsTrue idle × ((y : ℕ) → at ≤ y → y < x → HasNoWalkFrom (seen_by course.entry input.old) y)))) }
+        ⊎ (IsTrue idle × ((y : ℕ) → at ≤ y → y < x
+        → HasNoWalkFrom (seen_by course.entry input.old) y)))) }
 {
     if !idle || at >= course.last {
         return Some(at);
@@ -399,11 +451,13 @@ pub fn pass<C: Cursor>(
     requires same { Keeps text input.old }
     requires setting { IsSetting course text }
     requires guarded { MatchOption prefilter ⊤
-        (λ p. Guards (places_of course.program.now.places.items) course.program.now.terminator (needles_of p.now)) }
+        (λ p. Guards (places_of course.program.now.places.items) course.program.now.terminator
+        (needles_of p.now)) }
     requires bounds { (low text ≤ from) × (from ≤ course.last) }
     requires made { scratch.old.next.entered.capacity ≡ size course }
     ensures keeps { Keeps input.old input.new }
-    ensures gives { earliest ≡ false → GivesTrace (seen_by course.entry text) scratch.old.next.threads.width from course.entry.last
+    ensures gives { earliest ≡ false → GivesTrace
+        (seen_by course.entry text) scratch.old.next.threads.width from course.entry.last
         (best_of result scratch.new.found.items) }
     ensures tells { Tells (seen_by course.entry text) from course.entry.last result }
     ensures counted { IsCounted scratch.new.insertions result }
@@ -428,13 +482,15 @@ pub(crate) fn pass_from<C: Cursor>(
     requires same { Keeps text input.old }
     requires setting { IsSetting course text }
     requires guarded { MatchOption prefilter ⊤
-        (λ p. Guards (places_of course.program.now.places.items) course.program.now.terminator (needles_of p.now)) }
+        (λ p. Guards (places_of course.program.now.places.items) course.program.now.terminator
+        (needles_of p.now)) }
     requires bounds { (low text ≤ from) × (from ≤ course.last) }
     requires made { scratch.old.next.entered.capacity ≡ size course }
     requires root { root < size course }
     requires stands { StandsFor (seen_by course text) root }
     ensures keeps { Keeps input.old input.new }
-    ensures gives { earliest ≡ false → GivesTrace (seen_by course.entry text) scratch.old.next.threads.width from course.entry.last
+    ensures gives { earliest ≡ false → GivesTrace
+        (seen_by course.entry text) scratch.old.next.threads.width from course.entry.last
         (best_of result scratch.new.found.items) }
     ensures tells { Tells (seen_by course.entry text) from course.entry.last result }
     ensures counted { IsCounted scratch.new.insertions result }

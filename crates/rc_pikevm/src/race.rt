@@ -39,20 +39,29 @@ fn step(
 )
     ghost text: { Searched }
     requires here { IsHere spot.now text }
-    requires inside { AllIn (size spot.now.course) spot.now.at (min spot.now.course.hi (spot.now.at + 3)) curr.now.items }
-    requires widths { (curr.now.width ≡ growth.old.threads.width) × (length found.old ≡ growth.old.threads.width) }
+    requires inside { AllIn (size spot.now.course) spot.now.at
+        (min spot.now.course.hi (spot.now.at + 3)) curr.now.items }
+    requires widths { (curr.now.width ≡ growth.old.threads.width)
+        × (length found.old ≡ growth.old.threads.width) }
     requires empty { (growth.old.threads.items ≡ []) × (growth.old.entered.items ≡ []) }
     requires capacity { growth.old.entered.capacity ≡ size spot.now.course }
-    requires room { count_from (spot.now.at + 1) curr.now.items + size spot.now.course ≤ growth.old.threads.room }
+    requires room { count_from (spot.now.at + 1) curr.now.items + size spot.now.course
+        ≤ growth.old.threads.room }
     ensures races { (all below : List (Trace × Pair))
-        → Races (seen_from spot.now text) all spot.now.at [] [] (map pending curr.now.items ++ below) best.old found.old
-        → Races (seen_from spot.now text) all spot.now.at growth.new.threads.items growth.new.entered.items below best.new found.new }
-    ensures sound { HasRoom (size spot.now.course) spot.now.course.hi spot.now.at growth.new.threads growth.new.entered }
-    ensures same { (growth.new.threads.room ≡ growth.old.threads.room) × (growth.new.threads.most ≡ growth.old.threads.most)
+        → Races (seen_from spot.now text) all spot.now.at [] []
+        (map pending curr.now.items ++ below) best.old found.old
+        → Races (seen_from spot.now text) all spot.now.at growth.new.threads.items
+        growth.new.entered.items below best.new found.new }
+    ensures sound { HasRoom (size spot.now.course) spot.now.course.hi spot.now.at growth.new.threads
+        growth.new.entered }
+    ensures same { (growth.new.threads.room ≡ growth.old.threads.room)
+        × (growth.new.threads.most ≡ growth.old.threads.most)
         × (growth.new.threads.width ≡ growth.old.threads.width) }
-    ensures counts { (q : ℕ) → count_from q growth.new.threads.items ≤ count_from q curr.now.items + length growth.new.entered.items }
+    ensures counts { (q : ℕ) → count_from q growth.new.threads.items ≤ count_from q curr.now.items
+        + length growth.new.entered.items }
     ensures begun { (x : ℕ) → AllFrom x curr.now.items → AllFrom x growth.new.threads.items }
-    ensures counted { (k : ℕ) → AllFrom (spot.now.at + 1 - k) curr.now.items → IsCounted k best.old → IsCounted k best.new }
+    ensures counted { (k : ℕ) → AllFrom (spot.now.at + 1 - k) curr.now.items → IsCounted k best.old
+        → IsCounted k best.new }
     ensures still { (best.new ≡ best.old) ⊎ (0 < length growth.new.entered.items) }
 {
     'threads: for index in 0..curr.len() {
@@ -82,22 +91,33 @@ fn advance(
 )
     ghost text: { Searched }
     requires here { IsHere spot.now text }
-    requires inside { AllIn (size spot.now.course) spot.now.at (min spot.now.course.hi (spot.now.at + 3)) curr.now.items }
-    requires widths { (curr.now.width ≡ growth.old.threads.width) × (length found.old ≡ growth.old.threads.width) }
+    requires inside { AllIn (size spot.now.course) spot.now.at
+        (min spot.now.course.hi (spot.now.at + 3)) curr.now.items }
+    requires widths { (curr.now.width ≡ growth.old.threads.width)
+        × (length found.old ≡ growth.old.threads.width) }
     requires empty { (growth.old.threads.items ≡ []) × (growth.old.entered.items ≡ []) }
     requires capacity { growth.old.entered.capacity ≡ size spot.now.course }
-    requires room { count_from (spot.now.at + 1) curr.now.items + size spot.now.course ≤ growth.old.threads.room }
+    requires room { count_from (spot.now.at + 1) curr.now.items + size spot.now.course
+        ≤ growth.old.threads.room }
     ensures races { (all : List (Trace × Pair))
         → Races (seen_from spot.now text) all spot.now.at [] []
-        (map pending curr.now.items ++ starts_to growth.old.threads.width spot.now.at spot.now.course.last) best.old found.old
-        → Races (seen_from spot.now text) all spot.now.at growth.new.threads.items growth.new.entered.items
-        (starts_to growth.old.threads.width (spot.now.at + 1) spot.now.course.last) best.new found.new }
-    ensures sound { HasRoom (size spot.now.course) spot.now.course.hi spot.now.at growth.new.threads growth.new.entered }
-    ensures same { (growth.new.threads.room ≡ growth.old.threads.room) × (growth.new.threads.most ≡ growth.old.threads.most)
+        (map pending curr.now.items ++ starts_to growth.old.threads.width
+        spot.now.at spot.now.course.last) best.old found.old
+        → Races (seen_from spot.now text) all spot.now.at growth.new.threads.items
+        growth.new.entered.items
+        (starts_to growth.old.threads.width
+        (spot.now.at + 1) spot.now.course.last) best.new found.new }
+    ensures sound { HasRoom (size spot.now.course) spot.now.course.hi spot.now.at growth.new.threads
+        growth.new.entered }
+    ensures same { (growth.new.threads.room ≡ growth.old.threads.room)
+        × (growth.new.threads.most ≡ growth.old.threads.most)
         × (growth.new.threads.width ≡ growth.old.threads.width) }
-    ensures counts { (q : ℕ) → count_from q growth.new.threads.items ≤ count_from q curr.now.items + length growth.new.entered.items }
-    ensures begun { (x : ℕ) → x ≤ spot.now.at → AllFrom x curr.now.items → AllFrom x growth.new.threads.items }
-    ensures counted { (k : ℕ) → length growth.new.entered.items ≤ k → AllFrom (spot.now.at + 1 - k) curr.now.items
+    ensures counts { (q : ℕ) → count_from q growth.new.threads.items ≤ count_from q curr.now.items
+        + length growth.new.entered.items }
+    ensures begun { (x : ℕ) → x ≤ spot.now.at → AllFrom x curr.now.items
+        → AllFrom x growth.new.threads.items }
+    ensures counted { (k : ℕ) → length growth.new.entered.items ≤ k
+        → AllFrom (spot.now.at + 1 - k) curr.now.items
         → IsCounted k best.old → IsCounted k best.new }
     ensures still { (best.new ≡ best.old) ⊎ (0 < length growth.new.entered.items) }
 {
@@ -121,18 +141,22 @@ fn turn(spot: &Spot, best: &mut Option<Ending>, scratch: &mut Scratch)
     ghost text: { Searched }
     requires here { IsHere spot.now text }
     requires made { scratch.old.next.entered.capacity ≡ size spot.now.course }
-    requires lined { IsLined (size spot.now.course) spot.now.course.hi scratch.old.next.threads.width spot.now.at scratch.old.insertions
+    requires lined { IsLined (size spot.now.course) spot.now.course.hi
+        scratch.old.next.threads.width spot.now.at scratch.old.insertions
         scratch.old.curr }
     requires counted { IsCounted scratch.old.insertions best.old }
     requires small { scratch.old.insertions + size spot.now.course < 2 ^ 128 }
     ensures races { (all : List (Trace × Pair))
         → Races (seen_from spot.now text) all spot.now.at [] []
-        (map pending scratch.old.curr.items ++ starts_to scratch.old.next.threads.width spot.now.at spot.now.course.last)
+        (map pending scratch.old.curr.items
+        ++ starts_to scratch.old.next.threads.width spot.now.at spot.now.course.last)
         best.old scratch.old.found.items
         → Races (seen_from spot.now text) all (spot.now.at + 1) [] []
-        (map pending scratch.new.curr.items ++ starts_to scratch.old.next.threads.width (spot.now.at + 1) spot.now.course.last)
+        (map pending scratch.new.curr.items
+        ++ starts_to scratch.old.next.threads.width (spot.now.at + 1) spot.now.course.last)
         best.new scratch.new.found.items }
-    ensures lined { IsLined (size spot.now.course) spot.now.course.hi scratch.old.next.threads.width (spot.now.at + 1)
+    ensures lined { IsLined (size spot.now.course) spot.now.course.hi scratch.old.next.threads.width
+        (spot.now.at + 1)
         scratch.new.insertions scratch.new.curr }
     ensures same { IsSame scratch.old scratch.new }
     ensures counted { IsCounted scratch.new.insertions best.new }
@@ -182,11 +206,13 @@ pub fn race<C: Cursor>(
     requires same { Keeps text input.old }
     requires setting { IsSetting course text }
     requires guarded { MatchOption prefilter ⊤
-        (λ p. Guards (places_of course.program.now.places.items) course.program.now.terminator (needles_of p.now)) }
+        (λ p. Guards (places_of course.program.now.places.items) course.program.now.terminator
+        (needles_of p.now)) }
     requires bounds { (low text ≤ from) × (from ≤ course.last) }
     requires made { scratch.old.next.entered.capacity ≡ size course }
     ensures keeps { Keeps input.old input.new }
-    ensures gives { GivesLongest (seen_by course.entry text) scratch.old.next.threads.width from course.entry.last
+    ensures gives { GivesLongest (seen_by course.entry text) scratch.old.next.threads.width from
+        course.entry.last
         (best_of result scratch.new.found.items) }
     ensures counted { IsCounted scratch.new.insertions result }
     ensures few { scratch.new.insertions ≤ size course.entry * (course.entry.hi - from + 1) }

@@ -52,11 +52,16 @@ fn go_alone(
     requires way_in { way < size course }
     requires way { (at : ℕ) → IsOnWay (seen_by course text) at 0 way }
     requires small { scratch.old.insertions + 2 ^ 65 < 2 ^ 128 }
-    requires running { (from : ℕ) × IsRunFrom (seen_by course text) (size course) course.hi scratch.old.next.threads.width from course.last at
+    requires running { (from : ℕ) × IsRunFrom (seen_by course text)
+        (size course) course.hi scratch.old.next.threads.width from course.last at
         scratch.old.insertions scratch.old.curr best.old scratch.old.found.items }
-    ensures running { (from : ℕ) → IsRunFrom (seen_by course.entry text) (size course.entry) course.entry.hi scratch.old.next.threads.width from
-        course.entry.last at scratch.old.insertions scratch.old.curr best.old scratch.old.found.items
-        → IsRunFrom (seen_by course.entry text) (size course.entry) course.entry.hi scratch.old.next.threads.width from course.entry.last result
+    ensures running { (from : ℕ) → IsRunFrom (seen_by course.entry text)
+        (size course.entry) course.entry.hi scratch.old.next.threads.width from
+        course.entry.last at scratch.old.insertions scratch.old.curr best.old
+        scratch.old.found.items
+        → IsRunFrom (seen_by course.entry text)
+        (size course.entry) course.entry.hi scratch.old.next.threads.width from
+        course.entry.last result
         scratch.new.insertions scratch.new.curr best.new scratch.new.found.items }
     ensures same { IsSame scratch.old scratch.new }
     ensures later { at ≤ result }
@@ -101,11 +106,15 @@ fn begin(
     requires way_in { way < size course }
     requires way { (at : ℕ) → IsOnWay (seen_by course text) at 0 way }
     requires small { scratch.old.insertions + 2 ^ 66 < 2 ^ 128 }
-    requires running { (from : ℕ) × IsRunFrom (seen_by course text) (size course) course.hi scratch.old.next.threads.width from course.last at
+    requires running { (from : ℕ) × IsRunFrom (seen_by course text)
+        (size course) course.hi scratch.old.next.threads.width from course.last at
         scratch.old.insertions scratch.old.curr best scratch.old.found.items }
-    ensures running { (from : ℕ) → IsRunFrom (seen_by course.entry text) (size course.entry) course.entry.hi scratch.old.next.threads.width from
+    ensures running { (from : ℕ) → IsRunFrom (seen_by course.entry text)
+        (size course.entry) course.entry.hi scratch.old.next.threads.width from
         course.entry.last at scratch.old.insertions scratch.old.curr best scratch.old.found.items
-        → IsRunFrom (seen_by course.entry text) (size course.entry) course.entry.hi scratch.old.next.threads.width from course.entry.last result.0
+        → IsRunFrom (seen_by course.entry text)
+        (size course.entry) course.entry.hi scratch.old.next.threads.width from
+        course.entry.last result.0
         scratch.new.insertions scratch.new.curr best scratch.new.found.items }
     ensures same { IsSame scratch.old scratch.new }
     ensures few { scratch.new.insertions ≤ scratch.old.insertions + 1 }
@@ -146,11 +155,16 @@ fn wander(
     requires around { IsAround text at window.now }
     requires within { at ≤ course.hi }
     requires small { scratch.old.insertions + 2 ^ 66 < 2 ^ 128 }
-    requires running { (from : ℕ) × IsRunFrom (seen_by course text) (size course) course.hi scratch.old.next.threads.width from course.last at
+    requires running { (from : ℕ) × IsRunFrom (seen_by course text)
+        (size course) course.hi scratch.old.next.threads.width from course.last at
         scratch.old.insertions scratch.old.curr best.old scratch.old.found.items }
-    ensures running { (from : ℕ) → IsRunFrom (seen_by course.entry text) (size course.entry) course.entry.hi scratch.old.next.threads.width from
-        course.entry.last at scratch.old.insertions scratch.old.curr best.old scratch.old.found.items
-        → IsRunFrom (seen_by course.entry text) (size course.entry) course.entry.hi scratch.old.next.threads.width from course.entry.last result
+    ensures running { (from : ℕ) → IsRunFrom (seen_by course.entry text)
+        (size course.entry) course.entry.hi scratch.old.next.threads.width from
+        course.entry.last at scratch.old.insertions scratch.old.curr best.old
+        scratch.old.found.items
+        → IsRunFrom (seen_by course.entry text)
+        (size course.entry) course.entry.hi scratch.old.next.threads.width from
+        course.entry.last result
         scratch.new.insertions scratch.new.curr best.new scratch.new.found.items }
     ensures same { IsSame scratch.old scratch.new }
     ensures later { at ≤ result }
@@ -185,11 +199,16 @@ pub fn glide(
     requires around { IsAround text at window.now }
     requires within { at ≤ course.hi }
     requires small { scratch.old.insertions + 2 ^ 66 < 2 ^ 128 }
-    requires running { (from : ℕ) × IsRunFrom (seen_by course text) (size course) course.hi scratch.old.next.threads.width from course.last at
+    requires running { (from : ℕ) × IsRunFrom (seen_by course text)
+        (size course) course.hi scratch.old.next.threads.width from course.last at
         scratch.old.insertions scratch.old.curr best.old scratch.old.found.items }
-    ensures running { (from : ℕ) → IsRunFrom (seen_by course.entry text) (size course.entry) course.entry.hi scratch.old.next.threads.width from
-        course.entry.last at scratch.old.insertions scratch.old.curr best.old scratch.old.found.items
-        → IsRunFrom (seen_by course.entry text) (size course.entry) course.entry.hi scratch.old.next.threads.width from course.entry.last result
+    ensures running { (from : ℕ) → IsRunFrom (seen_by course.entry text)
+        (size course.entry) course.entry.hi scratch.old.next.threads.width from
+        course.entry.last at scratch.old.insertions scratch.old.curr best.old
+        scratch.old.found.items
+        → IsRunFrom (seen_by course.entry text)
+        (size course.entry) course.entry.hi scratch.old.next.threads.width from
+        course.entry.last result
         scratch.new.insertions scratch.new.curr best.new scratch.new.found.items }
     ensures same { IsSame scratch.old scratch.new }
     ensures later { at ≤ result }

@@ -59,23 +59,31 @@ fn visit(
     ghost text: { Searched }
     requires here { IsHere spot.now text }
     requires place_in { place < size spot.now.course }
-    requires sound { HasRoom (size spot.now.course) spot.now.course.hi spot.now.at growth.old.threads growth.old.entered }
+    requires sound { HasRoom (size spot.now.course) spot.now.course.hi spot.now.at
+        growth.old.threads growth.old.entered }
     requires sought { IsSought best.old start }
     requires wide { length found.old ≡ growth.old.threads.width }
-    requires frames { AllInside (size spot.now.course) growth.old.threads.width (reverse growth.old.stack.items) }
+    requires frames { AllInside (size spot.now.course) growth.old.threads.width
+        (reverse growth.old.stack.items) }
     requires deep { vec_len growth.old.stack ≤ length growth.old.entered.items }
     ensures races { (all below : List (Trace × Pair))
-        → Races (seen_from spot.now text) all spot.now.at growth.old.threads.items growth.old.entered.items
+        → Races (seen_from spot.now text) all spot.now.at growth.old.threads.items
+        growth.old.entered.items
         ((trace start growth.old.slots.items, (place, spot.now.at))
-        ∷ (waits start spot.now.at (reverse growth.old.stack.items) growth.old.slots.items ++ below)) best.old found.old
-        → Races (seen_from spot.now text) all spot.now.at growth.new.threads.items growth.new.entered.items
-        (waits start spot.now.at (reverse growth.new.stack.items) growth.new.slots.items ++ below) best.new found.new }
+        ∷ (waits start spot.now.at (reverse growth.old.stack.items) growth.old.slots.items
+        ++ below)) best.old found.old
+        → Races (seen_from spot.now text) all spot.now.at growth.new.threads.items
+        growth.new.entered.items
+        (waits start spot.now.at (reverse growth.new.stack.items) growth.new.slots.items
+        ++ below) best.new found.new }
     ensures sought { IsSought best.new start }
     ensures counted { StaysCounted start spot.now.at best.old best.new }
-    ensures grown { IsGrown (size spot.now.course) spot.now.course.hi start spot.now.at growth.old.threads growth.old.entered
+    ensures grown { IsGrown (size spot.now.course) spot.now.course.hi start spot.now.at
+        growth.old.threads growth.old.entered
         growth.new.threads growth.new.entered }
     ensures some { 0 < length growth.new.entered.items }
-    ensures frames { AllInside (size spot.now.course) growth.new.threads.width (reverse growth.new.stack.items) }
+    ensures frames { AllInside (size spot.now.course) growth.new.threads.width
+        (reverse growth.new.stack.items) }
     ensures deep { vec_len growth.new.stack ≤ length growth.new.entered.items + 1 }
     ensures falls { vec_len growth.new.stack + 3 * length growth.old.entered.items
         ≤ vec_len growth.old.stack + 3 * length growth.new.entered.items }
@@ -102,18 +110,24 @@ fn drain(
 )
     ghost text: { Searched }
     requires here { IsHere spot.now text }
-    requires sound { HasRoom (size spot.now.course) spot.now.course.hi spot.now.at growth.old.threads growth.old.entered }
+    requires sound { HasRoom (size spot.now.course) spot.now.course.hi spot.now.at
+        growth.old.threads growth.old.entered }
     requires sought { IsSought best.old start }
     requires wide { length found.old ≡ growth.old.threads.width }
-    requires frames { AllInside (size spot.now.course) growth.old.threads.width (reverse growth.old.stack.items) }
+    requires frames { AllInside (size spot.now.course) growth.old.threads.width
+        (reverse growth.old.stack.items) }
     requires deep { vec_len growth.old.stack ≤ length growth.old.entered.items + 1 }
     requires some { 0 < length growth.old.entered.items }
     ensures races { (all below : List (Trace × Pair))
-        → Races (seen_from spot.now text) all spot.now.at growth.old.threads.items growth.old.entered.items
-        (waits start spot.now.at (reverse growth.old.stack.items) growth.old.slots.items ++ below) best.old found.old
-        → Races (seen_from spot.now text) all spot.now.at growth.new.threads.items growth.new.entered.items below best.new found.new }
+        → Races (seen_from spot.now text) all spot.now.at growth.old.threads.items
+        growth.old.entered.items
+        (waits start spot.now.at (reverse growth.old.stack.items) growth.old.slots.items
+        ++ below) best.old found.old
+        → Races (seen_from spot.now text) all spot.now.at growth.new.threads.items
+        growth.new.entered.items below best.new found.new }
     ensures counted { StaysCounted start spot.now.at best.old best.new }
-    ensures grown { IsGrown (size spot.now.course) spot.now.course.hi start spot.now.at growth.old.threads growth.old.entered
+    ensures grown { IsGrown (size spot.now.course) spot.now.course.hi start spot.now.at
+        growth.old.threads growth.old.entered
         growth.new.threads growth.new.entered }
     ensures some { 0 < length growth.new.entered.items }
 {
@@ -140,15 +154,19 @@ pub fn run(
     ghost text: { Searched }
     requires here { IsHere spot.now text }
     requires root_in { root < size spot.now.course }
-    requires sound { HasRoom (size spot.now.course) spot.now.course.hi spot.now.at growth.old.threads growth.old.entered }
+    requires sound { HasRoom (size spot.now.course) spot.now.course.hi spot.now.at
+        growth.old.threads growth.old.entered }
     requires sought { IsSought best.old start }
     requires wide { length found.old ≡ growth.old.threads.width }
     ensures races { (all below : List (Trace × Pair))
-        → Races (seen_from spot.now text) all spot.now.at growth.old.threads.items growth.old.entered.items
+        → Races (seen_from spot.now text) all spot.now.at growth.old.threads.items
+        growth.old.entered.items
         ((trace start growth.old.slots.items, (root, spot.now.at)) ∷ below) best.old found.old
-        → Races (seen_from spot.now text) all spot.now.at growth.new.threads.items growth.new.entered.items below best.new found.new }
+        → Races (seen_from spot.now text) all spot.now.at growth.new.threads.items
+        growth.new.entered.items below best.new found.new }
     ensures counted { StaysCounted start spot.now.at best.old best.new }
-    ensures grown { IsGrown (size spot.now.course) spot.now.course.hi start spot.now.at growth.old.threads growth.old.entered
+    ensures grown { IsGrown (size spot.now.course) spot.now.course.hi start spot.now.at
+        growth.old.threads growth.old.entered
         growth.new.threads growth.new.entered }
     ensures some { 0 < length growth.new.entered.items }
 {

@@ -85,16 +85,19 @@ impl Scratch {
     /// Ends a position: counts the places that were entered there, and makes the next position's
     /// threads the current ones.
     pub fn finish(&mut self)
-        requires inside { (lo hi : ℕ) × AllIn self.old.next.entered.capacity lo hi self.old.next.threads.items }
+        requires inside { (lo hi : ℕ) × AllIn self.old.next.entered.capacity lo hi
+            self.old.next.threads.items }
         requires few { length self.old.next.entered.items ≤ self.old.next.entered.capacity }
         requires small { self.old.insertions + self.old.next.entered.capacity < 2 ^ 128 }
         ensures threads { self.new.curr ≡ self.old.next.threads }
         ensures same { IsSame self.old self.new }
         ensures found { self.new.found.items ≡ self.old.found.items }
         ensures slots { self.new.next.slots.items ≡ self.old.next.slots.items }
-        ensures counted { self.old.insertions + length self.old.next.entered.items ≤ self.new.insertions }
+        ensures counted { self.old.insertions + length self.old.next.entered.items
+            ≤ self.new.insertions }
         ensures few { self.new.insertions ≤ self.old.insertions + self.old.next.entered.capacity }
-        ensures some { 0 < length self.old.next.threads.items → self.old.insertions < self.new.insertions }
+        ensures some { 0 < length self.old.next.threads.items
+            → self.old.insertions < self.new.insertions }
     {
         touch(&mut self.next.entered, &self.next.threads);
         self.insertions += self.next.entered.len() as u128;

@@ -58,7 +58,8 @@ pub(crate) fn starts_of(anchored: Anchored, lo: usize, hi: usize) -> (Option<usi
 /// Writes the whole match to its two slots, as far as these exist.
 pub(crate) fn put_match(end: Ending, slots: &mut [Option<usize>])
     requires { end.pattern ≤ 2147483646 }
-    ensures { slots.new ≡ slice_set (slice_set slots.old (2 * end.pattern) (Some end.start)) (2 * end.pattern + 1) (Some end.end) }
+    ensures { slots.new ≡ slice_set (slice_set slots.old (2 * end.pattern) (Some end.start))
+        (2 * end.pattern + 1) (Some end.end) }
 {
     let first = 2 * end.pattern;
     if first < slots.len() {
@@ -89,10 +90,13 @@ pub(crate) fn put_groups(
 )
     requires { length row.now ≡ row_width (places_of program.now.places.items) (length slots.old) }
     ensures long { length slots.new ≡ length slots.old }
-    ensures own { (k : ℕ) → k < length slots.new → IsAmong (range_of (places_of program.now.places.items) pattern) k
+    ensures own { (k : ℕ) → k < length slots.new
+        → IsAmong (range_of (places_of program.now.places.items) pattern) k
         → slice_index_or slots.new k None
-        ≡ slice_index_or row.now (k - (range_of (places_of program.now.places.items) pattern).first) None }
-    ensures others { (k : ℕ) → ¬ IsAmong (range_of (places_of program.now.places.items) pattern) k → slice_index_or slots.new k None ≡ None }
+        ≡ slice_index_or row.now (k - (range_of
+        (places_of program.now.places.items) pattern).first) None }
+    ensures others { (k : ℕ) → ¬ IsAmong (range_of (places_of program.now.places.items) pattern) k
+        → slice_index_or slots.new k None ≡ None }
 {
     slots.fill(None);
     let range = program.slots_of(pattern);
@@ -112,14 +116,17 @@ fn choose<C: Cursor>(
     prefilter: Option<&Prefilter>,
     scratch: &mut Scratch,
 ) -> Option<Ending>
-    requires guarded { MatchOption prefilter ⊤ (λ p. Guards (places_of program.now.places.items) program.now.terminator (needles_of p.now)) }
+    requires guarded { MatchOption prefilter ⊤
+        (λ p. Guards (places_of program.now.places.items) program.now.terminator
+        (needles_of p.now)) }
     requires made { scratch.old.next.entered.capacity ≡ length program.now.places.items }
     requires root { root < length program.now.places.items }
     requires stands { StandsIn (search_of program.now input.old) root }
     ensures keeps { Keeps input.old input.new }
     ensures chosen { IsRowResult (search_of program.now input.old) result scratch.new.found.items }
     ensures counted { IsCounted scratch.new.insertions result }
-    ensures few { scratch.new.insertions ≤ length program.now.places.items * (high input.old - low input.old + 2) }
+    ensures few { scratch.new.insertions ≤ length program.now.places.items
+        * (high input.old - low input.old + 2) }
     ensures none { high input.old < low input.old → scratch.new.insertions ≡ 0 }
     ensures same { IsSame scratch.old scratch.new }
 {
@@ -161,8 +168,11 @@ fn choose_in<C: Cursor>(
     prefilter: Option<&Prefilter>,
     slots: &mut [Option<usize>],
 ) -> Option<Ending>
-    requires guarded { MatchOption prefilter ⊤ (λ p. Guards (places_of program.now.places.items) program.now.terminator (needles_of p.now)) }
-    requires made { IsCacheFor (length program.now.places.items) (row_width (places_of program.now.places.items) (length slots.old)) cache.old }
+    requires guarded { MatchOption prefilter ⊤
+        (λ p. Guards (places_of program.now.places.items) program.now.terminator
+        (needles_of p.now)) }
+    requires made { IsCacheFor (length program.now.places.items)
+        (row_width (places_of program.now.places.items) (length slots.old)) cache.old }
     requires root { root < length program.now.places.items }
     requires stands { StandsIn (search_of program.now input.old) root }
     ensures keeps { Keeps input.old input.new }
@@ -170,7 +180,8 @@ fn choose_in<C: Cursor>(
     ensures stays { IfNone result (slots.new ≡ slots.old) }
     ensures cache { cache.new ≡ record cache.old { insertions = cache.new.insertions } }
     ensures counted { IsCounted cache.new.insertions result }
-    ensures few { cache.new.insertions ≤ length program.now.places.items * (high input.old - low input.old + 2) }
+    ensures few { cache.new.insertions ≤ length program.now.places.items
+        * (high input.old - low input.old + 2) }
     ensures none { high input.old < low input.old → cache.new.insertions ≡ 0 }
 {
     cache.scratch.widen(program.width(slots.len()));
@@ -195,17 +206,22 @@ pub fn search_slots<C: Cursor>(
     prefilter: Option<&Prefilter>,
     slots: &mut [Option<usize>],
 ) -> Option<PatternID>
-    requires guarded { MatchOption prefilter ⊤ (λ p. Guards (places_of program.now.places.items) program.now.terminator (needles_of p.now)) }
-    requires made { IsCacheFor (length program.now.places.items) (row_width (places_of program.now.places.items) (length slots.old)) cache.old }
+    requires guarded { MatchOption prefilter ⊤
+        (λ p. Guards (places_of program.now.places.items) program.now.terminator
+        (needles_of p.now)) }
+    requires made { IsCacheFor (length program.now.places.items)
+        (row_width (places_of program.now.places.items) (length slots.old)) cache.old }
     ensures keeps { Keeps input.old input.new }
-    ensures pattern { result ≡ option_map (λ (m : Found). m.pattern) (answer (search_of program.now input.old)) }
+    ensures pattern { result ≡ option_map (λ (m : Found). m.pattern)
+        (answer (search_of program.now input.old)) }
     ensures long { length slots.new ≡ length slots.old }
     ensures slots { MatchOption result
         (slots.new ≡ slots.old)
         (λ _. Some slots.new ≡ groups (search_of program.now input.old) (length slots.old)) }
     ensures cache { cache.new ≡ record cache.old { insertions = cache.new.insertions } }
     ensures none { high input.old < low input.old → cache.new.insertions ≡ 0 }
-    ensures few { cache.new.insertions ≤ length program.now.places.items * (high input.old - low input.old + 2) }
+    ensures few { cache.new.insertions ≤ length program.now.places.items
+        * (high input.old - low input.old + 2) }
     ensures counted { (m : Found) → answer (search_of program.now input.old) ≡ Some m
         → m.end - m.start + 1 ≤ cache.new.insertions }
 {
@@ -224,19 +240,24 @@ pub fn search_slots_from<C: Cursor>(
     prefilter: Option<&Prefilter>,
     slots: &mut [Option<usize>],
 ) -> Option<PatternID>
-    requires guarded { MatchOption prefilter ⊤ (λ p. Guards (places_of program.now.places.items) program.now.terminator (needles_of p.now)) }
-    requires made { IsCacheFor (length program.now.places.items) (row_width (places_of program.now.places.items) (length slots.old)) cache.old }
+    requires guarded { MatchOption prefilter ⊤
+        (λ p. Guards (places_of program.now.places.items) program.now.terminator
+        (needles_of p.now)) }
+    requires made { IsCacheFor (length program.now.places.items)
+        (row_width (places_of program.now.places.items) (length slots.old)) cache.old }
     requires root { root < length program.now.places.items }
     requires stands { StandsIn (search_of program.now input.old) root }
     ensures keeps { Keeps input.old input.new }
-    ensures pattern { result ≡ option_map (λ (m : Found). m.pattern) (answer (search_of program.now input.old)) }
+    ensures pattern { result ≡ option_map (λ (m : Found). m.pattern)
+        (answer (search_of program.now input.old)) }
     ensures long { length slots.new ≡ length slots.old }
     ensures slots { MatchOption result
         (slots.new ≡ slots.old)
         (λ _. Some slots.new ≡ groups (search_of program.now input.old) (length slots.old)) }
     ensures cache { cache.new ≡ record cache.old { insertions = cache.new.insertions } }
     ensures none { high input.old < low input.old → cache.new.insertions ≡ 0 }
-    ensures few { cache.new.insertions ≤ length program.now.places.items * (high input.old - low input.old + 2) }
+    ensures few { cache.new.insertions ≤ length program.now.places.items
+        * (high input.old - low input.old + 2) }
     ensures counted { (m : Found) → answer (search_of program.now input.old) ≡ Some m
         → m.end - m.start + 1 ≤ cache.new.insertions }
 {
@@ -261,14 +282,17 @@ pub fn find<C: Cursor>(
     program: &Program,
     prefilter: Option<&Prefilter>,
 ) -> Option<Match>
-    requires guarded { MatchOption prefilter ⊤ (λ p. Guards (places_of program.now.places.items) program.now.terminator (needles_of p.now)) }
+    requires guarded { MatchOption prefilter ⊤
+        (λ p. Guards (places_of program.now.places.items) program.now.terminator
+        (needles_of p.now)) }
     requires made { IsCacheFor (length program.now.places.items) 0 cache.old }
     ensures keeps { Keeps input.old input.new }
     ensures found { result ≡ answer (search_of program.now input.old) }
     ensures bounds { MatchOption result ⊤ (IsWithinBounds input.old) }
     ensures cache { cache.new ≡ record cache.old { insertions = cache.new.insertions } }
     ensures none { high input.old < low input.old → cache.new.insertions ≡ 0 }
-    ensures few { cache.new.insertions ≤ length program.now.places.items * (high input.old - low input.old + 2) }
+    ensures few { cache.new.insertions ≤ length program.now.places.items
+        * (high input.old - low input.old + 2) }
     ensures counted { MatchOption result ⊤ (λ m. m.end - m.start + 1 ≤ cache.new.insertions) }
 {
     let Some(end) = choose_in(cache, input, program, 0, prefilter, &mut []) else {
@@ -292,7 +316,9 @@ pub(crate) fn meets<C: Cursor>(
     prefilter: Option<&Prefilter>,
     scratch: &mut Scratch,
 ) -> Option<Ending>
-    requires guarded { MatchOption prefilter ⊤ (λ p. Guards (places_of program.now.places.items) program.now.terminator (needles_of p.now)) }
+    requires guarded { MatchOption prefilter ⊤
+        (λ p. Guards (places_of program.now.places.items) program.now.terminator
+        (needles_of p.now)) }
     requires made { scratch.old.next.entered.capacity ≡ length program.now.places.items }
     ensures keeps { Keeps input.old input.new }
     ensures found { is_some result ≡ is_some (greatest (search_of program.now input.old)) }
@@ -325,7 +351,9 @@ pub fn meets_any<C: Cursor>(
     program: &Program,
     prefilter: Option<&Prefilter>,
 ) -> bool
-    requires guarded { MatchOption prefilter ⊤ (λ p. Guards (places_of program.now.places.items) program.now.terminator (needles_of p.now)) }
+    requires guarded { MatchOption prefilter ⊤
+        (λ p. Guards (places_of program.now.places.items) program.now.terminator
+        (needles_of p.now)) }
     requires made { IsCacheFor (length program.now.places.items) 0 cache.old }
     ensures keeps { Keeps input.old input.new }
     ensures found { result ≡ is_some (greatest (search_of program.now input.old)) }

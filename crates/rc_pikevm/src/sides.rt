@@ -32,7 +32,8 @@ static WORDS: [bool; 256] = [
 /// `rc_program::look::holds` defines it. Between ASCII bytes no character is decoded.
 #[inline(always)]
 pub fn holds(look: Look, terminator: u8, before: &[u8], after: &[u8]) -> bool
-    ensures { result ≡ holds_between terminator (side_before before.now) (side_after after.now) look }
+    ensures { result ≡ holds_between terminator (side_before before.now)
+        (side_after after.now) look }
 {
     if before.is_empty() || after.is_empty() {
         return look::holds(look, terminator, before, after);
@@ -48,7 +49,8 @@ pub fn holds(look: Look, terminator: u8, before: &[u8], after: &[u8]) -> bool
 fn holds_in_ascii(look: Look, terminator: u8, before: &[u8], after: &[u8]) -> bool
     requires before { IsPlain (side_before before.now) }
     requires after { IsPlain (side_after after.now) }
-    ensures { result ≡ holds_between terminator (side_before before.now) (side_after after.now) look }
+    ensures { result ≡ holds_between terminator (side_before before.now)
+        (side_after after.now) look }
 {
     let ends = ends_word(before);
     let begins = begins_word(after);

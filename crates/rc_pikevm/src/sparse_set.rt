@@ -70,8 +70,10 @@ impl SparseSet {
     /// Inserts the number, and returns whether it is new.
     pub fn insert(&mut self, number: usize) -> bool
         requires { number < self.old.capacity }
-        ensures member { MatchBool result (¬ Has self.old.items number) (Has self.old.items number) }
-        ensures after { MatchBool result (self.new ≡ record self.old { items = self.old.items ++ number ∷ [] })
+        ensures member { MatchBool result (¬ Has self.old.items number)
+            (Has self.old.items number) }
+        ensures after { MatchBool result
+            (self.new ≡ record self.old { items = self.old.items ++ number ∷ [] })
             (self.new ≡ self.old) }
         ensures few { length self.new.items ≤ self.new.capacity }
     {

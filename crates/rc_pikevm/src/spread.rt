@@ -15,7 +15,8 @@ use crate::spot::Spot;
 /// Whether the new walk is greater than the old one: by a greater end, then a lesser start, then a
 /// lesser pattern.
 fn is_greater(old: Ending, new: Ending) -> bool
-    ensures { MatchBool result (IsNoGreater (span_of old) (span_of new)) (IsNoGreater (span_of new) (span_of old)) }
+    ensures { MatchBool result (IsNoGreater (span_of old) (span_of new))
+        (IsNoGreater (span_of new) (span_of old)) }
 {
     if new.end != old.end {
         return new.end > old.end;
@@ -45,17 +46,22 @@ fn visit(spot: &Spot, place: usize, start: usize, best: &mut Option<Ending>, gro
     ghost text: { Searched }
     requires here { IsHere spot.now text }
     requires place_in { place < size spot.now.course }
-    requires sound { HasRoom (size spot.now.course) spot.now.course.hi spot.now.at growth.old.threads growth.old.entered }
+    requires sound { HasRoom (size spot.now.course) spot.now.course.hi spot.now.at
+        growth.old.threads growth.old.entered }
     requires ordered { IsOrdered start growth.old.threads.items }
     requires width { growth.old.threads.width ≡ 0 }
     requires frames { AllInside (size spot.now.course) 0 (reverse growth.old.stack.items) }
     requires deep { vec_len growth.old.stack ≤ length growth.old.entered.items }
     ensures seeks { (below : List Runner) (o : Option Found) → BeginFrom start below
-        → Seeks (seen_from spot.now text) spot.now.at growth.new.threads.items growth.new.entered.items
+        → Seeks (seen_from spot.now text) spot.now.at growth.new.threads.items
+        growth.new.entered.items
         (runners_of start spot.now.at (reverse growth.new.stack.items) ++ below) best.new o
-        → Seeks (seen_from spot.now text) spot.now.at growth.old.threads.items growth.old.entered.items
-        ((start, (place, spot.now.at)) ∷ (runners_of start spot.now.at (reverse growth.old.stack.items) ++ below)) best.old o }
-    ensures grown { IsGrown (size spot.now.course) spot.now.course.hi start spot.now.at growth.old.threads growth.old.entered
+        → Seeks (seen_from spot.now text) spot.now.at growth.old.threads.items
+        growth.old.entered.items
+        ((start, (place, spot.now.at)) ∷ (runners_of start spot.now.at
+        (reverse growth.old.stack.items) ++ below)) best.old o }
+    ensures grown { IsGrown (size spot.now.course) spot.now.course.hi start spot.now.at
+        growth.old.threads growth.old.entered
         growth.new.threads growth.new.entered }
     ensures ordered { IsOrdered start growth.new.threads.items }
     ensures counted { StaysCounted start spot.now.at best.old best.new }
@@ -87,14 +93,18 @@ pub fn spread(
     ghost text: { Searched }
     requires here { IsHere spot.now text }
     requires root_in { root < size spot.now.course }
-    requires sound { HasRoom (size spot.now.course) spot.now.course.hi spot.now.at growth.old.threads growth.old.entered }
+    requires sound { HasRoom (size spot.now.course) spot.now.course.hi spot.now.at
+        growth.old.threads growth.old.entered }
     requires ordered { IsOrdered start growth.old.threads.items }
     requires width { growth.old.threads.width ≡ 0 }
     ensures seeks { (below : List Runner) (o : Option Found) → BeginFrom start below
-        → Seeks (seen_from spot.now text) spot.now.at growth.new.threads.items growth.new.entered.items below best.new o
-        → Seeks (seen_from spot.now text) spot.now.at growth.old.threads.items growth.old.entered.items
+        → Seeks (seen_from spot.now text) spot.now.at growth.new.threads.items
+        growth.new.entered.items below best.new o
+        → Seeks (seen_from spot.now text) spot.now.at growth.old.threads.items
+        growth.old.entered.items
         ((start, (root, spot.now.at)) ∷ below) best.old o }
-    ensures grown { IsGrown (size spot.now.course) spot.now.course.hi start spot.now.at growth.old.threads growth.old.entered
+    ensures grown { IsGrown (size spot.now.course) spot.now.course.hi start spot.now.at
+        growth.old.threads growth.old.entered
         growth.new.threads growth.new.entered }
     ensures ordered { IsOrdered start growth.new.threads.items }
     ensures counted { StaysCounted start spot.now.at best.old best.new }

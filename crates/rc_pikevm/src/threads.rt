@@ -53,7 +53,8 @@ impl Threads {
 
     /// Allocates for `room` threads of at most `most` slots each.
     pub fn new(alloc: Global, room: usize, most: usize) -> Result<Threads, AllocError>
-        ensures { IfOk result (λ t. t ≡ record { items = []; room = room; most = most; width = 0 }) }
+        ensures { IfOk result (λ t. t
+            ≡ record { items = []; room = room; most = most; width = 0 }) }
     {
         let Some(cells) = room.checked_mul(most) else {
             return Err(AllocError);
@@ -100,7 +101,8 @@ impl Threads {
     /// Replaces the only thread's head, and keeps its slots.
     pub fn move_first(&mut self, head: BareThread)
         requires { length self.old.items ≡ 1 }
-        ensures { (t : Thread) → self.old.items ≡ t ∷ [] → self.new ≡ record self.old { items = thread_of head t.slots ∷ [] } }
+        ensures { (t : Thread) → self.old.items ≡ t ∷ []
+            → self.new ≡ record self.old { items = thread_of head t.slots ∷ [] } }
     {
         self.heads[0] = head;
     }
@@ -123,7 +125,10 @@ impl Threads {
     pub fn push(&mut self, head: BareThread, slots: &[Option<usize>])
         requires room { length self.old.items < self.old.room }
         requires width { length slots.now ≡ self.old.width }
-        ensures { self.new ≡ record self.old { items = self.old.items ++ thread_of head slots.now ∷ [] } }
+        ensures { self.new ≡ record self.old {
+          items = self.old.items ++ thread_of head slots.now
+              ∷ [];
+        } }
     {
         self.heads.push_reserved(head);
         append(&mut self.rows, slots);

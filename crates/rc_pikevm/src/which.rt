@@ -49,18 +49,23 @@ fn visit(spot: &Spot, place: usize, start: usize, set: &mut PatternSet, growth: 
     ghost text: { Searched }
     requires here { IsHere spot.now text }
     requires place_in { place < size spot.now.course }
-    requires sound { HasRoom (size spot.now.course) spot.now.course.hi spot.now.at growth.old.threads growth.old.entered }
+    requires sound { HasRoom (size spot.now.course) spot.now.course.hi spot.now.at
+        growth.old.threads growth.old.entered }
     requires width { growth.old.threads.width ≡ 0 }
     requires frames { AllInside (size spot.now.course) 0 (reverse growth.old.stack.items) }
     requires deep { vec_len growth.old.stack ≤ length growth.old.entered.items }
     ensures same { (below : List Pair) → AreSame (length set.old)
-        (Owed (seen_from spot.now text) spot.now.at growth.old.threads.items growth.old.entered.items
-        ((place, spot.now.at) ∷ (explored spot.now.at (reverse growth.old.stack.items) ++ below)) set.old)
-        (Owed (seen_from spot.now text) spot.now.at growth.new.threads.items growth.new.entered.items
+        (Owed (seen_from spot.now text) spot.now.at growth.old.threads.items
+        growth.old.entered.items
+        ((place, spot.now.at) ∷ (explored spot.now.at (reverse growth.old.stack.items)
+        ++ below)) set.old)
+        (Owed (seen_from spot.now text) spot.now.at growth.new.threads.items
+        growth.new.entered.items
         (explored spot.now.at (reverse growth.new.stack.items) ++ below) set.new) }
     ensures long { length set.new ≡ length set.old }
     ensures more { KeepsMarks set.old set.new }
-    ensures grown { IsGrown (size spot.now.course) spot.now.course.hi start spot.now.at growth.old.threads growth.old.entered
+    ensures grown { IsGrown (size spot.now.course) spot.now.course.hi start spot.now.at
+        growth.old.threads growth.old.entered
         growth.new.threads growth.new.entered }
     ensures some { 0 < length growth.new.entered.items }
     ensures frames { AllInside (size spot.now.course) 0 (reverse growth.new.stack.items) }
@@ -79,14 +84,18 @@ fn spread(spot: &Spot, root: usize, start: usize, set: &mut PatternSet, growth: 
     ghost text: { Searched }
     requires here { IsHere spot.now text }
     requires root_in { root < size spot.now.course }
-    requires sound { HasRoom (size spot.now.course) spot.now.course.hi spot.now.at growth.old.threads growth.old.entered }
+    requires sound { HasRoom (size spot.now.course) spot.now.course.hi spot.now.at
+        growth.old.threads growth.old.entered }
     requires width { growth.old.threads.width ≡ 0 }
     ensures same { (below : List Pair) → AreSame (length set.old)
-        (Owed (seen_from spot.now text) spot.now.at growth.old.threads.items growth.old.entered.items ((root, spot.now.at) ∷ below) set.old)
-        (Owed (seen_from spot.now text) spot.now.at growth.new.threads.items growth.new.entered.items below set.new) }
+        (Owed (seen_from spot.now text) spot.now.at growth.old.threads.items
+        growth.old.entered.items ((root, spot.now.at) ∷ below) set.old)
+        (Owed (seen_from spot.now text) spot.now.at growth.new.threads.items
+        growth.new.entered.items below set.new) }
     ensures long { length set.new ≡ length set.old }
     ensures more { KeepsMarks set.old set.new }
-    ensures grown { IsGrown (size spot.now.course) spot.now.course.hi start spot.now.at growth.old.threads growth.old.entered
+    ensures grown { IsGrown (size spot.now.course) spot.now.course.hi start spot.now.at
+        growth.old.threads growth.old.entered
         growth.new.threads growth.new.entered }
 {
     growth.stack.clear();
@@ -104,20 +113,27 @@ fn spread(spot: &Spot, root: usize, start: usize, set: &mut PatternSet, growth: 
 fn step(spot: &Spot, curr: &Threads, set: &mut PatternSet, growth: &mut Growth)
     ghost text: { Searched }
     requires here { IsHere spot.now text }
-    requires inside { AllIn (size spot.now.course) spot.now.at (min spot.now.course.hi (spot.now.at + 3)) curr.now.items }
+    requires inside { AllIn (size spot.now.course) spot.now.at
+        (min spot.now.course.hi (spot.now.at + 3)) curr.now.items }
     requires widths { (curr.now.width ≡ 0) × (growth.old.threads.width ≡ 0) }
     requires empty { (growth.old.threads.items ≡ []) × (growth.old.entered.items ≡ []) }
     requires capacity { growth.old.entered.capacity ≡ size spot.now.course }
-    requires room { count_from (spot.now.at + 1) curr.now.items + size spot.now.course ≤ growth.old.threads.room }
+    requires room { count_from (spot.now.at + 1) curr.now.items + size spot.now.course
+        ≤ growth.old.threads.room }
     ensures same { (below : List Pair) → AreSame (length set.old)
-        (Owed (seen_from spot.now text) spot.now.at [] [] (map going curr.now.items ++ below) set.old)
-        (Owed (seen_from spot.now text) spot.now.at growth.new.threads.items growth.new.entered.items below set.new) }
+        (Owed (seen_from spot.now text) spot.now.at [] []
+        (map going curr.now.items ++ below) set.old)
+        (Owed (seen_from spot.now text) spot.now.at growth.new.threads.items
+        growth.new.entered.items below set.new) }
     ensures long { length set.new ≡ length set.old }
     ensures more { KeepsMarks set.old set.new }
-    ensures sound { HasRoom (size spot.now.course) spot.now.course.hi spot.now.at growth.new.threads growth.new.entered }
-    ensures kept { (growth.new.threads.room ≡ growth.old.threads.room) × (growth.new.threads.most ≡ growth.old.threads.most)
+    ensures sound { HasRoom (size spot.now.course) spot.now.course.hi spot.now.at growth.new.threads
+        growth.new.entered }
+    ensures kept { (growth.new.threads.room ≡ growth.old.threads.room)
+        × (growth.new.threads.most ≡ growth.old.threads.most)
         × (growth.new.threads.width ≡ growth.old.threads.width) }
-    ensures counts { (q : ℕ) → count_from q growth.new.threads.items ≤ count_from q curr.now.items + length growth.new.entered.items }
+    ensures counts { (q : ℕ) → count_from q growth.new.threads.items ≤ count_from q curr.now.items
+        + length growth.new.entered.items }
     ensures begun { (x : ℕ) → AllFrom x curr.now.items → AllFrom x growth.new.threads.items }
 {
     'threads: for index in 0..curr.len() {
@@ -135,23 +151,31 @@ fn step(spot: &Spot, curr: &Threads, set: &mut PatternSet, growth: &mut Growth)
 fn advance(spot: &Spot, may_begin: bool, curr: &Threads, set: &mut PatternSet, growth: &mut Growth)
     ghost text: { Searched }
     requires here { IsHere spot.now text }
-    requires inside { AllIn (size spot.now.course) spot.now.at (min spot.now.course.hi (spot.now.at + 3)) curr.now.items }
+    requires inside { AllIn (size spot.now.course) spot.now.at
+        (min spot.now.course.hi (spot.now.at + 3)) curr.now.items }
     requires widths { (curr.now.width ≡ 0) × (growth.old.threads.width ≡ 0) }
     requires empty { (growth.old.threads.items ≡ []) × (growth.old.entered.items ≡ []) }
     requires capacity { growth.old.entered.capacity ≡ size spot.now.course }
-    requires room { count_from (spot.now.at + 1) curr.now.items + size spot.now.course ≤ growth.old.threads.room }
+    requires room { count_from (spot.now.at + 1) curr.now.items + size spot.now.course
+        ≤ growth.old.threads.room }
     requires begins { MayBegin (seen_from spot.now text) spot.now.at may_begin }
     ensures same { AreSame (length set.old)
-        (Owed (seen_from spot.now text) spot.now.at [] [] (map going curr.now.items ++ entering spot.now.at spot.now.course.last) set.old)
-        (Owed (seen_from spot.now text) spot.now.at growth.new.threads.items growth.new.entered.items
+        (Owed (seen_from spot.now text) spot.now.at [] []
+        (map going curr.now.items ++ entering spot.now.at spot.now.course.last) set.old)
+        (Owed (seen_from spot.now text) spot.now.at growth.new.threads.items
+        growth.new.entered.items
         (entering (spot.now.at + 1) spot.now.course.last) set.new) }
     ensures long { length set.new ≡ length set.old }
     ensures more { KeepsMarks set.old set.new }
-    ensures sound { HasRoom (size spot.now.course) spot.now.course.hi spot.now.at growth.new.threads growth.new.entered }
-    ensures kept { (growth.new.threads.room ≡ growth.old.threads.room) × (growth.new.threads.most ≡ growth.old.threads.most)
+    ensures sound { HasRoom (size spot.now.course) spot.now.course.hi spot.now.at growth.new.threads
+        growth.new.entered }
+    ensures kept { (growth.new.threads.room ≡ growth.old.threads.room)
+        × (growth.new.threads.most ≡ growth.old.threads.most)
         × (growth.new.threads.width ≡ growth.old.threads.width) }
-    ensures counts { (q : ℕ) → count_from q growth.new.threads.items ≤ count_from q curr.now.items + length growth.new.entered.items }
-    ensures begun { (x : ℕ) → x ≤ spot.now.at → AllFrom x curr.now.items → AllFrom x growth.new.threads.items }
+    ensures counts { (q : ℕ) → count_from q growth.new.threads.items ≤ count_from q curr.now.items
+        + length growth.new.entered.items }
+    ensures begun { (x : ℕ) → x ≤ spot.now.at → AllFrom x curr.now.items
+        → AllFrom x growth.new.threads.items }
 {
     step(spot, curr, set, growth);
     if !may_begin {
@@ -168,17 +192,20 @@ fn turn(spot: &Spot, may_begin: bool, set: &mut PatternSet, scratch: &mut Scratc
     ghost text: { Searched }
     requires here { IsHere spot.now text }
     requires made { scratch.old.next.entered.capacity ≡ size spot.now.course }
-    requires lined { IsLined (size spot.now.course) spot.now.course.hi 0 spot.now.at scratch.old.insertions scratch.old.curr }
+    requires lined { IsLined (size spot.now.course) spot.now.course.hi 0 spot.now.at
+        scratch.old.insertions scratch.old.curr }
     requires small { scratch.old.insertions + size spot.now.course < 2 ^ 128 }
     requires begins { MayBegin (seen_from spot.now text) spot.now.at may_begin }
     ensures same { AreSame (length set.old)
         (Owed (seen_from spot.now text) spot.now.at [] []
         (map going scratch.old.curr.items ++ entering spot.now.at spot.now.course.last) set.old)
         (Owed (seen_from spot.now text) (spot.now.at + 1) [] []
-        (map going scratch.new.curr.items ++ entering (spot.now.at + 1) spot.now.course.last) set.new) }
+        (map going scratch.new.curr.items
+        ++ entering (spot.now.at + 1) spot.now.course.last) set.new) }
     ensures long { length set.new ≡ length set.old }
     ensures more { KeepsMarks set.old set.new }
-    ensures lined { IsLined (size spot.now.course) spot.now.course.hi 0 (spot.now.at + 1) scratch.new.insertions scratch.new.curr }
+    ensures lined { IsLined (size spot.now.course) spot.now.course.hi 0
+        (spot.now.at + 1) scratch.new.insertions scratch.new.curr }
     ensures kept { IsSame scratch.old scratch.new }
     ensures few { scratch.new.insertions ≤ scratch.old.insertions + size spot.now.course }
 {
@@ -207,7 +234,8 @@ fn first_absent(set: &PatternSet, first: usize, last: usize) -> usize
 /// Returns the range of pattern numbers, end excluded, whose walks count and which the set can
 /// hold.
 fn wanted(pattern: Option<usize>, patterns: usize, set: &PatternSet) -> (usize, usize)
-    ensures { (p : ℕ) → p < patterns → p < length set.now → IsTrue (is_match_place pattern (accept p)) → (result.0 ≤ p) × (p < result.1) }
+    ensures { (p : ℕ) → p < patterns → p < length set.now
+        → IsTrue (is_match_place pattern (accept p)) → (result.0 ≤ p) × (p < result.1) }
 {
     let end = patterns.min(set.capacity());
     match pattern {
@@ -229,7 +257,8 @@ fn next_start<C: Cursor>(
     requires inside { (at ≤ course.hi) × (course.hi ≡ high input.old) }
     requires known { known ≤ course.hi + 1 }
     requires guarded { MatchOption prefilter ⊤
-        (λ p. Guards (places_of course.program.now.places.items) course.program.now.terminator (needles_of p.now)) }
+        (λ p. Guards (places_of course.program.now.places.items) course.program.now.terminator
+        (needles_of p.now)) }
     requires none { HasNoneBefore (seen_by course input.old) at known }
     ensures keeps { Keeps input.old input.new }
     ensures within { (at ≤ result) × (result ≤ course.entry.hi + 1) }
@@ -284,9 +313,11 @@ fn pass<C: Cursor>(
     requires made { scratch.old.next.entered.capacity ≡ size course }
     requires width { scratch.old.next.threads.width ≡ 0 }
     requires guarded { MatchOption prefilter ⊤
-        (λ p. Guards (places_of course.program.now.places.items) course.program.now.terminator (needles_of p.now)) }
+        (λ p. Guards (places_of course.program.now.places.items) course.program.now.terminator
+        (needles_of p.now)) }
     ensures keeps { Keeps input.old input.new }
-    ensures marks { MarksFrom (seen_by course.entry text) from course.entry.last wanted.0 wanted.1 set.old set.new }
+    ensures marks { MarksFrom (seen_by course.entry text) from course.entry.last wanted.0 wanted.1
+        set.old set.new }
     ensures kept { IsSame scratch.old scratch.new }
 {
     scratch.insertions = 0;
@@ -331,7 +362,9 @@ fn choose<C: Cursor>(
     requires first { AreOfFirst patterns (places_of program.now.places.items) }
     requires made { scratch.old.next.entered.capacity ≡ length program.now.places.items }
     requires width { scratch.old.next.threads.width ≡ 0 }
-    requires guarded { MatchOption prefilter ⊤ (λ p. Guards (places_of program.now.places.items) program.now.terminator (needles_of p.now)) }
+    requires guarded { MatchOption prefilter ⊤
+        (λ p. Guards (places_of program.now.places.items) program.now.terminator
+        (needles_of p.now)) }
     ensures keeps { Keeps input.old input.new }
     ensures adds { AddsSpelled (seen program.now input.old) set.old set.new }
     ensures kept { IsSame scratch.old scratch.new }
@@ -371,7 +404,9 @@ pub fn which_patterns<C: Cursor>(
 )
     requires first { AreOfFirst patterns (places_of program.now.places.items) }
     requires made { IsCacheFor (length program.now.places.items) 0 cache.old }
-    requires guarded { MatchOption prefilter ⊤ (λ p. Guards (places_of program.now.places.items) program.now.terminator (needles_of p.now)) }
+    requires guarded { MatchOption prefilter ⊤
+        (λ p. Guards (places_of program.now.places.items) program.now.terminator
+        (needles_of p.now)) }
     ensures keeps { Keeps input.old input.new }
     ensures adds { AddsSpelled (search_of program.now input.old) set.old set.new }
     ensures cache { cache.new ≡ record cache.old { insertions = cache.new.insertions } }

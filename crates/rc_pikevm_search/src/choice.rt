@@ -34,12 +34,16 @@ pub fn choose(
     requires bounds { All HasBounds (map meaning hirs.now) }
     requires patterns { length hirs.now ≤ most_patterns }
     ensures sound { (q : Sought) → q.patterns ≡ map meaning hirs.now
-        → IfOk result (MayGoBy (program (shown q.grouped q.patterns)) q.terminator (passes_over q)) }
-    ensures exact { IfOk result (λ s. answering s ≡ (if is_auto then exact_needles (map meaning hirs.now) else None)) }
+        → IfOk result (MayGoBy (program (shown q.grouped q.patterns)) q.terminator
+        (passes_over q)) }
+    ensures exact { IfOk result (λ s. answering s
+        ≡ (if is_auto then exact_needles (map meaning hirs.now) else None)) }
     ensures asked { is_auto ≡ false
-        → IfOk result (λ s. IfSome (guarding s) (λ needles. option_map (λ p. needles_of p.now) asked.entry ≡ Some needles)) }
+        → IfOk result (λ s. IfSome (guarding s)
+        (λ needles. option_map (λ p. needles_of p.now) asked.entry ≡ Some needles)) }
     ensures guards { IfOk result (λ s. answering s ≡ None
-        → IsGuard (map meaning hirs.now) (option_map (λ p. needles_of p.now) asked.entry) is_auto (guarding s)) }
+        → IsGuard (map meaning hirs.now) (option_map (λ p. needles_of p.now) asked.entry) is_auto
+        (guarding s)) }
 {
     if is_auto {
         if let Some(needles) = exact_needles(alloc, hirs)? {
@@ -60,10 +64,13 @@ fn guard(
     asked: Option<&Prefilter>,
     is_auto: bool,
 ) -> Result<Option<Prefilter>, AllocError>
-    ensures covers { IfOk result (λ found. IfSome found (λ p. (t : Text) → Covers t (map meaning hirs.now) (needles_of p))) }
+    ensures covers { IfOk result (λ found. IfSome found
+        (λ p. (t : Text) → Covers t (map meaning hirs.now) (needles_of p))) }
     ensures asked { is_auto ≡ false
-        → IfOk result (λ found. IfSome found (λ p. option_map (λ a. needles_of a.now) asked.entry ≡ Some (needles_of p))) }
-    ensures guards { IfOk result (λ found. IsGuard (map meaning hirs.now) (option_map (λ a. needles_of a.now) asked.entry) is_auto
+        → IfOk result (λ found. IfSome found
+        (λ p. option_map (λ a. needles_of a.now) asked.entry ≡ Some (needles_of p))) }
+    ensures guards { IfOk result (λ found. IsGuard (map meaning hirs.now)
+        (option_map (λ a. needles_of a.now) asked.entry) is_auto
         (option_map needles_of found)) }
 {
     let Some(prefixes) = prefixes(alloc, hirs)? else {

@@ -73,7 +73,8 @@ impl Engine {
     pub fn is_match<C: Cursor>(&self, cache: &mut Cache, input: &mut Input<C>) -> bool
         requires made { IsEngineCache self.now 0 cache.old }
         ensures keeps { Keeps input.old input.new }
-        ensures found { result ≡ is_some (answer_by self.now.kind (engine_search self.now input.old)) }
+        ensures found { result ≡ is_some
+            (answer_by self.now.kind (engine_search self.now input.old)) }
         ensures cache { IsSameCache cache.old cache.new }
     {
         if let Some(needles) = literals_of(&self.literals, self.kind) {
@@ -99,11 +100,13 @@ impl Engine {
     ) -> Option<PatternID>
         requires made { IsEngineCache self.now (length slots.old) cache.old }
         ensures keeps { Keeps input.old input.new }
-        ensures pattern { result ≡ option_map (λ (m : Found). m.pattern) (answer_by self.now.kind (engine_search self.now input.old)) }
+        ensures pattern { result ≡ option_map (λ (m : Found). m.pattern)
+            (answer_by self.now.kind (engine_search self.now input.old)) }
         ensures long { length slots.new ≡ length slots.old }
         ensures slots { MatchOption result
             (slots.new ≡ slots.old)
-            (λ _. Some slots.new ≡ slots_by self.now.kind (engine_search self.now input.old) (length slots.old)) }
+            (λ _. Some slots.new ≡ slots_by self.now.kind (engine_search self.now input.old)
+            (length slots.old)) }
         ensures cache { IsSameCache cache.old cache.new }
     {
         search_slots_by_kind(
@@ -128,9 +131,12 @@ impl Engine {
         requires made { IsEngineCache self.now 0 cache.old }
         ensures moves { IsMoved input.old input.new }
         ensures found { result
-            ≡ next_match begin_of end_of (answer_by_from self.now.kind (engine_search self.now input.old)) input.old.span.start last }
+            ≡ next_match begin_of end_of
+            (answer_by_from self.now.kind
+            (engine_search self.now input.old)) input.old.span.start last }
         ensures start { input.new.span.start
-            ≡ next_start self.now.kind (engine_search self.now input.old) input.old.span.start last }
+            ≡ next_start self.now.kind (engine_search self.now input.old) input.old.span.start
+            last }
         ensures there { result ≡ answer_by self.now.kind (engine_search self.now input.new) }
         ensures within { IfSome result (IsWithinBounds input.new) }
         ensures cache { IsSameCache cache.old cache.new }

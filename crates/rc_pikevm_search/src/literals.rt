@@ -50,7 +50,8 @@ impl Literals {
 /// Returns the needles with which each walk begins, if there are any.
 pub fn guards_of(literals: &Literals) -> Option<&Prefilter>
     ensures value { option_map (λ p. needles_of p.now) result ≡ guarding literals.now }
-    ensures sound { (places : List PlaceOf) (terminator : ℕ) (over : Bool) → MayGoBy places terminator over literals.now
+    ensures sound { (places : List PlaceOf) (terminator : ℕ) (over : Bool)
+        → MayGoBy places terminator over literals.now
         → MatchOption result ⊤ (λ p. Guards places terminator (needles_of p.now)) }
 {
     match literals {
@@ -63,8 +64,10 @@ pub fn guards_of(literals: &Literals) -> Option<&Prefilter>
 /// Returns the needles that alone decide a search for this kind of match, if there are any.
 pub fn literals_of(literals: &Literals, kind: MatchKind) -> Option<&OwnedNeedles>
     ensures value { option_map (λ n. owned_of n.now) result ≡ answering_for kind literals.now }
-    ensures sound { (places : List PlaceOf) (terminator : ℕ) (over : Bool) → MayGoBy places terminator over literals.now
-        → MatchOption result ⊤ (λ n. (kind ≡ LeftmostFirst) × AreAnswers places terminator over (owned_of n.now)) }
+    ensures sound { (places : List PlaceOf) (terminator : ℕ) (over : Bool)
+        → MayGoBy places terminator over literals.now
+        → MatchOption result ⊤ (λ n. (kind ≡ LeftmostFirst)
+        × AreAnswers places terminator over (owned_of n.now)) }
 {
     match (literals, kind) {
         (Literals::Exact(needles), MatchKind::LeftmostFirst) => Some(needles),

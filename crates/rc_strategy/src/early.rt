@@ -69,7 +69,8 @@ fn find_by_pass<C: Cursor>(
     requires made { IsEngineCache engine.now 0 cache.old }
     requires early { is_early input.old.earliest (engine_search engine.now input.old) ≡ true }
     ensures keeps { Keeps input.old input.new }
-    ensures may { IsAnswerBy engine.now.kind input.old.earliest (engine_search engine.now input.old) result }
+    ensures may { IsAnswerBy engine.now.kind input.old.earliest
+        (engine_search engine.now input.old) result }
     ensures within { IfSome result (IsWithinBounds input.old) }
     ensures cache { IsSameCache cache.old cache.new }
 {
@@ -100,7 +101,8 @@ fn find_along<H: Halves, C: Cursor>(
     requires guards { MayGuard engines.now.engine guard }
     ensures cache { H.IsCache halves.now cache.new }
     ensures keeps { Keeps input.old input.new }
-    ensures may { IfOk result (IsAnswerBy engines.now.engine.kind input.old.earliest (engine_search engines.now.engine input.old)) }
+    ensures may { IfOk result (IsAnswerBy engines.now.engine.kind input.old.earliest
+        (engine_search engines.now.engine input.old)) }
     ensures within { IfOk result (λ found. IfSome found (IsWithinBounds input.old)) }
 {
     let aim = Aim {
@@ -125,7 +127,8 @@ fn find_by_tables<H: Halves, C: Cursor>(
     requires cache { H.IsCache halves.now cache.old }
     ensures cache { H.IsCache halves.now cache.new }
     ensures keeps { Keeps input.old input.new }
-    ensures may { IfOk result (IsAnswerBy engines.now.engine.kind input.old.earliest (engine_search engines.now.engine input.old)) }
+    ensures may { IfOk result (IsAnswerBy engines.now.engine.kind input.old.earliest
+        (engine_search engines.now.engine input.old)) }
     ensures within { IfOk result (λ found. IfSome found (IsWithinBounds input.old)) }
 {
     match engines.route(input) {
@@ -150,7 +153,8 @@ fn find_in<C: Cursor>(
 ) -> Option<Option<Match>>
     requires made { IsCacheOfBoth engines.now.lazy cache.old }
     ensures keeps { Keeps input.old input.new }
-    ensures may { IfSome result (IsAnswerBy engines.now.engine.kind input.old.earliest (engine_search engines.now.engine input.old)) }
+    ensures may { IfSome result (IsAnswerBy engines.now.engine.kind input.old.earliest
+        (engine_search engines.now.engine input.old)) }
     ensures within { IfSome result (λ found. IfSome found (IsWithinBounds input.old)) }
     ensures cache { KeepsStates engines.now.lazy cache.old cache.new }
 {
@@ -178,7 +182,8 @@ pub fn search<C: Cursor>(
 ) -> Option<Match>
     requires made { IsCacheIn engines.now 0 cache.old }
     ensures keeps { Keeps input.old input.new }
-    ensures may { IsAnswerBy engines.now.engine.kind input.old.earliest (engine_search engines.now.engine input.old) result }
+    ensures may { IsAnswerBy engines.now.engine.kind input.old.earliest
+        (engine_search engines.now.engine input.old) result }
     ensures within { IfSome result (IsWithinBounds input.old) }
     ensures cache { IsSameCacheIn engines.now cache.old cache.new }
 {
@@ -202,8 +207,10 @@ pub fn search_end<C: Cursor>(
 ) -> Option<HalfMatch>
     requires made { IsCacheIn engines.now 0 cache.old }
     ensures keeps { Keeps input.old input.new }
-    ensures may { IsHalfBy engines.now.engine.kind input.old.earliest (engine_search engines.now.engine input.old) result }
-    ensures within { IfSome result (λ half. (low input.old ≤ half.offset) × (half.offset ≤ high input.old)) }
+    ensures may { IsHalfBy engines.now.engine.kind input.old.earliest
+        (engine_search engines.now.engine input.old) result }
+    ensures within { IfSome result (λ half. (low input.old ≤ half.offset)
+        × (half.offset ≤ high input.old)) }
     ensures cache { IsSameCacheIn engines.now cache.old cache.new }
 {
     if is_early(&engines.engine, input) {
@@ -220,7 +227,8 @@ pub fn search_once<C: Cursor>(
     input: &mut Input<C>,
 ) -> Result<Option<Match>, AllocError>
     ensures keeps { Keeps input.old input.new }
-    ensures may { IfOk result (IsAnswerBy engines.now.engine.kind input.old.earliest (engine_search engines.now.engine input.old)) }
+    ensures may { IfOk result (IsAnswerBy engines.now.engine.kind input.old.earliest
+        (engine_search engines.now.engine input.old)) }
     ensures within { IfOk result (λ found. IfSome found (IsWithinBounds input.old)) }
 {
     if !is_early(&engines.engine, input) {
@@ -249,8 +257,10 @@ pub fn search_end_once<C: Cursor>(
     input: &mut Input<C>,
 ) -> Result<Option<HalfMatch>, AllocError>
     ensures keeps { Keeps input.old input.new }
-    ensures may { IfOk result (IsHalfBy engines.now.engine.kind input.old.earliest (engine_search engines.now.engine input.old)) }
-    ensures within { IfOk result (λ found. IfSome found (λ half. (low input.old ≤ half.offset) × (half.offset ≤ high input.old))) }
+    ensures may { IfOk result (IsHalfBy engines.now.engine.kind input.old.earliest
+        (engine_search engines.now.engine input.old)) }
+    ensures within { IfOk result (λ found. IfSome found
+        (λ half. (low input.old ≤ half.offset) × (half.offset ≤ high input.old))) }
 {
     if is_early(&engines.engine, input) {
         return Ok(half_of(search_once(engines, alloc, input)?));

@@ -124,16 +124,22 @@ impl Engines {
     ) -> Result<Engines, AllocError>
         ghost hs: { List Re }
         requires spans { BoundsWalks spans (places_of engine.program.places.items) }
-        requires needs { NeedsConfine needs (places_of engine.program.places.items) engine.program.terminator }
+        requires needs { NeedsConfine needs
+            (places_of engine.program.places.items) engine.program.terminator }
         requires program { places_of engine.program.places.items ≡ program hs }
         requires patterns { patterns ≡ length hs }
         requires light { heaviness (places_of engine.program.places.items) ≤ greatest_weight }
         ensures engine { IfOk result (λ engines. engines.engine ≡ engine) }
-        ensures barred { AreBarred engine hs limits → IfOk result (λ engines. engines.tables ≡ None) }
-        ensures none { IfOk result (λ engines. engines.tables ≡ None → AreBarred engine hs limits ⊎ AreTooHeavy engine hs limits) }
-        ensures planned { IfOk result (λ engines. IfSome engines.lazy (IsLazyFor (plan_of engine hs limits))) }
-        ensures lazy_barred { IfOk result (λ engines. IsLazyBarred engine limits engines.tables → engines.lazy ≡ None) }
-        ensures lazy_none { IfOk result (λ engines. engines.lazy ≡ None → IsLazyBarred engine limits engines.tables ⊎ IsShortFor (plan_of engine hs limits)) }
+        ensures barred { AreBarred engine hs limits
+            → IfOk result (λ engines. engines.tables ≡ None) }
+        ensures none { IfOk result (λ engines. engines.tables ≡ None → AreBarred engine hs limits
+            ⊎ AreTooHeavy engine hs limits) }
+        ensures planned { IfOk result (λ engines. IfSome engines.lazy
+            (IsLazyFor (plan_of engine hs limits))) }
+        ensures lazy_barred { IfOk result
+            (λ engines. IsLazyBarred engine limits engines.tables → engines.lazy ≡ None) }
+        ensures lazy_none { IfOk result (λ engines. engines.lazy ≡ None
+            → IsLazyBarred engine limits engines.tables ⊎ IsShortFor (plan_of engine hs limits)) }
     {
         let tables = tables_of(alloc, &engine, needs.is_some(), patterns, limits)?;
         let sought_fast = are_fast(&engine.literals);
@@ -201,7 +207,8 @@ impl Engines {
         requires from_end { SeeksFromEnd self.now.engine.kind self.now.spans input.old }
         ensures cache { H.IsCache halves.now cache.new }
         ensures keeps { Keeps input.old input.new }
-        ensures found { IfOk result (λ found. found ≡ answer_by self.now.engine.kind (engine_search self.now.engine input.old)) }
+        ensures found { IfOk result (λ found. found
+            ≡ answer_by self.now.engine.kind (engine_search self.now.engine input.old)) }
         ensures within { IfOk result (λ found. IfSome found (IsWithinBounds input.old)) }
     {
         search::find_to_end(halves, cache, input, self.aim())
@@ -220,7 +227,8 @@ impl Engines {
         requires cache { H.IsCache halves.now cache.old }
         ensures cache { H.IsCache halves.now cache.new }
         ensures keeps { Keeps input.old input.new }
-        ensures found { IfOk result (λ found. found ≡ answer_by self.now.engine.kind (engine_search self.now.engine input.old)) }
+        ensures found { IfOk result (λ found. found
+            ≡ answer_by self.now.engine.kind (engine_search self.now.engine input.old)) }
         ensures within { IfOk result (λ found. IfSome found (IsWithinBounds input.old)) }
     {
         match self.route(input) {
@@ -249,7 +257,8 @@ impl Engines {
         requires guards { MayGuard self.now.engine guard }
         ensures cache { H.IsCache halves.now cache.new }
         ensures keeps { Keeps input.old input.new }
-        ensures found { IfOk result (λ found. found ≡ answer_by self.now.engine.kind (engine_search self.now.engine input.old)) }
+        ensures found { IfOk result (λ found. found
+            ≡ answer_by self.now.engine.kind (engine_search self.now.engine input.old)) }
         ensures within { IfOk result (λ found. IfSome found (IsWithinBounds input.old)) }
     {
         if let Some(guard) = guard {
@@ -274,10 +283,12 @@ impl Engines {
     ) -> Result<Option<Match>, MatchError>
         requires own { ∥ AreHalvesFor self.now.engine self.now.patterns (H.AreOf halves.now) ∥₁ }
         requires cache { H.IsCache halves.now cache.old }
-        requires guards { IsGuard (places_of self.now.engine.program.places.items) self.now.engine.program.terminator guard }
+        requires guards { IsGuard (places_of self.now.engine.program.places.items)
+            self.now.engine.program.terminator guard }
         ensures cache { H.IsCache halves.now cache.new }
         ensures keeps { Keeps input.old input.new }
-        ensures found { IfOk result (λ found. found ≡ answer_by self.now.engine.kind (engine_search self.now.engine input.old)) }
+        ensures found { IfOk result (λ found. found
+            ≡ answer_by self.now.engine.kind (engine_search self.now.engine input.old)) }
         ensures within { IfOk result (λ found. IfSome found (IsWithinBounds input.old)) }
     {
         let aim = self.aim();
@@ -301,10 +312,12 @@ impl Engines {
     ) -> Result<Option<Match>, MatchError>
         requires own { ∥ AreHalvesFor self.now.engine self.now.patterns (H.AreOf halves.now) ∥₁ }
         requires cache { H.IsCache halves.now cache.old }
-        requires guards { Guards (places_of self.now.engine.program.places.items) self.now.engine.program.terminator (needles_of needles.now) }
+        requires guards { Guards (places_of self.now.engine.program.places.items)
+            self.now.engine.program.terminator (needles_of needles.now) }
         ensures cache { H.IsCache halves.now cache.new }
         ensures keeps { Keeps input.old input.new }
-        ensures found { IfOk result (λ found. found ≡ answer_by self.now.engine.kind (engine_search self.now.engine input.old)) }
+        ensures found { IfOk result (λ found. found
+            ≡ answer_by self.now.engine.kind (engine_search self.now.engine input.old)) }
         ensures within { IfOk result (λ found. IfSome found (IsWithinBounds input.old)) }
     {
         let aim = self.aim();
@@ -330,8 +343,11 @@ impl Engines {
         requires kind { is_leftmost self.now.engine.kind ≡ true }
         ensures cache { H.IsCache halves.now cache.new }
         ensures keeps { Keeps input.old input.new }
-        ensures found { IfOk result (λ found. found ≡ option_map half_of (answer_by self.now.engine.kind (engine_search self.now.engine input.old))) }
-        ensures within { IfOk result (λ found. IfSome found (λ half. (low input.old ≤ half.offset) × (half.offset ≤ high input.old))) }
+        ensures found { IfOk result (λ found. found
+            ≡ option_map half_of (answer_by self.now.engine.kind
+            (engine_search self.now.engine input.old))) }
+        ensures within { IfOk result (λ found. IfSome found
+            (λ half. (low input.old ≤ half.offset) × (half.offset ≤ high input.old))) }
     {
         let aim = self.aim();
         match guard {
@@ -357,7 +373,8 @@ impl Engines {
         requires length { IsOneLength self.now.spans length }
         ensures cache { H.IsCache halves.now cache.new }
         ensures keeps { Keeps input.old input.new }
-        ensures found { IfOk result (λ found. found ≡ answer_by self.now.engine.kind (engine_search self.now.engine input.old)) }
+        ensures found { IfOk result (λ found. found
+            ≡ answer_by self.now.engine.kind (engine_search self.now.engine input.old)) }
         ensures within { IfOk result (λ found. IfSome found (IsWithinBounds input.old)) }
     {
         let Some(half) = self.find_first_end(halves, cache, input, guard)? else {
@@ -381,8 +398,11 @@ impl Engines {
         requires cache { H.IsCache halves.now cache.old }
         ensures cache { H.IsCache halves.now cache.new }
         ensures keeps { Keeps input.old input.new }
-        ensures found { IfOk result (λ found. found ≡ option_map half_of (answer_by self.now.engine.kind (engine_search self.now.engine input.old))) }
-        ensures within { IfOk result (λ found. IfSome found (λ half. (low input.old ≤ half.offset) × (half.offset ≤ high input.old))) }
+        ensures found { IfOk result (λ found. found
+            ≡ option_map half_of (answer_by self.now.engine.kind
+            (engine_search self.now.engine input.old))) }
+        ensures within { IfOk result (λ found. IfSome found
+            (λ half. (low input.old ≤ half.offset) × (half.offset ≤ high input.old))) }
     {
         match self.route(input) {
             Route::FromStart => Ok(half_of(find_from_start(self, halves, cache, input)?)),
@@ -409,8 +429,11 @@ impl Engines {
         requires guards { MayGuard self.now.engine guard }
         ensures cache { H.IsCache halves.now cache.new }
         ensures keeps { Keeps input.old input.new }
-        ensures found { IfOk result (λ found. found ≡ option_map half_of (answer_by self.now.engine.kind (engine_search self.now.engine input.old))) }
-        ensures within { IfOk result (λ found. IfSome found (λ half. (low input.old ≤ half.offset) × (half.offset ≤ high input.old))) }
+        ensures found { IfOk result (λ found. found
+            ≡ option_map half_of (answer_by self.now.engine.kind
+            (engine_search self.now.engine input.old))) }
+        ensures within { IfOk result (λ found. IfSome found
+            (λ half. (low input.old ≤ half.offset) × (half.offset ≤ high input.old))) }
     {
         match self.engine.kind {
             MatchKind::LeftmostFirst | MatchKind::LeftmostLongest => {
@@ -433,7 +456,8 @@ impl Engines {
         requires cache { H.IsCache halves.now cache.old }
         ensures cache { H.IsCache halves.now cache.new }
         ensures keeps { Keeps input.old input.new }
-        ensures found { IfOk result (λ b. b ≡ is_some (answer_by self.now.engine.kind (engine_search self.now.engine input.old))) }
+        ensures found { IfOk result (λ b. b
+            ≡ is_some (answer_by self.now.engine.kind (engine_search self.now.engine input.old))) }
     {
         match self.route(input) {
             Route::FromStart => any_from_start(self, halves, cache, input),
@@ -461,7 +485,8 @@ impl Engines {
         requires guards { MayGuard self.now.engine guard }
         ensures cache { H.IsCache halves.now cache.new }
         ensures keeps { Keeps input.old input.new }
-        ensures found { IfOk result (λ b. b ≡ is_some (answer_by self.now.engine.kind (engine_search self.now.engine input.old))) }
+        ensures found { IfOk result (λ b. b
+            ≡ is_some (answer_by self.now.engine.kind (engine_search self.now.engine input.old))) }
     {
         let aim = Aim {
             earliest: true,
@@ -484,7 +509,8 @@ impl Engines {
     ) -> Option<bool>
         requires made { IsCacheOfBoth self.now.lazy cache.old }
         ensures keeps { Keeps input.old input.new }
-        ensures found { IfSome result (λ b. b ≡ is_some (answer_by self.now.engine.kind (engine_search self.now.engine input.old))) }
+        ensures found { IfSome result (λ b. b
+            ≡ is_some (answer_by self.now.engine.kind (engine_search self.now.engine input.old))) }
         ensures cache { KeepsStates self.now.lazy cache.old cache.new }
     {
         match self.table_choice(cache.is_some()) {
@@ -508,7 +534,8 @@ impl Engines {
     ) -> Option<Option<Match>>
         requires made { IsCacheOfBoth self.now.lazy cache.old }
         ensures keeps { Keeps input.old input.new }
-        ensures found { IfSome result (λ found. found ≡ answer_by self.now.engine.kind (engine_search self.now.engine input.old)) }
+        ensures found { IfSome result (λ found. found
+            ≡ answer_by self.now.engine.kind (engine_search self.now.engine input.old)) }
         ensures within { IfSome result (λ found. IfSome found (IsWithinBounds input.old)) }
         ensures cache { KeepsStates self.now.lazy cache.old cache.new }
     {
@@ -533,8 +560,11 @@ impl Engines {
     ) -> Option<Option<HalfMatch>>
         requires made { IsCacheOfBoth self.now.lazy cache.old }
         ensures keeps { Keeps input.old input.new }
-        ensures found { IfSome result (λ found. found ≡ option_map half_of (answer_by self.now.engine.kind (engine_search self.now.engine input.old))) }
-        ensures within { IfSome result (λ found. IfSome found (λ half. (low input.old ≤ half.offset) × (half.offset ≤ high input.old))) }
+        ensures found { IfSome result (λ found. found
+            ≡ option_map half_of (answer_by self.now.engine.kind
+            (engine_search self.now.engine input.old))) }
+        ensures within { IfSome result (λ found. IfSome found
+            (λ half. (low input.old ≤ half.offset) × (half.offset ≤ high input.old))) }
         ensures cache { KeepsStates self.now.lazy cache.old cache.new }
     {
         match self.table_choice(cache.is_some()) {
@@ -556,7 +586,8 @@ impl Engines {
     pub fn is_match<C: Cursor>(&self, cache: &mut Cache, input: &mut Input<C>) -> bool
         requires made { IsCacheIn self.now 0 cache.old }
         ensures keeps { Keeps input.old input.new }
-        ensures found { result ≡ is_some (answer_by self.now.engine.kind (engine_search self.now.engine input.old)) }
+        ensures found { result ≡ is_some
+            (answer_by self.now.engine.kind (engine_search self.now.engine input.old)) }
         ensures cache { IsSameCacheIn self.now cache.old cache.new }
     {
         if self.spans.leave_none(input) {
@@ -576,7 +607,8 @@ impl Engines {
     pub fn find<C: Cursor>(&self, cache: &mut Cache, input: &mut Input<C>) -> Option<Match>
         requires made { IsCacheIn self.now 0 cache.old }
         ensures keeps { Keeps input.old input.new }
-        ensures found { result ≡ answer_by self.now.engine.kind (engine_search self.now.engine input.old) }
+        ensures found { result ≡ answer_by self.now.engine.kind
+            (engine_search self.now.engine input.old) }
         ensures within { IfSome result (IsWithinBounds input.old) }
         ensures cache { IsSameCacheIn self.now cache.old cache.new }
     {
@@ -594,8 +626,10 @@ impl Engines {
     pub fn find_end<C: Cursor>(&self, cache: &mut Cache, input: &mut Input<C>) -> Option<HalfMatch>
         requires made { IsCacheIn self.now 0 cache.old }
         ensures keeps { Keeps input.old input.new }
-        ensures found { result ≡ option_map half_of (answer_by self.now.engine.kind (engine_search self.now.engine input.old)) }
-        ensures within { IfSome result (λ half. (low input.old ≤ half.offset) × (half.offset ≤ high input.old)) }
+        ensures found { result ≡ option_map half_of
+            (answer_by self.now.engine.kind (engine_search self.now.engine input.old)) }
+        ensures within { IfSome result (λ half. (low input.old ≤ half.offset)
+            × (half.offset ≤ high input.old)) }
         ensures cache { IsSameCacheIn self.now cache.old cache.new }
     {
         if self.spans.leave_none(input) {
@@ -629,11 +663,13 @@ impl Engines {
     ) -> Option<PatternID>
         requires made { IsCacheIn self.now (length slots.old) cache.old }
         ensures keeps { Keeps input.old input.new }
-        ensures pattern { result ≡ option_map (λ (m : Found). m.pattern) (answer_by self.now.engine.kind (engine_search self.now.engine input.old)) }
+        ensures pattern { result ≡ option_map (λ (m : Found). m.pattern)
+            (answer_by self.now.engine.kind (engine_search self.now.engine input.old)) }
         ensures long { length slots.new ≡ length slots.old }
         ensures slots { MatchOption result
             (slots.new ≡ slots.old)
-            (λ _. Some slots.new ≡ slots_by self.now.engine.kind (engine_search self.now.engine input.old) (length slots.old)) }
+            (λ _. Some slots.new ≡ slots_by self.now.engine.kind
+            (engine_search self.now.engine input.old) (length slots.old)) }
         ensures cache { IsSameCacheIn self.now cache.old cache.new }
     {
         if self.spans.leave_none(input) {
@@ -667,10 +703,14 @@ impl Engines {
         requires made { IsCacheIn self.now 0 cache.old }
         ensures moves { IsMoved input.old input.new }
         ensures found { result
-            ≡ next_match begin_of end_of (answer_by_from self.now.engine.kind (engine_search self.now.engine input.old)) input.old.span.start last }
+            ≡ next_match begin_of end_of
+            (answer_by_from self.now.engine.kind
+            (engine_search self.now.engine input.old)) input.old.span.start last }
         ensures start { input.new.span.start
-            ≡ next_start self.now.engine.kind (engine_search self.now.engine input.old) input.old.span.start last }
-        ensures there { result ≡ answer_by self.now.engine.kind (engine_search self.now.engine input.new) }
+            ≡ next_start self.now.engine.kind
+            (engine_search self.now.engine input.old) input.old.span.start last }
+        ensures there { result ≡ answer_by self.now.engine.kind
+            (engine_search self.now.engine input.new) }
         ensures within { IfSome result (IsWithinBounds input.new) }
         ensures cache { IsSameCacheIn self.now cache.old cache.new }
     {
@@ -694,7 +734,8 @@ impl Engines {
         ensures keeps { Keeps input.old input.new }
         ensures names { captures_names caps.new ≡ captures_names caps.old }
         ensures long { length (captures_slots caps.new) ≡ length (captures_slots caps.old) }
-        ensures found { TellsBy self.now.engine.kind (engine_search self.now.engine input.old) caps.new }
+        ensures found { TellsBy self.now.engine.kind
+            (engine_search self.now.engine input.old) caps.new }
         ensures cache { IsSameCacheIn self.now cache.old cache.new }
     {
         captures::clear(caps);

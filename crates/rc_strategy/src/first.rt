@@ -46,7 +46,8 @@ fn asks_first(aim: Aim, anchored: Anchored) -> bool
 #[inline(always)]
 fn begin_none(needles: &Prefilter, piece: &[u8]) -> usize
     ensures within { result ≤ length piece.now }
-    ensures passed { (k n : ℕ) → k < result → n < length (needles_of needles.now) → ¬ BeginsWithByte (numbered (needles_of needles.now) n) (slice_index piece.now k) }
+    ensures passed { (k n : ℕ) → k < result → n < length (needles_of needles.now)
+        → ¬ BeginsWithByte (numbered (needles_of needles.now) n) (slice_index piece.now k) }
 {
     let table = &needles.searcher.table;
     let count = table.needles.len();
@@ -71,9 +72,12 @@ fn first_start<C: Cursor>(
     requires ordered { from ≤ end }
     ensures keeps { Keeps input.old input.new }
     ensures within { IfSome result (λ x. (from ≤ x) × (x ≤ end)) }
-    ensures passed { (places : List Place) (terminator : ℕ) (over : Bool) → Guards places terminator (needles_of needles.now) → MatchOption result
-        ((x : ℕ) → from ≤ x → x ≤ end → HasNoWalkFrom (search_over places terminator over input.old) x)
-        (λ start. (x : ℕ) → from ≤ x → x < start → HasNoWalkFrom (search_over places terminator over input.old) x) }
+    ensures passed { (places : List Place) (terminator : ℕ) (over : Bool)
+        → Guards places terminator (needles_of needles.now) → MatchOption result
+        ((x : ℕ) → from ≤ x → x ≤ end → HasNoWalkFrom
+        (search_over places terminator over input.old) x)
+        (λ start. (x : ℕ) → from ≤ x → x < start
+        → HasNoWalkFrom (search_over places terminator over input.old) x) }
 {
     if from >= end {
         return Some(from);
@@ -101,9 +105,12 @@ fn needle_start<C: Cursor>(
     requires end { end ≡ high input.old }
     ensures keeps { Keeps input.old input.new }
     ensures within { IfSome result (λ x. (from ≤ x) × (x ≤ end)) }
-    ensures passed { (places : List Place) (terminator : ℕ) (over : Bool) → Guards places terminator (needles_of needles.now) → MatchOption result
-        ((x : ℕ) → from ≤ x → x ≤ end → HasNoWalkFrom (search_over places terminator over input.old) x)
-        (λ start. (x : ℕ) → from ≤ x → x < start → HasNoWalkFrom (search_over places terminator over input.old) x) }
+    ensures passed { (places : List Place) (terminator : ℕ) (over : Bool)
+        → Guards places terminator (needles_of needles.now) → MatchOption result
+        ((x : ℕ) → from ≤ x → x ≤ end → HasNoWalkFrom
+        (search_over places terminator over input.old) x)
+        (λ start. (x : ℕ) → from ≤ x → x < start
+        → HasNoWalkFrom (search_over places terminator over input.old) x) }
 {
     let start = next_start(input, Guard::Begins(needles), from, end)?;
     Some(start.from)
@@ -123,9 +130,12 @@ fn start_by<C: Cursor>(
     requires ordered { from ≤ end }
     ensures keeps { Keeps input.old input.new }
     ensures within { IfSome result (λ x. (from ≤ x) × (x ≤ end)) }
-    ensures passed { (places : List Place) (terminator : ℕ) (over : Bool) → Guards places terminator (needles_of needles.now) → MatchOption result
-        ((x : ℕ) → from ≤ x → x ≤ end → HasNoWalkFrom (search_over places terminator over input.old) x)
-        (λ start. (x : ℕ) → from ≤ x → x < start → HasNoWalkFrom (search_over places terminator over input.old) x) }
+    ensures passed { (places : List Place) (terminator : ℕ) (over : Bool)
+        → Guards places terminator (needles_of needles.now) → MatchOption result
+        ((x : ℕ) → from ≤ x → x ≤ end → HasNoWalkFrom
+        (search_over places terminator over input.old) x)
+        (λ start. (x : ℕ) → from ≤ x → x < start
+        → HasNoWalkFrom (search_over places terminator over input.old) x) }
 {
     if are_fast {
         return needle_start(input, needles, from, end);
@@ -149,9 +159,12 @@ fn find_here<H: Halves, C: Cursor>(
     requires within { from ≤ bound }
     ensures cache { H.IsCache halves.now cache.new }
     ensures keeps { Keeps input.old input.new }
-    ensures found { (aim : Aim) (hs : List Re) (terminator : ℕ) → AreHalvesOf (H.AreOf halves.now) aim hs terminator → AsksFirst aim input.old.anchored
-        → IfOk result (λ found. found ≡ answer_by aim.kind (starting_at from (search_for aim hs terminator input.old))) }
-    ensures within { IfOk result (λ found. IfSome found (λ m. (m.start ≡ from) × (m.start ≤ m.end) × (m.end ≤ bound))) }
+    ensures found { (aim : Aim) (hs : List Re) (terminator : ℕ)
+        → AreHalvesOf (H.AreOf halves.now) aim hs terminator → AsksFirst aim input.old.anchored
+        → IfOk result (λ found. found ≡ answer_by aim.kind
+        (starting_at from (search_for aim hs terminator input.old))) }
+    ensures within { IfOk result (λ found. IfSome found
+        (λ m. (m.start ≡ from) × (m.start ≤ m.end) × (m.end ≤ bound))) }
 {
     let ended = halves.run_forwards(cache, input, Anchored::Yes, from, false, false, 0);
     let Some(met) = told(ended)? else {
@@ -177,8 +190,10 @@ pub(crate) fn find_later<H: Halves, C: Cursor>(
     requires high { from ≤ high input.old }
     ensures cache { H.IsCache halves.now cache.new }
     ensures keeps { Keeps input.old input.new }
-    ensures found { (hs : List Re) (terminator : ℕ) → AreHalvesOf (H.AreOf halves.now) aim hs terminator
-        → IfOk result (IsAnswerBy aim.kind aim.earliest (record (search_for aim hs terminator input.old) { lo = from })) }
+    ensures found { (hs : List Re) (terminator : ℕ)
+        → AreHalvesOf (H.AreOf halves.now) aim hs terminator
+        → IfOk result (IsAnswerBy aim.kind aim.earliest
+        (record (search_for aim hs terminator input.old) { lo = from })) }
     ensures within { IfOk result (λ found. IfSome found (IsWithinBounds input.old)) }
 {
     let span = input.get_span();
@@ -205,8 +220,11 @@ fn find_on<H: Halves, C: Cursor>(
     requires high { from ≤ high input.old }
     ensures cache { H.IsCache halves.now cache.new }
     ensures keeps { Keeps input.old input.new }
-    ensures found { (hs : List Re) (terminator : ℕ) → AreHalvesOf (H.AreOf halves.now) aim hs terminator → Guards (program hs) terminator (needles_of needles.now)
-        → IfOk result (IsAnswerBy aim.kind aim.earliest (record (search_for aim hs terminator input.old) { lo = from })) }
+    ensures found { (hs : List Re) (terminator : ℕ)
+        → AreHalvesOf (H.AreOf halves.now) aim hs terminator
+        → Guards (program hs) terminator (needles_of needles.now)
+        → IfOk result (IsAnswerBy aim.kind aim.earliest
+        (record (search_for aim hs terminator input.old) { lo = from })) }
     ensures within { IfOk result (λ found. IfSome found (IsWithinBounds input.old)) }
 {
     if !are_fast {
@@ -234,8 +252,11 @@ fn find_by_first<H: Halves, C: Cursor>(
     requires goes { AsksFirst aim input.old.anchored }
     ensures cache { H.IsCache halves.now cache.new }
     ensures keeps { Keeps input.old input.new }
-    ensures found { (hs : List Re) (terminator : ℕ) → AreHalvesOf (H.AreOf halves.now) aim hs terminator → Guards (program hs) terminator (needles_of needles.now)
-        → IfOk result (λ found. found ≡ answer_by aim.kind (search_for aim hs terminator input.old)) }
+    ensures found { (hs : List Re) (terminator : ℕ)
+        → AreHalvesOf (H.AreOf halves.now) aim hs terminator
+        → Guards (program hs) terminator (needles_of needles.now)
+        → IfOk result (λ found. found ≡ answer_by aim.kind
+        (search_for aim hs terminator input.old)) }
     ensures within { IfOk result (λ found. IfSome found (IsWithinBounds input.old)) }
 {
     let hi = high(input);
@@ -268,7 +289,9 @@ pub(crate) fn find_first<H: Halves, C: Cursor>(
     requires cache { H.IsCache halves.now cache.old }
     ensures cache { H.IsCache halves.now cache.new }
     ensures keeps { Keeps input.old input.new }
-    ensures found { (hs : List Re) (terminator : ℕ) → AreHalvesOf (H.AreOf halves.now) aim hs terminator → Guards (program hs) terminator (needles_of needles.now)
+    ensures found { (hs : List Re) (terminator : ℕ)
+        → AreHalvesOf (H.AreOf halves.now) aim hs terminator
+        → Guards (program hs) terminator (needles_of needles.now)
         → IfOk result (IsAnswerBy aim.kind aim.earliest (search_for aim hs terminator input.old)) }
     ensures within { IfOk result (λ found. IfSome found (IsWithinBounds input.old)) }
 {

@@ -29,7 +29,8 @@ pub(crate) fn find_early_from_start<H: Halves, C: Cursor>(
     requires from_start { SeeksFromStart engines.now.spans input.old }
     ensures cache { H.IsCache halves.now cache.new }
     ensures keeps { Keeps input.old input.new }
-    ensures may { IfOk result (IsAnswerBy engines.now.engine.kind earliest (engine_search engines.now.engine input.old)) }
+    ensures may { IfOk result (IsAnswerBy engines.now.engine.kind earliest
+        (engine_search engines.now.engine input.old)) }
     ensures within { IfOk result (λ found. IfSome found (IsWithinBounds input.old)) }
 {
     let aim = Aim {
@@ -55,7 +56,8 @@ pub(crate) fn find_from_start<H: Halves, C: Cursor>(
     requires from_start { SeeksFromStart engines.now.spans input.old }
     ensures cache { H.IsCache halves.now cache.new }
     ensures keeps { Keeps input.old input.new }
-    ensures found { IfOk result (λ found. found ≡ answer_by engines.now.engine.kind (engine_search engines.now.engine input.old)) }
+    ensures found { IfOk result (λ found. found
+        ≡ answer_by engines.now.engine.kind (engine_search engines.now.engine input.old)) }
     ensures within { IfOk result (λ found. IfSome found (IsWithinBounds input.old)) }
 {
     find_early_from_start(engines, halves, cache, input, false)
@@ -73,7 +75,8 @@ pub(crate) fn any_from_start<H: Halves, C: Cursor>(
     requires from_start { SeeksFromStart engines.now.spans input.old }
     ensures cache { H.IsCache halves.now cache.new }
     ensures keeps { Keeps input.old input.new }
-    ensures found { IfOk result (λ b. b ≡ is_some (answer_by engines.now.engine.kind (engine_search engines.now.engine input.old))) }
+    ensures found { IfOk result (λ b. b ≡ is_some
+        (answer_by engines.now.engine.kind (engine_search engines.now.engine input.old))) }
 {
     let found = find_early_from_start(engines, halves, cache, input, true)?;
     Ok(found.is_some())

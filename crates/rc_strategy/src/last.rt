@@ -27,7 +27,8 @@ pub(crate) fn find_greatest_from_end<H: Halves, C: Cursor>(
     requires from_end { SeeksGreatestFromEnd engines.now.engine.kind engines.now.spans input.old }
     ensures cache { H.IsCache halves.now cache.new }
     ensures keeps { Keeps input.old input.new }
-    ensures found { IfOk result (λ found. found ≡ answer_by engines.now.engine.kind (engine_search engines.now.engine input.old)) }
+    ensures found { IfOk result (λ found. found
+        ≡ answer_by engines.now.engine.kind (engine_search engines.now.engine input.old)) }
     ensures within { IfOk result (λ found. IfSome found (IsWithinBounds input.old)) }
 {
     let aim = Aim {

@@ -25,7 +25,8 @@ pub(crate) fn search_longest_span<C: Cursor>(
     requires found { longest (engine_search engine.now input.old) ≡ Some found }
     ensures keeps { Keeps input.old input.new }
     ensures long { length slots.new ≡ length slots.old }
-    ensures slots { Some slots.new ≡ longest_groups (engine_search engine.now input.old) (length slots.old) }
+    ensures slots { Some slots.new ≡ longest_groups (engine_search engine.now input.old)
+        (length slots.old) }
     ensures cache { IsSameCache cache.old cache.new }
 {
     let span = input.get_span();

@@ -85,7 +85,9 @@ fn run_leg<H: Halves, C: Cursor>(
     requires free { input.old.anchored ≡ No }
     ensures cache { H.IsCache halves.now cache.new }
     ensures keeps { Keeps input.old input.new }
-    ensures tells { (aim : Aim) (hs : List Re) (terminator : ℕ) (of : AreHalvesOf (H.AreOf halves.now) aim hs terminator) → GoesByNeedles aim input.old.anchored
+    ensures tells { (aim : Aim) (hs : List Re) (terminator : ℕ)
+        (of : AreHalvesOf (H.AreOf halves.now) aim hs terminator)
+        → GoesByNeedles aim input.old.anchored
         → IfOk result (Tells aim.kind of.ahead (search_for aim hs terminator input.old) from) }
     ensures on { IfOk result (ComesOn from bound) }
 {
@@ -111,12 +113,18 @@ fn start_by_needles<H: Halves, C: Cursor>(
     requires bounds { (lo ≡ low input.old) × (hi ≡ high input.old) × (lo ≤ hi) }
     ensures cache { H.IsCache halves.now cache.new }
     ensures keeps { Keeps input.old input.new }
-    ensures none { (aim : Aim) (hs : List Re) (terminator : ℕ) (of : AreHalvesOf (H.AreOf halves.now) aim hs terminator) → GoesByNeedles aim input.old.anchored
+    ensures none { (aim : Aim) (hs : List Re) (terminator : ℕ)
+        (of : AreHalvesOf (H.AreOf halves.now) aim hs terminator)
+        → GoesByNeedles aim input.old.anchored
         → IsGuard (program hs) terminator guard.entry
-        → IfOk result (λ o. IfNone o (StartsGive aim.kind of.ahead (search_for aim hs terminator input.old) lo None)) }
-    ensures some { (aim : Aim) (hs : List Re) (terminator : ℕ) (of : AreHalvesOf (H.AreOf halves.now) aim hs terminator) → GoesByNeedles aim input.old.anchored
+        → IfOk result (λ o. IfNone o (StartsGive aim.kind of.ahead
+        (search_for aim hs terminator input.old) lo None)) }
+    ensures some { (aim : Aim) (hs : List Re) (terminator : ℕ)
+        (of : AreHalvesOf (H.AreOf halves.now) aim hs terminator)
+        → GoesByNeedles aim input.old.anchored
         → IsGuard (program hs) terminator guard.entry
-        → IfOk result (λ o. IfSome o (λ from. GivesToo aim.kind of.ahead (search_for aim hs terminator input.old) from lo)) }
+        → IfOk result (λ o. IfSome o (λ from. GivesToo aim.kind of.ahead
+        (search_for aim hs terminator input.old) from lo)) }
     ensures within { IfOk result (λ o. IfSome o (λ from. (lo ≤ from) × (from ≤ hi))) }
 {
     let mut at = lo;
@@ -161,7 +169,9 @@ fn find_by_needles<H: Halves, C: Cursor>(
     requires goes { GoesEarly aim input.old.anchored }
     ensures cache { H.IsCache halves.now cache.new }
     ensures keeps { Keeps input.old input.new }
-    ensures found { (hs : List Re) (terminator : ℕ) → AreHalvesOf (H.AreOf halves.now) aim hs terminator → IsGuard (program hs) terminator guard.entry
+    ensures found { (hs : List Re) (terminator : ℕ)
+        → AreHalvesOf (H.AreOf halves.now) aim hs terminator
+        → IsGuard (program hs) terminator guard.entry
         → IfOk result (IsAnswerBy aim.kind aim.earliest (search_for aim hs terminator input.old)) }
     ensures within { IfOk result (λ found. IfSome found (IsWithinBounds input.old)) }
 {
@@ -190,7 +200,9 @@ pub(crate) fn find_early_guarded<H: Halves, C: Cursor>(
     requires cache { H.IsCache halves.now cache.old }
     ensures cache { H.IsCache halves.now cache.new }
     ensures keeps { Keeps input.old input.new }
-    ensures found { (hs : List Re) (terminator : ℕ) → AreHalvesOf (H.AreOf halves.now) aim hs terminator → IsGuard (program hs) terminator guard.entry
+    ensures found { (hs : List Re) (terminator : ℕ)
+        → AreHalvesOf (H.AreOf halves.now) aim hs terminator
+        → IsGuard (program hs) terminator guard.entry
         → IfOk result (IsAnswerBy aim.kind aim.earliest (search_for aim hs terminator input.old)) }
     ensures within { IfOk result (λ found. IfSome found (IsWithinBounds input.old)) }
 {

@@ -53,7 +53,8 @@ impl Engines {
         input: &mut Input<C>,
     ) -> Result<Option<Match>, AllocError>
         ensures keeps { Keeps input.old input.new }
-        ensures found { IfOk result (λ found. found ≡ answer_by self.now.engine.kind (engine_search self.now.engine input.old)) }
+        ensures found { IfOk result (λ found. found
+            ≡ answer_by self.now.engine.kind (engine_search self.now.engine input.old)) }
         ensures within { IfOk result (λ found. IfSome found (IsWithinBounds input.old)) }
     {
         if self.spans.leave_none(input) {
@@ -79,8 +80,11 @@ impl Engines {
         input: &mut Input<C>,
     ) -> Result<Option<HalfMatch>, AllocError>
         ensures keeps { Keeps input.old input.new }
-        ensures found { IfOk result (λ found. found ≡ option_map half_of (answer_by self.now.engine.kind (engine_search self.now.engine input.old))) }
-        ensures within { IfOk result (λ found. IfSome found (λ half. (low input.old ≤ half.offset) × (half.offset ≤ high input.old))) }
+        ensures found { IfOk result (λ found. found
+            ≡ option_map half_of (answer_by self.now.engine.kind
+            (engine_search self.now.engine input.old))) }
+        ensures within { IfOk result (λ found. IfSome found
+            (λ half. (low input.old ≤ half.offset) × (half.offset ≤ high input.old))) }
     {
         if self.spans.leave_none(input) {
             return Ok(None);
@@ -105,7 +109,8 @@ impl Engines {
         input: &mut Input<C>,
     ) -> Result<bool, AllocError>
         ensures keeps { Keeps input.old input.new }
-        ensures found { IfOk result (λ b. b ≡ is_some (answer_by self.now.engine.kind (engine_search self.now.engine input.old))) }
+        ensures found { IfOk result (λ b. b
+            ≡ is_some (answer_by self.now.engine.kind (engine_search self.now.engine input.old))) }
     {
         if self.spans.leave_none(input) {
             return Ok(false);

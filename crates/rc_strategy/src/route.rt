@@ -109,7 +109,8 @@ impl Engines {
     /// slice does, not each begins where it does, and the search isn't anchored.
     #[inline(always)]
     fn seeks_greatest_from_end<C: Cursor>(&self, input: &Input<C>) -> bool
-        ensures { IsTrue result ↔ SeeksGreatestFromEnd self.now.engine.kind self.now.spans input.now }
+        ensures { IsTrue result ↔ SeeksGreatestFromEnd self.now.engine.kind self.now.spans
+            input.now }
     {
         match (self.engine.kind, input.get_anchored()) {
             (MatchKind::All, Anchored::No) => self.spans.end_alone(),
@@ -120,7 +121,8 @@ impl Engines {
     /// Returns the length of each match in bytes, if all have the same and the kind is leftmost.
     #[inline(always)]
     fn only_length(&self) -> Option<usize>
-        ensures { IfSome result (λ n. (is_leftmost self.now.engine.kind ≡ true) × IsOneLength self.now.spans n) }
+        ensures { IfSome result (λ n. (is_leftmost self.now.engine.kind ≡ true)
+            × IsOneLength self.now.spans n) }
     {
         match self.engine.kind {
             MatchKind::LeftmostFirst | MatchKind::LeftmostLongest => self.spans.only_length(),

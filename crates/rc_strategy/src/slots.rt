@@ -46,7 +46,8 @@ fn search_span<C: Cursor>(
     requires found { answer (engine_search engine.now input.old) ≡ Some found }
     ensures keeps { Keeps input.old input.new }
     ensures long { length slots.new ≡ length slots.old }
-    ensures slots { Some slots.new ≡ groups (engine_search engine.now input.old) (length slots.old) }
+    ensures slots { Some slots.new ≡ groups (engine_search engine.now input.old)
+        (length slots.old) }
     ensures cache { IsSameCache cache.old cache.new }
 {
     let span = input.get_span();
@@ -77,7 +78,8 @@ pub(crate) fn fill_slots<C: Cursor>(
     requires found { answer_by engine.now.kind (engine_search engine.now input.old) ≡ Some found }
     ensures keeps { Keeps input.old input.new }
     ensures long { length slots.new ≡ length slots.old }
-    ensures slots { Some slots.new ≡ slots_by engine.now.kind (engine_search engine.now input.old) (length slots.old) }
+    ensures slots { Some slots.new ≡ slots_by engine.now.kind (engine_search engine.now input.old)
+        (length slots.old) }
     ensures cache { IsSameCache cache.old cache.new }
 {
     match engine.kind {

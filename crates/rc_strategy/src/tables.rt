@@ -75,13 +75,15 @@ fn dense_of(
     limits: Limits,
 ) -> Result<Option<Dense>, AllocError>
     ghost hs: { List Re }
-    requires machines { AreMachines hs engine.now.program.terminator engine.now.kind (machine_of automaton.now Forwards) (machine_of automaton.now Backwards) }
+    requires machines { AreMachines hs engine.now.program.terminator engine.now.kind
+        (machine_of automaton.now Forwards) (machine_of automaton.now Backwards) }
     requires program { places_of engine.now.program.places.items ≡ program hs }
     requires patterns { patterns ≡ length hs }
     requires light { heaviness (places_of engine.now.program.places.items) ≤ greatest_weight }
     ensures fit { IfOk result (MayBeTablesFor engine.now patterns) }
     ensures off { AreOff hs limits → IfOk result (λ tables. tables ≡ None) }
-    ensures none { IfOk result (λ tables. tables ≡ None → AreOff hs limits ⊎ AreTooHeavy engine.now hs limits) }
+    ensures none { IfOk result (λ tables. tables ≡ None → AreOff hs limits
+        ⊎ AreTooHeavy engine.now hs limits) }
 {
     if !limits.dfa {
         return Ok(None);
@@ -101,7 +103,8 @@ fn dense_of(
 fn lazy_of(automaton: Automaton, limits: Limits) -> Option<Lazy>
     ensures made { IfSome result (IsLazyOf automaton limits.capacity) }
     ensures off { limits.hybrid ≡ false → result ≡ None }
-    ensures none { result ≡ None → (limits.hybrid ≡ false) ⊎ (limits.capacity < least_of automaton) }
+    ensures none { result ≡ None → (limits.hybrid ≡ false)
+        ⊎ (limits.capacity < least_of automaton) }
 {
     if !limits.hybrid {
         return None;
@@ -127,7 +130,8 @@ pub(crate) fn tables_of(
     requires program { places_of engine.now.program.places.items ≡ program hs }
     requires patterns { patterns ≡ length hs }
     requires light { heaviness (places_of engine.now.program.places.items) ≤ greatest_weight }
-    ensures { IfOk result (λ tables. AreMade engine.now patterns hs limits tables.dense tables.lazy) }
+    ensures { IfOk result (λ tables. AreMade engine.now patterns hs limits
+        tables.dense tables.lazy) }
 {
     if literals_of(&engine.literals, engine.kind).is_some() {
         return Ok(Tables {

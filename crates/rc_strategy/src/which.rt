@@ -97,7 +97,8 @@ impl Engines {
     fn find_told<C: Cursor>(&self, cache: &mut Cache, input: &mut Input<C>) -> Option<Option<Match>>
         requires made { IsCacheIn self.now 0 cache.old }
         ensures keeps { Keeps input.old input.new }
-        ensures found { IfSome result (λ found. found ≡ answer_by self.now.engine.kind (engine_search self.now.engine input.old)) }
+        ensures found { IfSome result (λ found. found
+            ≡ answer_by self.now.engine.kind (engine_search self.now.engine input.old)) }
         ensures cache { IsSameCacheIn self.now cache.old cache.new }
     {
         if literals_of(&self.engine.literals, self.engine.kind).is_some() {

@@ -47,9 +47,11 @@ fn run_over<R: Read, W: Write + Drop, E: Write>(
     out: W,
     err: &mut E,
 ) -> Result<(u8, W), u8>
-    ensures done { IfOk result (λ r. r.0 ≢ FAULT → (text : List ℕ) × AreWords words.now text × IfSome (R.remaining input.old)
+    ensures done { IfOk result (λ r. r.0 ≢ FAULT → (text : List ℕ) × AreWords words.now text
+        × IfSome (R.remaining input.old)
         (λ bytes. IsRun text bytes (W.contents out) (W.contents r.1) (nat_eq r.0 MATCHED))) }
-    ensures unread { ¬ ((text : List ℕ) × AreWords words.now text) → Keeps (R.remaining input.old) (R.remaining input.new) }
+    ensures unread { ¬ ((text : List ℕ) × AreWords words.now text)
+        → Keeps (R.remaining input.old) (R.remaining input.new) }
 {
     let Ok(mut sink) = BufferedSink::new(alloc, out) else {
         return Err(report(err, "out of memory"));

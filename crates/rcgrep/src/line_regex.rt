@@ -77,7 +77,8 @@ impl<'p> LineRegex<'p> {
 
     /// The match in the text, as if there were nothing around it.
     fn find(&mut self, text: &[u8]) -> Option<Match>
-        ensures value { result ≡ answer_by (regex_kind self.old.regex) (search_for (sought self.old.regex) (whole text.now)) }
+        ensures value { result ≡ answer_by (regex_kind self.old.regex)
+            (search_for (sought self.old.regex) (whole text.now)) }
         ensures regex { self.new.regex ≡ self.old.regex }
         ensures inverted { self.new.is_inverted ≡ self.old.is_inverted }
     {
@@ -96,7 +97,9 @@ impl<'p> LineRegex<'p> {
 
     /// Where the match in the text begins, or the end of the text.
     fn find_start(&mut self, text: &[u8]) -> usize
-        ensures value { result ≡ start_or (length text.now) (answer_by (regex_kind self.old.regex) (search_for (sought self.old.regex) (whole text.now))) }
+        ensures value { result ≡ start_or (length text.now)
+            (answer_by (regex_kind self.old.regex)
+            (search_for (sought self.old.regex) (whole text.now))) }
         ensures regex { self.new.regex ≡ self.old.regex }
         ensures inverted { self.new.is_inverted ≡ self.old.is_inverted }
     {

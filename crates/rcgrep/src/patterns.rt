@@ -41,7 +41,8 @@ impl<T: Drop> From<AllocFailed<T>> for Unread {
 /// Parses the texts as patterns, in their order. An `Err` is the first text that isn't a pattern, or
 /// out of memory.
 pub fn read_patterns(alloc: Global, texts: &[&str], config: &Config) -> Result<Vec<Hir>, Unread>
-    ensures read { IfOk result (λ hirs. AllRead (settings_of config.now) (texts_of texts.now) (map meaning hirs.items)) }
+    ensures read { IfOk result (λ hirs. AllRead (settings_of config.now) (texts_of texts.now)
+        (map meaning hirs.items)) }
     ensures unread { IfErr result (IsUnread (settings_of config.now) (texts_of texts.now)) }
 {
     let mut hirs = Vec::new(alloc);
@@ -75,8 +76,10 @@ fn build_regex(alloc: Global, hirs: &[Hir]) -> Result<Regex, BuildError>
     requires { length hirs.now ≤ 2147483647 }
     ensures patterns { IfOk result (λ r. regex_patterns r ≡ map meaning hirs.now) }
     ensures settings { IfOk result (λ r. regex_settings r ≡ line_settings) }
-    ensures buildable { IfOk result (λ _. IsBuildable (nfa_size_limit_of line_settings) (map meaning hirs.now)) }
-    ensures refused { IfErr result (λ e. IsRefusal (nfa_size_limit_of line_settings) (map meaning hirs.now) e) }
+    ensures buildable { IfOk result (λ _. IsBuildable (nfa_size_limit_of line_settings)
+        (map meaning hirs.now)) }
+    ensures refused { IfErr result (λ e. IsRefusal (nfa_size_limit_of line_settings)
+        (map meaning hirs.now) e) }
 {
     let mut builder = Regex::builder();
     builder
@@ -90,7 +93,8 @@ pub fn build(alloc: Global, hirs: &[Hir]) -> Result<Patterns, BuildError>
     requires { length hirs.now ≤ 2147483647 }
     ensures patterns { IfOk result (λ p. regex_patterns p.regex ≡ map meaning hirs.now) }
     ensures settings { IfOk result (λ p. regex_settings p.regex ≡ line_settings) }
-    ensures refused { IfErr result (λ e. IsRefusal (nfa_size_limit_of line_settings) (map meaning hirs.now) e) }
+    ensures refused { IfErr result (λ e. IsRefusal (nfa_size_limit_of line_settings)
+        (map meaning hirs.now) e) }
 {
     let regex = build_regex(alloc, hirs)?;
     let is_local = are_local(hirs);

@@ -46,8 +46,11 @@ fn run_over<R: Read, W: Write + Drop, E: Write>(
     out: W,
     err: &mut E,
 ) -> Result<(u8, W), u8>
-    ensures done { IfOk result (λ r. r.0 ≢ FAULT → IsDone words.now (R.remaining input.old) (W.contents out) (W.contents r.1) (nat_eq r.0 REPLACED)) }
-    ensures nothing_put { IfOk result (λ r. ¬ HasWords words.now → Keeps (W.contents out) (W.contents r.1)) }
+    ensures done { IfOk result (λ r. r.0 ≢ FAULT
+        → IsDone words.now (R.remaining input.old) (W.contents out) (W.contents r.1)
+        (nat_eq r.0 REPLACED)) }
+    ensures nothing_put { IfOk result (λ r. ¬ HasWords words.now
+        → Keeps (W.contents out) (W.contents r.1)) }
     ensures unread { ¬ HasWords words.now → Keeps (R.remaining input.old) (R.remaining input.new) }
 {
     let Ok(mut sink) = BufferedSink::new(alloc, out) else {

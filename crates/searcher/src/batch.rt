@@ -39,7 +39,8 @@ pub(crate) fn search<C: Cursor>(
     requires off { input.old.earliest ≡ false }
     ensures cache { IsCacheFor (regex_patterns regex.now) (regex_settings regex.now) cache.new }
     ensures keeps { Keeps input.old input.new }
-    ensures found { result ≡ answer_by (regex_kind regex.now) (search_for (sought regex.now) input.old) }
+    ensures found { result ≡ answer_by (regex_kind regex.now)
+        (search_for (sought regex.now) input.old) }
     ensures within { IfSome result (IsWithinBounds input.old) }
 {
     regex.search_with(cache, input)
@@ -51,7 +52,8 @@ fn first<C: Cursor>(regex: &Regex, cache: &mut Cache, input: &mut Input<C>) -> O
     requires made { IsCacheFor (regex_patterns regex.now) (regex_settings regex.now) cache.old }
     ensures cache { IsCacheFor (regex_patterns regex.now) (regex_settings regex.now) cache.new }
     ensures moves { IsMoved input.old input.new }
-    ensures found { result ≡ answer_by (regex_kind regex.now) (search_for (sought regex.now) input.old) }
+    ensures found { result ≡ answer_by (regex_kind regex.now)
+        (search_for (sought regex.now) input.old) }
     ensures within { IfSome result (IsWithinBounds input.old) }
 {
     let mut matches = regex.find_iter_with(cache, input);
@@ -71,7 +73,8 @@ fn next_match<C: Cursor>(
     ensures cache { IsCacheFor (regex_patterns regex.now) (regex_settings regex.now) cache.new }
     ensures moves { IsMoved input.old input.new }
     ensures found { result
-        ≡ next_match begin_of end_of (answer_by_from (regex_kind regex.now) (search_for (sought regex.now) input.old)) input.old.span.start last }
+        ≡ next_match begin_of end_of (answer_by_from (regex_kind regex.now)
+        (search_for (sought regex.now) input.old)) input.old.span.start last }
     ensures within { IfSome result (λ m. m.end ≤ high input.new) }
 {
     content_fits(input);
@@ -96,8 +99,10 @@ pub(crate) fn fill<C: Cursor>(
     requires off { input.old.earliest ≡ false }
     ensures cache { IsCacheFor (regex_patterns regex.now) (regex_settings regex.now) cache.new }
     ensures filled { IsFilled
-        (matches_by_kind (regex_kind regex.now) (search_for (sought regex.now) input.old) input.old.span.start before)
-        (matches_by_kind (regex_kind regex.now) (search_for (sought regex.now) input.old) result.from result.last)
+        (matches_by_kind (regex_kind regex.now)
+        (search_for (sought regex.now) input.old) input.old.span.start before)
+        (matches_by_kind (regex_kind regex.now)
+        (search_for (sought regex.now) input.old) result.from result.last)
         batch.new result.count }
 {
     let mut last = before;

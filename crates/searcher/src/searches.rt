@@ -127,7 +127,8 @@ impl Searcher {
 
     /// Whether there is a match in the text from `start` to `end`.
     pub fn is_match(&mut self, chunks: &[&[u8]], start: usize, end: usize) -> Result<bool, Fault>
-        ensures found { IfOk result (λ b. b ≡ is_some (answer_in self.old.regex (joined chunks.now) start end)) }
+        ensures found { IfOk result (λ b. b
+            ≡ is_some (answer_in self.old.regex (joined chunks.now) start end)) }
         ensures fault { IfErr result (IsFault chunks.now start end) }
         ensures kept { self.new ≡ self.old }
     {
@@ -143,7 +144,8 @@ impl Searcher {
         start: usize,
         end: usize,
     ) -> Result<Option<Match>, Fault>
-        ensures found { IfOk result (λ m. m ≡ answer_in self.old.regex (joined chunks.now) start end) }
+        ensures found { IfOk result (λ m. m
+            ≡ answer_in self.old.regex (joined chunks.now) start end) }
         ensures fault { IfErr result (IsFault chunks.now start end) }
         ensures kept { self.new ≡ self.old }
     {
@@ -162,7 +164,8 @@ impl Searcher {
         end: usize,
         marks: &mut [u8],
     ) -> Result<(), Fault>
-        ensures marked { OnOk result (AreMarks (length (regex_patterns self.old.regex)) (search_in self.old.regex (joined chunks.now) start end) marks.new) }
+        ensures marked { OnOk result (AreMarks (length (regex_patterns self.old.regex))
+            (search_in self.old.regex (joined chunks.now) start end) marks.new) }
         ensures fault { IfErr result (IsFault chunks.now start end) }
         ensures refused { OnErr result (marks.new ≡ marks.old) }
         ensures kept { self.new ≡ self.old }
@@ -183,8 +186,10 @@ impl Searcher {
         start: usize,
         end: usize,
     ) -> Result<Option<Match>, Fault>
-        ensures told { OnOk result (TellsBy (regex_kind self.old.regex) (search_in self.old.regex (joined chunks.now) start end) self.new.captures) }
-        ensures found { IfOk result (λ m. m ≡ answer_in self.old.regex (joined chunks.now) start end) }
+        ensures told { OnOk result (TellsBy (regex_kind self.old.regex)
+            (search_in self.old.regex (joined chunks.now) start end) self.new.captures) }
+        ensures found { IfOk result (λ m. m
+            ≡ answer_in self.old.regex (joined chunks.now) start end) }
         ensures fault { IfErr result (IsFault chunks.now start end) }
         ensures refused { OnErr result (self.new ≡ self.old) }
         ensures whole { OnOk result (KeepsAll (regex_names self.old.regex) self.new.captures) }
@@ -226,7 +231,8 @@ impl Searcher {
         end: usize,
         batch: &mut [MatchAt],
     ) -> Result<usize, Fault>
-        ensures filled { IfOk result (IsFilled (left_in self.old (joined chunks.now) end) (left_in self.new (joined chunks.now) end) batch.new) }
+        ensures filled { IfOk result (IsFilled (left_in self.old (joined chunks.now) end)
+            (left_in self.new (joined chunks.now) end) batch.new) }
         ensures fault { IfErr result (IsFault chunks.now self.old.from end) }
         ensures refused { OnErr result (self.new ≡ self.old) }
         ensures regex { self.new.regex ≡ self.old.regex }
@@ -283,9 +289,11 @@ fn build(
     kind: MatchKind,
 ) -> Result<Regex, BuildError>
     requires { length texts.now ≤ most_patterns }
-    ensures read { IfOk result (λ r. AllRead (syntax_settings settings.now) (texts_of texts.now) (regex_patterns r)) }
+    ensures read { IfOk result (λ r. AllRead (syntax_settings settings.now) (texts_of texts.now)
+        (regex_patterns r)) }
     ensures set { IfOk result (λ r. regex_settings r ≡ search_settings settings.now kind) }
-    ensures refused { IfErr result (λ e. IsTextRefusal (Some 10485760) (syntax_settings settings.now) (texts_of texts.now) e) }
+    ensures refused { IfErr result (λ e. IsTextRefusal (Some 10485760)
+        (syntax_settings settings.now) (texts_of texts.now) e) }
 {
     let mut builder = Regex::builder();
     builder

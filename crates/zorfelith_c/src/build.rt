@@ -63,7 +63,8 @@ pub extern "C" fn zf_compile(
     settings: &Settings,
     refused: &mut Refused,
 ) -> u32
-    ensures built { MatchOption handle.new.held.value (result ≢ done) (λ s. (result ≡ done) × IsBuilt settings.now patterns.now s) }
+    ensures built { MatchOption handle.new.held.value (result ≢ done)
+        (λ s. (result ≡ done) × IsBuilt settings.now patterns.now s) }
     ensures refused { result ≢ done → IsToldRefusal settings.now patterns.now result refused.new }
     ensures unwritten { result ≡ done → refused.new ≡ refused.old }
 {

@@ -13,7 +13,8 @@ use std::alloc::Global;
 /// Writes the number of patterns.
 #[unsafe(no_mangle)]
 pub extern "C" fn zf_pattern_count(alloc: Global, handle: &mut Handle, count: &mut usize) -> u32
-    ensures answered { MatchOption handle.old.held.value (result ≡ empty) (λ s. (result ≡ done) × (count.new ≡ length (regex_patterns s.regex))) }
+    ensures answered { MatchOption handle.old.held.value (result ≡ empty)
+        (λ s. (result ≡ done) × (count.new ≡ length (regex_patterns s.regex))) }
     ensures unwritten { result ≢ done → count.new ≡ count.old }
     ensures kept { handle.new.held.value ≡ handle.old.held.value }
 {
@@ -35,7 +36,8 @@ pub extern "C" fn zf_group_count(
     pattern: usize,
     count: &mut usize,
 ) -> u32
-    ensures answered { MatchOption handle.old.held.value (result ≡ empty) (λ s. TellsCount s.regex pattern result count.new) }
+    ensures answered { MatchOption handle.old.held.value (result ≡ empty)
+        (λ s. TellsCount s.regex pattern result count.new) }
     ensures unwritten { result ≢ done → count.new ≡ count.old }
     ensures kept { handle.new.held.value ≡ handle.old.held.value }
 {
@@ -66,7 +68,8 @@ pub extern "C" fn zf_group_name(
     name: &mut [u8],
     length: &mut usize,
 ) -> u32
-    ensures answered { MatchOption handle.old.held.value (result ≡ empty) (λ s. TellsName s.regex pattern group result name.new length.new) }
+    ensures answered { MatchOption handle.old.held.value (result ≡ empty)
+        (λ s. TellsName s.regex pattern group result name.new length.new) }
     ensures unwritten { result ≢ done → name.new ≡ name.old }
     ensures unmeasured { result ≢ done → result ≢ short → length.new ≡ length.old }
     ensures kept { handle.new.held.value ≡ handle.old.held.value }
@@ -91,7 +94,8 @@ pub extern "C" fn zf_group_number(
     name: &[u8],
     number: &mut usize,
 ) -> u32
-    ensures answered { MatchOption handle.old.held.value (result ≡ empty) (λ s. TellsNumber s.regex pattern name.now result number.new) }
+    ensures answered { MatchOption handle.old.held.value (result ≡ empty)
+        (λ s. TellsNumber s.regex pattern name.now result number.new) }
     ensures unwritten { result ≢ done → number.new ≡ number.old }
     ensures kept { handle.new.held.value ≡ handle.old.held.value }
 {
@@ -106,7 +110,8 @@ pub extern "C" fn zf_group_number(
 
 /// The number of groups of a pattern; `None` if no pattern can have that number.
 fn group_count(regex: &Regex, pattern: usize) -> Option<usize>
-    ensures { MatchOption result (TellsCount regex.now pattern 5 0) (TellsCount regex.now pattern 0) }
+    ensures { MatchOption result (TellsCount regex.now pattern 5 0)
+        (TellsCount regex.now pattern 0) }
 {
     let pattern = PatternID::new(pattern)?;
     Some(regex.group_info().group_len(pattern))

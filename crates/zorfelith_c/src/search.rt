@@ -29,7 +29,8 @@ pub extern "C" fn zf_is_match(
     start: usize,
     end: usize,
 ) -> u32
-    ensures answered { MatchOption handle.old.held.value (result ≡ empty) (λ s. TellsWhether s.regex chunks.now start end result) }
+    ensures answered { MatchOption handle.old.held.value (result ≡ empty)
+        (λ s. TellsWhether s.regex chunks.now start end result) }
     ensures kept { handle.new.held.value ≡ handle.old.held.value }
 {
     if !handle.is_full() {
@@ -56,7 +57,8 @@ pub extern "C" fn zf_find(
     end: usize,
     found: &mut MatchAt,
 ) -> u32
-    ensures answered { MatchOption handle.old.held.value (result ≡ empty) (λ s. TellsMatch s.regex chunks.now start end result found.new) }
+    ensures answered { MatchOption handle.old.held.value (result ≡ empty)
+        (λ s. TellsMatch s.regex chunks.now start end result found.new) }
     ensures unwritten { result ≢ 1 → found.new ≡ found.old }
     ensures kept { handle.new.held.value ≡ handle.old.held.value }
 {
@@ -89,10 +91,13 @@ pub extern "C" fn zf_find_groups(
     found: &mut MatchAt,
     groups: &mut [GroupAt],
 ) -> u32
-    ensures answered { MatchOption handle.old.held.value (result ≡ empty) (λ s. TellsMatch s.regex chunks.now start end result found.new) }
+    ensures answered { MatchOption handle.old.held.value (result ≡ empty)
+        (λ s. TellsMatch s.regex chunks.now start end result found.new) }
     ensures unwritten { result ≢ 1 → found.new ≡ found.old }
-    ensures groups { MatchOption handle.old.held.value ((handle.new.held.value ≡ None) × (groups.new ≡ groups.old))
-        (λ s. LeavesGroups s chunks.now start end result groups.old groups.new handle.new.held.value) }
+    ensures groups { MatchOption handle.old.held.value
+        ((handle.new.held.value ≡ None) × (groups.new ≡ groups.old))
+        (λ s. LeavesGroups s chunks.now start end result groups.old
+        groups.new handle.new.held.value) }
 {
     if !handle.is_full() {
         return EMPTY;
@@ -127,7 +132,8 @@ pub extern "C" fn zf_which_patterns(
     end: usize,
     marks: &mut [u8],
 ) -> u32
-    ensures answered { MatchOption handle.old.held.value (result ≡ empty) (λ s. TellsMarks s.regex chunks.now start end result marks.new) }
+    ensures answered { MatchOption handle.old.held.value (result ≡ empty)
+        (λ s. TellsMarks s.regex chunks.now start end result marks.new) }
     ensures unwritten { result ≢ done → marks.new ≡ marks.old }
     ensures kept { handle.new.held.value ≡ handle.old.held.value }
 {
@@ -150,7 +156,12 @@ pub extern "C" fn zf_which_patterns(
 pub extern "C" fn zf_restart(alloc: Global, handle: &mut Handle, from: usize, follows: u8) -> u32
     ensures answered { MatchOption handle.old.held.value (result ≡ empty) (λ _. result ≡ done) }
     ensures begun { handle.new.held.value
-        ≡ option_map (λ (s : Searching). record s { from = from; last = if is_on follows then Some from else None }) handle.old.held.value }
+        ≡ option_map (λ (s : Searching).
+        record s {
+          from = from;
+          last = if is_on follows then Some from
+              else None;
+        }) handle.old.held.value }
 {
     if !handle.is_full() {
         return EMPTY;
@@ -173,7 +184,8 @@ pub extern "C" fn zf_next(
     batch: &mut [MatchAt],
     progress: &mut Progress,
 ) -> u32
-    ensures answered { MatchOption handle.old.held.value ((result ≡ empty) × (handle.new.held.value ≡ None))
+    ensures answered { MatchOption handle.old.held.value
+        ((result ≡ empty) × (handle.new.held.value ≡ None))
         (λ s. TellsBatch s chunks.now end result batch.new progress.new handle.new.held.value) }
     ensures unwritten { result ≢ done → progress.new ≡ progress.old }
 {

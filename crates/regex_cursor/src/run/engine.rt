@@ -32,9 +32,11 @@ fn put_lines<W: Sink, C: Cursor + Drop>(
     matches: FindMatches<'_, C>,
 ) -> Result<bool, RunError>
     requires { W.has_failed out.old ≡ false }
-    ensures put { IfOk result (λ found. IsPut (find_left matches.entry) (W.taken out.old) (W.taken out.new) found) }
+    ensures put { IfOk result (λ found. IsPut (find_left matches.entry) (W.taken out.old)
+        (W.taken out.new) found) }
     ensures sound { OnOk result (W.has_failed out.new ≡ false) }
-    ensures write_failed { IfErr result (λ e. (e ≡ RunError.Write) × (W.has_failed out.new ≡ true)) }
+    ensures write_failed { IfErr result (λ e. (e ≡ RunError.Write)
+        × (W.has_failed out.new ≡ true)) }
 {
     let mut is_found = false;
     for found in matches {
@@ -56,11 +58,14 @@ fn run_lent<W: Sink>(
 ) -> Result<bool, RunError>
     requires fresh { W.has_failed out.old ≡ false }
     requires settings { regex_settings regex.now ≡ unset }
-    ensures done { (p : Re) → regex_patterns regex.now ≡ p ∷ [] → IfOk result (IsPut (matches_in p (joined chunks.now)) (W.taken out.old) (W.taken out.new)) }
+    ensures done { (p : Re) → regex_patterns regex.now ≡ p ∷ []
+        → IfOk result (IsPut (matches_in p (joined chunks.now)) (W.taken out.old)
+        (W.taken out.new)) }
     ensures sound { OnOk result (W.has_failed out.new ≡ false) }
     ensures unfailed { IfErr result (λ e. e ≢ RunError.Write → W.has_failed out.new ≡ false) }
     ensures write_failed { result ≡ Err RunError.Write → W.has_failed out.new ≡ true }
-    ensures nothing_put { IfErr result (λ e. e ≢ RunError.Write → Keeps (W.taken out.old) (W.taken out.new)) }
+    ensures nothing_put { IfErr result (λ e. e ≢ RunError.Write
+        → Keeps (W.taken out.old) (W.taken out.new)) }
     ensures fault { (text : List ℕ) → IsBuilt text → IfErr result (IsFault text chunks.now) }
     ensures short { OnOk result (¬ IsTooLong chunks.now) }
 {
@@ -82,11 +87,13 @@ pub fn run<W: Sink>(
     out: &mut W,
 ) -> Result<bool, RunError>
     requires { W.has_failed out.old ≡ false }
-    ensures done { IfOk result (λ found. IsRun pattern.now (joined chunks.now) (W.taken out.old) (W.taken out.new) found) }
+    ensures done { IfOk result (λ found. IsRun pattern.now (joined chunks.now) (W.taken out.old)
+        (W.taken out.new) found) }
     ensures sound { OnOk result (W.has_failed out.new ≡ false) }
     ensures unfailed { IfErr result (λ e. e ≢ RunError.Write → W.has_failed out.new ≡ false) }
     ensures write_failed { result ≡ Err RunError.Write → W.has_failed out.new ≡ true }
-    ensures nothing_put { IfErr result (λ e. e ≢ RunError.Write → Keeps (W.taken out.old) (W.taken out.new)) }
+    ensures nothing_put { IfErr result (λ e. e ≢ RunError.Write
+        → Keeps (W.taken out.old) (W.taken out.new)) }
     ensures fault { IfErr result (IsFault pattern.now chunks.now) }
     ensures short { OnOk result (¬ IsTooLong chunks.now) }
 {

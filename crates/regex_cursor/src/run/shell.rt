@@ -97,10 +97,13 @@ pub fn program<R: Read, W: Sink, E: Write>(
 ) -> u8
     requires { W.has_failed out.old ≡ false }
     ensures status { result ≤ FAULT }
-    ensures done { result ≢ FAULT → (text : List ℕ) × AreWords words.now text × IfSome (R.remaining input.old)
+    ensures done { result ≢ FAULT → (text : List ℕ) × AreWords words.now text
+        × IfSome (R.remaining input.old)
         (λ bytes. IsRun text bytes (W.taken out.old) (W.taken out.new) (nat_eq result MATCHED)) }
-    ensures unread { ¬ ((text : List ℕ) × AreWords words.now text) → Keeps (R.remaining input.old) (R.remaining input.new) }
-    ensures nothing_put { result ≡ FAULT → W.has_failed out.new ≡ false → Keeps (W.taken out.old) (W.taken out.new) }
+    ensures unread { ¬ ((text : List ℕ) × AreWords words.now text)
+        → Keeps (R.remaining input.old) (R.remaining input.new) }
+    ensures nothing_put { result ≡ FAULT → W.has_failed out.new ≡ false
+        → Keeps (W.taken out.old) (W.taken out.new) }
 {
     let Some((pattern, n)) = arguments(words) else {
         return report(err, USAGE);

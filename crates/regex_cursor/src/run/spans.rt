@@ -15,7 +15,8 @@ use std::io;
 /// written.
 pub fn put_span<W: Sink, C: Cursor>(out: &mut W, cursor: &mut C, span: Span) -> io::Result<()>
     ensures content { C.content cursor.new ≡ C.content cursor.old }
-    ensures put { Puts result (W.taken out.old) (W.taken out.new) (slice_range (C.content cursor.old) span.start span.end) }
+    ensures put { Puts result (W.taken out.old) (W.taken out.new)
+        (slice_range (C.content cursor.old) span.start span.end) }
     ensures ok { OnOk result (W.has_failed out.new ≡ W.has_failed out.old) }
     ensures err { OnErr result (W.has_failed out.new ≡ true) }
 {
