@@ -37,8 +37,10 @@ pub struct DFA {
     pub(crate) thompson: thompson::Config,
     pub(crate) tables: Dense,
     pub(crate) passes_over: bool,
-    ghost passing: { passes_over ≡ is_passing (sought_by (settings_of thompson) (map meaning hirs.items)) },
-    ghost made: { ∥ AreTables (sought_by (settings_of thompson) (map meaning hirs.items)) (match_kind_of (search_settings_of config)) tables ∥₁ },
+    ghost passing: { passes_over
+        ≡ is_passing (sought_by (settings_of thompson) (map meaning hirs.items)) },
+    ghost made: { ∥ AreTables (sought_by (settings_of thompson) (map meaning hirs.items))
+        (match_kind_of (search_settings_of config)) tables ∥₁ },
 }
 
 impl DFA {

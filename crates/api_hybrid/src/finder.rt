@@ -32,7 +32,11 @@ impl<'r, 'c> Model for Finder<'r, 'c> {
 
     ghost coded = { Prim.hlevel (codes, regexes.the_row.coded, caches.the_row.coded) };
 
-    ghost view = { λ f. record { regex = f.regex.now; cache = f.cache.now; lender = f.cache.ghost_name } };
+    ghost view = { λ f. record {
+      regex = f.regex.now;
+      cache = f.cache.now;
+      lender = f.cache.ghost_name;
+    } };
 
     ghost invariant = { λ f. IsCacheFor f.regex.now f.cache.now };
 }

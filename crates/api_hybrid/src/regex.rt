@@ -28,8 +28,10 @@ pub struct Regex {
     pub(crate) thompson: thompson::Config,
     pub(crate) lazy: Lazy,
     pub(crate) passes_over: bool,
-    ghost passing: { passes_over ≡ is_passing (sought_by (settings_of thompson) (map meaning hirs.items)) },
-    ghost made: { ∥ IsLazyFor (sought_by (settings_of thompson) (map meaning hirs.items)) (match_kind_of (search_settings_of config)) lazy ∥₁ },
+    ghost passing: { passes_over
+        ≡ is_passing (sought_by (settings_of thompson) (map meaning hirs.items)) },
+    ghost made: { ∥ IsLazyFor (sought_by (settings_of thompson) (map meaning hirs.items))
+        (match_kind_of (search_settings_of config)) lazy ∥₁ },
 }
 
 impl Regex {

@@ -33,7 +33,8 @@ impl<'r> Model for Finder<'r> {
 
     ghost view = { λ f. f.regex.now };
 
-    ghost invariant = { λ f. IsCacheFor (regex_patterns f.regex.now) (regex_settings f.regex.now) f.cache };
+    ghost invariant = { λ f. IsCacheFor (regex_patterns f.regex.now)
+        (regex_settings f.regex.now) f.cache };
 }
 
 impl<'r> Finder<'r> {

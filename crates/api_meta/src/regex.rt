@@ -41,11 +41,14 @@ pub struct Regex {
     pub(crate) hirs: Vec<Hir>,
     pub(crate) engines: Engines,
     pub(crate) info: GroupInfo,
-    ghost fits: { Fits (program_settings (settings_of config)) (match_kind_of (settings_of config)) (map meaning hirs.items) engines.engine info },
-    ghost planned: { ∥ IfSome engines.lazy (IsLazyFor (plan_by (map meaning hirs.items) (settings_of config))) ∥₁ },
+    ghost fits: { Fits (program_settings (settings_of config)) (match_kind_of (settings_of config))
+        (map meaning hirs.items) engines.engine info },
+    ghost planned: { ∥ IfSome engines.lazy
+        (IsLazyFor (plan_by (map meaning hirs.items) (settings_of config))) ∥₁ },
     ghost well_formed: { ∥ All IsWellFormed (map meaning hirs.items) ∥₁ },
     // No needles, if none are asked for.
-    ghost unguarded: { auto_prefilter_of (settings_of config) ≡ false → prefilter_of (settings_of config) ≡ None → guarding engines.engine.literals ≡ None },
+    ghost unguarded: { auto_prefilter_of (settings_of config) ≡ false
+        → prefilter_of (settings_of config) ≡ None → guarding engines.engine.literals ≡ None },
 }
 
 impl Regex {

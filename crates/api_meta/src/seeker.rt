@@ -79,7 +79,8 @@ impl<'r> Model for GroupSeeker<'r> {
 
     ghost view = { λ s. record { seeker = s.seeker } };
 
-    ghost invariant = { λ s. IsCacheIn s.seeker.regex (slot_len (names_of s.seeker.regex.info)) s.seeker.cache };
+    ghost invariant = { λ s. IsCacheIn s.seeker.regex
+        (slot_len (names_of s.seeker.regex.info)) s.seeker.cache };
 }
 
 /// Finds a match, and writes its groups to the captures.

@@ -26,7 +26,8 @@ pub struct PikeVM {
     pub(crate) config: Config,
     pub(crate) thompson: thompson::Config,
     pub(crate) built: Built,
-    ghost fits: { Fits (settings_of thompson) (match_kind_of (search_settings_of config)) (map meaning built.hirs.items) built.engine built.info },
+    ghost fits: { Fits (settings_of thompson) (match_kind_of (search_settings_of config))
+        (map meaning built.hirs.items) built.engine built.info },
     ghost unanswered: { answering built.engine.literals ≡ None },
 }
 

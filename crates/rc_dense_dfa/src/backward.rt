@@ -304,7 +304,14 @@ fn search<C: Cursor>(
 ) -> Outcome
     ghost course: { Request }
     requires course { course
-        ≡ record { seen = input.old; from = from; bound = end; anchored = anchored; earliest = earliest; may_rest = false } }
+        ≡ record {
+          seen = input.old;
+          from = from;
+          bound = end;
+          anchored = anchored;
+          earliest = earliest;
+          may_rest = false;
+        } }
     requires low { input.old.slice.start ≤ end }
     requires ordered { end ≤ from }
     requires high { from ≤ slice_end input.old }

@@ -420,7 +420,14 @@ fn search<C: Cursor>(
 ) -> Outcome
     ghost course: { Request }
     requires course { course
-        ≡ record { seen = input.old; from = from; bound = end; anchored = anchored; earliest = earliest; may_rest = may_rest } }
+        ≡ record {
+          seen = input.old;
+          from = from;
+          bound = end;
+          anchored = anchored;
+          earliest = earliest;
+          may_rest = may_rest;
+        } }
     requires low { input.old.slice.start ≤ from }
     requires ordered { from ≤ end }
     requires bound { end ≤ slice_end input.old }

@@ -38,8 +38,11 @@ pub struct Table {
     /// for an end.
     pub starts: Vec<usize>,
     ghost classed: { (length classes.items ≡ 256) × All (λ c. c < width) classes.items },
-    ghost inside: { All (IsNamed width (length cells.items)) cells.items × All (IsNamed width (length cells.items)) starts.items },
-    ghost passed: { (k : ℕ) → AreExitsOf met classes.items cells.items (k * width) (slice_index_or exits.items k Many) },
+    ghost inside: { All (IsNamed width (length cells.items)) cells.items
+        × All (IsNamed width (length cells.items)) starts.items },
+    ghost passed: { (k : ℕ)
+        → AreExitsOf met classes.items cells.items (k * width)
+        (slice_index_or exits.items k Many) },
     ghost leaped: { AreLeaps met classes.items cells.items leaps.items },
     ghost small: { length cells.items < skip },
 }

@@ -79,11 +79,15 @@ pub trait Halves {
 
     ghost spends_nothing: { (h : Self) (a : Self.Cache) (n : ℕ) → Spends h a a n };
 
-    ghost spends_both: { (h : Self) (a b c : Self.Cache) (n k : ℕ) → Spends h a b n → Spends h b c k → Spends h a c (n + k) };
+    ghost spends_both: { (h : Self) (a b c : Self.Cache) (n k : ℕ) → Spends h a b n
+        → Spends h b c k → Spends h a c (n + k) };
 
-    ghost gives_up_later: { (h : Self) (a b c : Self.Cache) (n k : ℕ) (memory : Bool) → Spends h a b n → GivesUp h b c k memory → GivesUp h a c (n + k) memory };
+    ghost gives_up_later: { (h : Self) (a b c : Self.Cache) (n k : ℕ) (memory : Bool)
+        → Spends h a b n → GivesUp h b c k memory → GivesUp h a c (n + k) memory };
 
-    ghost gives_up_within: { (h : Self) (a b : Self.Cache) (n k : ℕ) (memory : Bool) → n ≤ k → GivesUp h a b n memory → GivesUp h a b k memory };
+    ghost gives_up_within: { (h : Self) (a b : Self.Cache) (n k : ℕ) (memory : Bool) → n ≤ k
+        → GivesUp h a b n memory → GivesUp h a b k memory };
 
-    ghost spends_within: { (h : Self) (a b : Self.Cache) (n k : ℕ) → n ≤ k → Spends h a b n → Spends h a b k };
+    ghost spends_within: { (h : Self) (a b : Self.Cache) (n k : ℕ) → n ≤ k → Spends h a b n
+        → Spends h a b k };
 }

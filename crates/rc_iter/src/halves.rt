@@ -61,7 +61,8 @@ impl<F: FnMut(&mut I) -> Result<Option<HalfMatch>, MatchError> + Drop, I: KeptIn
 
     type Item = Result<HalfMatch, MatchError>;
 
-    ghost can_next = { λ s. F.IsAlwaysCallable s.finder × IsLawfulFinder offset_of offset_of I.searched F.FnMut s.finder };
+    ghost can_next = { λ s. F.IsAlwaysCallable s.finder
+        × IsLawfulFinder offset_of offset_of I.searched F.FnMut s.finder };
 
     ghost next_gives = { GivesNext I.searched F.FnMut };
 

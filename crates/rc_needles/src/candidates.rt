@@ -61,7 +61,8 @@ struct ByRest<'a> {
     rest: &'a Finder<'static>,
     first: u8,
     second: u8,
-    ghost is: { IsRestOf (needles_in searcher.now.table.needles.items) searcher.now.offset rest.now },
+    ghost is: { IsRestOf
+        (needles_in searcher.now.table.needles.items) searcher.now.offset rest.now },
     ghost is_first: { first ≡ slice_index rest.now 0 },
     ghost is_second: { second ≡ slice_index rest.now 1 },
 }

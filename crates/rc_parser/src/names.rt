@@ -12,7 +12,8 @@ use std::collections::BTreeSet;
 pub struct Names {
     pub list: Vec<String>,
     pub set: BTreeSet<String>,
-    ghost same: { (name : List ℕ) → contains_text set name ≡ is_named name (map string_bytes list.items) },
+    ghost same: { (name : List ℕ)
+        → contains_text set name ≡ is_named name (map string_bytes list.items) },
 }
 
 fn copy_of(alloc: Global, name: &str) -> Result<String, AllocError>

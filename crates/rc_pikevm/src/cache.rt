@@ -23,9 +23,14 @@ impl Model for Cache {
 
     ghost coded = { made_code };
 
-    ghost view = { λ a. record { places = a.places; columns = a.columns; insertions = a.scratch.insertions } };
+    ghost view = { λ a. record {
+      places = a.places;
+      columns = a.columns;
+      insertions = a.scratch.insertions;
+    } };
 
-    ghost invariant = { λ a. (a.scratch.next.entered.capacity ≡ a.places) × (a.scratch.next.threads.most ≡ a.columns) };
+    ghost invariant = { λ a. (a.scratch.next.entered.capacity ≡ a.places)
+        × (a.scratch.next.threads.most ≡ a.columns) };
 }
 
 impl Cache {

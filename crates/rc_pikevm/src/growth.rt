@@ -25,8 +25,10 @@ pub struct Growth {
     pub stack: Vec<Frame>,
     /// The slots of the thread that the closure is for.
     pub slots: Vec<Option<usize>>,
-    ghost fits: { (threads.room ≡ 4 * entered.capacity) × (entered.capacity + 1 ≤ vec_capacity stack) },
-    ghost wide: { (length slots.items ≡ threads.width) × (threads.width ≤ threads.most) × (threads.most ≤ vec_capacity slots) },
+    ghost fits: { (threads.room ≡ 4 * entered.capacity)
+        × (entered.capacity + 1 ≤ vec_capacity stack) },
+    ghost wide: { (length slots.items ≡ threads.width) × (threads.width ≤ threads.most)
+        × (threads.most ≤ vec_capacity slots) },
 }
 
 /// Fills the row with `width` empty slots, in place of what it held.

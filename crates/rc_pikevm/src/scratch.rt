@@ -19,8 +19,10 @@ pub struct Scratch {
     pub found: Vec<Option<usize>>,
     /// How many places were entered, over all positions.
     pub insertions: u128,
-    ghost alike: { (curr.room ≡ next.threads.room) × (curr.most ≡ next.threads.most) × (curr.width ≡ next.threads.width) },
-    ghost wide: { (length found.items ≡ next.threads.width) × (next.threads.most ≤ vec_capacity found) },
+    ghost alike: { (curr.room ≡ next.threads.room) × (curr.most ≡ next.threads.most)
+        × (curr.width ≡ next.threads.width) },
+    ghost wide: { (length found.items ≡ next.threads.width)
+        × (next.threads.most ≤ vec_capacity found) },
 }
 
 /// If no place was entered and yet threads wait, inserts the first one's place. So a position that

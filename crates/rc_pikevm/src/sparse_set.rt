@@ -22,7 +22,8 @@ impl Model for SparseSet {
 
     ghost view = { λ a. record { capacity = vec_len a.sparse; items = a.dense.items } };
 
-    ghost invariant = { λ a. (vec_len a.sparse ≤ vec_capacity a.dense) × IsIndexed a.dense.items a.sparse.items };
+    ghost invariant = { λ a. (vec_len a.sparse ≤ vec_capacity a.dense)
+        × IsIndexed a.dense.items a.sparse.items };
 }
 
 impl SparseSet {

@@ -44,7 +44,8 @@ impl Model for Threads {
     } };
 
     ghost invariant = { λ a. (vec_len a.heads ≤ a.room) × (a.room ≤ vec_capacity a.heads)
-        × (vec_len a.rows ≡ vec_len a.heads * a.width) × (a.width ≤ a.most) × (a.room * a.most ≤ vec_capacity a.rows) };
+        × (vec_len a.rows ≡ vec_len a.heads * a.width) × (a.width ≤ a.most)
+        × (a.room * a.most ≤ vec_capacity a.rows) };
 }
 
 impl Threads {

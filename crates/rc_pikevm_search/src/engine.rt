@@ -21,7 +21,9 @@ pub struct Engine {
     pub program: Program,
     pub kind: MatchKind,
     pub literals: Literals,
-    ghost sound: { MayGoBy (places_of program.places.items) program.terminator program.passes_over literals } by { MayGoBy-is_fact (places_of program.places.items) program.terminator program.passes_over literals },
+    ghost sound: { MayGoBy
+        (places_of program.places.items) program.terminator program.passes_over literals } by { MayGoBy-is_fact
+            (places_of program.places.items) program.terminator program.passes_over literals },
 }
 
 impl Engine {

@@ -73,7 +73,8 @@ pub struct Engines {
     ghost numbered: { NamesGroups patterns (places_of engine.program.places.items) },
     ghost programmed: { IsOfPatterns (places_of engine.program.places.items) },
     ghost bound: { BoundsWalks spans (places_of engine.program.places.items) },
-    ghost needed: { NeedsConfine needs (places_of engine.program.places.items) engine.program.terminator },
+    ghost needed: { NeedsConfine needs
+        (places_of engine.program.places.items) engine.program.terminator },
 }
 
 impl Engines {

@@ -53,7 +53,8 @@ impl<'p> Model for LineRegex<'p> {
 
     ghost view = { λ s. record { regex = s.patterns.now.regex; is_inverted = s.is_inverted } };
 
-    ghost invariant = { λ s. IsCacheFor (regex_patterns s.patterns.now.regex) (regex_settings s.patterns.now.regex) s.cache };
+    ghost invariant = { λ s. IsCacheFor (regex_patterns s.patterns.now.regex)
+        (regex_settings s.patterns.now.regex) s.cache };
 }
 
 impl<'p> LineRegex<'p> {

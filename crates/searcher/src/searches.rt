@@ -53,7 +53,12 @@ impl Model for Searcher {
 
     ghost coded = { Prim.hlevel (codes, regexes.the_row.coded, captured.the_row.coded) };
 
-    ghost view = { λ s. record { regex = s.regex; captures = s.captures; from = s.from; last = s.last } };
+    ghost view = { λ s. record {
+      regex = s.regex;
+      captures = s.captures;
+      from = s.from;
+      last = s.last;
+    } };
 
     ghost invariant = { λ s. IsCacheFor (regex_patterns s.regex) (regex_settings s.regex) s.cache
         × KeepsAll (regex_names s.regex) s.captures
