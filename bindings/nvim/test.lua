@@ -106,8 +106,24 @@ local function many_lines()
   is("from the first to the last", cursor(), { 10000, 5 })
 end
 
+-- The structs lie as include/zorfelith.abi says.
+local function layouts()
+  local ffi, count = require("ffi"), 0
+  for _, line in ipairs(vim.fn.readfile("include/zorfelith.abi")) do
+    local struct, size = line:match("^struct (zf_%w+): size (%d+)")
+    local of, field, offset = line:match("^field (zf_%w+)%.([%w_]+): offset (%d+)")
+    if struct and struct ~= "zf_group" then
+      is(struct, tostring(ffi.sizeof("struct " .. struct)), size)
+      count = count + 1
+    elseif of and of ~= "zf_group" then
+      is(of .. "." .. field, tostring(ffi.offsetof("struct " .. of, field)), offset)
+    end
+  end
+  is("how many structs", count, 6)
+end
+
 local ok, fault = pcall(function()
-  for _, test in ipairs({ finds_and_moves, follows_edits, over_lines, refuses, is_drawn, many_lines }) do
+  for _, test in ipairs({ finds_and_moves, follows_edits, over_lines, refuses, is_drawn, many_lines, layouts }) do
     test()
   end
 end)

@@ -1,5 +1,8 @@
 """Tests of the Python binding, over the library that ZORFELITH_LIBRARY names: python3 -m unittest, in this folder."""
+import ctypes
 import gc
+import pathlib
+import re
 import threading
 import unittest
 
@@ -84,6 +87,22 @@ class Searches(unittest.TestCase):
         for group in (3, -1, "x"):
             with self.assertRaises(IndexError):
                 found.group(group)
+
+
+class Layouts(unittest.TestCase):
+    def test_structs_lie_as_the_list_says(self):
+        listed = (pathlib.Path(__file__).resolve().parents[2] / "include/zorfelith.abi").read_text()
+        for name, size, alignment in re.findall(r"^struct zf_(\w+): size (\d+), alignment (\d+)$", listed, re.M):
+            struct = getattr(zorfelith, "_" + name.capitalize())
+            self.assertEqual((name, ctypes.sizeof(struct), ctypes.alignment(struct)), (name, int(size), int(alignment)))
+            fields = [(it, getattr(struct, it).offset, getattr(struct, it).size) for it, _ in struct._fields_]
+            wanted = re.findall(rf"^field zf_{name}\.(\w+): offset (\d+), size (\d+)$", listed, re.M)
+            self.assertEqual(fields, [(it, int(offset), int(size)) for it, offset, size in wanted])
+
+    def test_functions_have_the_listed_number_of_arguments(self):
+        listed = (pathlib.Path(__file__).resolve().parents[2] / "include/zorfelith.abi").read_text()
+        for name, arguments in re.findall(r"^function \w+ (zf_\w+)\((.*)\)$", listed, re.M):
+            self.assertEqual((name, len(getattr(zorfelith._zf, name).argtypes)), (name, arguments.count(",") + 1))
 
 
 class Replacing(unittest.TestCase):
