@@ -1,0 +1,85 @@
+// Searches a text of two pieces, as a gap buffer has them, by the C++ header. It prints bindings/cpp/example.stdout.
+#include <zorfelith.hpp>
+
+#include <cstdio>
+#include <string>
+#include <vector>
+#if __cplusplus >= 202002L
+#include <ranges>
+#endif
+
+// The bytes of a range of the text.
+static std::string copied(zorfelith::text text, zorfelith::range range) {
+    std::string all;
+    for (const zorfelith::chunk &chunk : text)
+        all.append(reinterpret_cast<const char *>(chunk.bytes), chunk.len);
+    return all.substr(range.start, range.end - range.start);
+}
+
+// All dates, each with the year from its group.
+static void dates(zorfelith::text text) {
+    zorfelith::regex regex(R"((?P<year>\d{4})-(\d{2})-(\d{2}))");
+    const std::size_t year = regex.group_number(0, "year").value_or(0);
+    for (const zorfelith::match &found : regex.matches(text)) {
+        const auto groups = regex.groups_of(text, found);
+        std::printf("%zu..%zu, year %s\n", found.start, found.end, copied(text, (*groups)[year].value()).c_str());
+    }
+    std::printf("group 1 is %s, and group 2 has %s\n", regex.group_name(0, 1)->c_str(), regex.group_name(0, 2) ? "a name" : "none");
+}
+
+// Many patterns at once, and a regex that is moved.
+static void rules(zorfelith::text text) {
+    const std::vector<zorfelith::chunk> patterns{"due", "paid", "[0-9]{4}"};
+    zorfelith::settings settings{};
+    settings.kind = ZF_LEFTMOST_LONGEST;
+    zorfelith::regex made = zorfelith::regex::of_patterns(patterns, settings);
+    zorfelith::regex regex = std::move(made);
+    for (std::size_t pattern : regex.which_patterns(text))
+        std::printf("pattern %zu has a match\n", pattern);
+    if (const auto found = regex.find(text, {12, ZF_NONE}))
+        std::printf("from 12 on, pattern %zu is at %zu\n", found->pattern, found->start);
+    std::printf("before 4: %s\n", regex.is_match(text, {0, 4}) ? "yes" : "no");
+    try {
+        made.is_match(text);
+    } catch (const zorfelith::error &error) {
+        std::printf("status %u: %s\n", error.status(), error.what());
+    }
+}
+
+// What is refused.
+static void refused(const char *pattern) {
+    try {
+        zorfelith::regex regex(pattern);
+    } catch (const zorfelith::error &error) {
+        std::printf("status %u: %s\n", error.status(), error.what());
+    }
+}
+
+// An empty text, and two loops over one regex at once.
+static void loops() {
+    zorfelith::regex regex("x*");
+    for (const zorfelith::match &found : regex.matches({}))
+        std::printf("in the empty text: %zu..%zu\n", found.start, found.end);
+    const zorfelith::chunk text[] = {"ax", std::string_view(), "xb"};
+    zorfelith::matches outer = regex.matches(text);
+    for (auto it = outer.begin(); it != outer.end(); ++it) {
+        std::size_t inner = 0;
+        for (const zorfelith::match &found : regex.matches(text, {it->end, ZF_NONE}))
+            inner += found.end - found.start;
+        std::printf("%zu..%zu, then %zu bytes\n", it->start, it->end, inner);
+    }
+}
+
+#if __cplusplus >= 202002L
+static_assert(std::ranges::input_range<zorfelith::matches>);
+#endif
+
+int main() {
+    const std::vector<zorfelith::chunk> text{"due 20", "26-11-22, paid 2026-12-0", "1"};
+    dates(text);
+    rules(text);
+    refused("a(b");
+    refused("a\xff");
+    loops();
+    return 0;
+}

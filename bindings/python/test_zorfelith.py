@@ -1,0 +1,175 @@
+"""Tests of the Python binding, over the library that ZORFELITH_LIBRARY names: python3 -m unittest, in this folder."""
+import ctypes
+import gc
+import pathlib
+import re
+import threading
+import unittest
+
+import zorfelith
+
+DATES = r"(?P<year>\d{4})-(\d{2})"
+
+
+class Searches(unittest.TestCase):
+    def test_first_program(self):
+        found = list(zorfelith.compile(DATES).finditer([b"see 20", b"26-11, 2027", b"-01"]))
+        self.assertEqual([it.span() for it in found], [(4, 11), (13, 20)])
+        self.assertEqual([it.group("year") for it in found], [b"2026", b"2027"])
+        self.assertEqual(found[1].groups(), (b"2027", b"01"))
+        self.assertEqual(found[1].groupdict(), {"year": b"2027"})
+        self.assertEqual(found[0].group(0, 2), (b"2026-11", b"11"))
+        self.assertEqual((found[0].start(2), found[0].end("year")), (9, 8))
+
+    def test_each_cutting_gives_the_same(self):
+        text, words = b"one two  three, four", zorfelith.compile("[a-z]+")
+        wanted = [(0, 3), (4, 7), (9, 14), (16, 20)]
+        for length in range(1, len(text) + 1):
+            chunks = [text[i:i + length] for i in range(0, len(text), length)]
+            self.assertEqual([it.span() for it in words.finditer(chunks)], wanted)
+            self.assertEqual(words.search(chunks, 5).span(), (5, 7))
+
+    def test_more_matches_than_a_batch(self):
+        letters = zorfelith.compile("x*")
+        text = [b"ax"] * 1000
+        wanted = [(0, 0)] + [(2 * i + 1, 2 * i + 2) for i in range(1000)]
+        self.assertEqual([it.span() for it in letters.finditer(text)], wanted)
+        self.assertEqual(letters.findall(text)[-1], b"x")
+
+    def test_loops_beside_one_another(self):
+        digits = zorfelith.compile("[0-9]")
+        text = [b"1 2 3", b" 4"]
+        pairs = [(a.start(), b.start()) for a in digits.finditer(text) for b in digits.finditer(text, a.end())]
+        self.assertEqual(pairs, [(0, 2), (0, 4), (0, 6), (2, 4), (2, 6), (4, 6)])
+
+    def test_kinds_of_chunks(self):
+        buffer, view = bytearray(b"ab12"), memoryview(b"xx34")[1:]
+        digits = zorfelith.compile("[0-9]+")
+        self.assertEqual(digits.findall([buffer, b"", bytearray(), view]), [b"12", b"34"])
+        self.assertEqual(digits.findall(b"a1"), [b"1"])
+        self.assertEqual(digits.findall(buffer), [b"12"])
+        self.assertEqual(digits.findall(chunk for chunk in (b"1", b"2")), [b"12"])
+        self.assertEqual(digits.findall([]), [])
+        iterator = digits.finditer(buffer)
+        next(iterator)
+        with self.assertRaises(BufferError):
+            buffer.append(1)
+        del iterator
+        gc.collect()
+        buffer.append(1)
+
+    def test_what_is_no_bytes(self):
+        digits = zorfelith.compile("[0-9]+")
+        for text in (["12"], [b"1", 2], [None]):
+            with self.assertRaises((TypeError, BufferError)):
+                digits.findall(text)
+
+    def test_ranges(self):
+        digits = zorfelith.compile("[0-9]+")
+        self.assertEqual(digits.search([b"12", b"34"], 1, 3).span(), (1, 3))
+        self.assertIsNone(digits.search(b"12", 2))
+        self.assertTrue(digits.is_match(b"a1") and not digits.is_match(b"a1", 0, 1))
+        for call in (digits.search, digits.is_match, digits.which, digits.findall):
+            with self.assertRaises(zorfelith.Error) as raised:
+                call(b"12", 3)
+            self.assertEqual(raised.exception.status, 4)
+
+    def test_many_patterns(self):
+        rules = zorfelith.compile(["due", b"paid", "[0-9]+"])
+        self.assertEqual(rules.which([b"du", b"e 7"]), [0, 2])
+        self.assertEqual([(it.pattern, it.group()) for it in rules.finditer(b"7 paid")], [(2, b"7"), (1, b"paid")])
+        self.assertEqual(rules.pattern_count(), 3)
+        self.assertEqual(zorfelith.compile([]).which(b"a"), [])
+
+    def test_groups_that_took_no_part(self):
+        found = zorfelith.compile("(a)|(b)").search(b"b")
+        self.assertEqual((found.span(1), found.group(1), found.groups(b"")), ((-1, -1), None, (b"", b"b")))
+        for group in (3, -1, "x"):
+            with self.assertRaises(IndexError):
+                found.group(group)
+
+
+class Layouts(unittest.TestCase):
+    def test_structs_lie_as_the_list_says(self):
+        listed = (pathlib.Path(__file__).resolve().parents[2] / "include/zorfelith.abi").read_text()
+        for name, size, alignment in re.findall(r"^struct zf_(\w+): size (\d+), alignment (\d+)$", listed, re.M):
+            struct = getattr(zorfelith, "_" + name.capitalize())
+            self.assertEqual((name, ctypes.sizeof(struct), ctypes.alignment(struct)), (name, int(size), int(alignment)))
+            fields = [(it, getattr(struct, it).offset, getattr(struct, it).size) for it, _ in struct._fields_]
+            wanted = re.findall(rf"^field zf_{name}\.(\w+): offset (\d+), size (\d+)$", listed, re.M)
+            self.assertEqual(fields, [(it, int(offset), int(size)) for it, offset, size in wanted])
+
+    def test_functions_have_the_listed_number_of_arguments(self):
+        listed = (pathlib.Path(__file__).resolve().parents[2] / "include/zorfelith.abi").read_text()
+        for name, arguments in re.findall(r"^function \w+ (zf_\w+)\((.*)\)$", listed, re.M):
+            self.assertEqual((name, len(getattr(zorfelith._zf, name).argtypes)), (name, arguments.count(",") + 1))
+
+
+class Replacing(unittest.TestCase):
+    def test_templates(self):
+        rows = [
+            (r"(\d+)-(\d+)", b"${2}-${1}", [b"a12-3", b"4b5-6"], b"a34-12b6-5", 2),
+            ("x*", b"-", [b"ab"], b"-a-b-", 3),
+            ("(a)|(b)", b"<${1}>", [b"a", b"b"], b"<a><>", 2),
+            ("a", b"$$${0}${9}", [b"a"], b"$a", 1),
+            ("a", b"", [b"bab"], b"bb", 1),
+            (r"(?P<y>\d+)-(?P<m>\d+)", b"${m}/${y}", [b"on 2026-", b"11"], b"on 11/2026", 1),
+            ("a", b"b", [], b"", 0),
+        ]
+        for pattern, template, text, wanted, count in rows:
+            self.assertEqual(zorfelith.compile(pattern).subn(template, text), (wanted, count))
+
+    def test_refused_templates(self):
+        letter = zorfelith.compile("a")
+        for template, at in ((b"$", 0), (b"a${x", 1), (b"${}", 0), (b"${1a}", 0), (b"${+1}", 0), (b"${a b}", 0), (b"$$$", 2)):
+            with self.assertRaisesRegex(ValueError, f"at byte {at}"):
+                letter.sub(template, b"a")
+
+    def test_functions_and_counts(self):
+        digits = zorfelith.compile(r"\d")
+        self.assertEqual(digits.sub(lambda it: b"<%d>" % (int(it.group()) + 1), [b"1", b"x2"]), b"<2>x<3>")
+        self.assertEqual(digits.subn(b".", b"12345", 3), (b"...45", 3))
+
+
+class Refusals(unittest.TestCase):
+    def test_patterns(self):
+        for pattern, status in (("(", 8), (b"\xff", 7)):
+            with self.assertRaises(zorfelith.Error) as raised:
+                zorfelith.compile(["a", pattern])
+            self.assertEqual((raised.exception.status, raised.exception.pattern), (status, 1))
+        with self.assertRaises(zorfelith.Error) as raised:
+            zorfelith.compile("a", kind=3)
+        self.assertEqual(raised.exception.status, 11)
+        with self.assertRaises(TypeError):
+            zorfelith.compile("a", verbose=True)
+
+    def test_threads(self):
+        mine, seen = zorfelith.compile("a"), []
+
+        def other():
+            try:
+                mine.search(b"a")
+            except RuntimeError:
+                seen.append(zorfelith.compile("b").search(b"ab").span())
+
+        threads = [threading.Thread(target=other) for _ in range(4)]
+        for it in threads:
+            it.start()
+        for it in threads:
+            it.join()
+        self.assertEqual(seen, [(1, 2)] * 4)
+        self.assertEqual(mine.search(b"ba").span(), (1, 2))
+
+    def test_dropped_by_another_thread(self):
+        held = [zorfelith.compile("a")]
+        dropped = held[0]._dropped
+        other = threading.Thread(target=held.clear)
+        other.start()
+        other.join()
+        self.assertEqual(len(dropped), 1)
+        zorfelith.compile("b")
+        self.assertEqual(len(dropped), 0)
+
+
+if __name__ == "__main__":
+    unittest.main()

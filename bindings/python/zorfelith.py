@@ -1,0 +1,432 @@
+"""Regex search over text in chunks: libzorfelith by ctypes, with nothing to build.
+
+    import zorfelith
+
+    dates = zorfelith.compile(r"(?P<year>\\d{4})-(\\d{2})")
+    for found in dates.finditer([b"see 20", b"26-11, 2027", b"-01"]):
+        print(found.span(), found.group("year"))
+
+A text is an iterable of bytes-like objects, its chunks, or one such object. Nothing of it is joined or copied for a search. All places are in
+bytes of the whole text, and the answers are those of the whole text, wherever it is cut.
+
+The library is that of the environment's ZORFELITH_LIBRARY, a path; else libzorfelith.so.0, where the system's loader finds it.
+
+A Pattern is used by the thread that compiled it; a call by another one raises RuntimeError. If it is dropped by another thread, its memory is
+given back by the next `compile` of its own. The chunks of a text may not change while a search or a `finditer` goes over them: a bytearray
+can't be resized then.
+"""
+import collections
+import ctypes
+import os
+import re
+import threading
+
+__all__ = ["ALL", "Error", "LEFTMOST_FIRST", "LEFTMOST_LONGEST", "Match", "Pattern", "compile"]
+
+LEFTMOST_FIRST, ALL, LEFTMOST_LONGEST = 0, 1, 2
+
+_FOUND, _ABSENT, _SHORT = 1, 5, 6
+_WORDS = {
+    2: "the pattern was closed",
+    3: "the text is too long",
+    4: "the range is outside of the text",
+    7: "pattern {pattern} isn't UTF-8",
+    8: "pattern {pattern} isn't read: byte {at}",
+    9: "the patterns are too large",
+    10: "out of memory",
+    11: "there is no such kind of match",
+}
+_FLAGS = ("case_insensitive", "multi_line", "dot_matches_new_line", "crlf", "swap_greed", "bytes", "any_bytes", "split_characters")
+_BATCH = 256
+
+_size = ctypes.c_size_t
+_NONE = _size(-1).value
+
+
+class _Bytes(ctypes.Structure):
+    _fields_ = [("bytes", ctypes.c_void_p), ("len", _size)]
+
+
+class _Handle(ctypes.Structure):
+    _fields_ = [("full", ctypes.c_uint8), ("held", ctypes.c_void_p)]
+
+
+class _Settings(ctypes.Structure):
+    _fields_ = [(name, ctypes.c_uint8) for name in (*_FLAGS, "kind")]
+
+
+class _Refused(ctypes.Structure):
+    _fields_ = [("status", ctypes.c_uint32), ("pattern", _size), ("at", _size)]
+
+
+class _Match(ctypes.Structure):
+    _fields_ = [("pattern", _size), ("start", _size), ("end", _size)]
+
+
+class _Group(ctypes.Structure):
+    _fields_ = [("start", _size), ("end", _size)]
+
+
+class _Progress(ctypes.Structure):
+    _fields_ = [("count", _size), ("next", _size)]
+
+
+class _Buffer(ctypes.Structure):
+    """A Py_buffer: where the bytes of an object lie, which is kept there until the buffer is released."""
+    _fields_ = [("buf", ctypes.c_void_p), ("obj", ctypes.py_object), ("len", ctypes.c_ssize_t), ("itemsize", ctypes.c_ssize_t),
+                ("readonly", ctypes.c_int), ("ndim", ctypes.c_int), ("format", ctypes.c_void_p), ("shape", ctypes.c_void_p),
+                ("strides", ctypes.c_void_p), ("suboffsets", ctypes.c_void_p), ("internal", ctypes.c_void_p)]
+
+
+_get_buffer = ctypes.pythonapi.PyObject_GetBuffer
+_get_buffer.argtypes = [ctypes.py_object, ctypes.POINTER(_Buffer), ctypes.c_int]
+_get_buffer.restype = ctypes.c_int
+_release_buffer = ctypes.pythonapi.PyBuffer_Release
+_release_buffer.argtypes = [ctypes.POINTER(_Buffer)]
+_release_buffer.restype = None
+
+
+def _loaded():
+    """The library, with the types of its functions."""
+    library = ctypes.CDLL(os.environ.get("ZORFELITH_LIBRARY", "libzorfelith.so.0"))
+    handle, text, match, at = ctypes.POINTER(_Handle), [ctypes.POINTER(_Bytes), _size], ctypes.POINTER(_Match), ctypes.POINTER(_size)
+    types = {
+        "zf_compile": [handle, *text, ctypes.POINTER(_Settings), ctypes.POINTER(_Refused)],
+        "zf_is_match": [handle, *text, _size, _size],
+        "zf_find": [handle, *text, _size, _size, match],
+        "zf_find_groups": [handle, *text, _size, _size, match, ctypes.POINTER(_Group), _size],
+        "zf_which_patterns": [handle, *text, _size, _size, ctypes.POINTER(ctypes.c_uint8), _size],
+        "zf_restart": [handle, _size, ctypes.c_uint8],
+        "zf_next": [handle, *text, _size, match, _size, ctypes.POINTER(_Progress)],
+        "zf_pattern_count": [handle, at],
+        "zf_group_count": [handle, _size, at],
+        "zf_group_name": [handle, _size, _size, ctypes.c_char_p, _size, at],
+        "zf_group_number": [handle, _size, ctypes.c_char_p, _size, at],
+        "zf_memory": [handle, at],
+    }
+    for name, arguments in types.items():
+        getattr(library, name).argtypes = arguments
+        getattr(library, name).restype = ctypes.c_uint32
+    library.zf_free.argtypes = [handle]
+    library.zf_free.restype = None
+    return library
+
+
+_zf = _loaded()
+
+
+class Error(ValueError):
+    """Why there is no answer. `status` is that of zorfelith.h; `pattern` and `at` tell where a pattern is refused."""
+
+    def __init__(self, status, pattern=0, at=0):
+        super().__init__(_WORDS.get(status, "status {status}").format(status=status, pattern=pattern, at=at))
+        self.status, self.pattern, self.at = status, pattern, at
+
+
+def _told(status):
+    """Whether a search found a match; raises if it gave no answer."""
+    if status > _FOUND:
+        raise Error(status)
+    return status == _FOUND
+
+
+class _Text:
+    """The chunks of a text, held where they lie until it is dropped."""
+
+    def __init__(self, text):
+        self._buffers = []
+        self.chunks = [text] if isinstance(text, (bytes, bytearray, memoryview)) else list(text)
+        self.array = (_Bytes * max(len(self.chunks), 1))()
+        self.count = len(self.chunks)
+        self.ends = []
+        self._none = ctypes.create_string_buffer(1)
+        self.array[0].bytes = ctypes.addressof(self._none)
+        total = 0
+        for place, chunk in zip(self.array, self.chunks):
+            buffer = _Buffer()
+            _get_buffer(chunk, ctypes.byref(buffer), 0)  # raises where the chunk isn't bytes
+            self._buffers.append(buffer)
+            place.bytes = buffer.buf if buffer.len else ctypes.addressof(self._none)
+            place.len = buffer.len
+            total += buffer.len
+            self.ends.append(total)
+
+    def __del__(self):
+        for buffer in self._buffers:
+            _release_buffer(ctypes.byref(buffer))
+
+    def copied(self, start, end):
+        """The bytes from start to end."""
+        low, high = 0, len(self.ends)
+        while low < high:
+            middle = (low + high) // 2
+            low, high = (middle + 1, high) if self.ends[middle] <= start else (low, middle)
+        out = []
+        while start < end:
+            begins = self.ends[low] - self.array[low].len
+            stop = min(end, self.ends[low])
+            out.append(ctypes.string_at(self.array[low].bytes + start - begins, stop - start))
+            start, low = stop, low + 1
+        return b"".join(out)
+
+
+class _Owner(threading.local):
+    """Of each thread the handles that other threads dropped."""
+
+    def __init__(self):
+        self.dropped = collections.deque()
+
+
+_owner = _Owner()
+
+
+class Match:
+    """A match of a text. Groups are asked by number or name; group 0 is the whole match."""
+
+    def __init__(self, regex, text, pattern, start, end, spans=None):
+        self.re, self.pattern, self._text, self._span, self._spans = regex, pattern, text, (start, end), spans
+
+    def __repr__(self):
+        return f"<zorfelith.Match span={self._span} pattern={self.pattern}>"
+
+    def _all(self):
+        if self._spans is None:
+            self._spans = self.re._groups(self._text, *self._span)[1]
+        return self._spans
+
+    def span(self, group=0):
+        """Where a group matched, or (-1, -1) if it took no part."""
+        if group == 0:
+            return self._span
+        number = self.re._number(self.pattern, group)
+        spans = self._all()
+        if not 0 <= number < len(spans):
+            raise IndexError("no such group")
+        return spans[number]
+
+    def start(self, group=0):
+        return self.span(group)[0]
+
+    def end(self, group=0):
+        return self.span(group)[1]
+
+    def _bytes(self, span, default):
+        return default if span[0] < 0 else self._text.copied(*span)
+
+    def group(self, *groups):
+        """The bytes of a group, or None if it took no part; of several groups a tuple."""
+        found = tuple(self._bytes(self.span(group), None) for group in groups or (0,))
+        return found if len(found) > 1 else found[0]
+
+    __getitem__ = group
+
+    def groups(self, default=None):
+        """The bytes of all groups but the whole match."""
+        return tuple(self._bytes(span, default) for span in self._all()[1:])
+
+    def groupdict(self, default=None):
+        """The bytes of the named groups, by name."""
+        names = self.re.group_names(self.pattern)
+        return {name: self._bytes(self._all()[number], default) for name, number in names.items()}
+
+
+class Pattern:
+    """Compiled patterns, with all that searches by them need."""
+
+    def __init__(self, patterns, settings):
+        while _owner.dropped:
+            _zf.zf_free(ctypes.byref(_owner.dropped.popleft()))
+        self._handle, self._dropped, self._thread = _Handle(), _owner.dropped, threading.get_ident()
+        refused, texts = _Refused(), _Text(patterns)
+        if _zf.zf_compile(self._handle, texts.array, texts.count, settings, refused):
+            raise Error(refused.status, refused.pattern, refused.at)
+
+    def __del__(self):
+        handle = getattr(self, "_handle", None)
+        if handle is None or not handle.full:
+            return
+        if threading.get_ident() == self._thread:
+            _zf.zf_free(handle)
+        else:
+            self._dropped.append(handle)
+
+    def _own(self):
+        """The handle, for a call by its own thread."""
+        if threading.get_ident() != self._thread:
+            raise RuntimeError("a Pattern is used by the thread that compiled it")
+        return self._handle
+
+    def is_match(self, text, start=0, end=None):
+        """Whether there is a match from start to end."""
+        handle, text = self._own(), _Text(text)
+        return _told(_zf.zf_is_match(handle, text.array, text.count, start, _NONE if end is None else end))
+
+    def search(self, text, start=0, end=None):
+        """The match from start to end, or None."""
+        handle, text, found = self._own(), _Text(text), _Match()
+        if not _told(_zf.zf_find(handle, text.array, text.count, start, _NONE if end is None else end, found)):
+            return None
+        return Match(self, text, found.pattern, found.start, found.end)
+
+    def which(self, text, start=0, end=None):
+        """The numbers of the patterns that have a match from start to end."""
+        handle, text, count = self._own(), _Text(text), self.pattern_count()
+        marks = (ctypes.c_uint8 * max(count, 1))()
+        _told(_zf.zf_which_patterns(handle, text.array, text.count, start, _NONE if end is None else end, marks, count))
+        return [number for number in range(count) if marks[number]]
+
+    def finditer(self, text, start=0, end=None):
+        """The matches from start to end, from left to right. They are found in batches; other calls may be made between two matches."""
+        handle, text, end, follows = self._own(), _Text(text), _NONE if end is None else end, 0
+        return self._batches(handle, text, start, end, follows)
+
+    def _batches(self, handle, text, start, end, follows):
+        batch, progress = (_Match * _BATCH)(), _Progress()
+        while True:
+            self._own()
+            _told(_zf.zf_restart(handle, start, follows))
+            _told(_zf.zf_next(handle, text.array, text.count, end, batch, _BATCH, progress))
+            found = [(it.pattern, it.start, it.end) for it in batch[:progress.count]]
+            start, follows = progress.next, 1
+            for it in found:
+                yield Match(self, text, *it)
+            if len(found) < _BATCH:
+                return
+
+    def findall(self, text, start=0, end=None):
+        """The bytes of each match from start to end."""
+        return [found.group() for found in self.finditer(text, start, end)]
+
+    def subn(self, template, text, count=0):
+        """The text as one bytes object with each match replaced, and how many were; of the first `count` alone if it isn't 0.
+
+        A template is a function from a match to bytes, or bytes in which `${1}` and `${name}` are the bytes of a group, or none if it took no
+        part or the pattern doesn't have it, and `$$` is a `$`. Any other `$` raises ValueError.
+        """
+        made = template if callable(template) else _filler(template)
+        text, out, done, at = _Text(text), [], 0, 0
+        for found in self._batches(self._own(), text, 0, _NONE, 0):
+            out += [text.copied(at, found.start()), made(found)]
+            at, done = found.end(), done + 1
+            if done == count:
+                break
+        out.append(text.copied(at, text.ends[-1] if text.ends else 0))
+        return b"".join(out), done
+
+    def sub(self, template, text, count=0):
+        """The text as one bytes object with each match replaced, as by `subn`."""
+        return self.subn(template, text, count)[0]
+
+    def pattern_count(self):
+        """How many patterns there are."""
+        count = _size()
+        _told(_zf.zf_pattern_count(self._own(), count))
+        return count.value
+
+    def group_count(self, pattern=0):
+        """How many groups a pattern has, the whole match among them; 0 if there is no such pattern."""
+        count = _size()
+        status = _zf.zf_group_count(self._own(), pattern, count)
+        return 0 if status == _ABSENT else (_told(status), count.value)[1]
+
+    def group_names(self, pattern=0):
+        """The numbers of the named groups of a pattern, by name."""
+        names, handle, length = {}, self._own(), _size()
+        for number in range(self.group_count(pattern)):
+            name = ctypes.create_string_buffer(1)
+            status = _zf.zf_group_name(handle, pattern, number, name, 0, length)
+            if status == _SHORT:
+                name = ctypes.create_string_buffer(length.value)
+                _told(_zf.zf_group_name(handle, pattern, number, name, length.value, length))
+                names.setdefault(name.raw.decode(), number)
+            elif status != _ABSENT:
+                _told(status)
+        return names
+
+    def memory(self):
+        """About how many bytes the patterns and their cache take."""
+        count = _size()
+        _told(_zf.zf_memory(self._own(), count))
+        return count.value
+
+    def _number(self, pattern, group):
+        """The number of a group that is named or numbered."""
+        if isinstance(group, int):
+            return group
+        name, number = group.encode(), _size()
+        status = _zf.zf_group_number(self._own(), pattern, name, len(name), number)
+        if status == _ABSENT:
+            raise IndexError("no such group")
+        _told(status)
+        return number.value
+
+    def _groups(self, text, start, end):
+        """The pattern and the spans of all groups of the match in that range, or None if there is none."""
+        handle, found = self._own(), _Match()
+        most = max([self.group_count(pattern) for pattern in range(self.pattern_count())], default=0)
+        groups = (_Group * max(most, 1))()
+        if not _told(_zf.zf_find_groups(handle, text.array, text.count, start, end, found, groups, most)):
+            raise ValueError("the text was changed")
+        count = self.group_count(found.pattern)
+        return found.pattern, [(-1, -1) if it.start == _NONE else (it.start, it.end) for it in groups[:count]]
+
+
+def _parts(template):
+    """The parts of a template: bytes as they are, and of groups the numbers and names."""
+    at = 0
+    while at < len(template):
+        sign = template.find(b"$", at)
+        if sign < 0:
+            yield template[at:]
+            return
+        yield template[at:sign]
+        closing = template.find(b"}", sign)
+        word = template[sign + 2:closing] if template[sign + 1:sign + 2] == b"{" and closing > 0 else b""
+        if template[sign + 1:sign + 2] == b"$":
+            yield b"$"
+            at = sign + 2
+        elif word.isdigit():
+            yield int(word)
+            at = closing + 1
+        elif _is_name(word):
+            yield word.decode()
+            at = closing + 1
+        else:
+            raise ValueError(f"error parsing template at byte {sign}")
+
+
+def _is_name(word):
+    return re.fullmatch(rb"[A-Za-z_][A-Za-z0-9_.\[\]]*", word) is not None
+
+
+def _filler(template):
+    """The function that fills a template's groups in."""
+    parts = list(_parts(bytes(template)))
+
+    def filled(found):
+        out = []
+        for part in parts:
+            if not isinstance(part, bytes):
+                try:
+                    part = found.group(part) or b""
+                except IndexError:
+                    part = b""
+            out.append(part)
+        return b"".join(out)
+
+    return filled
+
+
+def compile(patterns, *, kind=LEFTMOST_FIRST, **flags):
+    """Compiles a pattern, or a list of patterns: each a str or bytes of UTF-8.
+
+    `kind` is LEFTMOST_FIRST, LEFTMOST_LONGEST or ALL. The flags, all off, are case_insensitive, multi_line, dot_matches_new_line, crlf,
+    swap_greed, bytes, any_bytes and split_characters: zorfelith.h says what each does.
+    """
+    unknown = sorted(set(flags) - set(_FLAGS))
+    if unknown:
+        raise TypeError(f"no flag {unknown[0]}")
+    texts = [patterns] if isinstance(patterns, (str, bytes)) else list(patterns)
+    texts = [it.encode("utf-8", "surrogatepass") if isinstance(it, str) else it for it in texts]
+    settings = _Settings(kind=kind, **{name: bool(value) for name, value in flags.items()})
+    return Pattern(texts, settings)

@@ -1,0 +1,390 @@
+// Zorfelith for C++17 and later: regex search over text in chunks.
+//
+// A text is an array of chunks, each a pointer and a length. Nothing of it is copied. The answers are those of the whole text, wherever it is
+// cut. All places are in bytes of the whole text. zorfelith.h says what each call does.
+//
+// What you owe:
+//   - The bytes behind a chunk are there while a call runs that is given it, and don't change then. A `matches` keeps the text: its chunks
+//     stay, and neither change nor move, until it is gone.
+//   - A regex is used by one thread at a time, and stays with the thread that made it. A regex that was moved from is empty: it may be
+//     assigned to and destroyed, and each search by it throws.
+//   - 256 KiB of stack are left where a regex is made.
+//
+// What isn't an answer is thrown, as an `error`.
+#ifndef ZORFELITH_HPP
+#define ZORFELITH_HPP
+
+#include "zorfelith.h"
+
+#include <array>
+#include <cstddef>
+#include <cstdint>
+#include <iterator>
+#include <optional>
+#include <stdexcept>
+#include <string>
+#include <string_view>
+#include <type_traits>
+#include <utility>
+#include <vector>
+
+#if __cplusplus >= 202002L
+#include <span>
+#endif
+
+namespace zorfelith {
+#if __cplusplus >= 202002L
+inline namespace cxx20 {
+#else
+inline namespace cxx17 {
+#endif
+
+// How patterns are read, and which match is sought. `settings{}` has the defaults.
+using settings = zf_settings;
+
+// A match: the number of its pattern, where it starts, and where it ends.
+using match = zf_match;
+
+// Some bytes: a chunk of a text, or a pattern. It borrows them.
+struct chunk : zf_bytes {
+    chunk() noexcept : zf_bytes{zf_none, 0} {}
+    chunk(const std::uint8_t *bytes, std::size_t len) noexcept : zf_bytes{len == 0 ? zf_none : bytes, len} {}
+    chunk(const std::byte *bytes, std::size_t len) noexcept : chunk(reinterpret_cast<const std::uint8_t *>(bytes), len) {}
+    chunk(const char *bytes, std::size_t len) noexcept : chunk(reinterpret_cast<const std::uint8_t *>(bytes), len) {}
+
+    // The bytes of what is a string_view, a string, or a C string without its 0.
+    template <class S, class = std::enable_if_t<std::is_convertible_v<const S &, std::string_view>>>
+    chunk(const S &text) : chunk(std::string_view(text)) {}
+    chunk(std::string_view text) noexcept : chunk(text.data(), text.size()) {}
+#if __cplusplus >= 202002L
+    chunk(std::span<const std::byte> bytes) noexcept : chunk(bytes.data(), bytes.size()) {}
+    chunk(std::span<const std::uint8_t> bytes) noexcept : chunk(bytes.data(), bytes.size()) {}
+#endif
+};
+
+// An array of chunks is handed to the library as it lies.
+static_assert(sizeof(chunk) == sizeof(zf_bytes) && alignof(chunk) == alignof(zf_bytes), "a chunk is a zf_bytes");
+
+#if __cplusplus >= 202002L
+// Chunks that lie one behind another: a text, or a list of patterns.
+using text = std::span<const chunk>;
+#else
+// Chunks that lie one behind another: a text, or a list of patterns. It borrows them.
+class text {
+  public:
+    text() noexcept = default;
+    text(const chunk *first, std::size_t count) noexcept : first_(first), count_(count) {}
+    template <std::size_t N> text(const chunk (&chunks)[N]) noexcept : first_(chunks), count_(N) {}
+
+    // The chunks of a vector, an array, or what else has `data` and `size`.
+    template <class C, class = std::enable_if_t<std::is_convertible_v<decltype(std::declval<const C &>().data()), const chunk *>>>
+    text(const C &chunks) noexcept : first_(chunks.data()), count_(chunks.size()) {}
+
+    const chunk *data() const noexcept { return first_; }
+    std::size_t size() const noexcept { return count_; }
+    bool empty() const noexcept { return count_ == 0; }
+    const chunk *begin() const noexcept { return first_; }
+    const chunk *end() const noexcept { return first_ + count_; }
+    const chunk &operator[](std::size_t i) const noexcept { return first_[i]; }
+
+  private:
+    const chunk *first_ = nullptr;
+    std::size_t count_ = 0;
+};
+#endif
+
+// A start and an end in bytes. `range{}` is the whole text.
+struct range {
+    std::size_t start = 0;
+    std::size_t end = ZF_NONE;
+};
+
+// Why there is no answer.
+class error : public std::runtime_error {
+  public:
+    explicit error(zf_refused refused) : std::runtime_error(words(refused)), refused_(refused) {}
+    explicit error(std::uint32_t status) : error(zf_refused{status, 0, 0}) {}
+
+    // The status, as ZF_SYNTAX.
+    std::uint32_t status() const noexcept { return refused_.status; }
+
+    // The number of the pattern that was refused, with ZF_SYNTAX and ZF_NOT_UTF8.
+    std::size_t pattern() const noexcept { return refused_.pattern; }
+
+    // The byte of that pattern at which the fault was met, with ZF_SYNTAX.
+    std::size_t at() const noexcept { return refused_.at; }
+
+  private:
+    static std::string words(const zf_refused &refused) {
+        switch (refused.status) {
+        case ZF_EMPTY: return "the regex was moved from";
+        case ZF_TOO_LONG: return "the text is too long";
+        case ZF_OUTSIDE: return "the range is outside of the text";
+        case ZF_NOT_UTF8: return "pattern " + std::to_string(refused.pattern) + " isn't UTF-8";
+        case ZF_SYNTAX: return "pattern " + std::to_string(refused.pattern) + " isn't read: byte " + std::to_string(refused.at);
+        case ZF_TOO_LARGE: return "the patterns are too large";
+        case ZF_MEMORY: return "out of memory";
+        case ZF_NO_KIND: return "there is no such kind of match";
+        default: return "status " + std::to_string(refused.status);
+        }
+    }
+
+    zf_refused refused_;
+};
+
+// A match and its groups.
+class captures {
+  public:
+    captures(const match &found, std::vector<zf_group> groups) : found_(found), groups_(std::move(groups)) {}
+
+    const match &found() const noexcept { return found_; }
+
+    // How many groups the pattern has, the whole match among them.
+    std::size_t size() const noexcept { return groups_.size(); }
+
+    // Where a group matched; none if it took no part, or if there is no such group. Group 0 is the whole match.
+    std::optional<range> operator[](std::size_t group) const noexcept {
+        if (group >= groups_.size() || groups_[group].start == ZF_NONE)
+            return std::nullopt;
+        return range{groups_[group].start, groups_[group].end};
+    }
+
+  private:
+    match found_;
+    std::vector<zf_group> groups_;
+};
+
+class matches;
+
+// Compiled patterns, with all that searches by them need.
+class regex {
+  public:
+    explicit regex(std::string_view pattern, const settings &with = settings{}) {
+        const chunk one(pattern);
+        compile(text(&one, 1), with);
+    }
+
+    // A regex of many patterns. There may be none.
+    static regex of_patterns(text patterns, const settings &with = settings{}) {
+        regex made;
+        made.compile(patterns, with);
+        return made;
+    }
+
+    regex(regex &&other) noexcept : handle_(std::exchange(other.handle_, zf_handle{0, nullptr})) {}
+    regex &operator=(regex &&other) noexcept {
+        if (this != &other) {
+            zf_free(&handle_);
+            handle_ = std::exchange(other.handle_, zf_handle{0, nullptr});
+        }
+        return *this;
+    }
+    regex(const regex &) = delete;
+    regex &operator=(const regex &) = delete;
+    ~regex() { zf_free(&handle_); }
+
+    // Whether there is a match in the range.
+    bool is_match(text in, range within = {}) {
+        return told(zf_is_match(&handle_, first(in), in.size(), within.start, within.end));
+    }
+
+    // The match in the range.
+    std::optional<match> find(text in, range within = {}) {
+        match found{};
+        if (!told(zf_find(&handle_, first(in), in.size(), within.start, within.end, &found)))
+            return std::nullopt;
+        return found;
+    }
+
+    // The match in the range with its groups.
+    std::optional<captures> find_groups(text in, range within = {}) {
+        match found{};
+        std::vector<zf_group> groups(most_groups());
+        if (!told(zf_find_groups(&handle_, first(in), in.size(), within.start, within.end, &found, groups.data(), groups.size())))
+            return std::nullopt;
+        groups.resize(group_count(found.pattern));
+        return captures(found, std::move(groups));
+    }
+
+    // The groups of a match that a search of the same text gave.
+    std::optional<captures> groups_of(text in, const match &found) { return find_groups(in, range{found.start, found.end}); }
+
+    // The numbers of the patterns that have a match in the range, the least first.
+    std::vector<std::size_t> which_patterns(text in, range within = {}) {
+        std::vector<std::uint8_t> marks(pattern_count());
+        told(zf_which_patterns(&handle_, first(in), in.size(), within.start, within.end, marks.data(), marks.size()));
+        std::vector<std::size_t> out;
+        for (std::size_t pattern = 0; pattern < marks.size(); pattern++)
+            if (marks[pattern] != 0)
+                out.push_back(pattern);
+        return out;
+    }
+
+    // The matches in the range, from left to right, as a range to loop over. It borrows the regex and the chunks.
+    zorfelith::matches matches(text in, range within = {});
+
+    std::size_t pattern_count() {
+        std::size_t count = 0;
+        told(zf_pattern_count(&handle_, &count));
+        return count;
+    }
+
+    // How many groups a pattern has, the whole match among them; 0 if there is no such pattern.
+    std::size_t group_count(std::size_t pattern) {
+        std::size_t count = 0;
+        const std::uint32_t status = zf_group_count(&handle_, pattern, &count);
+        return status == ZF_ABSENT ? 0 : (told(status), count);
+    }
+
+    // The name of a group, if it has one.
+    std::optional<std::string> group_name(std::size_t pattern, std::size_t group) {
+        std::string name;
+        std::size_t len = 0;
+        std::uint32_t status = zf_group_name(&handle_, pattern, group, bytes(name), name.size(), &len);
+        if (status == ZF_SHORT) {
+            name.resize(len);
+            status = zf_group_name(&handle_, pattern, group, bytes(name), name.size(), &len);
+        }
+        if (status == ZF_ABSENT)
+            return std::nullopt;
+        told(status);
+        return name;
+    }
+
+    // The number of the first group of that name, if there is one.
+    std::optional<std::size_t> group_number(std::size_t pattern, std::string_view name) {
+        const chunk named(name);
+        std::size_t number = 0;
+        const std::uint32_t status = zf_group_number(&handle_, pattern, named.bytes, named.len, &number);
+        if (status == ZF_ABSENT)
+            return std::nullopt;
+        told(status);
+        return number;
+    }
+
+    // About how many bytes the patterns and their cache take.
+    std::size_t memory() {
+        std::size_t count = 0;
+        told(zf_memory(&handle_, &count));
+        return count;
+    }
+
+  private:
+    friend class zorfelith::matches;
+
+    regex() noexcept = default;
+
+    void compile(text patterns, const settings &with) {
+        zf_refused refused{};
+        if (zf_compile(&handle_, first(patterns), patterns.size(), &with, &refused) != ZF_DONE)
+            throw error(refused);
+    }
+
+    // Whether a search found a match; throws if it gave no answer.
+    static bool told(std::uint32_t status) {
+        if (status != ZF_DONE && status != ZF_FOUND)
+            throw error(status);
+        return status == ZF_FOUND;
+    }
+
+    // Where the chunks begin, which is never null.
+    static const zf_bytes *first(text in) noexcept {
+        static const zf_bytes none{zf_none, 0};
+        return in.empty() ? &none : in.data();
+    }
+
+    static std::uint8_t *bytes(std::string &name) noexcept { return reinterpret_cast<std::uint8_t *>(name.data()); }
+
+    // At least 1, so that the places for groups lie somewhere.
+    std::size_t most_groups() {
+        std::size_t most = 1;
+        const std::size_t patterns = pattern_count();
+        for (std::size_t pattern = 0; pattern < patterns; pattern++)
+            if (const std::size_t count = group_count(pattern); count > most)
+                most = count;
+        return most;
+    }
+
+    zf_handle handle_{0, nullptr};
+};
+
+// The matches of a text, found in batches. Its iterators are input iterators: it is gone over once. Each batch begins where the one before
+// ended, whatever else the regex was asked between them.
+class matches {
+  public:
+    struct sentinel {};
+
+    class iterator {
+      public:
+        using iterator_category = std::input_iterator_tag;
+        using value_type = match;
+        using difference_type = std::ptrdiff_t;
+        using pointer = const match *;
+        using reference = const match &;
+
+        iterator() noexcept = default;
+        explicit iterator(matches *of) noexcept : of_(of) {}
+        reference operator*() const noexcept { return of_->batch_[of_->at_]; }
+        pointer operator->() const noexcept { return &**this; }
+        iterator &operator++() {
+            of_->advance();
+            return *this;
+        }
+        void operator++(int) { ++*this; }
+        bool is_end() const noexcept { return of_ == nullptr || of_->at_ == of_->len_; }
+
+        friend bool operator==(const iterator &it, sentinel) noexcept { return it.is_end(); }
+#if __cplusplus < 202002L
+        friend bool operator==(sentinel, const iterator &it) noexcept { return it.is_end(); }
+        friend bool operator!=(const iterator &it, sentinel) noexcept { return !it.is_end(); }
+        friend bool operator!=(sentinel, const iterator &it) noexcept { return !it.is_end(); }
+#endif
+
+      private:
+        matches *of_ = nullptr;
+    };
+
+    matches(regex &by, text in, range within) noexcept : by_(&by), in_(in), next_(within.start), end_(within.end) {}
+
+    iterator begin() {
+        if (!is_begun_)
+            fill();
+        return iterator(this);
+    }
+    sentinel end() const noexcept { return {}; }
+
+  private:
+    void fill() {
+        zf_progress progress{0, next_};
+        regex::told(zf_restart(&by_->handle_, next_, follows_));
+        regex::told(zf_next(&by_->handle_, regex::first(in_), in_.size(), end_, batch_.data(), batch_.size(), &progress));
+        is_begun_ = true;
+        at_ = 0;
+        len_ = progress.count;
+        next_ = progress.next;
+        follows_ = follows_ != 0 || len_ != 0;
+    }
+
+    void advance() {
+        at_++;
+        if (at_ == len_ && len_ == batch_.size())
+            fill();
+    }
+
+    regex *by_;
+    text in_;
+    std::size_t next_;
+    std::size_t end_;
+    std::uint8_t follows_ = 0;
+    bool is_begun_ = false;
+    std::size_t at_ = 0;
+    std::size_t len_ = 0;
+    std::array<match, 256> batch_{};
+};
+
+inline matches regex::matches(text in, range within) { return zorfelith::matches(*this, in, within); }
+
+} // inline namespace
+} // namespace zorfelith
+
+#endif

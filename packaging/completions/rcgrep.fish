@@ -1,0 +1,11 @@
+# Completions of rcgrep for fish.
+complete -c rcgrep -s e -x -d 'a pattern'
+complete -c rcgrep -s n -d 'the number of each line stands before it'
+complete -c rcgrep -s c -d 'the number of lines alone'
+complete -c rcgrep -s o -d 'each match alone'
+complete -c rcgrep -s i -d 'letters match in either case'
+complete -c rcgrep -s v -d 'the lines in which no pattern matches'
+complete -c rcgrep -s l -d 'the names of files alone'
+complete -c rcgrep -l color -d 'matches are marked'
+complete -c rcgrep -l help -d 'the options'
+complete -c rcgrep -s V -l version -d 'the version'
