@@ -5,6 +5,7 @@ ghost use Rattle.rc_program.specs.Places.{place_of, places_of};
 
 use crate::place::Place;
 use std::alloc::{AllocError, Global};
+use std::mem::size_of;
 
 /// The slots from the first to the last. There is none if the first is greater.
 #[derive(Clone, Copy)]
@@ -26,6 +27,15 @@ pub struct Columns {
     pub of_places: Vec<usize>,
     /// How many slots the widest range has, or `usize::MAX` if that is more.
     pub widest: usize,
+}
+
+impl Columns {
+    /// Returns about how many bytes the columns take, or `usize::MAX` if that is more.
+    pub(crate) fn bytes(&self) -> usize {
+        let ranges = self.ranges.len().saturating_mul(size_of::<SlotRange>());
+        let columns = self.of_places.len().saturating_mul(size_of::<usize>());
+        ranges.saturating_add(columns)
+    }
 }
 
 /// Returns the columns of the slots that the places name. `Err` means out of memory.

@@ -1,8 +1,8 @@
 //! First-byte sets: over which bytes walks may go on from each place of a program.
 
-ghost use Rattle.std.specs.Prelude.{◌≡◌, ℕ, ◌<◌, ◌≤◌, ◌&&◌, [], ◌∷◌, IfOk, OnOk, map, length, nat_le, true};
+ghost use Rattle.std.specs.Prelude.{◌≡◌, ℕ, ◌<◌, ◌≤◌, ◌&&◌, [], ◌∷◌, IfOk, OnOk, false, map, length, nat_le, slice_index_or, true};
 ghost use Rattle.rc_pattern.specs.Meaning.{byte_range, char_range};
-ghost use Rattle.rc_program.specs.Closing.{AreFlags, AreJoined, AreReached, Opens};
+ghost use Rattle.rc_program.specs.Closing.{AreFlags, AreJoined, AreReached, Opens, OpensPast, takes};
 ghost use Rattle.rc_program.specs.Heads.{AreHeads, TellsHeads, flags_in, may_take, silent};
 ghost use Rattle.rc_program.specs.Places.{place_of, places_of};
 ghost use Rattle.rc_program.specs.Program.{in_ranges, place_at};
@@ -10,25 +10,39 @@ ghost use Rattle.rc_program.specs.Program.{in_ranges, place_at};
 use crate::place::Place;
 use rc_pattern::hir::{ClassBytesRange, ClassUnicodeRange};
 use std::alloc::{AllocError, Global};
+use std::mem::size_of;
 
-/// A place gets no set if more places than these are reached from it without reading. So a build
-/// stays linear.
+/// A place gets no set if more places than these are reached from it without reading. What is
+/// reached from a place that has a set isn't counted. So a build stays linear.
 const MOST_REACHED: usize = 62;
 
-/// Places from this number on get no set. So all sets take at most 4 MiB.
-const MOST_PLACES: usize = 16_384;
+/// Places from this number on get no set. So all sets take at most 16 MiB.
+const MOST_PLACES: usize = 65_536;
 
 /// Returns the first-byte set of each place, as `Program` keeps it: 256 flags, or none. `Err` means
 /// out of memory.
+///
+/// The last place comes first, so a choice takes over the sets of later choices.
 pub fn heads_of(alloc: Global, places: &[Place]) -> Result<Vec<Vec<bool>>, AllocError>
     ensures { IfOk result (λ tables. AreHeads (places_of places.now) (flags_in tables.items)) }
 {
-    let mut tables = Vec::with_capacity(alloc, places.len())?;
+    let mut tables = no_sets(alloc, places)?;
     let mut opened = Vec::with_capacity(alloc, MOST_REACHED + 2)?;
     let mut spots = vec![in alloc; 0; places.len()]?;
-    for place in 0..places.len() {
-        let flags = flags_of(alloc, places, place, &mut opened, &mut spots)?;
-        tables.push(flags)?;
+    for place in (0..places.len()).rev() {
+        let flags = flags_of(alloc, places, &tables, place, &mut opened, &mut spots)?;
+        tables[place] = flags;
+    }
+    Ok(tables)
+}
+
+/// Returns no set for each place. `Err` means out of memory.
+fn no_sets(alloc: Global, places: &[Place]) -> Result<Vec<Vec<bool>>, AllocError>
+    ensures { IfOk result (λ tables. AreHeads (places_of places.now) (flags_in tables.items)) }
+{
+    let mut tables = Vec::with_capacity(alloc, places.len())?;
+    for _ in places {
+        tables.push(Vec::new(alloc))?;
     }
     Ok(tables)
 }
@@ -39,11 +53,13 @@ pub fn heads_of(alloc: Global, places: &[Place]) -> Result<Vec<Vec<bool>>, Alloc
 fn flags_of(
     alloc: Global,
     places: &[Place],
+    tables: &[Vec<bool>],
     place: usize,
     opened: &mut Vec<usize>,
     spots: &mut [usize],
 ) -> Result<Vec<bool>, AllocError>
-    requires { place < length places.now }
+    requires within { place < length places.now }
+    requires heads { AreHeads (places_of places.now) (flags_in tables.now) }
     ensures { IfOk result (λ flags. 0 < length flags.items
         → TellsHeads (places_of places.now) place flags.items) }
 {
@@ -55,23 +71,34 @@ fn flags_of(
     {
         return Ok(Vec::new(alloc));
     }
-    if !open_all(opened, spots, places, place)? {
+    if !open_all(opened, spots, places, tables, place)? {
         return Ok(Vec::new(alloc));
     }
-    let flags = joined(alloc, places, opened)?;
+    let flags = joined(alloc, places, tables, opened)?;
     Ok(flags)
 }
 
-/// Lists the places that are reached from this one without reading. Returns false if there are too
-/// many.
+/// Returns the set of the place, without flags if it has none.
+fn set_of(tables: &[Vec<bool>], place: usize) -> &[bool]
+    ensures { result.now ≡ slice_index_or (flags_in tables.now) place [] }
+{
+    match tables.get(place) {
+        Some(flags) => flags.as_slice(),
+        None => &[],
+    }
+}
+
+/// Lists the places that are reached from this one without reading, except what is reached from a
+/// listed place that has a set. Returns false if there are too many.
 fn open_all(
     opened: &mut Vec<usize>,
     spots: &mut [usize],
     places: &[Place],
+    tables: &[Vec<bool>],
     place: usize,
 ) -> Result<bool, AllocError>
     ensures { IfOk result (λ all. all ≡ true
-        → AreReached (places_of places.now) place opened.new.items) }
+        → AreReached (places_of places.now) (flags_in tables.now) place opened.new.items) }
 {
     opened.clear();
     open(opened, spots, place)?;
@@ -83,9 +110,26 @@ fn open_all(
             return Ok(false);
         }
         let from = opened[next];
-        open_from(opened, spots, places, from)?;
+        open_past(opened, spots, places, tables, from)?;
     }
     Ok(false)
+}
+
+/// Lists the places to which epsilon ways lead from one, unless it has a set.
+fn open_past(
+    opened: &mut Vec<usize>,
+    spots: &mut [usize],
+    places: &[Place],
+    tables: &[Vec<bool>],
+    from: usize,
+) -> Result<(), AllocError>
+    ensures { OnOk result (OpensPast (places_of places.now) (flags_in tables.now) from
+        opened.old.items opened.new.items) }
+{
+    if set_of(tables, from).is_empty() {
+        return open_from(opened, spots, places, from);
+    }
+    Ok(())
 }
 
 /// Lists the places to which epsilon ways lead from one.
@@ -127,25 +171,44 @@ fn open(opened: &mut Vec<usize>, spots: &mut [usize], place: usize) -> Result<()
     Ok(())
 }
 
-/// Returns 256 flags: which bytes these places take.
-fn joined(alloc: Global, places: &[Place], opened: &[usize]) -> Result<Vec<bool>, AllocError>
-    ensures { IfOk result (λ flags. AreFlags (places_of places.now) opened.now flags.items) }
+/// Returns 256 flags: which bytes these places take, or have in their sets.
+fn joined(
+    alloc: Global,
+    places: &[Place],
+    tables: &[Vec<bool>],
+    opened: &[usize],
+) -> Result<Vec<bool>, AllocError>
+    ensures { IfOk result (λ flags. AreFlags (places_of places.now) (flags_in tables.now)
+        opened.now flags.items) }
 {
     let mut flags = vec![in alloc; false; 256]?;
     for number in opened {
-        join_at(&mut flags, places, *number);
+        join_at(&mut flags, places, tables, *number);
     }
     Ok(flags)
 }
 
-/// Sets the flags of the bytes that the place with this number takes.
-fn join_at(flags: &mut [bool], places: &[Place], number: usize)
+/// Sets the flags of the bytes that the place with this number takes, or has in its set.
+fn join_at(flags: &mut [bool], places: &[Place], tables: &[Vec<bool>], number: usize)
     requires { length flags.old ≡ 256 }
-    ensures { AreJoined 256 (may_take (place_at
-        (places_of places.now) number)) flags.old flags.new }
+    ensures { AreJoined 256 (takes (places_of places.now) (flags_in tables.now) number)
+        flags.old flags.new }
 {
+    join_set(flags, set_of(tables, number));
     if let Some(place) = places.get(number) {
         join(flags, place);
+    }
+}
+
+/// Sets the flags that the set has.
+fn join_set(flags: &mut [bool], set: &[bool])
+    requires { length flags.old ≡ 256 }
+    ensures { AreJoined 256 (λ b. slice_index_or set.now b false) flags.old flags.new }
+{
+    for byte in 0..flags.len().min(set.len()) {
+        if set[byte] {
+            flags[byte] = true;
+        }
     }
 }
 
@@ -197,4 +260,13 @@ fn fill(flags: &mut [bool], low: usize, high: usize)
     for byte in low..high + 1 {
         flags[byte] = true;
     }
+}
+
+/// Returns about how many bytes the sets take, or `usize::MAX` if that is more.
+pub(crate) fn bytes_of(tables: &[Vec<bool>]) -> usize {
+    let mut bytes = tables.len().saturating_mul(size_of::<Vec<bool>>());
+    for flags in tables {
+        bytes = bytes.saturating_add(flags.len());
+    }
+    bytes
 }

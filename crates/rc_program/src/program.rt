@@ -9,6 +9,7 @@ ghost use Rattle.rc_program.specs.Program.{place_at, slot as slot_place};
 
 use crate::columns::{Columns, SlotRange, range_at};
 use crate::place::Place;
+use crate::{heads, place};
 
 /// A program that is ready to be searched with: it is entered at place 0, no way leads out of it,
 /// and each pattern's number is one of `PatternID`.
@@ -79,5 +80,13 @@ impl Program {
         ensures { result ≡ row_width (places_of self.now.places.items) slots }
     {
         self.columns.widest.min(slots)
+    }
+
+    /// Returns about how many bytes the program has allocated, or `usize::MAX` if that is more: for
+    /// its places and their ranges, their first-byte sets and their columns.
+    pub fn memory_usage(&self) -> usize {
+        place::bytes_of(&self.places)
+            .saturating_add(heads::bytes_of(&self.heads))
+            .saturating_add(self.columns.bytes())
     }
 }
