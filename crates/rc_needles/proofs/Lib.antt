@@ -11,3 +11,5 @@ pub mod TrieLemmas
 pub mod ReadLemmas
 pub mod RelationLemmas
 pub mod StartLemmas
+pub mod FailureLemmas
+pub mod LongLemmas

@@ -81,17 +81,32 @@ begun first second piece rest k long one two within agrees =
 pub no_whole : (piece needle : List ℕ) (k : ℕ) → ¬ OccursAt piece needle k → k + length needle ≤ length piece → ¬ Agrees piece needle k
 no_whole piece needle k never fits agrees = never (record { fits = fits; reads = λ j l. agrees j l (omega (arith, l, fits)) })
 
--- where its first byte doesn't stand at the piece's end
-pub no_tail : (piece needle : List ℕ) (from to k : ℕ) → 0 < length needle →
-    Nowhere (Passes (is_byte (slice_index needle 0)) (take (length piece - from) (drop from piece))) 0 to →
-    from ≤ k → k < from + to → k < length piece → ¬ Agrees piece needle k
-no_tail piece needle from to k some none low high within agrees =
+-- a needle that agrees with a piece agrees with what is behind a place, if it begins there
+pub agrees_behind : (piece needle : List ℕ) (from k : ℕ) → from ≤ k → Agrees piece needle k →
+    Agrees (take (length piece - from) (drop from piece)) needle (k - from)
+agrees_behind piece needle from k low agrees i l m =
+    let at : from + (k - from + i) ≡ k + i = omega (arith, low) in
+    let inside : k + i < length piece = omega (arith, low, m, tail_length piece from) in
+    get_or-take (length piece - from) (drop from piece) (k - from + i) 0 (omega (arith, m, tail_length piece from)) ∙ get_or-drop from piece (k - from + i) 0
+    ∙ ap (slice_index piece) at ∙ agrees i l inside
+
+-- its first bytes agree too
+pub agrees_first_bytes : (piece needle : List ℕ) (n k : ℕ) → Agrees piece needle k → Agrees piece (take n needle) k
+agrees_first_bytes piece needle n k agrees i l m =
+    let short : i < n = let e = length-take n needle in omega (arith, l, e) in
+    let long : i < length needle = let e = length-take n needle in omega (arith, l, e) in
+    agrees i long m ∙ sym (get_or-take n needle i 0 short)
+
+-- before its first byte it doesn't agree
+pub no_first : (piece needle : List ℕ) (r : Option ℕ) (k : ℕ) → 0 < length needle → IsFirstByte (is_byte (slice_index needle 0)) piece r →
+    k < unwrap_or r (length piece) → ¬ Agrees piece needle k
+no_first piece needle None k some first low agrees =
     let z : k + 0 ≡ k = omega arith in
-    let e : slice_index piece k ≡ slice_index needle 0 = ap (slice_index piece) (sym z) ∙ agrees 0 some (omega (arith, within)) in
-    let at : from + (k - from) ≡ k = omega arith in
-    let read : slice_index (take (length piece - from) (drop from piece)) (k - from) ≡ slice_index piece k =
-    get_or-take (length piece - from) (drop from piece) (k - from) 0 (omega (arith, within, low)) ∙ get_or-drop from piece (k - from) 0 ∙ ap (slice_index piece) at in
-    none (k - from) zero-le (omega (arith, low, high)) (let same : slice_index (take (length piece - from) (drop from piece)) (k - from) ≡ slice_index needle 0 = read ∙ e in grind (arith, nat_tests))
+    first k zero-le low (let same : slice_index piece k ≡ slice_index needle 0 = ap (slice_index piece) (sym z) ∙ agrees 0 some (omega (arith, low)) in grind (arith, nat_tests))
+no_first piece needle (Some at) k some first low agrees =
+    let z : k + 0 ≡ k = omega arith in
+    let high = first.0.high in
+    first.0.before k zero-le low (let same : slice_index piece k ≡ slice_index needle 0 = ap (slice_index piece) (sym z) ∙ agrees 0 some (omega (arith, low, high)) in grind (arith, nat_tests))
 
 -- a byte with which a needle begins has a head
 pub head_of : (needles : List (List ℕ)) (heads : List ℕ) (k b : ℕ) → AreHeads needles 0 heads → k < length needles → b < 256 →

@@ -14,9 +14,9 @@ use Rattle.std.proofs.lemmas.Simd.{bitmask_splat, bit_mask_l, mask_l-lt, length-
 use Rattle.rc_needles.specs.declared.teddy.Sift.{Sift}
 use Rattle.rc_needles.specs.declared.teddy.Teddy.{Teddy}
 use Rattle.rc_needles.specs.Teddies.{AreLanes, AreMarked, AreTaken, IsSifted, MayStand, buckets, sifted}
-use Rattle.rc_needles.specs.Tables.{Agrees, IsRuledOut}
+use Rattle.rc_needles.specs.Tables.{Agrees, IsRuledOut, numbered}
 use Rattle.rc_needles.proofs.PairLemmas.{zero_bits}
-use Rattle.rc_needles.proofs.ScanLemmas.{tail_length}
+use Rattle.rc_needles.proofs.ScanLemmas.{agrees_behind}
 
 -- two vectors, place by place
 pub lanes_and : (u v : List ℕ) (f g : ℕ → ℕ) → AreLanes u f → AreLanes v g → AreLanes (zip2 bit_and u v) (λ k. bit_and (f k) (g k))
@@ -252,11 +252,7 @@ set_bit bits some small =
 pub ruled_out_in_tail : (needles : List (List ℕ)) (piece : List ℕ) (from k : ℕ) → from ≤ k →
     IsRuledOut needles 0 (take (length piece - from) (drop from piece)) (k - from) → IsRuledOut needles 0 piece k
 ruled_out_in_tail needles piece from k low out n l agrees =
-    out n l (λ i a b.
-    let at : from + (k - from + i) ≡ k + i = omega (arith, low) in
-    let inside : k + i < length piece = omega (arith, low, b, tail_length piece from) in
-    get_or-take (length piece - from) (drop from piece) (k - from + i) 0 (omega (arith, b, tail_length piece from)) ∙ get_or-drop from piece (k - from + i) 0
-    ∙ ap (slice_index piece) at ∙ agrees i a inside)
+    out n l (agrees_behind piece (numbered needles n) from k low agrees)
 
 pub tail_small : (piece : List ℕ) (from k : ℕ) → ((i : ℕ) → slice_index piece i < 256) → k < length piece - from →
     slice_index (take (length piece - from) (drop from piece)) k < 256

@@ -1,3 +1,4 @@
+pub mod Failures
 pub mod Guards
 pub mod Needles
 pub mod Openings

@@ -1,8 +1,9 @@
 -- Only proofs use this file.
 -- Choice of algorithm: what a piece of a chunk is searched for.
-use Rattle.std.specs.Prelude.{◌≡◌, ℕ, ◌<◌, ◌≤◌, Bool, true, List, length, drop, ⊤}
+use Rattle.std.specs.Prelude.{◌≡◌, ℕ, ◌<◌, ◌≤◌, Bool, true, List, length, drop, Option, Some, None, Vec, ⊤}
 use denote.Struct.Props.{props}
 use Rattle.memchr.specs.Find.{is_byte, is_byte2, is_byte3}
+use Rattle.rc_needles.specs.Failures.{IsFailureFunction}
 use Rattle.rc_needles.specs.Teddies.{AreSifted}
 use Rattle.rc_needles.specs.Tables.{numbered, BeginsWithByte}
 use Rattle.rc_needles.specs.declared.scan.FirstBytes.{FirstBytes}
@@ -33,6 +34,17 @@ IsScanOf needles offset (scan.Needle rest) = IsRestOf needles offset rest
 IsScanOf needles offset (scan.FirstBytes heads) = (offset ≡ 0) × AreFirstBytesOf needles heads
 IsScanOf needles offset (scan.Teddy teddy) = (offset ≡ 0) × AreSifted teddy needles
 
+-- There is one needle, its own bytes are searched for, and this is its failure function.
+pub record IsLongSearch (needles : List (List ℕ)) (offset : ℕ) (failures : List ℕ) : Type 0 where
+  pub one : length needles ≡ 1
+  pub from_start : offset ≡ 0
+  pub is : IsFailureFunction (numbered needles 0) failures
+
+-- If there is a failure function, it is that of the only needle.
+abbrev pub AreFailuresOf : {Y : Type 0} → Option (Vec ℕ Y) → List (List ℕ) → ℕ → Type 0
+AreFailuresOf None needles offset = ⊤
+AreFailuresOf (Some failures) needles offset = IsLongSearch needles offset failures.items
+
 -- It is a fact: there is at most one proof of it.
 pub AreFirstBytesOf-is_fact : (needles : List (List ℕ)) (heads : FirstBytes) → IsProp (AreFirstBytesOf needles heads)
 AreFirstBytesOf-is_fact needles (One a) = hlevel props
@@ -47,3 +59,7 @@ IsScanOf-is_fact needles offset (scan.FirstBytes (Two a b)) = hlevel props
 IsScanOf-is_fact needles offset (scan.FirstBytes (Three a b c)) = hlevel props
 IsScanOf-is_fact needles offset (scan.FirstBytes Many) = hlevel props
 IsScanOf-is_fact needles offset (scan.Teddy teddy) = hlevel props
+
+pub AreFailuresOf-is_fact : {Y : Type 0} (failures : Option (Vec ℕ Y)) (needles : List (List ℕ)) (offset : ℕ) → IsProp (AreFailuresOf failures needles offset)
+AreFailuresOf-is_fact None needles offset = hlevel props
+AreFailuresOf-is_fact (Some failures) needles offset = hlevel props

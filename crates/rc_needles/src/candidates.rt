@@ -7,7 +7,7 @@ ghost use Rattle.rc_needles.specs.Teddies.{AreSifted};
 ghost use Rattle.rc_needles.specs.Tables.{Agrees, IsRuledOut, needles_in};
 
 use crate::pairs::{LANES, are_nowhere, first_place};
-use crate::scan::{FirstBytes, NeedleSearch, Scan};
+use crate::scan::{FirstBytes, LONG_NEEDLE, NeedleSearch, Scan};
 use crate::table::Table;
 use crate::teddy::{LEAST_PIECE, Teddy};
 use memchr::memmem::Finder;
@@ -18,12 +18,9 @@ use rc_text::input::{Input, piece_from, takes_next};
 /// In a chunk of fewer bytes, a quick look may show that two bytes of the only needle aren't there.
 const SHORT_PIECE: usize = 512;
 
-/// In a piece of fewer bytes, the packed pair is used; in longer ones, `memchr`'s memmem.
+/// In a piece of fewer bytes, the packed pair is used; in longer ones, `memchr`'s memmem. It is used
+/// for long needles in all pieces, since its search is linear.
 const LONG_PIECE: usize = 8192;
-
-/// If the needle has more bytes from the offset on, memmem is used, whose search is linear in the
-/// worst case.
-const LONG_REST: usize = 32;
 
 /// The position up to which chunks were skipped, and whether a needle may occur there.
 #[derive(Clone, Copy)]
@@ -75,7 +72,7 @@ impl Candidates for ByRest<'_> {
     #[inline(always)]
     fn candidate(&self, piece: &[u8]) -> usize {
         let rest = self.rest.needle();
-        if rest.len() <= LONG_REST && is_between(piece, LANES, LONG_PIECE) {
+        if rest.len() <= LONG_NEEDLE && is_between(piece, LANES, LONG_PIECE) {
             return first_place(piece, rest);
         }
         rest_candidate(self.rest, piece)
@@ -158,7 +155,7 @@ fn is_between(piece: &[u8], low: usize, high: usize) -> bool
 /// begin at its end.
 #[inline(never)]
 fn rest_candidate(finder: &Finder, piece: &[u8]) -> usize
-    requires some { 0 < length finder.now }
+    requires some { 2 ≤ length finder.now }
     ensures within { result ≤ length piece.now }
     ensures passed { (k : ℕ) → k < result → ¬ Agrees piece.now finder.now k }
 {
@@ -167,10 +164,21 @@ fn rest_candidate(finder: &Finder, piece: &[u8]) -> usize
     }
     let rest = finder.needle();
     let from = piece.len().saturating_sub(rest.len() - 1);
-    match memchr(rest[0], &piece[from..]) {
-        Some(at) => from + at,
-        None => piece.len(),
+    from + begun_in(&piece[from..], rest)
+}
+
+/// Returns the first index at which the piece has the first bytes of `rest`, as far as both go, or
+/// an earlier candidate near the piece's end. If there is none, it is the piece's length.
+#[inline(always)]
+fn begun_in(piece: &[u8], rest: &[u8]) -> usize
+    requires some { 2 ≤ length rest.now }
+    ensures within { result ≤ length piece.now }
+    ensures passed { (k : ℕ) → k < result → ¬ Agrees piece.now rest.now k }
+{
+    if piece.len() > LANES {
+        return first_place(piece, &rest[..rest.len().min(LONG_NEEDLE)]);
     }
+    memchr(rest[0], piece).unwrap_or(piece.len())
 }
 
 /// Returns the index of the first byte with which a needle begins, or the piece's length.

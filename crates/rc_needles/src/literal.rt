@@ -8,6 +8,7 @@ ghost use Rattle.rc_needles.specs.Tries.{AreCarriedBy, IsCarried};
 
 use crate::candidates::place_from;
 use crate::hit::Hit;
+use crate::long::find_long;
 use crate::many::candidate_in;
 use crate::prefilter::Prefilter;
 use crate::scan::{FirstBytes, NeedleSearch, Scan};
@@ -284,6 +285,9 @@ pub fn find_from<C: Cursor>(
         × (hit.end ≤ end)) }
 {
     let searcher = &prefilter.searcher;
+    if let Some(failures) = &searcher.failures {
+        return find_long(input, searcher, failures.as_slice(), from, end);
+    }
     if let Some(trie) = trie_sought(searcher) {
         return find_by_trie(input, &searcher.table, trie, from, end);
     }

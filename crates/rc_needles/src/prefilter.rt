@@ -14,7 +14,9 @@ use std::fmt;
 ///
 /// How it searches depends on the needles; the first row that fits is taken:
 ///
-/// - One needle of two bytes or more: by its two rarest neighbouring bytes, and those after them.
+/// - One needle of more than 32 bytes: by memmem in a chunk, and by its failure function across
+///   borders. So the work is linear in the text, wherever chunks are cut.
+/// - Another one of two bytes or more: by its two rarest neighbouring bytes, and those after them.
 /// - Several needles of at least three bytes, or of at least two if one begins with a byte that is
 ///   common in texts: by Teddy, if there are at most 64.
 /// - Needles that begin with at most three different bytes: by these.
@@ -84,6 +86,9 @@ impl Prefilter {
         let mut bytes: usize = 8 * 256;
         for needle in &self.searcher.table.needles {
             bytes = bytes.saturating_add(needle.len()).saturating_add(32);
+        }
+        if let Some(failures) = &self.searcher.failures {
+            bytes = bytes.saturating_add(failures.len().saturating_mul(8));
         }
         match &self.searcher.table.trie {
             Some(trie) => bytes

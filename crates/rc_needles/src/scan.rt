@@ -1,9 +1,10 @@
 //! Choice of algorithm: how pieces of chunks are searched for some needles.
 ghost use Rattle.std.specs.Prelude.{◌≡◌, ◌+◌, ◌<◌, ◌≤◌, IfOk, length, slice_index};
 ghost use Rattle.memchr.specs.Find.{IsFirst};
-ghost use Rattle.rc_needles.specs.Tables.{AreSome, needles_in};
-ghost use Rattle.rc_needles.specs.Scans.{AreFirstBytesOf, IsScanOf, IsScanOf-is_fact};
+ghost use Rattle.rc_needles.specs.Tables.{AreSome, needles_in, numbered};
+ghost use Rattle.rc_needles.specs.Scans.{AreFailuresOf, AreFailuresOf-is_fact, AreFirstBytesOf, IsScanOf, IsScanOf-is_fact};
 
+use crate::failure::failure_function_of;
 use crate::table::{Table, table_of};
 use crate::teddy::{Teddy, teddy_of};
 use memchr::arch::all::packedpair::{DefaultFrequencyRank, HeuristicFrequencyRank};
@@ -12,6 +13,10 @@ use std::alloc::{AllocError, Global};
 
 /// A byte is common in texts if `memchr`'s table ranks it at least this high.
 const LEAST_COMMON: u8 = 210;
+
+/// A longer needle is searched for in linear time wherever chunks are cut. It is compared no
+/// further than this at a candidate.
+pub const LONG_NEEDLE: usize = 32;
 
 /// The first bytes of needles.
 #[derive(Clone, Copy, Drop)]
@@ -38,13 +43,15 @@ pub enum Scan {
 }
 
 /// The needles, how a piece is searched for them, and how many bytes after a needle's start the
-/// bytes are that are searched for.
+/// bytes are that are searched for. A single long needle has its failure function too.
 #[derive(Drop)]
 pub struct NeedleSearch {
     pub table: Table,
     pub scan: Scan,
     pub offset: usize,
+    pub failures: Option<Vec<usize>>,
     ghost is_scan: { IsScanOf (needles_in table.needles.items) offset scan } by { IsScanOf-is_fact (needles_in table.needles.items) offset scan },
+    ghost are_failures: { AreFailuresOf failures (needles_in table.needles.items) offset } by { AreFailuresOf-is_fact failures (needles_in table.needles.items) offset },
 }
 
 /// A searcher for these needles. `Err` means out of memory.
@@ -54,20 +61,41 @@ pub fn needle_search_of(alloc: Global, needles: Vec<Vec<u8>>) -> Result<NeedleSe
 {
     let table = table_of(alloc, needles)?;
     if table.needles.len() == 1 && table.needles[0].len() > 1 {
-        let needle = table.needles[0].as_slice();
-        let offset = rare_offset(needle);
-        let rest = Finder::new(&needle[offset..]).into_owned(alloc)?;
-        return Ok(NeedleSearch {
-            table,
-            scan: Scan::Needle(rest),
-            offset,
-        });
+        return one_needle_search_of(alloc, table);
     }
     let scan = scan_of(&table);
     Ok(NeedleSearch {
         table,
         scan,
         offset: 0,
+        failures: None,
+    })
+}
+
+/// A searcher for the only needle. `Err` means out of memory.
+fn one_needle_search_of(alloc: Global, table: Table) -> Result<NeedleSearch, AllocError>
+    requires one { length table.needles.items ≡ 1 }
+    requires long { 2 ≤ length (numbered (needles_in table.needles.items) 0) }
+    ensures { IfOk result (λ s. s.table ≡ table) }
+{
+    let needle = table.needles[0].as_slice();
+    if needle.len() > LONG_NEEDLE {
+        let failures = failure_function_of(alloc, needle)?;
+        let finder = Finder::new(needle).into_owned(alloc)?;
+        return Ok(NeedleSearch {
+            table,
+            scan: Scan::Needle(finder),
+            offset: 0,
+            failures: Some(failures),
+        });
+    }
+    let offset = rare_offset(needle);
+    let rest = Finder::new(&needle[offset..]).into_owned(alloc)?;
+    Ok(NeedleSearch {
+        table,
+        scan: Scan::Needle(rest),
+        offset,
+        failures: None,
     })
 }
 
