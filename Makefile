@@ -7,6 +7,7 @@
 #
 # DESTDIR is put before each path, for packagers. OUT is the folder of the built library.
 PREFIX ?= /usr/local
+override PREFIX := $(abspath $(PREFIX))
 BINDIR ?= $(PREFIX)/bin
 LIBDIR ?= $(PREFIX)/lib
 INCLUDEDIR ?= $(PREFIX)/include

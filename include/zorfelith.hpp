@@ -221,7 +221,8 @@ class regex {
     }
 
     // The matches in the range, from left to right, as a range to loop over. It borrows the regex and the chunks.
-    zorfelith::matches matches(text in, range within = {});
+    zorfelith::matches matches(text in, range within = {}) &;
+    zorfelith::matches matches(text in, range within = {}) && = delete;
 
     std::size_t pattern_count() {
         std::size_t count = 0;
@@ -382,7 +383,7 @@ class matches {
     std::array<match, 256> batch_{};
 };
 
-inline matches regex::matches(text in, range within) { return zorfelith::matches(*this, in, within); }
+inline matches regex::matches(text in, range within) & { return zorfelith::matches(*this, in, within); }
 
 } // inline namespace
 } // namespace zorfelith

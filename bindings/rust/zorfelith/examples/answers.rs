@@ -1,7 +1,7 @@
 //! Answers the requests that `bindings/c/answers.c` tells of, by the safe wrapper.
 
 use std::io::{BufRead, Write};
-use zorfelith::{Chunk, Error, Match, Regex, Settings, chunk};
+use zorfelith::{Captures, Chunk, Error, Input, Match, Regex, Settings, chunk};
 
 /// The bytes that a word writes in hexadecimal.
 fn bytes_of(word: &str) -> Vec<u8> {
@@ -39,26 +39,48 @@ fn status(error: Error) -> u32 {
 }
 
 fn shown(found: &Match) -> String {
-    format!("{}:{}-{}", found.pattern, found.start, found.end)
+    format!("{}:{}-{}", found.pattern(), found.start(), found.end())
 }
 
-fn answer(kind: &str, regex: &mut Regex, text: &[Chunk<'_>], start: usize, end: usize) -> String {
+/// The matches, as `find_iter` and as `captures_iter` give them, each up to the first error.
+fn both(regex: &mut Regex, input: Input<'_>) -> [(Vec<Match>, Option<Error>); 2] {
+    let (mut alone, mut with_groups) = ((Vec::new(), None), (Vec::new(), None));
+    for found in regex.find_iter(input) {
+        match found {
+            Ok(found) => alone.0.push(found),
+            Err(error) => alone.1 = Some(error),
+        }
+    }
+    for captures in regex.captures_iter(input) {
+        match captures.as_ref().map(Captures::get_match) {
+            Ok(found) => with_groups.0.push(found),
+            Err(error) => with_groups.1 = Some(*error),
+        }
+    }
+    [alone, with_groups]
+}
+
+fn answer(kind: &str, regex: &mut Regex, input: Input<'_>) -> String {
     match kind {
         "a" => {
+            let [alone, with_groups] = both(regex, input);
+            if alone != with_groups {
+                return "find_iter and captures_iter differ".to_string();
+            }
             let mut line = "all".to_string();
-            for found in regex.find_iter(text, start..end) {
-                match found {
-                    Ok(found) => line += &format!(" {}", shown(&found)),
-                    Err(error) => line += &format!(" status {}", status(error)),
-                }
+            for found in &alone.0 {
+                line += &format!(" {}", shown(found));
+            }
+            if let Some(error) = alone.1 {
+                line += &format!(" status {}", status(error));
             }
             line
         }
-        "m" => match regex.is_match(text, start..end) {
+        "m" => match regex.is_match(input) {
             Ok(found) => format!("status {}", u32::from(found)),
             Err(error) => format!("status {}", status(error)),
         },
-        "w" => match regex.which_patterns(text, start..end) {
+        "w" => match regex.which_patterns(input) {
             Ok(marks) => {
                 let mut line = "which".to_string();
                 for number in marks {
@@ -68,15 +90,15 @@ fn answer(kind: &str, regex: &mut Regex, text: &[Chunk<'_>], start: usize, end: 
             }
             Err(error) => format!("status {}", status(error)),
         },
-        "f" => match regex.find(text, start..end) {
+        "f" => match regex.find(input) {
             Ok(Some(found)) => format!("status 1 {}", shown(&found)),
             Ok(None) => "status 0".to_string(),
             Err(error) => format!("status {}", status(error)),
         },
-        _ => match regex.captures(text, start..end) {
+        _ => match regex.captures(input) {
             Ok(Some(captures)) => {
-                let mut line = format!("status 1 {} of {}", shown(&captures.found), captures.groups.len());
-                for group in &captures.groups {
+                let mut line = format!("status 1 {} of {}", shown(&captures.get_match()), captures.group_len());
+                for group in captures.iter() {
                     match group {
                         Some(span) => line += &format!(" {}-{}", span.start, span.end),
                         None => line += " .",
@@ -106,7 +128,7 @@ fn main() {
         let text: Vec<Chunk<'_>> = if cut == 0 { vec![chunk(&bytes)] } else { bytes.chunks(cut).map(chunk).collect() };
         let answer = match Regex::with(&patterns, &settings_of(words[1])) {
             Ok(_) if words[0] == "r" => "compiled".to_string(),
-            Ok(mut regex) => answer(words[0], &mut regex, &text, start, end),
+            Ok(mut regex) => answer(words[0], &mut regex, Input::new(&text).range(start..end)),
             Err(Error::Syntax { pattern, at }) => format!("refused 8 {pattern} {at}"),
             Err(error) => format!("refused {} 0 0", status(error)),
         };

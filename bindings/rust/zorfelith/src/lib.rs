@@ -1,16 +1,30 @@
 //! Regex search over text in chunks, by a library that is proved. The text is an array of [`Chunk`]s, and is not copied; the answers are those
 //! of the whole text, wherever it is cut. All places are in bytes of the whole text.
 //!
+//! ```
+//! use zorfelith::{Input, Regex, chunk};
+//!
+//! let text = [chunk(b"due 20"), chunk(b"26-11, paid 2027"), chunk(b"-01")];
+//! let mut dates = Regex::new(r"(?P<year>[0-9]{4})-([0-9]{2})")?;
+//! assert!(dates.is_match(&text)?);
+//! assert_eq!(dates.find(Input::new(&text).range(5..))?.map(|found| found.range()), Some(18..25));
+//! for captures in dates.captures_iter(&text) {
+//!     let captures = captures?;
+//!     assert_eq!(captures.get(2).map(|month| month.len()), Some(2));
+//! }
+//! assert_eq!(dates.replace_all(&text, |_| "soon")?, b"due soon, paid soon");
+//! # Ok::<(), zorfelith::Error>(())
+//! ```
+//!
 //! A [`Regex`] isn't `Send`: it stays with the thread that compiled it.
 
 use std::error;
 use std::fmt;
 use std::marker::PhantomData;
-use std::ops::Range;
+use std::ops::{Bound, Range, RangeBounds};
 use std::ptr::null_mut;
 use zorfelith_sys as sys;
 
-pub use zorfelith_sys::zf_match as Match;
 pub use zorfelith_sys::zf_settings as Settings;
 
 // The kinds of match, for `Settings::kind`.
@@ -32,9 +46,114 @@ pub fn chunk(bytes: &[u8]) -> Chunk<'_> {
     })
 }
 
+impl<'a> Chunk<'a> {
+    /// Its bytes.
+    pub fn bytes(&self) -> &'a [u8] {
+        // SAFETY: `chunk` took the pointer and the length from a slice that is borrowed as long.
+        unsafe { std::slice::from_raw_parts(self.0.bytes, self.0.len) }
+    }
+}
+
 /// Where the chunks begin, as the library takes them.
 fn first<'a>(chunks: &[Chunk<'a>]) -> *const sys::zf_bytes<'a> {
     chunks.as_ptr().cast()
+}
+
+/// What is searched: a text, and a range of it. Assertions, as `^` and `\b`, see the whole text.
+#[derive(Clone, Copy)]
+pub struct Input<'t> {
+    text: &'t [Chunk<'t>],
+    start: usize,
+    end: usize,
+}
+
+impl<'t> Input<'t> {
+    /// A whole text.
+    pub fn new(text: &'t [Chunk<'t>]) -> Input<'t> {
+        Input { text, start: 0, end: sys::ZF_NONE }
+    }
+
+    /// The same text in this range. It may end behind the text, and then ends with it.
+    pub fn range(self, range: impl RangeBounds<usize>) -> Input<'t> {
+        let start = match range.start_bound() {
+            Bound::Included(&start) => start,
+            Bound::Excluded(&before) => before.saturating_add(1),
+            Bound::Unbounded => 0,
+        };
+        let end = match range.end_bound() {
+            Bound::Included(&last) => last.saturating_add(1),
+            Bound::Excluded(&end) => end,
+            Bound::Unbounded => sys::ZF_NONE,
+        };
+        Input { text: self.text, start, end }
+    }
+
+    /// Puts the bytes of this range, as far as the text has them, behind those of `out`.
+    pub fn copy_to(&self, out: &mut Vec<u8>) {
+        let mut at = 0;
+        for chunk in self.text {
+            let bytes = chunk.bytes();
+            let low = self.start.saturating_sub(at).min(bytes.len());
+            let high = self.end.saturating_sub(at).min(bytes.len());
+            out.extend_from_slice(&bytes[low..high.max(low)]);
+            at += bytes.len();
+        }
+    }
+}
+
+impl<'t> From<&'t [Chunk<'t>]> for Input<'t> {
+    fn from(text: &'t [Chunk<'t>]) -> Input<'t> {
+        Input::new(text)
+    }
+}
+
+impl<'t, const N: usize> From<&'t [Chunk<'t>; N]> for Input<'t> {
+    fn from(text: &'t [Chunk<'t>; N]) -> Input<'t> {
+        Input::new(text)
+    }
+}
+
+impl<'t> From<&'t Vec<Chunk<'t>>> for Input<'t> {
+    fn from(text: &'t Vec<Chunk<'t>>) -> Input<'t> {
+        Input::new(text)
+    }
+}
+
+/// A match: the number of its pattern, and where it stands.
+#[repr(transparent)]
+#[derive(Clone, Copy, Debug, Default, PartialEq, Eq)]
+pub struct Match(sys::zf_match);
+
+impl Match {
+    /// The number of the pattern that matched.
+    pub fn pattern(&self) -> usize {
+        self.0.pattern
+    }
+
+    /// Where it starts.
+    pub fn start(&self) -> usize {
+        self.0.start
+    }
+
+    /// Where it ends, without the byte there.
+    pub fn end(&self) -> usize {
+        self.0.end
+    }
+
+    /// From its start to its end.
+    pub fn range(&self) -> Range<usize> {
+        self.0.start..self.0.end
+    }
+
+    /// How many bytes it has.
+    pub fn len(&self) -> usize {
+        self.0.end - self.0.start
+    }
+
+    /// Whether it has no bytes.
+    pub fn is_empty(&self) -> bool {
+        self.0.start == self.0.end
+    }
 }
 
 /// Why there is no answer.
@@ -106,22 +225,25 @@ impl Regex {
         }
     }
 
-    /// Whether there is a match in the range of the text.
-    pub fn is_match(&mut self, text: &[Chunk<'_>], range: Range<usize>) -> Result<bool, Error> {
+    /// Whether there is a match.
+    pub fn is_match<'t>(&mut self, input: impl Into<Input<'t>>) -> Result<bool, Error> {
+        let Input { text, start, end } = input.into();
         // SAFETY: above.
-        told(unsafe { sys::zf_is_match(&mut self.0, first(text), text.len(), range.start, range.end) })
+        told(unsafe { sys::zf_is_match(&mut self.0, first(text), text.len(), start, end) })
     }
 
-    /// The match in the range of the text. The range may end behind the text.
-    pub fn find(&mut self, text: &[Chunk<'_>], range: Range<usize>) -> Result<Option<Match>, Error> {
+    /// The match.
+    pub fn find<'t>(&mut self, input: impl Into<Input<'t>>) -> Result<Option<Match>, Error> {
+        let Input { text, start, end } = input.into();
         let mut found = Match::default();
         // SAFETY: above.
-        let status = unsafe { sys::zf_find(&mut self.0, first(text), text.len(), range.start, range.end, &mut found) };
+        let status = unsafe { sys::zf_find(&mut self.0, first(text), text.len(), start, end, &mut found.0) };
         Ok(told(status)?.then_some(found))
     }
 
-    /// The match in the range of the text with its groups, the whole match first. `None` is a group that took no part.
-    pub fn captures(&mut self, text: &[Chunk<'_>], range: Range<usize>) -> Result<Option<Captures>, Error> {
+    /// The match with its groups.
+    pub fn captures<'t>(&mut self, input: impl Into<Input<'t>>) -> Result<Option<Captures>, Error> {
+        let Input { text, start, end } = input.into();
         let most = (0..self.pattern_count()).map(|pattern| self.group_count(pattern)).max().unwrap_or(0);
         let mut found = Match::default();
         let mut groups = vec![sys::zf_group { start: 0, end: 0 }; most];
@@ -131,9 +253,9 @@ impl Regex {
                 &mut self.0,
                 first(text),
                 text.len(),
-                range.start,
-                range.end,
-                &mut found,
+                start,
+                end,
+                &mut found.0,
                 groups.as_mut_ptr(),
                 groups.len(),
             )
@@ -141,27 +263,52 @@ impl Regex {
         if !told(status)? {
             return Ok(None);
         }
-        groups.truncate(self.group_count(found.pattern));
+        groups.truncate(self.group_count(found.pattern()));
         let groups = groups.iter().map(|group| (group.start != sys::ZF_NONE).then_some(group.start..group.end)).collect();
         Ok(Some(Captures { found, groups }))
     }
 
-    /// The numbers of the patterns that have a match in the range of the text, the least first.
-    pub fn which_patterns(&mut self, text: &[Chunk<'_>], range: Range<usize>) -> Result<Vec<usize>, Error> {
+    /// The numbers of the patterns that have a match, the least first.
+    pub fn which_patterns<'t>(&mut self, input: impl Into<Input<'t>>) -> Result<Vec<usize>, Error> {
+        let Input { text, start, end } = input.into();
         let mut marks = vec![0; self.pattern_count()];
         // SAFETY: above.
         let status = unsafe {
-            sys::zf_which_patterns(&mut self.0, first(text), text.len(), range.start, range.end, marks.as_mut_ptr(), marks.len())
+            sys::zf_which_patterns(&mut self.0, first(text), text.len(), start, end, marks.as_mut_ptr(), marks.len())
         };
         told(status)?;
         Ok((0..marks.len()).filter(|&pattern| marks[pattern] == 1).collect())
     }
 
-    /// The matches in the range of the text, from left to right. The text is borrowed until the iterator is gone, so it stands still.
-    pub fn find_iter<'r, 't>(&'r mut self, text: &'t [Chunk<'t>], range: Range<usize>) -> FindIter<'r, 't> {
+    /// The matches, from left to right. The text is borrowed until the iterator is gone, so it stands still.
+    pub fn find_iter<'r, 't>(&'r mut self, input: impl Into<Input<'t>>) -> FindIter<'r, 't> {
+        let input = input.into();
         // SAFETY: above.
-        unsafe { sys::zf_restart(&mut self.0, range.start, 0) };
-        FindIter { regex: self, text, end: range.end, batch: [Match::default(); 256], len: 0, at: 0, is_last: false }
+        unsafe { sys::zf_restart(&mut self.0, input.start, 0) };
+        FindIter { regex: self, input, batch: [Match::default(); 256], len: 0, at: 0, is_last: false }
+    }
+
+    /// The matches with their groups, from left to right.
+    pub fn captures_iter<'r, 't>(&'r mut self, input: impl Into<Input<'t>>) -> CapturesIter<'r, 't> {
+        CapturesIter(self.find_iter(input))
+    }
+
+    /// The bytes of the range in which each match is replaced by what the function makes of it.
+    pub fn replace_all<'t, R: AsRef<[u8]>>(
+        &mut self,
+        input: impl Into<Input<'t>>,
+        mut replacement: impl FnMut(&Captures) -> R,
+    ) -> Result<Vec<u8>, Error> {
+        let input = input.into();
+        let (mut out, mut at) = (Vec::new(), input.start);
+        for captures in self.captures_iter(input) {
+            let captures = captures?;
+            input.range(at..captures.found.start()).copy_to(&mut out);
+            out.extend_from_slice(replacement(&captures).as_ref());
+            at = captures.found.end();
+        }
+        input.range(at..input.end).copy_to(&mut out);
+        Ok(out)
     }
 
     /// How many patterns there are.
@@ -222,17 +369,36 @@ impl Drop for Regex {
 /// A match and its groups.
 #[derive(Clone, Debug)]
 pub struct Captures {
+    found: Match,
+    groups: Vec<Option<Range<usize>>>,
+}
+
+impl Captures {
     /// The match.
-    pub found: Match,
+    pub fn get_match(&self) -> Match {
+        self.found
+    }
+
+    /// Where a group matched; `None` if it took no part, or if there is no such group. Group 0 is the whole match.
+    pub fn get(&self, group: usize) -> Option<Range<usize>> {
+        self.groups.get(group)?.clone()
+    }
+
     /// Its groups, the whole match first.
-    pub groups: Vec<Option<Range<usize>>>,
+    pub fn iter(&self) -> impl Iterator<Item = Option<Range<usize>>> + '_ {
+        self.groups.iter().cloned()
+    }
+
+    /// How many groups the pattern has, the whole match among them.
+    pub fn group_len(&self) -> usize {
+        self.groups.len()
+    }
 }
 
 /// The matches of a text, found in batches.
 pub struct FindIter<'r, 't> {
     regex: &'r mut Regex,
-    text: &'t [Chunk<'t>],
-    end: usize,
+    input: Input<'t>,
     batch: [Match; 256],
     len: usize,
     at: usize,
@@ -243,14 +409,15 @@ impl FindIter<'_, '_> {
     /// Fills the batch anew.
     fn fill(&mut self) -> Result<(), Error> {
         let mut progress = sys::zf_progress::default();
-        // SAFETY: as above.
+        let Input { text, end, .. } = self.input;
+        // SAFETY: as above; a `Match` is a `zf_match`.
         let status = unsafe {
             sys::zf_next(
                 &mut self.regex.0,
-                first(self.text),
-                self.text.len(),
-                self.end,
-                self.batch.as_mut_ptr(),
+                first(text),
+                text.len(),
+                end,
+                self.batch.as_mut_ptr().cast(),
                 self.batch.len(),
                 &mut progress,
             )
@@ -278,5 +445,20 @@ impl Iterator for FindIter<'_, '_> {
         let found = *self.batch[..self.len].get(self.at)?;
         self.at += 1;
         Some(Ok(found))
+    }
+}
+
+/// The matches of a text with their groups.
+pub struct CapturesIter<'r, 't>(FindIter<'r, 't>);
+
+impl Iterator for CapturesIter<'_, '_> {
+    type Item = Result<Captures, Error>;
+
+    /// The next match, whose groups are sought from its start to its end. An `Err` is the last item.
+    fn next(&mut self) -> Option<Result<Captures, Error>> {
+        match self.0.next()? {
+            Ok(found) => self.0.regex.captures(self.0.input.range(found.range())).transpose(),
+            Err(error) => Some(Err(error)),
+        }
     }
 }
