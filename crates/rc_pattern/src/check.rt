@@ -13,7 +13,7 @@ mod weights;
 mod well_formed;
 
 pub use captures::{group_count, groups};
-pub use copies::{copies_of, copy_of};
+pub use copies::copies_of;
 pub use depths::depth_within;
 pub use weights::{capped_list_weight, capped_weight};
 pub use well_formed::is_well_formed;

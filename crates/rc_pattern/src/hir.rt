@@ -277,8 +277,9 @@ impl Hir {
     }
 
     /// Returns what is known of the pattern. It is computed at each call, in time linear in the
-    /// size of the pattern. It recurses once for each level, which takes some 420 bytes of stack. So
-    /// a stack of 512 KiB is enough for a pattern that a build takes, of at most 1,024 levels.
+    /// size of the pattern. It recurses once for each level, which takes at most some 150 bytes of
+    /// stack. So a stack of 256 KiB is enough for a pattern that a build takes, of at most 1,024
+    /// levels.
     pub fn properties(&self) -> Properties
         ensures { IsPropertiesOf (meaning self.now) result }
     {

@@ -15,6 +15,7 @@ use std::alloc::AllocError;
 const GREATEST_GROUP: usize = 2147483647;
 
 /// Appends one place.
+#[inline(always)]
 pub(super) fn append(places: &mut Vec<Place>, place: Place) -> Result<(), AllocError>
     ensures long { IfOk result (λ _. vec_len places.new ≡ vec_len places.old + 1) }
     ensures more { IfOk result (λ _. places_of places.new.items ≡ places_of places.old.items
@@ -35,6 +36,7 @@ fn choice_of(greedy: bool, body: usize, out: usize) -> Place
 }
 
 /// Appends the places of a literal, which leads to `next`.
+#[inline(never)]
 fn emit_literal(places: &mut Vec<Place>, bytes: &Vec<u8>, next: usize) -> Result<(), AllocError>
     requires { vec_len places.old + vec_len bytes.now < 2 ^ 62 }
     ensures long { IfOk result (λ _. vec_len places.new ≡ vec_len places.old
@@ -55,6 +57,7 @@ fn emit_literal(places: &mut Vec<Place>, bytes: &Vec<u8>, next: usize) -> Result
 }
 
 /// Appends the place of a class, which leads to `next`.
+#[inline(never)]
 fn emit_class(places: &mut Vec<Place>, class: &Class, next: usize) -> Result<(), AllocError>
     ensures long { IfOk result (λ _. vec_len places.new ≡ vec_len places.old
         + (part (class_meaning class.now)).size) }
@@ -109,6 +112,7 @@ pub(super) fn emit(
 /// Appends the places of a group: a slot for its start, the body, and a slot for its end. Without
 /// `groups`, only the body is emitted.
 #[cycle(emit)]
+#[inline(never)]
 fn emit_capture(
     places: &mut Vec<Place>,
     capture: &Capture,
@@ -138,6 +142,7 @@ fn emit_capture(
 
 /// Appends the places of each member, one after another, and a place that leads to `next`.
 #[cycle(emit)]
+#[inline(never)]
 fn emit_concat(
     places: &mut Vec<Place>,
     subs: &[Hir],
@@ -164,6 +169,7 @@ fn emit_concat(
 /// Appends for each member a choice of it or the later ones, and its places, which lead to `next`.
 /// The last choice's second branch is a dead end.
 #[cycle(emit)]
+#[inline(never)]
 fn emit_alternation(
     places: &mut Vec<Place>,
     subs: &[Hir],
@@ -193,6 +199,7 @@ fn emit_alternation(
 /// - min` optional ones, each nested in the one before. Without a maximum, the last copy is in a
 /// loop, and the whole is optional if `min` is 0.
 #[cycle(emit)]
+#[inline(never)]
 fn emit_repetition(
     places: &mut Vec<Place>,
     repetition: &Repetition,
