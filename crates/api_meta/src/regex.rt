@@ -23,7 +23,6 @@ use rc_captures::captures::Captures;
 use rc_captures::groups::GroupInfo;
 use rc_pattern::check::group_count;
 use rc_pattern::hir::Hir;
-use rc_program::place::Place;
 use rc_settings::error::BuildError;
 use rc_settings::meta::Config;
 use rc_strategy::engines::Engines;
@@ -337,22 +336,19 @@ impl Regex {
         self.engines.engine.literals.is_fast()
     }
 
-    /// Roughly the number of bytes that the program, the groups, the needles and the DFAs take.
+    /// Roughly the number of bytes that the program, the groups, the needles and the DFAs take. The
+    /// program counts with the ranges of its classes, its first-byte sets and its columns of slots.
     pub fn memory_usage(&self) -> usize {
-        let places = self
-            .engines
-            .engine
-            .program
-            .places
-            .len()
-            .saturating_mul(size_of::<Place>());
+        let engine = &self.engines.engine;
         let slots = self
             .info
             .slot_len()
             .saturating_mul(size_of::<Option<usize>>());
-        places
+        engine
+            .program
+            .memory_usage()
             .saturating_add(slots)
-            .saturating_add(self.engines.engine.literals.memory_usage())
+            .saturating_add(engine.literals.memory_usage())
             .saturating_add(self.engines.memory_usage())
     }
 

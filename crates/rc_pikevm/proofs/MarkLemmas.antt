@@ -130,6 +130,14 @@ module _ (s : Sight) (p : ℕ) where
         on_by : Leads v n → Some (n ∷ v) (next_of s n ++ ts)
         on_by a = some_left (n ∷ v) (next_of s n) ts (leads_on on a)
 
+    -- of the ways out of n, that to a alone leads to a match of the pattern
+    pub way_same : (a : Pair) (ts : List Pair) → ¬ IsIn n v → ends s n ≡ false → IsIn a (next_of s n) →
+        (SomeLeads s (n ∷ v) (next_of s n) p → LeadsToPattern s (n ∷ v) a p) → SomeLeads s v (n ∷ ts) p ↔ SomeLeads s v (a ∷ ts) p
+    way_same a ts fresh on i only = (
+      λ h. ⊎_elim (λ x. inl (respelled (n ∷ v) v a (λ w b. fewer_passed (next_of s) Ends n b) (only (leads_on on x)))) (λ y. inr y) h,
+      λ h. ⊎_elim (λ x. inl (⊎_elim (λ y. leads_back a i fresh y) (λ y. y) (keeps_off a x))) (λ y. inr y) h,
+    )
+
     -- a walk of the pattern q ends
     pub matches_same : (q : ℕ) (marks : List Bool) (ts : List Pair) → ¬ IsIn n v → Ends n → place_at s.places n.0 ≡ accept q → p < length marks →
         (Some v (n ∷ ts) ⊎ Has marks p) ↔ (Some (n ∷ v) ts ⊎ Has (set marks q true) p)

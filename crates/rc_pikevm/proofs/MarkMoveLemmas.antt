@@ -5,13 +5,14 @@ use Rattle.std.proofs.lemmas.List.{map-append, append-nil}
 use Rattle.rc_pattern_set.specs.Sets.{Has as IsMember}
 use Rattle.rc_walks.specs.Walks.{Pair, IsIn, IsWalk}
 use Rattle.rc_walks.proofs.ThreadLemmas.{fewer_passed, keeps_off}
-use Rattle.rc_program.specs.Program.{accept, place_at, ways_out, pair_at, is_match_place}
+use Rattle.rc_program.specs.Program.{choice, accept, place_at, ways_out, pair_at, is_match_place}
 use Rattle.rc_program.specs.Text.{holds, ahead}
 use Rattle.rc_program.specs.Answer.{only}
 use Rattle.rc_pikevm.specs.Sights.{Sight, ends, next_of}
 use Rattle.rc_pikevm.specs.Entered.{Goes, IsSkipped, IsEntered, IsVisited}
 use Rattle.rc_pikevm.specs.Alone.{IsDead}
-use Rattle.rc_pikevm.specs.Marking.{SomeLeads, Owed, going, explored}
+use Rattle.rc_pikevm.specs.Entrances.{AreWays, IsOnWay, IsShut, IsWayIn, stays_in, goes_in}
+use Rattle.rc_pikevm.specs.Marking.{LeadsToPattern, SomeLeads, Owed, going, explored}
 use Rattle.rc_pikevm.specs.Moves.{IsMove}
 use Rattle.rc_pikevm.specs.Passing.{pairs, resting_of, frames_of}
 use Rattle.rc_pikevm.specs.Sparse.{Has}
@@ -22,7 +23,8 @@ use Rattle.rc_pikevm.specs.declared.growth.Growth.{Growth}
 use Rattle.rc_pikevm.specs.declared.moves.Move.{Move}
 use Rattle.rc_pikevm.specs.declared.moves.Move.TheVariants.{Fork, Save, Matches, Stays, Reads, DeadEnd}
 use Rattle.rc_pikevm.proofs.EnteredLemmas.{has_pairs, pairs_has, pairs_at, pairs_push}
-use Rattle.rc_pikevm.proofs.MarkLemmas.{enters_same, matches_same, skips_same, later_same, some_left, some_right, some_parts, AllLater}
+use Rattle.rc_pikevm.proofs.EntranceLemmas.{choice_on, forks, ways_by}
+use Rattle.rc_pikevm.proofs.MarkLemmas.{enters_same, matches_same, skips_same, way_same, later_same, some_left, some_right, some_parts, AllLater}
 use Rattle.rc_pikevm.proofs.MoveLemmas.{slot_on}
 use Rattle.rc_pikevm.proofs.VisitLemmas.{no_slots, same_threads, quiet, entered_end, end_there}
 
@@ -148,6 +150,47 @@ gone_on s p at marks rest items q start fresh move frames below g other =
     ↔ (SomeLeads s [] (map going rest) p ⊎ (SomeLeads s v ts p ⊎ IsMember marks p))) (sym (pairs_push at q items))
     (middle (leads_without s p (q, at) (pairs at items) ts (d.1 (pairs at items)))))))
     g
+
+module _ (s : Sight) (p at : ℕ) (marks : List Bool) (rest : List Thread) (items : List ℕ) (ts : List Pair) where
+  -- the way on, of which the other way is shut
+  owed_on : (q a b : ℕ) → ¬ Has items q → AreWays s q a b → IsShut s (b, at) →
+      Owed s at rest items ((q, at) ∷ ts) marks p ↔ Owed s at rest items ((a, at) ∷ ts) marks p
+  owed_on q a b fresh are shut =
+      let c = forks s at q a b are in
+      middle (way_same s p (q, at) (pairs at items) (a, at) ts (λ i. fresh (pairs_has at q items i))
+      (ap (is_match_place (only s.anchoring)) c.1 ∙ choice_on (only s.anchoring) c.0) one_way by_it)
+    where
+      avoided : List Pair
+      avoided = (q, at) ∷ pairs at items
+
+      none : LeadsToPattern s avoided (b, at) p → ⊥
+      none h = shut avoided h.walk h.is_walk
+
+      one_way : IsIn (a, at) (next_of s (q, at))
+      one_way =
+          ⊎_elim (λ e. subst (IsIn (a, at)) (sym (ways_by s at q (choice (a ∷ b ∷ [])) e)) (inl refl))
+          (λ e. subst (IsIn (a, at)) (sym (ways_by s at q (choice (b ∷ a ∷ [])) e)) (inr (inl refl))) are
+
+      by_it : SomeLeads s avoided (next_of s (q, at)) p → LeadsToPattern s avoided (a, at) p
+      by_it h =
+          ⊎_elim
+          (λ e. ⊎_elim (λ x. x) (λ y. ⊎_elim (λ z. absurd (none z)) (λ z. absurd z) y)
+          (subst (λ ms. SomeLeads s avoided ms p) (ways_by s at q (choice (a ∷ b ∷ [])) e) h))
+          (λ e. ⊎_elim (λ z. absurd (none z)) (λ y. ⊎_elim (λ x. x) (λ z. absurd z) y)
+          (subst (λ ms. SomeLeads s avoided ms p) (ways_by s at q (choice (b ∷ a ∷ [])) e) h))
+          are
+
+  owed_step : (q a : ℕ) → ¬ Has items q → IsOnWay s at q a →
+      Owed s at rest items ((q, at) ∷ ts) marks p ↔ Owed s at rest items ((a, at) ∷ ts) marks p
+  owed_step q a fresh way =
+      ⊎_elim (λ e. subst (λ m. Owed s at rest items ((m, at) ∷ ts) marks p ↔ Owed s at rest items ((a, at) ∷ ts) marks p) e (λ x. x, λ x. x))
+      (λ r. owed_on q a r.0 fresh r.1 r.2) way
+
+  -- a thread enters in place of another
+  pub owed_way_in : {q a : ℕ} → IsWayIn s at items q a →
+      Owed s at rest items ((q, at) ∷ ts) marks p ↔ Owed s at rest items ((a, at) ∷ ts) marks p
+  owed_way_in stays_in = (λ x. x, λ x. x)
+  owed_way_in {q} {a} (goes_in {q = r} way fresh step) = same_then (owed_way_in way) (owed_step r a fresh step)
 
 module _ (s : Sight) (at q start : ℕ) (g0 g : Growth) (below : List Pair) (marks : List Bool) (p : ℕ) where
   abbrev Before : Type 0

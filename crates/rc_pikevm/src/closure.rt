@@ -10,6 +10,7 @@ ghost use Rattle.rc_pikevm.specs.Passing.{Carries, waits, AllInside, HasRoom, Is
 ghost use Rattle.rc_pikevm.specs.Entered.{IsMade, IsActed, IsVisited};
 ghost use Rattle.rc_pikevm.specs.declared.moves.Move.TheVariants.{Fork, Save, Stays};
 
+use crate::entrance::way_in;
 use crate::growth::{Frame, Growth};
 use crate::heads::is_dead;
 use crate::moves::{after_byte, after_one_of, after_scalar, is_open, may_end};
@@ -183,8 +184,8 @@ pub fn enter(spot: &Spot, place: usize, start: usize, growth: &mut Growth) -> Op
     act(spot, place, start, growth)
 }
 
-/// Pops frames and goes on from them until none is left or a walk ends. Returns the pattern of that
-/// walk, whose slots are then in `slots`.
+/// Pops frames and goes on from them until none is left or a walk ends. Choices of which one branch
+/// is shut are skipped. Returns the pattern of that walk, whose slots are then in `slots`.
 #[inline(never)]
 fn drain(spot: &Spot, start: usize, growth: &mut Growth) -> Option<usize>
     ghost text: { Searched }
@@ -214,6 +215,7 @@ fn drain(spot: &Spot, start: usize, growth: &mut Growth) -> Option<usize>
     'frames: while let Some(frame) = growth.stack.pop() {
         match frame {
             Frame::Explore(place) => {
+                let place = way_in(spot, place, &growth.entered);
                 if let Some(number) = enter(spot, place, start, growth) {
                     return Some(number);
                 }

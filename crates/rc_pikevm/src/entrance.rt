@@ -11,8 +11,9 @@ use crate::sparse_set::SparseSet;
 use crate::spot::Spot;
 use rc_program::place::Place;
 
-/// How many choices a thread skips at most before it enters.
-const MOST: usize = 4;
+/// How many choices a thread skips at most before it enters. The choice among patterns is a chain of
+/// choices, of which most have one branch that is shut.
+const MOST: usize = 16;
 
 /// Whether the place's own transition is quickly looked up.
 #[inline(always)]

@@ -9,6 +9,7 @@ ghost use Rattle.rc_pikevm.specs.Spread.{StaysCounted};
 ghost use Rattle.rc_pikevm.specs.Races.{Races, IsSought, IsCutOff, IsRecorded};
 
 use crate::closure::enter;
+use crate::entrance::way_in;
 use crate::growth::{Frame, Growth};
 use crate::pass::Ending;
 use crate::spot::Spot;
@@ -98,7 +99,8 @@ fn visit(
     }
 }
 
-/// Pops frames and goes on from them until none is left. `best` is the longest match of the least
+/// Pops frames and goes on from them until none is left. Choices of which one branch is shut are
+/// skipped. `best` is the longest match of the least
 /// start so far, and `found` are its slots.
 #[inline(never)]
 fn drain(
@@ -133,7 +135,10 @@ fn drain(
 {
     'frames: while let Some(frame) = growth.stack.pop() {
         match frame {
-            Frame::Explore(place) => visit(spot, place, start, best, found, growth),
+            Frame::Explore(place) => {
+                let place = way_in(spot, place, &growth.entered);
+                visit(spot, place, start, best, found, growth);
+            }
             Frame::Restore(slot, old) => growth.slots[slot] = old,
         }
     }

@@ -19,6 +19,7 @@ ghost use Rattle.rc_pikevm.specs.Scratches.{IsSame};
 
 use crate::cache::Cache;
 use crate::closure::enter;
+use crate::entrance::way_in;
 use crate::growth::{Frame, Growth};
 use crate::pass::{is_done, next_position};
 use crate::scratch::Scratch;
@@ -79,7 +80,7 @@ fn visit(spot: &Spot, place: usize, start: usize, set: &mut PatternSet, growth: 
 }
 
 /// Follows all ways from `root` that read nothing, appends a thread for each place that reads, and
-/// marks the pattern of each walk that ends.
+/// marks the pattern of each walk that ends. Choices of which one branch is shut are skipped.
 fn spread(spot: &Spot, root: usize, start: usize, set: &mut PatternSet, growth: &mut Growth)
     ghost text: { Searched }
     requires here { IsHere spot.now text }
@@ -102,7 +103,10 @@ fn spread(spot: &Spot, root: usize, start: usize, set: &mut PatternSet, growth: 
     visit(spot, root, start, set, growth);
     'frames: while let Some(frame) = growth.stack.pop() {
         match frame {
-            Frame::Explore(place) => visit(spot, place, start, set, growth),
+            Frame::Explore(place) => {
+                let place = way_in(spot, place, &growth.entered);
+                visit(spot, place, start, set, growth);
+            }
             Frame::Restore(_, _) => {}
         }
     }

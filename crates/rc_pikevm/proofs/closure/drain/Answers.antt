@@ -1,6 +1,8 @@
-use Rattle.std.proofs.Common.{ℕ, ◌++◌, sym, subst, rules, None, Some}
+use Rattle.std.proofs.Common.{ℕ, ◌++◌, reverse, sym, subst, rules, None, Some}
 use Rattle.rc_pikevm.specs.Near.{seen_from, size}
 use Rattle.rc_pikevm.specs.Passing.{Carries, waits}
+use Rattle.rc_pikevm.specs.Trace.{trace}
+use Rattle.rc_pikevm.proofs.EntranceLemmas.{carries_in}
 use Rattle.rc_pikevm.proofs.GrownLemmas.{grown_then}
 use Rattle.rc_pikevm.proofs.VisitLemmas.{visited_carries}
 use Rattle.rc_pikevm.proofs.EnteredLemmas.{popped}
@@ -14,8 +16,10 @@ returns-in-Some-enter-clause-carries g c below best o x =
     c.frames.invariant.closing.carries below best o
     (subst (λ f. Carries (seen_from c.args.spot.now g.text) at c.frames.growth.threads.items c.frames.growth.entered.items
     (waits start at f c.frames.growth.slots.items ++ below) best o) (sym frames)
-    (visited_carries (seen_from c.args.spot.now g.text) at c.in-Explore.place start
-    _ c.enter.new.growth best o below (Some c.in-Some-enter.number) c.in-Some-enter.ensures.visited x))
+    (carries_in (seen_from c.args.spot.now g.text) at c.frames.growth.threads.items c.frames.growth.entered.items best o
+    (trace start c.frames.growth.slots.items) (waits start at (reverse c.pop.new.self.items) c.frames.growth.slots.items ++ below) c.way_in-place.ensures.way
+    (visited_carries (seen_from c.args.spot.now g.text) at c.way_in-place.result start
+    _ c.enter.new.growth best o below (Some c.in-Some-enter.number) c.in-Some-enter.ensures.visited x)))
 
 pub returns-in-Some-enter-clause-grown : goal.returns-in-Some-enter-clause-grown
 returns-in-Some-enter-clause-grown g c =
@@ -33,8 +37,10 @@ frames-preserved-in_default-enter g c =
             c.frames.invariant.closing.carries below best o
             (subst (λ f. Carries (seen_from c.args.spot.now g.text) at c.frames.growth.threads.items c.frames.growth.entered.items
             (waits start at f c.frames.growth.slots.items ++ below) best o) (sym frames)
-            (visited_carries (seen_from c.args.spot.now g.text) at c.in-Explore.place start
-            _ c.enter.new.growth best o below None c.in_default-enter.ensures.visited x));
+            (carries_in (seen_from c.args.spot.now g.text) at c.frames.growth.threads.items c.frames.growth.entered.items best o
+            (trace start c.frames.growth.slots.items) (waits start at (reverse c.pop.new.self.items) c.frames.growth.slots.items ++ below) c.way_in-place.ensures.way
+            (visited_carries (seen_from c.args.spot.now g.text) at c.way_in-place.result start
+            _ c.enter.new.growth best o below None c.in_default-enter.ensures.visited x)));
         grown = grown_then (size c.args.spot.now.course) c.args.spot.now.course.hi start at c.args.growth.now.threads c.frames.growth.threads c.enter.new.growth.threads
             c.args.growth.now.entered c.frames.growth.entered c.enter.new.growth.entered c.frames.invariant.closing.grown c.in_default-enter.ensures.grown;
         some = search rules;

@@ -2,10 +2,12 @@ use Rattle.std.proofs.Common.{◌≡◌, ℕ, [], ◌∷◌, ◌++◌, reverse, 
 use Rattle.rc_pikevm.specs.Near.{seen_from, size}
 use Rattle.rc_pikevm.specs.Passing.{waits}
 use Rattle.rc_pikevm.specs.Races.{Races}
+use Rattle.rc_pikevm.specs.Trace.{trace}
 use Rattle.rc_pikevm.specs.declared.growth.Frame.{Frame}
 use Rattle.rc_pikevm.specs.declared.growth.Frame.TheVariants.{Restore}
 use Rattle.rc_pikevm.proofs.GrownLemmas.{grown_then}
 use Rattle.rc_pikevm.proofs.EnteredLemmas.{popped, reverse-push}
+use Rattle.rc_pikevm.proofs.RaceMoveLemmas.{raced_way_in}
 use Rattle.rc_pikevm.proofs.race_closure.drain.Goals as goal
 
 pub frames-preserved-in-Explore : goal.frames-preserved-in-Explore
@@ -18,9 +20,12 @@ frames-preserved-in-Explore g c =
       run = record {
         races = λ all below x.
             c.visit.ensures.races all below
+            (raced_way_in (seen_from c.args.spot.now g.text) all at c.frames.growth.threads.items c.frames.growth.entered.items c.frames.best c.frames.found
+            (trace start c.frames.growth.slots.items) (waits start at (reverse c.pop.new.self.items) c.frames.growth.slots.items ++ below)
+            c.way_in-place.ensures.way inv.sought
             (subst (λ f. Races (seen_from c.args.spot.now g.text) all at c.frames.growth.threads.items c.frames.growth.entered.items
             (waits start at f c.frames.growth.slots.items ++ below) c.frames.best c.frames.found) frames
-            (inv.races all below x));
+            (inv.races all below x)));
         sought = c.visit.ensures.sought;
         grown = grown_then (size c.args.spot.now.course) c.args.spot.now.course.hi start at c.args.growth.now.threads c.frames.growth.threads c.visit.new.growth.threads
             c.args.growth.now.entered c.frames.growth.entered c.visit.new.growth.entered inv.grown c.visit.ensures.grown;

@@ -1,4 +1,4 @@
-use Rattle.std.proofs.Common.{◌≡◌, ℕ, ◌+◌, sym, ap, subst, refl, ◌∙◌, arith, ⊎_elim, true≢false, ◌-◌, ◌*◌, ◌≤◌}
+use Rattle.std.proofs.Common.{◌+◌, sym, ap, subst, refl, ◌∙◌, arith, ⊎_elim, true≢false, ◌-◌, ◌*◌, ◌≤◌}
 use Rattle.rc_text.specs.Text.{Keeps}
 use Rattle.rc_pikevm.specs.Threads.{ThreadList}
 use Rattle.rc_pikevm.specs.Moves.{seen_by}

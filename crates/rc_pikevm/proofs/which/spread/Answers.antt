@@ -3,7 +3,7 @@ use Rattle.rc_pikevm.specs.Near.{seen_from, size}
 use Rattle.rc_pikevm.specs.Marking.{Owed, explored}
 use Rattle.rc_pikevm.proofs.GrownLemmas.{grown_then}
 use Rattle.rc_pikevm.proofs.EnteredLemmas.{popped}
-use Rattle.rc_pikevm.proofs.MarkMoveLemmas.{same_then, low_in}
+use Rattle.rc_pikevm.proofs.MarkMoveLemmas.{same_then, low_in, owed_way_in}
 use Rattle.rc_pikevm.proofs.which.spread.Goals as goal
 
 pub frames-preserved-in-Explore : goal.frames-preserved-in-Explore
@@ -19,7 +19,10 @@ frames-preserved-in-Explore g c =
             (subst (λ f. Owed s at c.frames.growth.threads.items c.frames.growth.entered.items (explored at f ++ below) c.frames.set p
             ↔ Owed s at c.visit-in-Explore.new.growth.threads.items c.visit-in-Explore.new.growth.entered.items
             (explored at (reverse c.visit-in-Explore.new.growth.stack.items) ++ below) c.visit-in-Explore.new.set p) (sym frames)
-            (c.visit-in-Explore.ensures.same below p (low_in p c.args.set.now c.frames.set inv.long low)));
+            (same_then
+            (owed_way_in s p at c.frames.set c.frames.growth.threads.items c.frames.growth.entered.items
+            (explored at (reverse c.pop.new.self.items) ++ below) c.way_in-place.ensures.way)
+            (c.visit-in-Explore.ensures.same below p (low_in p c.args.set.now c.frames.set inv.long low))));
         long = c.visit-in-Explore.ensures.long ∙ inv.long;
         more = λ p h. c.visit-in-Explore.ensures.more p (inv.more p h);
         grown = grown_then (size c.args.spot.now.course) c.args.spot.now.course.hi c.args.start at c.args.growth.now.threads c.frames.growth.threads
