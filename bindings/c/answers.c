@@ -10,7 +10,7 @@
 #include <stdlib.h>
 #include <string.h>
 
-enum { LINE = 1 << 20, MOST = 1 << 12, GROUPS = 32 };
+enum { LINE = 1 << 20, MOST = 1 << 12, GROUPS = 128 };
 
 static uint8_t nibble(char c) { return (uint8_t)(c <= '9' ? c - '0' : c - 'a' + 10); }
 

@@ -70,6 +70,18 @@ static void loops() {
     }
 }
 
+// More matches than are found at once.
+static void many() {
+    const std::vector<zorfelith::chunk> text(1000, "ax");
+    zorfelith::regex regex("x*");
+    std::size_t count = 0, end = 0;
+    for (const zorfelith::match &found : regex.matches(text)) {
+        count++;
+        end = found.end;
+    }
+    std::printf("%zu matches, the last up to %zu\n", count, end);
+}
+
 #if __cplusplus >= 202002L
 static_assert(std::ranges::input_range<zorfelith::matches>);
 #endif
@@ -81,5 +93,6 @@ int main() {
     refused("a(b");
     refused("a\xff");
     loops();
+    many();
     return 0;
 }

@@ -140,8 +140,9 @@ function M.in_row(found, row)
     return matches.ends[k] > low
   end)
   while i <= matches.count and matches.starts[i] < high do
-    if matches.starts[i] < matches.ends[i] then
-      out[#out + 1] = { math.max(matches.starts[i], low) - low, math.min(matches.ends[i], high) - low }
+    local from, to = math.max(matches.starts[i], low), math.min(matches.ends[i], high)
+    if from < to then
+      out[#out + 1] = { from - low, to - low }
     end
     i = i + 1
   end
