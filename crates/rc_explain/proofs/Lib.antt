@@ -1,0 +1,3 @@
+mod Begins
+mod Bytes
+mod Shapes

@@ -1,1 +1,3 @@
 pub mod Explained
+pub mod Reading
+pub mod Shown

@@ -1,28 +1,57 @@
 //! Diagnostics of escapes that don't parse.
 
+ghost use Rattle.std.specs.Prelude.{◌<◌, ◌∷◌, [], length};
+ghost use Rattle.rc_explain.specs.Shown.{AreAt, Shows, Stands};
+
 use crate::faults::FaultKind;
 use crate::places::Found;
 
 /// The fault of an escape that doesn't parse.
-pub fn escape_fault(mark: &[char]) -> Found {
+pub fn escape_fault(mark: &[char]) -> Found
+    requires { Stands mark.now 0 92 }
+    ensures { Shows result.kind mark.now result.start result.end }
+{
     match mark {
-        ['\\'] => Found::new(FaultKind::DanglingBackslash, 0, 1),
+        ['\\'] => Found {
+            kind: FaultKind::DanglingBackslash,
+            start: 0,
+            end: 1,
+        },
         ['\\', 'p', '{', ..] | ['\\', 'P', '{', ..] => {
-            Found::new(FaultKind::UnicodeClass, 0, brace_end(mark))
+            Found {
+                kind: FaultKind::UnicodeClass,
+                start: 0,
+                end: brace_end(mark),
+            }
         }
-        ['\\', 'p', ..] | ['\\', 'P', ..] => Found::new(FaultKind::UnicodeClass, 0, 3),
-        ['\\', '0'..='9', ..] | ['\\', 'k', ..] => Found::new(FaultKind::Backreference, 0, 2),
+        ['\\', 'p', ..] | ['\\', 'P', ..] => Found {
+            kind: FaultKind::UnicodeClass,
+            start: 0,
+            end: 3,
+        },
+        ['\\', '0'..='9', ..] | ['\\', 'k', ..] => Found {
+            kind: FaultKind::Backreference,
+            start: 0,
+            end: 2,
+        },
         ['\\', 'b', '{', ..] => boundary_fault(mark),
         ['\\', 'x', '{', ..] | ['\\', 'u', '{', ..] | ['\\', 'U', '{', ..] => braced_fault(mark),
         ['\\', 'x', ..] => fixed_fault(mark, 4),
         ['\\', 'u', ..] => fixed_fault(mark, 6),
         ['\\', 'U', ..] => fixed_fault(mark, 10),
-        _ => Found::new(FaultKind::UnknownEscape, 0, 2),
+        _ => Found {
+            kind: FaultKind::UnknownEscape,
+            start: 0,
+            end: 2,
+        },
     }
 }
 
 /// Where the braces after an escape's letter end.
-fn brace_end(mark: &[char]) -> usize {
+fn brace_end(mark: &[char]) -> usize
+    requires { 0 < length mark.now }
+    ensures { 0 < result }
+{
     for i in 0..mark.len() {
         if mark[i] == '}' {
             return i + 1;
@@ -32,41 +61,84 @@ fn brace_end(mark: &[char]) -> usize {
 }
 
 /// The fault of `\b{` that doesn't parse.
-fn boundary_fault(mark: &[char]) -> Found {
+fn boundary_fault(mark: &[char]) -> Found
+    requires { AreAt mark.now 0 (92 ∷ 98 ∷ 123 ∷ []) }
+    ensures { Shows result.kind mark.now result.start result.end }
+{
     for i in 0..mark.len() {
         if mark[i] == '}' {
-            return Found::new(FaultKind::UnknownBoundary, 0, i + 1);
+            return Found {
+                kind: FaultKind::UnknownBoundary,
+                start: 0,
+                end: i + 1,
+            };
         }
     }
-    Found::new(FaultKind::UnclosedBrace, 2, 3)
+    Found {
+        kind: FaultKind::UnclosedBrace,
+        start: 2,
+        end: 3,
+    }
 }
 
 /// The fault of a code in braces.
-fn braced_fault(mark: &[char]) -> Found {
+fn braced_fault(mark: &[char]) -> Found
+    requires slash { Stands mark.now 0 92 }
+    requires brace { Stands mark.now 2 123 }
+    ensures { Shows result.kind mark.now result.start result.end }
+{
     for i in 3..mark.len() {
         let c = mark[i];
         if c == '}' && i > 3 {
-            return Found::new(FaultKind::NoScalar, 0, i + 1);
+            return Found {
+                kind: FaultKind::NoScalar,
+                start: 0,
+                end: i + 1,
+            };
         }
         if !c.is_ascii_hexdigit() {
-            return Found::new(FaultKind::HexadecimalDigit, i, i + 1);
+            return Found {
+                kind: FaultKind::HexadecimalDigit,
+                start: i,
+                end: i + 1,
+            };
         }
     }
-    Found::new(FaultKind::UnclosedBrace, 2, 3)
+    Found {
+        kind: FaultKind::UnclosedBrace,
+        start: 2,
+        end: 3,
+    }
 }
 
 /// The fault of a code that should end there.
-fn fixed_fault(mark: &[char], end: usize) -> Found {
+fn fixed_fault(mark: &[char], end: usize) -> Found
+    requires slash { Stands mark.now 0 92 }
+    requires end { 0 < end }
+    ensures { Shows result.kind mark.now result.start result.end }
+{
     for i in 2..mark.len() {
         if i >= end {
             break;
         }
         if !mark[i].is_ascii_hexdigit() {
-            return Found::new(FaultKind::HexadecimalDigit, i, i + 1);
+            return Found {
+                kind: FaultKind::HexadecimalDigit,
+                start: i,
+                end: i + 1,
+            };
         }
     }
     if mark.len() < end {
-        return Found::new(FaultKind::HexadecimalDigit, 0, mark.len());
+        return Found {
+            kind: FaultKind::HexadecimalDigit,
+            start: 0,
+            end: mark.len(),
+        };
     }
-    Found::new(FaultKind::NoScalar, 0, end)
+    Found {
+        kind: FaultKind::NoScalar,
+        start: 0,
+        end,
+    }
 }

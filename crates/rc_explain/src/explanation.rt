@@ -3,6 +3,7 @@
 ghost use Rattle.std.specs.Prelude.{chars, IfOk, IfSome, IfNone, MatchOption};
 ghost use Rattle.rc_parser.specs.Settings.{settings_of};
 ghost use Rattle.rc_explain.specs.Explained.{IsRead, IsUnread, IsWithin};
+ghost use Rattle.rc_explain.specs.Shown.{IsShown};
 
 use crate::faults::Fault;
 use crate::marks::fault_at;
@@ -19,6 +20,7 @@ pub fn explain(alloc: Global, text: &str, config: &Config) -> Result<Option<Faul
         (IsRead (settings_of config.now) (chars text.now))
         (λ _. IsUnread (settings_of config.now) (chars text.now))) }
     ensures place { IfOk result (λ found. IfSome found (λ fault. IsWithin fault.span text.now)) }
+    ensures shown { IfOk result (λ found. IfSome found (λ fault. IsShown fault text.now)) }
 {
     match parse(alloc, text, config) {
         Ok(hir) => {
@@ -31,21 +33,17 @@ pub fn explain(alloc: Global, text: &str, config: &Config) -> Result<Option<Faul
 }
 
 /// The fault of a text that is refused at this byte.
+#[tactic(auto, using(std::proofs::lemmas::Str::chars_from_encodes))]
 fn fault_met_at(alloc: Global, text: &str, config: &Config, at: usize) -> Result<Fault, AllocError>
-    ensures { IfOk result (λ fault. IsWithin fault.span text.now) }
+    ensures place { IfOk result (λ fault. IsWithin fault.span text.now) }
+    ensures shown { IfOk result (λ fault. IsShown fault text.now) }
 {
     let characters: Vec<char> = text.chars().collect(alloc)?;
     let stop = characters_before(&characters, at);
     let found = fault_at(alloc, config, &characters, stop)?;
-    let start = byte_after(text, found.start);
-    let end = byte_after(text, found.end);
+    let start = byte_after(&characters, found.start);
+    let end = byte_after(&characters, found.end.max(found.start));
     let kind = found.kind;
-    if end < start {
-        return Ok(Fault {
-            kind,
-            span: Span { start, end: start },
-        });
-    }
     Ok(Fault {
         kind,
         span: Span { start, end },

@@ -1,5 +1,14 @@
 //! Diagnostics scan: the tokens of a text, up to the one that doesn't parse.
 
+ghost use Rattle.std.specs.Prelude.{◌≡◌, ◌<◌, ◌≤◌, IfOk, IfSome, MatchOption, None, OnOk, drop, length};
+ghost use Rattle.rc_tokens.specs.Lexer.{lex};
+ghost use Rattle.rc_tokens.specs.Said.{Opens, Start};
+ghost use Rattle.rc_tokens.specs.Text.{Characters};
+ghost use Rattle.rc_tokens.specs.View.{said_of};
+ghost use Rattle.rc_explain.specs.Reading.{AreOpen, IsReadAs};
+ghost use Rattle.rc_explain.specs.Shown.{Shows, Stands};
+ghost use Rattle.rc_explain.specs.declared.faults.FaultKind.TheVariants.{NestedTooDeeply};
+
 use crate::escapes::escape_fault;
 use crate::faults::FaultKind;
 use crate::lists::{list_fault, members_fault};
@@ -13,7 +22,10 @@ use rc_tokens::tokens::{Opening, Token};
 use std::alloc::{AllocError, Global};
 
 /// The first token of a text, and its number of characters; `None` if no token begins the text.
-pub fn first_mark(alloc: Global, text: &[char]) -> Result<Option<(Token, usize)>, AllocError> {
+pub fn first_mark(alloc: Global, text: &[char]) -> Result<Option<(Token, usize)>, AllocError>
+    ensures { IfOk result (λ told. MatchOption told (lex text.now ≡ None)
+        (λ r. (r.1 ≤ length text.now) × IsReadAs text.now (said_of r.0))) }
+{
     match first_token(alloc, text) {
         Ok((token, rest)) => Ok(Some((token, text.len().saturating_sub(rest.len())))),
         Err(Refusal::Syntax) => Ok(None),
@@ -22,7 +34,9 @@ pub fn first_mark(alloc: Global, text: &[char]) -> Result<Option<(Token, usize)>
 }
 
 /// The text from there on.
-pub fn from(text: &[char], at: usize) -> &[char] {
+pub fn from(text: &[char], at: usize) -> &[char]
+    ensures { result.now ≡ drop at text.now }
+{
     text.get(at..).unwrap_or(&[])
 }
 
@@ -49,7 +63,12 @@ struct Standing {
 
 impl Standing {
     /// Goes past a token at this position.
-    fn pass(&mut self, alloc: Global, token: &Token, at: usize) -> Result<(), AllocError> {
+    fn pass(&mut self, alloc: Global, token: &Token, at: usize) -> Result<(), AllocError>
+        ensures { (text : Characters)
+            → ((start : Start) → said_of token.now ≡ Opens start → Stands text at 40)
+            → AreOpen text self.old.groups.items
+            → OnOk result (AreOpen text self.new.groups.items) }
+    {
         self.has_item = match token {
             Token::Bar | Token::Setting(_) | Token::Opens(_) => false,
             _ => true,
@@ -85,23 +104,37 @@ impl Standing {
     }
 
     /// The fault of nesting too deeply: of the innermost open group, or of the whole pattern.
-    fn too_deep(&self, end: usize) -> Found {
+    fn too_deep(&self, end: usize) -> Found
+        ensures { result.kind ≡ NestedTooDeeply }
+    {
         let start = match self.groups.last() {
             Some(group) => group.at,
             None => 0,
         };
-        Found::new(FaultKind::NestedTooDeeply, start, end)
+        Found {
+            kind: FaultKind::NestedTooDeeply,
+            start,
+            end,
+        }
     }
 
     /// The fault at the end of the text.
-    fn end_fault(&self, end: usize) -> Found {
+    fn end_fault(&self, end: usize) -> Found
+        ensures { (text : Characters) → length text ≤ usize.MAX
+            → AreOpen text self.now.groups.items
+            → Shows result.kind text result.start result.end }
+    {
         match self.groups.last() {
-            Some(group) => Found::new(
-                FaultKind::UnclosedGroup,
-                group.at,
-                group.at.saturating_add(1),
-            ),
-            None => Found::new(FaultKind::NestedTooDeeply, 0, end),
+            Some(group) => Found {
+                kind: FaultKind::UnclosedGroup,
+                start: group.at,
+                end: group.at.saturating_add(1),
+            },
+            None => Found {
+                kind: FaultKind::NestedTooDeeply,
+                start: 0,
+                end,
+            },
         }
     }
 
@@ -115,65 +148,86 @@ impl Standing {
         false
     }
 
-    /// The fault of an atom: it isn't allowed here by itself, or it is nested too deeply.
+    /// The fault of an atom that isn't allowed here by itself; `None` if it is nested too deeply.
     fn atom_fault(
         &self,
         alloc: Global,
         config: &Config,
-        token: &Token,
         mark: &[char],
-        at: usize,
-    ) -> Result<Found, AllocError> {
-        let end = at.saturating_add(mark.len());
+    ) -> Result<Option<Found>, AllocError>
+        ensures { IfOk result (λ told. IfSome told (λ found.
+            Shows found.kind mark.now found.start found.end)) }
+    {
+        let end = mark.len();
         if parses_alone(
             alloc,
             &config.unicode(self.is_unicode).nest_limit(250),
             mark,
         )? {
-            return Ok(self.too_deep(end));
+            return Ok(None);
         }
-        let kind = match token {
-            Token::Dot if self.is_unicode => FaultKind::LineTerminator,
-            _ => FaultKind::NotUtf8,
-        };
-        Ok(Found::new(kind, at, end))
+        match mark {
+            ['.'] if self.is_unicode => {
+                Ok(Some(Found {
+                    kind: FaultKind::LineTerminator,
+                    start: 0,
+                    end,
+                }))
+            }
+            _ => Ok(Some(Found {
+                kind: FaultKind::NotUtf8,
+                start: 0,
+                end,
+            })),
+        }
     }
 
-    /// The fault of a token that isn't allowed at this position. `mark` is its text.
+    /// The fault of a token that isn't allowed here; `None` if it is nested too deeply. `mark` is
+    /// its text.
     fn mark_fault(
         &self,
         alloc: Global,
         config: &Config,
         token: &Token,
         mark: &[char],
-        at: usize,
-    ) -> Result<Found, AllocError> {
-        let end = at.saturating_add(mark.len());
-        let fault = match token {
-            Token::Byte(_) | Token::Perl(_) | Token::Dot => {
-                self.atom_fault(alloc, config, token, mark, at)?
+    ) -> Result<Option<Found>, AllocError>
+        ensures { IfOk result (λ told. IfSome told (λ found.
+            Shows found.kind mark.now found.start found.end)) }
+    {
+        let end = mark.len();
+        match mark {
+            [')'] if self.groups.is_empty() => {
+                return Ok(Some(Found {
+                    kind: FaultKind::UnopenedGroup,
+                    start: 0,
+                    end: 1,
+                }));
             }
+            ['*' | '+' | '?' | '{', ..] if !self.has_item => {
+                return Ok(Some(Found {
+                    kind: FaultKind::RepetitionOfNothing,
+                    start: 0,
+                    end,
+                }));
+            }
+            _ => {}
+        }
+        match token {
+            Token::Byte(_) | Token::Perl(_) | Token::Dot => self.atom_fault(alloc, config, mark),
             Token::List(list) => match members_fault(alloc, self.is_unicode, list, mark)? {
-                Some(fault) => fault.after(at),
-                None => self.atom_fault(alloc, config, token, mark, at)?,
+                Some(fault) => Ok(Some(fault)),
+                None => self.atom_fault(alloc, config, mark),
             },
             Token::Opens(Opening::Named(name)) if self.is_taken(name) => {
                 let (start, end) = name_of(mark);
-                Found::new(FaultKind::DuplicateName, start, end).after(at)
+                Ok(Some(Found {
+                    kind: FaultKind::DuplicateName,
+                    start,
+                    end,
+                }))
             }
-            Token::Closes if self.groups.is_empty() => Found::new(
-                FaultKind::UnopenedGroup,
-                at,
-                end,
-            ),
-            Token::Repeats(_) if !self.has_item => Found::new(
-                FaultKind::RepetitionOfNothing,
-                at,
-                end,
-            ),
-            _ => self.too_deep(end),
-        };
-        Ok(fault)
+            _ => Ok(None),
+        }
     }
 }
 
@@ -194,11 +248,15 @@ fn parses_alone(alloc: Global, config: &Config, mark: &[char]) -> Result<bool, A
 }
 
 /// The fault of a text that begins with no token.
-fn unread_mark(alloc: Global, mark: &[char]) -> Result<Found, AllocError> {
-    match mark.first().copied() {
-        Some('[') => list_fault(alloc, mark),
-        Some('\\') => Ok(escape_fault(mark)),
-        Some('{') => Ok(counted_fault(mark)),
+fn unread_mark(alloc: Global, mark: &[char]) -> Result<Found, AllocError>
+    requires some { 0 < length mark.now }
+    requires unread { lex mark.now ≡ None }
+    ensures { IfOk result (λ found. Shows found.kind mark.now found.start found.end) }
+{
+    match mark {
+        ['[', ..] => list_fault(alloc, mark),
+        ['\\', ..] => Ok(escape_fault(mark)),
+        ['{', ..] => Ok(counted_fault(mark)),
         _ => Ok(opening_fault(mark)),
     }
 }
@@ -209,7 +267,10 @@ pub fn fault_at(
     config: &Config,
     text: &[char],
     stop: usize,
-) -> Result<Found, AllocError> {
+) -> Result<Found, AllocError>
+    requires { length text.now ≤ usize.MAX }
+    ensures { IfOk result (λ found. Shows found.kind text.now found.start found.end) }
+{
     let mut standing = Standing {
         groups: Vec::new(alloc),
         names: Vec::new(alloc),
@@ -218,20 +279,23 @@ pub fn fault_at(
     };
     let mut at = 0;
     for _ in 0..text.len() {
+        if at >= text.len() {
+            break;
+        }
         let mark = from(text, at);
         let Some((token, count)) = first_mark(alloc, mark)? else {
             return Ok(unread_mark(alloc, mark)?.after(at));
         };
         let end = at.saturating_add(count);
         if at >= stop {
-            let mark = text.get(at..end).unwrap_or(&[]);
-            return standing.mark_fault(alloc, config, &token, mark, at);
+            let mark = &mark[..count];
+            return match standing.mark_fault(alloc, config, &token, mark)? {
+                Some(fault) => Ok(fault.after(at)),
+                None => Ok(standing.too_deep(end)),
+            };
         }
         standing.pass(alloc, &token, at)?;
         at = end;
-        if at >= text.len() {
-            break;
-        }
     }
     Ok(standing.end_fault(text.len()))
 }

@@ -1,28 +1,52 @@
 //! Diagnostics of group openings that don't parse.
 
+ghost use Rattle.std.specs.Prelude.{◌≡◌, ◌<◌, ◌-◌, false};
+ghost use Rattle.rc_explain.specs.Shown.{Shows, Stands, begins_name};
+
 use crate::faults::FaultKind;
 use crate::places::Found;
 
 /// The fault of a group opening that doesn't parse.
-pub fn opening_fault(mark: &[char]) -> Found {
+pub fn opening_fault(mark: &[char]) -> Found
+    requires { Stands mark.now 0 40 }
+    ensures { Shows result.kind mark.now result.start result.end }
+{
     match mark {
-        ['(', '?', '=', ..] | ['(', '?', '!', ..] => Found::new(FaultKind::LookAround, 0, 3),
-        ['(', '?', '<', '=', ..] | ['(', '?', '<', '!', ..] => Found::new(
-            FaultKind::LookAround,
-            0,
-            4,
-        ),
+        ['(', '?', '=', ..] | ['(', '?', '!', ..] => Found {
+            kind: FaultKind::LookAround,
+            start: 0,
+            end: 3,
+        },
+        ['(', '?', '<', '=', ..] | ['(', '?', '<', '!', ..] => Found {
+            kind: FaultKind::LookAround,
+            start: 0,
+            end: 4,
+        },
         ['(', '?', '<', ..] => name_fault(mark, 3),
         ['(', '?', 'P', '<', ..] => name_fault(mark, 4),
-        ['(', '?', 'P', '=', ..] => Found::new(FaultKind::Backreference, 0, 4),
-        ['(', '?', 'P'] => Found::new(FaultKind::UnclosedGroup, 0, 1),
-        ['(', '?', 'P', ..] => Found::new(FaultKind::UnknownGroup, 0, 4),
+        ['(', '?', 'P', '=', ..] => Found {
+            kind: FaultKind::Backreference,
+            start: 0,
+            end: 4,
+        },
+        ['(', '?', 'P'] => Found {
+            kind: FaultKind::UnclosedGroup,
+            start: 0,
+            end: 1,
+        },
+        ['(', '?', 'P', ..] => Found {
+            kind: FaultKind::UnknownGroup,
+            start: 0,
+            end: 4,
+        },
         _ => flags_fault(mark),
     }
 }
 
 /// Whether the character may be in the name of a group.
-fn is_in_name(c: char, is_first: bool) -> bool {
+fn is_in_name(c: char, is_first: bool) -> bool
+    ensures { result ≡ false → begins_name c ≡ false }
+{
     if c.is_ascii_alphabetic() || c == '_' {
         return true;
     }
@@ -30,17 +54,33 @@ fn is_in_name(c: char, is_first: bool) -> bool {
 }
 
 /// The fault of a name that begins there.
-fn name_fault(mark: &[char], from: usize) -> Found {
+fn name_fault(mark: &[char], from: usize) -> Found
+    requires above { 0 < from }
+    requires opens { Stands mark.now (from - 1) 60 }
+    ensures { Shows result.kind mark.now result.start result.end }
+{
     for i in from..mark.len() {
         let c = mark[i];
-        if c == '>' {
-            return Found::new(FaultKind::EmptyName, from.saturating_sub(1), i + 1);
+        if c == '>' && i == from {
+            return Found {
+                kind: FaultKind::EmptyName,
+                start: from.saturating_sub(1),
+                end: i + 1,
+            };
         }
         if !is_in_name(c, i == from) {
-            return Found::new(FaultKind::NameCharacter, i, i + 1);
+            return Found {
+                kind: FaultKind::NameCharacter,
+                start: i,
+                end: i + 1,
+            };
         }
     }
-    Found::new(FaultKind::UnclosedName, from.saturating_sub(1), from)
+    Found {
+        kind: FaultKind::UnclosedName,
+        start: from.saturating_sub(1),
+        end: from,
+    }
 }
 
 /// The name of the group: what is between `<` and `>`.
@@ -58,26 +98,63 @@ pub fn name_of(mark: &[char]) -> (usize, usize) {
 }
 
 /// The fault of flags that don't parse.
-fn flags_fault(mark: &[char]) -> Found {
+fn flags_fault(mark: &[char]) -> Found
+    requires { Stands mark.now 0 40 }
+    ensures { Shows result.kind mark.now result.start result.end }
+{
     let mut are_cleared = false;
     for i in 2..mark.len() {
         let c = mark[i];
         match c {
-            ')' | ':' if i == 2 => return Found::new(FaultKind::MissingFlags, 0, 3),
-            ')' | ':' => return Found::new(FaultKind::DanglingNegation, i - 1, i),
-            '-' if are_cleared => return Found::new(FaultKind::RepeatedNegation, i, i + 1),
+            ')' | ':' if mark[i - 1] == '-' => {
+                return Found {
+                    kind: FaultKind::DanglingNegation,
+                    start: i - 1,
+                    end: i,
+                };
+            }
+            ')' | ':' => return Found {
+                kind: FaultKind::MissingFlags,
+                start: 0,
+                end: i + 1,
+            },
+            '-' if are_cleared => return Found {
+                kind: FaultKind::RepeatedNegation,
+                start: i,
+                end: i + 1,
+            },
             '-' => are_cleared = true,
             'i' | 'm' | 's' | 'R' | 'U' | 'u' => {
                 if mark[2..i].contains(&c) {
-                    return Found::new(FaultKind::RepeatedFlag, i, i + 1);
+                    return Found {
+                        kind: FaultKind::RepeatedFlag,
+                        start: i,
+                        end: i + 1,
+                    };
                 }
             }
-            'x' => return Found::new(FaultKind::VerboseFlag, i, i + 1),
+            'x' => return Found {
+                kind: FaultKind::VerboseFlag,
+                start: i,
+                end: i + 1,
+            },
             _ if i == 2 && !c.is_ascii_alphabetic() => {
-                return Found::new(FaultKind::UnknownGroup, 0, 3);
+                return Found {
+                    kind: FaultKind::UnknownGroup,
+                    start: 0,
+                    end: 3,
+                };
             }
-            _ => return Found::new(FaultKind::UnknownFlag, i, i + 1),
+            _ => return Found {
+                kind: FaultKind::UnknownFlag,
+                start: i,
+                end: i + 1,
+            },
         }
     }
-    Found::new(FaultKind::UnclosedGroup, 0, 1)
+    Found {
+        kind: FaultKind::UnclosedGroup,
+        start: 0,
+        end: 1,
+    }
 }

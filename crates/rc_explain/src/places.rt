@@ -1,6 +1,7 @@
 //! Positions in a text, counted in characters.
 
-ghost use Rattle.std.specs.Prelude.{◌≡◌, length, IsCharBoundary};
+ghost use Rattle.std.specs.Prelude.{◌≡◌, ◌+◌, ◌≤◌, drop, length, List, ℕ, encode_utf8_all};
+ghost use Rattle.rc_explain.specs.Shown.{Shows, byte_of};
 
 use crate::faults::FaultKind;
 
@@ -15,12 +16,12 @@ pub struct Found {
 }
 
 impl Found {
-    pub fn new(kind: FaultKind, start: usize, end: usize) -> Found {
-        Found { kind, start, end }
-    }
-
     /// The fault in a text with `count` more characters before it.
-    pub fn after(self, count: usize) -> Found {
+    pub fn after(self, count: usize) -> Found
+        ensures { (text : List ℕ) → length text ≤ usize.MAX
+            → Shows self.kind (drop count text) self.start self.end
+            → Shows result.kind text result.start result.end }
+    {
         Found {
             kind: self.kind,
             start: self.start.saturating_add(count),
@@ -41,16 +42,15 @@ pub fn characters_before(text: &[char], byte: usize) -> usize {
     text.len()
 }
 
+#[tactic(auto, using(crate::proofs::Bytes::byte_more, crate::proofs::Bytes::byte_within, crate::proofs::Bytes::byte_clamped))]
 /// The byte at which the character after the first `count` begins.
-pub fn byte_after(text: &str, count: usize) -> usize
-    ensures { IsCharBoundary text.now result }
+pub fn byte_after(text: &[char], count: usize) -> usize
+    requires { length (encode_utf8_all text.now) ≤ usize.MAX }
+    ensures { result ≡ byte_of text.now count }
 {
     let mut seen: usize = 0;
-    for (at, _) in text.char_indices() {
-        if seen == count && text.is_char_boundary(at) {
-            return at;
-        }
-        seen = seen.saturating_add(1);
+    for i in 0..text.len().min(count) {
+        seen += text[i].len_utf8();
     }
-    text.len()
+    seen
 }

@@ -1,5 +1,7 @@
 //! Diagnostics of counted repetitions that don't parse.
 
+ghost use Rattle.rc_explain.specs.Shown.{Shows, Stands};
+
 use crate::faults::FaultKind;
 use crate::places::Found;
 
@@ -21,10 +23,17 @@ fn is_at(mark: &[char], at: usize, c: char) -> bool {
 }
 
 /// The fault of a `{` that begins no repetition.
-pub fn counted_fault(mark: &[char]) -> Found {
+pub fn counted_fault(mark: &[char]) -> Found
+    requires { Stands mark.now 0 123 }
+    ensures { Shows result.kind mark.now result.start result.end }
+{
     let (min, end) = number_at(mark, 1);
     if end > 1 && min > u32::MAX as u64 {
-        return Found::new(FaultKind::LargeNumber, 1, end);
+        return Found {
+            kind: FaultKind::LargeNumber,
+            start: 1,
+            end,
+        };
     }
     if end > 1 && is_at(mark, end, ',') {
         return second_fault(mark, min, end.saturating_add(1));
@@ -33,21 +42,43 @@ pub fn counted_fault(mark: &[char]) -> Found {
 }
 
 /// The fault of a second number that begins there.
-fn second_fault(mark: &[char], min: u64, from: usize) -> Found {
+fn second_fault(mark: &[char], min: u64, from: usize) -> Found
+    requires { Stands mark.now 0 123 }
+    ensures { Shows result.kind mark.now result.start result.end }
+{
     let (max, end) = number_at(mark, from);
     if max > u32::MAX as u64 {
-        return Found::new(FaultKind::LargeNumber, from, end);
+        return Found {
+            kind: FaultKind::LargeNumber,
+            start: from,
+            end,
+        };
     }
     if is_at(mark, end, '}') && max < min {
-        return Found::new(FaultKind::BoundsOutOfOrder, 0, end.saturating_add(1));
+        return Found {
+            kind: FaultKind::BoundsOutOfOrder,
+            start: 0,
+            end: end.saturating_add(1),
+        };
     }
     unended_fault(mark, end)
 }
 
 /// The fault of a repetition that doesn't end there.
-fn unended_fault(mark: &[char], end: usize) -> Found {
+fn unended_fault(mark: &[char], end: usize) -> Found
+    requires { Stands mark.now 0 123 }
+    ensures { Shows result.kind mark.now result.start result.end }
+{
     if end >= mark.len() && end > 1 {
-        return Found::new(FaultKind::UnclosedRepetition, 0, 1);
+        return Found {
+            kind: FaultKind::UnclosedRepetition,
+            start: 0,
+            end: 1,
+        };
     }
-    Found::new(FaultKind::UncountedRepetition, 0, 1)
+    Found {
+        kind: FaultKind::UncountedRepetition,
+        start: 0,
+        end: 1,
+    }
 }

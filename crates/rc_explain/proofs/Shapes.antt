@@ -1,0 +1,99 @@
+-- What stands in a span stands there still where the text has more before it.
+use Rattle.std.proofs.Common.{◌≡◌, ◌∙◌, ◌+◌, ◌<◌, ◌≤◌, ℕ, suc, List, [], ◌∷◌, Some, ap, arith, drop, get_or, length, min, max, subst, sym, take, inl, inr}
+use Rattle.std.proofs.lemmas.List.{get_or-drop, get_or-take, length-drop, length-take}
+use Rattle.std.proofs.lemmas.Option.{get_or_from_slice_get, slice_get-get_or, slice_get_within}
+use Rattle.rc_tokens.specs.Text.{Characters}
+use Rattle.rc_explain.specs.Shown.{AreAt, Begins, Has, Is, IsNoneOf, IsOne, IsOther, Shape, Stands, anything, begins, either, exactly, none_of, one, other}
+
+pub stands_shifted : (n : ℕ) (t : Characters) (s c : ℕ) → Stands (drop n t) s c → Stands t (s + n) c
+stands_shifted n t s c h =
+    let inside = slice_get_within (drop n t) s c h in
+    let long = length-drop n t in
+    let order : n + s ≡ s + n = omega arith in
+    subst (λ k. Stands t k c) order
+    (slice_get-get_or t (n + s) c (omega (arith, inside, long)) ∙ ap Some (sym (get_or-drop n t s c) ∙ get_or_from_slice_get (drop n t) s c c h))
+
+at_shifted : (cs : Characters) (n : ℕ) (t : Characters) (s : ℕ) → AreAt (drop n t) s cs → AreAt t (s + n) cs
+at_shifted [] n t s h = tt
+at_shifted (c ∷ cs) n t s h =
+    let next : suc s + n ≡ suc (s + n) = omega arith in
+    (stands_shifted n t s c h.0, subst (λ k. AreAt t k cs) next (at_shifted cs n t (suc s) h.1))
+
+-- all of them stand within the text
+at_within : (c : ℕ) (cs t : Characters) (s : ℕ) → AreAt t s (c ∷ cs) → s + length (c ∷ cs) ≤ length t
+at_within c [] t s h = let inside = slice_get_within t s c h.0 in omega (arith, inside)
+at_within c (d ∷ cs) t s h = let rest = at_within d cs t (suc s) h.1 in omega (arith, rest)
+
+-- the greatest usize
+abbrev most : ℕ
+most = 18446744073709551615
+
+module _ (n : ℕ) (t : Characters) (s e a b : ℕ) (fits : length t ≤ most) (from : a ≡ min (s + n) most) (to : b ≡ min (e + n) most) where
+  begun : (c : ℕ) → Stands (drop n t) s c → a ≡ s + n
+  begun c h = let inside = slice_get_within t (s + n) c (stands_shifted n t s c h) in omega (arith, inside, fits, from)
+
+  alone : (c : ℕ) → Stands (drop n t) s c → e ≡ suc s → b ≡ suc a
+  alone c h is = let inside = slice_get_within t (s + n) c (stands_shifted n t s c h) in omega (arith, inside, fits, from, to, is)
+
+  moved : (c : ℕ) → Stands (drop n t) s c → Stands t a c
+  moved c h = subst (λ k. Stands t k c) (sym (begun c h)) (stands_shifted n t s c h)
+
+  pub shifted : (shape : Shape) → Has shape (drop n t) s e → Has shape t a b
+  shifted (exactly []) h = record { here = tt; ends = let is = h.ends in omega (arith, from, to, is) }
+  shifted (exactly (c ∷ cs)) h =
+      let at = at_shifted (c ∷ cs) n t s h.here in
+      let within = at_within c cs t (s + n) at in
+      let first = begun c h.here.0 in
+      let is = h.ends in
+      record {
+        here = subst (λ k. AreAt t k (c ∷ cs)) (sym first) at;
+        ends = omega (arith, first, to, within, fits, is);
+      }
+  shifted (begins c cs) h =
+      let at = at_shifted (c ∷ cs) n t s h.here in
+      let within = at_within c cs t (s + n) at in
+      let first = begun c h.here.0 in
+      let is = h.ends in
+      record {
+        here = subst (λ k. AreAt t k (c ∷ cs)) (sym first) at;
+        ends = omega (arith, first, to, within, fits, is);
+      }
+  shifted (one test) h = record { c = h.c; here = moved h.c h.here; passes = h.passes; alone = alone h.c h.here h.alone }
+  shifted (other test) h = record { c = h.c; here = moved h.c h.here; fails = h.fails; alone = alone h.c h.here h.alone }
+  shifted (none_of cs) h = record { c = h.c; here = moved h.c h.here; none = h.none; alone = alone h.c h.here h.alone }
+  shifted (either x y) (inl h) = inl (shifted x h)
+  shifted (either x y) (inr h) = inr (shifted y h)
+  shifted anything h = tt
+
+stands_wider : (n : ℕ) (t : Characters) (s c : ℕ) → Stands (take n t) s c → Stands t s c
+stands_wider n t s c h =
+    let inside = slice_get_within (take n t) s c h in
+    let long = length-take n t in
+    slice_get-get_or t s c (omega (arith, inside, long))
+    ∙ ap Some (sym (get_or-take n t s c (omega (arith, inside, long))) ∙ get_or_from_slice_get (take n t) s c c h)
+
+at_wider : (cs : Characters) (n : ℕ) (t : Characters) (s : ℕ) → AreAt (take n t) s cs → AreAt t s cs
+at_wider [] n t s h = tt
+at_wider (c ∷ cs) n t s h = (stands_wider n t s c h.0, at_wider cs n t (suc s) h.1)
+
+-- what stands in a text's beginning stands in the text
+pub wider : (shape : Shape) (n : ℕ) (t : Characters) (s e : ℕ) → Has shape (take n t) s e → Has shape t s e
+wider (exactly cs) n t s e h = record { here = at_wider cs n t s h.here; ends = h.ends }
+wider (begins c cs) n t s e h = record { here = at_wider (c ∷ cs) n t s h.here; ends = h.ends }
+wider (one test) n t s e h = record { c = h.c; here = stands_wider n t s h.c h.here; passes = h.passes; alone = h.alone }
+wider (other test) n t s e h = record { c = h.c; here = stands_wider n t s h.c h.here; fails = h.fails; alone = h.alone }
+wider (none_of cs) n t s e h = record { c = h.c; here = stands_wider n t s h.c h.here; none = h.none; alone = h.alone }
+wider (either x y) n t s e (inl h) = inl (wider x n t s e h)
+wider (either x y) n t s e (inr h) = inr (wider y n t s e h)
+wider anything n t s e h = tt
+
+-- a span that shows something doesn't end before it begins
+pub ordered : (shape : Shape) (t : Characters) (s e m : ℕ) → m ≡ max e s → Has shape t s e → Has shape t s m
+ordered (exactly cs) t s e m is h = let ends = h.ends in subst (λ k. Is cs t s k) (omega (arith, ends, is)) h
+ordered (begins c cs) t s e m is h = let ends = h.ends in subst (λ k. Begins c cs t s k) (omega (arith, ends, is)) h
+ordered (one test) t s e m is h = let ends = h.alone in subst (λ k. IsOne test t s k) (omega (arith, ends, is)) h
+ordered (other test) t s e m is h = let ends = h.alone in subst (λ k. IsOther test t s k) (omega (arith, ends, is)) h
+ordered (none_of cs) t s e m is h = let ends = h.alone in subst (λ k. IsNoneOf cs t s k) (omega (arith, ends, is)) h
+ordered (either x y) t s e m is (inl h) = inl (ordered x t s e m is h)
+ordered (either x y) t s e m is (inr h) = inr (ordered y t s e m is h)
+ordered anything t s e m is h = tt

@@ -1,0 +1,151 @@
+-- What stands in the span of a fault, by its kind.
+use Rattle.std.specs.Prelude.{◌≡◌, ◌≢◌, ◌⊎◌, ℕ, suc, ◌+◌, ◌<◌, Bool, true, false, ◌||◌, ◌==◌, List, [], ◌∷◌, length, take, chars, slice_get, Some, encode_utf8_all}
+use Rattle.std.specs.Char.{is_ascii_alphabetic, is_ascii_hexdigit}
+use Rattle.rc_tokens.specs.Text.{Characters}
+use Rattle.rc_explain.specs.declared.faults.Fault.{Fault}
+use Rattle.rc_explain.specs.declared.faults.FaultKind.{FaultKind}
+use Rattle.rc_explain.specs.declared.faults.FaultKind.TheVariants as kinds
+
+-- the character c stands there
+abbrev pub Stands : Characters → ℕ → ℕ → Type 0
+Stands text at c = slice_get text at ≡ Some c
+
+-- these characters stand there, one behind another
+abbrev pub AreAt : Characters → ℕ → Characters → Type 0
+AreAt text at [] = Unit {0}
+AreAt text at (c ∷ cs) = Stands text at c × AreAt text (suc at) cs
+
+-- the span is these characters
+pub record Is (cs text : Characters) (start end : ℕ) : Type 0 where
+  pub here : AreAt text start cs
+  pub ends : end ≡ start + length cs
+
+-- the span begins with c, and these characters behind it
+pub record Begins (c : ℕ) (cs text : Characters) (start end : ℕ) : Type 0 where
+  pub here : AreAt text start (c ∷ cs)
+  pub ends : start < end
+
+-- the span is one character that passes the test
+pub record IsOne (test : ℕ → Bool) (text : Characters) (start end : ℕ) : Type 0 where
+  pub c : ℕ
+  pub here : Stands text start c
+  pub passes : test c ≡ true
+  pub alone : end ≡ suc start
+
+-- the span is one character that doesn't
+pub record IsOther (test : ℕ → Bool) (text : Characters) (start end : ℕ) : Type 0 where
+  pub c : ℕ
+  pub here : Stands text start c
+  pub fails : test c ≡ false
+  pub alone : end ≡ suc start
+
+abbrev pub IsNone : ℕ → Characters → Type 0
+IsNone c [] = Unit {0}
+IsNone c (d ∷ ds) = (c ≢ d) × IsNone c ds
+
+-- the span is one character that is none of these
+pub record IsNoneOf (cs text : Characters) (start end : ℕ) : Type 0 where
+  pub c : ℕ
+  pub here : Stands text start c
+  pub none : IsNone c cs
+  pub alone : end ≡ suc start
+
+-- the letter of a flag that can be set: one of `imsRUu`
+abbrev pub is_flag : ℕ → Bool
+is_flag c = c == 105 || c == 109 || c == 115 || c == 82 || c == 85 || c == 117
+
+-- a character with which a name may begin
+abbrev pub begins_name : ℕ → Bool
+begins_name c = is_ascii_alphabetic c || c == 95
+
+-- what may stand in a span
+pub data Shape : Type 0 where
+  -- these characters
+  exactly : Characters → Shape
+  -- this character at its beginning, and these behind it
+  begins : ℕ → Characters → Shape
+  -- one character that passes the test
+  one : (ℕ → Bool) → Shape
+  -- one that doesn't
+  other : (ℕ → Bool) → Shape
+  -- one that is none of these
+  none_of : Characters → Shape
+  either : Shape → Shape → Shape
+  -- nothing is said
+  anything : Shape
+
+abbrev pub Has : Shape → Characters → ℕ → ℕ → Type 0
+Has (exactly cs) t s e = Is cs t s e
+Has (begins c cs) t s e = Begins c cs t s e
+Has (one test) t s e = IsOne test t s e
+Has (other test) t s e = IsOther test t s e
+Has (none_of cs) t s e = IsNoneOf cs t s e
+Has (either a b) t s e = Has a t s e ⊎ Has b t s e
+Has anything t s e = Unit {0}
+
+-- what stands in the span of a fault, by its kind
+abbrev pub shape_of : FaultKind → Shape
+shape_of kinds.UnclosedGroup = exactly (40 ∷ [])
+shape_of kinds.UnopenedGroup = exactly (41 ∷ [])
+shape_of kinds.UnknownGroup = begins 40 []
+-- `(?=`, `(?!`, `(?<=` or `(?<!`
+shape_of kinds.LookAround = either (exactly (40 ∷ 63 ∷ 61 ∷ [])) (either (exactly (40 ∷ 63 ∷ 33 ∷ [])) (either (exactly (40 ∷ 63 ∷ 60 ∷ 61 ∷ [])) (exactly (40 ∷ 63 ∷ 60 ∷ 33 ∷ []))))
+shape_of kinds.MissingFlags = begins 40 []
+-- none of `imsRUux-:)`
+shape_of kinds.UnknownFlag = none_of (105 ∷ 109 ∷ 115 ∷ 82 ∷ 85 ∷ 117 ∷ 120 ∷ 45 ∷ 58 ∷ 41 ∷ [])
+shape_of kinds.VerboseFlag = exactly (120 ∷ [])
+shape_of kinds.RepeatedFlag = one is_flag
+shape_of kinds.RepeatedNegation = exactly (45 ∷ [])
+shape_of kinds.DanglingNegation = exactly (45 ∷ [])
+-- `<>`
+shape_of kinds.EmptyName = exactly (60 ∷ 62 ∷ [])
+shape_of kinds.NameCharacter = other begins_name
+shape_of kinds.UnclosedName = exactly (60 ∷ [])
+shape_of kinds.DuplicateName = anything
+-- it begins with one of `*+?{`
+shape_of kinds.RepetitionOfNothing = either (begins 42 []) (either (begins 43 []) (either (begins 63 []) (begins 123 [])))
+shape_of kinds.UncountedRepetition = exactly (123 ∷ [])
+shape_of kinds.UnclosedRepetition = exactly (123 ∷ [])
+shape_of kinds.LargeNumber = anything
+shape_of kinds.BoundsOutOfOrder = begins 123 []
+shape_of kinds.UnclosedList = exactly (91 ∷ [])
+-- `[]` or `[^]`
+shape_of kinds.EmptyList = either (exactly (91 ∷ 93 ∷ [])) (exactly (91 ∷ 94 ∷ 93 ∷ []))
+shape_of kinds.NestedList = exactly (91 ∷ [])
+-- `[:`
+shape_of kinds.PosixClass = exactly (91 ∷ 58 ∷ [])
+shape_of kinds.SetOperation = anything
+shape_of kinds.AssertionInList = anything
+shape_of kinds.ClassInRange = anything
+shape_of kinds.RangeOutOfOrder = anything
+shape_of kinds.MemberPastAscii = anything
+shape_of kinds.DanglingBackslash = exactly (92 ∷ [])
+shape_of kinds.UnknownEscape = begins 92 []
+-- `\p` or `\P`
+shape_of kinds.UnicodeClass = either (begins 92 (112 ∷ [])) (begins 92 (80 ∷ []))
+-- `\`, or `(?P=`
+shape_of kinds.Backreference = either (begins 92 []) (exactly (40 ∷ 63 ∷ 80 ∷ 61 ∷ []))
+shape_of kinds.HexadecimalDigit = either (begins 92 []) (other is_ascii_hexdigit)
+shape_of kinds.NoScalar = begins 92 []
+shape_of kinds.UnclosedBrace = exactly (123 ∷ [])
+-- `\b{`
+shape_of kinds.UnknownBoundary = begins 92 (98 ∷ 123 ∷ [])
+shape_of kinds.NotUtf8 = anything
+shape_of kinds.LineTerminator = exactly (46 ∷ [])
+shape_of kinds.NestedTooDeeply = anything
+
+-- What stands from the character `start` up to `end`, by the kind of fault.
+abbrev pub Shows : FaultKind → Characters → ℕ → ℕ → Type 0
+Shows kind t s e = Has (shape_of kind) t s e
+
+-- the byte at which the character with this number begins, and the text's end past the last
+abbrev pub byte_of : Characters → ℕ → ℕ
+byte_of text n = length (encode_utf8_all (take n text))
+
+-- the fault's span is that of characters that show its kind
+pub record IsShown (fault : Fault) (text : List ℕ) : Type 0 where
+  pub from : ℕ
+  pub to : ℕ
+  pub starts : fault.span.start ≡ byte_of (chars text) from
+  pub ends : fault.span.end ≡ byte_of (chars text) to
+  pub shown : Shows fault.kind (chars text) from to
