@@ -18,8 +18,12 @@ use rc_text::cursor::Cursor;
 use rc_text::input::{Input, content_fits, high, low};
 use rc_text::types::{Anchored, MatchKind};
 
-/// What a search for one start costs, beside the places that the pass from there enters.
+/// What a search for one start costs, beside the bytes that it reads and the places that the pass
+/// from there enters.
 const START_COST: u128 = 64;
+
+/// How many bytes a DFA reads while the Pike VM enters a place, at the least.
+const BYTES_A_PLACE: usize = 64;
 
 /// How many bytes ahead of the text passes from single starts may be.
 const LEAD: u128 = 64;
@@ -31,6 +35,12 @@ fn is_cheaper(patterns: usize, bytes: usize, spent: u128) -> bool {
         <= LEAD
             .saturating_add(bytes as u128)
             .saturating_mul(patterns as u128)
+}
+
+/// What a search for one start costs at most if so many bytes are left: it may read them all. So
+/// these searches are linear in the text, as one pass is.
+fn start_cost(left: usize) -> u128 {
+    START_COST.saturating_add((left / BYTES_A_PLACE) as u128)
 }
 
 /// Inserts each pattern of which a walk begins at `start`, as far as the set can hold it. No walk
@@ -185,7 +195,7 @@ impl Engines {
             };
             spent = spent
                 .saturating_add(cache.pass.insertions())
-                .saturating_add(START_COST);
+                .saturating_add(start_cost(hi.saturating_sub(at)));
             at = next;
         }
     }
