@@ -22,7 +22,7 @@ use rc_text::types::{Anchored, MatchKind};
 /// from there enters.
 const START_COST: u128 = 64;
 
-/// How many bytes a DFA reads while the Pike VM enters a place, at the least.
+/// So many bytes that a DFA reads count as much as one place that the Pike VM enters.
 const BYTES_A_PLACE: usize = 64;
 
 /// How many bytes ahead of the text passes from single starts may be.
