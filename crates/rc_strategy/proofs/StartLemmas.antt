@@ -1,5 +1,5 @@
 -- Overlapping search from start to start: what is added before a position, and after it.
-use Rattle.std.proofs.Common.{◌≡◌, ◌∙◌, ℕ, ◌+◌, ◌<◌, ◌≤◌, Bool, true, false, true≢false, List, length, Option, Some, None, IfSome, ⊎_elim, inl, inr, ap, sym, subst, refl, arith, max}
+use Rattle.std.proofs.Common.{◌≡◌, ◌∙◌, ℕ, ◌+◌, ◌<◌, ◌≤◌, Bool, false, true≢false, List, length, Option, Some, None, ⊎_elim, inl, inr, ap, sym, subst, refl, arith, max}
 use Rattle.std.proofs.lemmas.Bool.{cases_lt}
 use Rattle.rc_text.specs.Found.{Found}
 use Rattle.rc_text.specs.Text.{Searched, KeepsText, high, low}
@@ -10,7 +10,7 @@ use Rattle.rc_program.specs.Text.{Text}
 use Rattle.rc_program.specs.Program.{Place}
 use Rattle.rc_program.specs.Places.{places_of}
 use Rattle.rc_program.specs.Answer.{Search, is_anchored}
-use Rattle.rc_program.specs.Greatest.{HasNoSpan, IsSpelledIn}
+use Rattle.rc_program.specs.Greatest.{IsSpelledIn}
 use Rattle.rc_program.specs.Sought.{text_of}
 use Rattle.rc_pikevm.specs.PatternSpans.{AddsSpelled, AreOfFirst, HasSpan}
 use Rattle.rc_pikevm.specs.Caches.{Made}
