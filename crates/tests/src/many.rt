@@ -3,8 +3,12 @@
 use regex_cursor::Input;
 use regex_cursor::engines::pikevm;
 use regex_cursor::engines::pikevm::{BuildError, PikeVM};
-use regex_cursor::types::Span;
+use regex_cursor::types::{PatternID, Span};
 use std::alloc::{AllocError, Global};
+use std::test::Fail;
+
+/// The most patterns that are built.
+const MOST: usize = 4000;
 
 /// So many patterns: `w0z(x)`, `w1z(x)` and so on.
 fn texts(alloc: Global, count: usize) -> Result<Vec<String>, AllocError> {
@@ -15,31 +19,44 @@ fn texts(alloc: Global, count: usize) -> Result<Vec<String>, AllocError> {
     Ok(texts)
 }
 
-/// The number of the pattern that is found, and its group 1; and how many bytes the cache takes.
-type Told = (usize, Option<Span>, usize);
-
-/// What a search by so many patterns tells.
-fn told(alloc: Global, count: usize, text: &[u8]) -> Result<Told, BuildError> {
+/// The `PikeVM` of so many patterns.
+fn built(alloc: Global, count: usize) -> Result<PikeVM, BuildError> {
     let texts = texts(alloc, count)?;
-    let mut patterns = Vec::with_capacity(alloc, count)?;
-    for text in &texts {
-        patterns.push(text.as_str())?;
-    }
-    let vm = PikeVM::new_many(alloc, &patterns[..patterns.len().min(4000)])?;
-    let mut cache = pikevm::Cache::new(alloc, &vm)?;
-    let mut captures = PikeVM::create_captures(&vm, alloc)?;
-    pikevm::search(&vm, &mut cache, &mut Input::new(text), &mut captures);
-    let pattern = captures.pattern().map_or(count, |id| id.as_usize());
-    let told = (pattern, captures.get_group(1), cache.memory_usage());
+    let patterns: Vec<&str> = texts.iter().map(|text| text.as_str()).collect(alloc)?;
+    let len = patterns.len().min(MOST);
+    PikeVM::new_many(alloc, &patterns[..len])
+}
+
+/// The pattern that is found, its group 1, and how many bytes the cache takes.
+type Told = (Option<PatternID>, Option<Span>, usize);
+
+/// What a search of the text tells.
+fn told_by(alloc: Global, vm: &PikeVM, text: &[u8]) -> Result<Told, AllocError> {
+    let mut captures = PikeVM::create_captures(vm, alloc)?;
+    let mut cache = PikeVM::create_cache(vm, alloc)?;
+    pikevm::search(vm, &mut cache, &mut Input::new(text), &mut captures);
+    let len = cache.memory_usage();
+    drop(cache);
+    let told = (captures.pattern(), captures.get_group(1), len);
+    drop(captures);
     Ok(told)
 }
 
+/// What a search by so many patterns tells.
+fn told(alloc: Global, count: usize, text: &[u8]) -> Result<Told, BuildError> {
+    let vm = built(alloc, count)?;
+    let told = told_by(alloc, &vm, text);
+    drop(vm);
+    Ok(told?)
+}
+
 #[test]
-fn last_of_four_thousand(rt: HostRuntime) {
-    let half = told(rt.alloc(), 2000, b"w3999zx").unwrap_or((0, None, 0));
-    let whole = told(rt.alloc(), 4000, b" w3999zx").unwrap_or((0, None, 0));
-    assert!(rt; half.0 == 2000);
-    assert!(rt; whole.0 == 3999);
-    assert!(rt; whole.1 == Some(Span { start: 7, end: 8 }));
-    assert!(rt; half.2 > 0 && whole.2 < (half.2 / 10).saturating_mul(22));
+fn last_of_four_thousand(rt: HostRuntime) -> Result<(), Fail> {
+    let (pattern, group, half) = told(rt.alloc(), 2000, b"w3999zx")?;
+    assert!(rt; pattern.is_none() && group.is_none());
+    let (pattern, group, whole) = told(rt.alloc(), 4000, b" w3999zx")?;
+    assert!(rt; pattern == Some(PatternID::must(3999)));
+    assert!(rt; group == Some(Span { start: 7, end: 8 }));
+    assert!(rt; half > 0 && whole < (half / 10).saturating_mul(22));
+    Ok(())
 }
