@@ -32,7 +32,7 @@ mod sets;
 
 use regex_cursor::Input;
 use regex_cursor::cursor::{ChunkCursor, TooLong};
-use regex_cursor::engines::meta::{BuildError, Config, Regex};
+use regex_cursor::engines::meta::{BuildError, Builder, Config, Regex};
 use regex_cursor::hir::{Capture, Hir, Repetition};
 use std::alloc::{AllocError, Global};
 use std::io;
@@ -256,19 +256,26 @@ fn tree_of(alloc: Global, letters: &[u8]) -> Result<Hir, AllocError> {
     Ok(tree)
 }
 
+/// A tree of these letters, built.
+fn built_of_tree(alloc: Global, builder: &Builder, letters: &[u8]) -> Result<Regex, BuildError> {
+    let tree = tree_of(alloc, letters)?;
+    let built = builder.build_from_hir(alloc, &tree);
+    drop(tree);
+    built
+}
+
 /// What is searched for, built so that these engines search.
 fn built(alloc: Global, job: &Job<'_>) -> Result<Regex, BuildError> {
     let mut builder = Regex::builder();
-    let builder = builder.configure(config_of(job.by));
-    match job.what {
-        What::Tree => {
-            let tree = tree_of(alloc, job.pattern.as_bytes())?;
-            builder.build_from_hir(alloc, &tree)
-        }
+    builder.configure(config_of(job.by));
+    let built = match job.what {
+        What::Tree => built_of_tree(alloc, &builder, job.pattern.as_bytes()),
         What::Matches | What::Captures | What::Texts | What::Finds | What::Build => {
             builder.build(alloc, job.pattern)
         }
-    }
+    };
+    drop(builder);
+    built
 }
 
 /// Cuts the bytes into chunks of `n` bytes, of which the last may be shorter, or into one chunk if

@@ -53,39 +53,64 @@ fn count_which(alloc: Global, regex: &Regex, bytes: &[u8]) -> Result<usize, Benc
     Ok(set.len())
 }
 
-/// Builds the regex and counts once. Writes how long both took, and how many bytes the regex and a
-/// cache of it take.
-fn bench(rt: &HostRuntime, file: &str, how: &str, what: &str) -> Result<u8, BenchError> {
-    let text = fs::read_to_string(rt, file)?;
-    let start = Instant::now(rt)?;
-    let regex = match built(rt.alloc(), &text, how == "each") {
-        Ok(regex) => regex,
-        Err(error) => {
-            writeln!(rt.stderr(), "{error}")?;
-            return Ok(FAULT);
-        }
-    };
+/// The number of bytes that a cache of the regex takes.
+fn cache_len(alloc: Global, regex: &Regex) -> Result<usize, AllocError> {
+    let cache = regex.create_cache(alloc)?;
+    let len = cache.memory_usage();
+    drop(cache);
+    Ok(len)
+}
+
+/// Writes how long the build of the regex took that began at this time, and how many bytes the
+/// regex and a cache of it take.
+fn put_build(rt: &HostRuntime, regex: &Regex, start: Instant) -> Result<(), BenchError> {
     let micros = start.elapsed(rt)?.as_micros();
     let patterns = regex.pattern_len();
     let own = regex.memory_usage();
-    let cache = regex.create_cache(rt.alloc())?;
-    let kept = cache.memory_usage();
-    drop(cache);
+    let kept = cache_len(rt.alloc(), regex)?;
     writeln!(
         rt.stdout(),
         "{patterns} patterns built, {micros} us, {own} + {kept} bytes"
     )?;
+    Ok(())
+}
+
+/// Counts once in the standard input, and writes how long that took.
+fn put_count(rt: &HostRuntime, regex: &Regex, what: &str) -> Result<(), BenchError> {
     let mut bytes = Vec::new(rt.alloc());
     rt.stdin().read_to_end(&mut bytes)?;
     let start = Instant::now(rt)?;
     let count = match what {
-        "which" => count_which(rt.alloc(), &regex, &bytes)?,
-        _ => count_matches(rt.alloc(), &regex, &bytes)?,
+        "which" => count_which(rt.alloc(), regex, &bytes)?,
+        _ => count_matches(rt.alloc(), regex, &bytes)?,
     };
     let micros = start.elapsed(rt)?.as_micros();
     writeln!(rt.stdout(), "{count} found, {micros} us")?;
-    drop(regex);
-    Ok(0)
+    Ok(())
+}
+
+/// Writes what the build took that began at this time, and what one count takes.
+fn put_both(rt: &HostRuntime, regex: &Regex, start: Instant, what: &str) -> Result<(), BenchError> {
+    put_build(rt, regex, start)?;
+    put_count(rt, regex, what)
+}
+
+/// Builds the regex of a file's lines and counts once.
+fn bench(rt: &HostRuntime, file: &str, how: &str, what: &str) -> Result<u8, BenchError> {
+    let text = fs::read_to_string(rt, file)?;
+    let start = Instant::now(rt)?;
+    match built(rt.alloc(), &text, how == "each") {
+        Ok(regex) => {
+            let put = put_both(rt, &regex, start, what);
+            drop(regex);
+            put?;
+            Ok(0)
+        }
+        Err(error) => {
+            writeln!(rt.stderr(), "{error}")?;
+            Ok(FAULT)
+        }
+    }
 }
 
 /// Does what the arguments ask for.
