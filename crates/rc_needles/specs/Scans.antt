@@ -1,6 +1,6 @@
 -- Only proofs use this file.
 -- Choice of algorithm: what a piece of a chunk is searched for.
-use Rattle.std.specs.Prelude.{◌≡◌, ℕ, ◌<◌, ◌≤◌, Bool, true, List, length, drop, Option, Some, None, Vec, ⊤}
+use Rattle.std.specs.Prelude.{◌≡◌, ℕ, ◌<◌, ◌≤◌, Bool, true, List, length, drop, ⊤}
 use denote.Struct.Props.{props}
 use Rattle.memchr.specs.Find.{is_byte, is_byte2, is_byte3}
 use Rattle.rc_needles.specs.Failures.{IsFailureFunction}
@@ -40,10 +40,9 @@ pub record IsLongSearch (needles : List (List ℕ)) (offset : ℕ) (failures : L
   pub from_start : offset ≡ 0
   pub is : IsFailureFunction (numbered needles 0) failures
 
--- If there is a failure function, it is that of the only needle.
-abbrev pub AreFailuresOf : {Y : Type 0} → Option (Vec ℕ Y) → List (List ℕ) → ℕ → Type 0
-AreFailuresOf None needles offset = ⊤
-AreFailuresOf (Some failures) needles offset = IsLongSearch needles offset failures.items
+-- If the list isn't empty, it is the failure function of the only needle.
+abbrev pub HasFailures : List ℕ → List (List ℕ) → ℕ → Type 0
+HasFailures failures needles offset = 0 < length failures → IsLongSearch needles offset failures
 
 -- It is a fact: there is at most one proof of it.
 pub AreFirstBytesOf-is_fact : (needles : List (List ℕ)) (heads : FirstBytes) → IsProp (AreFirstBytesOf needles heads)
@@ -59,7 +58,3 @@ IsScanOf-is_fact needles offset (scan.FirstBytes (Two a b)) = hlevel props
 IsScanOf-is_fact needles offset (scan.FirstBytes (Three a b c)) = hlevel props
 IsScanOf-is_fact needles offset (scan.FirstBytes Many) = hlevel props
 IsScanOf-is_fact needles offset (scan.Teddy teddy) = hlevel props
-
-pub AreFailuresOf-is_fact : {Y : Type 0} (failures : Option (Vec ℕ Y)) (needles : List (List ℕ)) (offset : ℕ) → IsProp (AreFailuresOf failures needles offset)
-AreFailuresOf-is_fact None needles offset = hlevel props
-AreFailuresOf-is_fact (Some failures) needles offset = hlevel props

@@ -285,8 +285,8 @@ pub fn find_from<C: Cursor>(
         × (hit.end ≤ end)) }
 {
     let searcher = &prefilter.searcher;
-    if let Some(failures) = &searcher.failures {
-        return find_long(input, searcher, failures.as_slice(), from, end);
+    if !searcher.failures.is_empty() {
+        return find_long(input, searcher, searcher.failures.as_slice(), from, end);
     }
     if let Some(trie) = trie_sought(searcher) {
         return find_by_trie(input, &searcher.table, trie, from, end);

@@ -87,9 +87,7 @@ impl Prefilter {
         for needle in &self.searcher.table.needles {
             bytes = bytes.saturating_add(needle.len()).saturating_add(32);
         }
-        if let Some(failures) = &self.searcher.failures {
-            bytes = bytes.saturating_add(failures.len().saturating_mul(8));
-        }
+        bytes = bytes.saturating_add(self.searcher.failures.len().saturating_mul(8));
         match &self.searcher.table.trie {
             Some(trie) => bytes
                 .saturating_add(trie.nodes.len().saturating_mul(12))

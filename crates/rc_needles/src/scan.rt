@@ -2,7 +2,7 @@
 ghost use Rattle.std.specs.Prelude.{◌≡◌, ◌+◌, ◌<◌, ◌≤◌, IfOk, length, slice_index};
 ghost use Rattle.memchr.specs.Find.{IsFirst};
 ghost use Rattle.rc_needles.specs.Tables.{AreSome, needles_in, numbered};
-ghost use Rattle.rc_needles.specs.Scans.{AreFailuresOf, AreFailuresOf-is_fact, AreFirstBytesOf, IsScanOf, IsScanOf-is_fact};
+ghost use Rattle.rc_needles.specs.Scans.{AreFirstBytesOf, HasFailures, IsScanOf, IsScanOf-is_fact};
 
 use crate::failure::failure_function_of;
 use crate::table::{Table, table_of};
@@ -43,15 +43,16 @@ pub enum Scan {
 }
 
 /// The needles, how a piece is searched for them, and how many bytes after a needle's start the
-/// bytes are that are searched for. A single long needle has its failure function too.
+/// bytes are that are searched for. A single long needle has its failure function too; for others
+/// that list is empty.
 #[derive(Drop)]
 pub struct NeedleSearch {
     pub table: Table,
     pub scan: Scan,
     pub offset: usize,
-    pub failures: Option<Vec<usize>>,
+    pub failures: Vec<usize>,
     ghost is_scan: { IsScanOf (needles_in table.needles.items) offset scan } by { IsScanOf-is_fact (needles_in table.needles.items) offset scan },
-    ghost are_failures: { AreFailuresOf failures (needles_in table.needles.items) offset } by { AreFailuresOf-is_fact failures (needles_in table.needles.items) offset },
+    ghost has_failures: { HasFailures failures.items (needles_in table.needles.items) offset },
 }
 
 /// A searcher for these needles. `Err` means out of memory.
@@ -68,7 +69,7 @@ pub fn needle_search_of(alloc: Global, needles: Vec<Vec<u8>>) -> Result<NeedleSe
         table,
         scan,
         offset: 0,
-        failures: None,
+        failures: Vec::new(alloc),
     })
 }
 
@@ -86,7 +87,7 @@ fn one_needle_search_of(alloc: Global, table: Table) -> Result<NeedleSearch, All
             table,
             scan: Scan::Needle(finder),
             offset: 0,
-            failures: Some(failures),
+            failures,
         });
     }
     let offset = rare_offset(needle);
@@ -95,7 +96,7 @@ fn one_needle_search_of(alloc: Global, table: Table) -> Result<NeedleSearch, All
         table,
         scan: Scan::Needle(rest),
         offset,
-        failures: None,
+        failures: Vec::new(alloc),
     })
 }
 
