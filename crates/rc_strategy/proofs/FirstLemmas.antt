@@ -10,7 +10,7 @@ use Rattle.rc_walks.specs.Walks.{Pair}
 use Rattle.rc_text.specs.Text.{Searched, Keeps, is_boundary, low, high}
 use Rattle.rc_text.specs.declared.types.MatchError.{MatchError}
 use Rattle.rc_text.specs.declared.types.Anchored.{Anchored}
-use Rattle.rc_text.specs.declared.types.Anchored.TheVariants.{Yes, No}
+use Rattle.rc_text.specs.declared.types.Anchored.TheVariants.{Yes}
 use Rattle.rc_pattern.specs.Re.{Re}
 use Rattle.rc_program.specs.Text.{Text}
 use Rattle.rc_program.specs.Program.{Place, program}

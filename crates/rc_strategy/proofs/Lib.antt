@@ -13,3 +13,4 @@ pub mod EarlyLemmas
 pub mod JumpLemmas
 pub mod FirstLemmas
 pub mod HeldLemmas
+pub mod StartLemmas

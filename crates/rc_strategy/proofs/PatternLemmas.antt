@@ -194,7 +194,7 @@ module _ (s : Search) (x : ℕ) (first : IsFirstStart s (Some x)) where
   }
 
 -- the search of an input whose span begins later
-input_from : (e : Engine) (a b : Searched) (x : ℕ) → low a ≤ x → KeepsText a b → b.span.start ≡ x → b.span.end ≡ a.span.end → b.slice ≡ a.slice →
+pub input_from : (e : Engine) (a b : Searched) (x : ℕ) → low a ≤ x → KeepsText a b → b.span.start ≡ x → b.span.end ≡ a.span.end → b.slice ≡ a.slice →
     engine_search e b ≡ record (engine_search e a) { lo = x }
 input_from e a b x above k start stop slice =
     let bounded : ℕ → Search = λ lo. record (engine_search e a) { lo = lo } in

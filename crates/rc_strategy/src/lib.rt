@@ -15,5 +15,6 @@ mod needles;
 mod once;
 mod route;
 mod slots;
+mod starts;
 mod tables;
 mod which;

@@ -1,5 +1,5 @@
 //! Overlapping search: which patterns have a match. If a DFA or literals alone can tell where the
-//! first match begins, the Pike VM begins there. Positions are in bytes of the whole content.
+//! next match begins, the Pike VM begins there. Positions are in bytes of the whole content.
 ghost use Rattle.std.specs.Prelude.{◌<◌, ℕ, IsTrue, Some, length};
 ghost use Rattle.rc_text.specs.Text.{Keeps};
 ghost use Rattle.rc_pattern_set.specs.Sets.{Has};
@@ -22,7 +22,7 @@ use rc_text::types::{Match, MatchKind, PatternID};
 /// Inserts each of `patterns` patterns that has a match, as far as the set can hold it, by a pass.
 /// It goes from prefix literal to prefix literal, and is anchored if each match begins where the
 /// search does.
-fn mark<C: Cursor>(
+pub(crate) fn mark<C: Cursor>(
     engines: &Engines,
     cache: &mut cache::Cache,
     input: &mut Input<C>,
@@ -67,7 +67,7 @@ fn mark_from<C: Cursor>(
 }
 
 /// Whether the set has each of this many patterns that it can hold.
-fn has_all(set: &PatternSet, patterns: usize) -> bool
+pub(crate) fn has_all(set: &PatternSet, patterns: usize) -> bool
     ensures { IsTrue result → (p : ℕ) → p < patterns → p < length set.now → Has set.now p }
 {
     for number in 0..patterns.min(set.capacity()) {
@@ -94,7 +94,11 @@ impl Engines {
 
     /// Returns the match by literals alone, or by a DFA. Returns None if there is neither, or it
     /// has no answer.
-    fn find_told<C: Cursor>(&self, cache: &mut Cache, input: &mut Input<C>) -> Option<Option<Match>>
+    pub(crate) fn find_told<C: Cursor>(
+        &self,
+        cache: &mut Cache,
+        input: &mut Input<C>,
+    ) -> Option<Option<Match>>
         requires made { IsCacheIn self.now 0 cache.old }
         ensures keeps { Keeps input.old input.new }
         ensures found { IfSome result (λ found. found
@@ -154,8 +158,9 @@ impl Engines {
     /// If the set has each pattern that it can hold, or the lengths and anchors of the patterns
     /// rule a match out between the bounds, nothing is searched. If literals alone decide each
     /// answer, they are searched for. Else a search finds where the first match begins, if there is
-    /// one, and a pass from there on finds all patterns with a match. With one pattern, the search
-    /// alone decides. If matches are passed over, which count here, the pass does all.
+    /// one, and a pass from there on finds all patterns with a match; for a leftmost kind, passes
+    /// go from start to start while matches are few. With one pattern, the search alone decides. If
+    /// matches are passed over, which count here, the pass does all.
     pub fn which_patterns<C: Cursor>(
         &self,
         cache: &mut Cache,
@@ -187,6 +192,10 @@ impl Engines {
             if self.is_match(cache, input) {
                 set.insert(PatternID::ZERO);
             }
+            return;
+        }
+        if self.seeks_starts(input) {
+            self.mark_by_starts(cache, input, patterns, set);
             return;
         }
         if let Some(start) = self.least_start(cache, input) {

@@ -54,6 +54,17 @@ returns-else-is_match-clause-adds g c =
     none_adds (engine_search e c.args.input.now) c.args.set.now
     (no_span_told e.kind (engine_search e c.args.input.now) c.is_match.result c.if-self.false told c.if-is_match.false)
 
+pub mark_by_starts-requires-clause-leftmost : goal.mark_by_starts-requires-clause-leftmost
+mark_by_starts-requires-clause-leftmost g c = (c.seeks_starts.ensures c.if-seeks_starts.true).0
+
+pub mark_by_starts-requires-clause-free : goal.mark_by_starts-requires-clause-free
+mark_by_starts-requires-clause-free g c = (c.seeks_starts.ensures c.if-seeks_starts.true).1
+
+pub returns-then-seeks_starts-clause-adds : goal.returns-then-seeks_starts-clause-adds
+returns-then-seeks_starts-clause-adds g c =
+    subst (λ q. AddsSpelled q c.args.set.now c.mark_by_starts.new.set)
+    (kept_search c.args.self.now.engine c.args.input.now c.leave_none.new.input c.leave_none.ensures.keeps) c.mark_by_starts.ensures.adds
+
 pub mark_from-requires-clause-start : goal.mark_from-requires-clause-start
 mark_from-requires-clause-start g c =
     subst (λ (q : Search). IsFirstStart q (Some c.in-Some.start))
