@@ -163,13 +163,15 @@ impl Builder {
             engine.kind,
             self.config.get_byte_classes(),
             states::limit_of(&self.config).unwrap_or(None),
-        )?;
+        );
+        let passes_over = engine.program.passes_over;
+        drop(engine);
         let dfa = DFA {
             hirs,
             config,
             thompson: self.thompson,
-            tables,
-            passes_over: engine.program.passes_over,
+            tables: tables?,
+            passes_over,
         };
         Ok(Regex { dfa })
     }
