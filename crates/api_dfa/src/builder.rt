@@ -155,7 +155,7 @@ impl Builder {
             engine,
             info: _,
         } = built;
-        let tables = tables_of(
+        let made = tables_of(
             alloc,
             &hirs,
             self.thompson,
@@ -166,11 +166,12 @@ impl Builder {
         );
         let passes_over = engine.program.passes_over;
         drop(engine);
+        let tables = made?;
         let dfa = DFA {
             hirs,
             config,
             thompson: self.thompson,
-            tables: tables?,
+            tables,
             passes_over,
         };
         Ok(Regex { dfa })

@@ -156,7 +156,7 @@ impl Builder {
             engine,
             info: _,
         } = built;
-        let lazy = lazy_of(
+        let made = lazy_of(
             alloc,
             &hirs,
             self.thompson,
@@ -164,13 +164,16 @@ impl Builder {
             engine.kind,
             self.config.get_byte_classes(),
             states::limit_of(&self.config).unwrap_or(2_097_152),
-        )?;
+        );
+        let passes_over = engine.program.passes_over;
+        drop(engine);
+        let lazy = made?;
         Ok(Regex {
             hirs,
             config,
             thompson: self.thompson,
             lazy,
-            passes_over: engine.program.passes_over,
+            passes_over,
         })
     }
 }

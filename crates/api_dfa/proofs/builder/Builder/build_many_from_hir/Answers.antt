@@ -9,8 +9,8 @@ use Rattle.rc_build.specs.Refusals.{IsBuildable}
 use Rattle.api_dfa.proofs.TableLemmas.{program_light}
 use Rattle.api_dfa.proofs.builder.Builder.build_many_from_hir.Goals as goal
 
-pub tables_of-requires : goal.tables_of-requires
-tables_of-requires c =
+pub tables_of-made-requires : goal.tables_of-made-requires
+tables_of-made-requires c =
     let b = c.in_ok-built.ensures in
     let s = settings_of c.args.self.now.thompson in
     let g = is_grouped (which_captures_of s) in

@@ -12,8 +12,8 @@ use Rattle.api_hybrid.specs.Halves.{IsLazyFor}
 use Rattle.api_dfa.proofs.TableLemmas.{program_light}
 use Rattle.api_hybrid.proofs.builder.Builder.build_many_from_hir.Goals as goal
 
-pub lazy_of-requires : goal.lazy_of-requires
-lazy_of-requires c =
+pub lazy_of-made-requires : goal.lazy_of-made-requires
+lazy_of-made-requires c =
     let b = c.in_ok-built.ensures in
     let s = settings_of c.args.self.now.thompson in
     let g = is_grouped (which_captures_of s) in
