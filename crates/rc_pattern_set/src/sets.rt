@@ -24,7 +24,8 @@ impl Model for PatternSet {
 
     ghost view = { λ s. s.marks.items };
 
-    ghost invariant = { λ s. (s.len ≡ length (members s.marks.items)) × ((p : ℕ) → Has s.marks.items p → p ≤ 2147483646) };
+    ghost invariant = { λ s. (s.len ≡ length (members s.marks.items))
+        × ((p : ℕ) → Has s.marks.items p → p ≤ 2147483646) };
 }
 
 impl PatternSet {

@@ -92,7 +92,8 @@ impl Properties {
     }
 
     pub(super) fn repeated(self, min: u32, max: Option<u32>) -> Properties
-        ensures { (h : re.Re) (greedy : Bool) → IsPropertiesOf h self → IsPropertiesOf (re.repeat min max greedy h) result }
+        ensures { (h : re.Re) (greedy : Bool) → IsPropertiesOf h self
+            → IsPropertiesOf (re.repeat min max greedy h) result }
     {
         let turns = Properties {
             minimum_len: lengths::minimum_of_turns(min, self.minimum_len),
@@ -115,7 +116,8 @@ impl Properties {
     }
 
     pub(super) fn followed_by(self, rest: Properties) -> Properties
-        ensures { (h k : re.Re) → IsPropertiesOf h self → IsPropertiesOf k rest → IsPropertiesOf (re.cat h k) result }
+        ensures { (h k : re.Re) → IsPropertiesOf h self → IsPropertiesOf k rest
+            → IsPropertiesOf (re.cat h k) result }
     {
         let prefix = if lengths::is_zero(self.maximum_len) {
             self.look_prefix.union(rest.look_prefix)
