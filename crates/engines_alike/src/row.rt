@@ -20,7 +20,7 @@ pub enum Want<'a> {
     All,
     /// The groups of the first match.
     Groups,
-    /// The same, by calls that give groups alone. No field says so.
+    /// The groups of the first match, by calls that give groups alone. No field says so.
     Captured,
     /// The pieces between matches.
     Pieces,

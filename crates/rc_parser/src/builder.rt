@@ -110,7 +110,7 @@ impl Level {
         branch.max(self.branches.deepest as u64) + self.branches.hirs.len().min(1) as u64
     }
 
-    /// The same, if one more item comes before, which is nested that deep.
+    /// How deep the body is nested, if it ends after one more item that is nested `item` deep.
     fn depth_with(&self, item: u64) -> u64
         requires { item < 2 ^ 33 }
         ensures value { result ≡ body_depth_with item (level self.now) }

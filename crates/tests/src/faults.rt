@@ -113,14 +113,14 @@ a\→nothing is escaped 1..2
 a→none
 (?i)[]a-]\x41|→none";
 
-/// The same where what is no UTF-8 may match, and without `u`.
+/// Texts and their faults where what is no UTF-8 may match, and without `u`.
 const BYTES: &str = "[a-é]→a character past ASCII in a list of bytes 3..5";
 
-/// The same where the byte 200 ends lines.
+/// Texts and their faults where the byte 200 ends lines.
 const PAST_ASCII: &str = "a.→a line terminator past ASCII is no character 1..2
 (?-u:.)→bytes past ASCII where UTF-8 is asked for 5..6";
 
-/// The same where patterns may have no level.
+/// Texts and their faults where patterns may have no level.
 const LEVEL_0: &str = r"a→none
 ab→patterns nest too deeply 0..2
 a*→patterns nest too deeply 0..2
@@ -128,7 +128,7 @@ x[a]→patterns nest too deeply 0..4
 (?-u)\d→patterns nest too deeply 0..7
 (?-u)\W→bytes past ASCII where UTF-8 is asked for 5..7";
 
-/// The same where they may have one.
+/// Texts and their faults where patterns may have one level.
 const LEVEL_1: &str = "ab→none
 [a]→none
 (ab)→patterns nest too deeply 0..3

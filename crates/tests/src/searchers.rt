@@ -21,7 +21,7 @@ fn here<C: Cursor>(input: &mut Input<C>) -> Option<Match>
     Some(Match::new(PatternID::ZERO, Span { start, end: start }))
 }
 
-/// The same, of which only the end is told.
+/// The end of the empty match where the search starts.
 fn half_here<C: Cursor>(input: &mut Input<C>) -> Option<HalfMatch>
     ensures keeps { Keeps input.old input.new }
     ensures within { IfSome result (LiesIn offset_of offset_of input.old) }
