@@ -11,7 +11,7 @@
  *     neither read nor written but by the calls.
  *   - A handle is used by one thread at a time, and stays with the thread that compiled it. Handles share nothing.
  *   - No call is made from a signal handler.
- *   - 256 KiB of stack are left. zf_compile needs most of them if a pattern is nested 250 levels deep; docs/SPEED.md has figures.
+ *   - 256 KiB of stack are left. zf_compile needs most of them if a pattern is nested 250 levels deep; docs/STACK.md has figures.
  * There is nothing else to owe: each call tests its handle, its range, its UTF-8 and its capacities, and answers a status.
  *
  * Who owns what: a full handle owns memory, which malloc gave and zf_free or the next zf_compile gives back. All else is the caller's.
