@@ -1,5 +1,6 @@
 //! Patterns built for every engine.
 
+ghost use Rattle.rc_text.specs.Limits.{most_patterns};
 ghost use Rattle.std.specs.Prelude.{◌≤◌, length};
 ghost use Rattle.rc_program.specs.Columns.{AreColumns, OwnSlots};
 ghost use Rattle.rc_program.specs.Heads.{AreHeads, flags_in};
@@ -73,7 +74,7 @@ impl Engines {
         patterns: &[&str],
         settings: &Settings,
     ) -> Result<Engines, BuildError>
-        requires { length patterns.now ≤ 2147483647 }
+        requires { length patterns.now ≤ most_patterns }
     {
         let built = both(
             read(alloc, patterns, settings)?,
@@ -113,7 +114,7 @@ fn regexes(
     settings: &Settings,
     least: usize,
 ) -> Result<((Regex, Regex), Regex), BuildError>
-    requires { length patterns.now ≤ 2147483647 }
+    requires { length patterns.now ≤ most_patterns }
 {
     let capacity = match settings.capacity {
         Some(capacity) => Some(capacity.bytes(least)),
@@ -130,7 +131,7 @@ fn tables(
     patterns: &[&str],
     settings: &Settings,
 ) -> Result<((Option<api_dfa::regex::Regex>, Hybrid), Hybrid), BuildError>
-    requires { length patterns.now ≤ 2147483647 }
+    requires { length patterns.now ≤ most_patterns }
 {
     let dfa = dfa(alloc, patterns, settings)?;
     let built = both(dfa, hybrid(alloc, patterns, settings, None))?;
@@ -144,7 +145,7 @@ fn dfa(
     patterns: &[&str],
     settings: &Settings,
 ) -> Result<Option<api_dfa::regex::Regex>, BuildError>
-    requires { length patterns.now ≤ 2147483647 }
+    requires { length patterns.now ≤ most_patterns }
 {
     if !settings.tables {
         return Ok(None);
@@ -162,7 +163,7 @@ fn hybrid(
     settings: &Settings,
     capacity: Option<usize>,
 ) -> Result<Hybrid, BuildError>
-    requires { length patterns.now ≤ 2147483647 }
+    requires { length patterns.now ≤ most_patterns }
 {
     match settings.hybrid(alloc, patterns, capacity) {
         Ok(regex) => Hybrid::new(alloc, regex, capacity.is_some()),
@@ -176,7 +177,7 @@ fn read(
     patterns: &[&str],
     settings: &Settings,
 ) -> Result<(Known, Option<Program>), BuildError>
-    requires { length patterns.now ≤ 2147483647 }
+    requires { length patterns.now ≤ most_patterns }
 {
     let hirs = parse_all(alloc, patterns, &settings.syntax)?;
     let known = Known {

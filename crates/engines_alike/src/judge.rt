@@ -1,4 +1,5 @@
 //! Rows that every engine answers.
+ghost use Rattle.rc_text.specs.Limits.{most_patterns};
 ghost use Rattle.std.specs.Prelude.{◌≤◌, length};
 
 use crate::calls::{Call, List, spans_by, told_by};
@@ -42,7 +43,7 @@ pub fn judge(alloc: Global, row: &mut Row) -> Result<(), Fault> {
 
 /// The engines answer the row as it wants, or its patterns are refused so.
 fn judge_wanted(asker: &mut Asker, row: &mut Row)
-    requires { length row.old.patterns.items ≤ 2147483647 }
+    requires { length row.old.patterns.items ≤ most_patterns }
 {
     match Engines::build(asker.alloc, &row.patterns, &row.settings) {
         Ok(mut engines) => {
@@ -59,7 +60,7 @@ fn judge_wanted(asker: &mut Asker, row: &mut Row)
 
 /// The engines answer the row alike, or its patterns are refused. Where its tables are too large it is answered without the DFA.
 fn judge_alike(asker: &mut Asker, row: &mut Row)
-    requires { length row.old.patterns.items ≤ 2147483647 }
+    requires { length row.old.patterns.items ≤ most_patterns }
 {
     row.settings.dfa_limit = Some(TABLES_LIMIT);
     if let Some(BuildError::DfaSizeLimit { .. }) = answer_alike(asker, row) {
@@ -70,8 +71,8 @@ fn judge_alike(asker: &mut Asker, row: &mut Row)
 
 /// The engines answer the row alike, or this is why its patterns are refused.
 fn answer_alike(asker: &mut Asker, row: &mut Row) -> Option<BuildError>
-    requires { length row.old.patterns.items ≤ 2147483647 }
-    ensures { length row.new.patterns.items ≤ 2147483647 }
+    requires { length row.old.patterns.items ≤ most_patterns }
+    ensures { length row.new.patterns.items ≤ most_patterns }
 {
     match Engines::build(asker.alloc, &row.patterns, &row.settings) {
         Ok(mut engines) => {
@@ -89,8 +90,8 @@ fn answer_alike(asker: &mut Asker, row: &mut Row) -> Option<BuildError>
 
 /// The engines answer the row over every cutting as the pass does over one chunk: all matches, and the groups of the first.
 fn agree(asker: &mut Asker, engines: &mut Engines, row: &mut Row)
-    requires { length row.old.patterns.items ≤ 2147483647 }
-    ensures { length row.new.patterns.items ≤ 2147483647 }
+    requires { length row.old.patterns.items ≤ most_patterns }
+    ensures { length row.new.patterns.items ≤ most_patterns }
 {
     row.settings.walker = engines.vm.states_len() <= WALKER_PLACES
         && row.text.len() <= WALKER_BYTES;
@@ -107,8 +108,8 @@ fn agree(asker: &mut Asker, engines: &mut Engines, row: &mut Row)
 
 /// Has the row want what the pass finds in one chunk.
 fn want_found(asker: &mut Asker, engines: &Engines, row: &mut Row, list: List)
-    requires { length row.old.patterns.items ≤ 2147483647 }
-    ensures { length row.new.patterns.items ≤ 2147483647 }
+    requires { length row.old.patterns.items ≤ most_patterns }
+    ensures { length row.new.patterns.items ≤ most_patterns }
 {
     let regex = &engines.unfiltered;
     let over = input(row, Recut::whole(&row.text));
@@ -125,7 +126,7 @@ fn want_found(asker: &mut Asker, engines: &Engines, row: &mut Row, list: List)
 
 /// The engines answer the row over every cutting of its text, and as the least parse says.
 fn over_all_cuttings(asker: &mut Asker, engines: &mut Engines, row: &Row)
-    requires { length row.now.patterns.items ≤ 2147483647 }
+    requires { length row.now.patterns.items ≤ most_patterns }
 {
     parses::agree(asker, engines, row);
     over_each_cutting(asker, engines, row);

@@ -1,5 +1,6 @@
 //! The preferred match of plain patterns, by trying their parses in order: over the patterns alone, as docs/PREFERENCE.md tells it.
 
+ghost use Rattle.rc_text.specs.Limits.{most_patterns};
 ghost use Rattle.std.specs.Prelude.{◌≤◌, length};
 
 use crate::cursors::Recut;
@@ -67,7 +68,7 @@ struct Parser<'a> {
 /// The engines answer a row of plain patterns as its parses say, from the row's start on and from each position behind it. Other rows aren't
 /// looked at, nor those that take the walker too long.
 pub fn agree(asker: &mut Asker, engines: &Engines, row: &Row)
-    requires { length row.now.patterns.items ≤ 2147483647 }
+    requires { length row.now.patterns.items ≤ most_patterns }
 {
     let settings = &row.settings;
     if settings.kind != MatchKind::LeftmostFirst || !settings.walker || !engines.regex.is_plain() {

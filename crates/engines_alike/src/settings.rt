@@ -1,5 +1,6 @@
 //! The settings of a row, under which its patterns are built.
 
+ghost use Rattle.rc_text.specs.Limits.{most_patterns};
 ghost use Rattle.std.specs.Prelude.{◌≤◌, length};
 
 use crate::faults::{Fault, Verdict};
@@ -171,7 +172,7 @@ impl<'a> Settings<'a> {
 
     /// A regex of these patterns, of which this is asked too.
     pub fn regex(&self, alloc: Global, patterns: &[&str], asked: Asked) -> Result<Regex, BuildError>
-        requires { length patterns.now ≤ 2147483647 }
+        requires { length patterns.now ≤ most_patterns }
     {
         match self.with_needle(alloc, self.config(asked)) {
             Ok(config) => {
@@ -239,7 +240,7 @@ impl<'a> Settings<'a> {
 
     /// The DFA of these patterns.
     pub fn dfa(&self, alloc: Global, patterns: &[&str]) -> Result<api_dfa::regex::Regex, BuildError>
-        requires { length patterns.now ≤ 2147483647 }
+        requires { length patterns.now ≤ most_patterns }
     {
         let tables = States::new()
             .match_kind(self.kind)
@@ -262,7 +263,7 @@ impl<'a> Settings<'a> {
         patterns: &[&str],
         capacity: Option<usize>,
     ) -> Result<api_hybrid::regex::Regex, BuildError>
-        requires { length patterns.now ≤ 2147483647 }
+        requires { length patterns.now ≤ most_patterns }
     {
         let mut tables = States::new()
             .match_kind(self.kind)
@@ -282,7 +283,7 @@ impl<'a> Settings<'a> {
 
     /// The `PikeVM` of these patterns.
     pub fn vm(&self, alloc: Global, patterns: &[&str]) -> Result<PikeVM, BuildError>
-        requires { length patterns.now ≤ 2147483647 }
+        requires { length patterns.now ≤ most_patterns }
     {
         let mut builder = PikeVM::builder();
         builder
