@@ -1,5 +1,6 @@
 //! Pattern setup: the patterns by which lines are selected.
 ghost use Rattle.std.specs.Prelude.{◌≡◌, ◌≤◌, All, IfErr, IfOk, IsTrue, length, map, true};
+ghost use Rattle.rc_text.specs.Limits.{most_patterns};
 ghost use Rattle.rc_pattern.specs.Meaning.{meaning};
 ghost use Rattle.rc_parser.specs.Settings.{settings_of};
 ghost use Rattle.rc_settings.specs.Settings.{nfa_size_limit_of};
@@ -73,7 +74,7 @@ pub struct Patterns {
 /// Builds a regex whose matches may end inside a character. So none is passed over, and a line that
 /// isn't UTF-8 keeps all its matches.
 fn build_regex(alloc: Global, hirs: &[Hir]) -> Result<Regex, BuildError>
-    requires { length hirs.now ≤ 2147483647 }
+    requires { length hirs.now ≤ most_patterns }
     ensures patterns { IfOk result (λ r. regex_patterns r ≡ map meaning hirs.now) }
     ensures settings { IfOk result (λ r. regex_settings r ≡ line_settings) }
     ensures buildable { IfOk result (λ _. IsBuildable (nfa_size_limit_of line_settings)
@@ -90,7 +91,7 @@ fn build_regex(alloc: Global, hirs: &[Hir]) -> Result<Regex, BuildError>
 /// Builds the patterns, whose matches may end inside a character. An `Err` is the first refusal
 /// that applies to them, or out of memory.
 pub fn build(alloc: Global, hirs: &[Hir]) -> Result<Patterns, BuildError>
-    requires { length hirs.now ≤ 2147483647 }
+    requires { length hirs.now ≤ most_patterns }
     ensures patterns { IfOk result (λ p. regex_patterns p.regex ≡ map meaning hirs.now) }
     ensures settings { IfOk result (λ p. regex_settings p.regex ≡ line_settings) }
     ensures refused { IfErr result (λ e. IsRefusal (nfa_size_limit_of line_settings)
