@@ -23,6 +23,9 @@ use rc_text::types::{Match, MatchKind, Span};
 use std::alloc::{AllocError, Global};
 use std::marker::Model;
 
+/// How many patterns are searched for at most, so that each has a number.
+const MAX_PATTERNS: usize = 2_147_483_647;
+
 /// A regex with everything that its searches need: a cache, captures, a set of its patterns, and
 /// the state of an iteration.
 ///
@@ -63,7 +66,7 @@ impl Model for Searcher {
     ghost invariant = { λ s. IsCacheFor (regex_patterns s.regex) (regex_settings s.regex) s.cache
         × KeepsAll (regex_names s.regex) s.captures
         × (length s.set ≡ length (regex_patterns s.regex))
-        × (length s.set ≤ 2147483647) };
+        × (length s.set ≤ most_patterns) };
 }
 
 impl Searcher {
@@ -87,7 +90,7 @@ impl Searcher {
         let Some(kind) = settings.kind() else {
             return Err(Refusal::NoKind);
         };
-        if patterns.len() > 2_147_483_647 {
+        if patterns.len() > MAX_PATTERNS {
             return Err(Refusal::TooMany);
         }
         let texts = texts_of(alloc, patterns)?;

@@ -1,6 +1,6 @@
 use Rattle.std.proofs.Common.{◌≡◌, ◌+◌, ◌-◌, ◌≤◌, length, max, min, take, slice_range}
 use Rattle.rc_text.specs.Text.{Keeps}
-use Rattle.rc_text.proofs.input.read_around.Given as goal
+use Rattle.rc_text.proofs.around.read_around.Given as goal
 
 abbrev pub invariant-loop-len : goal.invariant-loop-len
 invariant-loop-len g l = record {

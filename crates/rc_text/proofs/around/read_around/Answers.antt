@@ -1,6 +1,6 @@
 use Rattle.std.proofs.Common.{◌≡◌, ◌+◌, length, ap, ◌∙◌, arith, rules, slice_range}
 use Rattle.rc_text.proofs.Ranges.{slice_range_grown}
-use Rattle.rc_text.proofs.input.read_around.Goals as goal
+use Rattle.rc_text.proofs.around.read_around.Goals as goal
 
 pub loop-len-preserved : goal.loop-len-preserved
 loop-len-preserved g c =
