@@ -4,7 +4,7 @@ ghost use Rattle.std.specs.Prelude.{◌≡◌, ◌⊎◌, ◌↔◌, ◌+◌, �
 ghost use Rattle.std.specs.Option.{option_map};
 ghost use Rattle.rc_text.specs.Found.{Found};
 ghost use Rattle.rc_text.specs.Plain.{is_anchored};
-ghost use Rattle.rc_text.specs.declared.types.TheConstants.{MAX_PATTERN};
+ghost use Rattle.rc_text.specs.Limits.{greatest_pattern};
 ghost use Rattle.rc_text.specs.Bounds.{IsWithinBounds};
 ghost use Rattle.rc_text.specs.Text.{Keeps, is_boundary, low, high};
 ghost use Rattle.rc_pattern.specs.Re.{Re};
@@ -332,7 +332,7 @@ fn seek_start<H: Halves, C: Cursor>(
 #[inline(always)]
 pub fn id_of(pattern: usize, offset: usize) -> Result<PatternID, MatchError>
     ensures id { IfOk result (λ id. id ≡ pattern) }
-    ensures refused { IfErr result (λ _. MAX_PATTERN < pattern) }
+    ensures refused { IfErr result (λ _. greatest_pattern < pattern) }
 {
     match PatternID::new(pattern) {
         Some(id) => Ok(id),

@@ -1,7 +1,7 @@
 //! Pattern sets: sets of pattern numbers.
 
 ghost use Rattle.std.specs.Prelude.{◌≡◌, ℕ, ◌+◌, ◌<◌, ◌≤◌, ◌^◌, Some, true, length, slice_get};
-ghost use Rattle.rc_text.specs.declared.types.TheConstants.{MAX_PATTERN};
+ghost use Rattle.rc_text.specs.Limits.{greatest_pattern};
 
 use rc_text::types::PatternID;
 use std::alloc::{AllocError, Global};
@@ -19,7 +19,7 @@ pub struct PatternSet {
 
 impl Model for PatternSet {
     ghost use Rattle.std.specs.Prelude.{◌≡◌, ℕ, ◌≤◌, List, Bool, length};
-    ghost use Rattle.rc_text.specs.declared.types.TheConstants.{MAX_PATTERN};
+    ghost use Rattle.rc_text.specs.Limits.{greatest_pattern};
     ghost use Rattle.rc_pattern_set.specs.Sets.{Has, members};
 
     ghost Value = { List Bool };
@@ -27,7 +27,7 @@ impl Model for PatternSet {
     ghost view = { λ s. s.marks.items };
 
     ghost invariant = { λ s. (s.len ≡ length (members s.marks.items))
-        × ((p : ℕ) → Has s.marks.items p → p ≤ MAX_PATTERN) };
+        × ((p : ℕ) → Has s.marks.items p → p ≤ greatest_pattern) };
 }
 
 impl PatternSet {
@@ -114,7 +114,7 @@ pub struct PatternSetIter<'a> {
     /// The number of the first of `left`.
     next: usize,
     ghost small: { next + length left.now < 2 ^ 64 },
-    ghost numbered: { (p : ℕ) → slice_get left.now p ≡ Some true → next + p ≤ MAX_PATTERN },
+    ghost numbered: { (p : ℕ) → slice_get left.now p ≡ Some true → next + p ≤ greatest_pattern },
 }
 
 impl<'a> Iterator for PatternSetIter<'a> {

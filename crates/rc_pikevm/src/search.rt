@@ -5,7 +5,7 @@ ghost use Rattle.std.specs.Option.{option_map};
 ghost use Rattle.rc_text.specs.Found.{Found};
 ghost use Rattle.rc_text.specs.Bounds.{IsWithinBounds};
 ghost use Rattle.rc_text.specs.Text.{Keeps, low, high};
-ghost use Rattle.rc_text.specs.declared.types.TheConstants.{MAX_PATTERN};
+ghost use Rattle.rc_text.specs.Limits.{greatest_pattern};
 ghost use Rattle.rc_program.specs.Answer.{only, is_anchored, answer, groups};
 ghost use Rattle.rc_program.specs.Greatest.{greatest};
 ghost use Rattle.rc_program.specs.Sought.{anchoring_of};
@@ -58,7 +58,7 @@ pub(crate) fn starts_of(anchored: Anchored, lo: usize, hi: usize) -> (Option<usi
 
 /// Writes the whole match to its two slots, as far as these exist.
 pub(crate) fn put_match(end: Ending, slots: &mut [Option<usize>])
-    requires { end.pattern ≤ MAX_PATTERN }
+    requires { end.pattern ≤ greatest_pattern }
     ensures { slots.new ≡ slice_set (slice_set slots.old (2 * end.pattern) (Some end.start))
         (2 * end.pattern + 1) (Some end.end) }
 {

@@ -2,7 +2,7 @@
 //! thread, and marks its pattern in a set.
 ghost use Rattle.std.specs.Prelude.{◌≡◌, ◌↔◌, ℕ, ◌+◌, ◌-◌, ◌*◌, ◌<◌, ◌≤◌, ◌⊎◌, ◌^◌, ⊤, false, IsTrue, List, MatchOption, [], ◌∷◌, ◌++◌, length, map, min, reverse, slice_set, true, vec_len};
 ghost use Rattle.rc_text.specs.Text.{Searched, Keeps, low, high};
-ghost use Rattle.rc_text.specs.declared.types.TheConstants.{MAX_PATTERN};
+ghost use Rattle.rc_text.specs.Limits.{greatest_pattern};
 ghost use Rattle.rc_pattern_set.specs.Sets.{Has};
 ghost use Rattle.rc_needles.specs.Guards.{Guards};
 ghost use Rattle.rc_needles.specs.Prefilters.{needles_of};
@@ -37,7 +37,7 @@ use rc_text::types::PatternID;
 
 /// Inserts the pattern of this number into the set.
 fn mark(set: &mut PatternSet, number: usize)
-    requires { number ≤ MAX_PATTERN }
+    requires { number ≤ greatest_pattern }
     ensures { set.new ≡ slice_set set.old number true }
 {
     if let Some(pattern) = PatternID::new(number) {
