@@ -9,10 +9,9 @@ ghost use Rattle.rc_strategy.specs.Tables.{MayBeLazyFor, MayBeTablesFor};
 
 use crate::cache::Cache;
 use crate::first::find_first;
-use crate::held::{any_from_start, find_from_start};
+use crate::held::find_from_start;
 use crate::last::find_greatest_from_end;
 use crate::lengths::Lengths;
-use crate::needles::find_early_guarded;
 use crate::route::{Route, TableChoice};
 use crate::slots::fill_slots;
 use crate::tables::{are_fast, tables_of};
@@ -441,88 +440,6 @@ impl Engines {
                 self.find_first_end(halves, cache, input, guard)
             }
             MatchKind::All => Ok(half_of(self.find_along(halves, cache, input, guard)?)),
-        }
-    }
-
-    /// Whether a DFA finds a match, from literal to literal if literals guard the patterns. An
-    /// `Err` says why the DFA has no answer. Unless matches are passed over, nothing is read beyond
-    /// the first position at which some match ends.
-    fn any_by_tables<H: Halves, C: Cursor>(
-        &self,
-        halves: &H,
-        cache: &mut H::Cache,
-        input: &mut Input<C>,
-    ) -> Result<bool, MatchError>
-        requires own { ∥ AreHalvesFor self.now.engine self.now.patterns (H.AreOf halves.now) ∥₁ }
-        requires cache { H.IsCache halves.now cache.old }
-        ensures cache { H.IsCache halves.now cache.new }
-        ensures keeps { Keeps input.old input.new }
-        ensures found { IfOk result (λ b. b
-            ≡ is_some (answer_by self.now.engine.kind (engine_search self.now.engine input.old))) }
-    {
-        match self.route(input) {
-            Route::FromStart => any_from_start(self, halves, cache, input),
-            Route::FromEnd => Ok(self.find_from_end(halves, cache, input)?.is_some()),
-            Route::GreatestFromEnd => {
-                Ok(find_greatest_from_end(self, halves, cache, input)?.is_some())
-            }
-            Route::OfLength(_, guard) | Route::Along(guard) => {
-                self.any_along(halves, cache, input, guard)
-            }
-        }
-    }
-
-    /// Whether a DFA finds a match forwards, from literal to literal if there is a guard. An `Err`
-    /// says why the DFA has no answer.
-    fn any_along<H: Halves, C: Cursor>(
-        &self,
-        halves: &H,
-        cache: &mut H::Cache,
-        input: &mut Input<C>,
-        guard: Option<Guard>,
-    ) -> Result<bool, MatchError>
-        requires own { ∥ AreHalvesFor self.now.engine self.now.patterns (H.AreOf halves.now) ∥₁ }
-        requires cache { H.IsCache halves.now cache.old }
-        requires guards { MayGuard self.now.engine guard }
-        ensures cache { H.IsCache halves.now cache.new }
-        ensures keeps { Keeps input.old input.new }
-        ensures found { IfOk result (λ b. b
-            ≡ is_some (answer_by self.now.engine.kind (engine_search self.now.engine input.old))) }
-    {
-        let aim = Aim {
-            earliest: true,
-            ..self.aim()
-        };
-        if let Some(guard) = guard {
-            let found = find_early_guarded(halves, cache, input, aim, guard)?;
-            return Ok(found.is_some());
-        }
-        let half = search::find_end(halves, cache, input, aim)?;
-        Ok(half.is_some())
-    }
-
-    /// Whether the DFA finds a match, or else the lazy DFA if the cache has its states. Returns
-    /// None if there is neither, or it has no answer.
-    pub(crate) fn any_in<C: Cursor>(
-        &self,
-        cache: &mut Option<lazy::Cache>,
-        input: &mut Input<C>,
-    ) -> Option<bool>
-        requires made { IsCacheOfBoth self.now.lazy cache.old }
-        ensures keeps { Keeps input.old input.new }
-        ensures found { IfSome result (λ b. b
-            ≡ is_some (answer_by self.now.engine.kind (engine_search self.now.engine input.old))) }
-        ensures cache { KeepsStates self.now.lazy cache.old cache.new }
-    {
-        match self.table_choice(cache.is_some()) {
-            TableChoice::AllStates(tables) => self.any_by_tables(tables, &mut NoCache, input).ok(),
-            TableChoice::MetStates(tables) => {
-                let Some(states) = cache else {
-                    return None;
-                };
-                self.any_by_tables(tables, states, input).ok()
-            }
-            TableChoice::NoTables => None,
         }
     }
 

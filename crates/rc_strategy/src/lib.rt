@@ -1,6 +1,7 @@
 //! Meta strategy: picks what searches: literals alone, a DFA, a lazy DFA or the Pike VM.
 #![tactic(auto)]
 
+mod any;
 pub mod cache;
 pub mod early;
 pub mod engines;
