@@ -45,6 +45,7 @@ pub struct Searcher {
 impl Model for Searcher {
     ghost use Rattle.std.specs.Coded.{codes};
     ghost use Rattle.std.specs.Prelude.{◌≡◌, ◌≤◌, length};
+    ghost use Rattle.rc_text.specs.Limits.{most_patterns};
     ghost use Rattle.rc_captures.specs.contracts.captures.Captures as captured;
     ghost use Rattle.rc_pikevm_search.specs.Tells.{KeepsAll};
     ghost use Rattle.api_meta.specs.Caches.{IsCacheFor};
