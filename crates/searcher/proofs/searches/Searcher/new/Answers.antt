@@ -11,4 +11,4 @@ with_cache-requires c =
     as_many (syntax_settings c.args.settings.now) c.args.patterns.now (regex_patterns c.in_ok-regex.regex)
     (subst (λ ts. AllRead (syntax_settings c.args.settings.now) ts (regex_patterns c.in_ok-regex.regex))
     (ap texts_of c.deref.ensures.value ∙ c.in_ok-texts.ensures.same) c.in_ok-regex.ensures.read) in
-    let few = c.if-patterns-gt2147483647.false in omega (arith, many, few)
+    let few = c.if-patterns-gt-MAX_PATTERNS.false in omega (arith, many, few)
