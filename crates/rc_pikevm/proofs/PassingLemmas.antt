@@ -18,6 +18,17 @@ pub no_threads : (ts : List Thread) → length ts ≡ 0 → ts ≡ []
 no_threads [] e = refl
 no_threads (t ∷ ts) e = absurd (omega arith)
 
+-- no threads are in line at any position
+pub lined_without : (n hi width at x insertions : ℕ) (curr : ThreadList) → curr.items ≡ [] → IsLined n hi width at insertions curr →
+    IsLined n hi width x insertions curr
+lined_without n hi width at x insertions curr none lined = record {
+  inside = rw none tt;
+  width_is = lined.width_is;
+  room = lined.room;
+  counts = λ k h. rw none (let m = mul-le-mul_right n h in omega (arith, m));
+  begun = rw none tt;
+}
+
 none_before : (x y : ℕ) → x ≤ y → y < x → ⊥
 none_before x y l h = omega arith
 
@@ -114,13 +125,7 @@ module _ (s : Sight) (n hi width from last : ℕ) where
       let no_items = no_threads curr.items none in
       record {
         carries = λ o y. p.carries o (skips_carries at x curr best found o none unmatched low no_walk y);
-        lined = record {
-          inside = rw no_items tt;
-          width_is = p.lined.width_is;
-          room = p.lined.room;
-          counts = λ k h. rw no_items (let m = mul-le-mul_right n h in omega (arith, m));
-          begun = rw no_items tt;
-        };
+        lined = lined_without n hi width at x insertions curr no_items p.lined;
         ended = p.ended;
         few = let m : n * (at - from) ≤ n * (x - from) = mul-le-mul_left n (omega (arith, low)) in omega (arith, m, p.few);
         reached = omega (arith, low, p.reached);

@@ -15,7 +15,7 @@ use Rattle.rc_pikevm.specs.Races.{EndsThere, IsLongestOf, ended, longest, next, 
 use Rattle.rc_pikevm.specs.declared.pass.Ending.{Ending}
 use Rattle.rc_pikevm.proofs.SightLemmas.{last_pair}
 use Rattle.rc_pikevm.proofs.MoveLemmas.{Ends, onward}
-use Rattle.rc_pikevm.proofs.PassingLemmas.{GoesOn, none_in, no_threads}
+use Rattle.rc_pikevm.proofs.PassingLemmas.{GoesOn, lined_without, none_in, no_threads}
 use Rattle.rc_pikevm.proofs.StartLemmas.{waiting_next, waiting_over, waiting_past}
 use Rattle.rc_pikevm.proofs.RaceListLemmas.{upto_in, upto_out, upto_none, upto_append, upto_all, past_upto}
 use Rattle.rc_pikevm.proofs.RaceLemmas.{race_begins, race_turns, race_ends, apart_rising}
@@ -232,13 +232,7 @@ module _ (s : Sight) (n hi width from last : ℕ) where
   runs_skip at x insertions curr found p no_items low high none = record {
     races = subst (λ ts. Races s (starts_to width from last) x [] [] (map pending ts ++ starts_to width x last) None found) (sym no_items)
         (raced_jumps s (starts_to width from last) width last at x low none (alone at insertions curr None found p no_items));
-    lined = record {
-      inside = rw no_items tt;
-      width_is = p.lined.width_is;
-      room = p.lined.room;
-      counts = λ k h. rw no_items (let m = mul-le-mul_right n h in omega (arith, m));
-      begun = rw no_items tt;
-    };
+    lined = lined_without n hi width at x insertions curr no_items p.lined;
     ended = p.ended;
     few = let m : n * (at - from) ≤ n * (x - from) = mul-le-mul_left n (omega (arith, low)) in omega (arith, m, p.few);
     reached = omega (arith, low, p.reached);

@@ -1,16 +1,17 @@
 //! Single threads: if one thread is alone, it goes on without thread lists. Starts from which no
-//! walk leads on are skipped in the same way.
+//! walk leads on are skipped in the same way. Passes for leftmost-first and for leftmost-longest
+//! share this.
 ghost use Rattle.std.specs.Prelude.{◌≡◌, ◌+◌, ◌<◌, ◌≤◌, ◌⊎◌, ◌^◌, [], ◌∷◌, IsTrue, IfSome, List, Option, MatchOption, ⊤, true, false, ℕ, length};
 ghost use Rattle.rc_text.specs.Text.{Searched};
 ghost use Rattle.rc_walks.specs.Walks.{Pair};
 ghost use Rattle.rc_program.specs.Places.{places_of};
 ghost use Rattle.rc_program.specs.Program.{place_at, slot};
-ghost use Rattle.rc_pikevm.specs.Alone.{EndsBy, IsChosen, IsDead, IsOnward, ReadsOne, tried_at};
+ghost use Rattle.rc_pikevm.specs.Alone.{EndsBy, IsAhead, IsChosen, IsDead, IsOnward, ReadsOne, tried_at};
 ghost use Rattle.rc_pikevm.specs.Entrances.{IsOnWay};
 ghost use Rattle.rc_pikevm.specs.Moves.{IsMove, IsSetting, seen_by};
 ghost use Rattle.rc_pikevm.specs.Near.{IsHere, seen_from, size};
-ghost use Rattle.rc_pikevm.specs.Passing.{Carries, IsPassing, waiting_starts};
-ghost use Rattle.rc_pikevm.specs.Races.{Races, IsCutOff, IsSought, starts_to};
+ghost use Rattle.rc_pikevm.specs.Passing.{Carries, IsLined, IsPassing, waiting_starts};
+ghost use Rattle.rc_pikevm.specs.Races.{Races, IsCutOff, IsRunFrom, IsSought, starts_to};
 ghost use Rattle.rc_pikevm.specs.Roots.{StandsFor};
 ghost use Rattle.rc_pikevm.specs.Scratches.{IsSame};
 ghost use Rattle.rc_pikevm.specs.Sights.{HasNoWalkFrom};
@@ -30,6 +31,15 @@ use rc_program::place::Place;
 
 /// How many places are followed at most.
 const MOST: usize = 6;
+
+/// When the fast path may serve.
+#[derive(Clone, Copy)]
+pub struct FastPath {
+    /// Whether the only thread may go on alone.
+    pub alone: bool,
+    /// Whether starts may be skipped while there is no thread.
+    pub skips: bool,
+}
 
 /// Whether the place is the one that was tried.
 #[inline(always)]
@@ -172,7 +182,7 @@ fn onward(spot: &Spot, from: usize) -> Option<(usize, Move)>
 }
 
 /// Returns the first branch of a choice if its second is a dead end, else the place itself.
-pub(crate) fn opening(course: Course, place: usize) -> usize
+fn opening(course: Course, place: usize) -> usize
     ghost text: { Searched }
     requires place_in { place < size course }
     ensures inside { result < size course.entry }
@@ -217,7 +227,7 @@ fn may_set_out(spot: &Spot, is_open: bool, way: usize, tried: usize) -> bool
 /// Advances a lone thread through the window as long as it reads single bytes. If `is_open`, it
 /// stops where another thread may set out. Returns the thread, and the pattern of its match if it
 /// came to one. The place `way` is the opening of place 0.
-pub(crate) fn run(
+fn run(
     course: Course,
     window: &Window,
     is_open: bool,
@@ -291,7 +301,7 @@ pub(crate) fn run(
 /// position in bytes from which the pass goes on. If a thread that sets out there is seen to read
 /// one byte, the place at which it goes on is returned too. The place `root` stands for place 0,
 /// and `way` is its opening.
-pub(crate) fn seek(
+fn seek(
     course: Course,
     window: &Window,
     root: usize,
@@ -352,6 +362,21 @@ pub(crate) fn seek(
     (here, None)
 }
 
+/// Whether the thread goes on at the position, and the best match so far neither cuts it off nor
+/// ends there or later.
+#[inline(always)]
+fn is_ahead(head: BareThread, best: Option<Ending>, at: usize) -> bool
+    ensures { IsTrue result → (head.at ≡ at) × IsAhead best head.start at }
+{
+    if head.at != at {
+        return false;
+    }
+    let Some(old) = best else {
+        return head.start < at;
+    };
+    head.start <= old.start && old.start < at && old.end < at
+}
+
 /// Advances a lone thread that waits for `at` through the window. Returns the position in bytes
 /// that the pass has reached. If the thread came to a match, that is now the best, with its slots
 /// in `found`.
@@ -369,14 +394,21 @@ fn go_alone(
     requires around { IsAround text at window.now }
     requires within { at ≤ course.hi }
     requires small { scratch.old.insertions + 2 ^ 65 < 2 ^ 128 }
-    requires passing { (from : ℕ) × IsPassing (seen_by course text)
-        (size course) course.hi scratch.old.next.threads.width from course.last at
-        scratch.old.insertions scratch.old.curr best.old scratch.old.found.items }
+    requires lined { IsLined (size course) course.hi scratch.old.next.threads.width at
+        scratch.old.insertions scratch.old.curr }
     ensures passing { (from : ℕ) → IsPassing (seen_by course.entry text)
         (size course.entry) course.entry.hi scratch.old.next.threads.width from
         course.entry.last at scratch.old.insertions scratch.old.curr best.old
         scratch.old.found.items
         → IsPassing (seen_by course.entry text)
+        (size course.entry) course.entry.hi scratch.old.next.threads.width from
+        course.entry.last result
+        scratch.new.insertions scratch.new.curr best.new scratch.new.found.items }
+    ensures running { (from : ℕ) → IsRunFrom (seen_by course.entry text)
+        (size course.entry) course.entry.hi scratch.old.next.threads.width from
+        course.entry.last at scratch.old.insertions scratch.old.curr best.old
+        scratch.old.found.items
+        → IsRunFrom (seen_by course.entry text)
         (size course.entry) course.entry.hi scratch.old.next.threads.width from
         course.entry.last result
         scratch.new.insertions scratch.new.curr best.new scratch.new.found.items }
@@ -389,7 +421,7 @@ fn go_alone(
         return at;
     }
     let (first, _) = scratch.curr.get(0);
-    if first.at != at {
+    if !is_ahead(first, *best, at) {
         return at;
     }
     let way = opening(course, 0);
@@ -404,7 +436,7 @@ fn go_alone(
 
 /// Moves the only thread elsewhere, `count` positions further.
 #[inline(always)]
-pub(crate) fn move_alone(head: BareThread, count: usize, scratch: &mut Scratch)
+fn move_alone(head: BareThread, count: usize, scratch: &mut Scratch)
     requires small { scratch.old.insertions + count < 2 ^ 128 }
     requires alone { length scratch.old.curr.items ≡ 1 }
     ensures insertions { scratch.new.insertions ≡ scratch.old.insertions + count }
@@ -439,9 +471,8 @@ fn begin(
     requires root { root < size course }
     requires stands { StandsFor (seen_by course text) root }
     requires small { scratch.old.insertions + 2 ^ 66 < 2 ^ 128 }
-    requires passing { (from : ℕ) × IsPassing (seen_by course text)
-        (size course) course.hi scratch.old.next.threads.width from course.last at
-        scratch.old.insertions scratch.old.curr best scratch.old.found.items }
+    requires lined { IsLined (size course) course.hi scratch.old.next.threads.width at
+        scratch.old.insertions scratch.old.curr }
     ensures passing { (from : ℕ) → IsPassing (seen_by course.entry text)
         (size course.entry) course.entry.hi scratch.old.next.threads.width from
         course.entry.last at scratch.old.insertions scratch.old.curr best scratch.old.found.items
@@ -449,6 +480,16 @@ fn begin(
         (size course.entry) course.entry.hi scratch.old.next.threads.width from
         course.entry.last result.0
         scratch.new.insertions scratch.new.curr best scratch.new.found.items }
+    ensures running { root ≡ 0 → (from : ℕ) → IsRunFrom (seen_by course.entry text)
+        (size course.entry) course.entry.hi scratch.old.next.threads.width from
+        course.entry.last at scratch.old.insertions scratch.old.curr best
+        scratch.old.found.items
+        → IsRunFrom (seen_by course.entry text)
+        (size course.entry) course.entry.hi scratch.old.next.threads.width from
+        course.entry.last result.0
+        scratch.new.insertions scratch.new.curr best scratch.new.found.items }
+    ensures lined { IsLined (size course.entry) course.entry.hi scratch.old.next.threads.width
+        result.0 scratch.new.insertions scratch.new.curr }
     ensures same { IsSame scratch.old scratch.new }
     ensures few { scratch.new.insertions ≤ scratch.old.insertions + 1 }
     ensures later { at ≤ result.0 }
@@ -492,14 +533,21 @@ fn wander(
     requires root { root < size course }
     requires stands { StandsFor (seen_by course text) root }
     requires small { scratch.old.insertions + 2 ^ 66 < 2 ^ 128 }
-    requires passing { (from : ℕ) × IsPassing (seen_by course text)
-        (size course) course.hi scratch.old.next.threads.width from course.last at
-        scratch.old.insertions scratch.old.curr best.old scratch.old.found.items }
+    requires lined { IsLined (size course) course.hi scratch.old.next.threads.width at
+        scratch.old.insertions scratch.old.curr }
     ensures passing { (from : ℕ) → IsPassing (seen_by course.entry text)
         (size course.entry) course.entry.hi scratch.old.next.threads.width from
         course.entry.last at scratch.old.insertions scratch.old.curr best.old
         scratch.old.found.items
         → IsPassing (seen_by course.entry text)
+        (size course.entry) course.entry.hi scratch.old.next.threads.width from
+        course.entry.last result
+        scratch.new.insertions scratch.new.curr best.new scratch.new.found.items }
+    ensures running { root ≡ 0 → (from : ℕ) → IsRunFrom (seen_by course.entry text)
+        (size course.entry) course.entry.hi scratch.old.next.threads.width from
+        course.entry.last at scratch.old.insertions scratch.old.curr best.old
+        scratch.old.found.items
+        → IsRunFrom (seen_by course.entry text)
         (size course.entry) course.entry.hi scratch.old.next.threads.width from
         course.entry.last result
         scratch.new.insertions scratch.new.curr best.new scratch.new.found.items }
@@ -515,27 +563,24 @@ fn wander(
     go_alone(course, window, best, here, scratch)
 }
 
-/// Whether the fast path may serve: starts may be skipped without any thread if `skips`, and the
-/// only thread may go on alone if `is_on`.
+/// Whether the fast path may serve a pass with so many threads.
 #[inline(always)]
-pub(crate) fn is_worth(is_on: bool, skips: bool, threads: usize) -> bool {
+fn is_worth(fast: FastPath, threads: usize) -> bool {
     match threads {
-        0 => skips,
-        1 => is_on,
+        0 => fast.skips,
+        1 => fast.alone,
         _ => false,
     }
 }
 
-/// Runs the fast path if there is no thread and `skips`, or one thread and `is_on`. Returns the
-/// position in bytes from which all threads go on together; that is `at` if the fast path doesn't
-/// serve.
+/// Runs the fast path if it may serve. Returns the position in bytes from which all threads go on
+/// together; that is `at` if the fast path doesn't serve.
 #[inline(always)]
 pub fn glide(
     course: Course,
     window: &Window,
     root: usize,
-    is_on: bool,
-    skips: bool,
+    fast: FastPath,
     best: &mut Option<Ending>,
     at: usize,
     scratch: &mut Scratch,
@@ -549,9 +594,8 @@ pub fn glide(
     requires root { root < size course }
     requires stands { StandsFor (seen_by course text) root }
     requires small { scratch.old.insertions + 2 ^ 66 < 2 ^ 128 }
-    requires passing { (from : ℕ) × IsPassing (seen_by course text)
-        (size course) course.hi scratch.old.next.threads.width from course.last at
-        scratch.old.insertions scratch.old.curr best.old scratch.old.found.items }
+    requires lined { IsLined (size course) course.hi scratch.old.next.threads.width at
+        scratch.old.insertions scratch.old.curr }
     ensures passing { (from : ℕ) → IsPassing (seen_by course.entry text)
         (size course.entry) course.entry.hi scratch.old.next.threads.width from
         course.entry.last at scratch.old.insertions scratch.old.curr best.old
@@ -560,13 +604,21 @@ pub fn glide(
         (size course.entry) course.entry.hi scratch.old.next.threads.width from
         course.entry.last result
         scratch.new.insertions scratch.new.curr best.new scratch.new.found.items }
+    ensures running { root ≡ 0 → (from : ℕ) → IsRunFrom (seen_by course.entry text)
+        (size course.entry) course.entry.hi scratch.old.next.threads.width from
+        course.entry.last at scratch.old.insertions scratch.old.curr best.old
+        scratch.old.found.items
+        → IsRunFrom (seen_by course.entry text)
+        (size course.entry) course.entry.hi scratch.old.next.threads.width from
+        course.entry.last result
+        scratch.new.insertions scratch.new.curr best.new scratch.new.found.items }
     ensures same { IsSame scratch.old scratch.new }
     ensures later { at ≤ result }
     ensures within { result ≤ course.entry.hi }
     ensures around { IsAround text result window.now }
 {
-    if !is_worth(is_on, skips, scratch.curr.len()) {
+    if !is_worth(fast, scratch.curr.len()) {
         return at;
     }
-    wander(course, window, root, skips, best, at, scratch)
+    wander(course, window, root, fast.skips, best, at, scratch)
 }

@@ -15,7 +15,6 @@ pub mod longest;
 mod moves;
 mod pass;
 mod race;
-mod race_alone;
 mod race_closure;
 mod scratch;
 pub mod search;

@@ -26,7 +26,7 @@ ghost use Rattle.rc_pikevm.specs.Trace.{Trace, done};
 ghost use Rattle.rc_pikevm.specs.Passing.{Carries, pending, AllIn, AllFrom, count_from, HasRoom, waiting_starts, Pending, IsLined, IsCounted, GivesTrace, Tells, best_of};
 ghost use Rattle.rc_pikevm.specs.Scratches.{IsSame};
 
-use crate::alone::glide;
+use crate::alone::{FastPath, glide};
 use crate::closure::close;
 use crate::entrance::way_in;
 use crate::growth::{Growth, copy_row};
@@ -510,16 +510,11 @@ pub(crate) fn pass_from<C: Cursor>(
         };
         at = next_at;
         reach(&mut window, input, at);
-        let here = glide(
-            course,
-            &window,
-            root,
-            patience > 0,
-            prefilter.is_none(),
-            &mut best,
-            at,
-            scratch,
-        );
+        let fast = FastPath {
+            alone: patience > 0,
+            skips: prefilter.is_none(),
+        };
+        let here = glide(course, &window, root, fast, &mut best, at, scratch);
         patience = patience_left(patience, here > at, scratch.curr.len());
         if is_over(&scratch.curr, best) {
             return best;

@@ -13,11 +13,11 @@ ghost use Rattle.rc_pikevm.specs.Passing.{pending, AllIn, AllFrom, count_from, H
 ghost use Rattle.rc_pikevm.specs.Races.{Races, IsCutOff, starts_to, GivesLongest};
 ghost use Rattle.rc_pikevm.specs.Scratches.{IsSame};
 
+use crate::alone::{FastPath, glide};
 use crate::entrance::way_in;
 use crate::growth::{Growth, copy_row};
 use crate::heads::is_dead;
 use crate::pass::{Ending, PATIENCE, empty, is_idle, next_position, patience_left};
-use crate::race_alone::glide;
 use crate::race_closure::{is_sought, run};
 use crate::scratch::Scratch;
 use crate::spot::{Course, Spot};
@@ -231,15 +231,11 @@ pub fn race<C: Cursor>(
         };
         at = next_at;
         reach(&mut window, input, at);
-        let here = glide(
-            course,
-            &window,
-            patience > 0,
-            prefilter.is_none(),
-            &mut best,
-            at,
-            scratch,
-        );
+        let fast = FastPath {
+            alone: patience > 0,
+            skips: prefilter.is_none(),
+        };
+        let here = glide(course, &window, 0, fast, &mut best, at, scratch);
         patience = patience_left(patience, here > at, scratch.curr.len());
         if is_spent(&scratch.curr, best, here) {
             return best;

@@ -171,12 +171,8 @@ glide-here-requires g c =
                     counts_small (size c.args.course) (at - c.args.from) c.positions.scratch.insertions
                         (omega (arith, c.args.scratch.now.next.stack.small, c.args.scratch.now.next.fits.1, c.requires.1.1.1.1.1.0))
                         (omega (arith, c.args.course.small, on.1)) here.few,
-                    (
-                      c.args.from,
-                      subst (λ w. IsPassing (seen_by c.args.course g.text) (size c.args.course) c.args.course.hi w c.args.from c.args.course.last at
-                          c.positions.scratch.insertions c.positions.scratch.curr c.positions.best c.positions.scratch.found.items)
-                          (sym c.positions.invariant.same.width) here,
-                    ),
+                    subst (λ w. IsLined (size c.args.course) c.args.course.hi w at c.positions.scratch.insertions c.positions.scratch.curr)
+                        (sym c.positions.invariant.same.width) here.lined,
                   ),
                 ),
               ),

@@ -1,4 +1,7 @@
-use Rattle.std.proofs.Common.{ℕ, ◌+◌, ◌*◌, [], ◌++◌, map, refl, sym, ap, subst, ◌∙◌, arith, ◌-◌, ◌≤◌}
+use Rattle.std.proofs.lemmas.List.{length-map}
+use Rattle.rc_program.specs.Places.{place_of}
+use Rattle.rc_pikevm.proofs.RootLemmas.{stands_itself}
+use Rattle.std.proofs.Common.{ℕ, ◌<◌, ◌+◌, ◌*◌, [], ◌++◌, map, refl, sym, ap, subst, ◌∙◌, arith, ◌-◌, ◌≤◌}
 use Rattle.rc_pikevm.specs.Sights.{HasNoWalkFrom}
 use Rattle.rc_text.specs.Text.{Keeps}
 use Rattle.rc_pikevm.specs.Threads.{ThreadList}
@@ -39,7 +42,7 @@ gone g c here =
     let last : ℕ = c.args.course.last in
     subst (λ w. IsRunFrom s n c.args.course.hi w c.args.from last c.glide-here.result c.glide-here.new.scratch.insertions
     c.glide-here.new.scratch.curr c.glide-here.new.best c.glide-here.new.scratch.found.items) wide
-    (c.glide-here.ensures.running c.args.from
+    (c.glide-here.ensures.running refl c.args.from
     (subst (λ w. IsRunFrom s n c.args.course.hi w c.args.from last c.in-Some.next_at c.positions.scratch.insertions c.positions.scratch.curr
     c.positions.best c.positions.scratch.found.items) (sym wide) here))
 
@@ -145,14 +148,16 @@ glide-here-requires g c =
             (
               on.1,
               (
-                counts_small (size c.args.course) (at - c.args.from) c.positions.scratch.insertions
-                    (omega (arith, c.args.scratch.now.next.stack.small, c.args.scratch.now.next.fits.1, c.requires.1.1.1.1.1))
-                    (omega (arith, c.args.course.small, on.1)) here.few,
+                subst (λ n. 0 < n) (length-map c.args.course.program.now.places.items place_of) c.args.course.program.now.runnable.rooted,
                 (
-                  c.args.from,
-                  subst (λ w. IsRunFrom (seen_by c.args.course g.text) (size c.args.course) c.args.course.hi w c.args.from c.args.course.last at
-                      c.positions.scratch.insertions c.positions.scratch.curr c.positions.best c.positions.scratch.found.items)
-                      (sym c.positions.invariant.same.width) here,
+                  stands_itself (seen_by c.args.course g.text),
+                  (
+                    counts_small (size c.args.course) (at - c.args.from) c.positions.scratch.insertions
+                        (omega (arith, c.args.scratch.now.next.stack.small, c.args.scratch.now.next.fits.1, c.requires.1.1.1.1.1))
+                        (omega (arith, c.args.course.small, on.1)) here.few,
+                    subst (λ w. IsLined (size c.args.course) c.args.course.hi w at c.positions.scratch.insertions c.positions.scratch.curr)
+                        (sym c.positions.invariant.same.width) here.lined,
+                  ),
                 ),
               ),
             ),
