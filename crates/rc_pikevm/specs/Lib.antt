@@ -1,6 +1,7 @@
 pub mod Sparse
 pub mod Threads
 pub mod Trace
+pub mod Underway
 pub mod Sights
 pub mod Moves
 pub mod Passing

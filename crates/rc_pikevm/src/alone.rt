@@ -10,13 +10,14 @@ ghost use Rattle.rc_pikevm.specs.Alone.{EndsBy, IsAhead, IsChosen, IsDead, IsOnw
 ghost use Rattle.rc_pikevm.specs.Entrances.{IsOnWay};
 ghost use Rattle.rc_pikevm.specs.Moves.{IsMove, IsSetting, seen_by};
 ghost use Rattle.rc_pikevm.specs.Near.{IsHere, seen_from, size};
-ghost use Rattle.rc_pikevm.specs.Passing.{Carries, IsLined, IsPassing, waiting_starts};
-ghost use Rattle.rc_pikevm.specs.Races.{Races, IsCutOff, IsRunFrom, IsSought, starts_to};
+ghost use Rattle.rc_pikevm.specs.Passing.{Carries, waiting_starts};
+ghost use Rattle.rc_pikevm.specs.Races.{Races, IsCutOff, IsSought, starts_to};
 ghost use Rattle.rc_pikevm.specs.Roots.{StandsFor};
 ghost use Rattle.rc_pikevm.specs.Scratches.{IsSame};
 ghost use Rattle.rc_pikevm.specs.Sights.{HasNoWalkFrom};
 ghost use Rattle.rc_pikevm.specs.Threads.{Thread, thread_of};
 ghost use Rattle.rc_pikevm.specs.Trace.{Trace, trace};
+ghost use Rattle.rc_pikevm.specs.Underway.{HasPassed, HasRun, IsInLine};
 ghost use Rattle.rc_pikevm.specs.Windows.{IsWindow, IsBegun, IsAround};
 
 use crate::entrance::is_shut;
@@ -394,24 +395,15 @@ fn go_alone(
     requires around { IsAround text at window.now }
     requires within { at ≤ course.hi }
     requires small { scratch.old.insertions + 2 ^ 65 < 2 ^ 128 }
-    requires lined { IsLined (size course) course.hi scratch.old.next.threads.width at
-        scratch.old.insertions scratch.old.curr }
-    ensures passing { (from : ℕ) → IsPassing (seen_by course.entry text)
-        (size course.entry) course.entry.hi scratch.old.next.threads.width from
-        course.entry.last at scratch.old.insertions scratch.old.curr best.old
-        scratch.old.found.items
-        → IsPassing (seen_by course.entry text)
-        (size course.entry) course.entry.hi scratch.old.next.threads.width from
-        course.entry.last result
-        scratch.new.insertions scratch.new.curr best.new scratch.new.found.items }
-    ensures running { (from : ℕ) → IsRunFrom (seen_by course.entry text)
-        (size course.entry) course.entry.hi scratch.old.next.threads.width from
-        course.entry.last at scratch.old.insertions scratch.old.curr best.old
-        scratch.old.found.items
-        → IsRunFrom (seen_by course.entry text)
-        (size course.entry) course.entry.hi scratch.old.next.threads.width from
-        course.entry.last result
-        scratch.new.insertions scratch.new.curr best.new scratch.new.found.items }
+    requires lined { IsInLine course scratch.old.next.threads.width at scratch.old }
+    ensures passing { (from : ℕ) → HasPassed course.entry text scratch.old.next.threads.width
+        from at scratch.old best.old
+        → HasPassed course.entry text scratch.old.next.threads.width from result scratch.new
+        best.new }
+    ensures running { (from : ℕ) → HasRun course.entry text scratch.old.next.threads.width from
+        at scratch.old best.old
+        → HasRun course.entry text scratch.old.next.threads.width from result scratch.new
+        best.new }
     ensures same { IsSame scratch.old scratch.new }
     ensures later { at ≤ result }
     ensures within { result ≤ course.entry.hi }
@@ -471,25 +463,15 @@ fn begin(
     requires root { root < size course }
     requires stands { StandsFor (seen_by course text) root }
     requires small { scratch.old.insertions + 2 ^ 66 < 2 ^ 128 }
-    requires lined { IsLined (size course) course.hi scratch.old.next.threads.width at
-        scratch.old.insertions scratch.old.curr }
-    ensures passing { (from : ℕ) → IsPassing (seen_by course.entry text)
-        (size course.entry) course.entry.hi scratch.old.next.threads.width from
-        course.entry.last at scratch.old.insertions scratch.old.curr best scratch.old.found.items
-        → IsPassing (seen_by course.entry text)
-        (size course.entry) course.entry.hi scratch.old.next.threads.width from
-        course.entry.last result.0
-        scratch.new.insertions scratch.new.curr best scratch.new.found.items }
-    ensures running { root ≡ 0 → (from : ℕ) → IsRunFrom (seen_by course.entry text)
-        (size course.entry) course.entry.hi scratch.old.next.threads.width from
-        course.entry.last at scratch.old.insertions scratch.old.curr best
-        scratch.old.found.items
-        → IsRunFrom (seen_by course.entry text)
-        (size course.entry) course.entry.hi scratch.old.next.threads.width from
-        course.entry.last result.0
-        scratch.new.insertions scratch.new.curr best scratch.new.found.items }
-    ensures lined { IsLined (size course.entry) course.entry.hi scratch.old.next.threads.width
-        result.0 scratch.new.insertions scratch.new.curr }
+    requires lined { IsInLine course scratch.old.next.threads.width at scratch.old }
+    ensures passing { (from : ℕ) → HasPassed course.entry text scratch.old.next.threads.width
+        from at scratch.old best
+        → HasPassed course.entry text scratch.old.next.threads.width from result.0 scratch.new
+        best }
+    ensures running { root ≡ 0 → (from : ℕ) → HasRun course.entry text
+        scratch.old.next.threads.width from at scratch.old best
+        → HasRun course.entry text scratch.old.next.threads.width from result.0 scratch.new best }
+    ensures lined { IsInLine course.entry scratch.old.next.threads.width result.0 scratch.new }
     ensures same { IsSame scratch.old scratch.new }
     ensures few { scratch.new.insertions ≤ scratch.old.insertions + 1 }
     ensures later { at ≤ result.0 }
@@ -533,24 +515,15 @@ fn wander(
     requires root { root < size course }
     requires stands { StandsFor (seen_by course text) root }
     requires small { scratch.old.insertions + 2 ^ 66 < 2 ^ 128 }
-    requires lined { IsLined (size course) course.hi scratch.old.next.threads.width at
-        scratch.old.insertions scratch.old.curr }
-    ensures passing { (from : ℕ) → IsPassing (seen_by course.entry text)
-        (size course.entry) course.entry.hi scratch.old.next.threads.width from
-        course.entry.last at scratch.old.insertions scratch.old.curr best.old
-        scratch.old.found.items
-        → IsPassing (seen_by course.entry text)
-        (size course.entry) course.entry.hi scratch.old.next.threads.width from
-        course.entry.last result
-        scratch.new.insertions scratch.new.curr best.new scratch.new.found.items }
-    ensures running { root ≡ 0 → (from : ℕ) → IsRunFrom (seen_by course.entry text)
-        (size course.entry) course.entry.hi scratch.old.next.threads.width from
-        course.entry.last at scratch.old.insertions scratch.old.curr best.old
-        scratch.old.found.items
-        → IsRunFrom (seen_by course.entry text)
-        (size course.entry) course.entry.hi scratch.old.next.threads.width from
-        course.entry.last result
-        scratch.new.insertions scratch.new.curr best.new scratch.new.found.items }
+    requires lined { IsInLine course scratch.old.next.threads.width at scratch.old }
+    ensures passing { (from : ℕ) → HasPassed course.entry text scratch.old.next.threads.width
+        from at scratch.old best.old
+        → HasPassed course.entry text scratch.old.next.threads.width from result scratch.new
+        best.new }
+    ensures running { root ≡ 0 → (from : ℕ) → HasRun course.entry text
+        scratch.old.next.threads.width from at scratch.old best.old
+        → HasRun course.entry text scratch.old.next.threads.width from result scratch.new
+        best.new }
     ensures same { IsSame scratch.old scratch.new }
     ensures later { at ≤ result }
     ensures within { result ≤ course.entry.hi }
@@ -594,24 +567,15 @@ pub fn glide(
     requires root { root < size course }
     requires stands { StandsFor (seen_by course text) root }
     requires small { scratch.old.insertions + 2 ^ 66 < 2 ^ 128 }
-    requires lined { IsLined (size course) course.hi scratch.old.next.threads.width at
-        scratch.old.insertions scratch.old.curr }
-    ensures passing { (from : ℕ) → IsPassing (seen_by course.entry text)
-        (size course.entry) course.entry.hi scratch.old.next.threads.width from
-        course.entry.last at scratch.old.insertions scratch.old.curr best.old
-        scratch.old.found.items
-        → IsPassing (seen_by course.entry text)
-        (size course.entry) course.entry.hi scratch.old.next.threads.width from
-        course.entry.last result
-        scratch.new.insertions scratch.new.curr best.new scratch.new.found.items }
-    ensures running { root ≡ 0 → (from : ℕ) → IsRunFrom (seen_by course.entry text)
-        (size course.entry) course.entry.hi scratch.old.next.threads.width from
-        course.entry.last at scratch.old.insertions scratch.old.curr best.old
-        scratch.old.found.items
-        → IsRunFrom (seen_by course.entry text)
-        (size course.entry) course.entry.hi scratch.old.next.threads.width from
-        course.entry.last result
-        scratch.new.insertions scratch.new.curr best.new scratch.new.found.items }
+    requires lined { IsInLine course scratch.old.next.threads.width at scratch.old }
+    ensures passing { (from : ℕ) → HasPassed course.entry text scratch.old.next.threads.width
+        from at scratch.old best.old
+        → HasPassed course.entry text scratch.old.next.threads.width from result scratch.new
+        best.new }
+    ensures running { root ≡ 0 → (from : ℕ) → HasRun course.entry text
+        scratch.old.next.threads.width from at scratch.old best.old
+        → HasRun course.entry text scratch.old.next.threads.width from result scratch.new
+        best.new }
     ensures same { IsSame scratch.old scratch.new }
     ensures later { at ≤ result }
     ensures within { result ≤ course.entry.hi }
