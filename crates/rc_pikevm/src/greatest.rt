@@ -8,10 +8,11 @@ ghost use Rattle.rc_program.specs.Greatest.{greatest};
 ghost use Rattle.rc_program.specs.Programs.{search_of};
 ghost use Rattle.rc_pikevm.specs.Near.{IsHere, seen_from, size};
 ghost use Rattle.rc_pikevm.specs.Moves.{IsSetting, seen, seen_by};
-ghost use Rattle.rc_pikevm.specs.Passing.{AllIn, AllFrom, count_from, HasRoom, IsLined, IsCounted};
+ghost use Rattle.rc_pikevm.specs.Passing.{AllIn, AllFrom, count_from, HasRoom, IsCounted};
 ghost use Rattle.rc_pikevm.specs.Spread.{Runner, running, SomeSpells, IsTop, Seeks, BeginFrom, IsOrdered, span_of, starting};
 ghost use Rattle.rc_pikevm.specs.Caches.{IsCacheFor};
 ghost use Rattle.rc_pikevm.specs.Scratches.{IsSame};
+ghost use Rattle.rc_pikevm.specs.Underway.{IsInLine};
 
 use crate::cache::Cache;
 use crate::growth::Growth;
@@ -116,8 +117,7 @@ fn turn(spot: &Spot, best: &mut Option<Ending>, scratch: &mut Scratch)
     ghost text: { Searched }
     requires here { IsHere spot.now text }
     requires made { scratch.old.next.entered.capacity ≡ size spot.now.course }
-    requires lined { IsLined (size spot.now.course) spot.now.course.hi 0 spot.now.at
-        scratch.old.insertions scratch.old.curr }
+    requires lined { IsInLine spot.now.course 0 spot.now.at scratch.old }
     requires ordered { IsOrdered spot.now.at scratch.old.curr.items }
     requires counted { IsCounted scratch.old.insertions best.old }
     requires small { scratch.old.insertions + size spot.now.course < 2 ^ 128 }
@@ -128,8 +128,7 @@ fn turn(spot: &Spot, best: &mut Option<Ending>, scratch: &mut Scratch)
         → Seeks (seen_from spot.now text) spot.now.at [] []
         (map running scratch.old.curr.items
         ++ starting spot.now.at spot.now.course.last) best.old o }
-    ensures lined { IsLined (size spot.now.course) spot.now.course.hi 0
-        (spot.now.at + 1) scratch.new.insertions scratch.new.curr }
+    ensures lined { IsInLine spot.now.course 0 (spot.now.at + 1) scratch.new }
     ensures ordered { IsOrdered (spot.now.at + 1) scratch.new.curr.items }
     ensures same { IsSame scratch.old scratch.new }
     ensures counted { IsCounted scratch.new.insertions best.new }

@@ -23,8 +23,9 @@ ghost use Rattle.rc_pikevm.specs.Near.{IsHere, seen_from, size};
 ghost use Rattle.rc_pikevm.specs.Moves.{IsSetting, seen_by};
 ghost use Rattle.rc_pikevm.specs.Roots.{StandsFor};
 ghost use Rattle.rc_pikevm.specs.Trace.{Trace, done};
-ghost use Rattle.rc_pikevm.specs.Passing.{Carries, pending, AllIn, AllFrom, count_from, HasRoom, waiting_starts, Pending, IsLined, IsCounted, GivesTrace, Tells, best_of};
+ghost use Rattle.rc_pikevm.specs.Passing.{Carries, pending, AllIn, AllFrom, count_from, HasRoom, waiting_starts, Pending, IsCounted, GivesTrace, Tells, best_of};
 ghost use Rattle.rc_pikevm.specs.Scratches.{IsSame};
+ghost use Rattle.rc_pikevm.specs.Underway.{IsInLine};
 
 use crate::alone::{FastPath, glide};
 use crate::closure::close;
@@ -233,9 +234,7 @@ fn turn(spot: &Spot, root: usize, best: Option<Ending>, scratch: &mut Scratch) -
     ghost text: { Searched }
     requires here { IsHere spot.now text }
     requires made { scratch.old.next.entered.capacity ≡ size spot.now.course }
-    requires lined { IsLined (size spot.now.course) spot.now.course.hi
-        scratch.old.next.threads.width spot.now.at scratch.old.insertions
-        scratch.old.curr }
+    requires lined { IsInLine spot.now.course scratch.old.next.threads.width spot.now.at scratch.old }
     requires counted { IsCounted scratch.old.insertions best }
     requires small { scratch.old.insertions + size spot.now.course < 2 ^ 128 }
     requires root { root < size spot.now.course }
@@ -247,9 +246,8 @@ fn turn(spot: &Spot, root: usize, best: Option<Ending>, scratch: &mut Scratch) -
         → Pending (seen_from spot.now text) scratch.old.next.threads.width spot.now.course.last
         spot.now.at scratch.old.curr.items
         best scratch.old.found.items o }
-    ensures lined { IsLined (size spot.now.course) spot.now.course.hi scratch.old.next.threads.width
-        (spot.now.at + 1)
-        scratch.new.insertions scratch.new.curr }
+    ensures lined { IsInLine spot.now.course scratch.old.next.threads.width (spot.now.at + 1)
+        scratch.new }
     ensures same { IsSame scratch.old scratch.new }
     ensures counted { IsCounted scratch.new.insertions result }
     ensures few { scratch.new.insertions ≤ scratch.old.insertions + size spot.now.course }
@@ -273,8 +271,7 @@ fn turn(spot: &Spot, root: usize, best: Option<Ending>, scratch: &mut Scratch) -
 #[inline(always)]
 pub fn end_walk(course: Course, at: usize, number: usize, scratch: &mut Scratch) -> Ending
     ghost text: { Searched }
-    requires lined { IsLined (size course) course.hi scratch.old.next.threads.width at
-        scratch.old.insertions scratch.old.curr }
+    requires lined { IsInLine course scratch.old.next.threads.width at scratch.old }
     requires small { scratch.old.insertions + 1 < 2 ^ 128 }
     requires ends { EndsAlone (seen_by course text) at scratch.old.curr.items number }
     ensures carries { (best : Option Ending) (o : Option Trace)
@@ -295,8 +292,7 @@ pub fn end_walk(course: Course, at: usize, number: usize, scratch: &mut Scratch)
         ++ starts_to scratch.old.next.threads.width (at + 1) course.entry.last) (Some result)
         scratch.new.found.items }
     ensures start { (t : Thread) → scratch.old.curr.items ≡ t ∷ [] → result.start ≡ t.start }
-    ensures lined { IsLined (size course.entry) course.entry.hi scratch.old.next.threads.width
-        (at + 1) scratch.new.insertions scratch.new.curr }
+    ensures lined { IsInLine course.entry scratch.old.next.threads.width (at + 1) scratch.new }
     ensures same { IsSame scratch.old scratch.new }
     ensures counted { IsCounted scratch.new.insertions (Some result) }
     ensures few { scratch.new.insertions ≤ scratch.old.insertions + 1 }
@@ -319,8 +315,7 @@ pub fn end_walk(course: Course, at: usize, number: usize, scratch: &mut Scratch)
 pub fn set_out_alone(course: Course, at: usize, root: usize, next: usize, scratch: &mut Scratch)
     ghost text: { Searched }
     requires setting { IsSetting course text }
-    requires lined { IsLined (size course) course.hi scratch.old.next.threads.width at
-        scratch.old.insertions scratch.old.curr }
+    requires lined { IsInLine course scratch.old.next.threads.width at scratch.old }
     requires small { scratch.old.insertions + 1 < 2 ^ 128 }
     requires none { length scratch.old.curr.items ≡ 0 }
     requires within { at ≤ course.last }
@@ -342,8 +337,7 @@ pub fn set_out_alone(course: Course, at: usize, root: usize, next: usize, scratc
         (map pending scratch.new.curr.items
         ++ starts_to scratch.old.next.threads.width
         (at + 1) course.entry.last) None scratch.new.found.items }
-    ensures lined { IsLined (size course.entry) course.entry.hi scratch.old.next.threads.width
-        (at + 1) scratch.new.insertions scratch.new.curr }
+    ensures lined { IsInLine course.entry scratch.old.next.threads.width (at + 1) scratch.new }
     ensures same { IsSame scratch.old scratch.new }
     ensures few { scratch.new.insertions ≤ scratch.old.insertions + 1 }
 {

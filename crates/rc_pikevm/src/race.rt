@@ -9,9 +9,10 @@ ghost use Rattle.rc_program.specs.Places.{places_of};
 ghost use Rattle.rc_pikevm.specs.Near.{IsHere, seen_from, size};
 ghost use Rattle.rc_pikevm.specs.Moves.{IsSetting, seen_by};
 ghost use Rattle.rc_pikevm.specs.Trace.{Trace};
-ghost use Rattle.rc_pikevm.specs.Passing.{pending, AllIn, AllFrom, count_from, HasRoom, IsLined, IsCounted, best_of};
+ghost use Rattle.rc_pikevm.specs.Passing.{pending, AllIn, AllFrom, count_from, HasRoom, IsCounted, best_of};
 ghost use Rattle.rc_pikevm.specs.Races.{Races, IsCutOff, starts_to, GivesLongest};
 ghost use Rattle.rc_pikevm.specs.Scratches.{IsSame};
+ghost use Rattle.rc_pikevm.specs.Underway.{IsInLine};
 
 use crate::alone::{FastPath, glide};
 use crate::entrance::way_in;
@@ -141,9 +142,7 @@ fn turn(spot: &Spot, best: &mut Option<Ending>, scratch: &mut Scratch)
     ghost text: { Searched }
     requires here { IsHere spot.now text }
     requires made { scratch.old.next.entered.capacity ≡ size spot.now.course }
-    requires lined { IsLined (size spot.now.course) spot.now.course.hi
-        scratch.old.next.threads.width spot.now.at scratch.old.insertions
-        scratch.old.curr }
+    requires lined { IsInLine spot.now.course scratch.old.next.threads.width spot.now.at scratch.old }
     requires counted { IsCounted scratch.old.insertions best.old }
     requires small { scratch.old.insertions + size spot.now.course < 2 ^ 128 }
     ensures races { (all : List (Trace × Pair))
@@ -155,9 +154,8 @@ fn turn(spot: &Spot, best: &mut Option<Ending>, scratch: &mut Scratch)
         (map pending scratch.new.curr.items
         ++ starts_to scratch.old.next.threads.width (spot.now.at + 1) spot.now.course.last)
         best.new scratch.new.found.items }
-    ensures lined { IsLined (size spot.now.course) spot.now.course.hi scratch.old.next.threads.width
-        (spot.now.at + 1)
-        scratch.new.insertions scratch.new.curr }
+    ensures lined { IsInLine spot.now.course scratch.old.next.threads.width (spot.now.at + 1)
+        scratch.new }
     ensures same { IsSame scratch.old scratch.new }
     ensures counted { IsCounted scratch.new.insertions best.new }
     ensures few { scratch.new.insertions ≤ scratch.old.insertions + size spot.now.course }

@@ -14,9 +14,10 @@ ghost use Rattle.rc_pikevm.specs.Caches.{IsCacheFor};
 ghost use Rattle.rc_pikevm.specs.Marking.{AreSame, Owed, SomeLeads, HasAll, HasNoneBefore, KeepsMarks, MarksFrom, MayBegin, entering, explored, going};
 ghost use Rattle.rc_pikevm.specs.Moves.{IsSetting, seen, seen_by};
 ghost use Rattle.rc_pikevm.specs.Near.{IsHere, seen_from, size};
-ghost use Rattle.rc_pikevm.specs.Passing.{AllFrom, AllIn, AllInside, HasRoom, IsGrown, IsLined, count_from};
+ghost use Rattle.rc_pikevm.specs.Passing.{AllFrom, AllIn, AllInside, HasRoom, IsGrown, count_from};
 ghost use Rattle.rc_pikevm.specs.PatternSpans.{AddsSpelled, AreOfFirst};
 ghost use Rattle.rc_pikevm.specs.Scratches.{IsSame};
+ghost use Rattle.rc_pikevm.specs.Underway.{IsInLine};
 
 use crate::cache::Cache;
 use crate::closure::enter;
@@ -197,8 +198,7 @@ fn turn(spot: &Spot, may_begin: bool, set: &mut PatternSet, scratch: &mut Scratc
     ghost text: { Searched }
     requires here { IsHere spot.now text }
     requires made { scratch.old.next.entered.capacity ≡ size spot.now.course }
-    requires lined { IsLined (size spot.now.course) spot.now.course.hi 0 spot.now.at
-        scratch.old.insertions scratch.old.curr }
+    requires lined { IsInLine spot.now.course 0 spot.now.at scratch.old }
     requires small { scratch.old.insertions + size spot.now.course < 2 ^ 128 }
     requires begins { MayBegin (seen_from spot.now text) spot.now.at may_begin }
     ensures same { AreSame (length set.old)
@@ -209,8 +209,7 @@ fn turn(spot: &Spot, may_begin: bool, set: &mut PatternSet, scratch: &mut Scratc
         ++ entering (spot.now.at + 1) spot.now.course.last) set.new) }
     ensures long { length set.new ≡ length set.old }
     ensures more { KeepsMarks set.old set.new }
-    ensures lined { IsLined (size spot.now.course) spot.now.course.hi 0
-        (spot.now.at + 1) scratch.new.insertions scratch.new.curr }
+    ensures lined { IsInLine spot.now.course 0 (spot.now.at + 1) scratch.new }
     ensures kept { IsSame scratch.old scratch.new }
     ensures few { scratch.new.insertions ≤ scratch.old.insertions + size spot.now.course }
 {
