@@ -5,8 +5,7 @@ use Rattle.std.specs.Option.{option_or}
 use Rattle.rc_walks.specs.Walks.{Pair}
 use Rattle.rc_program.specs.Program.{Place, slot, place_at}
 use Rattle.rc_program.specs.Columns.{column_at}
-use Rattle.rc_program.specs.Answer.{Search, Chosen, chosen, pattern_of, last_of, last_visit}
-use Rattle.rc_program.specs.Longest.{longest_chosen}
+use Rattle.rc_program.specs.Answer.{Search, Chosen, pattern_of, last_of, last_visit}
 use Rattle.rc_pikevm.specs.declared.pass.Ending.{Ending}
 
 -- The place names a slot, and this is the slot's column.
@@ -40,19 +39,3 @@ IsChosenRow s picked e row c = IsChosenBy last_filled s picked e row c
 -- The result is what is picked.
 abbrev pub IsPickedBy : (List Place → ℕ → List Pair → Option ℕ) → Search → Option Chosen → Option Ending → List (Option ℕ) → Type 0
 IsPickedBy visit s picked result slots = MatchOption result (picked ≡ None) (λ e. (c : Chosen) × IsChosenBy visit s picked e slots c)
-
--- The result is what the search chooses.
-abbrev pub IsResult : Search → Option Ending → List (Option ℕ) → Type 0
-IsResult s = IsPickedBy last_visit s (chosen s)
-
--- The result is what the search chooses, with its row.
-abbrev pub IsRowResult : Search → Option Ending → List (Option ℕ) → Type 0
-IsRowResult s = IsPickedBy last_filled s (chosen s)
-
--- The result is the longest walk of the least start.
-abbrev pub IsLongestResult : Search → Option Ending → List (Option ℕ) → Type 0
-IsLongestResult s = IsPickedBy last_visit s (longest_chosen s)
-
--- The result is the longest walk of the least start, with its row.
-abbrev pub IsLongestRowResult : Search → Option Ending → List (Option ℕ) → Type 0
-IsLongestRowResult s = IsPickedBy last_filled s (longest_chosen s)

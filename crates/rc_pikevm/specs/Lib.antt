@@ -19,4 +19,5 @@ pub mod Entrances
 pub mod PatternSpans
 pub mod Marking
 pub mod Races
+pub mod Rules
 pub mod Alone

@@ -17,8 +17,7 @@ ghost use Rattle.rc_pikevm.specs.KindSlots.{span_slots, slots_by};
 
 use crate::cache::Cache;
 use crate::greatest::find_greatest;
-use crate::longest::{find_longest, search_longest_slots};
-use crate::search::{find, meets_any, search_slots};
+use crate::search::{Rule, find, meets_any, search_slots};
 use rc_needles::prefilter::Prefilter;
 use rc_program::program::Program;
 use rc_text::cursor::Cursor;
@@ -52,8 +51,8 @@ pub fn find_by_kind<C: Cursor>(
 {
     match kind {
         MatchKind::All => find_greatest(cache, input, program),
-        MatchKind::LeftmostFirst => { find(cache, input, program, prefilter) }
-        MatchKind::LeftmostLongest => find_longest(cache, input, program, prefilter),
+        MatchKind::LeftmostFirst => find(cache, input, program, Rule::First(0), prefilter),
+        MatchKind::LeftmostLongest => find(cache, input, program, Rule::Longest, prefilter),
     }
 }
 
@@ -81,14 +80,14 @@ pub fn is_match_by_kind<C: Cursor>(
         MatchKind::All => meets_any(cache, input, program, prefilter),
         MatchKind::LeftmostFirst => {
             if program.passes_over {
-                let found = find(cache, input, program, prefilter);
+                let found = find(cache, input, program, Rule::First(0), prefilter);
                 return found.is_some();
             }
             meets_any(cache, input, program, prefilter)
         }
         MatchKind::LeftmostLongest => {
             if program.passes_over {
-                let found = find_longest(cache, input, program, prefilter);
+                let found = find(cache, input, program, Rule::Longest, prefilter);
                 return found.is_some();
             }
             meets_any(cache, input, program, prefilter)
@@ -174,9 +173,11 @@ pub fn search_slots_by_kind<C: Cursor>(
             let found = search_span(cache, input, program, slots)?;
             Some(found.pattern())
         }
-        MatchKind::LeftmostFirst => { search_slots(cache, input, program, prefilter, slots) }
+        MatchKind::LeftmostFirst => {
+            search_slots(cache, input, program, Rule::First(0), prefilter, slots)
+        }
         MatchKind::LeftmostLongest => {
-            search_longest_slots(cache, input, program, prefilter, slots)
+            search_slots(cache, input, program, Rule::Longest, prefilter, slots)
         }
     }
 }

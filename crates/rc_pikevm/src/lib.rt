@@ -11,7 +11,6 @@ pub mod greatest;
 mod growth;
 mod heads;
 pub mod kinds;
-pub mod longest;
 mod moves;
 mod pass;
 mod race;

@@ -1,27 +1,33 @@
-//! Leftmost-first search: from an input's bounds to a match and its slots, by passes of the Pike
-//! VM.
+//! Leftmost search: from an input's bounds to a match and its slots, by passes of the Pike VM. If a
+//! match is passed over, another pass begins after its start.
 ghost use Rattle.std.specs.Prelude.{◌≡◌, is_some, ℕ, ◌+◌, ◌-◌, ◌*◌, ◌<◌, ◌≤◌, ◌^◌, List, length, vec_len, vec_capacity, Option, None, Some, MatchOption, if◌then◌else◌, slice_set, slice_index_or, min, IfNone, ⊤};
 ghost use Rattle.std.specs.Option.{option_map};
 ghost use Rattle.rc_text.specs.Found.{Found};
 ghost use Rattle.rc_text.specs.Bounds.{IsWithinBounds};
-ghost use Rattle.rc_text.specs.Text.{Keeps, low, high};
+ghost use Rattle.rc_text.specs.Text.{Searched, Keeps, low, high};
 ghost use Rattle.rc_text.specs.Limits.{greatest_pattern};
-ghost use Rattle.rc_program.specs.Answer.{only, is_anchored, answer, groups};
+ghost use Rattle.rc_program.specs.Answer.{only, is_anchored, last_visit};
 ghost use Rattle.rc_program.specs.Greatest.{greatest};
+ghost use Rattle.rc_program.specs.Kinds.{answer_by};
 ghost use Rattle.rc_program.specs.Sought.{anchoring_of};
 ghost use Rattle.rc_program.specs.Programs.{search_of};
 ghost use Rattle.rc_program.specs.Columns.{IsAmong, range_of, row_width};
 ghost use Rattle.rc_needles.specs.Guards.{Guards};
 ghost use Rattle.rc_needles.specs.Prefilters.{needles_of};
 ghost use Rattle.rc_program.specs.Places.{places_of};
-ghost use Rattle.rc_pikevm.specs.Passing.{IsCounted};
-ghost use Rattle.rc_pikevm.specs.Found.{IsResult, IsRowResult};
-ghost use Rattle.rc_pikevm.specs.Roots.{StandsIn};
+ghost use Rattle.rc_pikevm.specs.Passing.{IsCounted, best_of};
+ghost use Rattle.rc_pikevm.specs.Found.{IsPickedBy, last_filled};
+ghost use Rattle.rc_pikevm.specs.Roots.{StandsFor, StandsIn};
+ghost use Rattle.rc_pikevm.specs.Rules.{GivesBy, MayEnter, kind_of, picked_by};
+ghost use Rattle.rc_pikevm.specs.KindSlots.{slots_by};
+ghost use Rattle.rc_pikevm.specs.Moves.{IsSetting, seen_by};
+ghost use Rattle.rc_pikevm.specs.Near.{size};
 ghost use Rattle.rc_pikevm.specs.Caches.{IsCacheFor};
 ghost use Rattle.rc_pikevm.specs.Scratches.{IsSame};
 
 use crate::cache::Cache;
 use crate::pass::{Ending, pass, pass_from};
+use crate::race::race;
 use crate::scratch::Scratch;
 use crate::spot::Course;
 use rc_needles::prefilter::Prefilter;
@@ -107,13 +113,54 @@ pub(crate) fn put_groups(
     }
 }
 
+/// Which walk of the least start a search chooses.
+#[derive(Clone, Copy)]
+pub enum Rule {
+    /// The first. Walks enter at this place, which stands for place 0: the first walk from it is,
+    /// after choices, the first from place 0. So a search for one pattern enters at that pattern's
+    /// own place, and no thread sets out for another pattern.
+    First(usize),
+    /// The longest.
+    Longest,
+}
+
+/// Runs the pass that finds the walk of the rule, from the start `from` on.
+fn run_pass<C: Cursor>(
+    input: &mut Input<C>,
+    course: Course,
+    rule: Rule,
+    prefilter: Option<&Prefilter>,
+    from: usize,
+    scratch: &mut Scratch,
+) -> Option<Ending>
+    ghost text: { Searched }
+    requires same { Keeps text input.old }
+    requires setting { IsSetting course text }
+    requires guarded { MatchOption prefilter ⊤
+        (λ p. Guards (places_of course.program.now.places.items) course.program.now.terminator
+        (needles_of p.now)) }
+    requires bounds { (low text ≤ from) × (from ≤ course.last) }
+    requires made { scratch.old.next.entered.capacity ≡ size course }
+    requires enters { MayEnter (size course) (StandsFor (seen_by course text)) rule }
+    ensures keeps { Keeps input.old input.new }
+    ensures gives { GivesBy rule (seen_by course.entry text) scratch.old.next.threads.width from
+        course.entry.last (best_of result scratch.new.found.items) }
+    ensures counted { IsCounted scratch.new.insertions result }
+    ensures few { scratch.new.insertions ≤ size course.entry * (course.entry.hi - from + 1) }
+    ensures same { IsSame scratch.old scratch.new }
+{
+    match rule {
+        Rule::First(root) => pass_from(input, course, root, prefilter, from, false, scratch),
+        Rule::Longest => race(input, course, prefilter, from, scratch),
+    }
+}
+
 /// Returns the walk that a search chooses, with its row of slots in `found`, or None if there is
-/// none. As long as that match is passed over, another pass begins at the start after it. Walks
-/// enter at the place `root`, which stands for place 0.
+/// none. As long as that match is passed over, another pass begins at the start after it.
 fn choose<C: Cursor>(
     input: &mut Input<C>,
     program: &Program,
-    root: usize,
+    rule: Rule,
     prefilter: Option<&Prefilter>,
     scratch: &mut Scratch,
 ) -> Option<Ending>
@@ -121,10 +168,11 @@ fn choose<C: Cursor>(
         (λ p. Guards (places_of program.now.places.items) program.now.terminator
         (needles_of p.now)) }
     requires made { scratch.old.next.entered.capacity ≡ length program.now.places.items }
-    requires root { root < length program.now.places.items }
-    requires stands { StandsIn (search_of program.now input.old) root }
+    requires enters { MayEnter (length program.now.places.items)
+        (StandsIn (search_of program.now input.old)) rule }
     ensures keeps { Keeps input.old input.new }
-    ensures chosen { IsRowResult (search_of program.now input.old) result scratch.new.found.items }
+    ensures chosen { IsPickedBy last_filled (search_of program.now input.old)
+        (picked_by rule (search_of program.now input.old)) result scratch.new.found.items }
     ensures counted { IsCounted scratch.new.insertions result }
     ensures few { scratch.new.insertions ≤ length program.now.places.items
         * (high input.old - low input.old + 2) }
@@ -145,7 +193,7 @@ fn choose<C: Cursor>(
     };
     let mut from = lo;
     'starts: while from <= last {
-        let Some(end) = pass_from(input, course, root, prefilter, from, false, scratch) else {
+        let Some(end) = run_pass(input, course, rule, prefilter, from, scratch) else {
             return None;
         };
         if !program.passes_over {
@@ -160,12 +208,12 @@ fn choose<C: Cursor>(
 }
 
 /// Returns the walk that a search chooses, and writes its slots. Without a match the slots stay as
-/// they are. Walks enter at the place `root`, which stands for place 0.
+/// they are.
 fn choose_in<C: Cursor>(
     cache: &mut Cache,
     input: &mut Input<C>,
     program: &Program,
-    root: usize,
+    rule: Rule,
     prefilter: Option<&Prefilter>,
     slots: &mut [Option<usize>],
 ) -> Option<Ending>
@@ -174,10 +222,11 @@ fn choose_in<C: Cursor>(
         (needles_of p.now)) }
     requires made { IsCacheFor (length program.now.places.items)
         (row_width (places_of program.now.places.items) (length slots.old)) cache.old }
-    requires root { root < length program.now.places.items }
-    requires stands { StandsIn (search_of program.now input.old) root }
+    requires enters { MayEnter (length program.now.places.items)
+        (StandsIn (search_of program.now input.old)) rule }
     ensures keeps { Keeps input.old input.new }
-    ensures chosen { IsResult (search_of program.now input.old) result slots.new }
+    ensures chosen { IsPickedBy last_visit (search_of program.now input.old)
+        (picked_by rule (search_of program.now input.old)) result slots.new }
     ensures stays { IfNone result (slots.new ≡ slots.old) }
     ensures cache { cache.new ≡ record cache.old { insertions = cache.new.insertions } }
     ensures counted { IsCounted cache.new.insertions result }
@@ -186,16 +235,16 @@ fn choose_in<C: Cursor>(
     ensures none { high input.old < low input.old → cache.new.insertions ≡ 0 }
 {
     cache.scratch.widen(program.width(slots.len()));
-    if let Some(end) = choose(input, program, root, prefilter, &mut cache.scratch) {
+    if let Some(end) = choose(input, program, rule, prefilter, &mut cache.scratch) {
         put_groups(program, end.pattern, &cache.scratch.found, slots);
         return Some(end);
     }
     None
 }
 
-/// Returns the pattern of the leftmost-first match, and writes the first of its slots, as many as
-/// `slots` has. Without a match the slots stay as they are. The earliest flag is not read. The
-/// program says whether matches that end off a boundary are passed over. With a prefilter, the
+/// Returns the pattern of the match that the rule chooses, and writes the first of its slots, as
+/// many as `slots` has. Without a match the slots stay as they are. The earliest flag is not read.
+/// The program says whether matches that end off a boundary are passed over. With a prefilter, the
 /// search goes from needle to needle while no thread is under way.
 ///
 /// The cache must be made for programs of as many places, and for rows as wide as these slots need,
@@ -204,6 +253,7 @@ pub fn search_slots<C: Cursor>(
     cache: &mut Cache,
     input: &mut Input<C>,
     program: &Program,
+    rule: Rule,
     prefilter: Option<&Prefilter>,
     slots: &mut [Option<usize>],
 ) -> Option<PatternID>
@@ -212,57 +262,25 @@ pub fn search_slots<C: Cursor>(
         (needles_of p.now)) }
     requires made { IsCacheFor (length program.now.places.items)
         (row_width (places_of program.now.places.items) (length slots.old)) cache.old }
+    requires enters { MayEnter (length program.now.places.items)
+        (StandsIn (search_of program.now input.old)) rule }
     ensures keeps { Keeps input.old input.new }
     ensures pattern { result ≡ option_map (λ (m : Found). m.pattern)
-        (answer (search_of program.now input.old)) }
+        (answer_by (kind_of rule) (search_of program.now input.old)) }
     ensures long { length slots.new ≡ length slots.old }
     ensures slots { MatchOption result
         (slots.new ≡ slots.old)
-        (λ _. Some slots.new ≡ groups (search_of program.now input.old) (length slots.old)) }
+        (λ _. Some slots.new
+        ≡ slots_by (kind_of rule) (search_of program.now input.old) (length slots.old)) }
     ensures cache { cache.new ≡ record cache.old { insertions = cache.new.insertions } }
     ensures none { high input.old < low input.old → cache.new.insertions ≡ 0 }
     ensures few { cache.new.insertions ≤ length program.now.places.items
         * (high input.old - low input.old + 2) }
-    ensures counted { (m : Found) → answer (search_of program.now input.old) ≡ Some m
+    ensures counted { (m : Found)
+        → answer_by (kind_of rule) (search_of program.now input.old) ≡ Some m
         → m.end - m.start + 1 ≤ cache.new.insertions }
 {
-    search_slots_from(cache, input, program, 0, prefilter, slots)
-}
-
-/// Returns the pattern of the leftmost-first match, and writes its slots, as `search_slots` does. A
-/// thread may enter at the place `root` instead of place 0: the first walk from `root` is, after
-/// choices, the first from place 0. So a search for one pattern enters at that pattern's own place,
-/// and no thread sets out for another pattern.
-pub fn search_slots_from<C: Cursor>(
-    cache: &mut Cache,
-    input: &mut Input<C>,
-    program: &Program,
-    root: usize,
-    prefilter: Option<&Prefilter>,
-    slots: &mut [Option<usize>],
-) -> Option<PatternID>
-    requires guarded { MatchOption prefilter ⊤
-        (λ p. Guards (places_of program.now.places.items) program.now.terminator
-        (needles_of p.now)) }
-    requires made { IsCacheFor (length program.now.places.items)
-        (row_width (places_of program.now.places.items) (length slots.old)) cache.old }
-    requires root { root < length program.now.places.items }
-    requires stands { StandsIn (search_of program.now input.old) root }
-    ensures keeps { Keeps input.old input.new }
-    ensures pattern { result ≡ option_map (λ (m : Found). m.pattern)
-        (answer (search_of program.now input.old)) }
-    ensures long { length slots.new ≡ length slots.old }
-    ensures slots { MatchOption result
-        (slots.new ≡ slots.old)
-        (λ _. Some slots.new ≡ groups (search_of program.now input.old) (length slots.old)) }
-    ensures cache { cache.new ≡ record cache.old { insertions = cache.new.insertions } }
-    ensures none { high input.old < low input.old → cache.new.insertions ≡ 0 }
-    ensures few { cache.new.insertions ≤ length program.now.places.items
-        * (high input.old - low input.old + 2) }
-    ensures counted { (m : Found) → answer (search_of program.now input.old) ≡ Some m
-        → m.end - m.start + 1 ≤ cache.new.insertions }
-{
-    let Some(end) = choose_in(cache, input, program, root, prefilter, slots) else {
+    let Some(end) = choose_in(cache, input, program, rule, prefilter, slots) else {
         return None;
     };
     put_match(end, slots);
@@ -272,7 +290,7 @@ pub fn search_slots_from<C: Cursor>(
     Some(pattern)
 }
 
-/// Returns the leftmost-first match. The earliest flag is not read. The program says whether
+/// Returns the match that the rule chooses. The earliest flag is not read. The program says whether
 /// matches that end off a boundary are passed over. With a prefilter, the search goes from needle
 /// to needle while no thread is under way.
 ///
@@ -281,14 +299,17 @@ pub fn find<C: Cursor>(
     cache: &mut Cache,
     input: &mut Input<C>,
     program: &Program,
+    rule: Rule,
     prefilter: Option<&Prefilter>,
 ) -> Option<Match>
     requires guarded { MatchOption prefilter ⊤
         (λ p. Guards (places_of program.now.places.items) program.now.terminator
         (needles_of p.now)) }
     requires made { IsCacheFor (length program.now.places.items) 0 cache.old }
+    requires enters { MayEnter (length program.now.places.items)
+        (StandsIn (search_of program.now input.old)) rule }
     ensures keeps { Keeps input.old input.new }
-    ensures found { result ≡ answer (search_of program.now input.old) }
+    ensures found { result ≡ answer_by (kind_of rule) (search_of program.now input.old) }
     ensures bounds { MatchOption result ⊤ (IsWithinBounds input.old) }
     ensures cache { cache.new ≡ record cache.old { insertions = cache.new.insertions } }
     ensures none { high input.old < low input.old → cache.new.insertions ≡ 0 }
@@ -296,7 +317,7 @@ pub fn find<C: Cursor>(
         * (high input.old - low input.old + 2) }
     ensures counted { MatchOption result ⊤ (λ m. m.end - m.start + 1 ≤ cache.new.insertions) }
 {
-    let Some(end) = choose_in(cache, input, program, 0, prefilter, &mut []) else {
+    let Some(end) = choose_in(cache, input, program, rule, prefilter, &mut []) else {
         return None;
     };
     let Some(pattern) = PatternID::new(end.pattern) else {

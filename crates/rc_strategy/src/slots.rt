@@ -11,7 +11,7 @@ ghost use Rattle.rc_strategy.specs.Slots.{IsOfPatterns, NamesGroups};
 use crate::entries::entry_of;
 use crate::longest::search_longest_span;
 use rc_pikevm::cache::Cache;
-use rc_pikevm::search::search_slots_from;
+use rc_pikevm::search::{Rule, search_slots};
 use rc_pikevm_search::engine::Engine;
 use rc_text::cursor::Cursor;
 use rc_text::input::Input;
@@ -56,7 +56,7 @@ fn search_span<C: Cursor>(
     let root = entry_of(&program.places, found.pattern().as_usize());
     input.set_range(found.start(), found.end());
     input.set_anchored(Anchored::Pattern(found.pattern()));
-    search_slots_from(cache, input, program, root, None, slots);
+    search_slots(cache, input, program, Rule::First(root), None, slots);
     input.set_anchored(anchored);
     input.set_span(span);
 }

@@ -39,13 +39,12 @@ stands g c =
     root_stands c.args.engine.now.program.places.items (engine_search c.args.engine.now c.args.input.now) c.args.found c.entry_of-root.result c.requires.program refl
     c.requires.found (entered g c)
 
-pub search_slots_from-requires-clause-root : goal.search_slots_from-requires-clause-root
-search_slots_from-requires-clause-root g c = (stands g (goal.at.search_slots_from-requires-clause-root g c).After-set_anchored).0
-
-pub search_slots_from-requires-clause-stands : goal.search_slots_from-requires-clause-stands
-search_slots_from-requires-clause-stands g c =
-    let here = (goal.at.search_slots_from-requires-clause-stands g c).After-set_anchored in
-    subst (λ s. StandsIn s c.entry_of-root.result) (sym (over_span g here)) (stands g here).1
+pub search_slots-requires-clause-enters : goal.search_slots-requires-clause-enters
+search_slots-requires-clause-enters g c =
+    let here = (goal.at.search_slots-requires-clause-enters g c).After-set_anchored in (
+      (stands g here).0,
+      subst (λ s. StandsIn s c.entry_of-root.result) (sym (over_span g here)) (stands g here).1,
+    )
 
 pub set_span-requires : goal.set_span-requires
 set_span-requires g c =
@@ -56,5 +55,5 @@ set_span-requires g c =
 pub returns-clause-slots : goal.returns-clause-slots
 returns-clause-slots g c =
     narrow_told (engine_search c.args.engine.now c.args.input.now) (engine_search c.args.engine.now c.set_anchored.new.self) c.args.found
-    c.search_slots_from.result c.args.slots.now c.search_slots_from.new.slots (length c.args.slots.now)
-    (over_span g (goal.at.returns-clause-slots g c).After-set_anchored) c.requires.found c.search_slots_from.ensures.pattern c.search_slots_from.ensures.slots
+    c.search_slots.result c.args.slots.now c.search_slots.new.slots (length c.args.slots.now)
+    (over_span g (goal.at.returns-clause-slots g c).After-set_anchored) c.requires.found c.search_slots.ensures.pattern c.search_slots.ensures.slots
