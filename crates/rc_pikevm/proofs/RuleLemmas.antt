@@ -16,8 +16,8 @@ use Rattle.rc_pikevm.specs.KindSlots.{slots_by}
 use Rattle.rc_pikevm.specs.Roots.{StandsFor, StandsIn}
 use Rattle.rc_pikevm.specs.Rules.{GivesBy, MayEnter, kind_of, picked_by}
 use Rattle.rc_pikevm.specs.declared.pass.Ending.{Ending}
-use Rattle.rc_pikevm.specs.declared.search.Rule.{Rule}
-use Rattle.rc_pikevm.specs.declared.search.Rule.TheVariants.{First, Longest}
+use Rattle.rc_pikevm.specs.declared.rule.Rule.{Rule}
+use Rattle.rc_pikevm.specs.declared.rule.Rule.TheVariants.{First, Longest}
 use Rattle.rc_pikevm.proofs.RootLemmas.{stands_kept}
 use Rattle.rc_pikevm.proofs.OwnLemmas.{IsSpread, chosen_spread, longest_spread}
 use Rattle.rc_pikevm.proofs.SearchLemmas as first

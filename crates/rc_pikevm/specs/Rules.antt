@@ -1,16 +1,19 @@
 -- Only proofs use this file.
 -- Search rules: which walk of the least start a search chooses.
-use Rattle.std.specs.Prelude.{ℕ, ◌<◌, Option}
+use Rattle.std.specs.Prelude.{ℕ, ◌+◌, ◌-◌, ◌*◌, ◌<◌, ◌≤◌, List, [], ◌++◌, map, Option}
 use Rattle.rc_text.specs.declared.types.MatchKind.{MatchKind}
 use Rattle.rc_text.specs.declared.types.MatchKind.TheVariants.{LeftmostFirst as leftmost_first, LeftmostLongest as leftmost_longest}
 use Rattle.rc_program.specs.Answer.{Search, Chosen, chosen}
 use Rattle.rc_program.specs.Longest.{longest_chosen}
 use Rattle.rc_pikevm.specs.Sights.{Sight}
 use Rattle.rc_pikevm.specs.Trace.{Trace}
-use Rattle.rc_pikevm.specs.Passing.{GivesTrace}
-use Rattle.rc_pikevm.specs.Races.{GivesLongest}
-use Rattle.rc_pikevm.specs.declared.search.Rule.{Rule}
-use Rattle.rc_pikevm.specs.declared.search.Rule.TheVariants.{First, Longest}
+use Rattle.rc_walks.specs.Walks.{Pair}
+use Rattle.rc_pikevm.specs.Threads.{ThreadList}
+use Rattle.rc_pikevm.specs.Passing.{GivesTrace, IsCounted, IsLined, Pending, Tells, pending}
+use Rattle.rc_pikevm.specs.Races.{GivesLongest, Races, starts_to}
+use Rattle.rc_pikevm.specs.declared.pass.Ending.{Ending}
+use Rattle.rc_pikevm.specs.declared.rule.Rule.{Rule}
+use Rattle.rc_pikevm.specs.declared.rule.Rule.TheVariants.{First, Longest}
 
 -- The kind of match that the rule chooses.
 abbrev pub kind_of : Rule → MatchKind
@@ -27,7 +30,39 @@ abbrev pub picked_by : Rule → Search → Option Chosen
 picked_by (First root) s = chosen s
 picked_by Longest s = longest_chosen s
 
+-- The place at which walks enter.
+abbrev pub root_of : Rule → ℕ
+root_of (First root) = root
+root_of Longest = 0
+
+-- By the rule, the one or the other.
+abbrev pub Under : Rule → Type 0 → Type 0 → Type 0
+Under (First root) A B = A
+Under Longest A B = B
+
 -- What a pass over the starts from `from` to `last` gives.
 abbrev pub GivesBy : Rule → Sight → ℕ → ℕ → ℕ → Option Trace → Type 0
-GivesBy (First root) s width from last o = GivesTrace s width from last o
-GivesBy Longest s width from last o = GivesLongest s width from last o
+GivesBy rule s width from last o = Under rule (GivesTrace s width from last o) (GivesLongest s width from last o)
+
+-- What a pass for the first walk tells, also if it ends where some walk does.
+abbrev pub TellsBy : Rule → Sight → ℕ → ℕ → Option Ending → Type 0
+TellsBy rule s from last best = Under rule (Tells s from last best) (Unit {0})
+
+-- A pass from the start `from` on has come to the position `at`.
+pub record IsUnderWay (rule : Rule) (s : Sight) (n hi width from last at insertions : ℕ) (curr : ThreadList) (best : Option Ending)
+    (found : List (Option ℕ)) : Type 0 where
+  pub law : Under rule ((o : Option Trace) → Pending s width last at curr.items best found o → GivesTrace s width from last o)
+      (Races s (starts_to width from last) at [] [] (map pending curr.items ++ starts_to width at last) best found)
+  pub lined : IsLined n hi width at insertions curr
+  pub ended : IsCounted insertions best
+  pub few : insertions ≤ n * (at - from)
+  pub reached : from ≤ at
+  pub within : at ≤ hi + 1
+
+-- What is under way before the next position gives what is under way before `at`.
+abbrev pub Turns : Rule → Sight → ℕ → ℕ → ℕ → ThreadList → ThreadList → Option Ending → Option Ending → List (Option ℕ) → List (Option ℕ) → Type 0
+Turns rule s width last at curr next best best2 found found2 =
+    Under rule
+    ((o : Option Trace) → Pending s width last (at + 1) next.items best2 found2 o → Pending s width last at curr.items best found o)
+    ((all : List (Trace × Pair)) → Races s all at [] [] (map pending curr.items ++ starts_to width at last) best found →
+    Races s all (at + 1) [] [] (map pending next.items ++ starts_to width (at + 1) last) best2 found2)

@@ -17,7 +17,8 @@ ghost use Rattle.rc_pikevm.specs.KindSlots.{span_slots, slots_by};
 
 use crate::cache::Cache;
 use crate::greatest::find_greatest;
-use crate::search::{Rule, find, meets_any, search_slots};
+use crate::rule::Rule;
+use crate::search::{find, meets_any, search_slots};
 use rc_needles::prefilter::Prefilter;
 use rc_program::program::Program;
 use rc_text::cursor::Cursor;

@@ -1,4 +1,4 @@
-//! The Pike VM: one pass over a text, for the leftmost-first match.
+//! The Pike VM: one pass over a text, for the first or the longest match of the least start.
 //!
 //! Take `a|ab` over `xab`. Place 0 is a choice of 1 or 8, place 1 of 2 or 3, place 3 of 4 or 6.
 //! Places 2 and 4 read `a`, place 5 reads `b`, place 7 is the match, 6 and 8 are dead ends.
@@ -9,7 +9,7 @@
 //!      2   b    (7, start 1) (5, start 1)  the first matches 1..2, so the second is dropped
 //!
 //! No thread is left, so the pass returns 1..2.
-ghost use Rattle.std.specs.Prelude.{◌≡◌, ℕ, ◌+◌, ◌-◌, ◌*◌, ◌<◌, ◌≤◌, ◌⊎◌, ⊤, List, [], ◌∷◌, ◌++◌, length, map, min, Option, None, Some, MatchOption, Bool, true, false, replicate, ◌^◌, IsTrue, is_none, vec_capacity};
+ghost use Rattle.std.specs.Prelude.{◌≡◌, ℕ, ◌+◌, ◌-◌, ◌*◌, ◌<◌, ◌≤◌, ◌⊎◌, ⊤, List, [], ◌∷◌, ◌++◌, length, map, min, Option, None, Some, MatchOption, true, false, replicate, ◌^◌, IsTrue, is_none, vec_capacity};
 ghost use Rattle.rc_walks.specs.Walks.{Pair};
 ghost use Rattle.rc_text.specs.Text.{Searched, Keeps, low, high};
 ghost use Rattle.rc_pikevm.specs.Sights.{HasNoWalkFrom};
@@ -23,8 +23,9 @@ ghost use Rattle.rc_pikevm.specs.Near.{IsHere, seen_from, size};
 ghost use Rattle.rc_pikevm.specs.Moves.{IsSetting, seen_by};
 ghost use Rattle.rc_pikevm.specs.Roots.{StandsFor};
 ghost use Rattle.rc_pikevm.specs.Trace.{Trace, done};
-ghost use Rattle.rc_pikevm.specs.Passing.{Carries, pending, AllIn, AllFrom, count_from, HasRoom, waiting_starts, Pending, IsCounted, GivesTrace, Tells, best_of};
+ghost use Rattle.rc_pikevm.specs.Passing.{Carries, pending, AllIn, AllFrom, count_from, HasRoom, waiting_starts, Pending, IsCounted, best_of};
 ghost use Rattle.rc_pikevm.specs.Scratches.{IsSame};
+ghost use Rattle.rc_pikevm.specs.Rules.{GivesBy, MayEnter, TellsBy, Turns};
 ghost use Rattle.rc_pikevm.specs.Underway.{IsInLine};
 
 use crate::alone::{FastPath, glide};
@@ -32,6 +33,9 @@ use crate::closure::close;
 use crate::entrance::way_in;
 use crate::growth::{Growth, copy_row};
 use crate::heads::is_dead;
+use crate::race;
+use crate::race::{is_over, is_spent};
+use crate::rule::{Rule, root_of};
 use crate::scratch::Scratch;
 use crate::spot::{Course, Spot};
 use crate::threads::{BareThread, Threads};
@@ -42,7 +46,7 @@ use rc_text::cursor::Cursor;
 use rc_text::input::Input;
 
 /// How many times in a row the fast path may fail before it is no longer tried.
-pub(crate) const PATIENCE: u32 = 4;
+const PATIENCE: u32 = 4;
 
 /// A walk that has ended.
 #[derive(Clone, Copy)]
@@ -266,6 +270,31 @@ fn turn(spot: &Spot, root: usize, best: Option<Ending>, scratch: &mut Scratch) -
     best
 }
 
+/// Handles one position of a pass by its rule. The best walk that has ended so far is `best`, with
+/// its slots in `found`.
+fn turn_by(spot: &Spot, rule: Rule, best: &mut Option<Ending>, scratch: &mut Scratch)
+    ghost text: { Searched }
+    requires here { IsHere spot.now text }
+    requires made { scratch.old.next.entered.capacity ≡ size spot.now.course }
+    requires lined { IsInLine spot.now.course scratch.old.next.threads.width spot.now.at scratch.old }
+    requires counted { IsCounted scratch.old.insertions best.old }
+    requires small { scratch.old.insertions + size spot.now.course < 2 ^ 128 }
+    requires enters { MayEnter (size spot.now.course) (StandsFor (seen_from spot.now text)) rule }
+    ensures turns { Turns rule (seen_from spot.now text) scratch.old.next.threads.width
+        spot.now.course.last spot.now.at scratch.old.curr scratch.new.curr best.old best.new
+        scratch.old.found.items scratch.new.found.items }
+    ensures lined { IsInLine spot.now.course scratch.old.next.threads.width (spot.now.at + 1)
+        scratch.new }
+    ensures same { IsSame scratch.old scratch.new }
+    ensures counted { IsCounted scratch.new.insertions best.new }
+    ensures few { scratch.new.insertions ≤ scratch.old.insertions + size spot.now.course }
+{
+    match rule {
+        Rule::First(root) => *best = turn(spot, root, *best, scratch),
+        Rule::Longest => race::turn(spot, best, scratch),
+    }
+}
+
 /// Ends the walk of the only thread at the position, as a match of the pattern. Returns that match,
 /// with its slots in `found`.
 #[inline(always)]
@@ -355,7 +384,7 @@ pub fn set_out_alone(course: Course, at: usize, root: usize, next: usize, scratc
 
 /// Returns how many more times the fast path is tried. Success resets the count, and a failure with
 /// at most one thread lowers it.
-pub(crate) fn patience_left(patience: u32, has_moved: bool, threads: usize) -> u32 {
+fn patience_left(patience: u32, has_moved: bool, threads: usize) -> u32 {
     if has_moved {
         return PATIENCE;
     }
@@ -378,15 +407,8 @@ pub fn is_done(curr: &Threads, best: Option<Ending>, at: usize, last: usize) -> 
     at >= last
 }
 
-/// Whether no thread is left and a match was found.
-fn is_over(curr: &Threads, best: Option<Ending>) -> bool
-    ensures { IsTrue result → (length curr.now.items ≡ 0) × (is_none best ≡ false) }
-{
-    curr.len() == 0 && best.is_some()
-}
-
 /// Whether no thread is left and no match was found.
-pub(crate) fn is_idle(curr: &Threads, best: Option<Ending>) -> bool
+fn is_idle(curr: &Threads, best: Option<Ending>) -> bool
     ensures { IsTrue result → (length curr.now.items ≡ 0) × (is_none best ≡ true) }
 {
     curr.len() == 0 && best.is_none()
@@ -426,16 +448,16 @@ pub(crate) fn next_position<C: Cursor>(
     Some(hit.start)
 }
 
-/// Runs one pass over the positions from `from` on. Returns the first walk of the least start that
-/// has one, with its slots in `found`. Without a match, `found` stays as it is.
+/// Runs one pass over the positions from `from` on. Returns the walk of the least start that the
+/// rule chooses, with its slots in `found`. Without a match, `found` stays as it is.
 ///
 /// A place is entered once at a position, and `insertions` counts how many are. With a prefilter,
 /// starts at which no needle occurs are skipped while no thread is under way. With `earliest`, the
 /// pass ends at the first position at which some walk ends, and returns that walk.
-#[tactic(auto, using(crate::proofs::RootLemmas::stands_itself))]
-pub fn pass<C: Cursor>(
+pub(crate) fn pass<C: Cursor>(
     input: &mut Input<C>,
     course: Course,
+    rule: Rule,
     prefilter: Option<&Prefilter>,
     from: usize,
     earliest: bool,
@@ -449,44 +471,12 @@ pub fn pass<C: Cursor>(
         (needles_of p.now)) }
     requires bounds { (low text ≤ from) × (from ≤ course.last) }
     requires made { scratch.old.next.entered.capacity ≡ size course }
+    requires enters { MayEnter (size course) (StandsFor (seen_by course text)) rule }
     ensures keeps { Keeps input.old input.new }
-    ensures gives { earliest ≡ false → GivesTrace
+    ensures gives { earliest ≡ false → GivesBy rule
         (seen_by course.entry text) scratch.old.next.threads.width from course.entry.last
         (best_of result scratch.new.found.items) }
-    ensures tells { Tells (seen_by course.entry text) from course.entry.last result }
-    ensures counted { IsCounted scratch.new.insertions result }
-    ensures few { scratch.new.insertions ≤ size course.entry * (course.entry.hi - from + 1) }
-    ensures same { IsSame scratch.old scratch.new }
-{
-    pass_from(input, course, 0, prefilter, from, earliest, scratch)
-}
-
-/// Runs one pass over the positions from `from` on, as described at `pass`. A thread that sets out
-/// while no other is under way enters at the place `root`, which stands for place 0.
-pub(crate) fn pass_from<C: Cursor>(
-    input: &mut Input<C>,
-    course: Course,
-    root: usize,
-    prefilter: Option<&Prefilter>,
-    from: usize,
-    earliest: bool,
-    scratch: &mut Scratch,
-) -> Option<Ending>
-    ghost text: { Searched }
-    requires same { Keeps text input.old }
-    requires setting { IsSetting course text }
-    requires guarded { MatchOption prefilter ⊤
-        (λ p. Guards (places_of course.program.now.places.items) course.program.now.terminator
-        (needles_of p.now)) }
-    requires bounds { (low text ≤ from) × (from ≤ course.last) }
-    requires made { scratch.old.next.entered.capacity ≡ size course }
-    requires root { root < size course }
-    requires stands { StandsFor (seen_by course text) root }
-    ensures keeps { Keeps input.old input.new }
-    ensures gives { earliest ≡ false → GivesTrace
-        (seen_by course.entry text) scratch.old.next.threads.width from course.entry.last
-        (best_of result scratch.new.found.items) }
-    ensures tells { Tells (seen_by course.entry text) from course.entry.last result }
+    ensures tells { TellsBy rule (seen_by course.entry text) from course.entry.last result }
     ensures counted { IsCounted scratch.new.insertions result }
     ensures few { scratch.new.insertions ≤ size course.entry * (course.entry.hi - from + 1) }
     ensures same { IsSame scratch.old scratch.new }
@@ -497,6 +487,7 @@ pub(crate) fn pass_from<C: Cursor>(
     let mut window = open(input, from);
     let mut at = from;
     let mut patience = PATIENCE;
+    let root = root_of(rule);
     'positions: while at <= course.hi {
         let idle = is_idle(&scratch.curr, best);
         let Some(next_at) = next_position(input, course, prefilter, at, idle) else {
@@ -510,15 +501,15 @@ pub(crate) fn pass_from<C: Cursor>(
         };
         let here = glide(course, &window, root, fast, &mut best, at, scratch);
         patience = patience_left(patience, here > at, scratch.curr.len());
-        if is_over(&scratch.curr, best) {
+        if is_spent(&scratch.curr, best, here) {
             return best;
         }
         at = here;
-        best = turn(&spot_at(course, &window, at), root, best, scratch);
+        turn_by(&spot_at(course, &window, at), rule, &mut best, scratch);
         if earliest && best.is_some() {
             return best;
         }
-        if is_done(&scratch.curr, best, at, course.last) {
+        if is_over(&scratch.curr, best, at, course.last) {
             return best;
         }
         at += 1;

@@ -1,32 +1,23 @@
-//! The Pike VM for leftmost-longest: one pass over a text for the longest walk of the least start.
-//! A match drops the threads of later starts, and no other.
-ghost use Rattle.std.specs.Prelude.{◌≡◌, ℕ, ◌+◌, ◌-◌, ◌*◌, ◌<◌, ◌≤◌, ◌⊎◌, ⊤, ◌^◌, List, [], ◌++◌, length, map, min, Option, MatchOption, IsTrue};
+//! The Pike VM for leftmost-longest: how the threads go on at a position in a pass for the longest
+//! walk of the least start. A match drops the threads of later starts, and no other.
+ghost use Rattle.std.specs.Prelude.{◌≡◌, ℕ, ◌+◌, ◌-◌, ◌*◌, ◌<◌, ◌≤◌, ◌⊎◌, ◌^◌, List, [], ◌++◌, length, map, min, Option, IsTrue};
 ghost use Rattle.rc_walks.specs.Walks.{Pair};
-ghost use Rattle.rc_text.specs.Text.{Searched, Keeps, low};
-ghost use Rattle.rc_needles.specs.Guards.{Guards};
-ghost use Rattle.rc_needles.specs.Prefilters.{needles_of};
-ghost use Rattle.rc_program.specs.Places.{places_of};
+ghost use Rattle.rc_text.specs.Text.{Searched};
 ghost use Rattle.rc_pikevm.specs.Near.{IsHere, seen_from, size};
-ghost use Rattle.rc_pikevm.specs.Moves.{IsSetting, seen_by};
 ghost use Rattle.rc_pikevm.specs.Trace.{Trace};
-ghost use Rattle.rc_pikevm.specs.Passing.{pending, AllIn, AllFrom, count_from, HasRoom, IsCounted, best_of};
-ghost use Rattle.rc_pikevm.specs.Races.{Races, IsCutOff, starts_to, GivesLongest};
+ghost use Rattle.rc_pikevm.specs.Passing.{pending, AllIn, AllFrom, count_from, HasRoom, IsCounted};
+ghost use Rattle.rc_pikevm.specs.Races.{Races, IsCutOff, starts_to};
 ghost use Rattle.rc_pikevm.specs.Scratches.{IsSame};
 ghost use Rattle.rc_pikevm.specs.Underway.{IsInLine};
 
-use crate::alone::{FastPath, glide};
 use crate::entrance::way_in;
 use crate::growth::{Growth, copy_row};
 use crate::heads::is_dead;
-use crate::pass::{Ending, PATIENCE, empty, is_idle, next_position, patience_left};
+use crate::pass::{Ending, empty};
 use crate::race_closure::{is_sought, run};
 use crate::scratch::Scratch;
-use crate::spot::{Course, Spot};
+use crate::spot::Spot;
 use crate::threads::Threads;
-use crate::window::{open, reach, spot_at};
-use rc_needles::prefilter::Prefilter;
-use rc_text::cursor::Cursor;
-use rc_text::input::Input;
 
 /// Advances the threads of `curr` at the spot, in order. Threads that wait for a later position are
 /// appended to `growth` as they are. Threads of later starts than the best walk's are dropped.
@@ -138,7 +129,7 @@ fn advance(
 }
 
 /// Handles one position of a pass: advances the threads, and counts the places entered.
-fn turn(spot: &Spot, best: &mut Option<Ending>, scratch: &mut Scratch)
+pub(crate) fn turn(spot: &Spot, best: &mut Option<Ending>, scratch: &mut Scratch)
     ghost text: { Searched }
     requires here { IsHere spot.now text }
     requires made { scratch.old.next.entered.capacity ≡ size spot.now.course }
@@ -172,7 +163,7 @@ fn turn(spot: &Spot, best: &mut Option<Ending>, scratch: &mut Scratch)
 }
 
 /// Whether a pass is over after the position `at`: no thread is left, and none will set out.
-fn is_over(curr: &Threads, best: Option<Ending>, at: usize, last: usize) -> bool
+pub(crate) fn is_over(curr: &Threads, best: Option<Ending>, at: usize, last: usize) -> bool
     ensures { IsTrue result → (length curr.now.items ≡ 0) × ((last ≤ at) ⊎ IsCutOff best (at + 1)) }
 {
     if curr.len() > 0 {
@@ -182,68 +173,8 @@ fn is_over(curr: &Threads, best: Option<Ending>, at: usize, last: usize) -> bool
 }
 
 /// Whether no thread is left, and a start at the position couldn't give the answer.
-fn is_spent(curr: &Threads, best: Option<Ending>, at: usize) -> bool
+pub(crate) fn is_spent(curr: &Threads, best: Option<Ending>, at: usize) -> bool
     ensures { IsTrue result → (length curr.now.items ≡ 0) × IsCutOff best at }
 {
     curr.len() == 0 && !is_sought(best, at)
-}
-
-/// Runs one pass over the positions from `from` on. Returns the longest walk of the least start
-/// that has one, with its slots in `found`. Without a match, `found` stays as it is.
-///
-/// A place is entered once at a position, and `insertions` counts how many are. With a prefilter,
-/// starts at which no needle occurs are skipped while no thread is under way.
-pub fn race<C: Cursor>(
-    input: &mut Input<C>,
-    course: Course,
-    prefilter: Option<&Prefilter>,
-    from: usize,
-    scratch: &mut Scratch,
-) -> Option<Ending>
-    ghost text: { Searched }
-    requires same { Keeps text input.old }
-    requires setting { IsSetting course text }
-    requires guarded { MatchOption prefilter ⊤
-        (λ p. Guards (places_of course.program.now.places.items) course.program.now.terminator
-        (needles_of p.now)) }
-    requires bounds { (low text ≤ from) × (from ≤ course.last) }
-    requires made { scratch.old.next.entered.capacity ≡ size course }
-    ensures keeps { Keeps input.old input.new }
-    ensures gives { GivesLongest (seen_by course.entry text) scratch.old.next.threads.width from
-        course.entry.last
-        (best_of result scratch.new.found.items) }
-    ensures counted { IsCounted scratch.new.insertions result }
-    ensures few { scratch.new.insertions ≤ size course.entry * (course.entry.hi - from + 1) }
-    ensures same { IsSame scratch.old scratch.new }
-{
-    let mut best: Option<Ending> = None;
-    scratch.insertions = 0;
-    scratch.curr.clear(scratch.next.slots.len());
-    let mut window = open(input, from);
-    let mut at = from;
-    let mut patience = PATIENCE;
-    'positions: while at <= course.hi {
-        let idle = is_idle(&scratch.curr, best);
-        let Some(next_at) = next_position(input, course, prefilter, at, idle) else {
-            return None;
-        };
-        at = next_at;
-        reach(&mut window, input, at);
-        let fast = FastPath {
-            alone: patience > 0,
-            skips: prefilter.is_none(),
-        };
-        let here = glide(course, &window, 0, fast, &mut best, at, scratch);
-        patience = patience_left(patience, here > at, scratch.curr.len());
-        if is_spent(&scratch.curr, best, here) {
-            return best;
-        }
-        at = here;
-        turn(&spot_at(course, &window, at), &mut best, scratch);
-        if is_over(&scratch.curr, best, at, course.last) {
-            return best;
-        }
-        at += 1;
-    }
-    best
 }

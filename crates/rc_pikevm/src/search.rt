@@ -1,10 +1,10 @@
 //! Leftmost search: from an input's bounds to a match and its slots, by passes of the Pike VM. If a
 //! match is passed over, another pass begins after its start.
-ghost use Rattle.std.specs.Prelude.{◌≡◌, is_some, ℕ, ◌+◌, ◌-◌, ◌*◌, ◌<◌, ◌≤◌, ◌^◌, List, length, vec_len, vec_capacity, Option, None, Some, MatchOption, if◌then◌else◌, slice_set, slice_index_or, min, IfNone, ⊤};
+ghost use Rattle.std.specs.Prelude.{if◌then◌else◌, ◌≡◌, is_some, ℕ, ◌+◌, ◌-◌, ◌*◌, ◌<◌, ◌≤◌, ◌^◌, length, Option, None, Some, MatchOption, slice_set, slice_index_or, min, IfNone, ⊤};
 ghost use Rattle.std.specs.Option.{option_map};
 ghost use Rattle.rc_text.specs.Found.{Found};
 ghost use Rattle.rc_text.specs.Bounds.{IsWithinBounds};
-ghost use Rattle.rc_text.specs.Text.{Searched, Keeps, low, high};
+ghost use Rattle.rc_text.specs.Text.{Keeps, low, high};
 ghost use Rattle.rc_text.specs.Limits.{greatest_pattern};
 ghost use Rattle.rc_program.specs.Answer.{only, is_anchored, last_visit};
 ghost use Rattle.rc_program.specs.Greatest.{greatest};
@@ -15,19 +15,17 @@ ghost use Rattle.rc_program.specs.Columns.{IsAmong, range_of, row_width};
 ghost use Rattle.rc_needles.specs.Guards.{Guards};
 ghost use Rattle.rc_needles.specs.Prefilters.{needles_of};
 ghost use Rattle.rc_program.specs.Places.{places_of};
-ghost use Rattle.rc_pikevm.specs.Passing.{IsCounted, best_of};
+ghost use Rattle.rc_pikevm.specs.Passing.{IsCounted};
 ghost use Rattle.rc_pikevm.specs.Found.{IsPickedBy, last_filled};
-ghost use Rattle.rc_pikevm.specs.Roots.{StandsFor, StandsIn};
-ghost use Rattle.rc_pikevm.specs.Rules.{GivesBy, MayEnter, kind_of, picked_by};
+ghost use Rattle.rc_pikevm.specs.Roots.{StandsIn};
+ghost use Rattle.rc_pikevm.specs.Rules.{MayEnter, kind_of, picked_by};
 ghost use Rattle.rc_pikevm.specs.KindSlots.{slots_by};
-ghost use Rattle.rc_pikevm.specs.Moves.{IsSetting, seen_by};
-ghost use Rattle.rc_pikevm.specs.Near.{size};
 ghost use Rattle.rc_pikevm.specs.Caches.{IsCacheFor};
 ghost use Rattle.rc_pikevm.specs.Scratches.{IsSame};
 
 use crate::cache::Cache;
-use crate::pass::{Ending, pass, pass_from};
-use crate::race::race;
+use crate::pass::{Ending, pass};
+use crate::rule::Rule;
 use crate::scratch::Scratch;
 use crate::spot::Course;
 use rc_needles::prefilter::Prefilter;
@@ -113,48 +111,6 @@ pub(crate) fn put_groups(
     }
 }
 
-/// Which walk of the least start a search chooses.
-#[derive(Clone, Copy)]
-pub enum Rule {
-    /// The first. Walks enter at this place, which stands for place 0: the first walk from it is,
-    /// after choices, the first from place 0. So a search for one pattern enters at that pattern's
-    /// own place, and no thread sets out for another pattern.
-    First(usize),
-    /// The longest.
-    Longest,
-}
-
-/// Runs the pass that finds the walk of the rule, from the start `from` on.
-fn run_pass<C: Cursor>(
-    input: &mut Input<C>,
-    course: Course,
-    rule: Rule,
-    prefilter: Option<&Prefilter>,
-    from: usize,
-    scratch: &mut Scratch,
-) -> Option<Ending>
-    ghost text: { Searched }
-    requires same { Keeps text input.old }
-    requires setting { IsSetting course text }
-    requires guarded { MatchOption prefilter ⊤
-        (λ p. Guards (places_of course.program.now.places.items) course.program.now.terminator
-        (needles_of p.now)) }
-    requires bounds { (low text ≤ from) × (from ≤ course.last) }
-    requires made { scratch.old.next.entered.capacity ≡ size course }
-    requires enters { MayEnter (size course) (StandsFor (seen_by course text)) rule }
-    ensures keeps { Keeps input.old input.new }
-    ensures gives { GivesBy rule (seen_by course.entry text) scratch.old.next.threads.width from
-        course.entry.last (best_of result scratch.new.found.items) }
-    ensures counted { IsCounted scratch.new.insertions result }
-    ensures few { scratch.new.insertions ≤ size course.entry * (course.entry.hi - from + 1) }
-    ensures same { IsSame scratch.old scratch.new }
-{
-    match rule {
-        Rule::First(root) => pass_from(input, course, root, prefilter, from, false, scratch),
-        Rule::Longest => race(input, course, prefilter, from, scratch),
-    }
-}
-
 /// Returns the walk that a search chooses, with its row of slots in `found`, or None if there is
 /// none. As long as that match is passed over, another pass begins at the start after it.
 fn choose<C: Cursor>(
@@ -193,7 +149,7 @@ fn choose<C: Cursor>(
     };
     let mut from = lo;
     'starts: while from <= last {
-        let Some(end) = run_pass(input, course, rule, prefilter, from, scratch) else {
+        let Some(end) = pass(input, course, rule, prefilter, from, false, scratch) else {
             return None;
         };
         if !program.passes_over {
@@ -359,7 +315,7 @@ pub(crate) fn meets<C: Cursor>(
         pattern,
         last,
     };
-    pass(input, course, prefilter, lo, true, scratch)
+    pass(input, course, Rule::First(0), prefilter, lo, true, scratch)
 }
 
 /// Whether any walk begins at one of the search's starts, wherever it ends. The pass ends at the

@@ -1,4 +1,30 @@
+use Rattle.std.proofs.Common.{◌+◌, ◌-◌}
+use Rattle.rc_text.specs.Text.{Keeps}
+use Rattle.rc_pikevm.specs.Moves.{seen_by}
+use Rattle.rc_pikevm.specs.Near.{size}
+use Rattle.rc_pikevm.specs.Rules.{IsUnderWay}
+use Rattle.rc_pikevm.specs.Scratches.{IsSame}
+use Rattle.rc_pikevm.specs.Windows.{IsWindow, IsBegun}
 use Rattle.rc_pikevm.proofs.pass.pass.Given as goal
 
-abbrev pub ghost-pass_from : goal.ghost-pass_from
-ghost-pass_from g a = g.text
+abbrev pub invariant-positions : goal.invariant-positions
+invariant-positions g l = record {
+  keeps : Keeps g.text l.input;
+  window : IsWindow g.text l.window;
+  begun : IsBegun g.text l.at l.window;
+  come : IsUnderWay l.rule (seen_by l.course g.text) (size l.course) l.course.hi l.fn.scratch.next.threads.width l.from l.course.last l.at
+      l.scratch.insertions l.scratch.curr l.best l.scratch.found.items;
+  same : IsSame l.fn.scratch l.scratch;
+}
+
+abbrev pub decreases-positions : goal.decreases-positions
+decreases-positions g l = l.course.hi + 1 - l.at
+
+abbrev pub ghost-spot_at : goal.ghost-spot_at
+ghost-spot_at g a = g.text
+
+abbrev pub ghost-turn_by : goal.ghost-turn_by
+ghost-turn_by g a = g.text
+
+abbrev pub ghost-glide : goal.ghost-glide
+ghost-glide g a = g.text

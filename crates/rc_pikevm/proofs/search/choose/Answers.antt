@@ -1,4 +1,4 @@
-use Rattle.std.proofs.Common.{◌≡◌, ◌+◌, ◌-◌, ◌≤◌, length, sym, ap, subst, ◌∙◌, arith, rules}
+use Rattle.std.proofs.Common.{◌≡◌, ◌+◌, ◌-◌, ◌≤◌, length, refl, sym, ap, subst, ◌∙◌, arith, rules}
 use Rattle.std.proofs.Math.Nat.{mul-le-mul_left}
 use Rattle.rc_text.specs.Text.{is_boundary}
 use Rattle.rc_program.specs.Answer.{Search}
@@ -15,10 +15,10 @@ use Rattle.rc_pikevm.proofs.RuleLemmas.{chosen_by, end_by, enters_kept, high_by,
 use Rattle.rc_pikevm.specs.Roots.{StandsFor}
 use Rattle.rc_pikevm.proofs.search.choose.Given.{Over}
 use Rattle.rc_pikevm.proofs.search.choose.Goals as goal
-use Rattle.rc_pikevm.proofs.search.choose.Goals.{After-starts, After-run_pass}
+use Rattle.rc_pikevm.proofs.search.choose.Goals.{After-starts, After-pass}
 
-pub run_pass-requires : goal.run_pass-requires
-run_pass-requires g c =
+pub pass-requires : goal.pass-requires
+pass-requires g c =
     let enters : MayEnter (length c.args.program.now.places.items) (StandsFor (sight_of (seen c.args.program.now c.starts.input))) c.args.rule =
     enters_kept c.args.program.now c.args.input.now c.starts.input c.args.rule c.starts.invariant.keeps c.requires.enters in
     search rules
@@ -40,7 +40,7 @@ last_is g c =
     c.bounds-lo.ensures.high (ap anchoring_of (c.get_anchored.ensures ∙ c.bounds-lo.ensures.keeps.anchored))
     (omega (arith, c.if-lo-hi.false, c.bounds-lo.ensures.low, c.bounds-lo.ensures.high))
 
-last_there : (g : Over) (c : After-run_pass g) → c.starts_of-pattern.result.1
+last_there : (g : Over) (c : After-pass g) → c.starts_of-pattern.result.1
     ≡ last_start_of (search_of c.args.program.now c.args.input.now)
 last_there g c =
     last_found (search_of c.args.program.now c.args.input.now) c.starts_of-pattern.result.1
@@ -48,12 +48,12 @@ last_there g c =
     c.bounds-lo.ensures.high (ap anchoring_of (c.get_anchored.ensures ∙ c.bounds-lo.ensures.keeps.anchored))
     (omega (arith, c.if-lo-hi.false, c.bounds-lo.ensures.low, c.bounds-lo.ensures.high))
 
-gives : (g : Over) (c : After-run_pass g) →
+gives : (g : Over) (c : After-pass g) →
     GivesBy c.args.rule (sight_of (seen c.args.program.now c.args.input.now)) c.starts.scratch.next.threads.width c.starts.from c.starts_of-pattern.result.1
-    (best_of c.run_pass.result c.run_pass.new.scratch.found.items)
+    (best_of c.pass.result c.pass.new.scratch.found.items)
 gives g c =
-    subst (λ s. GivesBy c.args.rule (sight_of s) c.starts.scratch.next.threads.width c.starts.from c.starts_of-pattern.result.1 (best_of c.run_pass.result c.run_pass.new.scratch.found.items))
-    (kept_seen c.args.program.now c.args.input.now c.starts.input c.starts.invariant.keeps) c.run_pass.ensures.gives
+    subst (λ s. GivesBy c.args.rule (sight_of s) c.starts.scratch.next.threads.width c.starts.from c.starts_of-pattern.result.1 (best_of c.pass.result c.pass.new.scratch.found.items))
+    (kept_seen c.args.program.now c.args.input.now c.starts.input c.starts.invariant.keeps) (c.pass.ensures.gives refl)
 
 pub returns-then-lo-hi-clause-chosen : goal.returns-then-lo-hi-clause-chosen
 returns-then-lo-hi-clause-chosen g c =
@@ -64,65 +64,65 @@ pub returns-in_default-clause-chosen : goal.returns-in_default-clause-chosen
 returns-in_default-clause-chosen g c =
     let s : Search = search_of c.args.program.now c.args.input.now in
     left_by c.args.rule s c.starts.scratch.next.threads.width c.starts.from c.starts_of-pattern.result.1 c.starts.invariant.passed
-    (last_there g (goal.at.returns-in_default-clause-chosen g c).After-run_pass)
-    (none_by c.args.rule s c.starts.scratch.next.threads.width c.starts.from c.starts_of-pattern.result.1 c.run_pass.new.scratch.found.items
-    (subst (λ r. GivesBy c.args.rule (sight_of s) c.starts.scratch.next.threads.width c.starts.from c.starts_of-pattern.result.1 (best_of r c.run_pass.new.scratch.found.items)) c.in_default.is
-    (gives g (goal.at.returns-in_default-clause-chosen g c).After-run_pass)))
+    (last_there g (goal.at.returns-in_default-clause-chosen g c).After-pass)
+    (none_by c.args.rule s c.starts.scratch.next.threads.width c.starts.from c.starts_of-pattern.result.1 c.pass.new.scratch.found.items
+    (subst (λ r. GivesBy c.args.rule (sight_of s) c.starts.scratch.next.threads.width c.starts.from c.starts_of-pattern.result.1 (best_of r c.pass.new.scratch.found.items)) c.in_default.is
+    (gives g (goal.at.returns-in_default-clause-chosen g c).After-pass)))
 
 pub returns-then-not-program-clause-chosen : goal.returns-then-not-program-clause-chosen
 returns-then-not-program-clause-chosen g c =
     let s : Search = search_of c.args.program.now c.args.input.now in
-    let b = some_by c.args.rule s c.starts.scratch.next.threads.width c.starts.from c.starts_of-pattern.result.1 c.in-Some.end c.run_pass.new.scratch.found.items
-    (subst (λ r. GivesBy c.args.rule (sight_of s) c.starts.scratch.next.threads.width c.starts.from c.starts_of-pattern.result.1 (best_of r c.run_pass.new.scratch.found.items)) c.in-Some.is
-    (gives g (goal.at.returns-then-not-program-clause-chosen g c).After-run_pass)) in
+    let b = some_by c.args.rule s c.starts.scratch.next.threads.width c.starts.from c.starts_of-pattern.result.1 c.in-Some.end c.pass.new.scratch.found.items
+    (subst (λ r. GivesBy c.args.rule (sight_of s) c.starts.scratch.next.threads.width c.starts.from c.starts_of-pattern.result.1 (best_of r c.pass.new.scratch.found.items)) c.in-Some.is
+    (gives g (goal.at.returns-then-not-program-clause-chosen g c).After-pass)) in
     chosen_by c.args.rule s c.starts.scratch.next.threads.width c.starts.from c.starts_of-pattern.result.1 c.starts.invariant.passed
-    (last_there g (goal.at.returns-then-not-program-clause-chosen g c).After-run_pass) c.in-Some.end c.run_pass.new.scratch.found.items b.0
-    (c.run_pass.new.scratch.wide.0 ∙ c.in-Some.ensures.same.width) (omega (arith, c.starts.invariant.low.0, c.bounds-lo.ensures.low)) b.1
+    (last_there g (goal.at.returns-then-not-program-clause-chosen g c).After-pass) c.in-Some.end c.pass.new.scratch.found.items b.0
+    (c.pass.new.scratch.wide.0 ∙ c.in-Some.ensures.same.width) (omega (arith, c.starts.invariant.low.0, c.bounds-lo.ensures.low)) b.1
     (allowed_free s b.0 c.if-not-program.true)
 
 pub returns-then-is_boundary_at-clause-chosen : goal.returns-then-is_boundary_at-clause-chosen
 returns-then-is_boundary_at-clause-chosen g c =
     let s : Search = search_of c.args.program.now c.args.input.now in
-    let b = some_by c.args.rule s c.starts.scratch.next.threads.width c.starts.from c.starts_of-pattern.result.1 c.in-Some.end c.run_pass.new.scratch.found.items
-    (subst (λ r. GivesBy c.args.rule (sight_of s) c.starts.scratch.next.threads.width c.starts.from c.starts_of-pattern.result.1 (best_of r c.run_pass.new.scratch.found.items)) c.in-Some.is
-    (gives g (goal.at.returns-then-is_boundary_at-clause-chosen g c).After-run_pass)) in
+    let b = some_by c.args.rule s c.starts.scratch.next.threads.width c.starts.from c.starts_of-pattern.result.1 c.in-Some.end c.pass.new.scratch.found.items
+    (subst (λ r. GivesBy c.args.rule (sight_of s) c.starts.scratch.next.threads.width c.starts.from c.starts_of-pattern.result.1 (best_of r c.pass.new.scratch.found.items)) c.in-Some.is
+    (gives g (goal.at.returns-then-is_boundary_at-clause-chosen g c).After-pass)) in
     let content = c.in-Some.ensures.keeps.content ∙ c.starts.invariant.keeps.content in
     chosen_by c.args.rule s c.starts.scratch.next.threads.width c.starts.from c.starts_of-pattern.result.1 c.starts.invariant.passed
-    (last_there g (goal.at.returns-then-is_boundary_at-clause-chosen g c).After-run_pass) c.in-Some.end c.run_pass.new.scratch.found.items b.0
-    (c.run_pass.new.scratch.wide.0 ∙ c.in-Some.ensures.same.width) (omega (arith, c.starts.invariant.low.0, c.bounds-lo.ensures.low)) b.1
-    (allowed_boundary s b.0 c.in-Some.end.end (end_by c.args.rule s c.starts.scratch.next.threads.width c.starts.from c.starts_of-pattern.result.1 c.in-Some.end c.run_pass.new.scratch.found.items b.0 b.1)
+    (last_there g (goal.at.returns-then-is_boundary_at-clause-chosen g c).After-pass) c.in-Some.end c.pass.new.scratch.found.items b.0
+    (c.pass.new.scratch.wide.0 ∙ c.in-Some.ensures.same.width) (omega (arith, c.starts.invariant.low.0, c.bounds-lo.ensures.low)) b.1
+    (allowed_boundary s b.0 c.in-Some.end.end (end_by c.args.rule s c.starts.scratch.next.threads.width c.starts.from c.starts_of-pattern.result.1 c.in-Some.end c.pass.new.scratch.found.items b.0 b.1)
     (ap (λ bytes. is_boundary bytes c.in-Some.end.end) (sym content) ∙ sym c.is_boundary_at.ensures.value ∙ c.if-is_boundary_at.true))
 
 pub overflow_add-from : goal.overflow_add-from
 overflow_add-from g c =
     let s : Search = search_of c.args.program.now c.args.input.now in
-    let b = some_by c.args.rule s c.starts.scratch.next.threads.width c.starts.from c.starts_of-pattern.result.1 c.in-Some.end c.run_pass.new.scratch.found.items
-    (subst (λ r. GivesBy c.args.rule (sight_of s) c.starts.scratch.next.threads.width c.starts.from c.starts_of-pattern.result.1 (best_of r c.run_pass.new.scratch.found.items)) c.in-Some.is
-    (gives g (goal.at.overflow_add-from g c).After-run_pass)) in
-    omega (arith, (high_by c.args.rule s c.starts.scratch.next.threads.width c.starts.from c.starts_of-pattern.result.1 c.in-Some.end c.run_pass.new.scratch.found.items b.0 b.1), c.starts.invariant.low.1, c.bounds-lo.ensures.small)
+    let b = some_by c.args.rule s c.starts.scratch.next.threads.width c.starts.from c.starts_of-pattern.result.1 c.in-Some.end c.pass.new.scratch.found.items
+    (subst (λ r. GivesBy c.args.rule (sight_of s) c.starts.scratch.next.threads.width c.starts.from c.starts_of-pattern.result.1 (best_of r c.pass.new.scratch.found.items)) c.in-Some.is
+    (gives g (goal.at.overflow_add-from g c).After-pass)) in
+    omega (arith, (high_by c.args.rule s c.starts.scratch.next.threads.width c.starts.from c.starts_of-pattern.result.1 c.in-Some.end c.pass.new.scratch.found.items b.0 b.1), c.starts.invariant.low.1, c.bounds-lo.ensures.small)
 
 pub starts-smaller : goal.starts-smaller
 starts-smaller g c =
     let s : Search = search_of c.args.program.now c.args.input.now in
-    let b = some_by c.args.rule s c.starts.scratch.next.threads.width c.starts.from c.starts_of-pattern.result.1 c.in-Some.end c.run_pass.new.scratch.found.items
-    (subst (λ r. GivesBy c.args.rule (sight_of s) c.starts.scratch.next.threads.width c.starts.from c.starts_of-pattern.result.1 (best_of r c.run_pass.new.scratch.found.items)) c.in-Some.is
-    (gives g (goal.at.starts-smaller g c).After-run_pass)) in
-    omega (arith, (low_by c.args.rule s c.starts.scratch.next.threads.width c.starts.from c.starts_of-pattern.result.1 c.in-Some.end c.run_pass.new.scratch.found.items b.0 b.1), (high_by c.args.rule s c.starts.scratch.next.threads.width c.starts.from c.starts_of-pattern.result.1 c.in-Some.end c.run_pass.new.scratch.found.items b.0 b.1), c.starts-test.true)
+    let b = some_by c.args.rule s c.starts.scratch.next.threads.width c.starts.from c.starts_of-pattern.result.1 c.in-Some.end c.pass.new.scratch.found.items
+    (subst (λ r. GivesBy c.args.rule (sight_of s) c.starts.scratch.next.threads.width c.starts.from c.starts_of-pattern.result.1 (best_of r c.pass.new.scratch.found.items)) c.in-Some.is
+    (gives g (goal.at.starts-smaller g c).After-pass)) in
+    omega (arith, (low_by c.args.rule s c.starts.scratch.next.threads.width c.starts.from c.starts_of-pattern.result.1 c.in-Some.end c.pass.new.scratch.found.items b.0 b.1), (high_by c.args.rule s c.starts.scratch.next.threads.width c.starts.from c.starts_of-pattern.result.1 c.in-Some.end c.pass.new.scratch.found.items b.0 b.1), c.starts-test.true)
 
 pub starts-preserved : goal.starts-preserved
 starts-preserved g c =
     let s : Search = search_of c.args.program.now c.args.input.now in
-    let b = some_by c.args.rule s c.starts.scratch.next.threads.width c.starts.from c.starts_of-pattern.result.1 c.in-Some.end c.run_pass.new.scratch.found.items
-    (subst (λ r. GivesBy c.args.rule (sight_of s) c.starts.scratch.next.threads.width c.starts.from c.starts_of-pattern.result.1 (best_of r c.run_pass.new.scratch.found.items)) c.in-Some.is
-    (gives g (goal.at.starts-preserved g c).After-run_pass)) in
+    let b = some_by c.args.rule s c.starts.scratch.next.threads.width c.starts.from c.starts_of-pattern.result.1 c.in-Some.end c.pass.new.scratch.found.items
+    (subst (λ r. GivesBy c.args.rule (sight_of s) c.starts.scratch.next.threads.width c.starts.from c.starts_of-pattern.result.1 (best_of r c.pass.new.scratch.found.items)) c.in-Some.is
+    (gives g (goal.at.starts-preserved g c).After-pass)) in
     let content = c.in-Some.ensures.keeps.content ∙ c.starts.invariant.keeps.content in
     record {
       keeps = search rules;
       passed = passed_by c.args.rule s c.starts.scratch.next.threads.width c.starts.from c.starts_of-pattern.result.1 c.starts.invariant.passed
-          (last_there g (goal.at.starts-preserved g c).After-run_pass) c.in-Some.end c.run_pass.new.scratch.found.items b.0 b.1
-          (not_allowed s b.0 c.in-Some.end.end (end_by c.args.rule s c.starts.scratch.next.threads.width c.starts.from c.starts_of-pattern.result.1 c.in-Some.end c.run_pass.new.scratch.found.items b.0 b.1) c.if-not-program.false
+          (last_there g (goal.at.starts-preserved g c).After-pass) c.in-Some.end c.pass.new.scratch.found.items b.0 b.1
+          (not_allowed s b.0 c.in-Some.end.end (end_by c.args.rule s c.starts.scratch.next.threads.width c.starts.from c.starts_of-pattern.result.1 c.in-Some.end c.pass.new.scratch.found.items b.0 b.1) c.if-not-program.false
           (ap (λ bytes. is_boundary bytes c.in-Some.end.end) (sym content) ∙ sym c.is_boundary_at.ensures.value ∙ c.if-is_boundary_at.false));
-      low = (omega (arith, (low_by c.args.rule s c.starts.scratch.next.threads.width c.starts.from c.starts_of-pattern.result.1 c.in-Some.end c.run_pass.new.scratch.found.items b.0 b.1), c.starts.invariant.low.0), c.starts.invariant.low.1);
+      low = (omega (arith, (low_by c.args.rule s c.starts.scratch.next.threads.width c.starts.from c.starts_of-pattern.result.1 c.in-Some.end c.pass.new.scratch.found.items b.0 b.1), c.starts.invariant.low.0), c.starts.invariant.low.1);
       few = let m = mul-le-mul_left (length c.args.program.now.places.items) (let h : c.bounds-lo.result.1 - c.starts.from + 1 ≤ c.bounds-lo.result.1 - c.bounds-lo.result.0 + 2 = omega (arith, c.starts.invariant.low) in h) in
           omega (arith, m, c.in-Some.ensures.few);
       same = record {

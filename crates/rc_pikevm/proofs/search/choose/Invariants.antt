@@ -17,5 +17,5 @@ invariant-starts g l = record {
 abbrev pub decreases-starts : goal.decreases-starts
 decreases-starts g l = l.last + 1 - l.from
 
-abbrev pub ghost-run_pass : goal.ghost-run_pass
-ghost-run_pass g a = a.input.now
+abbrev pub ghost-pass : goal.ghost-pass
+ghost-pass g a = a.input.now
